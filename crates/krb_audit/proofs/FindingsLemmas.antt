@@ -14,7 +14,7 @@ use Rattle.krb_keytab.specs.Store.{KeytabState, store_cell, store_of}
 use Rattle.krb_audit.specs.declared.marks.Alike.{Alike}
 use Rattle.krb_audit.specs.declared.findings.Before.{Before}
 use Rattle.krb_audit.specs.declared.marks.Marks.{Marks}
-use Rattle.krb_audit.specs.declared.told.Told.{Told}
+use Rattle.krb_audit.specs.declared.finding_words.FindingWords.{FindingWords}
 use Rattle.krb_audit.specs.Before.{IsBefore}
 use Rattle.krb_text.specs.Etype.{is_weak}
 use Rattle.krb_audit.specs.Findings.{as_alike, ends_mit, is_alike, marked, marked_after, marks_of}
@@ -28,7 +28,7 @@ use Rattle.krb_audit.proofs.Numbers.{entry_here, numbered_at, numbered_before}
 -- ---- words
 
 -- the words of either
-abbrev pub joined : Told → Told → Told
+abbrev pub joined : FindingWords → FindingWords → FindingWords
 joined t u = record {
   weak = t.weak || u.weak;
   hidden = t.hidden || u.hidden;
@@ -38,7 +38,7 @@ joined t u = record {
   mode = t.mode;
 }
 
-join_marks : (t : Told) (x : PlacedEntry) (m : Marks) (ms : List (PlacedEntry × Marks)) → joined (with_marks t m) (told_of ms) ≡ joined t (told_of ((x, m) ∷ ms))
+join_marks : (t : FindingWords) (x : PlacedEntry) (m : Marks) (ms : List (PlacedEntry × Marks)) → joined (with_marks t m) (told_of ms) ≡ joined t (told_of ((x, m) ∷ ms))
 join_marks t x m ms = λ i. record {
   weak = or_assoc t.weak m.weak (told_of ms).weak i;
   hidden = or_assoc t.hidden m.hidden (told_of ms).hidden i;
@@ -51,14 +51,14 @@ join_marks t x m ms = λ i. record {
 -- ---- the listing
 
 -- some entries are listed, and others are still to come
-pub record IsListedUpTo {A : Type 0} (k : KeytabState) (rest : List PlacedEntry) (b : Before A) (words : Told) (start out : List ℕ) : Type 0 where
+pub record IsListedUpTo {A : Type 0} (k : KeytabState) (rest : List PlacedEntry) (b : Before A) (words : FindingWords) (start out : List ℕ) : Type 0 where
   pub before : List PlacedEntry
   pub all : placed_entries k ≡ before ++ rest
   pub known : IsBefore k before b
   pub text : out ++ flat_map mark_lines (marked_after k before rest) ≡ start ++ flat_map mark_lines (marked k)
   pub told : joined words (told_of (marked_after k before rest)) ≡ told_of (marked k)
 
-pub none_listed : {A : Type 0} (k : KeytabState) (rest : List PlacedEntry) (b : Before A) (t : Told) (start : List ℕ) → rest ≡ placed_entries k → IsBefore k [] b → t ≡ told_of [] → IsListedUpTo k rest b t start start
+pub none_listed : {A : Type 0} (k : KeytabState) (rest : List PlacedEntry) (b : Before A) (t : FindingWords) (start : List ℕ) → rest ≡ placed_entries k → IsBefore k [] b → t ≡ told_of [] → IsListedUpTo k rest b t start start
 none_listed k rest b t start is known none = record {
   before = [];
   all = sym is;
@@ -71,7 +71,7 @@ none_listed k rest b t start is known none = record {
 abbrev pub Gives : {A : Type 0} → KeytabState → PlacedEntry → Before A → Marks → Before A → Type 0
 Gives k x b m c = (before rest : List PlacedEntry) → IsBefore k before b → placed_entries k ≡ before ++ x ∷ rest → (m ≡ marks_of k before x) × IsBefore k (before ++ x ∷ []) c
 
-pub one_listed : {A : Type 0} (k : KeytabState) (x : PlacedEntry) (rest : List PlacedEntry) (b c : Before A) (m : Marks) (t u : Told) (start text new : List ℕ) → IsListedUpTo k (x ∷ rest) b t start text
+pub one_listed : {A : Type 0} (k : KeytabState) (x : PlacedEntry) (rest : List PlacedEntry) (b c : Before A) (m : Marks) (t u : FindingWords) (start text new : List ℕ) → IsListedUpTo k (x ∷ rest) b t start text
     → Gives k x b m c → u ≡ with_marks t m → new ≡ text ++ mark_lines (x, m) → IsListedUpTo k rest c u start new
 one_listed k x rest b c m t u start text new h gives told lines =
     let given = gives h.before rest h.known h.all in
@@ -82,7 +82,7 @@ one_listed k x rest b c m t u start text new h gives told lines =
       known = given.1;
       text = ap (λ (s : List ℕ). s ++ flat_map mark_lines after) lines ∙ append_assoc text (mark_lines (x, m)) (flat_map mark_lines after)
           ∙ ap (λ (n : Marks). text ++ (mark_lines (x, n) ++ flat_map mark_lines after)) given.0 ∙ h.text;
-      told = ap (λ (v : Told). joined v (told_of after)) told ∙ join_marks t x m after ∙ ap (λ (n : Marks). joined t (told_of ((x, n) ∷ after))) given.0 ∙ h.told;
+      told = ap (λ (v : FindingWords). joined v (told_of after)) told ∙ join_marks t x m after ∙ ap (λ (n : Marks). joined t (told_of ((x, n) ∷ after))) given.0 ∙ h.told;
     }
 
 -- ---- the next entry

@@ -9,7 +9,7 @@ use Rattle.krb_text.specs.Found.{placed_line}
 use Rattle.krb_text.specs.Listing.{fault_line}
 use Rattle.krb_audit.specs.declared.marks.Alike.{Alike}
 use Rattle.krb_audit.specs.declared.marks.Marks.{Marks}
-use Rattle.krb_audit.specs.declared.told.Told.{Told}
+use Rattle.krb_audit.specs.declared.finding_words.FindingWords.{FindingWords}
 use Rattle.krb_audit.specs.Findings.{Marked, marked}
 
 -- ---- lines of entries
@@ -87,7 +87,7 @@ is_clash None = false
 is_clash (Some a) = not a.has_same_key
 
 -- which words the lines of entries begin with
-abbrev pub told_of : List Marked → Told
+abbrev pub told_of : List Marked → FindingWords
 told_of ms = record {
   weak = list_any (λ m. m.1.weak) ms;
   hidden = list_any (λ m. m.1.hidden) ms;
@@ -98,7 +98,7 @@ told_of ms = record {
 }
 
 -- those words, and those of one more entry
-abbrev pub with_marks : Told → Marks → Told
+abbrev pub with_marks : FindingWords → Marks → FindingWords
 with_marks t m = record t {
   weak = t.weak || m.weak;
   hidden = t.hidden || m.hidden;
@@ -108,11 +108,11 @@ with_marks t m = record t {
 }
 
 -- which words the lines of entries and of the mode begin with
-abbrev pub told : Option ℕ → KeytabState → Told
+abbrev pub told : Option ℕ → KeytabState → FindingWords
 told mode k = record (told_of (marked k)) { mode = has_mode is_open mode }
 
 -- one of the words reports something wrong with an entry
-abbrev pub tells_wrong : Told → Bool
+abbrev pub tells_wrong : FindingWords → Bool
 tells_wrong t = t.weak || (t.hidden || (t.same || t.clash))
 
 -- a line reports something wrong

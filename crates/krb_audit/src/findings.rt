@@ -14,7 +14,7 @@ use crate::marks::Marks;
 use crate::mit::ends_mit;
 use crate::mode::{append_mode, is_open_file, is_open_to_all};
 use crate::newest::NewestVersions;
-use crate::told::Told;
+use crate::finding_words::FindingWords;
 use krb_keytab::{EntryView, Keytab};
 use krb_text::{append_fault_line, is_weak};
 use krb_wire::NoMemory;
@@ -26,7 +26,7 @@ pub struct CheckUp<A: Allocator> {
     /// A line for each finding, and a line that counts entries and holes.
     pub text: Vec<u8, A>,
     /// Which words the lines begin with.
-    pub told: Told,
+    pub told: FindingWords,
     /// True if one of them reports something wrong.
     pub is_wrong: bool,
 }
@@ -102,14 +102,14 @@ fn append_marks<A: Allocator + Copy, B: Allocator>(
     alloc: A,
     keytab: &Keytab<B>,
     out: &mut Vec<u8, A>,
-) -> Result<(Told, u32), NoMemory>
+) -> Result<(FindingWords, u32), NoMemory>
     ensures text { OnOk result (out.new.items ≡ out.old.items ++ flat_map mark_lines (marked keytab.now.state)) }
     ensures told { IfOk result (λ listed. listed.0 ≡ told_of (marked keytab.now.state)) }
     ensures count { IfOk result (λ listed. listed.1 ≡ length (placed_entries keytab.now.state)) }
 {
     let _few = keytab.cell_count();
     let mut before = Before::first(alloc, keytab)?;
-    let mut told = Told::none();
+    let mut told = FindingWords::none();
     'entries: for (place, entry) in keytab.entries() {
         let marks = before.marks(place, &entry)?;
         marks.append(place, &entry, out)?;

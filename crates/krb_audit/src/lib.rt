@@ -19,11 +19,11 @@ mod newest;
 mod selection;
 mod stamp;
 mod tickets;
-mod told;
+mod finding_words;
 
 pub use asked::{Selected, select};
 pub use findings::{CheckUp, check_up};
 pub use laws::each_name_keeps_an_entry;
 pub use selection::{AskedKvno, Selection};
 pub use tickets::{SelectedTickets, select_tickets};
-pub use told::Told;
+pub use finding_words::FindingWords;

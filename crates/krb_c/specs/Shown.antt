@@ -3,7 +3,7 @@ use Rattle.std.specs.Prelude.{◌≡◌, ℕ, List, [], ◌∷◌, length, Optio
 use denote.RawPtr.{Ptr, null_ptr, InBlock}
 use Rattle.krb_c.specs.declared.bytes.KrbfBytes.{KrbfBytes}
 
--- a pointer to bytes: null iff there are none
+-- a pointer to bytes: null if there are none, else in a block
 abbrev pub IsTo : List ℕ → Ptr → Type 0
 IsTo [] at = at ≡ null_ptr
 IsTo (b ∷ bs) at = InBlock at

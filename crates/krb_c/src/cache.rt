@@ -20,7 +20,7 @@ use krb_ccache::{Ccache, CredView};
 pub type HeldCache = Walked<Ccache<Heap>>;
 
 impl Walked<Ccache<Heap>> {
-    /// Returns the live credential at `place`, or `None`. Scans from the start, except for the credential given last.
+    /// Returns the live credential at `place`, or `None`. Scans from the start, unless a walk was given it last.
     pub fn cred_at(&self, place: u32) -> Option<CredView<'_>>
         ensures { result ≡ credential_at_place self.now.state place }
     {

@@ -21,7 +21,7 @@ pub struct LastTimes {
 }
 
 impl LastTimes {
-    /// Returns the times before the first ticket: none.
+    /// Returns no times yet, as before the first ticket.
     pub fn new() -> LastTimes {
         LastTimes {
             start: LastTime::new(),

@@ -28,7 +28,7 @@ credentials_seen v = record {
   none = refl;
 }
 
--- credentials that begin at a place end there plus the length of their spelling
+-- credentials that begin at a place end at that place plus the length of their spelling
 pub end_is : (v : Version) (at : ℕ) (cs : List CredParts) → end_from at (map (store_cell v) cs) ≡ at + length (flat_map (credential v) cs)
 end_is v at [] = omega arith
 end_is v at (c ∷ cs) =

@@ -245,7 +245,7 @@ old_store h image bytes k is_bytes fits is same no_fault =
           ∙ ap (λ (y : Option FaultKind). record { first = first_place k; cells = map (store_cell k.version) k.contents.cells; fault = y }) (sym no_fault);
     })
 
--- the items of a result equal each list that is equal to theirs
+-- rewrites the list in a clause about an `Ok` result by an equation
 pub ok_same : {X E : Type 0} (result : Result X E) (items : X → List ℕ) (a b : List ℕ) → a ≡ b → IfOk result (λ v. items v ≡ a) → IfOk result (λ v. items v ≡ b)
 ok_same (Ok v) items a b same is = is ∙ same
 ok_same (Err e) items a b same is = tt

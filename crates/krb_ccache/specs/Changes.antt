@@ -23,7 +23,7 @@ is_read_only V4 = false
 
 -- ---- a new cache
 
--- the fields of a new header: the time offset, if there is one
+-- the fields of a new header: the time offset, if any
 abbrev pub new_header : Option Offset → List Field
 new_header None = []
 new_header (Some o) = record { tag = 1; value = number32 (cast_unsigned w32 o.seconds) ++ number32 (cast_unsigned w32 o.micros) } ∷ []

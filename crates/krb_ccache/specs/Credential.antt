@@ -22,7 +22,7 @@ pub record Key : Type 0 where
   pub second_enctype : ℕ
   pub bytes : List ℕ
 
--- the fields of a credential, and not where they are in memory
+-- the fields of a credential, without their addresses in memory
 pub record CredParts : Type 0 where
   pub client : Parts
   pub server : Parts
@@ -192,7 +192,7 @@ credential_at v bytes = do
 
 -- ---- with memory of its own
 
--- an owned item, and not where its bytes are in memory
+-- an owned item, without the address of its bytes
 abbrev pub owned_typed : {A : Type 0} → ℕ × Vec ℕ A → TypedData
 owned_typed x = record { kind = x.0; bytes = vec_items x.1 }
 
@@ -210,7 +210,7 @@ in_version_4 c = record c { key = plain_key c.key.enctype c.key.bytes }
 
 -- ---- for private contracts
 
--- a borrowed item, and not where its bytes are in memory
+-- a borrowed item, without the address of its bytes
 abbrev pub typed_data_of : ℕ × Bor (List ℕ) → TypedData
 typed_data_of x = record { kind = x.0; bytes = x.1.now }
 

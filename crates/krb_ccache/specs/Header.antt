@@ -89,7 +89,7 @@ offset_in xs = first_of (filter_map offset_of xs)
 
 -- ---- for private contracts
 
--- a borrowed field, and not where its value is in memory
+-- a borrowed field, without the address of its value
 abbrev pub field_of : ℕ × Bor (List ℕ) → Field
 field_of x = record { tag = x.0; value = x.1.now }
 
@@ -97,7 +97,7 @@ field_of x = record { tag = x.0; value = x.1.now }
 abbrev pub header_end : Version → List ℕ → Option (List ℕ)
 header_end v bytes = option_map (λ x. x.1) (header_at v bytes)
 
--- the first offset among the fields of those bytes, whether or not they fill them
+-- the first offset among the fields of these bytes, whether or not the fields fill them
 abbrev pub fields_offset : Option (List ℕ × List ℕ) → Option Offset
 fields_offset None = None
 fields_offset (Some x) = offset_in (contents fields_format x.0).cells

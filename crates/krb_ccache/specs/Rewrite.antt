@@ -23,7 +23,7 @@ rewrite_of k = record {
   contents = record { cells = new_cells k.contents.cells; end = [] };
 }
 
--- what a rewrite gives: a damaged cache refuses it, and then it is refused if the image would be longer than the limit
+-- what a rewrite gives: it is refused for a damaged cache, and then if the image would be longer than the limit
 abbrev pub rewrite_result : CacheState → Result CacheState Code
 rewrite_result k =
     if is_some (fault_of (store_of k)) then Err Damaged

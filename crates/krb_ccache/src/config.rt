@@ -42,7 +42,7 @@ fn name_in<N: Name>(server: &N) -> Option<ConfigName<'_>>
     Some(ConfigName { key, principal })
 }
 
-/// Returns the name of a configuration entry, or `None` if the credential is no such entry.
+/// Returns the name of a configuration entry, or `None` for any other credential.
 pub fn config_name<'a>(credential: &'a CredView<'_>) -> Option<ConfigName<'a>>
     ensures { option_map config_parts result ≡ config_name credential.now.server }
 {

@@ -64,7 +64,7 @@ fn live(credential: CredView<'_>) -> Option<CredView<'_>>
 }
 
 impl<'a> AllCredentials<'a> {
-    /// Advances past the next live credential and returns it with its place.
+    /// Advances past the next live credential and returns it with its place, or `None` if none is left.
     pub fn next_live(&mut self) -> Option<(u32, CredView<'a>)>
         ensures { MatchOption result ((live_from self.old ≡ []) × (live_from self.new ≡ []))
             (λ x. live_from self.old ≡ x ∷ live_from self.new) }

@@ -33,7 +33,7 @@ pub enum CcOpenFault {
 }
 
 impl CcOpenFault {
-    /// Returns its number in messages.
+    /// Returns the number that messages give it.
     pub fn number(self) -> u32
         ensures { result ≡ open_fault_number self }
     {

@@ -21,7 +21,7 @@ use Rattle.krb_editors.specs.Ktremove.{SpellsRemoval, ktremove_plan, remove_mist
 use Rattle.krb_ktutil.specs.Ktutil.{RunsKtutil}
 use Rattle.krb_driver.specs.Matches.{Matched, v1_order}
 use Rattle.krb_driver.specs.Mistakes.{MistakeParts, word_status, word_text}
-use Rattle.krb_driver.specs.Runs.{Run, EndsRun, Says}
+use Rattle.krb_driver.specs.Runs.{Run, EndsRun, Writes}
 use Rattle.krb_editors.specs.Scripted.{RunsScript}
 use Rattle.krb_text.specs.Script.{event_in}
 use Rattle.krb_cache_text.specs.Script.{cache_line_in}
@@ -67,7 +67,7 @@ module _ {F : Type 0} (trait : Ghosts F) (now : Option ℕ) (input input' : Sour
   pub record EndsByWords (fault : WordFault) : Type 0 where
     pub files : new ≡ old
     pub quiet : out' ≡ out
-    pub said : Says err.to err'.to (word_text err.explains fault)
+    pub said : Writes err.to err'.to (word_text err.explains fault)
     pub still : err'.explains ≡ err.explains
     pub status_is : status ≡ word_status fault
 

@@ -5,7 +5,7 @@ ghost use Rattle.krb_commands.specs.Actions.{EndsAsked, help_run};
 ghost use Rattle.krb_driver.specs.Runs.{EndsRun};
 
 use crate::action::Action;
-use krb_driver::{ErrorOutput, Streams, Verdict, WordFault, show, tell, tell_word_fault};
+use krb_driver::{ErrorOutput, Streams, Verdict, WordFault, show, report, report_word_fault};
 use krb_editors::{run_ccedit, run_ccremove, run_ktedit, run_ktremove};
 use krb_ktutil::run_ktutil;
 use krb_readers::{run_klist, run_ktcheck, run_ktfind};
@@ -19,7 +19,7 @@ fn show_help<W: Write, E: Write>(text: &str, out: &mut Watched<W>, err: &mut Err
     ensures { EndsRun [] None (help_run text.now) out.old out.new err.old err.new result }
 {
     let ending = show(text.as_bytes(), Ok(Verdict::Well), out);
-    tell(ending, b"", None, out.cause(), err)
+    report(ending, b"", None, out.cause(), err)
 }
 
 /// Runs an action, or reports why the command line was not read, and returns the exit status. ktutil adds entries
@@ -53,6 +53,6 @@ pub fn respond<A: Allocator + Copy, F: Files, R: Read, W: Write, E: Write>(
             run_ccremove(alloc, options, now, file, files, streams)
         }
         Ok(Action::Help(text)) => show_help(text.as_str(), &mut streams.out, &mut streams.err),
-        Err(fault) => tell_word_fault(*fault, &mut streams.err),
+        Err(fault) => report_word_fault(*fault, &mut streams.err),
     }
 }

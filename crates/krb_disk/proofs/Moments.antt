@@ -81,7 +81,7 @@ record Holds (save : Save) (m : Moment) : Type 0 where
   old : m.saved ≡ false → m.names save.path ≡ m.theirs save.path
   whole : m.saved ≡ true → IsWhole save (m.names save.path)
   others : (name : List ℕ) → name ≢ save.path → name ≢ new_path save.path → m.names name ≡ m.theirs name
-  seen : m.fresh ≡ true → IsTrue (save.is_seen (m.names save.path))
+  snapshot : m.fresh ≡ true → IsTrue (save.is_snapshot (m.names save.path))
   come : HasCome save m.stage (m.names (new_path save.path))
 
 -- the new file's name is not the old one
@@ -97,7 +97,7 @@ first_holds save m first = record {
   old = λ is. first.names save.path;
   whole = λ is. absurd (cc);
   others = λ name p q. first.names name;
-  seen = λ is. absurd (cc);
+  snapshot = λ is. absurd (cc);
   come = rw first.stage tt;
 }
 
@@ -109,7 +109,7 @@ asks_holds save call m n h a =
       old = λ is. path_is ∙ h.old (sym a.saved ∙ is) ∙ sym (ap (λ (x : Names). x save.path) a.theirs);
       whole = λ is. rw path_is (h.whole (sym a.saved ∙ is));
       others = λ name p q. a.others name q ∙ h.others name p q ∙ sym (ap (λ (x : Names). x name) a.theirs);
-      seen = λ is. rw path_is (h.seen (sym a.fresh ∙ is));
+      snapshot = λ is. rw path_is (h.snapshot (sym a.fresh ∙ is));
       come = keeps save call m.stage (m.names (new_path save.path)) n.stage (n.names (new_path save.path)) h.come a.turns;
     }
 
@@ -119,28 +119,28 @@ does_holds save Compare m n h d = subst (λ (x : Moment). Holds save x) (sym d.n
   old = h.old;
   whole = h.whole;
   others = h.others;
-  seen = λ is. d.seen;
+  snapshot = λ is. d.snapshot;
   come = rw d.due at h.come;
 })
 does_holds save Rename m n h d = subst (λ (x : Moment). Holds save x) (sym d.now) (record {
   old = λ is. absurd (cc);
   whole = λ is. rw d.named (quiet_whole save m.stage (m.names (new_path save.path)) d.due h.come);
   others = λ name p q. d.others name p q ∙ h.others name p q;
-  seen = λ is. absurd (cc);
+  snapshot = λ is. absurd (cc);
   come = tt;
 })
 does_holds save Intrude m n h d = subst (λ (x : Moment). Holds save x) (sym d.now) (record {
   old = λ is. d.old;
   whole = λ is. absurd (cc);
   others = λ name p q. d.names name p ∙ h.others name p q ∙ sym (d.theirs name p);
-  seen = λ is. absurd (cc);
+  snapshot = λ is. absurd (cc);
   come = rw (d.names (new_path save.path) (λ e. apart save.path (sym e))) h.come;
 })
 does_holds save Pass m n h d = subst (λ (x : Moment). Holds save x) (sym d.now) (record {
   old = λ is. d.old ∙ h.old is ∙ sym d.theirs;
   whole = λ is. rw d.old (h.whole is);
   others = d.others;
-  seen = λ is. rw d.old (h.seen is);
+  snapshot = λ is. rw d.old (h.snapshot is);
   come = rw d.new h.come;
 })
 does_holds save call m n h d = asks_holds save call m n h d
@@ -169,5 +169,5 @@ each_moment save calls now left happens leaves =
       old = λ saved. rw (h.old saved) at (leaves save.path);
       whole = λ saved. left_whole save (now.names save.path) (left save.path) (h.whole saved) (leaves save.path);
       others = λ name p q. rw (h.others name p q) at (leaves name);
-      seen = unless_false now.fresh (IsSame now.stage) (IsTrue (save.is_seen (now.names save.path))) h.seen;
+      snapshot = unless_false now.fresh (IsSame now.stage) (IsTrue (save.is_snapshot (now.names save.path))) h.snapshot;
     }

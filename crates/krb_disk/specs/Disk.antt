@@ -21,7 +21,7 @@ pub record Save : Type 0 where
   pub path : List ℕ
   pub bytes : List ℕ
   pub old : Option Found
-  pub is_seen : Option File → Bool
+  pub is_snapshot : Option File → Bool
 
 -- the calls on a new file, named as the methods of `Calls`; `Fail`, a call that failed or cleared its path; and what other programs do under the old name (`Intrude`) and elsewhere (`Pass`)
 pub data Call : Type 0 where
@@ -77,7 +77,7 @@ pub record Asks (save : Save) (call : Call) (m n : Moment) : Type 0 where
 -- the old file is compared, and is as it was seen
 pub record Compares (save : Save) (m n : Moment) : Type 0 where
   pub due : m.stage ≡ Ours save.old
-  pub seen : IsTrue (save.is_seen (m.names save.path))
+  pub snapshot : IsTrue (save.is_snapshot (m.names save.path))
   pub now : n ≡ record m { stage = Same save.old; fresh = true }
 
 -- the new file is renamed over the old one
@@ -140,7 +140,7 @@ pub record IsSafe (save : Save) (m : Moment) (left : Names) : Type 0 where
   pub old : m.saved ≡ false → IsLeft (m.theirs save.path) (left save.path)
   pub whole : m.saved ≡ true → IsSomeAnd (left save.path) (λ f. (f.bytes ≡ save.bytes) × HasDueMode save f.mode)
   pub others : (name : List ℕ) → name ≢ save.path → name ≢ new_path save.path → IsLeft (m.theirs name) (left name)
-  pub seen : IsSame m.stage → ¬ IsInWindow m → IsTrue (save.is_seen (m.names save.path))
+  pub snapshot : IsSame m.stage → ¬ IsInWindow m → IsTrue (save.is_snapshot (m.names save.path))
 
 -- this holds after any number of calls that are due, and a crash
 abbrev pub EachMomentIsSafe : Type 0

@@ -1,8 +1,8 @@
 -- What is due at each stage of a new file.
 use Rattle.std.specs.Prelude.{◌≡◌, ℕ, Bool, true, false, List, ◌==◌, Option, None, Some}
 use Rattle.krb_disk.specs.declared.looks.Found.{Found}
-use Rattle.krb_disk.specs.declared.seen.Seen.{Seen}
-use Rattle.krb_disk.specs.declared.seen.Seen.TheVariants.{Nothing, File, Loaded}
+use Rattle.krb_disk.specs.declared.snapshot.Snapshot.{Snapshot}
+use Rattle.krb_disk.specs.declared.snapshot.Snapshot.TheVariants.{Nothing, File, Loaded}
 use Rattle.krb_disk.specs.declared.stage.Stage.{Stage}
 use Rattle.krb_disk.specs.declared.stage.Stage.TheVariants.{Locked, Agreed, Written, Told, Permitted, Synced, Ours, Same, Quiet, Ended, Lost}
 use Rattle.krb_disk.specs.Looks.{IsPlainOrNone}
@@ -48,13 +48,13 @@ IsFound Ended = Unit {0}
 IsFound _ = ⊥
 
 -- what was seen of the old file
-abbrev pub seen_file : {A : Type 0} → Seen A → Option Found
-seen_file Nothing = None
-seen_file (File found) = Some found
-seen_file (Loaded found bytes) = Some found
+abbrev pub snapshot_file : {A : Type 0} → Snapshot A → Option Found
+snapshot_file Nothing = None
+snapshot_file (File found) = Some found
+snapshot_file (Loaded found bytes) = Some found
 
 -- that file was loaded, with these bytes
-abbrev pub IsLoaded : {A : Type 0} → Found → List ℕ → Seen A → Type 0
+abbrev pub IsLoaded : {A : Type 0} → Found → List ℕ → Snapshot A → Type 0
 IsLoaded file bytes (Loaded found copy) = (found ≡ file) × (copy.items ≡ bytes)
 IsLoaded file bytes _ = ⊥
 

@@ -6,7 +6,7 @@ ghost use Rattle.krb_disk.specs.NewFile.{IsFilled};
 ghost use Rattle.krb_disk.specs.Stages.{private_mode, IsDueMode, IsFound, stood, synced};
 ghost use Rattle.krb_disk.specs.declared.stage.Stage.TheVariants.{Made, Locked, Agreed, Held, Written, Told, Permitted};
 
-mod leftover;
+mod stale_file;
 mod log;
 mod old;
 

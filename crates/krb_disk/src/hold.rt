@@ -4,10 +4,10 @@ ghost use Rattle.std.specs.Prelude.{◌≡◌, ◌≤◌, ◌∷◌, ◌↔◌, 
 ghost use Rattle.std.specs.Path.{path_buf_bytes};
 ghost use Rattle.krb_disk.specs.Looks.{IsPlainOrNone};
 ghost use Rattle.krb_disk.specs.NewFile.{IsHeldAt};
-ghost use Rattle.krb_disk.specs.Stages.{IsLoaded, seen_file, watched};
+ghost use Rattle.krb_disk.specs.Stages.{IsLoaded, snapshot_file, watched};
 ghost use Rattle.krb_disk.specs.Target.{new_path};
 ghost use Rattle.krb_disk.specs.declared.fault.ReadFault.TheVariants as ReadFault;
-ghost use Rattle.krb_disk.specs.declared.seen.Seen.TheVariants.{Nothing};
+ghost use Rattle.krb_disk.specs.declared.snapshot.Snapshot.TheVariants.{Nothing};
 ghost use Rattle.krb_disk.specs.declared.stage.Stage.TheVariants.{Synced, Same, Quiet};
 
 use crate::calls::{Calls, NewFile};
@@ -17,9 +17,9 @@ use crate::looks::Found;
 use crate::new_file::{Attempt, make_locked, remove_own};
 use crate::number::Numbered;
 use crate::owner::SetOwner;
-use crate::patience::{MOST_TRIES, Patience};
+use crate::deadline::{MOST_TRIES, Deadline};
 use crate::save::fill;
-use crate::seen::Seen;
+use crate::snapshot::Snapshot;
 use crate::target::{Target, find_target};
 use krb_files::Cause;
 use std::alloc::Allocator;
@@ -31,7 +31,7 @@ use std::rt;
 pub struct Hold<R: rt::Files + Alloc> {
     target: Target<R::A>,
     new_file: NewFile<String<R::A>, R::File>,
-    seen: Seen<R::A>,
+    snapshot: Snapshot<R::A>,
     ghost is_held: { IsHeldAt (new_path (path_buf_bytes target.path)) new_file },
 }
 
@@ -40,19 +40,19 @@ fn make_new_file<R: rt::Files + rt::Clock + Alloc>(
     calls: &Calls<'_, R>,
     path: &str,
     owner: Option<u32>,
-    patience: &mut Patience,
+    deadline: &mut Deadline,
 ) -> Result<NewFile<String<R::A>, R::File>, DiskFault>
 where
     R::File: TakeLock,
     ensures { IfOk result (λ file. IsHeldAt path.now file) }
 {
     for _ in 0..=MOST_TRIES {
-        match make_locked(calls, path, owner, patience)? {
+        match make_locked(calls, path, owner, deadline)? {
             Attempt::Locked(file) => return Ok(file),
-            Attempt::InTheWay if patience.is_short(calls.looks()) => {
+            Attempt::InTheWay if deadline.is_short(calls.looks()) => {
                 return Err(DiskFault::Failed(Cause::InTheWay));
             }
-            Attempt::InTheWay | Attempt::InUse => patience.pause(calls.looks())?,
+            Attempt::InTheWay | Attempt::InUse => deadline.pause(calls.looks())?,
         }
     }
     Err(DiskFault::Failed(Cause::InUse))
@@ -64,7 +64,7 @@ fn see_plain<R: rt::Files>(calls: &Calls<'_, R>, path: &str) -> Result<Option<Fo
 {
     match calls.see(path)? {
         Some(found) if !found.is_file() => Err(DiskFault::Failed(Cause::NotAPlainFile)),
-        seen => Ok(seen),
+        snapshot => Ok(snapshot),
     }
 }
 
@@ -73,7 +73,7 @@ fn wait_until_quiet<R: rt::Files + rt::Clock + Alloc>(
     calls: &Calls<'_, R>,
     path: &str,
     new_file: &NewFile<String<R::A>, R::File>,
-    patience: &mut Patience,
+    deadline: &mut Deadline,
 ) -> Result<Option<Found>, DiskFault>
     ensures { IfOk result IsPlainOrNone }
 {
@@ -81,10 +81,10 @@ fn wait_until_quiet<R: rt::Files + rt::Clock + Alloc>(
         let Some(found) = see_plain(calls, path)? else {
             return Ok(None);
         };
-        if calls.is_quiet(new_file, &found, patience)? {
+        if calls.is_quiet(new_file, &found, deadline)? {
             return Ok(Some(found));
         }
-        patience.pause(calls.looks())?;
+        deadline.pause(calls.looks())?;
     }
     Err(DiskFault::Failed(Cause::InUse))
 }
@@ -94,7 +94,7 @@ fn first_look<R: rt::Files + rt::Clock + Alloc>(
     calls: &Calls<'_, R>,
     path: &str,
     new_file: &mut NewFile<String<R::A>, R::File>,
-    patience: &mut Patience,
+    deadline: &mut Deadline,
 ) -> Result<Option<Found>, DiskFault>
 where
     R::File: Numbered,
@@ -102,7 +102,7 @@ where
     ensures plain { IfOk result IsPlainOrNone }
 {
     calls.find_mount(new_file)?;
-    wait_until_quiet(calls, path, new_file, patience)
+    wait_until_quiet(calls, path, new_file, deadline)
 }
 
 // Returns whether no program has locked the file to change it. Fails unless the new file is still ours and the file
@@ -111,19 +111,19 @@ fn is_ready<R: rt::Files + rt::Clock + Alloc>(
     calls: &Calls<'_, R>,
     new_file: &mut NewFile<String<R::A>, R::File>,
     path: &str,
-    seen: &Seen<R::A>,
-    patience: &Patience,
+    snapshot: &Snapshot<R::A>,
+    deadline: &Deadline,
 ) -> Result<bool, DiskFault>
-    requires synced { new_file.old.stage ≡ Synced (seen_file seen.now) }
+    requires synced { new_file.old.stage ≡ Synced (snapshot_file snapshot.now) }
     requires beside { string_bytes new_file.old.path ≡ new_path path.now }
     ensures stage { IfOk result (λ is. new_file.new
-        ≡ record new_file.old { stage = watched is (Same (seen_file seen.now)) }) }
-    ensures plain { OnOk result (IsPlainOrNone (seen_file seen.now)) }
+        ≡ record new_file.old { stage = watched is (Same (snapshot_file snapshot.now)) }) }
+    ensures plain { OnOk result (IsPlainOrNone (snapshot_file snapshot.now)) }
 {
-    if !calls.stands(new_file)? || !calls.compare(new_file, path, seen)? {
+    if !calls.stands(new_file)? || !calls.compare(new_file, path, snapshot)? {
         return Err(DiskFault::Failed(Cause::Changed));
     }
-    calls.watch(new_file, patience)
+    calls.watch(new_file, deadline)
 }
 
 // Fails if another program replaced or removed the new file, changed the file since it was seen, or keeps it locked
@@ -132,19 +132,19 @@ fn check<R: rt::Files + rt::Clock + Alloc>(
     calls: &Calls<'_, R>,
     new_file: &mut NewFile<String<R::A>, R::File>,
     path: &str,
-    seen: &Seen<R::A>,
+    snapshot: &Snapshot<R::A>,
 ) -> Result<(), DiskFault>
-    requires synced { new_file.old.stage ≡ Synced (seen_file seen.now) }
+    requires synced { new_file.old.stage ≡ Synced (snapshot_file snapshot.now) }
     requires beside { string_bytes new_file.old.path ≡ new_path path.now }
-    ensures stage { OnOk result (new_file.new ≡ record new_file.old { stage = Quiet (seen_file seen.now) }) }
-    ensures plain { OnOk result (IsPlainOrNone (seen_file seen.now)) }
+    ensures stage { OnOk result (new_file.new ≡ record new_file.old { stage = Quiet (snapshot_file snapshot.now) }) }
+    ensures plain { OnOk result (IsPlainOrNone (snapshot_file snapshot.now)) }
 {
-    let mut patience = Patience::new(calls.looks());
+    let mut deadline = Deadline::new(calls.looks());
     for _ in 0..=MOST_TRIES {
-        if is_ready(calls, new_file, path, seen, &patience)? {
+        if is_ready(calls, new_file, path, snapshot, &deadline)? {
             return Ok(());
         }
-        patience.pause(calls.looks())?;
+        deadline.pause(calls.looks())?;
     }
     Err(DiskFault::Failed(Cause::InUse))
 }
@@ -154,7 +154,7 @@ fn replace<R: rt::Files + rt::Clock + Alloc>(
     calls: &mut Calls<'_, R>,
     new_file: &mut NewFile<String<R::A>, R::File>,
     target: &Target<R::A>,
-    seen: &Seen<R::A>,
+    snapshot: &Snapshot<R::A>,
     bytes: &[u8],
 ) -> Result<(), DiskFault>
 where
@@ -164,8 +164,8 @@ where
         ≡ (string_bytes target.now.name, bytes.now) ∷ calls.old.saved.entries) }
     ensures err { OnErr result (calls.new.saved.entries ≡ calls.old.saved.entries) }
 {
-    fill(calls, new_file, bytes, seen.file())?;
-    check(calls, new_file, target.path(), seen)?;
+    fill(calls, new_file, bytes, snapshot.file())?;
+    check(calls, new_file, target.path(), snapshot)?;
     calls.rename(new_file, target, bytes)
 }
 
@@ -177,15 +177,15 @@ where
     pub fn take(calls: &Calls<'_, R>, name: &str) -> Result<Hold<R>, DiskFault>
         ensures { IfOk result (λ hold. string_bytes hold.target.name ≡ name.now) }
     {
-        let mut patience = Patience::new(calls.looks());
+        let mut deadline = Deadline::new(calls.looks());
         let target = find_target(calls.looks(), name)?;
         let new_path = target.new_path(calls.looks().alloc())?;
-        let mut new_file = make_new_file(calls, &new_path, target.owner(), &mut patience)?;
-        match first_look(calls, target.path(), &mut new_file, &mut patience) {
+        let mut new_file = make_new_file(calls, &new_path, target.owner(), &mut deadline)?;
+        match first_look(calls, target.path(), &mut new_file, &mut deadline) {
             Ok(found) => Ok(Hold {
                 target,
                 new_file,
-                seen: Seen::of(found),
+                snapshot: Snapshot::of(found),
             }),
             Err(fault) => {
                 let _ = remove_own(calls, &mut new_file);
@@ -210,16 +210,16 @@ where
     ) -> Result<(Found, Vec<u8, A>), ReadFault>
         ensures named { self.new.target ≡ self.old.target }
         ensures within { IfOk result (λ read. vec_len read.1 ≤ limit) }
-        ensures loaded { IfOk result (λ read. IsLoaded read.0 read.1.items self.new.seen) }
-        ensures missing { IsErrOf result ReadFault.Missing → self.new.seen ≡ Nothing }
+        ensures loaded { IfOk result (λ read. IsLoaded read.0 read.1.items self.new.snapshot) }
+        ensures missing { IsErrOf result ReadFault.Missing → self.new.snapshot ≡ Nothing }
     {
         match calls.load(alloc, self.target.path(), limit) {
             Ok((file, bytes)) => {
-                self.seen = Seen::loaded(calls.looks().alloc(), file, &bytes)?;
+                self.snapshot = Snapshot::loaded(calls.looks().alloc(), file, &bytes)?;
                 Ok((file, bytes))
             }
             Err(ReadFault::Missing) => {
-                self.seen = Seen::Nothing;
+                self.snapshot = Snapshot::Nothing;
                 Err(ReadFault::Missing)
             }
             Err(fault) => Err(fault),
@@ -235,9 +235,9 @@ where
         let Hold {
             target,
             mut new_file,
-            seen,
+            snapshot,
         } = self;
-        match replace(calls, &mut new_file, &target, &seen, bytes) {
+        match replace(calls, &mut new_file, &target, &snapshot, bytes) {
             Ok(()) => {
                 let _ = calls.sync_folder(target.folder());
                 Ok(())

@@ -14,10 +14,10 @@ mod new_file;
 mod noted;
 mod number;
 mod owner;
-mod patience;
+mod deadline;
 mod read;
 mod save;
-mod seen;
+mod snapshot;
 mod stage;
 mod target;
 

@@ -11,7 +11,7 @@ use crate::looks::Found;
 use crate::looks::device::Mounted;
 use crate::looks::locks::{LockKind, is_locked};
 use crate::looks::users::Users;
-use crate::patience::Patience;
+use crate::deadline::Deadline;
 use std::io::{self, ErrorKind};
 use std::rt;
 
@@ -66,15 +66,15 @@ fn remove_abandoned<R: rt::Files + Alloc>(
 where
     R::File: TakeLock,
 {
-    let mut file = calls.open_leftover(path)?;
-    match calls.lock_leftover(&mut file) {
+    let mut file = calls.open_stale_file(path)?;
+    match calls.lock_stale_file(&mut file) {
         Err(error) if error.kind() == ErrorKind::Unsupported => return Ok(false),
         Err(error) => return Err(error),
         Ok(false) => return Ok(true),
         Ok(true) => {}
     }
     if calls.is_abandoned(&mut file, users)? {
-        calls.remove_leftover(&file)?;
+        calls.remove_stale_file(&file)?;
     }
     Ok(true)
 }
@@ -105,7 +105,7 @@ fn try_place<R: rt::Files + rt::Clock + Alloc>(
     calls: &Calls<'_, R>,
     path: &str,
     owner: Option<u32>,
-    patience: &Patience,
+    deadline: &Deadline,
 ) -> Result<bool, DiskFault>
 where
     R::File: TakeLock,
@@ -116,7 +116,7 @@ where
     let place = Mounted::new(&found, None);
     Ok(
         clear_place(calls, path, &found, owner)?
-            || is_locked(calls.looks(), &place, LockKind::WholeFile, patience)?,
+            || is_locked(calls.looks(), &place, LockKind::WholeFile, deadline)?,
     )
 }
 
@@ -125,7 +125,7 @@ pub fn make_locked<R: rt::Files + rt::Clock + Alloc>(
     calls: &Calls<'_, R>,
     path: &str,
     owner: Option<u32>,
-    patience: &Patience,
+    deadline: &Deadline,
 ) -> Result<Attempt<NewFile<String<R::A>, R::File>>, DiskFault>
 where
     R::File: TakeLock,
@@ -134,7 +134,7 @@ where
     let mut file = match calls.make(path, PRIVATE) {
         Ok(file) => file,
         Err(error) if error.kind() == ErrorKind::AlreadyExists => {
-            return match try_place(calls, path, owner, patience)? {
+            return match try_place(calls, path, owner, deadline)? {
                 true => Ok(Attempt::InUse),
                 false => Ok(Attempt::InTheWay),
             };

@@ -9,7 +9,7 @@ use Rattle.std.proofs.lemmas.Bool.{false≢true}
 use Rattle.krb_files.specs.Bytes.{Watch, AppendsPrefix}
 use Rattle.krb_text.specs.Gathered.{Sent}
 use Rattle.krb_files.proofs.Prefixes.{Appends-trans, AppendsPrefix-all, AppendsPrefix-after, AppendsPrefix-longer}
-use Rattle.krb_driver.specs.Runs.{Says}
+use Rattle.krb_driver.specs.Runs.{Writes}
 
 module _ {X : Type 0} (piece : X → List ℕ) (xs : List X) (i : ℕ) where
   -- the first i + 1 pieces are the first i and one more
@@ -75,12 +75,12 @@ Sent-both a b c gathered text after p q none = record {
 }
 
 -- the rest of a text was put, or the writer failed
-pub Says-last : {T E : Type 0} (old mid new : Watch) (text gathered : List ℕ) (put : Result T E) → Sent old.contents mid.contents text gathered
-    → OnOk put (Appends mid.contents new.contents gathered) → OnErr put (AppendsPrefix mid.contents new.contents gathered) → new.failed ≡ is_err put → Says old new text
-Says-last old mid new text gathered (Ok x) s all prefix failed =
+pub Writes-last : {T E : Type 0} (old mid new : Watch) (text gathered : List ℕ) (put : Result T E) → Sent old.contents mid.contents text gathered
+    → OnOk put (Appends mid.contents new.contents gathered) → OnErr put (AppendsPrefix mid.contents new.contents gathered) → new.failed ≡ is_err put → Writes old new text
+Writes-last old mid new text gathered (Ok x) s all prefix failed =
     let whole = Sent-all _ _ _ text gathered s all in
     record { prefix = AppendsPrefix-all _ _ text whole; whole = λ _. whole }
-Says-last old mid new text gathered (Err e) s all prefix failed = record {
+Writes-last old mid new text gathered (Err e) s all prefix failed = record {
   prefix = rw s.parts (AppendsPrefix-after _ _ _ s.sent gathered s.appends prefix);
   whole = λ well. absurd (false≢true (sym well ∙ failed));
 }

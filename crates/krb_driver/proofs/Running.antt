@@ -7,11 +7,11 @@ use Rattle.krb_files.specs.declared.files.SaveFault.TheVariants as save
 use Rattle.krb_files.specs.declared.files.Files.{Ghosts}
 use Rattle.krb_files.specs.Bytes.{Watch}
 use Rattle.krb_files.specs.Files.{SameFiles, CountsFailure}
-use Rattle.krb_driver.specs.declared.trouble.Trouble.TheVariants as trouble
+use Rattle.krb_driver.specs.declared.error.RunError.TheVariants as error
 use Rattle.krb_files.specs.Loading.{Answer, SavesFile, TurnsHold}
 use Rattle.krb_driver.specs.ErrorOutput.{ErrorWatch}
-use Rattle.krb_driver.specs.Runs.{Run, Shows, Tells, ends_by}
-use Rattle.krb_driver.specs.Troubles.{Ending}
+use Rattle.krb_driver.specs.Runs.{Run, Shows, Reports, ends_by}
+use Rattle.krb_driver.specs.RunErrors.{Ending}
 use Rattle.krb_driver.specs.declared.verdict.Verdict.{Verdict}
 use Rattle.krb_files.specs.Plan.{follow}
 use Rattle.krb_driver.specs.Commands.{Does, Keeps, RunsCommand, Settles, ShowsEnd, ShowsPage, Takes}
@@ -20,12 +20,12 @@ use Rattle.krb_files.proofs.PlanLaws.{comes, count-more, count-trans, loaded-las
 
 -- memory ran out
 abbrev is_spent : Ending → Bool
-is_spent (Err trouble.NoMemory) = true
+is_spent (Err error.NoMemory) = true
 is_spent ending = false
 
-module _ (out out' : Watch) (ending : Ending) (spent : ending ≡ Err trouble.NoMemory) where
+module _ (out out' : Watch) (ending : Ending) (spent : ending ≡ Err error.NoMemory) where
   -- the output did not fail, so the run was to end out of memory
-  due-spent : (failed : Bool) → failed ≡ out'.failed → (due : Run) → Shows due out out' ending → due.ending ≡ Err trouble.NoMemory
+  due-spent : (failed : Bool) → failed ≡ out'.failed → (due : Run) → Shows due out out' ending → due.ending ≡ Err error.NoMemory
   due-spent true is due shows = absurd (false≢true (ap is_spent (sym (shows.failed (sym is)) ∙ spent)))
   due-spent false is due shows = sym ((shows.done (sym is)).1) ∙ spent
 
@@ -37,7 +37,7 @@ module _ (out out' : Watch) (ending : Ending) (spent : ending ≡ Err trouble.No
   page-takes page (inl shows) = absurd (verdict-shown page shows)
   page-takes page (inr breaks) = breaks.0
 
-  pub quiet-end : (end : Effect) → ShowsEnd out out' ending end → Shows (ends_by trouble.NoMemory) out out' ending ⊎ Takes end
+  pub quiet-end : (end : Effect) → ShowsEnd out out' ending end → Shows (ends_by error.NoMemory) out out' ending ⊎ Takes end
   quiet-end (Fails file why) shows =
       let is = due-spent out'.failed refl (ends_by why) shows in
       inl (subst (λ (e : Ending). Shows (record { out = []; ending = e }) out out' ending) is shows)
@@ -63,10 +63,10 @@ module _ {F : Type 0} (trait : Ghosts F) (plan : CommandPlan) (old between new :
   count-then : new ≡ between → CountsFailure (trait.failure_count old) (trait.failure_count between) → CountsFailure (trait.failure_count old) (trait.failure_count new)
   count-then is counted = subst (λ (x : F). CountsFailure (trait.failure_count old) (trait.failure_count x)) (sym is) counted
 
-  keeps-spent : (file : List ℕ) (end : Effect) → Settles trait between (Fails file trouble.NoMemory) new end → Keeps trait plan old new end
+  keeps-spent : (file : List ℕ) (end : Effect) → Settles trait between (Fails file error.NoMemory) new end → Keeps trait plan old new end
   keeps-spent file end s = inr (inr (same-then s.0, (file, s.1)))
 
-  keeps-unread : (file : List ℕ) (end : Effect) → CountsFailure (trait.failure_count old) (trait.failure_count between) → Settles trait between (Fails file trouble.FileNotRead) new end → Keeps trait plan old new end
+  keeps-unread : (file : List ℕ) (end : Effect) → CountsFailure (trait.failure_count old) (trait.failure_count between) → Settles trait between (Fails file error.FileNotRead) new end → Keeps trait plan old new end
   keeps-unread file end counted s = inr (inl (count-then s.0 counted, (same-then s.0, (file, inl s.1))))
 
   keeps-saved : (file bytes text : List ℕ) (verdict : Verdict) (answer : Result (Unit {0}) SaveFault) (end : Effect) → Saves file bytes text verdict ≡ follow (trait.file old) plan → SavesFile trait between file bytes answer new
@@ -94,18 +94,18 @@ module _ {F : Type 0} (trait : Ghosts F) (plan : Option ℕ → CommandPlan) (Fa
       let lasts = loaded-lasts trait faults p old d.makes.makes.answers d.between d.makes.makes.loads in
       let settle = λ (effect : Effect) (is : d.effect ≡ effect). subst (λ (x : Effect). Settles trait d.between x new end) is d.settles in
       elim d.makes.makes.made [
-        | inl spent ↦ keeps-spent trait p old d.between new h (lasts.same h) (lasts.honest h) lasts.count spent.0 end (settle (Fails spent.0 trouble.NoMemory) spent.1)
+        | inl spent ↦ keeps-spent trait p old d.between new h (lasts.same h) (lasts.honest h) lasts.count spent.0 end (settle (Fails spent.0 error.NoMemory) spent.1)
         | inr is ↦ elim (comes trait faults p (trait.file old) old d.makes.makes.answers d.between h (λ name. refl) d.makes.makes.loads) [
           | inl due ↦ keeps-due trait p old d.between new h (lasts.same h) (lasts.honest h) lasts.count d.effect end (is ∙ due) d.settles
           | inr other ↦ elim other [
-            | inl failed ↦ keeps-unread trait p old d.between new h (lasts.same h) (lasts.honest h) lasts.count failed.1.0 end failed.0 (settle (Fails failed.1.0 trouble.FileNotRead) (is ∙ failed.1.1))
-            | inr spent ↦ keeps-spent trait p old d.between new h (lasts.same h) (lasts.honest h) lasts.count spent.0 end (settle (Fails spent.0 trouble.NoMemory) (is ∙ spent.1))
+            | inl failed ↦ keeps-unread trait p old d.between new h (lasts.same h) (lasts.honest h) lasts.count failed.1.0 end failed.0 (settle (Fails failed.1.0 error.FileNotRead) (is ∙ failed.1.1))
+            | inr spent ↦ keeps-spent trait p old d.between new h (lasts.same h) (lasts.honest h) lasts.count spent.0 end (settle (Fails spent.0 error.NoMemory) (is ∙ spent.1))
           ]
         ]
       ]
 
   -- if memory runs out, the files are the same
-  pub does-spared : (out out' : Watch) (ending : Ending) → ending ≡ Err trouble.NoMemory → ShowsEnd out out' ending end → SameFiles (trait.file old) (trait.file new)
+  pub does-spared : (out out' : Watch) (ending : Ending) → ending ≡ Err error.NoMemory → ShowsEnd out out' ending end → SameFiles (trait.file old) (trait.file new)
   does-spared out out' ending spent shows =
       let p = plan (trait.mode d.between) in
       let lasts = loaded-lasts trait faults p old d.makes.makes.answers d.between d.makes.makes.loads in
@@ -122,15 +122,15 @@ keeps-left trait plan old done new end left (inr (inr spent)) = inr (inr (same-t
 
 -- a command did its work, released what it held, showed what is left to show, and its end was reported
 pub runs-shown : {F : Type 0} (trait : Ghosts F) (plan : Option ℕ → CommandPlan) (Fairly : List Answer → Type 0) (old done new : F) (out out' : Watch) (err err' : ErrorWatch) (status : ℕ) (end : Effect) (ending : Ending)
-    → Does trait plan Fairly old done end → TurnsHold trait false done new → ShowsEnd out out' ending end → Tells (about end) None ending err err' status → RunsCommand trait plan Fairly old new out out' err err' status
-runs-shown trait plan Fairly old done new out out' err err' status end ending d left shows told = record {
+    → Does trait plan Fairly old done end → TurnsHold trait false done new → ShowsEnd out out' ending end → Reports (about end) None ending err err' status → RunsCommand trait plan Fairly old new out out' err err' status
+runs-shown trait plan Fairly old done new out out' err err' status end ending d left shows reported = record {
   end = end;
   ending = ending;
   done = done;
   does = d;
   left = left;
   shown = shows;
-  told = told;
+  reported = reported;
   honest = λ h. keeps-left trait (plan (trait.mode d.between)) old done new end left (does-keeps trait plan Fairly old done end d h);
   spared = λ spent h. same-trans (trait.file old) (trait.file done) (trait.file new) (does-spared trait plan Fairly old done end d h out out' ending spent shows) left.same;
   quiet = λ spent. quiet-end out out' ending spent end shows;

@@ -9,16 +9,16 @@ use Rattle.krb_files.proofs.Prefixes.{AppendsPrefix-none, Appends-nil}
 use Rattle.krb_driver.specs.declared.verdict.Verdict.TheVariants.{Well}
 use Rattle.krb_files.specs.Loading.{most_bytes}
 use Rattle.krb_driver.specs.Input.{GivesInput}
-use Rattle.krb_driver.specs.Runs.{Says, SaysEnd}
+use Rattle.krb_driver.specs.Runs.{Writes, ReportsEnd}
 use Rattle.krb_files.specs.declared.cause.Cause.{Cause}
 use Rattle.krb_driver.specs.Words.{ending_text, words_if, ending_words}
 use Rattle.krb_driver.specs.ErrorOutput.{ErrorWatch}
-use Rattle.krb_driver.specs.Troubles.{Ending, ending_message}
+use Rattle.krb_driver.specs.RunErrors.{Ending, ending_message}
 use Rattle.krb_files.specs.Reader.{Source, ConsumesAtMost, is_failed}
 
 -- nothing was to be written
-pub Says-nothing : (w : Watch) → Says w w []
-Says-nothing w = record { prefix = AppendsPrefix-none w.contents []; whole = λ _. Appends-nil w.contents }
+pub Writes-nothing : (w : Watch) → Writes w w []
+Writes-nothing w = record { prefix = AppendsPrefix-none w.contents []; whole = λ _. Appends-nil w.contents }
 
 -- nor was there anything to explain
 words_if-nothing : (explains : Bool) → words_if explains [] ≡ []
@@ -26,17 +26,17 @@ words_if-nothing true = refl
 words_if-nothing false = refl
 
 -- nothing was to be reported of a run that went well
-pub SaysEnd-nothing : (file : List ℕ) (line : Option ℕ) (err : ErrorWatch) → SaysEnd file line (Ok Well) err err
-SaysEnd-nothing file line err = record {
+pub ReportsEnd-nothing : (file : List ℕ) (line : Option ℕ) (err : ErrorWatch) → ReportsEnd file line (Ok Well) err err
+ReportsEnd-nothing file line err = record {
   cause = None;
-  said = subst (Says err.to err.to) (sym (words_if-nothing err.explains)) (Says-nothing err.to);
+  said = subst (Writes err.to err.to) (sym (words_if-nothing err.explains)) (Writes-nothing err.to);
   still = refl;
 }
 
 -- a message was written, with the words that are shown
-pub Says-words : (file : List ℕ) (line : Option ℕ) (cause : Option Cause) (ending : Ending) (err : ErrorWatch) (to : Watch) (words : List ℕ)
-    → Says err.to to (ending_message file ending ++ words) → words ≡ words_if err.explains (ending_words file line cause ending) → Says err.to to (ending_text err.explains file line cause ending)
-Says-words file line cause ending err to words said are = subst (λ (w : List ℕ). Says err.to to (ending_message file ending ++ w)) are said
+pub Writes-words : (file : List ℕ) (line : Option ℕ) (cause : Option Cause) (ending : Ending) (err : ErrorWatch) (to : Watch) (words : List ℕ)
+    → Writes err.to to (ending_message file ending ++ words) → words ≡ words_if err.explains (ending_words file line cause ending) → Writes err.to to (ending_text err.explains file line cause ending)
+Writes-words file line cause ending err to words said are = subst (λ (w : List ℕ). Writes err.to to (ending_message file ending ++ w)) are said
 
 -- ---- what a reader gave
 

@@ -5,7 +5,7 @@ use Rattle.std.specs.List.{list_any}
 use Rattle.krb_walk.specs.declared.fault.FaultKind.{FaultKind}
 use Rattle.krb_walk.specs.declared.refusal.Code.{Code}
 use Rattle.krb_walk.specs.Said.{Said}
-use Rattle.krb_driver.specs.declared.telling.piece.Piece.{Piece}
+use Rattle.krb_driver.specs.declared.reporting.piece.Piece.{Piece}
 use Rattle.krb_driver.specs.declared.verdict.FileKind.{FileKind}
 use Rattle.krb_driver.specs.declared.verdict.Verdict.{Verdict}
 use Rattle.krb_driver.specs.declared.verdict.Verdict.TheVariants.{Well, Replied}
@@ -15,9 +15,9 @@ use Rattle.krb_driver.specs.declared.command_line.mistake.WordFault.TheVariants 
 use Rattle.krb_driver.specs.ErrorOutput.{ErrorWatch}
 use Rattle.krb_driver.specs.Messages.{message}
 use Rattle.krb_driver.specs.Mistakes.{word_text}
-use Rattle.krb_driver.specs.Runs.{Says}
+use Rattle.krb_driver.specs.Runs.{Writes}
 use Rattle.krb_driver.specs.PieceTexts.{piece_text, pieces_text, pieces_before}
-use Rattle.krb_driver.specs.Told.{is_trouble, codes_told, faults_told, replied_verdict}
+use Rattle.krb_driver.specs.Reported.{is_failure, reported_codes, reported_faults, replied_verdict}
 
 pub pieces_text-append : (pieces : List Piece) (rest : List ℕ) → pieces_text pieces ++ rest ≡ pieces_before pieces rest
 pieces_text-append [] rest = refl
@@ -25,13 +25,13 @@ pieces_text-append (p ∷ ps) rest = append_assoc (piece_text p) (pieces_text ps
 
 -- a verdict is that of the replies if it reports what they report
 pub replied_verdict-by : {R : Type 0} (kind : FileKind) (said : R → Said) (replies : List R) (b : Bool) (codes : List (Option Code)) (faults : List (Option FaultKind))
-    → b ≡ list_any (λ r. is_trouble (said r)) replies → codes ≡ codes_told said replies → faults ≡ faults_told said replies
+    → b ≡ list_any (λ r. is_failure (said r)) replies → codes ≡ reported_codes said replies → faults ≡ reported_faults said replies
     → (if b then Replied (record { kind = kind; codes = codes; faults = faults }) else Well) ≡ replied_verdict kind said replies
-replied_verdict-by kind said replies b codes faults told codes_are faults_are =
+replied_verdict-by kind said replies b codes faults reported codes_are faults_are =
     let ends : Bool → List (Option Code) → List (Option FaultKind) → Verdict = λ b codes faults. if b then Replied (record { kind = kind; codes = codes; faults = faults }) else Well in
-    ap (λ (d : Bool). ends d codes faults) told ∙ ap (λ (cs : List (Option Code)). ends (list_any (λ r. is_trouble (said r)) replies) cs faults) codes_are
-    ∙ ap (λ (ks : List (Option FaultKind)). ends (list_any (λ r. is_trouble (said r)) replies) (codes_told said replies) ks) faults_are
+    ap (λ (d : Bool). ends d codes faults) reported ∙ ap (λ (cs : List (Option Code)). ends (list_any (λ r. is_failure (said r)) replies) cs faults) codes_are
+    ∙ ap (λ (ks : List (Option FaultKind)). ends (list_any (λ r. is_failure (said r)) replies) (reported_codes said replies) ks) faults_are
 
 -- a bad command line is reported without words
-pub Says-alone : (err : ErrorWatch) (to : Watch) (line : BadLine) → err.explains ≡ false → Says err.to to (message (codes "bad command line") ++ []) → Says err.to to (word_text err.explains (word.BadLine line))
-Says-alone err to line hides said = subst (λ (b : Bool). Says err.to to (word_text b (word.BadLine line))) (sym hides) said
+pub Writes-alone : (err : ErrorWatch) (to : Watch) (line : BadLine) → err.explains ≡ false → Writes err.to to (message (codes "bad command line") ++ []) → Writes err.to to (word_text err.explains (word.BadLine line))
+Writes-alone err to line hides said = subst (λ (b : Bool). Writes err.to to (word_text b (word.BadLine line))) (sym hides) said

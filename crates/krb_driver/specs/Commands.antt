@@ -7,23 +7,23 @@ use Rattle.krb_files.specs.Bytes.{Watch}
 use Rattle.krb_files.specs.Files.{SameFiles, CountsFailure}
 use Rattle.krb_files.specs.Loading.{Answer, LoadsFile, SavesFile, TurnsHold}
 use Rattle.krb_files.specs.Plan.{Holds, Loaded, by, follow}
-use Rattle.krb_driver.specs.declared.command.FileTrouble.{FileTrouble}
+use Rattle.krb_driver.specs.declared.command.FileError.{FileError}
 use Rattle.krb_driver.specs.declared.command.Made.{Made}
 use Rattle.krb_driver.specs.declared.command.Made.TheVariants as made
 use Rattle.krb_driver.specs.declared.command.Output.{Output}
 use Rattle.krb_driver.specs.declared.command.Ready.{Ready}
 use Rattle.krb_driver.specs.declared.command.Ready.TheVariants as ready
-use Rattle.krb_driver.specs.declared.trouble.Trouble.{Trouble}
-use Rattle.krb_driver.specs.declared.trouble.Trouble.TheVariants as trouble
+use Rattle.krb_driver.specs.declared.error.RunError.{RunError}
+use Rattle.krb_driver.specs.declared.error.RunError.TheVariants as error
 use Rattle.krb_driver.specs.Effects.{CommandPlan, Effect, Fails, Displays, Saves, IsFailure, IsSpent, Page, about, faults, files_after, opens, saved_end, settled, text}
 use Rattle.krb_driver.specs.ErrorOutput.{ErrorWatch}
-use Rattle.krb_driver.specs.Runs.{Run, Shows, BreaksOff, Tells, ends_by}
-use Rattle.krb_driver.specs.Troubles.{Ending}
+use Rattle.krb_driver.specs.Runs.{Run, Shows, BreaksOff, Reports, ends_by}
+use Rattle.krb_driver.specs.RunErrors.{Ending}
 
 -- ---- what is made of the files
 
 -- what a file gave, or the error with that file's name
-abbrev pub of_file : {X : Type 0} → List ℕ → Result X Trouble → Result X (List ℕ × Trouble)
+abbrev pub of_file : {X : Type 0} → List ℕ → Result X RunError → Result X (List ℕ × RunError)
 of_file file (Ok x) = Ok x
 of_file file (Err why) = Err (file, why)
 
@@ -33,18 +33,18 @@ FairOver Fair (Ok x) = Fair x
 FairOver Fair (Err e) = Unit {0}
 
 -- `Fair` holds of what the first load gave, if it gave something
-abbrev pub fair_first : {X : Type 0} → (Answer → Result X Trouble) → (X → Type 0) → List Answer → Type 0
+abbrev pub fair_first : {X : Type 0} → (Answer → Result X RunError) → (X → Type 0) → List Answer → Type 0
 fair_first gives Fair [] = Unit {0}
 fair_first gives Fair (answer ∷ answers) = FairOver Fair (gives answer)
 
 module _ {F : Type 0} (trait : Ghosts F) (old : F) where
   -- a file was loaded and gave this, or memory ran out
-  pub record GivesOf {X : Type 0} (file : List ℕ) (gives : Answer → Result X Trouble) (given : Result X (List ℕ × Trouble)) (new : F) : Type 0 where
+  pub record GivesOf {X : Type 0} (file : List ℕ) (gives : Answer → Result X RunError) (given : Result X (List ℕ × RunError)) (new : F) : Type 0 where
     pub answer : Answer
     pub loads : LoadsFile trait old file answer new
-    pub given_is : (given ≡ Err (file, trouble.NoMemory)) ⊎ (given ≡ of_file file (gives answer))
-    pub failed : gives (Err load.Failed) ≡ Err trouble.FileNotRead
-    pub spent : gives (Err load.NoMemory) ≡ Err trouble.NoMemory
+    pub given_is : (given ≡ Err (file, error.NoMemory)) ⊎ (given ≡ of_file file (gives answer))
+    pub failed : gives (Err load.Failed) ≡ Err error.FileNotRead
+    pub spent : gives (Err load.NoMemory) ≡ Err error.NoMemory
 
   -- the files of a plan were loaded, and this is its effect by the results of the loads; or memory ran out
   pub record Makes (plan : CommandPlan) (effect : Effect) (new : F) : Type 0 where
@@ -59,7 +59,7 @@ module _ {F : Type 0} (trait : Ghosts F) (old : F) where
 
 module _ {F : Type 0} (trait : Ghosts F) (old : F) where
   -- a file was opened: what `then_` makes of it is what the plan that opens it makes; an error ends the plan
-  abbrev pub Opens : {X : Type 0} → List ℕ → (Answer → Result X Trouble) → Result X (List ℕ × Trouble) → F → Type 0
+  abbrev pub Opens : {X : Type 0} → List ℕ → (Answer → Result X RunError) → Result X (List ℕ × RunError) → F → Type 0
   Opens {X = X} file gives (Ok x) new = (then_ : X → CommandPlan) (effect : Effect) (end : F) → Makes trait new (then_ x) effect end → Makes trait old (opens file gives then_) effect end
   Opens {X = X} file gives (Err met) new = (then_ : X → CommandPlan) → Makes trait old (opens file gives then_) (Fails met.0 met.1) new
 
@@ -114,12 +114,12 @@ pub record RunsCommand {F : Type 0} (trait : Ghosts F) (plan : Option ℕ → Co
   pub does : Does trait plan Fairly old done end
   pub left : TurnsHold trait false done new
   pub shown : ShowsEnd out out' ending end
-  pub told : Tells (about end) None ending err err' status
+  pub reported : Reports (about end) None ending err err' status
   -- over honest files
   pub honest : trait.is_honest old → Keeps trait (plan (trait.mode does.between)) old new end
   -- if memory runs out
-  pub spared : ending ≡ Err trouble.NoMemory → trait.is_honest old → SameFiles (trait.file old) (trait.file new)
-  pub quiet : ending ≡ Err trouble.NoMemory → Shows (ends_by trouble.NoMemory) out out' ending ⊎ Takes end
+  pub spared : ending ≡ Err error.NoMemory → trait.is_honest old → SameFiles (trait.file old) (trait.file new)
+  pub quiet : ending ≡ Err error.NoMemory → Shows (ends_by error.NoMemory) out out' ending ⊎ Takes end
 
 -- that plan, whatever the mode of the file is
 unfoldable pub always : CommandPlan → Option ℕ → CommandPlan
@@ -132,26 +132,26 @@ any answers = Unit {0}
 -- ---- what is made, in code
 
 -- what was opened, or the error with the file's name
-abbrev pub opened : {K X : Type 0} → (K → X) → Result K FileTrouble → Result X (List ℕ × Trouble)
+abbrev pub opened : {K X : Type 0} → (K → X) → Result K FileError → Result X (List ℕ × RunError)
 opened seen (Ok k) = Ok (seen k)
-opened seen (Err met) = Err (met.file.now, met.trouble)
+opened seen (Err met) = Err (met.file.now, met.error)
 
 -- the page of a finished text
 abbrev pub output_page : {A : Type 0} → Output A → Page
 output_page shown = text shown.text.items shown.verdict
 
 -- the effect that `Command::make` returns
-abbrev pub made_effect : {A S : Type 0} → (S → List ℕ → Page) → List ℕ → Result (Made A S) FileTrouble → Effect
+abbrev pub made_effect : {A S : Type 0} → (S → List ℕ → Page) → List ℕ → Result (Made A S) FileError → Effect
 made_effect page file (Ok (made.Shows shown)) = Displays file (page shown file)
 made_effect page file (Ok (made.Saves image shown)) = Saves file image.items shown.text.items shown.verdict
-made_effect page file (Err met) = Fails met.file.now met.trouble
+made_effect page file (Err met) = Fails met.file.now met.error
 
 -- the same for a command that prints a text
-abbrev pub text_effect : {A : Type 0} → List ℕ → Result (Made A (Output A)) FileTrouble → Effect
+abbrev pub text_effect : {A : Type 0} → List ℕ → Result (Made A (Output A)) FileError → Effect
 text_effect file made = made_effect (λ shown _. output_page shown) file made
 
 -- what is left to show after a save
-abbrev pub ready_end : {A S : Type 0} → (S → List ℕ → Page) → List ℕ → Result (Ready A S) FileTrouble → Effect
+abbrev pub ready_end : {A S : Type 0} → (S → List ℕ → Page) → List ℕ → Result (Ready A S) FileError → Effect
 ready_end page file (Ok (ready.Shows shown)) = Displays file (page shown file)
 ready_end page file (Ok (ready.Prints shown)) = Displays file (output_page shown)
-ready_end page file (Err met) = Fails met.file.now met.trouble
+ready_end page file (Err met) = Fails met.file.now met.error

@@ -4,10 +4,10 @@ use Rattle.krb_files.specs.declared.files.SaveFault.{SaveFault}
 use Rattle.krb_files.specs.Files.{FileMap}
 use Rattle.krb_files.specs.Loading.{Answer}
 use Rattle.krb_files.specs.Plan.{Plan, Ends, Loads, Faults, with_bytes}
-use Rattle.krb_driver.specs.declared.trouble.Trouble.{Trouble}
-use Rattle.krb_driver.specs.declared.trouble.Trouble.TheVariants as trouble
+use Rattle.krb_driver.specs.declared.error.RunError.{RunError}
+use Rattle.krb_driver.specs.declared.error.RunError.TheVariants as error
 use Rattle.krb_driver.specs.declared.verdict.Verdict.{Verdict}
-use Rattle.krb_driver.specs.Troubles.{save_trouble}
+use Rattle.krb_driver.specs.RunErrors.{save_error}
 
 -- what is printed, how the run then ends, and whether printing it takes memory
 pub record Page : Type 0 where
@@ -21,7 +21,7 @@ text out verdict = record { out = out; verdict = verdict; takes = false }
 
 -- the effect of a command, with its file: an error, a page to show, or bytes to save and a text to print after that
 pub data Effect : Type 0 where
-  Fails : List ℕ → Trouble → Effect
+  Fails : List ℕ → RunError → Effect
   Displays : List ℕ → Page → Effect
   Saves : List ℕ → List ℕ → List ℕ → Verdict → Effect
 
@@ -32,19 +32,19 @@ about (Displays file page) = file
 about (Saves file bytes out verdict) = file
 
 abbrev pub faults : Faults Effect
-faults = record { unread = λ file. Fails file trouble.FileNotRead; spent = λ file. Fails file trouble.NoMemory }
+faults = record { unread = λ file. Fails file error.FileNotRead; spent = λ file. Fails file error.NoMemory }
 
 -- all that a command does
 abbrev pub CommandPlan : Type 0
 CommandPlan = Plan Effect
 
 -- a command goes on with what a file gave, or an error with that file ends it
-abbrev pub goes_on : {X : Type 0} → List ℕ → Result X Trouble → (X → CommandPlan) → CommandPlan
+abbrev pub goes_on : {X : Type 0} → List ℕ → Result X RunError → (X → CommandPlan) → CommandPlan
 goes_on file (Ok x) then_ = then_ x
 goes_on file (Err why) then_ = Ends (Fails file why)
 
 -- a file is loaded and opened, and the command goes on with what it gave
-abbrev pub opens : {X : Type 0} → List ℕ → (Answer → Result X Trouble) → (X → CommandPlan) → CommandPlan
+abbrev pub opens : {X : Type 0} → List ℕ → (Answer → Result X RunError) → (X → CommandPlan) → CommandPlan
 opens file gives then_ = Loads file (λ answer. goes_on file (gives answer) then_)
 
 -- bytes are saved and then a text is printed; in a dry run only the text is printed
@@ -55,7 +55,7 @@ saves_unless false file bytes out verdict = Saves file bytes out verdict
 -- what is left to show after a save, by its result
 abbrev pub saved_end : List ℕ → List ℕ → Verdict → Result (Unit {0}) SaveFault → Effect
 saved_end file out verdict (Ok done) = Displays file (text out verdict)
-saved_end file out verdict (Err fault) = Fails file (save_trouble fault)
+saved_end file out verdict (Err fault) = Fails file (save_error fault)
 
 -- what an effect shows if no call fails, and the files after it
 abbrev pub settled : Effect → Effect
@@ -68,7 +68,7 @@ files_after files effect = files
 
 -- memory ran out
 abbrev pub IsSpent : Effect → Type 0
-IsSpent effect = (file : List ℕ) × (effect ≡ Fails file trouble.NoMemory)
+IsSpent effect = (file : List ℕ) × (effect ≡ Fails file error.NoMemory)
 
 -- what is due was made, or memory ran out
 abbrev pub IsMade : Effect → Effect → Type 0
@@ -76,4 +76,4 @@ IsMade due effect = IsSpent effect ⊎ (effect ≡ due)
 
 -- a file was not read, or not written
 abbrev pub IsFailure : Effect → Type 0
-IsFailure effect = (file : List ℕ) × ((effect ≡ Fails file trouble.FileNotRead) ⊎ (effect ≡ Fails file trouble.FileNotWritten))
+IsFailure effect = (file : List ℕ) × ((effect ≡ Fails file error.FileNotRead) ⊎ (effect ≡ Fails file error.FileNotWritten))

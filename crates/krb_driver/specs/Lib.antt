@@ -2,8 +2,8 @@
 pub mod Messages
 pub mod PieceTexts
 pub mod Verdicts
-pub mod Troubles
-pub mod Told
+pub mod RunErrors
+pub mod Reported
 pub mod Words
 pub mod ErrorOutput
 pub mod Runs

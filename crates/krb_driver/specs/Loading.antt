@@ -13,9 +13,9 @@ use Rattle.krb_files.specs.declared.files.LoadFault.TheVariants as load
 use Rattle.krb_files.specs.Loading.{LoadsFile, most_bytes}
 use Rattle.krb_driver.specs.declared.loading.NoKeytab.{NoKeytab}
 use Rattle.krb_driver.specs.declared.loading.NoKeytab.TheVariants.{Load, Open}
-use Rattle.krb_driver.specs.declared.trouble.Trouble.{Trouble}
-use Rattle.krb_driver.specs.declared.trouble.Trouble.TheVariants.{NotACache}
-use Rattle.krb_driver.specs.Troubles.{load_trouble}
+use Rattle.krb_driver.specs.declared.error.RunError.{RunError}
+use Rattle.krb_driver.specs.declared.error.RunError.TheVariants.{NotACache}
+use Rattle.krb_driver.specs.RunErrors.{load_error}
 
 -- ---- what a load gives
 
@@ -42,7 +42,7 @@ abbrev pub not_keytab : List ℕ → KtOpenFault → NoKeytab
 not_keytab image fault = Open (record { fault = fault; is_cache = begins_as_cache image })
 
 -- why an image is not a cache
-abbrev pub not_cache : List ℕ → CcOpenFault → Trouble
+abbrev pub not_cache : List ℕ → CcOpenFault → RunError
 not_cache image fault = NotACache (record { fault = fault; is_keytab = begins_as_keytab image })
 
 -- the keytab that a load gives, or why there is none
@@ -56,9 +56,9 @@ keytab_or_new order (Err load.Missing) = Ok (empty V2 most_bytes)
 keytab_or_new order answer = keytab_of order answer
 
 -- the cache that a load gives, or why there is none
-abbrev pub cache_of : Result (List ℕ) LoadFault → Result CacheState Trouble
+abbrev pub cache_of : Result (List ℕ) LoadFault → Result CacheState RunError
 cache_of (Ok image) = result_map_err (not_cache image) (cache_result most_bytes image)
-cache_of (Err fault) = Err (load_trouble fault)
+cache_of (Err fault) = Err (load_error fault)
 
 -- ---- what files answer
 

@@ -111,10 +111,10 @@ abbrev pub IsOf : Option MistakeParts → WordFault → Type 0
 IsOf found (word.BadLine line) = found ≡ Some (mistake_parts line.mistake)
 IsOf found word.NoMemory = found ≡ None
 
--- words that are read have no mistake, and `Says` holds of what they give; else the fault is as in `IsOf`
+-- words that are read have no mistake, and `Writes` holds of what they give; else the fault is as in `IsOf`
 abbrev pub Reads : {X : Type 0} → Option MistakeParts → (X → Type 0) → Result X WordFault → Type 0
-Reads found Says (Ok x) = (found ≡ None) × Says x
-Reads found Says (Err fault) = IsOf found fault
+Reads found Writes (Ok x) = (found ≡ None) × Writes x
+Reads found Writes (Err fault) = IsOf found fault
 
 -- like `IsOf`, and a bad line names that command
 abbrev pub IsRefusal : List ℕ → Option MistakeParts → WordFault → Type 0

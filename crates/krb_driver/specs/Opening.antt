@@ -8,22 +8,22 @@ use Rattle.krb_keytab.specs.Store.{KeytabState, store_of}
 use Rattle.krb_ccache.specs.Changes.{is_read_only}
 use Rattle.krb_ccache.specs.Store.{CacheState, store_of as cache_store}
 use Rattle.krb_files.specs.Loading.{Answer}
-use Rattle.krb_driver.specs.declared.trouble.Trouble.{Trouble}
-use Rattle.krb_driver.specs.declared.trouble.Trouble.TheVariants.{Refused}
+use Rattle.krb_driver.specs.declared.error.RunError.{RunError}
+use Rattle.krb_driver.specs.declared.error.RunError.TheVariants.{Refused}
 use Rattle.krb_driver.specs.Loading.{cache_of, keytab_of, keytab_or_new, result_map_err}
-use Rattle.krb_driver.specs.Troubles.{list_trouble, no_keytab_trouble}
+use Rattle.krb_driver.specs.RunErrors.{list_error, no_keytab_error}
 
 -- the keytab of a file
-abbrev pub keytab_in : Order → Answer → Result KeytabState Trouble
-keytab_in order answer = result_map_err no_keytab_trouble (keytab_of order answer)
+abbrev pub keytab_in : Order → Answer → Result KeytabState RunError
+keytab_in order answer = result_map_err no_keytab_error (keytab_of order answer)
 
 -- the same for a file to list
-abbrev pub listed_in : Order → Answer → Result KeytabState Trouble
-listed_in order answer = result_map_err list_trouble (keytab_of order answer)
+abbrev pub listed_in : Order → Answer → Result KeytabState RunError
+listed_in order answer = result_map_err list_error (keytab_of order answer)
 
 -- the same, but a missing file gives an empty keytab
-abbrev pub keytab_or_empty : Order → Answer → Result KeytabState Trouble
-keytab_or_empty order answer = result_map_err no_keytab_trouble (keytab_or_new order answer)
+abbrev pub keytab_or_empty : Order → Answer → Result KeytabState RunError
+keytab_or_empty order answer = result_map_err no_keytab_error (keytab_or_new order answer)
 
 -- what was opened, or its refusal if there is one
 abbrev pub or_refused : {K E : Type 0} → (Code → E) → K → Option Code → Result K E
@@ -43,9 +43,9 @@ abbrev pub cache_refusal : CacheState → Option Code
 cache_refusal k = if is_read_only k.version then Some ReadOnly else (if is_some (fault_of (cache_store k)) then Some Damaged else None)
 
 -- the keytab of a file to change, which is not damaged
-unfoldable pub whole_in : Order → Answer → Result KeytabState Trouble
+unfoldable pub whole_in : Order → Answer → Result KeytabState RunError
 whole_in order answer = unless_refused Refused keytab_refusal (keytab_in order answer)
 
 -- the cache of a file to change, which is not of version 3 and not damaged
-unfoldable pub writable_in : Answer → Result CacheState Trouble
+unfoldable pub writable_in : Answer → Result CacheState RunError
 writable_in answer = unless_refused Refused cache_refusal (cache_of answer)

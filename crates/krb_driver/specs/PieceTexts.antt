@@ -3,8 +3,8 @@ use Rattle.std.specs.Prelude.{ℕ, List, [], ◌∷◌, ◌++◌, codes, decimal
 use Rattle.std.specs.List.{flat_map}
 use Rattle.hex.specs.Hex.{encode_lower}
 use Rattle.krb_cache_text.specs.Escape.{is_printable}
-use Rattle.krb_driver.specs.declared.telling.piece.Piece.{Piece}
-use Rattle.krb_driver.specs.declared.telling.piece.Piece.TheVariants.{Text, Name, Number, Word}
+use Rattle.krb_driver.specs.declared.reporting.piece.Piece.{Piece}
+use Rattle.krb_driver.specs.declared.reporting.piece.Piece.TheVariants.{Text, Name, Number, Word}
 
 -- a printable byte as it is, and any other as `\x` and its two hexadecimal digits
 abbrev pub shown_byte : ℕ → List ℕ

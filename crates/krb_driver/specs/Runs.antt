@@ -3,10 +3,10 @@ use Rattle.std.specs.Prelude.{◌≡◌, ℕ, List, [], IsTrue, IsFalse, Option,
 use Rattle.std.specs.Io.KnownBytes.{Appends}
 use Rattle.krb_files.specs.declared.cause.Cause.{Cause}
 use Rattle.krb_files.specs.Bytes.{Watch, AppendsPrefix}
-use Rattle.krb_driver.specs.declared.trouble.Trouble.{Trouble}
-use Rattle.krb_driver.specs.declared.trouble.Trouble.TheVariants.{OutputNotWritten, NoMemory}
+use Rattle.krb_driver.specs.declared.error.RunError.{RunError}
+use Rattle.krb_driver.specs.declared.error.RunError.TheVariants.{OutputNotWritten, NoMemory}
 use Rattle.krb_driver.specs.ErrorOutput.{ErrorWatch}
-use Rattle.krb_driver.specs.Troubles.{Ending, ending_status}
+use Rattle.krb_driver.specs.RunErrors.{Ending, ending_status}
 use Rattle.krb_driver.specs.Words.{ending_text}
 
 -- what a run prints, and how it ends
@@ -15,8 +15,8 @@ pub record Run : Type 0 where
   pub ending : Ending
 
 -- a run that prints nothing and ends with an error
-abbrev pub ends_by : Trouble → Run
-ends_by trouble = record { out = []; ending = Err trouble }
+abbrev pub ends_by : RunError → Run
+ends_by error = record { out = []; ending = Err error }
 
 -- the text was printed and the run ended as is due; or the output failed, which ended it, and has a prefix of the text
 pub record Shows (due : Run) (out out' : Watch) (ending : Ending) : Type 0 where
@@ -32,23 +32,23 @@ pub record BreaksOff (due : Run) (out out' : Watch) (ending : Ending) : Type 0 w
   pub prefix : AppendsPrefix out.contents out'.contents due.out
 
 -- the whole text was written, unless the writer has failed: then a prefix of it was
-pub record Says (old new : Watch) (text : List ℕ) : Type 0 where
+pub record Writes (old new : Watch) (text : List ℕ) : Type 0 where
   pub prefix : AppendsPrefix old.contents new.contents text
   pub whole : IsFalse new.failed → Appends old.contents new.contents text
 
 -- the end of a run over that file, or of a line of ktutil, was reported, with the words for some cause or for none
-pub record SaysEnd (file : List ℕ) (line : Option ℕ) (ending : Ending) (err err' : ErrorWatch) : Type 0 where
+pub record ReportsEnd (file : List ℕ) (line : Option ℕ) (ending : Ending) (err err' : ErrorWatch) : Type 0 where
   pub cause : Option Cause
-  pub said : Says err.to err'.to (ending_text err.explains file line cause ending)
+  pub said : Writes err.to err'.to (ending_text err.explains file line cause ending)
   pub still : err'.explains ≡ err.explains
 
 -- the end was reported, and the exit status is that of the end
-pub record Tells (file : List ℕ) (line : Option ℕ) (ending : Ending) (err err' : ErrorWatch) (status : ℕ) : Type 0 where
-  pub says : SaysEnd file line ending err err'
+pub record Reports (file : List ℕ) (line : Option ℕ) (ending : Ending) (err err' : ErrorWatch) (status : ℕ) : Type 0 where
+  pub reports : ReportsEnd file line ending err err'
   pub status_is : status ≡ ending_status ending
 
 -- what a run or a line prints was printed, and its end was reported
 pub record EndsRun (file : List ℕ) (line : Option ℕ) (due : Run) (out out' : Watch) (err err' : ErrorWatch) (status : ℕ) : Type 0 where
   pub ending : Ending
   pub shows : Shows due out out' ending
-  pub told : Tells file line ending err err' status
+  pub reported : Reports file line ending err err' status

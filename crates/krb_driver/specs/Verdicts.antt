@@ -25,6 +25,6 @@ verdict_status verdict = 1
 
 -- replies or findings have words of their own
 abbrev pub is_itemized : Verdict → Bool
-is_itemized (Replied told) = true
+is_itemized (Replied reported) = true
 is_itemized (Found findings) = true
 is_itemized verdict = false

@@ -18,16 +18,16 @@ use Rattle.krb_files.specs.declared.cause.Cause.TheVariants.{InTheWay, System}
 use Rattle.krb_files.specs.Phrases.{cause_phrase}
 use Rattle.krb_text.specs.declared.line_fault.LineFault.{LineFault}
 use Rattle.krb_text.specs.LineFault.{line_phrase, ktutil_phrase}
-use Rattle.krb_audit.specs.declared.told.Told.{Told as CheckTold}
-use Rattle.krb_driver.specs.declared.trouble.Trouble.{Trouble}
-use Rattle.krb_driver.specs.declared.trouble.Trouble.TheVariants as trouble
+use Rattle.krb_audit.specs.declared.finding_words.FindingWords.{FindingWords}
+use Rattle.krb_driver.specs.declared.error.RunError.{RunError}
+use Rattle.krb_driver.specs.declared.error.RunError.TheVariants as error
 use Rattle.krb_driver.specs.declared.verdict.FileKind.{FileKind}
 use Rattle.krb_driver.specs.declared.verdict.FileKind.TheVariants.{Keytab, Cache}
 use Rattle.krb_driver.specs.declared.verdict.Findings.{Findings}
 use Rattle.krb_driver.specs.declared.verdict.Verdict.{Verdict}
 use Rattle.krb_driver.specs.declared.verdict.Verdict.TheVariants.{Well, Listed, Replied, Found, NothingToRemove}
 use Rattle.krb_driver.specs.Messages.{words_line, phrase_line}
-use Rattle.krb_driver.specs.Troubles.{Ending, ending_message}
+use Rattle.krb_driver.specs.RunErrors.{Ending, ending_message}
 
 -- ---- phrases
 
@@ -107,15 +107,15 @@ fault_words None = []
 fault_words (Some kind) = codes "krbfile: fault " ++ (decimal (fault_number kind) ++ (codes ": " ++ (fault_phrase kind ++ codes "\n")))
 
 -- the lines for what replies report: refusals first, each once
-abbrev pub told_words : FileKind → List (Option Code) → List (Option FaultKind) → List ℕ
-told_words kind refusals faults = flat_map (code_words kind) refusals ++ flat_map fault_words faults
+abbrev pub reported_words : FileKind → List (Option Code) → List (Option FaultKind) → List ℕ
+reported_words kind refusals faults = flat_map (code_words kind) refusals ++ flat_map fault_words faults
 
 -- a line if its word was printed, else nothing
 abbrev pub line_if : Bool → List ℕ → List ℕ
-line_if is_told line = if is_told then line else []
+line_if is_printed line = if is_printed then line else []
 
 -- the line for each word of findings that was printed, in this order
-abbrev pub word_lines : CheckTold → List ℕ
+abbrev pub word_lines : FindingWords → List ℕ
 word_lines t =
     line_if t.weak (codes "krbfile: weak: an encryption type that MIT calls weak or deprecated\n")
     ++ (line_if t.hidden (codes "krbfile: hidden: MIT's programs see no entry from this one on\n")
@@ -134,22 +134,22 @@ abbrev pub found_words : List ℕ → Findings → List ℕ
 found_words file findings = word_lines findings.words ++ found_fault_words file findings.fault
 
 -- the words that explain an error of a run over that file, or of that line of ktutil
-abbrev pub trouble_words : List ℕ → Option ℕ → Option Cause → Trouble → List ℕ
-trouble_words file line cause trouble.InputTooLarge = phrase_line line too_large
-trouble_words file line cause trouble.InputNotRead = cause_words file line cause
-trouble_words file line cause (trouble.FaultyLine number fault) = phrase_line line (line_fault_phrase line fault)
-trouble_words file line cause (trouble.LineRefused number code) = phrase_line line (keytab_phrase code)
-trouble_words file line cause trouble.NoSuchFile = missing_words line
-trouble_words file line cause trouble.FileTooLarge = phrase_line line too_large
-trouble_words file line cause trouble.FileNotRead = cause_words file line cause
-trouble_words file line cause trouble.FileNotWritten = cause_words file line cause
-trouble_words file line cause (trouble.NotAKeytab why) = phrase_line line (no_keytab_phrase why.fault why.is_cache)
-trouble_words file line cause (trouble.NotAKeytabToList why) = phrase_line line (list_phrase why.fault why.is_cache)
-trouble_words file line cause (trouble.NotACache why) = phrase_line line (no_cache_phrase why.fault why.is_keytab)
-trouble_words file line cause (trouble.Refused code) = phrase_line line (keytab_phrase code)
-trouble_words file line cause trouble.OutputNotWritten = cause_words file line cause
-trouble_words file line cause trouble.ClockNotRead = phrase_line line (codes "the clock is before 1970 or after 2106, or failed")
-trouble_words file line cause trouble.NoMemory = []
+abbrev pub error_words : List ℕ → Option ℕ → Option Cause → RunError → List ℕ
+error_words file line cause error.InputTooLarge = phrase_line line too_large
+error_words file line cause error.InputNotRead = cause_words file line cause
+error_words file line cause (error.FaultyLine number fault) = phrase_line line (line_fault_phrase line fault)
+error_words file line cause (error.LineRefused number code) = phrase_line line (keytab_phrase code)
+error_words file line cause error.NoSuchFile = missing_words line
+error_words file line cause error.FileTooLarge = phrase_line line too_large
+error_words file line cause error.FileNotRead = cause_words file line cause
+error_words file line cause error.FileNotWritten = cause_words file line cause
+error_words file line cause (error.NotAKeytab why) = phrase_line line (no_keytab_phrase why.fault why.is_cache)
+error_words file line cause (error.NotAKeytabToList why) = phrase_line line (list_phrase why.fault why.is_cache)
+error_words file line cause (error.NotACache why) = phrase_line line (no_cache_phrase why.fault why.is_keytab)
+error_words file line cause (error.Refused code) = phrase_line line (keytab_phrase code)
+error_words file line cause error.OutputNotWritten = cause_words file line cause
+error_words file line cause error.ClockNotRead = phrase_line line (codes "the clock is before 1970 or after 2106, or failed")
+error_words file line cause error.NoMemory = []
 
 -- the words that explain the verdict of a run over that file
 abbrev pub verdict_words : List ℕ → Option ℕ → Verdict → List ℕ
@@ -157,12 +157,12 @@ verdict_words file line Well = []
 verdict_words file line (NothingToRemove kind) = phrase_line line (nothing_phrase kind)
 verdict_words file line (Listed fault) = listed_words file fault
 verdict_words file line (Found findings) = found_words file findings
-verdict_words file line (Replied told) = told_words told.kind told.codes told.faults
+verdict_words file line (Replied reported) = reported_words reported.kind reported.codes reported.faults
 
 -- the words that explain the end of a run
 abbrev pub ending_words : List ℕ → Option ℕ → Option Cause → Ending → List ℕ
 ending_words file line cause (Ok verdict) = verdict_words file line verdict
-ending_words file line cause (Err trouble) = trouble_words file line cause trouble
+ending_words file line cause (Err error) = error_words file line cause error
 
 -- words, if they are shown
 abbrev pub words_if : Bool → List ℕ → List ℕ

@@ -6,8 +6,8 @@ ghost use Rattle.krb_driver.specs.Commands.{Does, HoldsIf, RunsCommand, ShowsEnd
 ghost use Rattle.krb_driver.specs.Effects.{Page, about};
 
 use crate::streams::Streams;
-use crate::telling::{cause_of, show, tell};
-use crate::trouble::Trouble;
+use crate::reporting::{cause_of, show, report};
+use crate::error::RunError;
 use crate::verdict::Verdict;
 use krb_files::{Files, Watched};
 use krb_wire::NoMemory;
@@ -16,20 +16,20 @@ use std::io::{Read, Write};
 
 /// An error, and the file that it is about.
 #[derive(Clone, Copy)]
-pub struct FileTrouble<'a> {
+pub struct FileError<'a> {
     pub file: &'a str,
-    pub trouble: Trouble,
+    pub error: RunError,
 }
 
-impl<'a> From<NoMemory> for FileTrouble<'a> {
-    ghost use Rattle.krb_driver.specs.declared.trouble.Trouble.TheVariants as trouble;
+impl<'a> From<NoMemory> for FileError<'a> {
+    ghost use Rattle.krb_driver.specs.declared.error.RunError.TheVariants as error;
 
-    ghost from_gives = { λ _ met. met.trouble ≡ trouble.NoMemory };
+    ghost from_gives = { λ _ met. met.error ≡ error.NoMemory };
 
-    fn from(_no_memory: NoMemory) -> FileTrouble<'a> {
-        FileTrouble {
+    fn from(_no_memory: NoMemory) -> FileError<'a> {
+        FileError {
             file: "",
-            trouble: Trouble::NoMemory,
+            error: RunError::NoMemory,
         }
     }
 }
@@ -67,7 +67,7 @@ pub trait Show<A: Allocator + Copy>: Drop {
     ghost page: { Self → List ℕ → Page };
 
     /// Prints it.
-    fn show<W: Write>(&self, alloc: A, file: &str, out: &mut Watched<W>) -> Result<Verdict, Trouble>
+    fn show<W: Write>(&self, alloc: A, file: &str, out: &mut Watched<W>) -> Result<Verdict, RunError>
         requires { IsFalse out.old.failed }
         ensures { ShowsPage out.old out.new result (page self.now file.now) };
 }
@@ -82,7 +82,7 @@ impl<A: Allocator + Copy> Show<A> for Output<A> {
         alloc: A,
         file: &str,
         out: &mut Watched<W>,
-    ) -> Result<Verdict, Trouble> {
+    ) -> Result<Verdict, RunError> {
         show(&self.text, Ok(self.verdict), out)
     }
 }
@@ -115,7 +115,7 @@ pub trait Command<A: Allocator + Copy> {
         &self,
         alloc: A,
         files: &mut F,
-    ) -> Result<Made<A, Self::Shown>, FileTrouble<'_>>
+    ) -> Result<Made<A, Self::Shown>, FileError<'_>>
         ensures { MakesFairly F.Files files.old (plan self.now (F.Files.mode files.new)) (fairly self.now)
             (made_effect Self.Shown.page (file self.now) result) files.new };
 }
@@ -136,7 +136,7 @@ fn settle<'a, A: Allocator + Copy, C: Command<A>, F: Files>(
     alloc: A,
     command: &'a C,
     files: &mut F,
-) -> Result<Ready<A, C::Shown>, FileTrouble<'a>>
+) -> Result<Ready<A, C::Shown>, FileError<'a>>
     ensures { Does F.Files (C.plan command.now) (C.fairly command.now) files.old files.new
         (ready_end C.Shown.page (C.file command.now) result) }
 {
@@ -146,9 +146,9 @@ fn settle<'a, A: Allocator + Copy, C: Command<A>, F: Files>(
             let file = command.file();
             match files.save(file, &image) {
                 Ok(()) => Ok(Ready::Prints(text)),
-                Err(fault) => Err(FileTrouble {
+                Err(fault) => Err(FileError {
                     file,
-                    trouble: Trouble::from(fault),
+                    error: RunError::from(fault),
                 }),
             }
         }
@@ -158,7 +158,7 @@ fn settle<'a, A: Allocator + Copy, C: Command<A>, F: Files>(
 
 // Returns the file that the messages name: the error's, or else the command's.
 fn about<'a, A: Allocator, S: Drop>(
-    ready: &Result<Ready<A, S>, FileTrouble<'a>>,
+    ready: &Result<Ready<A, S>, FileError<'a>>,
     file: &'a str,
 ) -> &'a str
     ensures { (page : S → List ℕ → Page) → result.now ≡ about (ready_end page file.now ready.now) }
@@ -173,16 +173,16 @@ fn about<'a, A: Allocator, S: Drop>(
 fn show_ready<A: Allocator + Copy, S: Show<A>, W: Write>(
     alloc: A,
     file: &str,
-    ready: Result<Ready<A, S>, FileTrouble<'_>>,
+    ready: Result<Ready<A, S>, FileError<'_>>,
     out: &mut Watched<W>,
-) -> Result<Verdict, Trouble>
+) -> Result<Verdict, RunError>
     requires { IsFalse out.old.failed }
     ensures { ShowsEnd out.old out.new result (ready_end S.page file.now ready.entry) }
 {
     match ready {
         Ok(Ready::Shows(shown)) => shown.show(alloc, file, out),
         Ok(Ready::Prints(text)) => text.show(alloc, file, out),
-        Err(met) => Err(met.trouble),
+        Err(met) => Err(met.error),
     }
 }
 
@@ -205,5 +205,5 @@ pub fn run<A: Allocator + Copy, C: Command<A>, F: Files, R: Read, W: Write, E: W
     let named = about(&ready, file);
     let ending = show_ready(alloc, file, ready, &mut streams.out);
     let cause = cause_of(&ending, files, &streams.out);
-    tell(ending, named.as_bytes(), None, cause, &mut streams.err)
+    report(ending, named.as_bytes(), None, cause, &mut streams.err)
 }

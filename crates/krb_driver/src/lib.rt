@@ -6,11 +6,11 @@ mod command_line;
 mod loading;
 mod opening;
 mod streams;
-mod telling;
-mod trouble;
+mod reporting;
+mod error;
 mod verdict;
 
-pub use command::{Command, FileTrouble, Made, Output, Show, hold_if, run};
+pub use command::{Command, FileError, Made, Output, Show, hold_if, run};
 pub use command_line::matches::{
     Matches, asked_name, first_value, spelled_name, times_given, v1_order,
 };
@@ -21,8 +21,8 @@ pub use opening::{
     give_cache, give_or_empty, open_cache, open_keytab, open_listed, open_whole, open_writable,
 };
 pub use streams::Streams;
-pub use telling::error_output::ErrorOutput;
-pub use telling::told::replied_verdict;
-pub use telling::{cause_of, show, tell, tell_word_fault};
-pub use trouble::Trouble;
+pub use reporting::error_output::ErrorOutput;
+pub use reporting::reported::replied_verdict;
+pub use reporting::{cause_of, show, report, report_word_fault};
+pub use error::RunError;
 pub use verdict::{FileKind, Findings, Verdict};

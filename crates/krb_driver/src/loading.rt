@@ -6,7 +6,7 @@ ghost use Rattle.krb_driver.specs.declared.loading.NoKeytab.TheVariants.{Load};
 ghost use Rattle.krb_files.specs.Loading.{most_bytes};
 ghost use Rattle.krb_driver.specs.Loading.{Gives, GivesOrRunsOut, begins_as_cache, begins_as_keytab, cache_of, keytab_of, keytab_or_new, not_keytab, result_map, result_map_err};
 
-use crate::trouble::Trouble;
+use crate::error::RunError;
 use krb_ccache::{CcOpenFault, Ccache};
 use krb_files::{Files, LoadFault};
 use krb_keytab::{Keytab, KtOpenFault};
@@ -109,14 +109,14 @@ pub fn load_cache<A: Allocator, F: Files>(
     alloc: A,
     files: &mut F,
     name: &str,
-) -> Result<Ccache<A>, Trouble>
+) -> Result<Ccache<A>, RunError>
     ensures { Gives F.Files files.old name.now
         cache_of (result_map (λ k. k.state) result) files.new }
 {
     let image = files.load(alloc, name, USUAL_LIMIT)?;
     match Ccache::open(image, Limits::usual()) {
         Ok(cache) => Ok(cache),
-        Err(refused) => Err(Trouble::NotACache(NotCache {
+        Err(refused) => Err(RunError::NotACache(NotCache {
             fault: refused.why,
             is_keytab: begins_as_keytab(&refused.image),
         })),

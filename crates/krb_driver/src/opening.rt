@@ -2,14 +2,14 @@
 
 ghost use Rattle.std.specs.Prelude.{◌≡◌, if◌then◌else◌, is_some};
 ghost use Rattle.krb_walk.specs.Store.{fault_of};
-ghost use Rattle.krb_driver.specs.declared.trouble.Trouble.TheVariants.{Refused};
+ghost use Rattle.krb_driver.specs.declared.error.RunError.TheVariants.{Refused};
 ghost use Rattle.krb_driver.specs.Commands.{GivesOf, Opens, opened};
 ghost use Rattle.krb_driver.specs.Loading.{cache_of};
 ghost use Rattle.krb_driver.specs.Opening.{cache_refusal, keytab_in, keytab_or_empty, keytab_refusal, listed_in, unless_refused, whole_in, writable_in};
 
-use crate::command::FileTrouble;
+use crate::command::FileError;
 use crate::loading::{load_cache, load_keytab, load_or_new};
-use crate::trouble::Trouble;
+use crate::error::RunError;
 use krb_ccache::{Ccache, Version};
 use krb_files::Files;
 use krb_keytab::Keytab;
@@ -23,14 +23,14 @@ fn give_keytab<'a, A: Allocator, F: Files>(
     v1_order: Order,
     files: &mut F,
     file: &'a str,
-) -> Result<Keytab<A>, FileTrouble<'a>>
+) -> Result<Keytab<A>, FileError<'a>>
     ensures { GivesOf F.Files files.old file.now (keytab_in v1_order) (opened (λ k. k.state) result) files.new }
 {
     match load_keytab(alloc, v1_order, files, file) {
         Ok(keytab) => Ok(keytab),
-        Err(why) => Err(FileTrouble {
+        Err(why) => Err(FileError {
             file,
-            trouble: Trouble::from(why),
+            error: RunError::from(why),
         }),
     }
 }
@@ -41,7 +41,7 @@ pub fn open_keytab<'a, A: Allocator, F: Files>(
     v1_order: Order,
     files: &mut F,
     file: &'a str,
-) -> Result<Keytab<A>, FileTrouble<'a>>
+) -> Result<Keytab<A>, FileError<'a>>
     ensures { Opens F.Files files.old file.now (keytab_in v1_order) (opened (λ k. k.state) result) files.new }
 {
     give_keytab(alloc, v1_order, files, file)
@@ -53,14 +53,14 @@ fn give_listed<'a, A: Allocator, F: Files>(
     v1_order: Order,
     files: &mut F,
     file: &'a str,
-) -> Result<Keytab<A>, FileTrouble<'a>>
+) -> Result<Keytab<A>, FileError<'a>>
     ensures { GivesOf F.Files files.old file.now (listed_in v1_order) (opened (λ k. k.state) result) files.new }
 {
     match load_keytab(alloc, v1_order, files, file) {
         Ok(keytab) => Ok(keytab),
-        Err(why) => Err(FileTrouble {
+        Err(why) => Err(FileError {
             file,
-            trouble: Trouble::of_listed(why),
+            error: RunError::of_listed(why),
         }),
     }
 }
@@ -71,7 +71,7 @@ pub fn open_listed<'a, A: Allocator, F: Files>(
     v1_order: Order,
     files: &mut F,
     file: &'a str,
-) -> Result<Keytab<A>, FileTrouble<'a>>
+) -> Result<Keytab<A>, FileError<'a>>
     ensures { Opens F.Files files.old file.now (listed_in v1_order) (opened (λ k. k.state) result) files.new }
 {
     give_listed(alloc, v1_order, files, file)
@@ -83,14 +83,14 @@ pub fn give_or_empty<'a, A: Allocator + Copy, F: Files>(
     v1_order: Order,
     files: &mut F,
     file: &'a str,
-) -> Result<Keytab<A>, FileTrouble<'a>>
+) -> Result<Keytab<A>, FileError<'a>>
     ensures { GivesOf F.Files files.old file.now (keytab_or_empty v1_order) (opened (λ k. k.state) result) files.new }
 {
     match load_or_new(alloc, v1_order, files, file) {
         Ok(keytab) => Ok(keytab),
-        Err(why) => Err(FileTrouble {
+        Err(why) => Err(FileError {
             file,
-            trouble: Trouble::from(why),
+            error: RunError::from(why),
         }),
     }
 }
@@ -100,12 +100,12 @@ pub fn give_cache<'a, A: Allocator, F: Files>(
     alloc: A,
     files: &mut F,
     file: &'a str,
-) -> Result<Ccache<A>, FileTrouble<'a>>
+) -> Result<Ccache<A>, FileError<'a>>
     ensures { GivesOf F.Files files.old file.now cache_of (opened (λ k. k.state) result) files.new }
 {
     match load_cache(alloc, files, file) {
         Ok(cache) => Ok(cache),
-        Err(trouble) => Err(FileTrouble { file, trouble }),
+        Err(error) => Err(FileError { file, error }),
     }
 }
 
@@ -114,7 +114,7 @@ pub fn open_cache<'a, A: Allocator, F: Files>(
     alloc: A,
     files: &mut F,
     file: &'a str,
-) -> Result<Ccache<A>, FileTrouble<'a>>
+) -> Result<Ccache<A>, FileError<'a>>
     ensures { Opens F.Files files.old file.now cache_of (opened (λ k. k.state) result) files.new }
 {
     give_cache(alloc, files, file)
@@ -123,15 +123,15 @@ pub fn open_cache<'a, A: Allocator, F: Files>(
 // Refuses a damaged keytab.
 fn whole<'a, A: Allocator>(
     file: &'a str,
-    given: Result<Keytab<A>, FileTrouble<'a>>,
-) -> Result<Keytab<A>, FileTrouble<'a>>
+    given: Result<Keytab<A>, FileError<'a>>,
+) -> Result<Keytab<A>, FileError<'a>>
     ensures { opened (λ k. k.state) result
         ≡ unless_refused (λ code. (file.now, Refused code)) keytab_refusal (opened (λ k. k.state) given.entry) }
 {
     match given {
-        Ok(keytab) if keytab.fault().is_some() => Err(FileTrouble {
+        Ok(keytab) if keytab.fault().is_some() => Err(FileError {
             file,
-            trouble: Trouble::Refused(Code::Damaged),
+            error: RunError::Refused(Code::Damaged),
         }),
         given => given,
     }
@@ -143,7 +143,7 @@ pub fn open_whole<'a, A: Allocator, F: Files>(
     v1_order: Order,
     files: &mut F,
     file: &'a str,
-) -> Result<Keytab<A>, FileTrouble<'a>>
+) -> Result<Keytab<A>, FileError<'a>>
     ensures { Opens F.Files files.old file.now (whole_in v1_order) (opened (λ k. k.state) result) files.new }
 {
     let given = give_keytab(alloc, v1_order, files, file);
@@ -153,8 +153,8 @@ pub fn open_whole<'a, A: Allocator, F: Files>(
 // Refuses a cache of version 3, which is read-only, and a damaged one.
 fn writable<'a, A: Allocator>(
     file: &'a str,
-    given: Result<Ccache<A>, FileTrouble<'a>>,
-) -> Result<Ccache<A>, FileTrouble<'a>>
+    given: Result<Ccache<A>, FileError<'a>>,
+) -> Result<Ccache<A>, FileError<'a>>
     ensures { opened (λ k. k.state) result
         ≡ unless_refused (λ code. (file.now, Refused code)) cache_refusal (opened (λ k. k.state) given.entry) }
 {
@@ -166,9 +166,9 @@ fn writable<'a, A: Allocator>(
     } else {
         return Ok(cache);
     };
-    Err(FileTrouble {
+    Err(FileError {
         file,
-        trouble: Trouble::Refused(code),
+        error: RunError::Refused(code),
     })
 }
 
@@ -177,7 +177,7 @@ pub fn open_writable<'a, A: Allocator, F: Files>(
     alloc: A,
     files: &mut F,
     file: &'a str,
-) -> Result<Ccache<A>, FileTrouble<'a>>
+) -> Result<Ccache<A>, FileError<'a>>
     ensures { Opens F.Files files.old file.now writable_in (opened (λ k. k.state) result) files.new }
 {
     let given = give_cache(alloc, files, file);

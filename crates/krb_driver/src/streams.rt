@@ -1,6 +1,6 @@
 //! The streams of a run.
 
-use crate::telling::error_output::ErrorOutput;
+use crate::reporting::error_output::ErrorOutput;
 use krb_files::{Watched, WatchedReader};
 use std::io::{Read, Write};
 

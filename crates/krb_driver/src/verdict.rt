@@ -3,7 +3,7 @@
 ghost use Rattle.std.specs.Prelude.{◌≡◌};
 ghost use Rattle.krb_driver.specs.Verdicts.{verdict_status};
 
-use crate::telling::told::Told;
+use crate::reporting::reported::Reported;
 use krb_walk::Fault;
 
 /// The kind of file that a run changes.
@@ -16,7 +16,7 @@ pub enum FileKind {
 /// What was found about a keytab: which words were printed, the fault, and whether something is wrong.
 #[derive(Clone, Copy)]
 pub struct Findings {
-    pub words: krb_audit::Told,
+    pub words: krb_audit::FindingWords,
     pub fault: Option<Fault>,
     pub is_wrong: bool,
 }
@@ -28,7 +28,7 @@ pub enum Verdict {
     /// The listing reports it.
     Listed(Fault),
     /// The replies report it.
-    Replied(Told),
+    Replied(Reported),
     /// The findings report it.
     Found(Findings),
     /// No entry, or no ticket, is selected.

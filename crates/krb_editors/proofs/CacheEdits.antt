@@ -27,7 +27,7 @@ state_join r s (e ∷ es) fs = state_join r (after r s e) es fs
 
 replies_join : {S I : Type 0} (r : Rules S I) (s : SessionState S) (es fs : List (Event I)) → replies (history r s (es ++ fs)) ≡ replies (history r s es) ++ replies (history r (state_after r s es) fs)
 replies_join r s [] fs = refl
-replies_join r s (e ∷ es) fs = ap (λ (told : List Said). reply_to r s e ∷ told) (replies_join r (after r s e) es fs)
+replies_join r s (e ∷ es) fs = ap (λ (reported : List Said). reply_to r s e ∷ reported) (replies_join r (after r s e) es fs)
 
 lawful_join : {S I : Type 0} (r : Rules S I) (s : SessionState S) (es fs : List (Event I)) → AllLawful r (history r s es) → AllLawful r (history r (state_after r s es) fs) → AllLawful r (history r s (es ++ fs))
 lawful_join r s [] fs all more = more

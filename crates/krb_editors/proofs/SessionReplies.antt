@@ -39,7 +39,7 @@ use Rattle.krb_driver.specs.declared.verdict.Verdict.TheVariants.{Well, Replied}
 use Rattle.krb_driver.specs.Commands.{text_effect}
 use Rattle.krb_driver.specs.Effects.{Effect, Displays, Saves, text}
 use Rattle.krb_editors.specs.Sessions.{is_change, new_session, moments, left, replied, session_effect, RunsFairly}
-use Rattle.krb_driver.specs.Told.{is_trouble, tells_code, tells_fault, code_told, fault_told, codes_told, faults_told, replied_verdict}
+use Rattle.krb_driver.specs.Reported.{is_failure, reports_code, reports_fault, reported_code, reported_fault, reported_codes, reported_faults, replied_verdict}
 
 -- ---- the format after an event
 
@@ -189,55 +189,55 @@ same_map f g each (x ∷ xs) = ap (λ y. y ∷ map f xs) (each x) ∙ ap (λ ys.
 pub replied_said : {A : Type 0} (kind : FileKind) (f : A → Said) (rs : List A) → replied_verdict kind f rs ≡ replied_verdict kind (λ said. said) (map f rs)
 replied_said kind f rs =
     let ends : Bool → List (Option Code) → List (Option FaultKind) → Verdict = λ b codes faults. if b then Replied (record { kind = kind; codes = codes; faults = faults }) else Well in
-    let code_is : (c : Code) → code_told f rs c ≡ code_told (λ said. said) (map f rs) c = λ c. ap (λ (b : Bool). if b then Some c else None) (any_said f (tells_code c) rs) in
-    let fault_is : (k : FaultKind) → fault_told f rs k ≡ fault_told (λ said. said) (map f rs) k = λ k. ap (λ (b : Bool). if b then Some k else None) (any_said f (tells_fault k) rs) in
-    ap (λ (b : Bool). ends b (codes_told f rs) (faults_told f rs)) (any_said f is_trouble rs)
-    ∙ ap (λ (cs : List (Option Code)). ends (list_any is_trouble (map f rs)) cs (faults_told f rs)) (same_map (code_told f rs) (code_told (λ said. said) (map f rs)) code_is (code.Damaged ∷ code.TooLong ∷ code.Full ∷ code.NotAPlace ∷ code.NotLive ∷ code.NoSuchWalk ∷ code.TooManyWalks ∷ code.ReadOnly ∷ code.NotFound ∷ code.KvnoNotFound ∷ code.Marked ∷ []))
-    ∙ ap (λ (ks : List (Option FaultKind)). ends (list_any is_trouble (map f rs)) (codes_told (λ said. said) (map f rs)) ks) (same_map (fault_told f rs) (fault_told (λ said. said) (map f rs)) fault_is (CutLength ∷ Overrun ∷ BadEntry ∷ BadCredential ∷ []))
+    let code_is : (c : Code) → reported_code f rs c ≡ reported_code (λ said. said) (map f rs) c = λ c. ap (λ (b : Bool). if b then Some c else None) (any_said f (reports_code c) rs) in
+    let fault_is : (k : FaultKind) → reported_fault f rs k ≡ reported_fault (λ said. said) (map f rs) k = λ k. ap (λ (b : Bool). if b then Some k else None) (any_said f (reports_fault k) rs) in
+    ap (λ (b : Bool). ends b (reported_codes f rs) (reported_faults f rs)) (any_said f is_failure rs)
+    ∙ ap (λ (cs : List (Option Code)). ends (list_any is_failure (map f rs)) cs (reported_faults f rs)) (same_map (reported_code f rs) (reported_code (λ said. said) (map f rs)) code_is (code.Damaged ∷ code.TooLong ∷ code.Full ∷ code.NotAPlace ∷ code.NotLive ∷ code.NoSuchWalk ∷ code.TooManyWalks ∷ code.ReadOnly ∷ code.NotFound ∷ code.KvnoNotFound ∷ code.Marked ∷ []))
+    ∙ ap (λ (ks : List (Option FaultKind)). ends (list_any is_failure (map f rs)) (reported_codes (λ said. said) (map f rs)) ks) (same_map (reported_fault f rs) (reported_fault (λ said. said) (map f rs)) fault_is (CutLength ∷ Overrun ∷ BadEntry ∷ BadCredential ∷ []))
 
 -- a run of a session that began as a new one is a run of the new session over the store
-pub ran_begun : {S I : Type 0} (r : Rules S I) (store : S) (events : List (Event I)) (old new : SessionState S) (told : List Said)
-    → old ≡ new_session store → Ran r old new events [] told → Ran r (new_session store) (state_after r (new_session store) events) events [] told
-ran_begun {S} r store events old new told begins ran =
-    let from_new : Ran r (new_session store) new events [] told = subst (λ (s : SessionState S). Ran r s new events [] told) begins ran in
-    subst (λ (s : SessionState S). Ran r (new_session store) s events [] told) from_new.state from_new
+pub ran_begun : {S I : Type 0} (r : Rules S I) (store : S) (events : List (Event I)) (old new : SessionState S) (reported : List Said)
+    → old ≡ new_session store → Ran r old new events [] reported → Ran r (new_session store) (state_after r (new_session store) events) events [] reported
+ran_begun {S} r store events old new reported begins ran =
+    let from_new : Ran r (new_session store) new events [] reported = subst (λ (s : SessionState S). Ran r s new events [] reported) begins ran in
+    subst (λ (s : SessionState S). Ran r (new_session store) s events [] reported) from_new.state from_new
 
 -- every walk is given what is due to it
-pub ran_fair : {S I : Type 0} (r : Rules S I) (store : S) (events : List (Event I)) (told : List Said)
-    → Ran r (new_session store) (state_after r (new_session store) events) events [] told → RunsFairly r store events
-ran_fair r store events told ran = subst (λ (t : List Said). Ran r (new_session store) (state_after r (new_session store) events) events [] t) ran.replies_are ran
+pub ran_fair : {S I : Type 0} (r : Rules S I) (store : S) (events : List (Event I)) (reported : List Said)
+    → Ran r (new_session store) (state_after r (new_session store) events) events [] reported → RunsFairly r store events
+ran_fair r store events reported ran = subst (λ (t : List Said). Ran r (new_session store) (state_after r (new_session store) events) events [] t) ran.replies_are ran
 
 -- the same for a session that began as a new one
-pub begun_fair : {S I : Type 0} (r : Rules S I) (store : S) (events : List (Event I)) (old new : SessionState S) (told : List Said)
-    → old ≡ new_session store → Ran r old new events [] told → RunsFairly r store events
-begun_fair r store events old new told begins ran = ran_fair r store events told (ran_begun r store events old new told begins ran)
+pub begun_fair : {S I : Type 0} (r : Rules S I) (store : S) (events : List (Event I)) (old new : SessionState S) (reported : List Said)
+    → old ≡ new_session store → Ran r old new events [] reported → RunsFairly r store events
+begun_fair r store events old new reported begins ran = ran_fair r store events reported (ran_begun r store events old new reported begins ran)
 
 -- such a session leaves the store that the events leave
-pub left_begun : {S I : Type 0} (r : Rules S I) (store : S) (events : List (Event I)) (old new : SessionState S) (told : List Said)
-    → old ≡ new_session store → Ran r old new events [] told → new.store ≡ left r store events
-left_begun {S} r store events old new told begins ran =
+pub left_begun : {S I : Type 0} (r : Rules S I) (store : S) (events : List (Event I)) (old new : SessionState S) (reported : List Said)
+    → old ≡ new_session store → Ran r old new events [] reported → new.store ≡ left r store events
+left_begun {S} r store events old new reported begins ran =
     ap (λ (s : SessionState S). s.store) (ran.state ∙ ap (λ (s : SessionState S). state_after r s events) begins)
 
-module _ (kind : FileKind) (told : List Said) (image lines text_ : List ℕ) (verdict : Verdict) where
+module _ (kind : FileKind) (reported : List Said) (image lines text_ : List ℕ) (verdict : Verdict) where
   -- replies that report a change save the image
-  pub replied_saves : list_any is_change told ≡ true → text_ ≡ lines → verdict ≡ replied_verdict kind (λ said. said) told → (file : List ℕ) → Saves file image text_ verdict ≡ replied kind file told image lines
+  pub replied_saves : list_any is_change reported ≡ true → text_ ≡ lines → verdict ≡ replied_verdict kind (λ said. said) reported → (file : List ℕ) → Saves file image text_ verdict ≡ replied kind file reported image lines
   replied_saves changed text_is verdict_is file =
-      let due = replied_verdict kind (λ said. said) told in
+      let due = replied_verdict kind (λ said. said) reported in
       ap (λ (t : List ℕ). Saves file image t verdict) text_is ∙ ap (Saves file image lines) verdict_is
       ∙ ap (λ (b : Bool). if b then Saves file image lines due else Displays file (text lines due)) (sym changed)
 
   -- others save nothing
-  pub replied_shows : list_any is_change told ≡ false → text_ ≡ lines → verdict ≡ replied_verdict kind (λ said. said) told → (file : List ℕ) → Displays file (text text_ verdict) ≡ replied kind file told image lines
+  pub replied_shows : list_any is_change reported ≡ false → text_ ≡ lines → verdict ≡ replied_verdict kind (λ said. said) reported → (file : List ℕ) → Displays file (text text_ verdict) ≡ replied kind file reported image lines
   replied_shows changed text_is verdict_is file =
-      let due = replied_verdict kind (λ said. said) told in
+      let due = replied_verdict kind (λ said. said) reported in
       ap (λ (t : List ℕ). Displays file (text t verdict)) text_is ∙ ap (λ (v : Verdict). Displays file (text lines v)) verdict_is
       ∙ ap (λ (b : Bool). if b then Saves file image lines due else Displays file (text lines due)) (sym changed)
 
 -- what is due after the replies of a session is the effect of the session
 pub session_made : {S I F : Type 0} (kind : FileKind) (r : Rules S I) (image : S → List ℕ) (tail_of : F → List ℕ → List ℕ) (format : S → F) (rewritten : F) → KeepsFormat format rewritten r
-    → (store : S) (events : List (Event I)) (told : List Said) (bytes : List ℕ) → Ran r (new_session store) (state_after r (new_session store) events) events [] told → bytes ≡ image (left r store events)
-    → (file : List ℕ) → replied kind file told bytes (reply_texts_by tail_of rewritten (format store) told) ≡ session_effect kind r image (λ k. reply_text_by tail_of (format k)) file store events
-session_made kind r image tail_of format rewritten keeps store events told bytes ran bytes_are file =
+    → (store : S) (events : List (Event I)) (reported : List Said) (bytes : List ℕ) → Ran r (new_session store) (state_after r (new_session store) events) events [] reported → bytes ≡ image (left r store events)
+    → (file : List ℕ) → replied kind file reported bytes (reply_texts_by tail_of rewritten (format store) reported) ≡ session_effect kind r image (λ k. reply_text_by tail_of (format k)) file store events
+session_made kind r image tail_of format rewritten keeps store events reported bytes ran bytes_are file =
     let due = replies (moments r store events) in
     ap (λ (t : List Said). replied kind file t bytes (reply_texts_by tail_of rewritten (format store) t)) ran.replies_are
     ∙ ap (λ (b : List ℕ). replied kind file due b (reply_texts_by tail_of rewritten (format store) due)) bytes_are

@@ -11,8 +11,8 @@ use Rattle.krb_files.specs.Bytes.{Watch}
 use Rattle.krb_files.specs.Plan.{Ends, Holds}
 use Rattle.krb_audit.specs.Tickets.{asked_tickets, names_ticket, removed_ticket_line}
 use Rattle.krb_editors.specs.declared.ccremove.TicketOptions.{TicketOptions}
-use Rattle.krb_driver.specs.declared.trouble.Trouble.{Trouble}
-use Rattle.krb_driver.specs.declared.trouble.Trouble.TheVariants.{ClockNotRead}
+use Rattle.krb_driver.specs.declared.error.RunError.{RunError}
+use Rattle.krb_driver.specs.declared.error.RunError.TheVariants.{ClockNotRead}
 use Rattle.krb_driver.specs.declared.verdict.FileKind.TheVariants.{Cache}
 use Rattle.krb_driver.specs.declared.verdict.Verdict.{Verdict}
 use Rattle.krb_driver.specs.declared.verdict.Verdict.TheVariants.{Well, NothingToRemove}
@@ -25,11 +25,11 @@ use Rattle.krb_driver.specs.Opening.{writable_in}
 use Rattle.krb_editors.specs.Scripted.{EndsBefore}
 
 -- the time at or before which the selected tickets end: that of the clock, if only expired ones are selected
-abbrev pub clock_time : Option ℕ → Result (Option ℕ) Trouble
+abbrev pub clock_time : Option ℕ → Result (Option ℕ) RunError
 clock_time None = Err ClockNotRead
 clock_time (Some now) = Ok (Some now)
 
-abbrev pub ended_by : {A : Type 0} → TicketOptions A → Option ℕ → Result (Option ℕ) Trouble
+abbrev pub ended_by : {A : Type 0} → TicketOptions A → Option ℕ → Result (Option ℕ) RunError
 ended_by o now = if o.expired then clock_time now else Ok None
 
 -- the cache rewritten without the tickets at these places, so that their keys are not in the file any more
@@ -57,7 +57,7 @@ module _ {A : Type 0} (o : TicketOptions A) (file : List ℕ) where
 
 module _ {F A : Type 0} (trait : Ghosts F) (file : List ℕ) (o : TicketOptions A) (old new : F) (out out' : Watch) (err err' : ErrorWatch) (status : ℕ) where
   -- a run of ccremove, or the error if the clock was needed and not read
-  abbrev pub RunsCcremove : Result (Option ℕ) Trouble → Type 0
+  abbrev pub RunsCcremove : Result (Option ℕ) RunError → Type 0
   RunsCcremove (Ok ended) = RunsCommand trait (λ mode. ccremove_plan o file ended) any old new out out' err err' status
   RunsCcremove (Err why) = EndsBefore trait old new out out' err err' status why
 

@@ -7,41 +7,41 @@ use Rattle.krb_files.specs.Loading.{Answer}
 use Rattle.krb_files.specs.Reader.{Source}
 use Rattle.krb_text.specs.declared.line_fault.LineFault.{LineFault}
 use Rattle.krb_text.specs.Script.{script_by}
-use Rattle.krb_driver.specs.declared.trouble.Trouble.{Trouble}
-use Rattle.krb_driver.specs.declared.trouble.Trouble.TheVariants.{FaultyLine, NoMemory}
+use Rattle.krb_driver.specs.declared.error.RunError.{RunError}
+use Rattle.krb_driver.specs.declared.error.RunError.TheVariants.{FaultyLine, NoMemory}
 use Rattle.krb_driver.specs.Commands.{RunsCommand}
 use Rattle.krb_driver.specs.Effects.{CommandPlan}
 use Rattle.krb_driver.specs.ErrorOutput.{ErrorWatch}
 use Rattle.krb_driver.specs.Input.{GivesInput}
 use Rattle.krb_driver.specs.Loading.{result_map_err}
-use Rattle.krb_driver.specs.Runs.{Tells}
-use Rattle.krb_driver.specs.Troubles.{input_trouble}
+use Rattle.krb_driver.specs.Runs.{Reports}
+use Rattle.krb_driver.specs.RunErrors.{input_error}
 
 module _ {L : Type 0} (reads : List ℕ → Result L LineFault) where
   -- the lines of an input, or why there are none
-  abbrev pub lines_in : Result (List ℕ) LoadFault → Result (List L) Trouble
+  abbrev pub lines_in : Result (List ℕ) LoadFault → Result (List L) RunError
   lines_in (Ok text) = result_map_err (λ fault. FaultyLine fault.line fault.kind) (script_by reads text)
-  lines_in (Err fault) = Err (input_trouble fault)
+  lines_in (Err fault) = Err (input_error fault)
 
   -- these are the lines that a reader gave, or memory ran out
-  pub record GivesLines (reader reader' : Source) (given : Result (List L) Trouble) : Type 0 where
+  pub record GivesLines (reader reader' : Source) (given : Result (List L) RunError) : Type 0 where
     pub input : Result (List ℕ) LoadFault
     pub read : GivesInput reader reader' input
     pub given_is : (given ≡ Err NoMemory) ⊎ (given ≡ lines_in input)
 
 module _ {F : Type 0} (trait : Ghosts F) (old new : F) (out out' : Watch) (err err' : ErrorWatch) (status : ℕ) where
   -- an error ends the run before it does anything
-  abbrev pub EndsBefore : Trouble → Type 0
-  EndsBefore why = (new ≡ old) × ((out' ≡ out) × Tells [] None (Err why) err err' status)
+  abbrev pub EndsBefore : RunError → Type 0
+  EndsBefore why = (new ≡ old) × ((out' ≡ out) × Reports [] None (Err why) err err' status)
 
   module _ {L : Type 0} (plan : List L → CommandPlan) (fairly : List L → List Answer → Type 0) where
     -- the command is run with the lines, or the error that there are none ends the run
-    abbrev pub RunsLines : Result (List L) Trouble → Type 0
+    abbrev pub RunsLines : Result (List L) RunError → Type 0
     RunsLines (Ok lines) = RunsCommand trait (λ mode. plan lines) (fairly lines) old new out out' err err' status
     RunsLines (Err why) = EndsBefore why
 
     -- a run whose lines come from a script
     pub record RunsScript (reads : List ℕ → Result L LineFault) (reader reader' : Source) : Type 0 where
-      pub lines : Result (List L) Trouble
+      pub lines : Result (List L) RunError
       pub given : GivesLines reads reader reader' lines
       pub runs : RunsLines lines

@@ -10,7 +10,7 @@ use Rattle.krb_walk.specs.History.{Moment, history, replies, state_after}
 use Rattle.krb_walk.specs.Ran.{Ran}
 use Rattle.krb_driver.specs.declared.verdict.FileKind.{FileKind}
 use Rattle.krb_driver.specs.Effects.{Effect, Displays, Saves, text}
-use Rattle.krb_driver.specs.Told.{replied_verdict}
+use Rattle.krb_driver.specs.Reported.{replied_verdict}
 
 -- an event that may change a store
 abbrev pub may_change : {I : Type 0} → Event I → Bool
@@ -28,9 +28,9 @@ is_change said = false
 
 -- the effect of replies over a file of that kind: the image is saved if they report a change, and the lines printed
 abbrev pub replied : FileKind → List ℕ → List Said → List ℕ → List ℕ → Effect
-replied kind file told image lines =
-    let verdict = replied_verdict kind (λ said. said) told in
-    if list_any is_change told then Saves file image lines verdict else Displays file (text lines verdict)
+replied kind file reported image lines =
+    let verdict = replied_verdict kind (λ said. said) reported in
+    if list_any is_change reported then Saves file image lines verdict else Displays file (text lines verdict)
 
 -- a new session over a store
 abbrev pub new_session : {S : Type 0} → S → SessionState S

@@ -16,7 +16,7 @@ ghost use Rattle.krb_editors.specs.Sessions.{left, new_session};
 
 use crate::edited::{may_change, replied};
 use crate::scripted::read_script;
-use krb_driver::{Command, CommandName, CommandWords, FileKind, FileTrouble, Made, Output, Streams, Word, give_cache, hold_if, run, tell};
+use krb_driver::{Command, CommandName, CommandWords, FileKind, FileError, Made, Output, Streams, Word, give_cache, hold_if, run, report};
 use krb_cache_text::{Asked, CacheLine, CcFormat};
 use krb_ccache::{Ccache, Cred, Setting};
 use krb_files::Files;
@@ -182,7 +182,7 @@ impl<'f, A: Allocator + Copy> Command<A> for EditCache<'f, A> {
         &self,
         alloc: A,
         files: &mut F,
-    ) -> Result<Made<A, Self::Shown>, FileTrouble<'_>> {
+    ) -> Result<Made<A, Self::Shown>, FileError<'_>> {
         hold_if(self.lines.iter().any(line_may_change), files, self.file);
         let cache = give_cache(alloc, files, self.file)?;
         Ok(edit(alloc, cache, &self.lines)?)
@@ -203,9 +203,9 @@ pub fn run_ccedit<A: Allocator + Copy, F: Files, R: Read, W: Write, E: Write>(
 {
     match read_script(alloc, &mut streams.input) {
         Ok(lines) => run(alloc, &EditCache { file, lines }, files, streams),
-        Err(trouble) => {
+        Err(error) => {
             let cause = streams.input.cause();
-            tell(Err(trouble), b"", None, cause, &mut streams.err)
+            report(Err(error), b"", None, cause, &mut streams.err)
         }
     }
 }

@@ -8,7 +8,7 @@ ghost use Rattle.krb_driver.specs.Commands.{text_effect};
 ghost use Rattle.krb_driver.specs.Effects.{IsMade};
 ghost use Rattle.krb_driver.specs.Mistakes.{Reads, mistake_parts};
 
-use krb_driver::{Command, CommandName, CommandWords, DRY_RUN, FileKind, FileTrouble, Made, Matches, Mistake, Output, Streams, Trouble, Verdict, Word, WordFault, asked_name, first_value, hold_if, open_writable, run, tell, times_given};
+use krb_driver::{Command, CommandName, CommandWords, DRY_RUN, FileKind, FileError, Made, Matches, Mistake, Output, Streams, RunError, Verdict, Word, WordFault, asked_name, first_value, hold_if, open_writable, run, report, times_given};
 use krb_audit::select_tickets;
 use krb_ccache::Ccache;
 use krb_files::Files;
@@ -91,12 +91,12 @@ struct RemoveTickets<'f, B: Allocator> {
 fn ended_by<B: Allocator>(
     options: &TicketOptions<B>,
     now: Option<u32>,
-) -> Result<Option<u32>, Trouble>
+) -> Result<Option<u32>, RunError>
     ensures { result ≡ ended_by options.now now }
 {
     match now {
         Some(_) if options.expired => Ok(now),
-        None if options.expired => Err(Trouble::ClockNotRead),
+        None if options.expired => Err(RunError::ClockNotRead),
         _ => Ok(None),
     }
 }
@@ -129,7 +129,7 @@ fn remove<'a, A: Allocator + Copy, B: Allocator>(
     alloc: A,
     command: &RemoveTickets<'a, B>,
     cache: Ccache<A>,
-) -> Result<Made<A, Output<A>>, FileTrouble<'a>>
+) -> Result<Made<A, Output<A>>, FileError<'a>>
     ensures { IsMade (removes command.now.options.now command.now.file.now cache.state
         (asked_tickets command.now.options.now.server command.now.ended_by cache.state))
         (text_effect command.now.file.now result) }
@@ -170,7 +170,7 @@ impl<'f, A: Allocator + Copy, B: Allocator> Command<A> for RemoveTickets<'f, B> 
         &self,
         alloc: A,
         files: &mut F,
-    ) -> Result<Made<A, Self::Shown>, FileTrouble<'_>> {
+    ) -> Result<Made<A, Self::Shown>, FileError<'_>> {
         hold_if(!self.options.dry_run, files, self.file);
         let cache = open_writable(alloc, files, self.file)?;
         remove(alloc, self, cache)
@@ -201,6 +201,6 @@ pub fn run_ccremove<A: Allocator + Copy, B: Allocator, F: Files, R: Read, W: Wri
             };
             run(alloc, &command, files, streams)
         }
-        Err(trouble) => tell(Err(trouble), b"", None, None, &mut streams.err),
+        Err(error) => report(Err(error), b"", None, None, &mut streams.err),
     }
 }

@@ -8,7 +8,7 @@ ghost use Rattle.krb_editors.specs.Scripted.{RunsScript};
 
 use crate::edited::{may_change, replied};
 use crate::scripted::read_script;
-use krb_driver::{Command, CommandName, CommandWords, FileKind, FileTrouble, Made, Output, Streams, V1_BIG, Word, give_or_empty, hold_if, run, tell};
+use krb_driver::{Command, CommandName, CommandWords, FileKind, FileError, Made, Output, Streams, V1_BIG, Word, give_or_empty, hold_if, run, report};
 use krb_files::Files;
 use krb_keytab::{Indexed, Keytab, NewEntry};
 use krb_walk::{Event, Session};
@@ -86,7 +86,7 @@ impl<'f, A: Allocator + Copy> Command<A> for EditKeytab<'f, A> {
         &self,
         alloc: A,
         files: &mut F,
-    ) -> Result<Made<A, Self::Shown>, FileTrouble<'_>> {
+    ) -> Result<Made<A, Self::Shown>, FileError<'_>> {
         hold_if(self.events.iter().any(may_change), files, self.file);
         let keytab = give_or_empty(alloc, self.v1_order, files, self.file)?;
         Ok(edit(alloc, keytab, &self.events)?)
@@ -115,9 +115,9 @@ pub fn run_ktedit<A: Allocator + Copy, F: Files, R: Read, W: Write, E: Write>(
             };
             run(alloc, &command, files, streams)
         }
-        Err(trouble) => {
+        Err(error) => {
             let cause = streams.input.cause();
-            tell(Err(trouble), b"", None, cause, &mut streams.err)
+            report(Err(error), b"", None, cause, &mut streams.err)
         }
     }
 }

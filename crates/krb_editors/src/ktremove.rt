@@ -9,7 +9,7 @@ ghost use Rattle.krb_driver.specs.Effects.{IsMade};
 ghost use Rattle.krb_editors.specs.Ktremove.{IsSpelledKvno, SpellsRemoval, bad_etype, bad_kvno, ktremove_plan, kvno_in, none_verdict, odd_selection, remove_mistake, removes};
 ghost use Rattle.krb_driver.specs.Mistakes.{Reads, mistake_parts};
 
-use krb_driver::{Command, CommandName, CommandWords, DRY_RUN, FileKind, FileTrouble, Made, Matches, Mistake, Output, Streams, V1_BIG, Verdict, Word, WordFault, asked_name, first_value, hold_if, open_whole, run, times_given, v1_order};
+use krb_driver::{Command, CommandName, CommandWords, DRY_RUN, FileKind, FileError, Made, Matches, Mistake, Output, Streams, V1_BIG, Verdict, Word, WordFault, asked_name, first_value, hold_if, open_whole, run, times_given, v1_order};
 use krb_audit::{AskedKvno, Selection, select};
 use krb_files::Files;
 use krb_keytab::Keytab;
@@ -204,7 +204,7 @@ fn remove<'a, A: Allocator + Copy, B: Allocator>(
     alloc: A,
     command: &RemoveEntries<'a, B>,
     mut keytab: Keytab<A>,
-) -> Result<Made<A, Output<A>>, FileTrouble<'a>>
+) -> Result<Made<A, Output<A>>, FileError<'a>>
     ensures { IsMade (removes command.now.options.now command.now.file.now keytab.state (asked command.now.options.now.selection keytab.state))
         (text_effect command.now.file.now result) }
 {
@@ -244,7 +244,7 @@ impl<'f, A: Allocator + Copy, B: Allocator> Command<A> for RemoveEntries<'f, B> 
         &self,
         alloc: A,
         files: &mut F,
-    ) -> Result<Made<A, Self::Shown>, FileTrouble<'_>> {
+    ) -> Result<Made<A, Self::Shown>, FileError<'_>> {
         hold_if(!self.options.dry_run, files, self.file);
         let keytab = open_whole(alloc, self.options.v1_order, files, self.file)?;
         remove(alloc, self, keytab)

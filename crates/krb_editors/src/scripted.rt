@@ -3,7 +3,7 @@
 ghost use Rattle.krb_driver.specs.Loading.{result_map};
 ghost use Rattle.krb_editors.specs.Scripted.{GivesLines};
 
-use krb_driver::Trouble;
+use krb_driver::RunError;
 use krb_files::{WatchedReader, load};
 use krb_text::{ScriptLine, parse_script};
 use krb_wire::USUAL_LIMIT;
@@ -14,11 +14,11 @@ use std::io::Read;
 pub fn read_script<A: Allocator + Copy, L: ScriptLine<A>, R: Read>(
     alloc: A,
     input: &mut WatchedReader<R>,
-) -> Result<Vec<L, A>, Trouble>
+) -> Result<Vec<L, A>, RunError>
     ensures { GivesLines L.line_in input.old input.new (result_map (λ lines. lines.items) result) }
 {
     match load(alloc, input, USUAL_LIMIT, 0) {
         Ok(text) => Ok(parse_script(alloc, &text)?),
-        Err(fault) => Err(Trouble::of_input(fault)),
+        Err(fault) => Err(RunError::of_input(fault)),
     }
 }

@@ -188,7 +188,7 @@ contents_spelled f bytes fits =
       sound = record { cells = sound_cells f k.cells (end_bytes (order_of f) k.end) s.sound.cells (subst IsBytes s.parts fits); end = sound_end f k.end s.sound.end };
     }
 
--- sound cells at the front are the first cells: so the list is the longest one
+-- sound cells that are a prefix are the first cells: so the list is the longest one
 pub contents_behind : (f : KtFormat) (cs : List Cell) (rest : List ℕ) → AllByRecursion (IsCell f) cs → IsBytes (flat_map (cell (order_of f)) cs ++ rest) → contents f (flat_map (cell (order_of f)) cs ++ rest) ≡ behind cs (contents f rest)
 unfolding contents
 contents_behind f cs rest sound fits = behind_of (keytab_format f) cs rest (keytab_is f) (read_cells f cs sound) fits

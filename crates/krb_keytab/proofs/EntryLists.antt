@@ -1,4 +1,4 @@
--- Entries that are listed from cell to cell are those of the records.
+-- The entries listed cell by cell are those of the records.
 use Rattle.std.proofs.Common.{◌≡◌, ◌∷◌, ℕ, ◌+◌, [], List, length, map, refl, sym, ap, append_assoc, ◌∙◌}
 use Rattle.std.specs.Prelude.{Option, Some, None, Bool, false, ◌++◌, option_map}
 use Rattle.krb_wire.specs.Spelling.{Parts}

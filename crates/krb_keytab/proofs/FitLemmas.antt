@@ -35,7 +35,7 @@ zeros_small need n (suc spare) some =
     let small : nat_le need 0 ≡ false = lt-leb need 0 some in
     rw small (zeros_small need (n + 1) spare some)
 
--- a cell before that is not it
+-- a cell before that hole is skipped
 passed : (at next need n : ℕ) (c : Cell) (cs : List Cell) (o : Option ℕ) → hole_from at need (c ∷ cs) ≡ hole_from next need cs → slots_from at (c ∷ cs) ≡ get_or (slots_from at (c ∷ cs)) 0 none ∷ slots_from next cs → Finds next need (n + 1) cs o → Finds at need n (c ∷ cs) o
 passed at next need n c cs None same slots f = same ∙ f
 passed at next need n c cs (Some i) same slots f =

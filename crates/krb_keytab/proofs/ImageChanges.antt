@@ -21,7 +21,7 @@ use Rattle.krb_keytab.proofs.CellLemmas.{contents_spelled, sound_size}
 use Rattle.krb_keytab.proofs.Cuts.{end_place-append}
 use Rattle.krb_keytab.proofs.Replacements.{StandsAt, live_stands, stands_sound, hole_stands, replaced_cells, IsReplaced, replaced}
 
--- no bytes hold no cells
+-- the empty list of bytes holds no cells
 pub contents_none : (f : KtFormat) → contents f [] ≡ record { cells = []; end = Bare }
 unfolding contents contents_of first_cells next
 contents_none f = refl

@@ -50,7 +50,7 @@ slot_seam k front back c parts =
     ∙ ap (λ (n : ℕ). get_or (s ++ (slot_of (end_place 2 front, c) ∷ slots_from (end_place 2 front + (4 + cells.size c)) back)) n none) (sym (slots_len 2 front))
     ∙ get_or-append_seam s (slot_of (end_place 2 front, c)) (slots_from (end_place 2 front + (4 + cells.size c)) back) none
 
--- first cells that end at the same place are as many
+-- a prefix of the cells that ends where the first i end has i cells
 pub number_is : (cs front rest : List Cell) (i : ℕ) → cs ≡ front ++ rest → i < length cs → end_place 2 front ≡ end_place 2 (take i cs) → length front ≡ i
 number_is cs front rest i parts lt same =
     let n = length front in
@@ -88,7 +88,7 @@ slot_is at (c ∷ cs) (suc i) d e lt = slot_is (at + (4 + cells.size c)) cs i d 
 sound_at : (f : KtFormat) (cs : List Cell) (i : ℕ) (d : Cell) → AllByRecursion (IsCell f) cs → i < length cs → IsCell f (get_or cs i d)
 sound_at f cs i d all lt = All-from_recursion (IsCell f) cs all i d lt
 
--- a live cell is at a place of the store, which is that of its rank
+-- the place of a live cell is where the cells before its rank end
 live_here : (k : KeytabState) (p rank : ℕ) → IsRank (places (slots_from 2 k.contents.cells)) p rank → IsSome (live_bytes (store_of k) p) → p ≡ end_place 2 (take rank k.contents.cells)
 live_here k p rank r some = at_rank k p rank r (live_is_place (store_of k) p some)
 

@@ -74,7 +74,7 @@ greater b y ys lt ih =
     let no : (b.1.version == m) ≡ false = ne_eqb b.1.version m (λ e. omega (arith, lt, e)) in
     rw better (ih ∙ ap (λ (n : ℕ). with_version n (y ∷ ys)) (sym same) ∙ sym (skips m b (y ∷ ys) no))
 
--- one that is not changes nothing
+-- one with no greater version changes nothing
 no_greater : (b y : PlacedEntry) (ys : List PlacedEntry) → y.1.version ≤ b.1.version → best_after 0 (Some b) ys ≡ with_version (max b.1.version (greatest ys)) (b ∷ ys)
     → best_after 0 (Some b) (y ∷ ys) ≡ with_version (max b.1.version (max y.1.version (greatest ys))) (b ∷ y ∷ ys)
 no_greater b y ys le ih =

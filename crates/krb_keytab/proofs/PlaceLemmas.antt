@@ -31,7 +31,7 @@ end_rises at (c ∷ cs) i zero lt le = absurd (omega arith)
 end_rises at (c ∷ cs) zero (suc j) lt le = omega (arith, end_from-ge (at + (4 + size c)) (map store_cell (take j cs)))
 end_rises at (c ∷ cs) (suc i) (suc j) lt le = end_rises (at + (4 + size c)) cs i j (omega arith) (omega arith)
 
--- the places rise
+-- the places ascend
 pub places_rise : (at : ℕ) (cs : List Cell) → IsRising (places (slots_from at cs))
 places_rise at cs i j lt le = omega (arith, place_is at cs i (omega (arith, places_len at cs)), place_is at cs j (omega (arith, places_len at cs)), end_rises at cs i j lt (omega (arith, places_len at cs)))
 

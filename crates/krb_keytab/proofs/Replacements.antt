@@ -99,7 +99,7 @@ replaced_cells change cs p c s = ap (replaced_at 2 change p) s.parts ∙ replace
 
 -- ---- the image
 
--- the spelling, cut round one cell
+-- the spelling, split around one cell
 spelling_cut : (o : Order) (front back : List Cell) (c : Cell) (e : End) → spelling o (record { cells = front ++ (c ∷ back); end = e }) ≡ flat_map (cell o) front ++ (cell o c ++ spelling o (record { cells = back; end = e }))
 spelling_cut o front back c e =
     let F = flat_map (cell o) front in
@@ -107,7 +107,7 @@ spelling_cut o front back c e =
     ap (λ (b : List ℕ). b ++ end_bytes o e) (flat_map-append (cell o) front (c ∷ back) ∙ ap (λ (b : List ℕ). F ++ b) (flat_map-cons (cell o) c back))
     ∙ append_assoc F (cell o c ++ G) (end_bytes o e) ∙ ap (λ (b : List ℕ). F ++ b) (append_assoc (cell o c) G (end_bytes o e))
 
--- other bytes in the place of those in the middle
+-- replacing the bytes in the middle
 swap_middle : (h f old new g image : List ℕ) (p n : ℕ) → image ≡ h ++ (f ++ (old ++ g)) → p ≡ length h + length f → n ≡ p + length old → splice image p n new ≡ h ++ (f ++ (new ++ g))
 swap_middle h f old new g image p n e place end =
     let grouped : image ≡ (h ++ f) ++ (old ++ g) = e ∙ sym (append_assoc h f (old ++ g)) in

@@ -19,7 +19,7 @@ use Rattle.krb_keytab.proofs.Replacements.{live_stands, stands_sound}
 
 -- ---- a keytab that is kept as an image
 
--- the state is the state of the fields
+-- equal keytabs in memory have equal states
 pub state_is : {a b : InMemory} → a ≡ b → a.state ≡ b.state
 state_is is = ap (λ (k : InMemory). k.state) is
 

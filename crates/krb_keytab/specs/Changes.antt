@@ -35,7 +35,7 @@ zero_hole c = Free (replicate (size c) 0)
 abbrev pub with_hole : KeytabState → ℕ → KeytabState
 with_hole k p = record k { contents = record { cells = replaced_at 2 zero_hole p k.contents.cells; end = k.contents.end } }
 
--- the result of a removal: refused if the keytab is damaged, and if no record starts there
+-- the result of a removal: refused if the keytab is damaged, and then if no record starts at the place
 abbrev pub cut_result : KeytabState → ℕ → Result KeytabState Code
 cut_result k p =
     if is_some (fault_of (store_of k)) then Err code.Damaged

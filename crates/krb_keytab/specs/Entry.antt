@@ -71,7 +71,7 @@ front_at f bytes = do
   key ← data16_at (order_of f) enctype.1
   Some (record { principal = principal.0; timestamp = timestamp.0; low_version = version.0; enctype = enctype.0; key = key.0 }, key.1)
 
--- the entry that the bytes spell
+-- the entry that the bytes spell, if they spell one
 unfoldable pub entry_at : KtFormat → List ℕ → Option EntryParts
 entry_at f bytes = do
   x ← front_at f bytes

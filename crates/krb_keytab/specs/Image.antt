@@ -17,7 +17,7 @@ ending_kind ending.Bare = None
 ending_kind ending.Mark = None
 ending_kind (ending.Damaged kind) = Some kind
 
--- bytes as an end, of this kind
+-- the bytes as an end, by what ends the cells
 abbrev pub ends : List ℕ → Ending → End
 ends bytes ending.Bare = Bare
 ends bytes ending.Mark = Mark (drop 4 bytes)

@@ -37,7 +37,7 @@ pub record IsReadBack (f : KtFormat) (e : EntryParts) (bytes : List ℕ) : Type 
   pub spelled : Spells f (read_back f e) bytes
   pub only : (x : EntryParts) → Spells f x bytes → x ≡ read_back f e
 
--- so is each entry whose numbers fit their types and whose lengths and counts fit their fields
+-- this holds of each entry whose numbers fit their types and whose lengths and counts fit their fields
 abbrev pub IsAlwaysReadBack : Type 0
 IsAlwaysReadBack = (f : KtFormat) (e : EntryParts) (zeros : ℕ) → IsEntry e → IsTrue (fits f e) → IsReadBack f e (written_form f e ++ replicate zeros 0)
 

@@ -30,7 +30,7 @@ impl<'a, N: Name> Model for Fields<'a, N> {
     } };
 }
 
-// Each number is in the range of its type.
+// Numbers of these types are in range.
 fn in_range(name_type: u32, timestamp: u32, kvno: u32, enctype: u16)
     ensures name_type { name_type < 2 ^ 32 }
     ensures timestamp { timestamp < 2 ^ 32 }

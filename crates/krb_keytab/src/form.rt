@@ -80,7 +80,7 @@ impl<'a, N: Name> Form<'a, N> {
         self.format
     }
 
-    /// Returns its length in bytes. They begin with an entry, however many zeros follow them.
+    /// Returns how many bytes it has. They begin with an entry, however many zeros follow them.
     #[tactic(auto, using(crate::proofs::WrittenLemmas::written_is_record))]
     pub fn len(&self) -> usize
         ensures len { result ≡ length self.now.bytes }

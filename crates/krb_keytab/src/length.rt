@@ -23,8 +23,7 @@ impl Length {
         (0x1_0000_0000 - field as u64) as u32
     }
 
-    /// Decodes a field: 0 is no length, and a number below 2^31 that of a record. Any other is the negated length of a
-    /// hole.
+    /// Decodes a field: 0 is the end, a number below 2^31 the length of a record, any other that of a hole, negated.
     #[inline(always)]
     pub fn of_field(field: u32) -> Length
         ensures { result ≡ length_of field }

@@ -24,14 +24,14 @@ use Rattle.krb_driver.specs.Loading.{keytab_of, keytab_or_new}
 use Rattle.krb_ktutil.specs.KtutilCommand.{Awaited, Command, Skip, ListSlots, ReadFile, WriteFile, AwaitKey, DeleteSlot, ClearList, Quit, command_of}
 use Rattle.krb_ktutil.specs.KtutilPlan.{KtutilState, Outcome, LineEffect, ComesTo, Saves, LinePlan, kept, line_faults, no_keytab_end, save_end, with_entries, with_added, saved_as, stays, written_to, key_line, with_key, command_plan, plan_by, plan_of}
 use Rattle.krb_ktutil.specs.KtutilFiles.{Shows, RunsOut, Settles, Handles}
-use Rattle.krb_ktutil.specs.KtutilHonest.{ShowsDue, FailsBy, FailsCall, HandlesHonestly, Spares, TellsMemory, line_files}
+use Rattle.krb_ktutil.specs.KtutilHonest.{ShowsDue, FailsBy, FailsCall, HandlesHonestly, Spares, ReportsMemory, line_files}
 
 -- ---- plans of lines
 
 -- a line that is not done leaves the entries; one that is out of memory reports that, and changes and prints nothing
 pub record IsCareful (s : KtutilState) (due : Outcome) : Type 0 where
   pub entries : due.ending ≢ end.Done → due.state.entries ≡ s.entries
-  pub told : TellsMemory due.ending
+  pub reported : ReportsMemory due.ending
   pub memory : due.ending ≡ end.NoMemory → (due.state ≡ s) × (due.text ≡ [])
 
 -- each outcome that a plan comes to without a save is careful
@@ -44,24 +44,24 @@ AllCareful s (Ends effect) = Careful s effect
 AllCareful s (Holds held name plan) = AllCareful s plan
 AllCareful s (Loads name then_) = (answer : Answer) → AllCareful s (then_ answer)
 
-no_keytab-told : (why : NoKeytab) → TellsMemory (no_keytab_end why)
-no_keytab-told (Load load.Missing) = tt
-no_keytab-told (Load load.TooLarge) = tt
-no_keytab-told (Load load.Failed) = tt
-no_keytab-told (Load load.NoMemory) = tt
-no_keytab-told (Open fault) = tt
+no_keytab-reported : (why : NoKeytab) → ReportsMemory (no_keytab_end why)
+no_keytab-reported (Load load.Missing) = tt
+no_keytab-reported (Load load.TooLarge) = tt
+no_keytab-reported (Load load.Failed) = tt
+no_keytab-reported (Load load.NoMemory) = tt
+no_keytab-reported (Open fault) = tt
 
-save-told : (answer : Result (Unit {0}) SaveFault) → TellsMemory (save_end answer)
-save-told (Ok done) = tt
-save-told (Err save.Failed) = tt
-save-told (Err save.NoMemory) = tt
+save-reported : (answer : Result (Unit {0}) SaveFault) → ReportsMemory (save_end answer)
+save-reported (Ok done) = tt
+save-reported (Err save.Failed) = tt
+save-reported (Err save.NoMemory) = tt
 
 module _ (s : KtutilState) where
-  kept-careful : (ending : LineEnd) → TellsMemory ending → IsCareful s (kept s ending)
-  kept-careful ending told = record { entries = λ _. refl; told = told; memory = λ _. (refl, refl) }
+  kept-careful : (ending : LineEnd) → ReportsMemory ending → IsCareful s (kept s ending)
+  kept-careful ending reported = record { entries = λ _. refl; reported = reported; memory = λ _. (refl, refl) }
 
   done-careful : (state : KtutilState) (text : List ℕ) → IsCareful s (record { state = state; text = text; ending = end.Done })
-  done-careful state text = record { entries = λ differ. absurd (differ refl); told = tt; memory = λ is. absurd cc }
+  done-careful state text = record { entries = λ differ. absurd (differ refl); reported = tt; memory = λ is. absurd cc }
 
   either-careful : (b : Bool) (p q : LineEffect) → Careful s p → Careful s q → Careful s (cond b p q)
   either-careful true p q first second = first
@@ -69,7 +69,7 @@ module _ (s : KtutilState) where
 
   entries-careful : (given : Result KeytabState NoKeytab) → Careful s (with_entries s given)
   entries-careful (Ok k) = either-careful (is_some (fault_of (store_of k))) _ _ (kept-careful (end.Refused code.Damaged) tt) (done-careful _ [])
-  entries-careful (Err why) = kept-careful (no_keytab_end why) (no_keytab-told why)
+  entries-careful (Err why) = kept-careful (no_keytab_end why) (no_keytab-reported why)
 
   saved-careful : (name : List ℕ) (added : Result KeytabState Code) → Careful s (saved_as s name added)
   saved-careful name (Ok k) = tt
@@ -77,7 +77,7 @@ module _ (s : KtutilState) where
 
   written-careful : (name : List ℕ) (given : Result KeytabState NoKeytab) → Careful s (written_to s name given)
   written-careful name (Ok k) = saved-careful name (with_added s.entries (Ok k))
-  written-careful name (Err why) = kept-careful (no_keytab_end why) (no_keytab-told why)
+  written-careful name (Err why) = kept-careful (no_keytab_end why) (no_keytab-reported why)
 
   command-careful : (command : Result Command LineFault) → AllCareful s (command_plan s command)
   command-careful (Err fault) = kept-careful (end.Fault fault) tt
@@ -92,7 +92,7 @@ module _ (s : KtutilState) where
 
   key-careful : (x : Awaited) (now : ℕ) (key : Result (List ℕ) LineFault) → Careful s (with_key s x now key)
   key-careful x now (Ok key) = done-careful _ []
-  key-careful x now (Err fault) = record { entries = λ _. refl; told = tt; memory = λ is. absurd cc }
+  key-careful x now (Err fault) = record { entries = λ _. refl; reported = tt; memory = λ is. absurd cc }
 
   plan-careful : (now : ℕ) (line : List ℕ) (awaited : Option Awaited) → AllCareful s (plan_by s now line awaited)
   plan-careful now line None = command-careful (command_of line (length s.entries))
@@ -124,7 +124,7 @@ module _ {F : Type 0} (trait : Ghosts F) (old new : KtutilState) (out out' : Lis
 
   settles-careful : (effect : LineEffect) (files files' : F) → Careful old effect → Settles trait old new out out' ending effect files files' → ShowsCareful
   settles-careful (ComesTo takes due) files files' careful settles = (due, careful, settles.1)
-  settles-careful (Saves name bytes) files files' careful settles = (kept old (save_end settles.0), kept-careful old (save_end settles.0) (save-told settles.0), settles.1.1)
+  settles-careful (Saves name bytes) files files' careful settles = (kept old (save_end settles.0), kept-careful old (save_end settles.0) (save-reported settles.0), settles.1.1)
 
   settles-lasts : (effect : LineEffect) (files files' : F) → Settles trait old new out out' ending effect files files' → Lasts trait files files'
   settles-lasts (ComesTo takes due) files files' settles = subst (λ (x : F). Lasts trait files x) (sym settles.0) (λ h. h, omega arith)
@@ -174,11 +174,11 @@ module _ {F : Type 0} (trait : Ghosts F) {old new : KtutilState} {out out' : Lis
       ]) handles.settles
 
   -- if memory runs out, the line ends with `NoMemory`, and state and output are unchanged
-  pub handles_memory : (now : ℕ) (line : List ℕ) {files files' : F} → Handles trait (plan_of old now line) files files' old new out out' ending → TellsMemory ending × (ending ≡ end.NoMemory → RunsOut old new out out' ending)
+  pub handles_memory : (now : ℕ) (line : List ℕ) {files files' : F} → Handles trait (plan_of old now line) files files' old new out out' ending → ReportsMemory ending × (ending ≡ end.NoMemory → RunsOut old new out out' ending)
   handles_memory now line handles =
       let shown = handles-careful now line handles in
       let shows = shown.2 in (
-        subst TellsMemory (sym shows.ending_is) shown.1.told,
+        subst ReportsMemory (sym shows.ending_is) shown.1.reported,
         λ is.
             let still = shown.1.memory (sym shows.ending_is ∙ is) in
             record { state_is = shows.state_is ∙ still.0; same = shows.appended ∙ ap (λ (text : List ℕ). out ++ text) still.1 ∙ append-nil out; ending_is = is },

@@ -16,13 +16,13 @@ use Rattle.krb_files.proofs.Prefixes.{Appends-nil, Appends-trans}
 use Rattle.krb_ktutil.proofs.KtutilDue.{Lasts, handles_honestly, handles_lasts}
 use Rattle.krb_files.specs.declared.files.LoadFault.TheVariants as load
 use Rattle.krb_files.specs.declared.files.LoadFault.{LoadFault}
-use Rattle.krb_driver.specs.declared.trouble.Trouble.TheVariants.{NoMemory}
+use Rattle.krb_driver.specs.declared.error.RunError.TheVariants.{NoMemory}
 use Rattle.krb_ktutil.specs.InputLines.{lines_of}
 use Rattle.krb_ktutil.specs.KtutilTalk.{Talk, ending_of, line_run, named_in, goes_on, AreFirst, Continues, Stops, TalksOver}
 use Rattle.krb_ktutil.specs.KtutilDue.{TalkDue, quiet_run, last_due, due_after, talk_due, GivesLines, LeavesDueUnlessFailed, TalksHonestly}
-use Rattle.krb_driver.specs.Runs.{Run, SaysEnd, EndsRun, ends_by}
-use Rattle.krb_driver.specs.Troubles.{Ending, ending_status, input_trouble, trouble_status}
-use Rattle.krb_driver.proofs.Shown.{SaysEnd-nothing}
+use Rattle.krb_driver.specs.Runs.{Run, ReportsEnd, EndsRun, ends_by}
+use Rattle.krb_driver.specs.RunErrors.{Ending, ending_status, input_error, error_status}
+use Rattle.krb_driver.proofs.Shown.{ReportsEnd-nothing}
 
 -- the outcome of a line, by its parts
 outcome_is : (due : Outcome) (state : KtutilState) (text : List ℕ) (ending : LineEnd) → state ≡ due.state → text ≡ due.text → ending ≡ due.ending → due ≡ record { state = state; text = text; ending = ending }
@@ -69,8 +69,8 @@ module _ {F : Type 0} (trait : Ghosts F) (now : ℕ) (final : Run) where
       inr (inr (record {
         files = leaves.files;
         out = Appends-trans old.out.contents mid.out.contents new.out.contents run.out due.out done.0 leaves.out;
-        err = (mid.err, subst (λ (e : Ending). SaysEnd file which e old.err mid.err) done.1 ends.told.says, leaves.err);
-        status = worst_after old.status mid.status (ending_status run.ending) due.status status new.status leaves.status worst (ends.told.status_is ∙ ap ending_status done.1);
+        err = (mid.err, subst (λ (e : Ending). ReportsEnd file which e old.err mid.err) done.1 ends.reported.reports, leaves.err);
+        status = worst_after old.status mid.status (ending_status run.ending) due.status status new.status leaves.status worst (ends.reported.status_is ∙ ap ending_status done.1);
       }))
 
   -- a line was run and goes on
@@ -118,8 +118,8 @@ module _ {F : Type 0} (trait : Ghosts F) (now : ℕ) (final : Run) where
       inr (inr (record {
         files = λ name. refl;
         out = done.0;
-        err = (end.err, subst (λ (e : Ending). SaysEnd file which e last.err end.err) done.1 ends.told.says, refl);
-        status = worst ∙ ap (max last.status) (ends.told.status_is ∙ ap ending_status done.1);
+        err = (end.err, subst (λ (e : Ending). ReportsEnd file which e last.err end.err) done.1 ends.reported.reports, refl);
+        status = worst ∙ ap (max last.status) (ends.reported.status_is ∙ ap ending_status done.1);
       }))
 
   stop_honestly : (number : ℕ) (line : List ℕ) (more : List (List ℕ)) (last new : Talk F) (stops : Stops trait now number line last new)
@@ -141,12 +141,12 @@ spent_by trait file which run status last end ends worst none memory same true i
 spent_by trait file which run status last end ends worst none memory same false is =
     let done = ends.shows.done (sym is) in
     let spent = done.1 ∙ memory in
-    let says : SaysEnd file which (Err NoMemory) last.err end.err = subst (λ (e : Ending). SaysEnd file which e last.err end.err) spent ends.told.says in
+    let reports : ReportsEnd file which (Err NoMemory) last.err end.err = subst (λ (e : Ending). ReportsEnd file which e last.err end.err) spent ends.reported.reports in
     inr (inr (record {
       files = same;
       out = subst (λ (text : List ℕ). Appends last.out.contents end.out.contents text) none done.0;
-      err = (end.err, record { cause = says.cause; said = says.said; still = says.still }, refl);
-      status = worst ∙ ap (max last.status) (ends.told.status_is ∙ ap ending_status spent);
+      err = (end.err, record { cause = reports.cause; said = reports.said; still = reports.still }, refl);
+      status = worst ∙ ap (max last.status) (ends.reported.status_is ∙ ap ending_status spent);
     }))
 
 -- the lines of an input after its first ones and a further one
@@ -175,18 +175,18 @@ module _ {F : Type 0} (trait : Ghosts F) (now : ℕ) (given : Option (List ℕ))
       leaves_final quiet_run last (record { gives = inl (all, refl) }) (omega arith) (inr (inr (record {
         files = λ name. refl;
         out = Appends-nil last.out.contents;
-        err = (last.err, SaysEnd-nothing [] None last.err, refl);
+        err = (last.err, ReportsEnd-nothing [] None last.err, refl);
         status = omega arith;
       })))
 
   -- no line after these was read
-  GivesLines-unread : (fault : LoadFault) → AreFirst lines given → GivesLines given (lines ++ []) (ends_by (input_trouble fault))
+  GivesLines-unread : (fault : LoadFault) → AreFirst lines given → GivesLines given (lines ++ []) (ends_by (input_error fault))
   GivesLines-unread fault are_first = record { gives = inr (subst (λ (l : List (List ℕ)). AreFirst l given) (sym (append-nil lines)) are_first, (fault, refl)) }
 
-  pub honest_unread : (fault : LoadFault) → AreFirst lines given → (err' : ErrorWatch) (status : ℕ) → SaysEnd [] None (Err (input_trouble fault)) last.err err' → status ≡ max last.status (trouble_status (input_trouble fault)) → trait.is_honest first.files
+  pub honest_unread : (fault : LoadFault) → AreFirst lines given → (err' : ErrorWatch) (status : ℕ) → ReportsEnd [] None (Err (input_error fault)) last.err err' → status ≡ max last.status (error_status (input_error fault)) → trait.is_honest first.files
       → TalksHonestly trait now given first (record { files = last.files; state = last.state; out = last.out; err = err'; status = status })
   honest_unread fault are_first err' status said worst =
-      leaves_final (ends_by (input_trouble fault)) (record { files = last.files; state = last.state; out = last.out; err = err'; status = status })
+      leaves_final (ends_by (input_error fault)) (record { files = last.files; state = last.state; out = last.out; err = err'; status = status })
       (GivesLines-unread fault are_first) (omega arith) (inr (inr (record {
         files = λ name. refl;
         out = Appends-nil last.out.contents;

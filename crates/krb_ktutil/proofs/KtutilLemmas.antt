@@ -11,7 +11,7 @@ use Rattle.krb_files.specs.declared.files.LoadFault.TheVariants.{Missing, TooLar
 use Rattle.krb_files.specs.Bytes.{Watch}
 use Rattle.krb_ktutil.specs.declared.ktutil.line_end.LineEnd.{LineEnd}
 use Rattle.krb_driver.specs.ErrorOutput.{ErrorWatch}
-use Rattle.krb_driver.specs.Troubles.{input_trouble, trouble_status}
+use Rattle.krb_driver.specs.RunErrors.{input_error, error_status}
 use Rattle.krb_ktutil.specs.InputLines.{InputParts, lines_of, with_newlines, HasLines, KeepsLines, TakesLine, EndsInNewline, IsSpent, HasNoMore, HasNone, CutsOff, Grows, IsWithin}
 use Rattle.krb_files.specs.Loading.{most_bytes}
 use Rattle.krb_ktutil.specs.KtutilTalk.{Talk, first_talk, goes_on, AreFirst, Continues, EndsTalk, HandlesLine, Stops, TalksOver}
@@ -19,7 +19,7 @@ use Rattle.krb_ktutil.specs.Ktutil.{HandlesNext, RunsKtutil}
 use Rattle.krb_ktutil.specs.KtutilDue.{TalksHonestly}
 use Rattle.krb_ktutil.proofs.KtutilHonestly.{honest_after, honest_in_line, honest_unread}
 use Rattle.krb_files.specs.Reader.{Source, ConsumesAtMost, is_failed}
-use Rattle.krb_driver.specs.Runs.{SaysEnd}
+use Rattle.krb_driver.specs.Runs.{ReportsEnd}
 use Rattle.krb_files.proofs.Reading.{Consumes-trans}
 
 -- the input has these lines, which were run, and those that are to come
@@ -213,7 +213,7 @@ module _ {F : Type 0} (trait : Ghosts F) (now : ℕ) (order : Order) (files : F)
 
   -- the input was not read further
   pub RunsKtutil-unread : (fault : LoadFault) (err' : ErrorWatch) (status : ℕ) → KeepsLines old new left last.left → IsWithin old → HasNoMore old new → last.failed ≡ (is_failed fault || first.failed) → fault ≢ Missing → (fault ≡ TooLarge → most_bytes < length new.read)
-      → SaysEnd [] None (Err (input_trouble fault)) talk.err err' → status ≡ max talk.status (trouble_status (input_trouble fault)) → RunsKtutil trait order now first last files talk.files out talk.out err err' status
+      → ReportsEnd [] None (Err (input_error fault)) talk.err err' → status ≡ max talk.status (error_status (input_error fault)) → RunsKtutil trait order now first last files talk.files out talk.out err err' status
   RunsKtutil-unread fault err' status keeps was no_more failed never too_large said worst =
       let are_first = ToCome-first first.left u.lines new last.left (λ more has. u.to_come more (keeps more has)) in
       let consumes = grown first.left left last.left old.read new.read u.consumes grows in

@@ -10,9 +10,9 @@ use Rattle.krb_files.specs.Plan.{follow}
 use Rattle.krb_ktutil.specs.KtutilHonest.{line_outcome, line_files}
 use Rattle.krb_ktutil.specs.InputLines.{lines_of}
 use Rattle.krb_ktutil.specs.KtutilTalk.{Talk, line_run, named_in, goes_on, AreFirst}
-use Rattle.krb_driver.specs.Runs.{Run, SaysEnd, ends_by}
+use Rattle.krb_driver.specs.Runs.{Run, ReportsEnd, ends_by}
 use Rattle.krb_driver.specs.declared.verdict.Verdict.TheVariants.{Well}
-use Rattle.krb_driver.specs.Troubles.{Ending, ending_status, input_trouble}
+use Rattle.krb_driver.specs.RunErrors.{Ending, ending_status, input_error}
 
 -- a report: an ending, the file that may be named, and the line
 pub record Telling : Type 0 where
@@ -24,16 +24,16 @@ pub record Telling : Type 0 where
 pub record TalkDue : Type 0 where
   pub files : FileMap
   pub out : List ℕ
-  pub told : List Telling
+  pub reported : List Telling
   pub status : ℕ
 
 -- one run, of that line, which may name that file, and no line after it
 abbrev pub last_due : List ℕ → Option ℕ → Run → FileMap → TalkDue
-last_due file line run files = record { files = files; out = run.out; told = record { file = file; line = line; ending = run.ending } ∷ []; status = ending_status run.ending }
+last_due file line run files = record { files = files; out = run.out; reported = record { file = file; line = line; ending = run.ending } ∷ []; status = ending_status run.ending }
 
 -- one run, and then what is due after it
 abbrev pub due_after : List ℕ → Option ℕ → Run → TalkDue → TalkDue
-due_after file line run due = record { files = due.files; out = run.out ++ due.out; told = record { file = file; line = line; ending = run.ending } ∷ due.told; status = max (ending_status run.ending) due.status }
+due_after file line run due = record { files = due.files; out = run.out ++ due.out; reported = record { file = file; line = line; ending = run.ending } ∷ due.reported; status = max (ending_status run.ending) due.status }
 
 -- what is due after lines, run in order from that number up to one that is the last; `final` is due after all of them
 abbrev pub talk_due : Run → ℕ → ℕ → List (List ℕ) → KtutilState → FileMap → TalkDue
@@ -49,7 +49,7 @@ talk_due final now number (line ∷ lines) state files =
 -- these endings were reported in order, each message whole unless the writer has failed
 abbrev pub TellsInTurn : ErrorWatch → ErrorWatch → List Telling → Type 0
 TellsInTurn old new [] = new ≡ old
-TellsInTurn old new (t ∷ others) = (between : ErrorWatch) × SaysEnd t.file t.line t.ending old between × TellsInTurn between new others
+TellsInTurn old new (t ∷ others) = (between : ErrorWatch) × ReportsEnd t.file t.line t.ending old between × TellsInTurn between new others
 
 -- nothing is printed, and all is well
 abbrev pub quiet_run : Run
@@ -57,14 +57,14 @@ quiet_run = record { out = []; ending = Ok Well }
 
 -- the lines of an input, and what is due after them: nothing at its end, or the report why no further line was run
 pub record GivesLines (given : Option (List ℕ)) (lines : List (List ℕ)) (final : Run) : Type 0 where
-  pub gives : (IfSome given (λ bytes. lines_of bytes ≡ lines) × (final ≡ quiet_run)) ⊎ (AreFirst lines given × ((fault : LoadFault) × (final ≡ ends_by (input_trouble fault))))
+  pub gives : (IfSome given (λ bytes. lines_of bytes ≡ lines) × (final ≡ quiet_run)) ⊎ (AreFirst lines given × ((fault : LoadFault) × (final ≡ ends_by (input_error fault))))
 
 module _ {F : Type 0} (trait : Ghosts F) where
   -- a run left what was due
   pub record LeavesDue (due : TalkDue) (old new : Talk F) : Type 0 where
     pub files : SameFiles due.files (trait.file new.files)
     pub out : Appends old.out.contents new.out.contents due.out
-    pub err : TellsInTurn old.err new.err due.told
+    pub err : TellsInTurn old.err new.err due.reported
     pub status : new.status ≡ max old.status due.status
 
   -- a run left what was due, unless a file call failed, which is counted, or the output failed

@@ -20,10 +20,10 @@ line_files files (ComesTo takes due) = files
 line_files files (Saves name bytes) = with_bytes files name bytes
 
 -- if an allocation fails, in a file call too, the line ends with `NoMemory` and not with an error of the file
-abbrev pub TellsMemory : LineEnd → Type 0
-TellsMemory (end.Load load.NoMemory) = ⊥
-TellsMemory (end.Save save.NoMemory) = ⊥
-TellsMemory ending = Unit {0}
+abbrev pub ReportsMemory : LineEnd → Type 0
+ReportsMemory (end.Load load.NoMemory) = ⊥
+ReportsMemory (end.Save save.NoMemory) = ⊥
+ReportsMemory ending = Unit {0}
 
 module _ {F : Type 0} (trait : Ghosts F) where
   -- state, output, end and files are those that are due

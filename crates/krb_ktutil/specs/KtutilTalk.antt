@@ -10,26 +10,26 @@ use Rattle.krb_files.specs.Reader.{Source, is_failed}
 use Rattle.krb_ktutil.specs.declared.ktutil.line_end.LineEnd.{LineEnd}
 use Rattle.krb_ktutil.specs.declared.ktutil.line_end.LineEnd.TheVariants as end
 use Rattle.krb_driver.specs.declared.verdict.Verdict.TheVariants.{Well}
-use Rattle.krb_driver.specs.declared.trouble.Trouble.TheVariants as trouble
+use Rattle.krb_driver.specs.declared.error.RunError.TheVariants as error
 use Rattle.krb_driver.specs.ErrorOutput.{ErrorWatch}
 use Rattle.krb_ktutil.specs.KtutilWords.{words, second}
 use Rattle.krb_ktutil.specs.KtutilPlan.{KtutilState, plan_of}
 use Rattle.krb_ktutil.specs.KtutilFiles.{Handles}
 use Rattle.krb_ktutil.specs.InputLines.{CutsOff, lines_of}
 use Rattle.krb_files.specs.Loading.{most_bytes}
-use Rattle.krb_driver.specs.Runs.{Run, SaysEnd, EndsRun}
-use Rattle.krb_driver.specs.Troubles.{Ending, input_trouble, load_trouble, save_trouble, trouble_status}
+use Rattle.krb_driver.specs.Runs.{Run, ReportsEnd, EndsRun}
+use Rattle.krb_driver.specs.RunErrors.{Ending, input_error, load_error, save_error, error_status}
 
 -- the ending of a line of that number
 abbrev pub ending_of : ℕ → LineEnd → Ending
 ending_of number end.Done = Ok Well
 ending_of number end.Quit = Ok Well
-ending_of number (end.Fault fault) = Err (trouble.FaultyLine number fault)
-ending_of number (end.Refused code) = Err (trouble.LineRefused number code)
-ending_of number (end.NotAKeytab why) = Err (trouble.NotAKeytab why)
-ending_of number (end.Load fault) = Err (load_trouble fault)
-ending_of number (end.Save fault) = Err (save_trouble fault)
-ending_of number end.NoMemory = Err trouble.NoMemory
+ending_of number (end.Fault fault) = Err (error.FaultyLine number fault)
+ending_of number (end.Refused code) = Err (error.LineRefused number code)
+ending_of number (end.NotAKeytab why) = Err (error.NotAKeytab why)
+ending_of number (end.Load fault) = Err (load_error fault)
+ending_of number (end.Save fault) = Err (save_error fault)
+ending_of number end.NoMemory = Err error.NoMemory
 
 -- what a line prints, and its ending
 abbrev pub line_run : ℕ → LineEnd → List ℕ → Run
@@ -119,8 +119,8 @@ module _ {F : Type 0} (trait : Ghosts F) (now : ℕ) where
       pub read : List ℕ
       pub consumes : Consumes input.left input'.left read
       pub due : CutsOff lines (take most_bytes read) ⊎ IfSome input.left (λ bytes. lines_of bytes ≡ lines)
-      pub said : SaysEnd [] None (Err (input_trouble fault)) last.err end.err
-      pub worst : end.status ≡ max last.status (trouble_status (input_trouble fault))
+      pub said : ReportsEnd [] None (Err (input_error fault)) last.err end.err
+      pub worst : end.status ≡ max last.status (error_status (input_error fault))
       pub files : end.files ≡ last.files
       pub out : end.out ≡ last.out
 

@@ -15,7 +15,7 @@ mod verb;
 mod words;
 
 use crate::input_lines::InputLines;
-use krb_driver::{CommandName, CommandWords, ErrorOutput, Streams, Trouble, V1_BIG, Verdict, cause_of, show, tell};
+use krb_driver::{CommandName, CommandWords, ErrorOutput, Streams, RunError, V1_BIG, Verdict, cause_of, show, report};
 use krb_files::{Files, Watched};
 use krb_wire::Order;
 pub use line_end::LineEnd;
@@ -65,20 +65,20 @@ fn goes_on(ending: LineEnd, has_out_failed: bool) -> bool
 }
 
 // Returns the ending of a line of that number.
-fn ending_of(number: u64, ending: LineEnd) -> Result<Verdict, Trouble>
+fn ending_of(number: u64, ending: LineEnd) -> Result<Verdict, RunError>
     ensures { result ≡ ending_of number ending }
 {
     match ending {
         LineEnd::Done | LineEnd::Quit => Ok(Verdict::Well),
-        LineEnd::Fault(fault) => Err(Trouble::FaultyLine {
+        LineEnd::Fault(fault) => Err(RunError::FaultyLine {
             line: number,
             fault,
         }),
-        LineEnd::Refused(code) => Err(Trouble::LineRefused { line: number, code }),
-        LineEnd::NotAKeytab(why) => Err(Trouble::NotAKeytab(why)),
-        LineEnd::Load(fault) => Err(Trouble::from(fault)),
-        LineEnd::Save(fault) => Err(Trouble::from(fault)),
-        LineEnd::NoMemory => Err(Trouble::NoMemory),
+        LineEnd::Refused(code) => Err(RunError::LineRefused { line: number, code }),
+        LineEnd::NotAKeytab(why) => Err(RunError::NotAKeytab(why)),
+        LineEnd::Load(fault) => Err(RunError::from(fault)),
+        LineEnd::Save(fault) => Err(RunError::from(fault)),
+        LineEnd::NoMemory => Err(RunError::NoMemory),
     }
 }
 
@@ -116,7 +116,7 @@ impl<A: Allocator + Copy> Talk<A> {
         let ending = self.ktutil.line(files, line, self.now, &mut self.text);
         let shown = show(&self.text, ending_of(number, ending), out);
         let cause = cause_of(&shown, files, out);
-        let status = tell(shown, file_word(line), Some(number), cause, err);
+        let status = report(shown, file_word(line), Some(number), cause, err);
         self.status = self.status.max(status);
         goes_on(ending, out.has_failed())
     }
@@ -145,7 +145,7 @@ pub fn run_ktutil<A: Allocator + Copy, F: Files, R: Read, W: Write, E: Write>(
             Ok(true) => {}
             Ok(false) => return talk.status,
             Err(fault) => {
-                let status = tell(Err(Trouble::of_input(fault)), b"", None, input.cause(), err);
+                let status = report(Err(RunError::of_input(fault)), b"", None, input.cause(), err);
                 return talk.status.max(status);
             }
         }

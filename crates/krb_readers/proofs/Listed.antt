@@ -14,7 +14,7 @@ use Rattle.krb_cache_text.specs.declared.columns.CcColumns.{CcColumns}
 use Rattle.krb_readers.specs.Klist.{cache_shown, keytab_shown}
 use Rattle.krb_driver.specs.Commands.{ShowsPage}
 use Rattle.krb_driver.specs.Effects.{Page}
-use Rattle.krb_driver.specs.Troubles.{Ending, out_trouble}
+use Rattle.krb_driver.specs.RunErrors.{Ending, output_error}
 
 -- a list is empty
 abbrev is_none : List ℕ → Bool
@@ -51,7 +51,7 @@ ShowsPage-done page out out' ending well still appends is = inl (record {
 
 -- the output failed, or memory ran out, before the end of a page
 pub ShowsPage-failed : (T : Type 0) (page : Page) (out out' : Watch) (fault : OutFault) → page.takes ≡ true → (page.out ≡ [] → ⊥) → AppendsPrefix out.contents out'.contents page.out
-    → out'.failed ≡ is_write_fault {T = T} (Err fault) → ShowsPage out out' (Err (out_trouble fault)) page
+    → out'.failed ≡ is_write_fault {T = T} (Err fault) → ShowsPage out out' (Err (output_error fault)) page
 ShowsPage-failed T page out out' Write takes some prefix failed = inl (record {
   done = λ well. absurd (true≢false (sym failed ∙ well));
   prefix = prefix;

@@ -10,7 +10,7 @@ use Rattle.krb_text.specs.Etype.{etype_in}
 use Rattle.krb_text.specs.Found.{found_line}
 use Rattle.krb_text.specs.Numbers.{number_in}
 use Rattle.krb_readers.specs.declared.ktfind.FindOptions.{FindOptions}
-use Rattle.krb_driver.specs.declared.trouble.Trouble.TheVariants.{Refused}
+use Rattle.krb_driver.specs.declared.error.RunError.TheVariants.{Refused}
 use Rattle.krb_driver.specs.declared.verdict.Verdict.TheVariants.{Well}
 use Rattle.krb_driver.specs.Effects.{CommandPlan, Effect, Fails, Displays, opens, text}
 use Rattle.krb_driver.specs.Matches.{Matched, bad_name, v1_order}

@@ -8,7 +8,7 @@ ghost use Rattle.krb_readers.specs.Klist.{cache_shown, keytab_shown, klist_plan,
 ghost use Rattle.krb_driver.specs.Mistakes.{Reads, mistake_parts};
 ghost use Rattle.krb_driver.specs.Verdicts.{listing_verdict};
 
-use krb_driver::{Command, CommandName, CommandWords, FileTrouble, Made, Matches, Mistake, Show, Streams, Trouble, V1_BIG, Verdict, Word, WordFault, open_cache, open_listed, run, v1_order};
+use krb_driver::{Command, CommandName, CommandWords, FileError, Made, Matches, Mistake, Show, Streams, RunError, V1_BIG, Verdict, Word, WordFault, open_cache, open_listed, run, v1_order};
 use krb_cache_text::{CcColumns, list_cache};
 use krb_ccache::Ccache;
 use krb_files::{Files, OutFault, Watched};
@@ -211,7 +211,7 @@ impl<A: Allocator + Copy> Show<A> for Listing<A> {
         alloc: A,
         file: &str,
         out: &mut Watched<W>,
-    ) -> Result<Verdict, Trouble> {
+    ) -> Result<Verdict, RunError> {
         match &self.opened {
             Opened::Keytab(columns, keytab) => {
                 show_keytab(alloc, self.json, *columns, file, keytab, out)?;
@@ -229,7 +229,7 @@ impl<A: Allocator + Copy> Show<A> for Listing<A> {
 fn shown<'a, A: Allocator>(
     command: &ListFile<'a>,
     opened: Opened<A>,
-) -> Result<Made<A, Listing<A>>, FileTrouble<'a>>
+) -> Result<Made<A, Listing<A>>, FileError<'a>>
     ensures { IsMade (Displays command.now.file.now (opened_page command.now.options.now.json opened command.now.file.now))
         (made_effect listing_page command.now.file.now result) }
 {
@@ -256,7 +256,7 @@ impl<'f, A: Allocator + Copy> Command<A> for ListFile<'f> {
         &self,
         alloc: A,
         files: &mut F,
-    ) -> Result<Made<A, Self::Shown>, FileTrouble<'_>> {
+    ) -> Result<Made<A, Self::Shown>, FileError<'_>> {
         match self.options.kind {
             ListKind::Keytab(columns) => {
                 let keytab = open_listed(alloc, self.options.v1_order, files, self.file)?;

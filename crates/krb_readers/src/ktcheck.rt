@@ -5,7 +5,7 @@ ghost use Rattle.krb_driver.specs.Commands.{RunsCommand, any, text_effect};
 ghost use Rattle.krb_driver.specs.Effects.{Displays, IsMade};
 ghost use Rattle.krb_readers.specs.Ktcheck.{findings, found_verdict, ktcheck_plan};
 
-use krb_driver::{Command, CommandName, CommandWords, FileTrouble, Findings, Made, Output, Streams, V1_BIG, Verdict, Word, open_keytab, run};
+use krb_driver::{Command, CommandName, CommandWords, FileError, Findings, Made, Output, Streams, V1_BIG, Verdict, Word, open_keytab, run};
 use krb_audit::check_up;
 use krb_files::Files;
 use krb_keytab::Keytab;
@@ -35,8 +35,8 @@ fn found_verdict(findings: Findings) -> Verdict
     ensures { result ≡ found_verdict findings }
 {
     let told = findings.words;
-    let is_told = told.weak || told.hidden || told.same || told.clash || told.old || told.mode;
-    if is_told || findings.fault.is_some() {
+    let is_printed = told.weak || told.hidden || told.same || told.clash || told.old || told.mode;
+    if is_printed || findings.fault.is_some() {
         Verdict::Found(findings)
     } else {
         Verdict::Well
@@ -49,7 +49,7 @@ fn check<'a, A: Allocator + Copy, F: Files>(
     command: &CheckKeytab<'a>,
     files: &F,
     keytab: &Keytab<A>,
-) -> Result<Made<A, Output<A>>, FileTrouble<'a>>
+) -> Result<Made<A, Output<A>>, FileError<'a>>
     ensures { IsMade (Displays command.now.file.now (findings (F.Files.mode files.now) keytab.now.state))
         (text_effect command.now.file.now result) }
 {
@@ -82,7 +82,7 @@ impl<'f, A: Allocator + Copy> Command<A> for CheckKeytab<'f> {
         &self,
         alloc: A,
         files: &mut F,
-    ) -> Result<Made<A, Self::Shown>, FileTrouble<'_>> {
+    ) -> Result<Made<A, Self::Shown>, FileError<'_>> {
         let keytab = open_keytab(alloc, self.v1_order, files, self.file)?;
         check(alloc, self, files, &keytab)
     }

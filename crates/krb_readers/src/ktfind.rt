@@ -6,7 +6,7 @@ ghost use Rattle.krb_driver.specs.Effects.{IsMade};
 ghost use Rattle.krb_readers.specs.Ktfind.{SpellsEntry, find_mistake, finds, ktfind_plan};
 ghost use Rattle.krb_driver.specs.Mistakes.{Reads};
 
-use krb_driver::{Command, CommandName, CommandWords, FileTrouble, Made, Matches, Mistake, Output, Streams, Trouble, V1_BIG, Verdict, Word, WordFault, open_keytab, run, spelled_name, v1_order};
+use krb_driver::{Command, CommandName, CommandWords, FileError, Made, Matches, Mistake, Output, Streams, RunError, V1_BIG, Verdict, Word, WordFault, open_keytab, run, spelled_name, v1_order};
 use krb_files::Files;
 use krb_keytab::Keytab;
 use krb_text::{etype_of, found_text, parse_u32};
@@ -77,7 +77,7 @@ fn find<'a, A: Allocator, B: Allocator>(
     alloc: A,
     command: &FindEntry<'a, B>,
     keytab: &Keytab<A>,
-) -> Result<Made<A, Output<A>>, FileTrouble<'a>>
+) -> Result<Made<A, Output<A>>, FileError<'a>>
     ensures { IsMade (finds command.now.options.now command.now.file.now keytab.now.state)
         (text_effect command.now.file.now result) }
 {
@@ -87,9 +87,9 @@ fn find<'a, A: Allocator, B: Allocator>(
             text: found_text(alloc, place, &entry)?,
             verdict: Verdict::Well,
         })),
-        Err(code) => Err(FileTrouble {
+        Err(code) => Err(FileError {
             file: command.file,
-            trouble: Trouble::Refused(code),
+            error: RunError::Refused(code),
         }),
     }
 }
@@ -111,7 +111,7 @@ impl<'f, A: Allocator + Copy, B: Allocator> Command<A> for FindEntry<'f, B> {
         &self,
         alloc: A,
         files: &mut F,
-    ) -> Result<Made<A, Self::Shown>, FileTrouble<'_>> {
+    ) -> Result<Made<A, Self::Shown>, FileError<'_>> {
         let keytab = open_keytab(alloc, self.options.v1_order, files, self.file)?;
         find(alloc, self, &keytab)
     }

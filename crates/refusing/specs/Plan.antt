@@ -3,7 +3,7 @@ use Rattle.std.specs.Prelude.{◌≡◌, ℕ, ◌≤◌}
 use Rattle.refusing.specs.declared.plan.Plan.{Plan}
 use Rattle.refusing.specs.declared.plan.Plan.TheVariants.{GrantAll, RefuseOne, RefuseFrom}
 
--- the nth request to come is refused, where the next one is the first
+-- the nth request from now on is refused; the next one is the first
 abbrev pub Refuses : Plan → ℕ → Type 0
 Refuses GrantAll nth = ⊥
 Refuses (RefuseOne n) nth = nth ≡ n

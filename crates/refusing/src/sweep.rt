@@ -7,7 +7,7 @@ use std::test::Fail;
 /// Runs a call with each of its requests refused in turn, until none was refused, and returns how many it makes.
 ///
 /// The call gets n, from 1. It makes what it needs, has the n-th request from there refused by `refuse(n)` or
-/// `refuse_from(n)`, and checks the outcome. The sweep ends by `refused`, and not by whether the call failed: a
+/// `refuse_from(n)`, and checks the outcome. The sweep goes by `refused`, and not by whether the call failed: a
 /// refusal that the code swallows is what it is to find. All blocks must be freed. A call that has nothing refused is
 /// made once, and 0 is returned.
 pub fn refuse_each<F: FnMut(&Refusing<Global>, u64) -> Result<(), Fail>>(

@@ -1,4 +1,4 @@
-//! Gives a name of a keytab its next key, and removes the keys before its last one: `rotate_keys FILE NAME KEY SECONDS`.
+//! Gives a name in a keytab its next key, and removes the keys before its last: `rotate_keys FILE NAME KEY SECONDS`.
 #![tactic(auto)]
 
 mod rotation;

@@ -28,7 +28,7 @@ fn places_before<N: Name, A: Allocator>(
     Ok(places)
 }
 
-// Removes the records at those places.
+// Removes the records at these places, one after the other.
 fn remove_all<A: Allocator>(keytab: &mut Keytab<A>, places: &[u32]) -> Result<(), Code>
     ensures { OnOk result (without places.now (Ok keytab.old.state) ≡ Ok keytab.new.state) }
 {

@@ -35,7 +35,7 @@ pub fn look_at(held: &HeldCache, place: u32, ticket: &mut KrbfTicket) -> u32
     }
 }
 
-// True if a credential is a ticket for this server: it is no configuration entry.
+// True if a credential is a ticket for this server, not a configuration entry.
 fn is_for(server: &Principal<Heap>, credential: &CredView<'_>) -> bool
     ensures { result ≡ is_ticket_for (principal_parts server.now) credential.now }
 {

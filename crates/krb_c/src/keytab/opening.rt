@@ -87,7 +87,7 @@ pub extern "C" fn krbf_kt_create(alloc: Global, limit: u32, kt: &mut KrbfKeytab)
 }
 
 /// Opens the keytab of a copy of an image, with such a limit. An image that is not a keytab is refused before it is
-/// copied, so that only a keytab can run out of memory.
+/// copied, so that `NO_MEMORY` is returned for a keytab only.
 #[unsafe(no_mangle)]
 pub extern "C" fn krbf_kt_open(
     alloc: Global,

@@ -24,7 +24,7 @@ use krb_wire::{Limits, Name};
 use std::alloc::Allocator;
 
 impl<A: Allocator> Ccache<A> {
-    /// Creates a version 4 cache without credentials. Refuses if its image would be longer than the limit.
+    /// Creates a version 4 cache without credentials. Refuses an image that would be longer than the limit.
     pub fn create<N: Name>(
         alloc: A,
         default: &N,
@@ -92,12 +92,12 @@ impl<A: Allocator> Ccache<A> {
     }
 
     /// Marks the credential at `place` as removed: writes endtime 0 and the greatest authtime, and no other byte. The
-    /// mark is this project's own. Refuses in version 3, then in a damaged cache, and then if no live credential starts
-    /// at `place`.
+    /// mark is this project's own. Refuses, in this order, a version 3 cache, a damaged one, and a place where no live
+    /// credential starts.
     pub fn remove_at(&mut self, place: u32) -> Result<(), Code>
         ensures gives { CutGives (cut_result self.old.state place) self.old.state result self.new.state }
         ensures cuts { OnOk result (Cuts (store_of self.old.state) (store_of self.new.state) place) }
-        // No live credential is there any more.
+        // No live credential is at `place` any more.
         ensures gone { OnOk result (live_bytes (store_of self.new.state) place ≡ None) }
         ensures room { self.new.room ≡ self.old.room }
     {
@@ -144,9 +144,9 @@ impl<A: Allocator> Ccache<A> {
         Ok(place)
     }
 
-    /// Appends a credential and returns its place. Never reuses the place of a removed one. Refuses in version 3, then
-    /// in a damaged cache, then a credential that has the removed mark, and then if the image would be longer than the
-    /// limit.
+    /// Appends a credential and returns its place. Never reuses the place of a removed one. Refuses, in this order, a
+    /// version 3 cache, a damaged one, a credential that has the removed mark, and an image that would be longer than
+    /// the limit.
     pub fn store<B: Allocator>(&mut self, cred: &Cred<B>) -> Result<u32, Refusal>
         ensures gives { PutGives (put_result self.old.state cred.now) self.old.state result self.new.state }
         ensures puts { IfOk result (Puts (store_of self.old.state) (store_of self.new.state)) }

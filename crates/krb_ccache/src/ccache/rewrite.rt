@@ -22,7 +22,7 @@ use krb_wire::{NoMemory, tail};
 use std::alloc::Allocator;
 
 impl<A: Allocator> Ccache<A> {
-    // Returns where the credentials begin in the new image and its length, or `None` if it is longer than the limit.
+    // Returns where the credentials start in the new image and how long it is, or `None` if it exceeds the limit.
     fn new_lens(&self) -> Option<(usize, usize)>
         ensures first { IfSome result (λ x. x.0 ≡ length (new_preamble self.now.state.principal (offset_in self.now.state.header))) }
         ensures len { IfSome result (λ x. x.1 ≡ length (image_of (rewrite_of self.now.state))) }
@@ -89,7 +89,7 @@ impl<A: Allocator + Copy> Ccache<A> {
 
     /// Rewrites the cache in version 4: a header with nothing but the time offset, if there is one, the default
     /// principal, and the live credentials in order. Moves each cursor to the new place of the first live credential at
-    /// or after it, or to the new end. Refuses in a damaged cache, and then if the new image would be longer than the
+    /// or after it, or to the new end. Refuses a damaged cache, and then a new image that would be longer than the
     /// limit. Allocates once, for the new image.
     pub fn rewrite(&mut self, cursors: &mut [u32]) -> Result<(), Refusal>
         requires { AllByRecursion (IsPlace (store_of self.old.state)) cursors.old }

@@ -102,7 +102,7 @@ impl<A: Allocator> Ccache<A> {
         Ok(places)
     }
 
-    // Returns the refusal of the entry of a setting, if it cannot be added.
+    // Returns why the entry of a setting cannot be added, if it cannot.
     fn check_setting(&self, setting: &Setting<'_>) -> Result<(), Code>
         ensures ok { OnOk result (put_result self.now.state (entry_of self.now.state.principal setting.now)
             ≡ Ok (end_of (store_of self.now.state), with_last self.now.state (entry_of self.now.state.principal setting.now))) }
@@ -127,9 +127,9 @@ impl<A: Allocator> Ccache<A> {
 
 impl<A: Allocator + Copy> Ccache<A> {
     /// Sets the default principal's value for `key` and the text `principal`, or for `key` alone if that is `None`:
-    /// appends a new entry, removes every other entry for the same, and returns the place of the new one. Refuses in
-    /// version 3, then in a damaged cache, and then if the image would be longer than the limit. Takes memory before
-    /// anything changes.
+    /// appends a new entry, removes every other entry for the same, and returns the place of the new one. Refuses, in
+    /// this order, a version 3 cache, a damaged one, and an image that would be longer than the limit. Takes memory
+    /// before anything changes.
     pub fn set_config(
         &mut self,
         key: &[u8],

@@ -4,7 +4,7 @@ ghost use Rattle.std.specs.Prelude.{◌≡◌, ◌≤◌, ◌∷◌, IfOk, OnOk,
 ghost use Rattle.std.specs.Path.{path_buf_bytes};
 ghost use Rattle.krb_disk.specs.Looks.{IsPlainOrNone};
 ghost use Rattle.krb_disk.specs.NewFile.{IsFilled};
-ghost use Rattle.krb_disk.specs.Stages.{IsQuiet, watched, seen_file};
+ghost use Rattle.krb_disk.specs.Stages.{IsQuiet, watched, snapshot_file};
 ghost use Rattle.krb_disk.specs.Target.{new_path};
 ghost use Rattle.krb_disk.specs.declared.stage.Stage.TheVariants.{Ours, Same};
 
@@ -14,9 +14,9 @@ use crate::fault::{DiskFault, ReadFault};
 use crate::looks::Found;
 use crate::looks::device::Mounted;
 use crate::looks::locks::{LockKind, is_locked};
-use crate::patience::Patience;
+use crate::deadline::Deadline;
 use crate::read::read_file;
-use crate::seen::Seen;
+use crate::snapshot::Snapshot;
 use crate::stage::Stage;
 use crate::target::Target;
 use krb_files::Cause;
@@ -58,15 +58,15 @@ impl<R: rt::Files + Alloc> Calls<'_, R> {
         &self,
         file: &mut NewFile<String<R::A>, R::File>,
         path: &str,
-        seen: &Seen<R::A>,
+        snapshot: &Snapshot<R::A>,
     ) -> Result<bool, DiskFault>
-        requires ours { file.old.stage ≡ Ours (seen_file seen.now) }
+        requires ours { file.old.stage ≡ Ours (snapshot_file snapshot.now) }
         requires beside { string_bytes file.old.path ≡ new_path path.now }
         ensures same { IfOk result (λ is. IsTrue is
-            → file.new ≡ record file.old { stage = Same (seen_file seen.now) }) }
-        ensures plain { IfOk result (λ is. IsTrue is → IsPlainOrNone (seen_file seen.now)) }
+            → file.new ≡ record file.old { stage = Same (snapshot_file snapshot.now) }) }
+        ensures plain { IfOk result (λ is. IsTrue is → IsPlainOrNone (snapshot_file snapshot.now)) }
     {
-        let is_same = seen.is_at(&self.looks, path)?;
+        let is_same = snapshot.is_at(&self.looks, path)?;
         file.stage = if is_same {
             file.stage.compared()
         } else {
@@ -106,22 +106,22 @@ impl<R: rt::Files + rt::Clock + Alloc> Calls<'_, R> {
         &self,
         beside: &NewFile<String<R::A>, R::File>,
         file: &Found,
-        patience: &Patience,
+        deadline: &Deadline,
     ) -> Result<bool, DiskFault> {
         let file = Mounted::new(file, beside.mount);
-        Ok(!is_locked(&self.looks, &file, LockKind::Record, patience)?)
+        Ok(!is_locked(&self.looks, &file, LockKind::Record, deadline)?)
     }
 
     /// Returns whether no program has or awaits a record lock to write on the old file that was compared.
     pub fn watch(
         &self,
         file: &mut NewFile<String<R::A>, R::File>,
-        patience: &Patience,
+        deadline: &Deadline,
     ) -> Result<bool, DiskFault>
         ensures { IfOk result (λ is. file.new ≡ record file.old { stage = watched is file.old.stage }) }
     {
         let is_quiet = match file.stage {
-            Stage::Same(Some(old)) => self.is_quiet(file, &old, patience)?,
+            Stage::Same(Some(old)) => self.is_quiet(file, &old, deadline)?,
             _ => true,
         };
         file.stage = file.stage.watched(is_quiet);

@@ -3,7 +3,7 @@
 use crate::fault::DiskFault;
 use crate::looks::Looks;
 use crate::looks::device::{Mounted, Place};
-use crate::patience::Patience;
+use crate::deadline::Deadline;
 use krb_files::{LoadFault, WatchedReader, append_read};
 use krb_wire::USUAL_LIMIT;
 use std::{rt, str};
@@ -70,7 +70,7 @@ fn has_lock(list: &[u8], kind: LockKind, file: &Mounted) -> bool {
 fn read_list<R: rt::Files + rt::Clock + Alloc>(
     looks: &Looks<'_, R>,
     list: &mut Vec<u8, R::A>,
-    patience: &Patience,
+    deadline: &Deadline,
 ) -> Result<bool, DiskFault> {
     list.clear();
     let Ok(Some(file)) = looks.open(LOCKS) else {
@@ -78,7 +78,7 @@ fn read_list<R: rt::Files + rt::Clock + Alloc>(
     };
     let mut file = WatchedReader::new(file);
     for _ in 0..=MOST_BYTES {
-        if list.len() > MOST_BYTES || patience.is_over(looks) {
+        if list.len() > MOST_BYTES || deadline.is_over(looks) {
             return Ok(false);
         }
         match append_read(list, &mut file, PIECE) {
@@ -97,11 +97,11 @@ pub fn is_locked<R: rt::Files + rt::Clock + Alloc>(
     looks: &Looks<'_, R>,
     file: &Mounted,
     kind: LockKind,
-    patience: &Patience,
+    deadline: &Deadline,
 ) -> Result<bool, DiskFault> {
     let mut list = Vec::new(looks.alloc());
     for _ in 0..READINGS {
-        if !read_list(looks, &mut list, patience)? || has_lock(&list, kind, file) {
+        if !read_list(looks, &mut list, deadline)? || has_lock(&list, kind, file) {
             return Ok(true);
         }
     }

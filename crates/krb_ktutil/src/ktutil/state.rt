@@ -8,7 +8,7 @@ ghost use Rattle.krb_ktutil.specs.KtutilWords.{words};
 ghost use Rattle.krb_ktutil.specs.KtutilCommand.{ClearList, Quit, alone, listing, addition, deletion, command_by, command_of};
 ghost use Rattle.krb_ktutil.specs.KtutilPlan.{KtutilState, with_key, command_plan, plan_of};
 ghost use Rattle.krb_ktutil.specs.KtutilFiles.{EndsAt, Finishes, Handles, RunsOut};
-ghost use Rattle.krb_ktutil.specs.KtutilHonest.{HandlesHonestly, Spares, TellsMemory};
+ghost use Rattle.krb_ktutil.specs.KtutilHonest.{HandlesHonestly, Spares, ReportsMemory};
 
 use crate::ktutil::addition::Addition;
 use crate::ktutil::command::{columns, file_name, is_bare, slot};
@@ -239,7 +239,7 @@ impl<A: Allocator + Copy> Ktutil<A> {
             files.old files.new self.old self.new out.old.items out.new.items result }
         ensures spared { Spares F.Files files.old files.new self.old self.new result }
         // If memory runs out, also in a file call, the line ends with that, and state and output are unchanged.
-        ensures told { TellsMemory result }
+        ensures reported { ReportsMemory result }
         ensures memory { result ≡ LineEnd.NoMemory
             → RunsOut self.old self.new out.old.items out.new.items result }
         ensures count { F.Files.failure_count files.old ≤ F.Files.failure_count files.new }

@@ -16,6 +16,6 @@ returns-clause-runs g c =
       count = c.release.ensures.count;
       mode = c.release.ensures.mode;
     } in
-    runs-shown g.F.Files plan (g.C.Command.fairly c.args.command.now) c.args.files.now c.settle-ready.new.files c.release.new.self c.args.streams.now.out c.show_ready-ending.new.out c.args.streams.now.err c.tell.new.err c.tell.result end c.show_ready-ending.result
+    runs-shown g.F.Files plan (g.C.Command.fairly c.args.command.now) c.args.files.now c.settle-ready.new.files c.release.new.self c.args.streams.now.out c.show_ready-ending.new.out c.args.streams.now.err c.report.new.err c.report.result end c.show_ready-ending.result
     (rw c.file-file.ensures c.settle-ready.ensures) left c.show_ready-ending.ensures
-    (rw (c.as_bytes.ensures.value ∙ c.about-named.ensures page) at c.tell.ensures.tells)
+    (rw (c.as_bytes.ensures.value ∙ c.about-named.ensures page) at c.report.ensures.reports)

@@ -16,12 +16,12 @@ pub returns-clause-made : goal.returns-clause-made
 returns-clause-made g c =
     let cache = c.args.cache.state in
     let events = cache_events c.args.lines.now cache in
-    let told = map said c.run_lines.new.replies.items in
+    let reported = map said c.run_lines.new.replies.items in
     let bytes = c.into_image.result.items in
     let ran = rw c.new-replies.ensures.items at c.in_ok-cache.ensures.ran in
     let image = c.into_image.ensures.spelled ∙ ap image_of c.in_ok-cache.ensures.left in
-    made_as (λ (file : List ℕ). replied Cache file told bytes (reply_texts_by cache_record_tail V4 cache.version told)) (λ (file : List ℕ). edits c.args.lines.now file cache)
-    (session_made Cache cache_rules image_of cache_record_tail (λ (k : CacheState). k.version) V4 cache_keeps cache events told bytes ran image)
+    made_as (λ (file : List ℕ). replied Cache file reported bytes (reply_texts_by cache_record_tail V4 cache.version reported)) (λ (file : List ℕ). edits c.args.lines.now file cache)
+    (session_made Cache cache_rules image_of cache_record_tail (λ (k : CacheState). k.version) V4 cache_keeps cache events reported bytes ran image)
     c.replied.result (rw (c.deref.ensures.value, c.version.ensures) at c.replied.ensures)
 
 -- every walk is given what is due to it

@@ -16,15 +16,15 @@ pub returns-clause-made : goal.returns-clause-made
 returns-clause-made g c =
     let keytab = c.args.keytab.state in
     let events = c.args.events.now in
-    let told = map said c.run.new.replies.items in
+    let reported = map said c.run.new.replies.items in
     let bytes = c.into_image-image.result.items in
     let old = session_of (λ (k : InMemory). k.state) c.new-session.result in
     let new = session_of (λ (k : InMemory). k.state) c.run.new.self in
     let begins = ap (session_of (λ (k : InMemory). k.state)) c.new-session.ensures.is ∙ ap (λ (k : InMemory). new_session k.state) c.in-Ok.ensures.ok in
     let ran = rw c.new-replies.ensures.items at c.in_ok-run.ensures.ok in
-    let image = c.into_image-image.ensures.spelled ∙ ap (λ (k : InMemory). image_of k.state) c.into_store.ensures ∙ ap image_of (left_begun keytab_rules keytab events old new told begins ran) in
-    made_as (λ (file : List ℕ). replied Keytab file told bytes (reply_texts_by record_tail V2 keytab.format told)) (λ (file : List ℕ). edits events file keytab)
-    (session_made Keytab keytab_rules image_of record_tail (λ (k : KeytabState). k.format) V2 keytab_keeps keytab events told bytes (ran_begun keytab_rules keytab events old new told begins ran) image)
+    let image = c.into_image-image.ensures.spelled ∙ ap (λ (k : InMemory). image_of k.state) c.into_store.ensures ∙ ap image_of (left_begun keytab_rules keytab events old new reported begins ran) in
+    made_as (λ (file : List ℕ). replied Keytab file reported bytes (reply_texts_by record_tail V2 keytab.format reported)) (λ (file : List ℕ). edits events file keytab)
+    (session_made Keytab keytab_rules image_of record_tail (λ (k : KeytabState). k.format) V2 keytab_keeps keytab events reported bytes (ran_begun keytab_rules keytab events old new reported begins ran) image)
     c.replied.result (rw (c.deref.ensures.value, c.format-format.ensures) at c.replied.ensures)
 
 -- every walk is given what is due to it

@@ -5,16 +5,16 @@ use Rattle.krb_text.specs.declared.line_fault.LineFault.{LineFault}
 use Rattle.krb_text.specs.declared.script.ScriptRefusal.{ScriptRefusal}
 use Rattle.krb_text.specs.declared.script.ScriptRefusal.TheVariants as refusal
 use Rattle.krb_text.specs.Script.{ScriptFault, RefusesScript, script_by}
-use Rattle.krb_driver.specs.declared.trouble.Trouble.{Trouble}
-use Rattle.krb_driver.specs.declared.trouble.Trouble.TheVariants.{FaultyLine, NoMemory}
+use Rattle.krb_driver.specs.declared.error.RunError.{RunError}
+use Rattle.krb_driver.specs.declared.error.RunError.TheVariants.{FaultyLine, NoMemory}
 use Rattle.krb_driver.specs.Loading.{result_map_err}
 use Rattle.krb_editors.specs.Scripted.{lines_in}
-use Rattle.krb_driver.specs.Troubles.{script_trouble}
+use Rattle.krb_driver.specs.RunErrors.{script_error}
 use Rattle.krb_driver.proofs.Shown.{GivesInput-err, GivesInput-ok}
 use Rattle.krb_editors.proofs.scripted.read_script.Goals as goal
 
 -- a script is refused for its first fault, or memory ran out
-refused : {L : Type 0} (reads : List ℕ → Result L LineFault) (text : List ℕ) (why : ScriptRefusal) (given : Result (List L) Trouble) → RefusesScript (script_by reads text) why → given ≡ Err (script_trouble why)
+refused : {L : Type 0} (reads : List ℕ → Result L LineFault) (text : List ℕ) (why : ScriptRefusal) (given : Result (List L) RunError) → RefusesScript (script_by reads text) why → given ≡ Err (script_error why)
     → (given ≡ Err NoMemory) ⊎ (given ≡ lines_in reads (Ok text))
 refused reads text (refusal.Fault line kind) given is given_is = rw is (inr given_is)
 refused reads text refusal.NoMemory given is given_is = inl given_is

@@ -1,4 +1,4 @@
--- A handle may go to another thread: what it owns is a keytab in the heap, or nothing.
+-- A handle may go to another thread: what it owns is a keytab or a cache in the heap, or nothing.
 use mir.Raw.{raw}
 use base.Shift.{Keyless}
 use denote.Memory.{lone}

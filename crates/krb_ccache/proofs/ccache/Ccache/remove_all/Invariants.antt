@@ -2,7 +2,7 @@ use Rattle.std.proofs.Common.{◌≡◌, drop}
 use Rattle.krb_ccache.specs.Changes.{without}
 use Rattle.krb_ccache.proofs.ccache.Ccache.remove_all.Given as goal
 
--- the removals that are left leave what all of them leave
+-- the removals still to come leave what all of them leave
 abbrev pub invariant-loop-place : goal.invariant-loop-place
 invariant-loop-place g l = record {
   left : without l.self.state (drop l.place-index l.places) ≡ without l.fn.self.state l.places;

@@ -6,7 +6,7 @@ use Rattle.krb_keytab.specs.Store.{KeytabState}
 use Rattle.krb_editors.specs.Ktedit.{RunsFairly, edits}
 use Rattle.krb_driver.specs.Opening.{keytab_or_empty}
 use Rattle.krb_editors.specs.Sessions.{may_change}
-use Rattle.krb_driver.specs.declared.trouble.Trouble.{Trouble}
+use Rattle.krb_driver.specs.declared.error.RunError.{RunError}
 use Rattle.krb_driver.specs.Commands.{fair_first}
 use Rattle.krb_driver.specs.Effects.{Fails, IsSpent, opens}
 use Rattle.krb_files.specs.Plan.{Ends}
@@ -21,7 +21,7 @@ returns-in_err-keytab g c =
     let events = c.args.self.now.events.items in
     let met = c.in_err-keytab.field-0.0 in
     rw (p.1 ∙ ap Err p.2) (fairly-holds g.F.Files c.args.files.now c.hold_if.new.files c.give_or_empty.new.files (list_any may_change events) file (opens file (keytab_or_empty c.args.self.now.v1_order) (λ (k : KeytabState). Ends (edits events file k))) (fair_first (keytab_or_empty c.args.self.now.v1_order) (RunsFairly events)) _ c.hold_if.ensures.held
-    (fairly-failed g.F.Files c.hold_if.new.files file (keytab_or_empty c.args.self.now.v1_order) (λ (k : KeytabState). Ends (edits events file k)) (RunsFairly events) met.file.now met.trouble c.give_or_empty.new.files c.in_err-keytab.ensures))
+    (fairly-failed g.F.Files c.hold_if.new.files file (keytab_or_empty c.args.self.now.v1_order) (λ (k : KeytabState). Ends (edits events file k)) (RunsFairly events) met.file.now met.error c.give_or_empty.new.files c.in_err-keytab.ensures))
 
 -- memory ran out
 pub returns-in_err-edit : goal.returns-in_err-edit
@@ -29,7 +29,7 @@ returns-in_err-edit g c =
     let p = err_from_is_err_and c.from_residual-in_err-edit.result c.from_residual-in_err-edit.ensures.1 in
     let file = c.args.self.now.file.now in
     let events = c.args.self.now.events.items in
-    let spent : IsSpent (Fails p.0.file.now p.0.trouble) = (p.0.file.now, ap (λ (t : Trouble). Fails p.0.file.now t) p.2) in
+    let spent : IsSpent (Fails p.0.file.now p.0.error) = (p.0.file.now, ap (λ (t : RunError). Fails p.0.file.now t) p.2) in
     rw p.1 (fairly-holds g.F.Files c.args.files.now c.hold_if.new.files c.give_or_empty.new.files (list_any may_change events) file (opens file (keytab_or_empty c.args.self.now.v1_order) (λ (k : KeytabState). Ends (edits events file k))) (fair_first (keytab_or_empty c.args.self.now.v1_order) (RunsFairly events)) _ c.hold_if.ensures.held
     (makes-fairly g.F.Files c.hold_if.new.files file (keytab_or_empty c.args.self.now.v1_order) (λ (k : KeytabState). edits events file k) (RunsFairly events) c.in_ok-keytab.keytab.state _ c.give_or_empty.new.files c.in_ok-keytab.ensures (inl spent) (inl spent)))
 

@@ -7,15 +7,15 @@ use Rattle.krb_ktutil.proofs.ktutil.Talk.handle.Goals as goal
 pub returns-clause-next : goal.returns-clause-next
 returns-clause-next g c =
     let old : Talk g.row.F.Denot = record { files = c.args.files.now; state = c.args.self.now.ktutil; out = c.args.out.now; err = c.args.err.now; status = c.args.self.now.status } in
-    let new : Talk g.row.F.Denot = record { files = c.line-ending.new.files; state = c.line-ending.new.self; out = c.show-shown.new.out; err = c.tell-status.new.err; status = c.max-self.result } in
+    let new : Talk g.row.F.Denot = record { files = c.line-ending.new.files; state = c.line-ending.new.self; out = c.show-shown.new.out; err = c.report-status.new.err; status = c.max-self.result } in
     let handles : HandlesLine g.F.Files c.args.self.now.now c.args.number c.args.line.now old new c.line-ending.result = record {
       text = c.line-ending.new.out.items;
-      status = c.tell-status.result;
+      status = c.report-status.result;
       handled = rw c.clear.ensures.items at c.line-ending.ensures.handles;
       ends = record {
         ending = c.show-shown.result;
         shows = rw (c.deref.ensures.value, c.ending_of.ensures) at c.show-shown.ensures;
-        told = rw c.file_word.ensures at c.tell-status.ensures.tells;
+        reported = rw c.file_word.ensures at c.report-status.ensures.reports;
       };
       worst = c.max-self.ensures;
     } in

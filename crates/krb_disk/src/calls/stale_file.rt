@@ -1,0 +1,72 @@
+//! A stale file: what a killed run left at the path of a new file.
+
+ghost use Rattle.std.specs.Prelude.{◌≡◌, true, IfOk};
+
+use super::{Calls, stands_at, tell};
+use crate::lock::TakeLock;
+use crate::looks::users::Users;
+use std::fs::{self, OpenOptions};
+use std::io::{self, ErrorKind};
+use std::rt;
+
+/// An open file found at the path of the new file.
+#[derive(Drop)]
+pub struct StaleFile<'p, F> {
+    path: &'p str,
+    file: F,
+    is_locked: bool,
+    /// True if it is locked and a killed run left it.
+    is_abandoned: bool,
+}
+
+// Opens what may be a stale file: for writing, since the open then does not block on a pipe put there meanwhile, and
+// some file systems lock no other handle; for reading if its owner may not write.
+fn open_stale_file<R: rt::Files>(rt: &R, path: &str) -> io::Result<R::File> {
+    match OpenOptions::new().read(true).write(true).open(rt, path) {
+        Err(error) if error.kind() == ErrorKind::PermissionDenied => fs::open(rt, path),
+        opened => opened,
+    }
+}
+
+impl<R: rt::Files> Calls<'_, R> {
+    /// Returns whether a killed run left the open file.
+    pub fn is_abandoned(&self, file: &mut StaleFile<'_, R::File>, users: Users) -> io::Result<bool>
+        requires { file.old.is_locked ≡ true }
+        ensures { IfOk result (λ is. file.new.is_abandoned ≡ is) }
+    {
+        let found = tell(&file.file)?;
+        file.is_abandoned = users.may_have_left(&found)
+            && stands_at(&self.looks, file.path, &file.file)?;
+        Ok(file.is_abandoned)
+    }
+
+    /// Removes the stale file.
+    pub fn remove_stale_file(&self, file: &StaleFile<'_, R::File>) -> io::Result<()>
+        requires abandoned { file.now.is_abandoned ≡ true }
+    {
+        fs::remove_file(self.rt, file.path)
+    }
+}
+
+impl<R: rt::Files> Calls<'_, R>
+where
+    R::File: TakeLock,
+{
+    /// Opens what is at the path of the new file.
+    pub fn open_stale_file<'p>(&self, path: &'p str) -> io::Result<StaleFile<'p, R::File>> {
+        Ok(StaleFile {
+            path,
+            file: open_stale_file(self.rt, path)?,
+            is_locked: false,
+            is_abandoned: false,
+        })
+    }
+
+    /// Locks it and returns whether it was free.
+    pub fn lock_stale_file(&self, file: &mut StaleFile<'_, R::File>) -> io::Result<bool>
+        ensures { IfOk result (λ is. file.new.is_locked ≡ is) }
+    {
+        file.is_locked = file.file.take_lock()?;
+        Ok(file.is_locked)
+    }
+}

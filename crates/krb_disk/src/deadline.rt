@@ -1,0 +1,75 @@
+//! How long to wait for another program.
+
+ghost use Rattle.std.specs.Prelude.{◌≡◌, ◌+◌, ◌≤◌, OnOk};
+
+use crate::fault::DiskFault;
+use crate::looks::Looks;
+use krb_files::Cause;
+use std::rt;
+use std::time::{Duration, Instant};
+
+/// The most seconds of a wait. There is one before a file is loaded and one before it is saved.
+const MOST_SECONDS: u64 = 10;
+
+/// The most seconds if something that is not ours is in the way: a run of another user may end soon.
+const FEW_SECONDS: u64 = 1;
+
+/// How many milliseconds to sleep before the next try.
+const PAUSE: u64 = 5;
+
+/// The most tries after the first. The sleeps alone add up to `MOST_SECONDS`, and the count bounds the wait if the
+/// clock cannot be read or does not advance.
+pub const MOST_TRIES: u32 = 2000;
+
+/// The most tries after the first if something that is not ours is in the way.
+const FEW_TRIES: u32 = 200;
+
+/// A wait: when it began, and how many tries there were after the first.
+#[derive(Drop)]
+pub struct Deadline {
+    start: Option<Instant>,
+    tries: u32,
+}
+
+impl Deadline {
+    /// Returns a wait that begins now.
+    pub fn new<R: rt::Clock>(looks: &Looks<'_, R>) -> Deadline
+        ensures { result.tries ≡ 0 }
+    {
+        Deadline {
+            start: looks.now(),
+            tries: 0,
+        }
+    }
+
+    // Returns whether that many seconds passed, by the clock. False if the clock cannot be read.
+    fn has_taken<R: rt::Clock>(&self, looks: &Looks<'_, R>, seconds: u64) -> bool {
+        match (self.start, looks.now()) {
+            (Some(start), Some(now)) => now.duration_since(start).as_secs() >= seconds,
+            _ => false,
+        }
+    }
+
+    /// True after 200 tries or a second.
+    pub fn is_short<R: rt::Clock>(&self, looks: &Looks<'_, R>) -> bool {
+        self.tries >= FEW_TRIES || self.has_taken(looks, FEW_SECONDS)
+    }
+
+    /// Returns whether its deadline passed, by the clock.
+    pub fn is_over<R: rt::Clock>(&self, looks: &Looks<'_, R>) -> bool {
+        self.has_taken(looks, MOST_SECONDS)
+    }
+
+    /// Sleeps before the next try, or fails with `InUse` if no try or no time is left.
+    pub fn pause<R: rt::Clock>(&mut self, looks: &Looks<'_, R>) -> Result<(), DiskFault>
+        ensures counted { OnOk result (self.new.tries ≡ self.old.tries + 1) }
+        ensures most { OnOk result (self.new.tries ≤ 2000) }
+    {
+        if self.tries >= MOST_TRIES || self.is_over(looks) {
+            return Err(DiskFault::Failed(Cause::InUse));
+        }
+        self.tries += 1;
+        looks.pause(Duration::from_millis(PAUSE));
+        Ok(())
+    }
+}

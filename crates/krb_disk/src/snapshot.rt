@@ -1,0 +1,95 @@
+//! A snapshot of a held file.
+
+ghost use Rattle.std.specs.Prelude.{◌≡◌, IsTrue, IfOk, IfSome};
+ghost use Rattle.krb_disk.specs.Looks.{IsPlainOrNone};
+ghost use Rattle.krb_disk.specs.Stages.{IsLoaded, snapshot_file};
+
+use crate::fault::DiskFault;
+use crate::looks::same::is_unchanged;
+use crate::looks::{Found, Looks, Opened};
+use crate::read::has_bytes;
+use std::alloc::Allocator;
+use std::fs::OpenFile;
+use std::io::{self, Read};
+use std::rt;
+use wiping::Wiping;
+
+/// A snapshot: what was at a path when it was held or, if it was loaded since, what was loaded. The bytes are cleared
+/// before their memory is freed.
+#[derive(Drop)]
+pub enum Snapshot<A: Allocator> {
+    Nothing,
+    File(Found),
+    Loaded(Found, Vec<u8, Wiping<A>>),
+}
+
+// Returns whether the open file is that file, unchanged, with these bytes.
+fn has_content<F: OpenFile + Read>(
+    opened: &mut Opened<F>,
+    file: &Found,
+    bytes: &[u8],
+) -> io::Result<bool>
+    ensures { IfOk result (λ has. IsTrue has
+        → IfSome (F.remaining opened.old.file) (λ left. left ≡ bytes.now)) }
+{
+    Ok(is_unchanged(file, &opened.tell()?) && has_bytes(opened, bytes)?)
+}
+
+// Returns whether `path` leads to that file, unchanged, with these bytes.
+fn leads_to<R: rt::Files>(
+    looks: &Looks<'_, R>,
+    path: &str,
+    file: &Found,
+    bytes: &[u8],
+) -> io::Result<bool> {
+    match looks.open(path)? {
+        Some(mut opened) => has_content(&mut opened, file, bytes),
+        None => Ok(false),
+    }
+}
+
+impl<A: Allocator> Snapshot<A> {
+    /// Returns a snapshot of what was found, without bytes.
+    pub fn of(found: Option<Found>) -> Snapshot<A>
+        ensures { snapshot_file result ≡ found }
+    {
+        match found {
+            Some(file) => Snapshot::File(file),
+            None => Snapshot::Nothing,
+        }
+    }
+
+    /// Returns a snapshot of a file that was loaded, with a copy of its bytes.
+    pub fn loaded(alloc: A, file: Found, bytes: &[u8]) -> Result<Snapshot<A>, DiskFault>
+        ensures { IfOk result (λ snapshot. IsLoaded file bytes.now snapshot) }
+    {
+        let copy = Vec::from_slice(Wiping::new(alloc), bytes)?;
+        Ok(Snapshot::Loaded(file, copy))
+    }
+
+    /// Returns the file, if there was one.
+    pub fn file(&self) -> Option<Found>
+        ensures { result ≡ snapshot_file self.now }
+    {
+        match self {
+            Snapshot::Nothing => None,
+            Snapshot::File(file) => Some(*file),
+            Snapshot::Loaded(file, _) => Some(*file),
+        }
+    }
+
+    /// Returns whether this is still what is at `path`: nothing, or the same plain file. A symbolic link does not count
+    /// as the file that it leads to.
+    pub fn is_at<R: rt::Files>(&self, looks: &Looks<'_, R>, path: &str) -> Result<bool, DiskFault>
+        ensures { IfOk result (λ is. IsTrue is → IsPlainOrNone (snapshot_file self.now)) }
+    {
+        match (self, looks.look(path)?) {
+            (Snapshot::Nothing, None) => Ok(true),
+            (Snapshot::File(file), Some(found)) => Ok(file.is_file() && is_unchanged(file, &found)),
+            (Snapshot::Loaded(file, bytes), Some(found)) => Ok(
+                file.is_file() && is_unchanged(file, &found) && leads_to(looks, path, file, bytes)?,
+            ),
+            _ => Ok(false),
+        }
+    }
+}

@@ -1,8 +1,0 @@
-use Rattle.std.proofs.Common.{◌++◌, take}
-use Rattle.std.specs.List.{flat_map}
-use Rattle.krb_text.specs.Gathered.{Sent}
-use Rattle.krb_driver.specs.Words.{fault_words}
-use Rattle.krb_driver.proofs.telling.told_words.add_faults.Given as goal
-
-abbrev pub invariant-faults : goal.invariant-faults
-invariant-faults g l = Sent l.initial.err.contents l.err.contents (l.initial.gathered.items ++ flat_map fault_words (take l.kind-index l.faults)) l.gathered.items

@@ -1,0 +1,107 @@
+-- The errors that end a run: where they come from, their messages, and the exit status.
+use Rattle.std.specs.Prelude.{ℕ, List, [], Result, Ok, Err, codes}
+use Rattle.krb_walk.specs.Numbers.{code_number}
+use Rattle.krb_keytab.specs.Open.{open_fault_number}
+use Rattle.krb_ccache.specs.Open.{open_fault_number as cache_fault_number}
+use Rattle.krb_files.specs.declared.files.LoadFault.{LoadFault}
+use Rattle.krb_files.specs.declared.files.LoadFault.TheVariants as load
+use Rattle.krb_files.specs.declared.files.SaveFault.{SaveFault}
+use Rattle.krb_files.specs.declared.files.SaveFault.TheVariants as save
+use Rattle.krb_files.specs.declared.output.OutFault.{OutFault}
+use Rattle.krb_files.specs.declared.output.OutFault.TheVariants as out
+use Rattle.krb_text.specs.declared.script.ScriptRefusal.{ScriptRefusal}
+use Rattle.krb_text.specs.declared.script.ScriptRefusal.TheVariants as refusal
+use Rattle.krb_text.specs.LineFault.{line_fault_number}
+use Rattle.krb_driver.specs.declared.loading.NoKeytab.{NoKeytab}
+use Rattle.krb_driver.specs.declared.loading.NoKeytab.TheVariants.{Load, Open}
+use Rattle.krb_driver.specs.declared.error.RunError.{RunError}
+use Rattle.krb_driver.specs.declared.error.RunError.TheVariants as error
+use Rattle.krb_driver.specs.declared.verdict.Verdict.{Verdict}
+use Rattle.krb_driver.specs.Messages.{message, file_message, file_number_message, line_message}
+use Rattle.krb_driver.specs.Verdicts.{verdict_message, verdict_status}
+
+-- ---- where it comes from
+
+-- the error for an input that was not read; a reader is never missing
+abbrev pub input_error : LoadFault → RunError
+input_error load.TooLarge = error.InputTooLarge
+input_error load.NoMemory = error.NoMemory
+input_error other = error.InputNotRead
+
+-- the error for a script that was not read
+abbrev pub script_error : ScriptRefusal → RunError
+script_error (refusal.Fault line kind) = error.FaultyLine line kind
+script_error refusal.NoMemory = error.NoMemory
+
+-- the error for a file that was not loaded
+abbrev pub load_error : LoadFault → RunError
+load_error load.Missing = error.NoSuchFile
+load_error load.TooLarge = error.FileTooLarge
+load_error load.Failed = error.FileNotRead
+load_error load.NoMemory = error.NoMemory
+
+-- the error for a file that gave no keytab
+abbrev pub no_keytab_error : NoKeytab → RunError
+no_keytab_error (Load fault) = load_error fault
+no_keytab_error (Open why) = error.NotAKeytab why
+
+-- the error for a file to list that gave no keytab
+abbrev pub list_error : NoKeytab → RunError
+list_error (Load fault) = load_error fault
+list_error (Open why) = error.NotAKeytabToList why
+
+-- the error for a file that was not saved
+abbrev pub save_error : SaveFault → RunError
+save_error save.Failed = error.FileNotWritten
+save_error save.NoMemory = error.NoMemory
+
+-- the error for a text that was not written
+abbrev pub output_error : OutFault → RunError
+output_error out.Write = error.OutputNotWritten
+output_error out.NoMemory = error.NoMemory
+
+-- ---- what is said of it
+
+-- the message for an error of a run over that file
+abbrev pub error_message : List ℕ → RunError → List ℕ
+error_message file error.InputTooLarge = message (codes "input too large")
+error_message file error.InputNotRead = message (codes "cannot read input")
+error_message file (error.FaultyLine line fault) = line_message line (codes "fault ") (line_fault_number fault)
+error_message file (error.LineRefused line code) = line_message line (codes "refused ") (code_number code)
+error_message file error.NoSuchFile = file_message file (codes "no such file")
+error_message file error.FileTooLarge = file_message file (codes "file too large")
+error_message file error.FileNotRead = file_message file (codes "cannot read")
+error_message file error.FileNotWritten = file_message file (codes "cannot write")
+error_message file (error.NotAKeytab why) = file_number_message file (codes "not a keytab (") (open_fault_number why.fault) (codes ")")
+error_message file (error.NotAKeytabToList why) = file_number_message file (codes "not a keytab (") (open_fault_number why.fault) (codes ")")
+error_message file (error.NotACache why) = file_number_message file (codes "not a cache (") (cache_fault_number why.fault) (codes ")")
+error_message file (error.Refused code) = file_number_message file (codes "refused ") (code_number code) []
+error_message file error.OutputNotWritten = message (codes "cannot write output")
+error_message file error.ClockNotRead = message (codes "cannot read the clock")
+error_message file error.NoMemory = message (codes "out of memory")
+
+-- the exit status of a run that it ends
+abbrev pub error_status : RunError → ℕ
+error_status error.NoMemory = 4
+error_status error.InputNotRead = 3
+error_status error.FileNotRead = 3
+error_status error.FileNotWritten = 3
+error_status error.OutputNotWritten = 3
+error_status error.ClockNotRead = 3
+error_status other = 1
+
+-- ---- how a run ends
+
+-- a run did its work, or an error ends it
+abbrev pub Ending : Type 0
+Ending = Result Verdict RunError
+
+-- the message for the end of a run
+abbrev pub ending_message : List ℕ → Ending → List ℕ
+ending_message file (Ok verdict) = verdict_message file verdict
+ending_message file (Err error) = error_message file error
+
+-- the exit status of the run
+abbrev pub ending_status : Ending → ℕ
+ending_status (Ok verdict) = verdict_status verdict
+ending_status (Err error) = error_status error

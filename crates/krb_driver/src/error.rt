@@ -1,0 +1,147 @@
+//! The errors that end a run.
+
+ghost use Rattle.std.specs.Prelude.{◌≡◌};
+ghost use Rattle.krb_driver.specs.declared.error.RunError.TheVariants as error;
+ghost use Rattle.krb_driver.specs.RunErrors.{input_error, list_error, load_error, no_keytab_error, output_error, save_error, script_error, error_status};
+
+use crate::loading::{NoKeytab, NotCache, NotKeytab};
+use krb_files::{LoadFault, OutFault, SaveFault};
+use krb_text::{LineFault, ScriptRefusal};
+use krb_walk::Code;
+use krb_wire::NoMemory;
+
+/// An error that ends a run, or a line of ktutil. Line numbers are counted from 1.
+#[derive(Clone, Copy)]
+pub enum RunError {
+    InputTooLarge,
+    InputNotRead,
+    FaultyLine { line: u64, fault: LineFault },
+    /// A keytab refused what a line read from it or added to it.
+    LineRefused { line: u64, code: Code },
+    NoSuchFile,
+    FileTooLarge,
+    FileNotRead,
+    FileNotWritten,
+    NotAKeytab(NotKeytab),
+    /// Of a file that was to be listed as one.
+    NotAKeytabToList(NotKeytab),
+    NotACache(NotCache),
+    /// The file refused what the run was to do.
+    Refused(Code),
+    OutputNotWritten,
+    /// The clock failed, or is before 1970 or after 2106.
+    ClockNotRead,
+    NoMemory,
+}
+
+impl RunError {
+    /// Returns the exit status of a run that it ends: 4 if out of memory, 3 if a call failed, else 1, for what is wrong
+    /// with an input or a file. Of several errors the greatest status counts. (A bad command line has 2.)
+    pub fn status(self) -> u8
+        ensures { result ≡ error_status self }
+    {
+        match self {
+            RunError::NoMemory => 4,
+            RunError::InputNotRead
+            | RunError::FileNotRead
+            | RunError::FileNotWritten
+            | RunError::OutputNotWritten
+            | RunError::ClockNotRead => 3,
+            _ => 1,
+        }
+    }
+
+    /// Returns the error for a file to list that gave no keytab.
+    pub fn of_listed(why: NoKeytab) -> RunError
+        ensures { result ≡ list_error why }
+    {
+        match why {
+            NoKeytab::Load(fault) => RunError::from(fault),
+            NoKeytab::Open(why) => RunError::NotAKeytabToList(why),
+        }
+    }
+
+    /// Returns the error for an input that was not read.
+    pub fn of_input(fault: LoadFault) -> RunError
+        ensures { result ≡ input_error fault }
+    {
+        match fault {
+            LoadFault::TooLarge => RunError::InputTooLarge,
+            LoadFault::NoMemory => RunError::NoMemory,
+            LoadFault::Missing | LoadFault::Failed => RunError::InputNotRead,
+        }
+    }
+}
+
+impl From<ScriptRefusal> for RunError {
+    ghost from_gives = { λ refusal given. given ≡ script_error refusal };
+
+    fn from(refusal: ScriptRefusal) -> RunError {
+        match refusal {
+            ScriptRefusal::Fault { line, kind } => RunError::FaultyLine { line, fault: kind },
+            ScriptRefusal::NoMemory => RunError::NoMemory,
+        }
+    }
+}
+
+impl From<LoadFault> for RunError {
+    ghost from_gives = { λ fault given. given ≡ load_error fault };
+
+    fn from(fault: LoadFault) -> RunError {
+        match fault {
+            LoadFault::Missing => RunError::NoSuchFile,
+            LoadFault::TooLarge => RunError::FileTooLarge,
+            LoadFault::Failed => RunError::FileNotRead,
+            LoadFault::NoMemory => RunError::NoMemory,
+        }
+    }
+}
+
+impl From<NoKeytab> for RunError {
+    ghost from_gives = { λ why given. given ≡ no_keytab_error why };
+
+    fn from(why: NoKeytab) -> RunError {
+        match why {
+            NoKeytab::Load(fault) => RunError::from(fault),
+            NoKeytab::Open(why) => RunError::NotAKeytab(why),
+        }
+    }
+}
+
+impl From<SaveFault> for RunError {
+    ghost from_gives = { λ fault given. given ≡ save_error fault };
+
+    fn from(fault: SaveFault) -> RunError {
+        match fault {
+            SaveFault::Failed => RunError::FileNotWritten,
+            SaveFault::NoMemory => RunError::NoMemory,
+        }
+    }
+}
+
+impl From<OutFault> for RunError {
+    ghost from_gives = { λ fault given. given ≡ output_error fault };
+
+    fn from(fault: OutFault) -> RunError {
+        match fault {
+            OutFault::Write => RunError::OutputNotWritten,
+            OutFault::NoMemory => RunError::NoMemory,
+        }
+    }
+}
+
+impl From<Code> for RunError {
+    ghost from_gives = { λ code given. given ≡ error.Refused code };
+
+    fn from(code: Code) -> RunError {
+        RunError::Refused(code)
+    }
+}
+
+impl From<NoMemory> for RunError {
+    ghost from_gives = { λ _ given. given ≡ error.NoMemory };
+
+    fn from(_refused: NoMemory) -> RunError {
+        RunError::NoMemory
+    }
+}

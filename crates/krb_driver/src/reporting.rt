@@ -1,0 +1,229 @@
+//! What a run prints, and how its end is reported.
+
+pub(crate) mod error_output;
+mod found_words;
+mod mistake_words;
+mod piece;
+mod writing;
+pub(crate) mod reported;
+mod reported_words;
+mod words;
+
+ghost use Rattle.std.specs.Prelude.{◌≡◌, IsFalse, codes};
+ghost use Rattle.krb_keytab.specs.Open.{open_fault_number};
+ghost use Rattle.krb_driver.specs.Messages.{file_message, file_number_message, line_message, message};
+ghost use Rattle.krb_driver.specs.PieceTexts.{pieces_text};
+ghost use Rattle.krb_driver.specs.Runs.{Writes, ReportsEnd, Shows, Reports};
+ghost use Rattle.krb_driver.specs.RunErrors.{ending_message, error_message};
+ghost use Rattle.krb_driver.specs.Verdicts.{verdict_message};
+ghost use Rattle.krb_driver.specs.Words.{ending_text};
+
+use crate::loading::NotKeytab;
+use crate::reporting::error_output::ErrorOutput;
+use crate::reporting::found_words::report_findings;
+use crate::reporting::piece::Piece;
+use crate::reporting::writing::write_pieces;
+use crate::reporting::reported_words::report_replies;
+use crate::reporting::words::ending_words;
+use crate::error::RunError;
+use crate::verdict::Verdict;
+use krb_files::{Cause, Files, Watched, put};
+use krb_walk::Code;
+pub use mistake_words::report_word_fault;
+use std::io::Write;
+
+/// Prints a text and returns `ending`, or the error of the output if that failed.
+pub fn show<W: Write>(
+    text: &[u8],
+    ending: Result<Verdict, RunError>,
+    out: &mut Watched<W>,
+) -> Result<Verdict, RunError>
+    requires { IsFalse out.old.failed }
+    ensures { Shows (record { out = text.now; ending = ending }) out.old out.new result }
+{
+    put(out, text)?;
+    ending
+}
+
+/// The pieces of a message. Unused ones are empty.
+type Message<'a> = [Piece<'a>; 7];
+
+const NONE: Piece<'static> = Piece::Text("");
+
+// Returns the message `krbfile: WHAT`.
+fn message<'a>(what: &'a str) -> Message<'a>
+    ensures { pieces_text result ≡ message what.now }
+{
+    let head = Piece::Text("krbfile: ");
+    let end = Piece::Text("\n");
+    [head, Piece::Text(what), end, NONE, NONE, NONE, NONE]
+}
+
+// Returns the message `krbfile: FILE: WHAT`.
+fn file_message<'a>(file: &'a [u8], what: &'a str) -> Message<'a>
+    ensures { pieces_text result ≡ file_message file.now what.now }
+{
+    [
+        Piece::Text("krbfile: "),
+        Piece::Name(file),
+        Piece::Text(": "),
+        Piece::Text(what),
+        Piece::Text("\n"),
+        NONE,
+        NONE,
+    ]
+}
+
+// Returns the message for a file with a number between two texts.
+fn file_number_message<'a>(
+    file: &'a [u8],
+    before: &'a str,
+    number: u32,
+    after: &'a str,
+) -> Message<'a>
+    ensures { pieces_text result ≡ file_number_message file.now before.now number after.now }
+{
+    [
+        Piece::Text("krbfile: "),
+        Piece::Name(file),
+        Piece::Text(": "),
+        Piece::Text(before),
+        Piece::Number(u64::from(number)),
+        Piece::Text(after),
+        Piece::Text("\n"),
+    ]
+}
+
+// Returns the message for a line of the input, with a number at its end.
+fn line_message<'a>(line: u64, what: &'a str, number: u32) -> Message<'a>
+    ensures { pieces_text result ≡ line_message line what.now number }
+{
+    [
+        Piece::Text("krbfile: line "),
+        Piece::Number(line),
+        Piece::Text(": "),
+        Piece::Text(what),
+        Piece::Number(u64::from(number)),
+        Piece::Text("\n"),
+        NONE,
+    ]
+}
+
+// Returns the message for a file that is not a keytab.
+fn not_keytab_message(file: &[u8], why: NotKeytab) -> Message<'_>
+    ensures { pieces_text result ≡ file_number_message file.now
+        (codes "not a keytab (") (open_fault_number why.fault) (codes ")") }
+{
+    file_number_message(file, "not a keytab (", why.fault.number(), ")")
+}
+
+// Returns the message for an error that ended a run.
+fn error_message(error: RunError, file: &[u8]) -> Message<'_>
+    ensures { pieces_text result ≡ error_message file.now error }
+{
+    match error {
+        RunError::InputTooLarge => message("input too large"),
+        RunError::InputNotRead => message("cannot read input"),
+        RunError::FaultyLine { line, fault } => line_message(line, "fault ", fault.number()),
+        RunError::LineRefused { line, code } => line_message(line, "refused ", code.number()),
+        RunError::NoSuchFile => file_message(file, "no such file"),
+        RunError::FileTooLarge => file_message(file, "file too large"),
+        RunError::FileNotRead => file_message(file, "cannot read"),
+        RunError::FileNotWritten => file_message(file, "cannot write"),
+        RunError::NotAKeytab(why) => not_keytab_message(file, why),
+        RunError::NotAKeytabToList(why) => not_keytab_message(file, why),
+        RunError::NotACache(why) => {
+            file_number_message(file, "not a cache (", why.fault.number(), ")")
+        }
+        RunError::Refused(code) => file_number_message(file, "refused ", code.number(), ""),
+        RunError::OutputNotWritten => message("cannot write output"),
+        RunError::ClockNotRead => message("cannot read the clock"),
+        RunError::NoMemory => message("out of memory"),
+    }
+}
+
+// Returns the message of a run that did its work.
+fn verdict_message(verdict: Verdict, file: &[u8]) -> Message<'_>
+    ensures { pieces_text result ≡ verdict_message file.now verdict }
+{
+    match verdict {
+        Verdict::NothingToRemove(_) => {
+            file_number_message(file, "refused ", Code::NotFound.number(), "")
+        }
+        _ => [NONE; 7],
+    }
+}
+
+// Returns the message for the end of a run.
+fn ending_message(ending: Result<Verdict, RunError>, file: &[u8]) -> Message<'_>
+    ensures { pieces_text result ≡ ending_message file.now ending }
+{
+    match ending {
+        Ok(verdict) => verdict_message(verdict, file),
+        Err(error) => error_message(error, file),
+    }
+}
+
+/// Returns what the run's failed call failed with: the last failed write of `out` if it was that, else of `files`.
+pub fn cause_of<F: Files, W: Write>(
+    ending: &Result<Verdict, RunError>,
+    files: &F,
+    out: &Watched<W>,
+) -> Option<Cause> {
+    match ending {
+        Err(RunError::OutputNotWritten) => out.cause(),
+        _ => files.cause(),
+    }
+}
+
+// Reports how a run ended, with the explaining words if `err` explains.
+fn report_end<E: Write>(
+    ending: Result<Verdict, RunError>,
+    file: &[u8],
+    line: Option<u64>,
+    cause: Option<Cause>,
+    err: &mut ErrorOutput<E>,
+)
+    ensures reports { ReportsEnd file.now line ending err.old err.new }
+    ensures cause { Writes err.old.to err.new.to (ending_text err.old.explains file.now line cause ending) }
+{
+    let message = ending_message(ending, file);
+    if !err.explains {
+        write_pieces(&mut err.to, &message, &[]);
+        return;
+    }
+    match ending {
+        Ok(Verdict::Replied(reported)) => report_replies(&mut err.to, &reported),
+        Ok(Verdict::Found(findings)) => report_findings(&mut err.to, &findings, file),
+        _ => write_pieces(
+            &mut err.to,
+            &message,
+            &ending_words(ending, file, line, cause),
+        ),
+    }
+}
+
+/// Reports on `err` how a run over `file`, or line `line` of ktutil, ended, and returns the exit status. `cause` is
+/// that of the call that failed, if one did. Ignores a failure of `err`.
+pub fn report<E: Write>(
+    ending: Result<Verdict, RunError>,
+    file: &[u8],
+    line: Option<u64>,
+    cause: Option<Cause>,
+    err: &mut ErrorOutput<E>,
+) -> u8
+    ensures reports { Reports file.now line ending err.old err.new result }
+    ensures cause { Writes err.old.to err.new.to (ending_text err.old.explains file.now line cause ending) }
+{
+    match ending {
+        Ok(Verdict::Well) => 0,
+        Ok(verdict) => {
+            report_end(ending, file, line, cause, err);
+            verdict.status()
+        }
+        Err(error) => {
+            report_end(ending, file, line, cause, err);
+            error.status()
+        }
+    }
+}

@@ -1,0 +1,146 @@
+//! The messages for a command line that was not read.
+
+ghost use Rattle.std.specs.Prelude.{◌≡◌, ℕ, List, [], ◌++◌, codes, option_map};
+ghost use Rattle.krb_driver.specs.Messages.{message};
+ghost use Rattle.krb_driver.specs.Mistakes.{help_of, mistake_head, mistake_line, mistake_parts, mistake_words, quoted, word_status, word_text};
+ghost use Rattle.krb_driver.specs.PieceTexts.{pieces_before, pieces_text, shown_word};
+ghost use Rattle.krb_driver.specs.Runs.{Writes};
+
+use crate::command_line::mistake::{BadLine, Mistake, WordFault};
+use crate::reporting::error_output::ErrorOutput;
+use crate::reporting::piece::Piece;
+use crate::reporting::writing::write_pieces;
+use krb_files::Watched;
+use std::io::Write;
+
+const NONE: Piece<'static> = Piece::Text("");
+
+const HEAD: Piece<'static> = Piece::Text("krbfile: bad command line\nkrbfile: ");
+
+/// The pieces of the message for a bad command line. Unused ones are empty.
+type Line<'a> = [Piece<'a>; 5];
+
+// A text alone.
+fn alone<'a>(text: &'static str) -> Line<'a>
+    ensures { (rest : List ℕ) → pieces_before result rest ≡ mistake_head ++ (text.now ++ rest) }
+{
+    [HEAD, Piece::Text(text), NONE, NONE, NONE]
+}
+
+// A text, and a word after it.
+fn before<'a>(text: &'static str, word: &'a str) -> Line<'a>
+    ensures { (rest : List ℕ) → pieces_before result rest
+        ≡ mistake_head ++ (text.now ++ (shown_word word.now ++ rest)) }
+{
+    [HEAD, Piece::Text(text), Piece::Word(word), NONE, NONE]
+}
+
+// A word, and a text after it.
+fn after<'a>(word: &'a str, text: &'static str) -> Line<'a>
+    ensures { (rest : List ℕ) → pieces_before result rest
+        ≡ mistake_head ++ (shown_word word.now ++ (text.now ++ rest)) }
+{
+    [HEAD, Piece::Word(word), Piece::Text(text), NONE, NONE]
+}
+
+// A word in quotes, and what is wrong with it, in two texts.
+fn quoted<'a>(word: &'a str, verb: &'static str, what: &'static str) -> Line<'a>
+    ensures { (rest : List ℕ) → pieces_before result rest
+        ≡ mistake_head ++ quoted word.now verb.now (what.now ++ rest) }
+{
+    [
+        HEAD,
+        Piece::Text("\""),
+        Piece::Word(word),
+        Piece::Text(verb),
+        Piece::Text(what),
+    ]
+}
+
+// Two options that do not go together.
+fn apart<'a>(option: &'a str, other: &'a str) -> Line<'a>
+    ensures { (rest : List ℕ) → pieces_before result rest
+        ≡ mistake_head ++ (shown_word option.now ++ (codes " does not go with " ++ (shown_word other.now ++ rest))) }
+{
+    [
+        HEAD,
+        Piece::Word(option),
+        Piece::Text(" does not go with "),
+        Piece::Word(other),
+        NONE,
+    ]
+}
+
+// Returns the message for a mistake.
+fn mistake_pieces(mistake: Mistake<'_>) -> Line<'_>
+    ensures { (rest : List ℕ) → pieces_before result rest
+        ≡ mistake_head ++ mistake_line (mistake_parts mistake.entry) rest }
+{
+    match mistake {
+        Mistake::NoCommand => alone("no command"),
+        Mistake::UnknownCommand(name) => before("unknown command ", name),
+        Mistake::UnknownOption(option) => before("unknown option ", option),
+        Mistake::UnknownLetter(letter) => before("unknown option -", letter),
+        Mistake::Missing(operand) => before("no ", operand),
+        Mistake::LeftOver(word) => before("left over: ", word),
+        Mistake::NeedsValue(option) => after(option, " needs a value"),
+        Mistake::Twice(option) => after(option, " is given twice"),
+        Mistake::DoNotGoTogether(option, other) => apart(option, other),
+        Mistake::ForKeytabs(option) => after(option, " is for keytabs; give -k"),
+        Mistake::NoVersion(kvno) => quoted(kvno, "\" is no ", "version"),
+        Mistake::NoEtype(etype) => quoted(etype, "\" is no ", "encryption type"),
+        Mistake::BadName(name, fault) => quoted(name, "\" has ", fault.phrase()),
+        Mistake::NothingSelects(options) => before("nothing selects; give ", options),
+        Mistake::LateExplain => alone("--explain stands before the command"),
+        Mistake::NotText => alone("an argument is not UTF-8"),
+    }
+}
+
+// Returns the reference to the help: krbfile's, or a command's.
+fn help_pieces(command: Option<&str>) -> [Piece<'_>; 3]
+    ensures { pieces_text result ≡ help_of (option_map (λ name. name.now) command.entry) }
+{
+    let end = Piece::Text(" --help\n");
+    match command {
+        None => [Piece::Text("; see krbfile"), NONE, end],
+        Some(command) => [Piece::Text("; see krbfile "), Piece::Text(command), end],
+    }
+}
+
+// Reports that a command line is bad, what is wrong with it, and which help to see.
+fn report_mistake<E: Write>(line: BadLine<'_>, err: &mut Watched<E>)
+    ensures { Writes err.old err.new (message (codes "bad command line")
+        ++ mistake_words line.entry.mistake (option_map (λ name. name.now) line.entry.command)) }
+{
+    let mistake = mistake_pieces(line.mistake);
+    write_pieces(err, &mistake, &help_pieces(line.command));
+}
+
+// Writes a message without words.
+fn report_text<E: Write>(text: &'static str, err: &mut Watched<E>)
+    ensures { Writes err.old err.new (text.now ++ []) }
+{
+    write_pieces(err, &[Piece::Text(text)], &[]);
+}
+
+/// Reports on `err` why words were not read, and returns the exit status. Ignores a failure of `err`.
+pub fn report_word_fault<E: Write>(fault: WordFault<'_>, err: &mut ErrorOutput<E>) -> u8
+    ensures said { Writes err.old.to err.new.to (word_text err.old.explains fault.entry) }
+    ensures still { err.new.explains ≡ err.old.explains }
+    ensures status { result ≡ word_status fault.entry }
+{
+    match fault {
+        WordFault::NoMemory => {
+            report_text("krbfile: out of memory\n", &mut err.to);
+            return 4;
+        }
+        WordFault::BadLine(line) => {
+            if err.explains {
+                report_mistake(line, &mut err.to);
+                return 2;
+            }
+        }
+    }
+    report_text("krbfile: bad command line\n", &mut err.to);
+    2
+}

@@ -1,0 +1,249 @@
+//! The words that explain what ended a run.
+
+ghost use Rattle.std.specs.Prelude.{◌≡◌, [], ◌++◌, IfOk, IsFalse, codes};
+ghost use Rattle.krb_driver.specs.Messages.{phrase_line, words_line};
+ghost use Rattle.krb_driver.specs.PieceTexts.{piece_text, pieces_text};
+ghost use Rattle.krb_driver.specs.Verdicts.{is_itemized};
+ghost use Rattle.krb_driver.specs.Words.{cache_phrase, cause_words, ending_words, keytab_phrase, line_fault_phrase, list_phrase, listed_words, missing_words, no_cache_phrase, no_keytab_phrase, nothing_phrase, refusal_phrase, error_words, verdict_words};
+
+use crate::loading::{NotCache, NotKeytab};
+use crate::reporting::piece::Piece;
+use crate::error::RunError;
+use crate::verdict::{FileKind, Verdict};
+use krb_ccache::CcOpenFault;
+use krb_files::Cause;
+use krb_keytab::KtOpenFault;
+use krb_text::LineFault;
+use krb_walk::{Code, Fault};
+
+/// The pieces of words. Unused ones are empty.
+pub type Words<'a> = [Piece<'a>; 9];
+
+const NONE: Piece<'static> = Piece::Text("");
+
+const TOO_LARGE: &str = "it has more than 16,777,216 bytes";
+
+// Returns words of two pieces, after the line number if they are for a line of ktutil.
+fn words<'a>(line: Option<u64>, first: Piece<'a>, second: Piece<'a>) -> Words<'a>
+    ensures { pieces_text result ≡ words_line line
+        (piece_text first.entry ++ (piece_text second.entry ++ codes "\n")) }
+{
+    let end = Piece::Text("\n");
+    match line {
+        None => {
+            let head = Piece::Text("krbfile: ");
+            [head, first, second, end, NONE, NONE, NONE, NONE, NONE]
+        }
+        Some(line) => {
+            let head = Piece::Text("krbfile: line ");
+            let number = Piece::Number(line);
+            let colon = Piece::Text(": ");
+            [head, number, colon, first, second, end, NONE, NONE, NONE]
+        }
+    }
+}
+
+/// Returns no words.
+pub fn no_words<'a>() -> Words<'a>
+    ensures { pieces_text result ≡ [] }
+{
+    let none = Piece::Text("");
+    [none; 9]
+}
+
+// Returns words that are one phrase.
+fn phrase<'a>(line: Option<u64>, text: &'static str) -> Words<'a>
+    ensures { pieces_text result ≡ phrase_line line text.now }
+{
+    words(line, Piece::Text(text), Piece::Text(""))
+}
+
+// Returns the phrase for a refusal by a keytab.
+fn keytab_phrase(code: Code) -> &'static str
+    ensures { result.now ≡ keytab_phrase code }
+{
+    match code {
+        Code::Full => "the file would be longer than 16,777,216 bytes",
+        Code::NotAPlace => "no record, hole or end stands at this place",
+        Code::NotLive => "no entry stands at this place",
+        code => code.phrase(),
+    }
+}
+
+// Returns the phrase for a refusal by a cache.
+fn cache_phrase(code: Code) -> &'static str
+    ensures { result.now ≡ cache_phrase code }
+{
+    match code {
+        Code::NotAPlace => "no credential or end stands at this place",
+        Code::NotLive => "no ticket or configuration entry stands at this place",
+        code => keytab_phrase(code),
+    }
+}
+
+/// Returns the phrase for a refusal by a keytab or a cache.
+pub fn refusal_phrase(kind: FileKind, code: Code) -> &'static str
+    ensures { result.now ≡ refusal_phrase kind code }
+{
+    match kind {
+        FileKind::Keytab => keytab_phrase(code),
+        FileKind::Cache => cache_phrase(code),
+    }
+}
+
+// Returns why nothing was removed from a file.
+fn nothing_phrase(kind: FileKind) -> &'static str
+    ensures { result.now ≡ nothing_phrase kind }
+{
+    match kind {
+        FileKind::Keytab => "no entry has what was asked for",
+        FileKind::Cache => "no ticket has what was asked for",
+    }
+}
+
+// Returns why an image is not a keytab.
+fn no_keytab_phrase(why: NotKeytab) -> &'static str
+    ensures { result.now ≡ no_keytab_phrase why.fault why.is_cache }
+{
+    match (why.fault, why.is_cache) {
+        (KtOpenFault::BadVersion, true) => "it begins as a credential cache",
+        (fault, _) => fault.phrase(),
+    }
+}
+
+// Like `no_keytab_phrase`, for a file that is listed as a keytab.
+fn list_phrase(why: NotKeytab) -> &'static str
+    ensures { result.now ≡ list_phrase why.fault why.is_cache }
+{
+    match (why.fault, why.is_cache) {
+        (KtOpenFault::BadVersion, true) => "it begins as a credential cache; list it without -k",
+        _ => no_keytab_phrase(why),
+    }
+}
+
+// Returns why an image is not a cache.
+fn no_cache_phrase(why: NotCache) -> &'static str
+    ensures { result.now ≡ no_cache_phrase why.fault why.is_keytab }
+{
+    match (why.fault, why.is_keytab) {
+        (CcOpenFault::BadVersion, true) => {
+            "it begins as a keytab, or as a cache of version 1 or 2 (not read)"
+        }
+        (fault, _) => fault.phrase(),
+    }
+}
+
+// Returns what is wrong with a line of a script, or of ktutil (if `line` is given).
+fn line_fault_phrase(line: Option<u64>, fault: LineFault) -> &'static str
+    ensures { result.now ≡ line_fault_phrase line fault }
+{
+    match line {
+        None => fault.phrase(),
+        Some(_) => fault.ktutil_phrase(),
+    }
+}
+
+// Returns the words for a missing file: only ktutil has some.
+fn missing_words<'a>(line: Option<u64>) -> Words<'a>
+    ensures { pieces_text result ≡ missing_words line }
+{
+    match line {
+        None => no_words(),
+        Some(_) => phrase(line, "no such file"),
+    }
+}
+
+// Returns the words for the cause of a failed call, if it is known.
+fn cause_words(file: &[u8], line: Option<u64>, cause: Option<Cause>) -> Words<'_>
+    ensures { pieces_text result ≡ cause_words file.now line cause }
+{
+    match cause {
+        None => no_words(),
+        Some(Cause::InTheWay) => words(
+            line,
+            Piece::Name(file),
+            Piece::Text(".krbfile is in the way"),
+        ),
+        Some(Cause::System(number)) => words(
+            line,
+            Piece::Text("error "),
+            Piece::Number(u64::from(number.unsigned_abs())),
+        ),
+        Some(cause) => phrase(line, cause.phrase()),
+    }
+}
+
+/// Returns the words for the fault that a listing reports, with the file's name and the fault's phrase.
+pub fn listed_words(file: &[u8], fault: Fault) -> Words<'_>
+    ensures { pieces_text result ≡ listed_words file.now fault }
+{
+    [
+        Piece::Text("krbfile: "),
+        Piece::Name(file),
+        Piece::Text(": fault "),
+        Piece::Number(u64::from(fault.kind.number())),
+        Piece::Text(" at "),
+        Piece::Number(u64::from(fault.place)),
+        Piece::Text("\nkrbfile: "),
+        Piece::Text(fault.kind.phrase()),
+        Piece::Text("\n"),
+    ]
+}
+
+// Returns the words that explain an error of a run over `file`, or of line `line` of ktutil.
+fn error_words(
+    error: RunError,
+    file: &[u8],
+    line: Option<u64>,
+    cause: Option<Cause>,
+) -> Words<'_>
+    ensures { pieces_text result ≡ error_words file.now line cause error }
+{
+    match error {
+        RunError::InputTooLarge | RunError::FileTooLarge => phrase(line, TOO_LARGE),
+        RunError::FaultyLine { fault, .. } => phrase(line, line_fault_phrase(line, fault)),
+        RunError::LineRefused { code, .. } | RunError::Refused(code) => {
+            phrase(line, keytab_phrase(code))
+        }
+        RunError::NoSuchFile => missing_words(line),
+        RunError::InputNotRead
+        | RunError::FileNotRead
+        | RunError::FileNotWritten
+        | RunError::OutputNotWritten => cause_words(file, line, cause),
+        RunError::NotAKeytab(why) => phrase(line, no_keytab_phrase(why)),
+        RunError::NotAKeytabToList(why) => phrase(line, list_phrase(why)),
+        RunError::NotACache(why) => phrase(line, no_cache_phrase(why)),
+        RunError::ClockNotRead => phrase(line, "the clock is before 1970 or after 2106, or failed"),
+        RunError::NoMemory => no_words(),
+    }
+}
+
+// Returns the words that explain a verdict other than replies and findings, which have more words than these.
+fn verdict_words(verdict: Verdict, file: &[u8], line: Option<u64>) -> Words<'_>
+    requires { IsFalse (is_itemized verdict) }
+    ensures { pieces_text result ≡ verdict_words file.now line verdict }
+{
+    match verdict {
+        Verdict::Well => no_words(),
+        Verdict::NothingToRemove(kind) => phrase(line, nothing_phrase(kind)),
+        Verdict::Listed(fault) => listed_words(file, fault),
+        Verdict::Replied(_) | Verdict::Found(_) => unreachable!(),
+    }
+}
+
+/// Returns the words that explain the end of a run over `file`, or of line `line` of ktutil. Not for replies and
+/// findings, which have more words than these.
+pub fn ending_words(
+    ending: Result<Verdict, RunError>,
+    file: &[u8],
+    line: Option<u64>,
+    cause: Option<Cause>,
+) -> Words<'_>
+    requires { IfOk ending (λ verdict. IsFalse (is_itemized verdict)) }
+    ensures { pieces_text result ≡ ending_words file.now line cause ending }
+{
+    match ending {
+        Ok(verdict) => verdict_words(verdict, file, line),
+        Err(error) => error_words(error, file, line, cause),
+    }
+}
