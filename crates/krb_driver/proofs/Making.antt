@@ -97,8 +97,8 @@ gives-unless trait old file gives refusal given new o = record {
 }
 
 -- a file was held, or not
-pub makes-holds : {F : Type 0} (trait : Ghosts F) (old new : F) (held : Bool) (file : List ℕ) → HeldIf trait held old new → HoldsIf trait old held file new
-makes-holds trait old new held file holds = λ plan effect end made. record { answers = made.answers; loads = inr (new, (holds, made.loads)); made = made.made }
+pub makes_holds : {F : Type 0} (trait : Ghosts F) (old new : F) (held : Bool) (file : List ℕ) → HeldIf trait held old new → HoldsIf trait old held file new
+makes_holds trait old new held file holds = λ plan effect end made. record { answers = made.answers; loads = inr (new, (holds, made.loads)); made = made.made }
 
 -- what was made without a load
 pub makes-end : {F : Type 0} (trait : Ghosts F) (old : F) (due effect : Effect) → IsMade due effect → Makes trait old (Ends due) effect old
@@ -141,5 +141,6 @@ fairly-failed trait old file gives then_ Fair name why new o = record {
 }
 
 pub fairly-holds : {F : Type 0} (trait : Ghosts F) (old new end : F) (held : Bool) (file : List ℕ) (plan : CommandPlan) (Fairly : List Answer → Type 0) (effect : Effect) → HeldIf trait held old new → MakesFairly trait new plan Fairly effect end → MakesFairly trait old (Holds held file plan) Fairly effect end
+unfolding makes_holds
 fairly-holds trait old new end held file plan Fairly effect holds made =
-    record { makes = makes-holds trait old new held file holds plan effect end made.makes; fair = made.fair }
+    record { makes = makes_holds trait old new held file holds plan effect end made.makes; fair = made.fair }

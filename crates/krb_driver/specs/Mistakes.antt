@@ -1,6 +1,6 @@
 -- The messages for a command line that was not read.
 use Rattle.std.specs.Borrow.{Bor}
-use Rattle.std.specs.Prelude.{◌≡◌, ℕ, List, [], ◌++◌, Bool, Option, None, Some, option_map, codes, Result, Ok, Err}
+use Rattle.std.specs.Prelude.{◌≡◌, ℕ, List, ◌++◌, Bool, Option, None, Some, option_map, codes, Result, Ok, Err}
 use Rattle.krb_wire.specs.declared.name_fault.NameFault.{NameFault}
 use Rattle.krb_wire.specs.NameOf.{name_fault_phrase}
 use Rattle.krb_driver.specs.declared.command_line.mistake.Mistake.{Mistake}

@@ -121,7 +121,7 @@ pub trait Command<A: Allocator + Copy> {
 }
 
 /// Holds the file of that name if `held`.
-#[tactic(auto, using(crate::proofs::Making::makes-holds))]
+#[tactic(auto, using(crate::proofs::Making::makes_holds))]
 pub fn hold_if<F: Files>(held: bool, files: &mut F, file: &str)
     ensures held { HeldIf F.Files held files.old files.new }
     ensures plans { HoldsIf F.Files files.old held file.now files.new }

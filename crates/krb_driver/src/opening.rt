@@ -1,7 +1,6 @@
 //! Opens the keytab or the cache of a file for a command. Each error names the file.
 
-ghost use Rattle.std.specs.Prelude.{◌≡◌, if◌then◌else◌, is_some};
-ghost use Rattle.krb_walk.specs.Store.{fault_of};
+ghost use Rattle.std.specs.Prelude.{◌≡◌, is_some};
 ghost use Rattle.krb_driver.specs.declared.error.RunError.TheVariants.{Refused};
 ghost use Rattle.krb_driver.specs.Commands.{GivesOf, Opens, opened};
 ghost use Rattle.krb_driver.specs.Loading.{cache_of};

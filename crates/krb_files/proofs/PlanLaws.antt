@@ -144,7 +144,7 @@ module _ {F R : Type 0} (trait : Ghosts F) (faults : Faults R) where
   pub comes : (plan : Plan R) (before : FileMap) (old : F) (answers : List Answer) (new : F) → trait.is_honest old → SameFiles before (trait.file old) → Loaded trait plan old answers new
       → Comes (follow before plan) old new (by faults plan answers)
   comes (Ends r) before old answers new h same l = inl refl
-  comes (Holds held name plan) before old answers new h same (inl none) = subst (λ (as : List Answer). Comes (follow before plan) old new (by faults plan as)) (sym none.0) (comes-none plan before old new)
+  comes (Holds held name plan) before old answers new h same (inl none) = subst (λ (xs : List Answer). Comes (follow before plan) old new (by faults plan xs)) (sym none.0) (comes-none plan before old new)
   comes (Holds held name plan) before old answers new h same (inr l) =
       let first = held-lasts held old l.0 l.1.0 in
       comes-later (follow before plan) (by faults plan answers) old l.0 new first.count (loaded-lasts plan l.0 answers new l.1.1).count

@@ -15,8 +15,7 @@ use Rattle.krb_readers.specs.declared.klist.KlistOptions.{KlistOptions}
 use Rattle.krb_readers.specs.declared.klist.ListKind.{ListKind}
 use Rattle.krb_readers.specs.declared.klist.ListKind.TheVariants.{Keytab, Cache}
 use Rattle.krb_readers.specs.declared.klist.Listing.{Listing}
-use Rattle.krb_readers.specs.declared.klist.Opened.{Opened}
-use Rattle.krb_readers.specs.declared.klist.Opened.TheVariants as opened
+use Rattle.krb_readers.specs.declared.klist.Listing.TheVariants as listing
 use Rattle.krb_driver.specs.Effects.{CommandPlan, Displays, Page, opens}
 use Rattle.krb_driver.specs.Loading.{cache_of}
 use Rattle.krb_driver.specs.Matches.{Matched, v1_order}
@@ -40,13 +39,10 @@ keytab_page json columns file k = record { out = keytab_shown json columns file 
 abbrev pub cache_page : Bool → CcColumns → List ℕ → CacheState → Page
 cache_page json columns file k = record { out = cache_shown json columns file k; verdict = listing_verdict (fault_of (cache_store k)); takes = true }
 
--- the page of what was opened
-abbrev pub opened_page : {A : Type 0} → Bool → Opened A → List ℕ → Page
-opened_page json (opened.Keytab columns keytab) file = keytab_page json columns file keytab.state
-opened_page json (opened.Cache columns cache) file = cache_page json columns file cache.state
-
+-- the page of a listing
 abbrev pub listing_page : {A : Type 0} → Listing A → List ℕ → Page
-listing_page l file = opened_page l.json l.opened file
+listing_page (listing.Keytab l) file = keytab_page l.json l.columns file l.keytab.state
+listing_page (listing.Cache l) file = cache_page l.json l.columns file l.cache.state
 
 -- the file is opened as that kind and printed
 abbrev pub listing_plan : ListKind → Bool → Order → List ℕ → CommandPlan

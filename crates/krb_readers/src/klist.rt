@@ -4,7 +4,7 @@ ghost use Rattle.std.specs.Prelude.{◌≡◌, IsFalse, option_map};
 ghost use Rattle.krb_text.specs.Gathered.{Prints};
 ghost use Rattle.krb_driver.specs.Commands.{RunsCommand, always, any, made_effect};
 ghost use Rattle.krb_driver.specs.Effects.{Displays, IsMade};
-ghost use Rattle.krb_readers.specs.Klist.{cache_shown, keytab_shown, klist_plan, list_kind, list_options, listing_page, odd_option, odd_with_cache, odd_with_keytab, opened_page};
+ghost use Rattle.krb_readers.specs.Klist.{cache_shown, keytab_shown, klist_plan, list_kind, list_options, listing_page, odd_option, odd_with_cache, odd_with_keytab};
 ghost use Rattle.krb_driver.specs.Mistakes.{Reads, mistake_parts};
 ghost use Rattle.krb_driver.specs.Verdicts.{listing_verdict};
 
@@ -141,55 +141,60 @@ struct ListFile<'f> {
     file: &'f str,
 }
 
-/// The file that was opened, and the columns to show.
+/// A keytab that was opened, and what to show of it.
 #[derive(Drop)]
-pub enum Opened<A: Allocator> {
-    Keytab(KtColumns, Keytab<A>),
-    Cache(CcColumns, Ccache<A>),
+pub struct KeytabListing<A: Allocator> {
+    json: bool,
+    columns: KtColumns,
+    keytab: Keytab<A>,
+}
+
+/// A cache that was opened, and what to show of it.
+#[derive(Drop)]
+pub struct CacheListing<A: Allocator> {
+    json: bool,
+    columns: CcColumns,
+    cache: Ccache<A>,
 }
 
 /// A listing of the file that was opened, or its JSON.
 #[derive(Drop)]
-pub struct Listing<A: Allocator> {
-    json: bool,
-    opened: Opened<A>,
+pub enum Listing<A: Allocator> {
+    Keytab(KeytabListing<A>),
+    Cache(CacheListing<A>),
 }
 
-// Prints a keytab with those columns, or as JSON.
+// Prints a keytab with its columns, or as JSON.
 fn show_keytab<A: Allocator + Copy, W: Write>(
     alloc: A,
-    json: bool,
-    columns: KtColumns,
+    listing: &KeytabListing<A>,
     file: &str,
-    keytab: &Keytab<A>,
     out: &mut Watched<W>,
 ) -> Result<(), OutFault>
     requires { IsFalse out.old.failed }
-    ensures { Prints out.old out.new result (keytab_shown json columns file.now keytab.now.state) }
+    ensures { Prints out.old out.new result (keytab_shown listing.now.json listing.now.columns file.now listing.now.keytab.state) }
 {
-    if json {
-        keytab_json(alloc, file, keytab, columns.keys, out)
+    if listing.json {
+        keytab_json(alloc, file, &listing.keytab, listing.columns.keys, out)
     } else {
-        list_keytab(alloc, file, keytab, columns, out)
+        list_keytab(alloc, file, &listing.keytab, listing.columns, out)
     }
 }
 
-// Prints a cache with those columns, or as JSON.
+// Prints a cache with its columns, or as JSON.
 fn show_cache<A: Allocator + Copy, W: Write>(
     alloc: A,
-    json: bool,
-    columns: CcColumns,
+    listing: &CacheListing<A>,
     file: &str,
-    cache: &Ccache<A>,
     out: &mut Watched<W>,
 ) -> Result<(), OutFault>
     requires { IsFalse out.old.failed }
-    ensures { Prints out.old out.new result (cache_shown json columns file.now cache.now.state) }
+    ensures { Prints out.old out.new result (cache_shown listing.now.json listing.now.columns file.now listing.now.cache.state) }
 {
-    if json {
-        cache_json(alloc, file, cache, out)
+    if listing.json {
+        cache_json(alloc, file, &listing.cache, out)
     } else {
-        list_cache(alloc, file, cache, columns, out)
+        list_cache(alloc, file, &listing.cache, listing.columns, out)
     }
 }
 
@@ -212,31 +217,17 @@ impl<A: Allocator + Copy> Show<A> for Listing<A> {
         file: &str,
         out: &mut Watched<W>,
     ) -> Result<Verdict, RunError> {
-        match &self.opened {
-            Opened::Keytab(columns, keytab) => {
-                show_keytab(alloc, self.json, *columns, file, keytab, out)?;
-                Ok(listing_verdict(keytab.fault()))
+        match self {
+            Listing::Keytab(listing) => {
+                show_keytab(alloc, listing, file, out)?;
+                Ok(listing_verdict(listing.keytab.fault()))
             }
-            Opened::Cache(columns, cache) => {
-                show_cache(alloc, self.json, *columns, file, cache, out)?;
-                Ok(listing_verdict(cache.fault()))
+            Listing::Cache(listing) => {
+                show_cache(alloc, listing, file, out)?;
+                Ok(listing_verdict(listing.cache.fault()))
             }
         }
     }
-}
-
-// Returns the listing of the file that was opened.
-fn shown<'a, A: Allocator>(
-    command: &ListFile<'a>,
-    opened: Opened<A>,
-) -> Result<Made<A, Listing<A>>, FileError<'a>>
-    ensures { IsMade (Displays command.now.file.now (opened_page command.now.options.now.json opened command.now.file.now))
-        (made_effect listing_page command.now.file.now result) }
-{
-    Ok(Made::Shows(Listing {
-        json: command.options.json,
-        opened,
-    }))
 }
 
 impl<'f, A: Allocator + Copy> Command<A> for ListFile<'f> {
@@ -260,11 +251,19 @@ impl<'f, A: Allocator + Copy> Command<A> for ListFile<'f> {
         match self.options.kind {
             ListKind::Keytab(columns) => {
                 let keytab = open_listed(alloc, self.options.v1_order, files, self.file)?;
-                shown(self, Opened::Keytab(columns, keytab))
+                Ok(Made::Shows(Listing::Keytab(KeytabListing {
+                    json: self.options.json,
+                    columns,
+                    keytab,
+                })))
             }
             ListKind::Cache(columns) => {
                 let cache = open_cache(alloc, files, self.file)?;
-                shown(self, Opened::Cache(columns, cache))
+                Ok(Made::Shows(Listing::Cache(CacheListing {
+                    json: self.options.json,
+                    columns,
+                    cache,
+                })))
             }
         }
     }

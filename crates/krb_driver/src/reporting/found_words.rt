@@ -26,7 +26,7 @@ fn line_if(is_printed: bool, line: &'static str) -> Piece<'static>
 }
 
 // Returns a line for each word that was printed.
-fn word_lines(reported: Reported) -> [Piece<'static>; 6]
+fn word_lines(reported: FindingWords) -> [Piece<'static>; 6]
     ensures { pieces_text result ≡ word_lines reported }
 {
     [
