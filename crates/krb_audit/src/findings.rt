@@ -9,12 +9,12 @@ ghost use Rattle.krb_audit.specs.Findings.{marked, marks_of};
 ghost use Rattle.krb_audit.specs.Report.{is_wrong, mark_lines, report, told, told_of};
 
 use crate::counts::append_counts;
+use crate::finding_words::FindingWords;
 use crate::firsts::Firsts;
 use crate::marks::Marks;
 use crate::mit::ends_mit;
 use crate::mode::{append_mode, is_open_file, is_open_to_all};
 use crate::newest::NewestVersions;
-use crate::finding_words::FindingWords;
 use krb_keytab::{EntryView, Keytab};
 use krb_text::{append_fault_line, is_weak};
 use krb_wire::NoMemory;

@@ -5,7 +5,10 @@ ghost use Rattle.krb_commands.specs.Actions.{Asks, line_mistake};
 ghost use Rattle.krb_driver.specs.Mistakes.{IsRefusal, Reads};
 
 use krb_driver::{CommandName, CommandWords, Matches, WordFault, v1_order};
-use krb_editors::{CCEDIT, CCREMOVE, KTEDIT, KTREMOVE, RemoveOptions, TicketOptions, remove_options, ticket_options};
+use krb_editors::{
+    CCEDIT, CCREMOVE, KTEDIT, KTREMOVE, RemoveOptions, TicketOptions, remove_options,
+    ticket_options,
+};
 use krb_ktutil::KTUTIL;
 use krb_readers::{FindOptions, KLIST, KTCHECK, KTFIND, KlistOptions, find_options, klist_options};
 use krb_wire::Order;

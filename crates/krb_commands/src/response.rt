@@ -5,11 +5,11 @@ ghost use Rattle.krb_commands.specs.Actions.{EndsAsked, help_run};
 ghost use Rattle.krb_driver.specs.Runs.{EndsRun};
 
 use crate::action::Action;
-use krb_driver::{ErrorOutput, Streams, Verdict, WordFault, show, report, report_word_fault};
+use krb_driver::{ErrorOutput, Streams, Verdict, WordFault, report, report_word_fault, show};
 use krb_editors::{run_ccedit, run_ccremove, run_ktedit, run_ktremove};
+use krb_files::{Files, Watched};
 use krb_ktutil::run_ktutil;
 use krb_readers::{run_klist, run_ktcheck, run_ktfind};
-use krb_files::{Files, Watched};
 use std::alloc::Allocator;
 use std::io::{Read, Write};
 

@@ -6,9 +6,9 @@ ghost use Rattle.krb_disk.specs.NewFile.{IsFilled};
 ghost use Rattle.krb_disk.specs.Stages.{private_mode, IsDueMode, IsFound, stood, synced};
 ghost use Rattle.krb_disk.specs.declared.stage.Stage.TheVariants.{Made, Locked, Agreed, Held, Written, Told, Permitted};
 
-mod stale_file;
 mod log;
 mod old;
+mod stale_file;
 
 use crate::fault::DiskFault;
 use crate::lock::TakeLock;

@@ -11,13 +11,13 @@ ghost use Rattle.krb_disk.specs.declared.snapshot.Snapshot.TheVariants.{Nothing}
 ghost use Rattle.krb_disk.specs.declared.stage.Stage.TheVariants.{Synced, Same, Quiet};
 
 use crate::calls::{Calls, NewFile};
+use crate::deadline::{Deadline, MOST_TRIES};
 use crate::fault::{DiskFault, ReadFault};
 use crate::lock::TakeLock;
 use crate::looks::Found;
 use crate::new_file::{Attempt, make_locked, remove_own};
 use crate::number::Numbered;
 use crate::owner::SetOwner;
-use crate::deadline::{MOST_TRIES, Deadline};
 use crate::save::fill;
 use crate::snapshot::Snapshot;
 use crate::target::{Target, find_target};

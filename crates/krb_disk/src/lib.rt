@@ -2,6 +2,7 @@
 #![tactic(auto)]
 
 mod calls;
+mod deadline;
 mod disk_files;
 mod fault;
 mod held;
@@ -14,7 +15,6 @@ mod new_file;
 mod noted;
 mod number;
 mod owner;
-mod deadline;
 mod read;
 mod save;
 mod snapshot;

@@ -5,13 +5,13 @@ ghost use Rattle.krb_disk.specs.NewFile.{HoldsAt, IsHeldAt};
 ghost use Rattle.krb_disk.specs.declared.stage.Stage.TheVariants.{Made};
 
 use crate::calls::{Calls, NewFile};
+use crate::deadline::Deadline;
 use crate::fault::DiskFault;
 use crate::lock::TakeLock;
 use crate::looks::Found;
 use crate::looks::device::Mounted;
 use crate::looks::locks::{LockKind, is_locked};
 use crate::looks::users::Users;
-use crate::deadline::Deadline;
 use std::io::{self, ErrorKind};
 use std::rt;
 

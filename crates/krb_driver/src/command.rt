@@ -5,9 +5,9 @@ ghost use Rattle.krb_files.specs.Plan.{HeldIf};
 ghost use Rattle.krb_driver.specs.Commands.{Does, HoldsIf, RunsCommand, ShowsEnd, output_page, made_effect, ready_end};
 ghost use Rattle.krb_driver.specs.Effects.{Page, about};
 
-use crate::streams::Streams;
-use crate::reporting::{cause_of, show, report};
 use crate::error::RunError;
+use crate::reporting::{cause_of, report, show};
+use crate::streams::Streams;
 use crate::verdict::Verdict;
 use krb_files::{Files, Watched};
 use krb_wire::NoMemory;
@@ -67,7 +67,12 @@ pub trait Show<A: Allocator + Copy>: Drop {
     ghost page: { Self → List ℕ → Page };
 
     /// Prints it.
-    fn show<W: Write>(&self, alloc: A, file: &str, out: &mut Watched<W>) -> Result<Verdict, RunError>
+    fn show<W: Write>(
+        &self,
+        alloc: A,
+        file: &str,
+        out: &mut Watched<W>,
+    ) -> Result<Verdict, RunError>
         requires { IsFalse out.old.failed }
         ensures { ShowsPage out.old out.new result (page self.now file.now) };
 }
@@ -111,11 +116,7 @@ pub trait Command<A: Allocator + Copy> {
         ensures { result.now ≡ file self.now };
 
     /// Loads its files, holds those that it may change, and returns what to save and show.
-    fn make<F: Files>(
-        &self,
-        alloc: A,
-        files: &mut F,
-    ) -> Result<Made<A, Self::Shown>, FileError<'_>>
+    fn make<F: Files>(&self, alloc: A, files: &mut F) -> Result<Made<A, Self::Shown>, FileError<'_>>
         ensures { MakesFairly F.Files files.old (plan self.now (F.Files.mode files.new)) (fairly self.now)
             (made_effect Self.Shown.page (file self.now) result) files.new };
 }

@@ -3,11 +3,11 @@
 
 mod command;
 mod command_line;
+mod error;
 mod loading;
 mod opening;
-mod streams;
 mod reporting;
-mod error;
+mod streams;
 mod verdict;
 
 pub use command::{Command, FileError, Made, Output, Show, hold_if, run};
@@ -16,13 +16,13 @@ pub use command_line::matches::{
 };
 pub use command_line::mistake::{BadLine, Mistake, WordFault};
 pub use command_line::words::{CommandName, CommandWords, DRY_RUN, V1_BIG, Word};
+pub use error::RunError;
 pub use loading::{NoKeytab, NotKeytab, load_keytab, load_or_new};
 pub use opening::{
     give_cache, give_or_empty, open_cache, open_keytab, open_listed, open_whole, open_writable,
 };
-pub use streams::Streams;
 pub use reporting::error_output::ErrorOutput;
 pub use reporting::reported::replied_verdict;
-pub use reporting::{cause_of, show, report, report_word_fault};
-pub use error::RunError;
+pub use reporting::{cause_of, report, report_word_fault, show};
+pub use streams::Streams;
 pub use verdict::{FileKind, Findings, Verdict};

@@ -7,8 +7,8 @@ ghost use Rattle.krb_driver.specs.Loading.{cache_of};
 ghost use Rattle.krb_driver.specs.Opening.{cache_refusal, keytab_in, keytab_or_empty, keytab_refusal, listed_in, unless_refused, whole_in, writable_in};
 
 use crate::command::FileError;
-use crate::loading::{load_cache, load_keytab, load_or_new};
 use crate::error::RunError;
+use crate::loading::{load_cache, load_keytab, load_or_new};
 use krb_ccache::{Ccache, Version};
 use krb_files::Files;
 use krb_keytab::Keytab;

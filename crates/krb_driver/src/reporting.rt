@@ -4,10 +4,10 @@ pub(crate) mod error_output;
 mod found_words;
 mod mistake_words;
 mod piece;
-mod writing;
 pub(crate) mod reported;
 mod reported_words;
 mod words;
+mod writing;
 
 ghost use Rattle.std.specs.Prelude.{◌≡◌, IsFalse, codes};
 ghost use Rattle.krb_keytab.specs.Open.{open_fault_number};
@@ -18,14 +18,14 @@ ghost use Rattle.krb_driver.specs.RunErrors.{ending_message, error_message};
 ghost use Rattle.krb_driver.specs.Verdicts.{verdict_message};
 ghost use Rattle.krb_driver.specs.Words.{ending_text};
 
+use crate::error::RunError;
 use crate::loading::NotKeytab;
 use crate::reporting::error_output::ErrorOutput;
 use crate::reporting::found_words::report_findings;
 use crate::reporting::piece::Piece;
-use crate::reporting::writing::write_pieces;
 use crate::reporting::reported_words::report_replies;
 use crate::reporting::words::ending_words;
-use crate::error::RunError;
+use crate::reporting::writing::write_pieces;
 use crate::verdict::Verdict;
 use krb_files::{Cause, Files, Watched, put};
 use krb_walk::Code;

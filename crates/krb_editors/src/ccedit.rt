@@ -1,5 +1,6 @@
 //! ccedit: edits a credential cache by a script.
 
+ghost use Rattle.std.specs.List.{list_any};
 ghost use Rattle.std.specs.Prelude.{◌≡◌, ℕ, List, IfOk, IsFalse, Ok, OnOk, ◌∷◌, [], map};
 ghost use Rattle.krb_walk.specs.declared.event.Event.TheVariants.{Cut};
 ghost use Rattle.krb_walk.specs.Events.{reply_to};
@@ -16,9 +17,12 @@ ghost use Rattle.krb_editors.specs.Sessions.{left, new_session};
 
 use crate::edited::{may_change, replied};
 use crate::scripted::read_script;
-use krb_driver::{Command, CommandName, CommandWords, FileKind, FileError, Made, Output, Streams, Word, give_cache, hold_if, run, report};
 use krb_cache_text::{Asked, CacheLine, CcFormat};
 use krb_ccache::{Ccache, Cred, Setting};
+use krb_driver::{
+    Command, CommandName, CommandWords, FileError, FileKind, Made, Output, Streams, Word,
+    give_cache, hold_if, report, run,
+};
 use krb_files::Files;
 use krb_walk::{Event, Reply, Session};
 use krb_wire::NoMemory;
@@ -162,6 +166,13 @@ fn line_may_change<A: Allocator>(line: &CacheLine<A>) -> bool
     }
 }
 
+// Returns whether one of these lines may change a cache.
+fn may_any_change<A: Allocator>(lines: &[CacheLine<A>]) -> bool
+    ensures { result ≡ list_any line_may_change lines.now }
+{
+    lines.iter().any(line_may_change)
+}
+
 impl<'f, A: Allocator + Copy> Command<A> for EditCache<'f, A> {
     ghost use Rattle.krb_editors.specs.Ccedit.{ccedit_fairly, ccedit_plan};
 
@@ -183,7 +194,7 @@ impl<'f, A: Allocator + Copy> Command<A> for EditCache<'f, A> {
         alloc: A,
         files: &mut F,
     ) -> Result<Made<A, Self::Shown>, FileError<'_>> {
-        hold_if(self.lines.iter().any(line_may_change), files, self.file);
+        hold_if(may_any_change(&self.lines), files, self.file);
         let cache = give_cache(alloc, files, self.file)?;
         Ok(edit(alloc, cache, &self.lines)?)
     }

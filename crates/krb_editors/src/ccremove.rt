@@ -8,9 +8,13 @@ ghost use Rattle.krb_driver.specs.Commands.{text_effect};
 ghost use Rattle.krb_driver.specs.Effects.{IsMade};
 ghost use Rattle.krb_driver.specs.Mistakes.{Reads, mistake_parts};
 
-use krb_driver::{Command, CommandName, CommandWords, DRY_RUN, FileKind, FileError, Made, Matches, Mistake, Output, Streams, RunError, Verdict, Word, WordFault, asked_name, first_value, hold_if, open_writable, run, report, times_given};
 use krb_audit::select_tickets;
 use krb_ccache::Ccache;
+use krb_driver::{
+    Command, CommandName, CommandWords, DRY_RUN, FileError, FileKind, Made, Matches, Mistake,
+    Output, RunError, Streams, Verdict, Word, WordFault, asked_name, first_value, hold_if,
+    open_writable, report, run, times_given,
+};
 use krb_files::Files;
 use krb_walk::Refusal;
 use krb_wire::{NoMemory, Principal};

@@ -23,6 +23,13 @@ pub fn may_change<I>(event: &Event<I>) -> bool
     }
 }
 
+/// Returns whether one of these events may change a file.
+pub fn may_any_change<I>(events: &[Event<I>]) -> bool
+    ensures { result ≡ list_any may_change events.now }
+{
+    events.iter().any(may_change)
+}
+
 // Returns whether a reply reports a change of the file.
 fn is_change<A: Allocator>(reply: &Reply<A>) -> bool
     ensures { result ≡ is_change (said reply.now) }

@@ -6,9 +6,12 @@ ghost use Rattle.krb_driver.specs.Commands.{text_effect};
 ghost use Rattle.krb_editors.specs.Ktedit.{RunsFairly, edits, ktedit_fairly, ktedit_plan};
 ghost use Rattle.krb_editors.specs.Scripted.{RunsScript};
 
-use crate::edited::{may_change, replied};
+use crate::edited::{may_any_change, replied};
 use crate::scripted::read_script;
-use krb_driver::{Command, CommandName, CommandWords, FileKind, FileError, Made, Output, Streams, V1_BIG, Word, give_or_empty, hold_if, run, report};
+use krb_driver::{
+    Command, CommandName, CommandWords, FileError, FileKind, Made, Output, Streams, V1_BIG, Word,
+    give_or_empty, hold_if, report, run,
+};
 use krb_files::Files;
 use krb_keytab::{Indexed, Keytab, NewEntry};
 use krb_walk::{Event, Session};
@@ -87,7 +90,7 @@ impl<'f, A: Allocator + Copy> Command<A> for EditKeytab<'f, A> {
         alloc: A,
         files: &mut F,
     ) -> Result<Made<A, Self::Shown>, FileError<'_>> {
-        hold_if(self.events.iter().any(may_change), files, self.file);
+        hold_if(may_any_change(&self.events), files, self.file);
         let keytab = give_or_empty(alloc, self.v1_order, files, self.file)?;
         Ok(edit(alloc, keytab, &self.events)?)
     }

@@ -9,8 +9,12 @@ ghost use Rattle.krb_driver.specs.Effects.{IsMade};
 ghost use Rattle.krb_editors.specs.Ktremove.{IsSpelledKvno, SpellsRemoval, bad_etype, bad_kvno, ktremove_plan, kvno_in, none_verdict, odd_selection, remove_mistake, removes};
 ghost use Rattle.krb_driver.specs.Mistakes.{Reads, mistake_parts};
 
-use krb_driver::{Command, CommandName, CommandWords, DRY_RUN, FileKind, FileError, Made, Matches, Mistake, Output, Streams, V1_BIG, Verdict, Word, WordFault, asked_name, first_value, hold_if, open_whole, run, times_given, v1_order};
 use krb_audit::{AskedKvno, Selection, select};
+use krb_driver::{
+    Command, CommandName, CommandWords, DRY_RUN, FileError, FileKind, Made, Matches, Mistake,
+    Output, Streams, V1_BIG, Verdict, Word, WordFault, asked_name, first_value, hold_if,
+    open_whole, run, times_given, v1_order,
+};
 use krb_files::Files;
 use krb_keytab::Keytab;
 use krb_text::{etype_of, parse_u32};

@@ -15,7 +15,10 @@ mod verb;
 mod words;
 
 use crate::input_lines::InputLines;
-use krb_driver::{CommandName, CommandWords, ErrorOutput, Streams, RunError, V1_BIG, Verdict, cause_of, show, report};
+use krb_driver::{
+    CommandName, CommandWords, ErrorOutput, RunError, Streams, V1_BIG, Verdict, cause_of, report,
+    show,
+};
 use krb_files::{Files, Watched};
 use krb_wire::Order;
 pub use line_end::LineEnd;
@@ -145,7 +148,13 @@ pub fn run_ktutil<A: Allocator + Copy, F: Files, R: Read, W: Write, E: Write>(
             Ok(true) => {}
             Ok(false) => return talk.status,
             Err(fault) => {
-                let status = report(Err(RunError::of_input(fault)), b"", None, input.cause(), err);
+                let status = report(
+                    Err(RunError::of_input(fault)),
+                    b"",
+                    None,
+                    input.cause(),
+                    err,
+                );
                 return talk.status.max(status);
             }
         }

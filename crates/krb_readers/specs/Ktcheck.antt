@@ -4,7 +4,7 @@ use Rattle.krb_wire.specs.declared.format.Order.{Order}
 use Rattle.krb_walk.specs.Store.{fault_of}
 use Rattle.krb_keytab.specs.Store.{KeytabState, store_of}
 use Rattle.krb_files.specs.Plan.{Ends}
-use Rattle.krb_audit.specs.declared.finding_words.FindingWords.{Reported}
+use Rattle.krb_audit.specs.declared.finding_words.FindingWords.{FindingWords}
 use Rattle.krb_audit.specs.Report.{is_wrong, report, told}
 use Rattle.krb_driver.specs.declared.verdict.Findings.{Findings}
 use Rattle.krb_driver.specs.declared.verdict.Verdict.{Verdict}
@@ -13,7 +13,7 @@ use Rattle.krb_driver.specs.Effects.{CommandPlan, Displays, Page, opens, text}
 use Rattle.krb_driver.specs.Opening.{keytab_in}
 
 -- some word was printed
-abbrev pub tells_any : Reported → Bool
+abbrev pub tells_any : FindingWords → Bool
 tells_any t = t.weak || (t.hidden || (t.same || (t.clash || (t.old || t.mode))))
 
 -- the verdict of a run that printed findings: `Well` if no word and no fault was printed

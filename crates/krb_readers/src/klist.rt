@@ -8,9 +8,12 @@ ghost use Rattle.krb_readers.specs.Klist.{cache_shown, keytab_shown, klist_plan,
 ghost use Rattle.krb_driver.specs.Mistakes.{Reads, mistake_parts};
 ghost use Rattle.krb_driver.specs.Verdicts.{listing_verdict};
 
-use krb_driver::{Command, CommandName, CommandWords, FileError, Made, Matches, Mistake, Show, Streams, RunError, V1_BIG, Verdict, Word, WordFault, open_cache, open_listed, run, v1_order};
 use krb_cache_text::{CcColumns, list_cache};
 use krb_ccache::Ccache;
+use krb_driver::{
+    Command, CommandName, CommandWords, FileError, Made, Matches, Mistake, RunError, Show, Streams,
+    V1_BIG, Verdict, Word, WordFault, open_cache, open_listed, run, v1_order,
+};
 use krb_files::{Files, OutFault, Watched};
 use krb_json::{cache_json, keytab_json};
 use krb_keytab::Keytab;
@@ -230,6 +233,17 @@ impl<A: Allocator + Copy> Show<A> for Listing<A> {
     }
 }
 
+// Returns what klist makes of the file that was opened.
+fn shown<'a, A: Allocator>(
+    command: &ListFile<'a>,
+    listing: Listing<A>,
+) -> Result<Made<A, Listing<A>>, FileError<'a>>
+    ensures { IsMade (Displays command.now.file.now (listing_page listing command.now.file.now))
+        (made_effect listing_page command.now.file.now result) }
+{
+    Ok(Made::Shows(listing))
+}
+
 impl<'f, A: Allocator + Copy> Command<A> for ListFile<'f> {
     ghost use Rattle.krb_readers.specs.Klist.{klist_plan};
 
@@ -251,19 +265,21 @@ impl<'f, A: Allocator + Copy> Command<A> for ListFile<'f> {
         match self.options.kind {
             ListKind::Keytab(columns) => {
                 let keytab = open_listed(alloc, self.options.v1_order, files, self.file)?;
-                Ok(Made::Shows(Listing::Keytab(KeytabListing {
+                let listing = KeytabListing {
                     json: self.options.json,
                     columns,
                     keytab,
-                })))
+                };
+                shown(self, Listing::Keytab(listing))
             }
             ListKind::Cache(columns) => {
                 let cache = open_cache(alloc, files, self.file)?;
-                Ok(Made::Shows(Listing::Cache(CacheListing {
+                let listing = CacheListing {
                     json: self.options.json,
                     columns,
                     cache,
-                })))
+                };
+                shown(self, Listing::Cache(listing))
             }
         }
     }

@@ -5,8 +5,11 @@ ghost use Rattle.krb_driver.specs.Commands.{RunsCommand, any, text_effect};
 ghost use Rattle.krb_driver.specs.Effects.{Displays, IsMade};
 ghost use Rattle.krb_readers.specs.Ktcheck.{findings, found_verdict, ktcheck_plan};
 
-use krb_driver::{Command, CommandName, CommandWords, FileError, Findings, Made, Output, Streams, V1_BIG, Verdict, Word, open_keytab, run};
 use krb_audit::check_up;
+use krb_driver::{
+    Command, CommandName, CommandWords, FileError, Findings, Made, Output, Streams, V1_BIG,
+    Verdict, Word, open_keytab, run,
+};
 use krb_files::Files;
 use krb_keytab::Keytab;
 use krb_wire::Order;

@@ -6,7 +6,10 @@ ghost use Rattle.krb_driver.specs.Effects.{IsMade};
 ghost use Rattle.krb_readers.specs.Ktfind.{SpellsEntry, find_mistake, finds, ktfind_plan};
 ghost use Rattle.krb_driver.specs.Mistakes.{Reads};
 
-use krb_driver::{Command, CommandName, CommandWords, FileError, Made, Matches, Mistake, Output, Streams, RunError, V1_BIG, Verdict, Word, WordFault, open_keytab, run, spelled_name, v1_order};
+use krb_driver::{
+    Command, CommandName, CommandWords, FileError, Made, Matches, Mistake, Output, RunError,
+    Streams, V1_BIG, Verdict, Word, WordFault, open_keytab, run, spelled_name, v1_order,
+};
 use krb_files::Files;
 use krb_keytab::Keytab;
 use krb_text::{etype_of, found_text, parse_u32};

@@ -10,11 +10,11 @@ ghost use Rattle.krb_disk.specs.declared.stage.Stage.TheVariants.{Ours, Same};
 
 use super::log::Log;
 use super::{Calls, NewFile};
+use crate::deadline::Deadline;
 use crate::fault::{DiskFault, ReadFault};
 use crate::looks::Found;
 use crate::looks::device::Mounted;
 use crate::looks::locks::{LockKind, is_locked};
-use crate::deadline::Deadline;
 use crate::read::read_file;
 use crate::snapshot::Snapshot;
 use crate::stage::Stage;

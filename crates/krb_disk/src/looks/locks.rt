@@ -1,9 +1,9 @@
 //! Finds out whether another program has locked a file.
 
+use crate::deadline::Deadline;
 use crate::fault::DiskFault;
 use crate::looks::Looks;
 use crate::looks::device::{Mounted, Place};
-use crate::deadline::Deadline;
 use krb_files::{LoadFault, WatchedReader, append_read};
 use krb_wire::USUAL_LIMIT;
 use std::{rt, str};

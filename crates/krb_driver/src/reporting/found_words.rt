@@ -6,8 +6,8 @@ ghost use Rattle.krb_driver.specs.Runs.{Writes};
 ghost use Rattle.krb_driver.specs.Words.{found_fault_words, found_words, word_lines};
 
 use crate::reporting::piece::Piece;
-use crate::reporting::writing::write_pieces;
 use crate::reporting::words::{Words, listed_words, no_words};
+use crate::reporting::writing::write_pieces;
 use crate::verdict::Findings;
 use krb_audit::FindingWords;
 use krb_files::Watched;
@@ -38,7 +38,10 @@ fn word_lines(reported: FindingWords) -> [Piece<'static>; 6]
             reported.hidden,
             "krbfile: hidden: MIT's programs see no entry from this one on\n",
         ),
-        line_if(reported.same, "krbfile: same: this key stands there twice\n"),
+        line_if(
+            reported.same,
+            "krbfile: same: this key stands there twice\n",
+        ),
         line_if(
             reported.clash,
             "krbfile: clash: two keys for one name, version and type\n",

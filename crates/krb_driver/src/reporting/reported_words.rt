@@ -9,9 +9,9 @@ ghost use Rattle.krb_driver.specs.Runs.{Writes};
 ghost use Rattle.krb_driver.specs.Words.{code_words, fault_words, reported_words};
 
 use crate::reporting::piece::Piece;
-use crate::reporting::writing::{Gathered, add_pieces};
 use crate::reporting::reported::Reported;
 use crate::reporting::words::refusal_phrase;
+use crate::reporting::writing::{Gathered, add_pieces};
 use crate::verdict::FileKind;
 use arrayvec::ArrayVec;
 use krb_files::{OutFault, Watched, put};

@@ -6,9 +6,9 @@ ghost use Rattle.krb_driver.specs.PieceTexts.{piece_text, pieces_text};
 ghost use Rattle.krb_driver.specs.Verdicts.{is_itemized};
 ghost use Rattle.krb_driver.specs.Words.{cache_phrase, cause_words, ending_words, keytab_phrase, line_fault_phrase, list_phrase, listed_words, missing_words, no_cache_phrase, no_keytab_phrase, nothing_phrase, refusal_phrase, error_words, verdict_words};
 
+use crate::error::RunError;
 use crate::loading::{NotCache, NotKeytab};
 use crate::reporting::piece::Piece;
-use crate::error::RunError;
 use crate::verdict::{FileKind, Verdict};
 use krb_ccache::CcOpenFault;
 use krb_files::Cause;
@@ -191,12 +191,7 @@ pub fn listed_words(file: &[u8], fault: Fault) -> Words<'_>
 }
 
 // Returns the words that explain an error of a run over `file`, or of line `line` of ktutil.
-fn error_words(
-    error: RunError,
-    file: &[u8],
-    line: Option<u64>,
-    cause: Option<Cause>,
-) -> Words<'_>
+fn error_words(error: RunError, file: &[u8], line: Option<u64>, cause: Option<Cause>) -> Words<'_>
     ensures { pieces_text result ≡ error_words file.now line cause error }
 {
     match error {

@@ -6,10 +6,10 @@ ghost use Rattle.krb_ktutil.specs.KtutilPlan.{KtutilState, with_entries, writing
 ghost use Rattle.krb_ktutil.specs.KtutilFiles.{Finishes, GoesOn, Handles};
 ghost use Rattle.krb_files.specs.Plan.{Ends};
 
-use krb_driver::{load_keytab, load_or_new};
 use super::Ktutil;
 use crate::ktutil::entries::{add_all, copy_entries};
 use crate::ktutil::line_end::{LineEnd, save_end};
+use krb_driver::{load_keytab, load_or_new};
 use krb_files::Files;
 use krb_keytab::{Indexed, Keytab, NewEntry};
 use krb_walk::{Code, Refusal};

@@ -19,7 +19,7 @@ returns-in_err-cache g c =
     let file = c.args.self.now.file.now in
     let lines = c.args.self.now.lines.items in
     let met = c.in_err-cache.field-0.0 in
-    rw (p.1 ∙ ap Err p.2) (fairly-holds g.F.Files c.args.files.now c.hold_if.new.files c.give_cache.new.files (list_any line_may_change lines) file (opens file cache_of (λ (k : CacheState). Ends (edits lines file k))) (fair_first cache_of (RunsFairly lines)) _ c.hold_if.ensures.held
+    rw (p.1 ∙ ap Err p.2) (fairly-holds g.F.Files c.args.files.now c.hold_if.new.files c.give_cache.new.files (list_any line_may_change lines) file (opens file cache_of (λ (k : CacheState). Ends (edits lines file k))) (fair_first cache_of (RunsFairly lines)) _ (rw (c.may_any_change.ensures, c.deref.ensures.value) at c.hold_if.ensures.held)
     (fairly-failed g.F.Files c.hold_if.new.files file cache_of (λ (k : CacheState). Ends (edits lines file k)) (RunsFairly lines) met.file.now met.error c.give_cache.new.files c.in_err-cache.ensures))
 
 -- memory ran out
@@ -29,13 +29,13 @@ returns-in_err-edit g c =
     let file = c.args.self.now.file.now in
     let lines = c.args.self.now.lines.items in
     let spent : IsSpent (Fails p.0.file.now p.0.error) = (p.0.file.now, ap (λ (t : RunError). Fails p.0.file.now t) p.2) in
-    rw p.1 (fairly-holds g.F.Files c.args.files.now c.hold_if.new.files c.give_cache.new.files (list_any line_may_change lines) file (opens file cache_of (λ (k : CacheState). Ends (edits lines file k))) (fair_first cache_of (RunsFairly lines)) _ c.hold_if.ensures.held
+    rw p.1 (fairly-holds g.F.Files c.args.files.now c.hold_if.new.files c.give_cache.new.files (list_any line_may_change lines) file (opens file cache_of (λ (k : CacheState). Ends (edits lines file k))) (fair_first cache_of (RunsFairly lines)) _ (rw (c.may_any_change.ensures, c.deref.ensures.value) at c.hold_if.ensures.held)
     (makes-fairly g.F.Files c.hold_if.new.files file cache_of (λ (k : CacheState). edits lines file k) (RunsFairly lines) c.in_ok-cache.cache.state _ c.give_cache.new.files c.in_ok-cache.ensures (inl spent) (inl spent)))
 
 pub returns : goal.returns
 returns g c =
     let file = c.args.self.now.file.now in
     let lines = c.args.self.now.lines.items in
-    fairly-holds g.F.Files c.args.files.now c.hold_if.new.files c.give_cache.new.files (list_any line_may_change lines) file (opens file cache_of (λ (k : CacheState). Ends (edits lines file k))) (fair_first cache_of (RunsFairly lines)) _ c.hold_if.ensures.held
+    fairly-holds g.F.Files c.args.files.now c.hold_if.new.files c.give_cache.new.files (list_any line_may_change lines) file (opens file cache_of (λ (k : CacheState). Ends (edits lines file k))) (fair_first cache_of (RunsFairly lines)) _ (rw (c.may_any_change.ensures, c.deref.ensures.value) at c.hold_if.ensures.held)
     (makes-fairly g.F.Files c.hold_if.new.files file cache_of (λ (k : CacheState). edits lines file k) (RunsFairly lines) c.in_ok-cache.cache.state _ c.give_cache.new.files c.in_ok-cache.ensures
     (inr ((rw c.deref-2.ensures.value at c.in_ok-edit.ensures.made) file)) (inr (rw c.deref-2.ensures.value at c.in_ok-edit.ensures.fair)))
