@@ -1,86 +1,100 @@
--- A text that has a piece for each element of a list, as it is gathered and sent to a writer.
-use Rattle.std.proofs.Common.{◌≡◌, ℕ, suc, ◌+◌, add-one, ◌<◌, List, [], ◌∷◌, ◌++◌, Option, sym, ap, ◌∙◌, append_assoc, append-nil, length, get_or, take, drop, take-append-drop, subst}
+-- A text on its way to the error output, piece by piece.
+use Rattle.std.proofs.Common.{◌≡◌, ℕ, ◌+◌, add-one, ◌<◌, List, [], ◌∷◌, ◌++◌, Option, sym, ap, ◌∙◌, append_assoc, append-nil, length, get_or, take, refl, subst}
 use Rattle.std.proofs.Math.Seq.{take-suc}
 use Rattle.std.proofs.lemmas.Grind.{flat_map-append}
 use Rattle.std.specs.List.{flat_map}
-use Rattle.std.specs.Prelude.{Result, Ok, Err, OnOk, OnErr, is_err}
+use Rattle.std.specs.Prelude.{Result, Ok, Err, OnOk, OnErr, is_err, IsTrue, IsFalse}
 use Rattle.std.specs.Io.KnownBytes.{Appends}
 use Rattle.std.proofs.lemmas.Bool.{false≢true}
 use Rattle.krb_files.specs.Bytes.{Watch, AppendsPrefix}
-use Rattle.krb_text.specs.Gathered.{Sent}
-use Rattle.krb_files.proofs.Prefixes.{Appends-trans, AppendsPrefix-all, AppendsPrefix-after, AppendsPrefix-longer}
+use Rattle.krb_files.proofs.Prefixes.{Appends-nil, Appends-trans, AppendsPrefix-all, AppendsPrefix-after, AppendsPrefix-longer, AppendsPrefix-none}
 use Rattle.krb_driver.specs.Runs.{Writes}
+use Rattle.krb_driver.specs.Underway.{Adds, Sends, Underway}
 
-module _ {X : Type 0} (piece : X → List ℕ) (xs : List X) (i : ℕ) where
-  -- the first i + 1 pieces are the first i and one more
-  flat_map-take-suc : (d : X) → i < length xs → flat_map piece (take (suc i) xs) ≡ flat_map piece (take i xs) ++ piece (get_or xs i d)
-  flat_map-take-suc d lt = ap (flat_map piece) (take-suc xs i d lt) ∙ flat_map-append piece (take i xs) (get_or xs i d ∷ [])
-      ∙ ap (λ l. flat_map piece (take i xs) ++ l) (append-nil (piece (get_or xs i d)))
+-- nothing is on its way
+underway-none : (err : Watch) → Underway err.contents err [] []
+underway-none err = record { whole = λ _. record { sent = []; appends = Appends-nil err.contents; parts = refl }; prefix = AppendsPrefix-none err.contents [] }
 
-  -- the first i pieces, and the others
-  flat_map-take-drop : flat_map piece xs ≡ flat_map piece (take i xs) ++ flat_map piece (drop i xs)
-  flat_map-take-drop = ap (flat_map piece) (sym (take-append-drop i xs)) ∙ flat_map-append piece (take i xs) (drop i xs)
+-- nothing was added
+pub Adds-none : (err : Watch) (g : List ℕ) → Adds err g err g []
+Adds-none err g = λ start before u. subst (Underway start err g) (sym (append-nil before)) u
 
--- some of what was gathered was sent, one more text was gathered, and some more was sent
-pub Sent-more : (a b c : Option (List ℕ)) (before gathered more after : List ℕ) → Sent a b before gathered → Sent b c (gathered ++ more) after → Sent a c (before ++ more) after
-Sent-more a b c before gathered more after p q = record {
-  sent = p.sent ++ q.sent;
-  appends = Appends-trans a b c p.sent q.sent p.appends q.appends;
-  parts = ap (λ l. l ++ more) p.parts ∙ append_assoc p.sent gathered more ∙ ap (λ l. p.sent ++ l) q.parts ∙ sym (append_assoc p.sent q.sent after);
-}
+-- one text was added, and then another
+pub Adds-then : (a b c : Watch) (g h k first second : List ℕ) → Adds a g b h first → Adds b h c k second → Adds a g c k (first ++ second)
+Adds-then a b c g h k first second p q = λ start before u. subst (Underway start c k) (append_assoc before first second) (q start (before ++ first) (p start before u))
 
--- a prefix of the rest was sent
-pub Sent-prefix : (a b c : Option (List ℕ)) (before gathered more : List ℕ) → Sent a b before gathered → AppendsPrefix b c (gathered ++ more) → AppendsPrefix a c (before ++ more)
-Sent-prefix a b c before gathered more p q =
-    let whole = ap (λ l. l ++ more) p.parts ∙ append_assoc p.sent gathered more in
-    subst (AppendsPrefix a c) (sym whole) (AppendsPrefix-after a b c p.sent (gathered ++ more) p.appends q)
+-- the next piece was added
+pub Adds-piece : {X : Type 0} (piece : X → List ℕ) (xs : List X) (i : ℕ) (d : X) (a b c : Watch) (g h k : List ℕ) → i < length xs
+    → Adds a g b h (flat_map piece (take i xs)) → Adds b h c k (piece (get_or xs i d)) → Adds a g c k (flat_map piece (take (i + 1) xs))
+Adds-piece piece xs i d a b c g h k lt p q =
+    let whole = ap (λ n. flat_map piece (take n xs)) (add-one i) ∙ ap (flat_map piece) (take-suc xs i d lt) ∙ flat_map-append piece (take i xs) (get_or xs i d ∷ [])
+    ∙ ap (λ l. flat_map piece (take i xs) ++ l) (append-nil (piece (get_or xs i d))) in
+    subst (Adds a g c k) (sym whole) (Adds-then a b c g h k _ _ p q)
 
--- all of the rest was sent
-pub Sent-all : (a b c : Option (List ℕ)) (before gathered : List ℕ) → Sent a b before gathered → Appends b c gathered → Appends a c before
-Sent-all a b c before gathered p q = subst (Appends a c) (sym p.parts) (Appends-trans a b c p.sent gathered p.appends q)
-
--- the next piece was gathered
-pub Sent-piece : {X : Type 0} (piece : X → List ℕ) (xs : List X) (i : ℕ) (d : X) (a b c : Option (List ℕ)) (start gathered after : List ℕ) → i < length xs
-    → Sent a b (start ++ flat_map piece (take i xs)) gathered → Sent b c (gathered ++ piece (get_or xs i d)) after → Sent a c (start ++ flat_map piece (take (i + 1) xs)) after
-Sent-piece piece xs i d a b c start gathered after lt p q =
-    let whole = ap (λ n. start ++ flat_map piece (take n xs)) (add-one i) ∙ ap (λ l. start ++ l) (flat_map-take-suc piece xs i d lt) ∙ sym (append_assoc start _ _) in
-    subst (λ l. Sent a c l after) (sym whole) (Sent-more a b c _ gathered _ after p q)
-
--- a prefix of the next piece was sent
-pub Sent-piece-prefix : {X : Type 0} (piece : X → List ℕ) (xs : List X) (i : ℕ) (d : X) (a b c : Option (List ℕ)) (start gathered : List ℕ) → i < length xs
-    → Sent a b (start ++ flat_map piece (take i xs)) gathered → AppendsPrefix b c (gathered ++ piece (get_or xs i d)) → AppendsPrefix a c (start ++ flat_map piece xs)
-Sent-piece-prefix piece xs i d a b c start gathered lt p q =
-    let one = ap (λ l. start ++ l) (flat_map-take-suc piece xs i d lt) ∙ sym (append_assoc start _ _) in
-    let whole = ap (λ l. start ++ l) (flat_map-take-drop piece xs (suc i)) ∙ sym (append_assoc start _ _) ∙ ap (λ l. l ++ flat_map piece (drop (suc i) xs)) one in
-    subst (AppendsPrefix a c) (sym whole) (AppendsPrefix-longer a c _ (flat_map piece (drop (suc i) xs)) (Sent-prefix a b c _ gathered _ p q))
-
--- two texts were gathered
-pub Sent-two : (a b c : Option (List ℕ)) (start first second gathered after : List ℕ) → Sent a b (start ++ first) gathered → Sent b c (gathered ++ second) after → Sent a c (start ++ (first ++ second)) after
-Sent-two a b c start first second gathered after p q = subst (λ l. Sent a c l after) (append_assoc start first second) (Sent-more a b c (start ++ first) gathered second after p q)
-
--- a prefix of the second of two texts was sent
-pub Sent-two-prefix : (a b c : Option (List ℕ)) (start first second gathered : List ℕ) → Sent a b (start ++ first) gathered → AppendsPrefix b c (gathered ++ second) → AppendsPrefix a c (start ++ (first ++ second))
-Sent-two-prefix a b c start first second gathered p q = subst (AppendsPrefix a c) (append_assoc start first second) (Sent-prefix a b c (start ++ first) gathered second p q)
-
--- a prefix of the first of two texts was sent
-pub AppendsPrefix-two : (a b : Option (List ℕ)) (start first second : List ℕ) → AppendsPrefix a b (start ++ first) → AppendsPrefix a b (start ++ (first ++ second))
-AppendsPrefix-two a b start first second p = subst (AppendsPrefix a b) (append_assoc start first second) (AppendsPrefix-longer a b (start ++ first) second p)
-
--- what was gathered was sent, and then a text
-pub Sent-both : (a b c : Option (List ℕ)) (gathered text after : List ℕ) → Appends a b gathered → Appends b c text → after ≡ [] → Sent a c (gathered ++ text) after
-Sent-both a b c gathered text after p q none = record {
-  sent = gathered ++ text;
-  appends = Appends-trans a b c gathered text p q;
-  parts = sym (append-nil (gathered ++ text)) ∙ ap (λ l. (gathered ++ text) ++ l) (sym none);
-}
-
--- the rest of a text was put, or the writer failed
-pub Writes-last : {T E : Type 0} (old mid new : Watch) (text gathered : List ℕ) (put : Result T E) → Sent old.contents mid.contents text gathered
-    → OnOk put (Appends mid.contents new.contents gathered) → OnErr put (AppendsPrefix mid.contents new.contents gathered) → new.failed ≡ is_err put → Writes old new text
-Writes-last old mid new text gathered (Ok x) s all prefix failed =
-    let whole = Sent-all _ _ _ text gathered s all in
-    record { prefix = AppendsPrefix-all _ _ text whole; whole = λ _. whole }
-Writes-last old mid new text gathered (Err e) s all prefix failed = record {
-  prefix = rw s.parts (AppendsPrefix-after _ _ _ s.sent gathered s.appends prefix);
+-- the writer has failed
+pub Adds-failed : (err : Watch) (g text : List ℕ) → IsTrue err.failed → Adds err g err g text
+Adds-failed err g text failed = λ start before u. record {
   whole = λ well. absurd (false≢true (sym well ∙ failed));
+  prefix = AppendsPrefix-longer start err.contents before text u.prefix;
 }
+
+-- there was room for it
+pub Adds-gathered : (err : Watch) (g after text : List ℕ) → after ≡ g ++ text → Adds err g err after text
+Adds-gathered err g after text is = λ start before u. record {
+  whole = λ well.
+      let s = u.whole well in
+      record { sent = s.sent; appends = s.appends; parts = ap (λ l. l ++ text) s.parts ∙ append_assoc s.sent g text ∙ ap (λ l. s.sent ++ l) (sym is) };
+  prefix = AppendsPrefix-longer start err.contents before text u.prefix;
+}
+
+-- all that was gathered before was written
+sent-all : (start : Option (List ℕ)) (err mid : Watch) (g before : List ℕ) → IsFalse err.failed → Underway start err g before → Appends err.contents mid.contents g → Appends start mid.contents before
+sent-all start err mid g before well u p =
+    let s = u.whole well in
+    subst (Appends start mid.contents) (sym s.parts) (Appends-trans start err.contents mid.contents s.sent g s.appends p)
+
+-- or a prefix of it was
+sent-prefix : (start : Option (List ℕ)) (err mid : Watch) (g before : List ℕ) → IsFalse err.failed → Underway start err g before → AppendsPrefix err.contents mid.contents g → AppendsPrefix start mid.contents before
+sent-prefix start err mid g before well u p =
+    let s = u.whole well in
+    subst (AppendsPrefix start mid.contents) (sym s.parts) (AppendsPrefix-after start err.contents mid.contents s.sent g s.appends p)
+
+-- the writer failed before the text
+pub Adds-cut : (err mid : Watch) (g text : List ℕ) → IsFalse err.failed → IsTrue mid.failed → AppendsPrefix err.contents mid.contents g → Adds err g mid g text
+Adds-cut err mid g text well failed p = λ start before u. record {
+  whole = λ well. absurd (false≢true (sym well ∙ failed));
+  prefix = AppendsPrefix-longer start mid.contents before text (sent-prefix start err mid g before well u p);
+}
+
+-- what was gathered was written, and then the text
+pub Adds-sent : {T E : Type 0} (err mid new : Watch) (g after text : List ℕ) (put : Result T E) → IsFalse err.failed → Appends err.contents mid.contents g
+    → OnOk put (Appends mid.contents new.contents text) → OnErr put (AppendsPrefix mid.contents new.contents text) → new.failed ≡ is_err put → after ≡ [] → Adds err g new after text
+Adds-sent err mid new g after text (Ok x) well p all prefix failed none = λ start before u.
+    let whole = Appends-trans start mid.contents new.contents before text (sent-all start err mid g before well u p) all in
+    record {
+      whole = λ _. record { sent = before ++ text; appends = whole; parts = sym (append-nil (before ++ text)) ∙ ap (λ l. (before ++ text) ++ l) (sym none) };
+      prefix = AppendsPrefix-all start new.contents (before ++ text) whole;
+    }
+Adds-sent err mid new g after text (Err e) well p all prefix failed none = λ start before u. record {
+  whole = λ well'. absurd (false≢true (sym well' ∙ failed));
+  prefix = AppendsPrefix-after start mid.contents new.contents before text (sent-all start err mid g before well u p) prefix;
+}
+
+-- the writer has failed, so nothing more is written
+pub Sends-failed : (err : Watch) (g : List ℕ) → IsTrue err.failed → Sends err g err
+Sends-failed err g failed = λ start text u. record { prefix = u.prefix; whole = λ well. absurd (false≢true (sym well ∙ failed)) }
+
+-- what is gathered was written
+pub Sends-put : {T E : Type 0} (err new : Watch) (g : List ℕ) (put : Result T E) → IsFalse err.failed → OnOk put (Appends err.contents new.contents g) → OnErr put (AppendsPrefix err.contents new.contents g)
+    → new.failed ≡ is_err put → Sends err g new
+Sends-put err new g (Ok x) well all prefix failed = λ start text u.
+    let whole = sent-all start.contents err new g text well u all in
+    record { prefix = AppendsPrefix-all start.contents new.contents text whole; whole = λ _. whole }
+Sends-put err new g (Err e) well all prefix failed = λ start text u. record {
+  prefix = sent-prefix start.contents err new g text well u prefix;
+  whole = λ well'. absurd (false≢true (sym well' ∙ failed));
+}
+
+-- two texts were added and sent
+pub Writes-two : (a b c new : Watch) (g h first second : List ℕ) → Adds a [] b g first → Adds b g c h second → Sends c h new → Writes a new (first ++ second)
+Writes-two a b c new g h first second p q sends = sends a (first ++ second) (Adds-then a b c [] g h first second p q a.contents [] (underway-none a))

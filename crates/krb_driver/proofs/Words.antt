@@ -5,7 +5,7 @@ use Rattle.std.specs.List.{list_any}
 use Rattle.krb_walk.specs.declared.fault.FaultKind.{FaultKind}
 use Rattle.krb_walk.specs.declared.refusal.Code.{Code}
 use Rattle.krb_walk.specs.Said.{Said}
-use Rattle.krb_driver.specs.declared.reporting.piece.Piece.{Piece}
+use Rattle.krb_driver.specs.declared.reporting.piece.MessagePiece.{MessagePiece}
 use Rattle.krb_driver.specs.declared.verdict.FileKind.{FileKind}
 use Rattle.krb_driver.specs.declared.verdict.Verdict.{Verdict}
 use Rattle.krb_driver.specs.declared.verdict.Verdict.TheVariants.{Well, Replied}
@@ -19,7 +19,7 @@ use Rattle.krb_driver.specs.Runs.{Writes}
 use Rattle.krb_driver.specs.PieceTexts.{piece_text, pieces_text, pieces_before}
 use Rattle.krb_driver.specs.Reported.{is_failure, reported_codes, reported_faults, replied_verdict}
 
-pub pieces_text-append : (pieces : List Piece) (rest : List ℕ) → pieces_text pieces ++ rest ≡ pieces_before pieces rest
+pub pieces_text-append : (pieces : List MessagePiece) (rest : List ℕ) → pieces_text pieces ++ rest ≡ pieces_before pieces rest
 pieces_text-append [] rest = refl
 pieces_text-append (p ∷ ps) rest = append_assoc (piece_text p) (pieces_text ps) rest ∙ ap (λ l. piece_text p ++ l) (pieces_text-append ps rest)
 

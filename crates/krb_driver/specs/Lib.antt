@@ -7,6 +7,7 @@ pub mod Reported
 pub mod Words
 pub mod ErrorOutput
 pub mod Runs
+pub mod Underway
 pub mod Mistakes
 pub mod Matches
 pub mod Loading

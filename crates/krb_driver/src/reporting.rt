@@ -22,7 +22,7 @@ use crate::error::RunError;
 use crate::loading::NotKeytab;
 use crate::reporting::error_output::ErrorOutput;
 use crate::reporting::found_words::report_findings;
-use crate::reporting::piece::Piece;
+use crate::reporting::piece::MessagePiece;
 use crate::reporting::reported_words::report_replies;
 use crate::reporting::words::ending_words;
 use crate::reporting::writing::write_pieces;
@@ -46,17 +46,17 @@ pub fn show<W: Write>(
 }
 
 /// The pieces of a message. Unused ones are empty.
-type Message<'a> = [Piece<'a>; 7];
+type Message<'a> = [MessagePiece<'a>; 7];
 
-const NONE: Piece<'static> = Piece::Text("");
+const NONE: MessagePiece<'static> = MessagePiece::Text("");
 
 // Returns the message `krbfile: WHAT`.
 fn message<'a>(what: &'a str) -> Message<'a>
     ensures { pieces_text result ≡ message what.now }
 {
-    let head = Piece::Text("krbfile: ");
-    let end = Piece::Text("\n");
-    [head, Piece::Text(what), end, NONE, NONE, NONE, NONE]
+    let head = MessagePiece::Text("krbfile: ");
+    let end = MessagePiece::Text("\n");
+    [head, MessagePiece::Text(what), end, NONE, NONE, NONE, NONE]
 }
 
 // Returns the message `krbfile: FILE: WHAT`.
@@ -64,11 +64,11 @@ fn file_message<'a>(file: &'a [u8], what: &'a str) -> Message<'a>
     ensures { pieces_text result ≡ file_message file.now what.now }
 {
     [
-        Piece::Text("krbfile: "),
-        Piece::Name(file),
-        Piece::Text(": "),
-        Piece::Text(what),
-        Piece::Text("\n"),
+        MessagePiece::Text("krbfile: "),
+        MessagePiece::Name(file),
+        MessagePiece::Text(": "),
+        MessagePiece::Text(what),
+        MessagePiece::Text("\n"),
         NONE,
         NONE,
     ]
@@ -84,13 +84,13 @@ fn file_number_message<'a>(
     ensures { pieces_text result ≡ file_number_message file.now before.now number after.now }
 {
     [
-        Piece::Text("krbfile: "),
-        Piece::Name(file),
-        Piece::Text(": "),
-        Piece::Text(before),
-        Piece::Number(u64::from(number)),
-        Piece::Text(after),
-        Piece::Text("\n"),
+        MessagePiece::Text("krbfile: "),
+        MessagePiece::Name(file),
+        MessagePiece::Text(": "),
+        MessagePiece::Text(before),
+        MessagePiece::Number(u64::from(number)),
+        MessagePiece::Text(after),
+        MessagePiece::Text("\n"),
     ]
 }
 
@@ -99,12 +99,12 @@ fn line_message<'a>(line: u64, what: &'a str, number: u32) -> Message<'a>
     ensures { pieces_text result ≡ line_message line what.now number }
 {
     [
-        Piece::Text("krbfile: line "),
-        Piece::Number(line),
-        Piece::Text(": "),
-        Piece::Text(what),
-        Piece::Number(u64::from(number)),
-        Piece::Text("\n"),
+        MessagePiece::Text("krbfile: line "),
+        MessagePiece::Number(line),
+        MessagePiece::Text(": "),
+        MessagePiece::Text(what),
+        MessagePiece::Number(u64::from(number)),
+        MessagePiece::Text("\n"),
         NONE,
     ]
 }

@@ -5,8 +5,8 @@ ghost use Rattle.krb_driver.specs.PieceTexts.{piece_text, pieces_text};
 ghost use Rattle.krb_driver.specs.Runs.{Writes};
 ghost use Rattle.krb_driver.specs.Words.{found_fault_words, found_words, word_lines};
 
-use crate::reporting::piece::Piece;
-use crate::reporting::words::{Words, listed_words, no_words};
+use crate::reporting::piece::MessagePiece;
+use crate::reporting::words::{Explanation, listed_words, no_words};
 use crate::reporting::writing::write_pieces;
 use crate::verdict::Findings;
 use krb_audit::FindingWords;
@@ -15,18 +15,18 @@ use krb_walk::Fault;
 use std::io::Write;
 
 // Returns a line if its word was printed, else nothing.
-fn line_if(is_printed: bool, line: &'static str) -> Piece<'static>
+fn line_if(is_printed: bool, line: &'static str) -> MessagePiece<'static>
     ensures { piece_text result ≡ (if is_printed then line.now else []) }
 {
     if is_printed {
-        Piece::Text(line)
+        MessagePiece::Text(line)
     } else {
-        Piece::Text("")
+        MessagePiece::Text("")
     }
 }
 
 // Returns a line for each word that was printed.
-fn word_lines(reported: FindingWords) -> [Piece<'static>; 6]
+fn word_lines(reported: FindingWords) -> [MessagePiece<'static>; 6]
     ensures { pieces_text result ≡ word_lines reported }
 {
     [
@@ -58,7 +58,7 @@ fn word_lines(reported: FindingWords) -> [Piece<'static>; 6]
 }
 
 // Returns the words for the fault that was found, if any.
-fn fault_words(file: &[u8], fault: Option<Fault>) -> Words<'_>
+fn fault_words(file: &[u8], fault: Option<Fault>) -> Explanation<'_>
     ensures { pieces_text result ≡ found_fault_words file.now fault }
 {
     match fault {

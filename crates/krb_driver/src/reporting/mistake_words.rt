@@ -8,23 +8,23 @@ ghost use Rattle.krb_driver.specs.Runs.{Writes};
 
 use crate::command_line::mistake::{BadLine, Mistake, WordFault};
 use crate::reporting::error_output::ErrorOutput;
-use crate::reporting::piece::Piece;
+use crate::reporting::piece::MessagePiece;
 use crate::reporting::writing::write_pieces;
 use krb_files::Watched;
 use std::io::Write;
 
-const NONE: Piece<'static> = Piece::Text("");
+const NONE: MessagePiece<'static> = MessagePiece::Text("");
 
-const HEAD: Piece<'static> = Piece::Text("krbfile: bad command line\nkrbfile: ");
+const HEAD: MessagePiece<'static> = MessagePiece::Text("krbfile: bad command line\nkrbfile: ");
 
 /// The pieces of the message for a bad command line. Unused ones are empty.
-type Line<'a> = [Piece<'a>; 5];
+type Line<'a> = [MessagePiece<'a>; 5];
 
 // A text alone.
 fn alone<'a>(text: &'static str) -> Line<'a>
     ensures { (rest : List ℕ) → pieces_before result rest ≡ mistake_head ++ (text.now ++ rest) }
 {
-    [HEAD, Piece::Text(text), NONE, NONE, NONE]
+    [HEAD, MessagePiece::Text(text), NONE, NONE, NONE]
 }
 
 // A text, and a word after it.
@@ -32,7 +32,13 @@ fn before<'a>(text: &'static str, word: &'a str) -> Line<'a>
     ensures { (rest : List ℕ) → pieces_before result rest
         ≡ mistake_head ++ (text.now ++ (shown_word word.now ++ rest)) }
 {
-    [HEAD, Piece::Text(text), Piece::Word(word), NONE, NONE]
+    [
+        HEAD,
+        MessagePiece::Text(text),
+        MessagePiece::Word(word),
+        NONE,
+        NONE,
+    ]
 }
 
 // A word, and a text after it.
@@ -40,7 +46,13 @@ fn after<'a>(word: &'a str, text: &'static str) -> Line<'a>
     ensures { (rest : List ℕ) → pieces_before result rest
         ≡ mistake_head ++ (shown_word word.now ++ (text.now ++ rest)) }
 {
-    [HEAD, Piece::Word(word), Piece::Text(text), NONE, NONE]
+    [
+        HEAD,
+        MessagePiece::Word(word),
+        MessagePiece::Text(text),
+        NONE,
+        NONE,
+    ]
 }
 
 // A word in quotes, and what is wrong with it, in two texts.
@@ -50,10 +62,10 @@ fn quoted<'a>(word: &'a str, verb: &'static str, what: &'static str) -> Line<'a>
 {
     [
         HEAD,
-        Piece::Text("\""),
-        Piece::Word(word),
-        Piece::Text(verb),
-        Piece::Text(what),
+        MessagePiece::Text("\""),
+        MessagePiece::Word(word),
+        MessagePiece::Text(verb),
+        MessagePiece::Text(what),
     ]
 }
 
@@ -64,9 +76,9 @@ fn apart<'a>(option: &'a str, other: &'a str) -> Line<'a>
 {
     [
         HEAD,
-        Piece::Word(option),
-        Piece::Text(" does not go with "),
-        Piece::Word(other),
+        MessagePiece::Word(option),
+        MessagePiece::Text(" does not go with "),
+        MessagePiece::Word(other),
         NONE,
     ]
 }
@@ -97,13 +109,17 @@ fn mistake_pieces(mistake: Mistake<'_>) -> Line<'_>
 }
 
 // Returns the reference to the help: krbfile's, or a command's.
-fn help_pieces(command: Option<&str>) -> [Piece<'_>; 3]
+fn help_pieces(command: Option<&str>) -> [MessagePiece<'_>; 3]
     ensures { pieces_text result ≡ help_of (option_map (λ name. name.now) command.entry) }
 {
-    let end = Piece::Text(" --help\n");
+    let end = MessagePiece::Text(" --help\n");
     match command {
-        None => [Piece::Text("; see krbfile"), NONE, end],
-        Some(command) => [Piece::Text("; see krbfile "), Piece::Text(command), end],
+        None => [MessagePiece::Text("; see krbfile"), NONE, end],
+        Some(command) => [
+            MessagePiece::Text("; see krbfile "),
+            MessagePiece::Text(command),
+            end,
+        ],
     }
 }
 
@@ -120,7 +136,7 @@ fn report_mistake<E: Write>(line: BadLine<'_>, err: &mut Watched<E>)
 fn report_text<E: Write>(text: &'static str, err: &mut Watched<E>)
     ensures { Writes err.old err.new (text.now ++ []) }
 {
-    write_pieces(err, &[Piece::Text(text)], &[]);
+    write_pieces(err, &[MessagePiece::Text(text)], &[]);
 }
 
 /// Reports on `err` why words were not read, and returns the exit status. Ignores a failure of `err`.

@@ -7,7 +7,7 @@ use arrayvec::ArrayVec;
 
 /// A piece of a message.
 #[derive(Clone, Copy)]
-pub enum Piece<'a> {
+pub enum MessagePiece<'a> {
     Text(&'a str),
     /// The name of a file.
     Name(&'a [u8]),

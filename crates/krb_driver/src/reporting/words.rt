@@ -8,7 +8,7 @@ ghost use Rattle.krb_driver.specs.Words.{cache_phrase, cause_words, ending_words
 
 use crate::error::RunError;
 use crate::loading::{NotCache, NotKeytab};
-use crate::reporting::piece::Piece;
+use crate::reporting::piece::MessagePiece;
 use crate::verdict::{FileKind, Verdict};
 use krb_ccache::CcOpenFault;
 use krb_files::Cause;
@@ -17,45 +17,49 @@ use krb_text::LineFault;
 use krb_walk::{Code, Fault};
 
 /// The pieces of words. Unused ones are empty.
-pub type Words<'a> = [Piece<'a>; 9];
+pub type Explanation<'a> = [MessagePiece<'a>; 9];
 
-const NONE: Piece<'static> = Piece::Text("");
+const NONE: MessagePiece<'static> = MessagePiece::Text("");
 
 const TOO_LARGE: &str = "it has more than 16,777,216 bytes";
 
 // Returns words of two pieces, after the line number if they are for a line of ktutil.
-fn words<'a>(line: Option<u64>, first: Piece<'a>, second: Piece<'a>) -> Words<'a>
+fn words<'a>(
+    line: Option<u64>,
+    first: MessagePiece<'a>,
+    second: MessagePiece<'a>,
+) -> Explanation<'a>
     ensures { pieces_text result ≡ words_line line
         (piece_text first.entry ++ (piece_text second.entry ++ codes "\n")) }
 {
-    let end = Piece::Text("\n");
+    let end = MessagePiece::Text("\n");
     match line {
         None => {
-            let head = Piece::Text("krbfile: ");
+            let head = MessagePiece::Text("krbfile: ");
             [head, first, second, end, NONE, NONE, NONE, NONE, NONE]
         }
         Some(line) => {
-            let head = Piece::Text("krbfile: line ");
-            let number = Piece::Number(line);
-            let colon = Piece::Text(": ");
+            let head = MessagePiece::Text("krbfile: line ");
+            let number = MessagePiece::Number(line);
+            let colon = MessagePiece::Text(": ");
             [head, number, colon, first, second, end, NONE, NONE, NONE]
         }
     }
 }
 
 /// Returns no words.
-pub fn no_words<'a>() -> Words<'a>
+pub fn no_words<'a>() -> Explanation<'a>
     ensures { pieces_text result ≡ [] }
 {
-    let none = Piece::Text("");
+    let none = MessagePiece::Text("");
     [none; 9]
 }
 
 // Returns words that are one phrase.
-fn phrase<'a>(line: Option<u64>, text: &'static str) -> Words<'a>
+fn phrase<'a>(line: Option<u64>, text: &'static str) -> Explanation<'a>
     ensures { pieces_text result ≡ phrase_line line text.now }
 {
-    words(line, Piece::Text(text), Piece::Text(""))
+    words(line, MessagePiece::Text(text), MessagePiece::Text(""))
 }
 
 // Returns the phrase for a refusal by a keytab.
@@ -144,7 +148,7 @@ fn line_fault_phrase(line: Option<u64>, fault: LineFault) -> &'static str
 }
 
 // Returns the words for a missing file: only ktutil has some.
-fn missing_words<'a>(line: Option<u64>) -> Words<'a>
+fn missing_words<'a>(line: Option<u64>) -> Explanation<'a>
     ensures { pieces_text result ≡ missing_words line }
 {
     match line {
@@ -154,44 +158,49 @@ fn missing_words<'a>(line: Option<u64>) -> Words<'a>
 }
 
 // Returns the words for the cause of a failed call, if it is known.
-fn cause_words(file: &[u8], line: Option<u64>, cause: Option<Cause>) -> Words<'_>
+fn cause_words(file: &[u8], line: Option<u64>, cause: Option<Cause>) -> Explanation<'_>
     ensures { pieces_text result ≡ cause_words file.now line cause }
 {
     match cause {
         None => no_words(),
         Some(Cause::InTheWay) => words(
             line,
-            Piece::Name(file),
-            Piece::Text(".krbfile is in the way"),
+            MessagePiece::Name(file),
+            MessagePiece::Text(".krbfile is in the way"),
         ),
         Some(Cause::System(number)) => words(
             line,
-            Piece::Text("error "),
-            Piece::Number(u64::from(number.unsigned_abs())),
+            MessagePiece::Text("error "),
+            MessagePiece::Number(u64::from(number.unsigned_abs())),
         ),
         Some(cause) => phrase(line, cause.phrase()),
     }
 }
 
 /// Returns the words for the fault that a listing reports, with the file's name and the fault's phrase.
-pub fn listed_words(file: &[u8], fault: Fault) -> Words<'_>
+pub fn listed_words(file: &[u8], fault: Fault) -> Explanation<'_>
     ensures { pieces_text result ≡ listed_words file.now fault }
 {
     [
-        Piece::Text("krbfile: "),
-        Piece::Name(file),
-        Piece::Text(": fault "),
-        Piece::Number(u64::from(fault.kind.number())),
-        Piece::Text(" at "),
-        Piece::Number(u64::from(fault.place)),
-        Piece::Text("\nkrbfile: "),
-        Piece::Text(fault.kind.phrase()),
-        Piece::Text("\n"),
+        MessagePiece::Text("krbfile: "),
+        MessagePiece::Name(file),
+        MessagePiece::Text(": fault "),
+        MessagePiece::Number(u64::from(fault.kind.number())),
+        MessagePiece::Text(" at "),
+        MessagePiece::Number(u64::from(fault.place)),
+        MessagePiece::Text("\nkrbfile: "),
+        MessagePiece::Text(fault.kind.phrase()),
+        MessagePiece::Text("\n"),
     ]
 }
 
 // Returns the words that explain an error of a run over `file`, or of line `line` of ktutil.
-fn error_words(error: RunError, file: &[u8], line: Option<u64>, cause: Option<Cause>) -> Words<'_>
+fn error_words(
+    error: RunError,
+    file: &[u8],
+    line: Option<u64>,
+    cause: Option<Cause>,
+) -> Explanation<'_>
     ensures { pieces_text result ≡ error_words file.now line cause error }
 {
     match error {
@@ -214,7 +223,7 @@ fn error_words(error: RunError, file: &[u8], line: Option<u64>, cause: Option<Ca
 }
 
 // Returns the words that explain a verdict other than replies and findings, which have more words than these.
-fn verdict_words(verdict: Verdict, file: &[u8], line: Option<u64>) -> Words<'_>
+fn verdict_words(verdict: Verdict, file: &[u8], line: Option<u64>) -> Explanation<'_>
     requires { IsFalse (is_itemized verdict) }
     ensures { pieces_text result ≡ verdict_words file.now line verdict }
 {
@@ -233,7 +242,7 @@ pub fn ending_words(
     file: &[u8],
     line: Option<u64>,
     cause: Option<Cause>,
-) -> Words<'_>
+) -> Explanation<'_>
     requires { IfOk ending (λ verdict. IsFalse (is_itemized verdict)) }
     ensures { pieces_text result ≡ ending_words file.now line cause ending }
 {

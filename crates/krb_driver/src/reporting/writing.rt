@@ -1,15 +1,14 @@
 //! Writes each message in one write, if it fits.
 
-ghost use Rattle.std.specs.Prelude.{◌++◌, OnOk, OnErr, IsTrue};
-ghost use Rattle.krb_files.specs.Bytes.{AppendsPrefix};
-ghost use Rattle.krb_text.specs.Gathered.{Sent};
+ghost use Rattle.std.specs.Prelude.{◌++◌};
 ghost use Rattle.krb_driver.specs.PieceTexts.{piece_text, pieces_text, shown_word};
 ghost use Rattle.krb_driver.specs.Runs.{Writes};
+ghost use Rattle.krb_driver.specs.Underway.{Adds, Sends};
 
-use crate::reporting::piece::{Piece, shown_byte};
+use crate::reporting::piece::{MessagePiece, shown_byte};
 use arrayvec::ArrayVec;
 use itoa::Buffer;
-use krb_files::{OutFault, Watched, put};
+use krb_files::{Watched, put};
 use std::io::Write;
 
 // The size of the buffer: a message and its words of at most that many bytes go out in one write.
@@ -19,103 +18,76 @@ const ROOM: usize = 4352;
 pub type Gathered = ArrayVec<u8, ROOM>;
 
 // Adds a text to the buffer. If there is no room for it, writes out the buffer and then the text.
-fn add<E: Write>(text: &[u8], gathered: &mut Gathered, err: &mut Watched<E>) -> Result<(), OutFault>
-    ensures ok { OnOk result (Sent err.old.contents err.new.contents
-        (gathered.old.items ++ text.now) gathered.new.items) }
-    ensures prefix { OnErr result (AppendsPrefix err.old.contents err.new.contents
-        (gathered.old.items ++ text.now)) }
-    ensures failed { OnErr result (IsTrue err.new.failed) }
+fn add<E: Write>(text: &[u8], gathered: &mut Gathered, err: &mut Watched<E>)
+    ensures { Adds err.old gathered.old.items err.new gathered.new.items text.now }
 {
-    match gathered.try_extend_from_slice(text) {
-        Ok(()) => Ok(()),
-        Err(_) => {
-            put(err, gathered.as_slice())?;
-            gathered.clear();
-            put(err, text)
-        }
+    if err.has_failed() {
+        return;
     }
+    match gathered.try_extend_from_slice(text) {
+        Ok(()) => return,
+        Err(_) => {}
+    }
+    match put(err, gathered.as_slice()) {
+        Ok(()) => gathered.clear(),
+        Err(_) => return,
+    }
+    let _ = put(err, text);
 }
 
 // Adds a word as it is printed.
-fn add_word<E: Write>(
-    word: &[u8],
-    gathered: &mut Gathered,
-    err: &mut Watched<E>,
-) -> Result<(), OutFault>
-    ensures ok { OnOk result (Sent err.old.contents err.new.contents
-        (gathered.old.items ++ shown_word word.now) gathered.new.items) }
-    ensures prefix { OnErr result (AppendsPrefix err.old.contents err.new.contents
-        (gathered.old.items ++ shown_word word.now)) }
-    ensures failed { OnErr result (IsTrue err.new.failed) }
+fn add_word<E: Write>(word: &[u8], gathered: &mut Gathered, err: &mut Watched<E>)
+    ensures { Adds err.old gathered.old.items err.new gathered.new.items (shown_word word.now) }
 {
     'bytes: for byte in word {
-        add(shown_byte(*byte).as_slice(), gathered, err)?;
+        add(shown_byte(*byte).as_slice(), gathered, err);
     }
-    Ok(())
 }
 
-fn add_piece<E: Write>(
-    piece: Piece<'_>,
-    gathered: &mut Gathered,
-    err: &mut Watched<E>,
-) -> Result<(), OutFault>
-    ensures ok { OnOk result (Sent err.old.contents err.new.contents
-        (gathered.old.items ++ piece_text piece.entry) gathered.new.items) }
-    ensures prefix { OnErr result (AppendsPrefix err.old.contents err.new.contents
-        (gathered.old.items ++ piece_text piece.entry)) }
-    ensures failed { OnErr result (IsTrue err.new.failed) }
+fn add_piece<E: Write>(piece: MessagePiece<'_>, gathered: &mut Gathered, err: &mut Watched<E>)
+    ensures { Adds err.old gathered.old.items err.new gathered.new.items (piece_text piece.entry) }
 {
     match piece {
-        Piece::Text(text) => add(text.as_bytes(), gathered, err),
-        Piece::Name(name) => add(name, gathered, err),
-        Piece::Number(number) => add(Buffer::new().format(number).as_bytes(), gathered, err),
-        Piece::Word(word) => add_word(word.as_bytes(), gathered, err),
+        MessagePiece::Text(text) => add(text.as_bytes(), gathered, err),
+        MessagePiece::Name(name) => add(name, gathered, err),
+        MessagePiece::Number(number) => add(Buffer::new().format(number).as_bytes(), gathered, err),
+        MessagePiece::Word(word) => add_word(word.as_bytes(), gathered, err),
     }
 }
 
 /// Adds pieces one after the other.
 pub fn add_pieces<E: Write>(
-    pieces: &[Piece<'_>],
+    pieces: &[MessagePiece<'_>],
     gathered: &mut Gathered,
     err: &mut Watched<E>,
-) -> Result<(), OutFault>
-    ensures ok { OnOk result (Sent err.old.contents err.new.contents
-        (gathered.old.items ++ pieces_text pieces.now) gathered.new.items) }
-    ensures prefix { OnErr result (AppendsPrefix err.old.contents err.new.contents
-        (gathered.old.items ++ pieces_text pieces.now)) }
-    ensures failed { OnErr result (IsTrue err.new.failed) }
+)
+    ensures { Adds err.old gathered.old.items err.new gathered.new.items (pieces_text pieces.now) }
 {
     'pieces: for piece in pieces {
-        add_piece(*piece, gathered, err)?;
+        add_piece(*piece, gathered, err);
     }
-    Ok(())
 }
 
-// Adds two lists of pieces.
-fn add_both<E: Write>(
-    first: &[Piece<'_>],
-    second: &[Piece<'_>],
-    gathered: &mut Gathered,
-    err: &mut Watched<E>,
-) -> Result<(), OutFault>
-    ensures ok { OnOk result (Sent err.old.contents err.new.contents
-        (gathered.old.items ++ (pieces_text first.now ++ pieces_text second.now)) gathered.new.items) }
-    ensures prefix { OnErr result (AppendsPrefix err.old.contents err.new.contents
-        (gathered.old.items ++ (pieces_text first.now ++ pieces_text second.now))) }
-    ensures failed { OnErr result (IsTrue err.new.failed) }
+/// Writes out the buffer. Ignores a failure.
+pub fn send<E: Write>(gathered: &Gathered, err: &mut Watched<E>)
+    ensures { Sends err.old gathered.now.items err.new }
 {
-    add_pieces(first, gathered, err)?;
-    add_pieces(second, gathered, err)
+    if err.has_failed() {
+        return;
+    }
+    let _ = put(err, gathered.as_slice());
 }
 
 /// Writes a message and the words that explain it, in one write if they fit. Ignores a failure.
-pub fn write_pieces<E: Write>(err: &mut Watched<E>, message: &[Piece<'_>], words: &[Piece<'_>])
+pub fn write_pieces<E: Write>(
+    err: &mut Watched<E>,
+    message: &[MessagePiece<'_>],
+    words: &[MessagePiece<'_>],
+)
     ensures { Writes err.old err.new (pieces_text message.now ++ pieces_text words.now) }
 {
     let mut gathered = ArrayVec::new();
-    match add_both(message, words, &mut gathered, err) {
-        Ok(()) => {}
-        Err(_) => return,
-    }
-    let _ = put(err, gathered.as_slice());
+    add_pieces(message, &mut gathered, err);
+    add_pieces(words, &mut gathered, err);
+    send(&gathered, err);
 }

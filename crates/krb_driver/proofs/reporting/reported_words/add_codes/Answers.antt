@@ -1,23 +1,18 @@
 use Rattle.std.proofs.Common.{arith, ◌<◌, ◌≤◌, length}
 use Rattle.std.proofs.lemmas.List.{take_all}
-use Rattle.std.proofs.lemmas.Result.{err_from_is_err_and}
 use Rattle.krb_driver.specs.Words.{code_words}
-use Rattle.krb_driver.proofs.Pieces.{Sent-piece, Sent-piece-prefix}
+use Rattle.krb_driver.proofs.Pieces.{Adds-none, Adds-piece}
 use Rattle.krb_driver.proofs.reporting.reported_words.add_codes.Goals as goal
 
--- a prefix of what was gathered and of the next one was written
-pub returns-in_err-add_pieces-clause-prefix : goal.returns-in_err-add_pieces-clause-prefix
-returns-in_err-add_pieces-clause-prefix g c =
-    let p = err_from_is_err_and c.from_residual.result c.from_residual.ensures.1 in
-    let below : c.codes.code-index < length c.args.codes.now = omega arith in
-    rw p.1 (Sent-piece-prefix (code_words c.args.file_kind) c.args.codes.now c.codes.code-index _ _ _ _ _ _ below c.codes.invariant (rw c.code_line.ensures at c.in_err-add_pieces.ensures.prefix))
+pub codes-init : goal.codes-init
+codes-init g c = Adds-none _ _
 
 pub codes-preserved : goal.codes-preserved
 codes-preserved g c =
     let below : c.codes.code-index < length c.args.codes.now = omega arith in
-    Sent-piece (code_words c.args.file_kind) c.args.codes.now c.codes.code-index _ _ _ _ _ _ _ below c.codes.invariant (rw c.code_line.ensures at c.in_ok-add_pieces.ensures.ok)
+    Adds-piece (code_words c.args.file_kind) c.args.codes.now c.codes.code-index _ _ _ _ _ _ _ below c.codes.invariant (rw c.code_line.ensures at c.add_pieces.ensures)
 
-pub returns-clause-ok : goal.returns-clause-ok
-returns-clause-ok g c =
+pub returns : goal.returns
+returns g c =
     let past : length c.args.codes.now ≤ c.codes.code-index = omega arith in
     rw (take_all _ c.args.codes.now past) at c.codes.invariant

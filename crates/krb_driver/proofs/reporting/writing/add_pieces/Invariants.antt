@@ -1,7 +1,8 @@
-use Rattle.std.proofs.Common.{◌++◌, take}
-use Rattle.krb_text.specs.Gathered.{Sent}
-use Rattle.krb_driver.specs.PieceTexts.{pieces_text}
+use Rattle.std.proofs.Common.{take}
+use Rattle.std.specs.List.{flat_map}
+use Rattle.krb_driver.specs.PieceTexts.{piece_text}
+use Rattle.krb_driver.specs.Underway.{Adds}
 use Rattle.krb_driver.proofs.reporting.writing.add_pieces.Given as goal
 
 abbrev pub invariant-pieces : goal.invariant-pieces
-invariant-pieces g l = Sent l.initial.err.contents l.err.contents (l.initial.gathered.items ++ pieces_text (take l.piece-index l.pieces)) l.gathered.items
+invariant-pieces g l = Adds l.initial.err l.initial.gathered.items l.err l.gathered.items (flat_map piece_text (take l.piece-index l.pieces))
