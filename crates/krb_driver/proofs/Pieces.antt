@@ -3,11 +3,11 @@ use Rattle.std.proofs.Common.{◌≡◌, ℕ, ◌+◌, add-one, ◌<◌, List, [
 use Rattle.std.proofs.Math.Seq.{take-suc}
 use Rattle.std.proofs.lemmas.Grind.{flat_map-append}
 use Rattle.std.specs.List.{flat_map}
-use Rattle.std.specs.Prelude.{Result, Ok, Err, OnOk, OnErr, is_err, IsTrue, IsFalse}
+use Rattle.std.specs.Prelude.{Result, Ok, Err, OnOk, OnErr, is_err, IsFalse}
 use Rattle.std.specs.Io.KnownBytes.{Appends}
 use Rattle.std.proofs.lemmas.Bool.{false≢true}
 use Rattle.krb_files.specs.Bytes.{Watch, AppendsPrefix}
-use Rattle.krb_files.proofs.Prefixes.{Appends-nil, Appends-trans, AppendsPrefix-all, AppendsPrefix-after, AppendsPrefix-longer, AppendsPrefix-none}
+use Rattle.krb_files.proofs.Prefixes.{Appends-nil, Appends-trans, AppendsPrefix-all, AppendsPrefix-after, AppendsPrefix-none}
 use Rattle.krb_driver.specs.Runs.{Writes}
 use Rattle.krb_driver.specs.Underway.{Adds, Sends, Underway}
 
@@ -31,22 +31,6 @@ Adds-piece piece xs i d a b c g h k lt p q =
     ∙ ap (λ l. flat_map piece (take i xs) ++ l) (append-nil (piece (get_or xs i d))) in
     subst (Adds a g c k) (sym whole) (Adds-then a b c g h k _ _ p q)
 
--- the writer has failed
-pub Adds-failed : (err : Watch) (g text : List ℕ) → IsTrue err.failed → Adds err g err g text
-Adds-failed err g text failed = λ start before u. record {
-  whole = λ well. absurd (false≢true (sym well ∙ failed));
-  prefix = AppendsPrefix-longer start err.contents before text u.prefix;
-}
-
--- there was room for it
-pub Adds-gathered : (err : Watch) (g after text : List ℕ) → after ≡ g ++ text → Adds err g err after text
-Adds-gathered err g after text is = λ start before u. record {
-  whole = λ well.
-      let s = u.whole well in
-      record { sent = s.sent; appends = s.appends; parts = ap (λ l. l ++ text) s.parts ∙ append_assoc s.sent g text ∙ ap (λ l. s.sent ++ l) (sym is) };
-  prefix = AppendsPrefix-longer start err.contents before text u.prefix;
-}
-
 -- all that was gathered before was written
 sent-all : (start : Option (List ℕ)) (err mid : Watch) (g before : List ℕ) → IsFalse err.failed → Underway start err g before → Appends err.contents mid.contents g → Appends start mid.contents before
 sent-all start err mid g before well u p =
@@ -58,13 +42,6 @@ sent-prefix : (start : Option (List ℕ)) (err mid : Watch) (g before : List ℕ
 sent-prefix start err mid g before well u p =
     let s = u.whole well in
     subst (AppendsPrefix start mid.contents) (sym s.parts) (AppendsPrefix-after start err.contents mid.contents s.sent g s.appends p)
-
--- the writer failed before the text
-pub Adds-cut : (err mid : Watch) (g text : List ℕ) → IsFalse err.failed → IsTrue mid.failed → AppendsPrefix err.contents mid.contents g → Adds err g mid g text
-Adds-cut err mid g text well failed p = λ start before u. record {
-  whole = λ well. absurd (false≢true (sym well ∙ failed));
-  prefix = AppendsPrefix-longer start mid.contents before text (sent-prefix start err mid g before well u p);
-}
 
 -- what was gathered was written, and then the text
 pub Adds-sent : {T E : Type 0} (err mid new : Watch) (g after text : List ℕ) (put : Result T E) → IsFalse err.failed → Appends err.contents mid.contents g
@@ -79,10 +56,6 @@ Adds-sent err mid new g after text (Err e) well p all prefix failed none = λ st
   whole = λ well'. absurd (false≢true (sym well' ∙ failed));
   prefix = AppendsPrefix-after start mid.contents new.contents before text (sent-all start err mid g before well u p) prefix;
 }
-
--- the writer has failed, so nothing more is written
-pub Sends-failed : (err : Watch) (g : List ℕ) → IsTrue err.failed → Sends err g err
-Sends-failed err g failed = λ start text u. record { prefix = u.prefix; whole = λ well. absurd (false≢true (sym well ∙ failed)) }
 
 -- what is gathered was written
 pub Sends-put : {T E : Type 0} (err new : Watch) (g : List ℕ) (put : Result T E) → IsFalse err.failed → OnOk put (Appends err.contents new.contents g) → OnErr put (AppendsPrefix err.contents new.contents g)
