@@ -3,18 +3,10 @@
 import os
 import re
 
-from pages.calls import LIBRARY, calls_of
+from pages.calls import LIBRARY, calls_on_page, page_of
 from pages.documents import read
 from pages.readme import lines_of, stands_in
 from runs.harness import TOP, Report
-
-# Crates without a page: that of `krb_files` covers what `krb_disk` offers.
-WITHOUT = ("krb_disk",)
-
-
-def page_of(crate: str) -> str:
-    """Returns the path of a crate's page."""
-    return os.path.join("crates", crate, "CALLING.md")
 
 
 def signature(name: str, contract: str) -> str:
@@ -26,8 +18,7 @@ def signature(name: str, contract: str) -> str:
 
 def faults_of_calls(crate: str) -> list[str]:
     """Returns the calls on a page that no crate of the library declares in that form."""
-    calls = {**calls_of(crate), **(calls_of("krb_disk") if crate == "krb_files" else {})}
-    known = {signature(name, contract) for name, contract in calls.items()}
+    known = {signature(name, contract) for name, contract in calls_on_page(crate).items()}
     lists = re.findall(r"```text\n(.*?)```", read(page_of(crate)), re.DOTALL)
     return [line for line in "".join(lists).splitlines() if line not in known]
 
@@ -46,7 +37,7 @@ def faults_of_code(crate: str) -> list[str]:
 
 def check(report: Report, program: str) -> None:
     """Compares the pages with the sources. The program is not run."""
-    for crate in (crate for crate in LIBRARY if crate not in WITHOUT):
+    for crate in LIBRARY:
         is_there = os.path.exists(os.path.join(TOP, page_of(crate)))
         report.check(f"the page of {crate}", [] if is_there else ["there is none"])
         if is_there:

@@ -1,4 +1,4 @@
-"""docs/CALLS.md has each public call that may be refused, and names clauses and tests that exist."""
+"""The page of each crate has each public call that may be refused, and names clauses and tests that exist."""
 
 import glob
 import os
@@ -8,13 +8,12 @@ from collections import Counter
 from pages.documents import read
 from runs.harness import TOP, Report
 
-TABLE = os.path.join("docs", "CALLS.md")
 LIBRARY = ("krb_wire", "krb_walk", "krb_cells", "krb_keytab", "krb_ccache",
-           "krb_files", "krb_text", "krb_cache_text", "krb_json", "krb_audit", "krb_commands", "krb_disk",
-           "wiping")
+           "krb_files", "krb_text", "krb_cache_text", "krb_json", "krb_audit", "krb_commands", "wiping")
 
-# The crates whose calls another re-exports.
+# The crates whose calls another re-exports, and those whose calls are on the page of another.
 PARTS = {"krb_commands": ("krb_driver", "krb_readers", "krb_editors", "krb_ktutil")}
+WITHOUT_PAGE = {"krb_files": ("krb_disk",)}
 
 # The head of an item that may contain functions, a function, and the end of such an item.
 ITEM = re.compile(r"(?:pub )?(?:unsafe )?(impl|trait)\b(.*)")
@@ -80,17 +79,24 @@ def calls_of(crate: str) -> Calls:
     return found
 
 
+def calls_on_page(crate: str) -> Calls:
+    """Returns the public calls that belong on the page of a crate."""
+    found = calls_of(crate)
+    for other in WITHOUT_PAGE.get(crate, ()):
+        found |= calls_of(other)
+    return found
+
+
+def page_of(crate: str) -> str:
+    """Returns the path of a crate's page."""
+    return os.path.join("crates", crate, "CALLING.md")
+
+
 def rows_of(crate: str) -> list[list[str]]:
-    """Returns the cells of a crate's rows in both tables, which follow its name."""
-    rows: list[list[str]] = []
-    above = ""
-    for line in read(TABLE).splitlines():
-        cells = [cell.strip() for cell in line.strip("|").split(" | ")]
-        if line.startswith("| **"):
-            above = cells[0].strip("*")
-        elif line.startswith("| `") and above == crate:
-            rows.append(cells)
-    return rows
+    """Returns the cells of the rows of both tables on a crate's page, which follow the list of its calls."""
+    _, tables = read(page_of(crate)).split("\n## Calls\n")
+    return [[cell.strip() for cell in line[1:-1].split("|")]
+            for line in tables.splitlines() if line.startswith("| `")]
 
 
 def quoted(cell: str) -> list[str]:
@@ -104,12 +110,13 @@ def may_be_refused(contract: str) -> bool:
 
 
 def faults_of_names(calls: Calls, rows: list[list[str]]) -> list[str]:
-    """Returns the faults of the rows' names: each call that may be refused has one row, and each row is of calls."""
+    """Returns the faults of the rows: each call that may be refused has one, each is of calls, and long or short."""
     named = Counter(name for row in rows for name in quoted(row[0]))
     wrong = [f"{name} has no row" for name, contract in sorted(calls.items())
              if may_be_refused(contract) and name not in named]
     wrong += [f"{name} is no call" for name in sorted(named) if name not in calls]
-    return wrong + [f"{name} has {count} rows" for name, count in named.items() if count > 1]
+    wrong += [f"{name} has {count} rows" for name, count in named.items() if count > 1]
+    return wrong + [f"{row[0]} has {len(row)} cells" for row in rows if len(row) not in (2, 3, 6)]
 
 
 def faults_of_clauses(calls: Calls, rows: list[list[str]]) -> list[str]:
@@ -123,21 +130,29 @@ def faults_of_clauses(calls: Calls, rows: list[list[str]]) -> list[str]:
     return wrong
 
 
+def is_test(test: str) -> bool:
+    """Whether a test exists: a function, after its file below `crates`, or a file of the repository."""
+    path, _, name = test.partition(": ")
+    if name:
+        return f"fn {name}(" in read(os.path.join("crates", path.replace("/", "/src/", 1)))
+    return os.path.isfile(os.path.join(TOP, path))
+
+
 def faults_of_tests(crate: str, rows: list[list[str]]) -> list[str]:
-    """Returns wrong tests: the last cell of a long row names them, each as the file below `crates` and its function."""
+    """Returns wrong tests: the last cell of a long row names them."""
     wrong = []
     for row in rows:
-        for test in quoted(row[5]) if len(row) == 6 else []:
-            path, name = test.split(": ")
-            if f"fn {name}(" not in read(os.path.join("crates", path.replace("/", "/src/", 1))):
-                wrong.append(f"{crate}: no test {test}")
+        tests = quoted(row[5]) if len(row) == 6 else []
+        wrong += [f"{crate}: no test {test}" for test in tests if not is_test(test)]
+        if len(row) == 6 and not tests:
+            wrong.append(f"{crate}: {row[0]} has no test")
     return wrong
 
 
 def check(report: Report, program: str) -> None:
-    """Compares the table with the sources. The program is not run."""
+    """Compares the tables with the sources. The program is not run."""
     for crate in LIBRARY:
-        calls, rows = calls_of(crate), rows_of(crate)
+        calls, rows = calls_on_page(crate), rows_of(crate)
         report.check(f"the calls of {crate}", faults_of_names(calls, rows))
         report.check(f"the clauses of {crate}", faults_of_clauses(calls, rows))
         report.check(f"the tests of {crate}", faults_of_tests(crate, rows))

@@ -6,7 +6,7 @@ import re
 
 from runs.harness import TOP, Report
 
-MAP = os.path.join("docs", "ARCHITECTURE.md")
+MAP = os.path.join("docs", "DESIGN.md")
 
 
 def read(path: str) -> str:

@@ -4,7 +4,7 @@ import glob
 import os
 import re
 
-from pages.documents import read
+from pages.documents import MAP, read
 from runs.harness import TOP, Report
 
 # The libraries that the program is written over.
@@ -30,14 +30,14 @@ def is_used(library: str, crate: str) -> bool:
 
 
 def check(report: Report, program: str) -> None:
-    """Reads crates.txt, the sources and the decisions. The program is not run."""
+    """Reads crates.txt, the sources and the design. The program is not run."""
     below = uses()
     crates = reached("krbfile", below)
     for library in MEANT:
         users = [crate for crate in crates if library in below[crate] and is_used(library, crate)]
         report.check(f"the library {library}", [] if users else ["no crate of the program uses it"])
     others = {each for crate in crates for each in below[crate]} - {*below, *MEANT}
-    decisions = read("docs/DECISIONS.md")
+    design = read(MAP)
     for library in sorted(others):
-        found = [] if f"`{library}`" in decisions else ["DECISIONS.md has no reason for it"]
+        found = [] if f"`{library}`" in design else [f"{MAP} has no reason for it"]
         report.check(f"the library {library}", found)

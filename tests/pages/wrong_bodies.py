@@ -1,7 +1,7 @@
 """The wrong bodies that may not be missing, each an edit in its crate's `wrong`.
 
 `wrong` tries them. A body that always returns out of memory is not among them: the tests that
-docs/CALLS.md names refuse it.
+the pages for callers name refuse it.
 """
 
 from proving import edited
