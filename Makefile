@@ -9,9 +9,13 @@
 # make long-test  runs the long tests of the program, on random and damaged files
 # make install    puts the program into PREFIX/bin, the library and its header into PREFIX/lib and PREFIX/include, and
 #                 their manual pages and completions below PREFIX/share
+# make install-program
+#                 puts the program alone there, with its manual page and completions
+# make dist       packs the static program and the library into DIST/krbfile-VERSION-linux-x86_64.tar.gz, where DIST is
+#                 this folder unless it is given: the same files give the same bytes
 
 PREFIX ?= /usr/local
-SHARE = $(DESTDIR)$(PREFIX)/share
+DIST = .
 PROGRAM = bin/krbfile
 BUILT = crates/krbfile/out/krbfile
 STATIC = bin/krbfile-static
@@ -21,8 +25,14 @@ SHARED = lib/libkrbfile.so.1
 LINKER_NAME = lib/libkrbfile.so
 KIT = $(dir $(shell rt doc))
 SOURCES = crates.txt $(shell find crates/*/src crates/*/specs crates/*/proofs -type f)
+VERSION := $(shell sed -n 's/^const VERSION: &str = "\([^ "]*\).*/\1/p' crates/krbfile/src/command_lines.rt)
+NAME = krbfile-$(VERSION)-linux-x86_64
+PACKED = $(DIST)/$(NAME).tar.gz
+PARTS = $(PACKED).parts
+PAGES = README.md docs/krbfile.1 docs/krbfile.3 completions/krbfile.bash completions/_krbfile completions/krbfile.fish \
+	c/krbfile.h c/krbfile.pc.in python/krbfile.py
 
-.PHONY: all try check static lib samples test long-test install
+.PHONY: all try check static lib samples test long-test install-program install dist
 
 all: $(PROGRAM)
 
@@ -94,16 +104,44 @@ test:
 long-test: all
 	tests/long $(PROGRAM)
 
-install: all lib
-	install -D -m 755 $(PROGRAM) $(DESTDIR)$(PREFIX)/bin/krbfile
-	install -D -m 644 docs/krbfile.1 $(SHARE)/man/man1/krbfile.1
-	install -D -m 644 completions/krbfile.bash $(SHARE)/bash-completion/completions/krbfile
-	install -D -m 644 completions/_krbfile $(SHARE)/zsh/site-functions/_krbfile
-	install -D -m 644 completions/krbfile.fish $(SHARE)/fish/vendor_completions.d/krbfile.fish
-	install -D -m 644 docs/krbfile.3 $(SHARE)/man/man3/krbfile.3
-	install -D -m 644 c/krbfile.h $(DESTDIR)$(PREFIX)/include/krbfile.h
-	install -D -m 644 $(LIBRARY) $(DESTDIR)$(PREFIX)/lib/libkrbfile.a
-	install -D -m 755 $(SHARED) $(DESTDIR)$(PREFIX)/lib/libkrbfile.so.1
-	ln -sf libkrbfile.so.1 $(DESTDIR)$(PREFIX)/lib/libkrbfile.so
-	mkdir -p $(DESTDIR)$(PREFIX)/lib/pkgconfig
-	sed 's|@PREFIX@|$(PREFIX)|' c/krbfile.pc.in > $(DESTDIR)$(PREFIX)/lib/pkgconfig/krbfile.pc
+# Puts the program $(2) below $(1), with its manual page and completions.
+define put_program
+	install -D -m 755 $(2) $(1)/bin/krbfile
+	install -D -m 644 docs/krbfile.1 $(1)/share/man/man1/krbfile.1
+	install -D -m 644 completions/krbfile.bash $(1)/share/bash-completion/completions/krbfile
+	install -D -m 644 completions/_krbfile $(1)/share/zsh/site-functions/_krbfile
+	install -D -m 644 completions/krbfile.fish $(1)/share/fish/vendor_completions.d/krbfile.fish
+endef
+
+# Puts the library below $(1), with its header and manual page. It is found below $(2).
+define put_library
+	install -D -m 644 docs/krbfile.3 $(1)/share/man/man3/krbfile.3
+	install -D -m 644 c/krbfile.h $(1)/include/krbfile.h
+	install -D -m 644 $(LIBRARY) $(1)/lib/libkrbfile.a
+	install -D -m 755 $(SHARED) $(1)/lib/libkrbfile.so.1
+	ln -sf libkrbfile.so.1 $(1)/lib/libkrbfile.so
+	mkdir -p $(1)/lib/pkgconfig
+	sed 's|@PREFIX@|$(2)|' c/krbfile.pc.in > $(1)/lib/pkgconfig/krbfile.pc
+endef
+
+install-program: all
+	$(call put_program,$(DESTDIR)$(PREFIX),$(PROGRAM))
+
+install: install-program lib
+	$(call put_library,$(DESTDIR)$(PREFIX),$(PREFIX))
+
+dist: $(PACKED)
+
+# pkg-config finds the library wherever the archive is unpacked.
+$(PACKED): $(STATIC) $(LIBRARY) $(SHARED) $(PAGES)
+	rm -rf $(PARTS)
+	$(call put_program,$(PARTS)/$(NAME),$(STATIC))
+	$(call put_library,$(PARTS)/$(NAME),$${pcfiledir}/../..)
+	install -D -m 644 python/krbfile.py $(PARTS)/$(NAME)/python/krbfile.py
+	install -m 644 README.md $(PARTS)/$(NAME)/README.md
+	cd $(PARTS)/$(NAME) && find * -type f | LC_ALL=C sort | xargs sha256sum > ../SHA256SUMS
+	mv $(PARTS)/SHA256SUMS $(PARTS)/$(NAME)
+	tar -C $(PARTS) --format=ustar --sort=name --owner=0 --group=0 --numeric-owner --mode=u=rwX,go=rX \
+		--mtime=2026-01-01T00:00Z -I 'gzip -n' -cf $(PARTS)/packed $(NAME)
+	mv $(PARTS)/packed $@
+	rm -r $(PARTS)

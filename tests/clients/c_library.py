@@ -1,7 +1,6 @@
 """The C library: C programs over it beside `krbfile`, with refused memory, and a search for keys left in memory."""
 
 import os
-import re
 import shutil
 import subprocess
 from collections.abc import Iterable
@@ -11,6 +10,7 @@ from makers.cache_images import cache
 from makers.images import TWO
 from makers.samples import SAMPLES
 from makers.usual_caches import PA_TYPE, TICKET, USUAL
+from pages.documents import literals
 from peers import corpus
 from runs.harness import SECONDS, TOP, Outcome, Report, differences, files_in, folder_of, run
 
@@ -89,11 +89,9 @@ PROGRAM_RUNS = (
 
 
 def check_example(report: Report, program: str) -> None:
-    """Checks that the example of krbfile(3) leaves the same keytab as `ktremove`, and prints no part of one."""
-    with open(os.path.join(TOP, "docs", "krbfile.3"), encoding="ascii") as file:
-        source = re.findall(r"^#include <krbfile.*?^\}$", file.read(), re.DOTALL | re.M)
-    keytab = SAMPLES["mixed.keytab"]
-    with folder_of({"k": keytab, "filter.c": "".join(source).encode()}) as folder:
+    """Checks that the first example of krbfile(3) leaves the same keytab as `ktremove`, and prints no part of one."""
+    keytab, source = SAMPLES["mixed.keytab"], literals("docs/krbfile.3")[0]
+    with folder_of({"k": keytab, "filter.c": source.encode()}) as folder:
         built = build(folder, "filter", sources=folder)
         got = run(built, (), folder, keytab)
         run(program, ("ktremove", "-e", "23", "k"), folder)

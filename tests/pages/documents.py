@@ -15,6 +15,11 @@ def read(path: str) -> str:
         return file.read()
 
 
+def literals(path: str) -> list[str]:
+    """Returns the literal displays of a manual page."""
+    return re.findall(r"^\.Bd -literal.*\n((?s:.*?))^\.Ed$", read(path), re.MULTILINE)
+
+
 def crates() -> list[list[str]]:
     """Returns the crates of each paragraph of crates.txt."""
     return [re.findall(r"^(\w+)(?: staticlib)?:", part, re.MULTILINE) for part in read("crates.txt").split("\n\n")]

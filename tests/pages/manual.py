@@ -1,4 +1,4 @@
-"""The manual page: its form, its commands and options, its words and its examples."""
+"""The manual pages' form, and the program's: its commands and options, its words and its examples."""
 
 import re
 import shutil
@@ -6,7 +6,7 @@ import subprocess
 from collections.abc import Iterator
 
 from makers.samples import folder_of_samples
-from pages.documents import read
+from pages.documents import literals, read
 from pages.readme import check_session, parted
 from runs.harness import TOP, Report
 from runs.rows import made
@@ -15,19 +15,21 @@ from words import explained_caches
 from words.completions import told
 
 PAGE = "docs/krbfile.1"
+PAGES = (PAGE, "docs/krbfile.3")
 
 # The commands that a program may have.
 COMMANDS = ("klist", "ktfind", "ktedit", "ktremove", "ktcheck", "ktutil", "ccedit", "ccremove")
 
 
 def check_form(report: Report) -> None:
-    """Checks the page by mandoc."""
+    """Checks the pages by mandoc."""
     if shutil.which("mandoc") is None:
-        report.skip("the form of the manual page", "mandoc is not there")
+        report.skip("the form of the manual pages", "mandoc is not there")
         return
-    said = subprocess.run(["mandoc", "-Tlint", "-Wwarning", PAGE], cwd=TOP, capture_output=True,
-                          text=True, check=False).stdout
-    report.check("the form of the manual page", said.splitlines())
+    for page in PAGES:
+        said = subprocess.run(["mandoc", "-Tlint", "-Wwarning", page], cwd=TOP, capture_output=True,
+                              text=True, check=False).stdout
+        report.check(f"the form of {page}", said.splitlines())
 
 
 def check_commands(report: Report) -> None:
@@ -60,7 +62,7 @@ def check_words(report: Report) -> None:
 
 def examples() -> Iterator[tuple[str, bytes]]:
     """Yields the commands of the examples, each with its output."""
-    for example in re.findall(r"^\.Bd -literal.*\n((?s:.*?))^\.Ed$", read(PAGE), re.MULTILINE):
+    for example in literals(PAGE):
         yield parted(example[2:])
 
 

@@ -26,10 +26,10 @@ def header_kinds(program: str) -> list[int]:
     return [struct.unpack_from("<I", headers, size * at)[0] for at in range(count)]
 
 
-def run_alone(words: tuple[str, ...]) -> Outcome:
+def run_alone(program: str, words: tuple[str, ...]) -> Outcome:
     """Makes a run in a root that contains only the program and a keytab `k`."""
     with folder_of({"k": TWO}) as root:
-        shutil.copy(PROGRAM, os.path.join(root, "krbfile"))
+        shutil.copy(program, os.path.join(root, "krbfile"))
         done = subprocess.run(["unshare", "--map-root-user", "chroot", root, "/krbfile", *words],
                               capture_output=True, timeout=SECONDS, check=False)
     return Outcome(done.returncode, done.stdout, done.stderr)
@@ -43,6 +43,19 @@ def may_change_root() -> bool:
                           capture_output=True, check=False).returncode == 0
 
 
+def check_alone(report: Report, what: str, program: str) -> None:
+    """Checks a listing, and a missing file, in a root of the program's own."""
+    if not may_change_root():
+        report.skip(f"{what} alone", "this user may not change the root")
+        return
+    listed = run_alone(program, ("klist", "-kt", "/k"))
+    wanted = Outcome(0, sample("t").replace(b"FILE:k\n", b"FILE:/k\n"))
+    report.compare(f"{what} alone: a listing", wanted, listed)
+    missing = run_alone(program, ("klist", "-k", "/x"))
+    refusal = Outcome(1, err=b"krbfile: /x: no such file\n")
+    report.compare(f"{what} alone: a missing file", refusal, missing)
+
+
 def check(report: Report, program: str) -> None:
     """Runs this topic, over the static program only."""
     if not os.access(PROGRAM, os.X_OK):
@@ -50,12 +63,4 @@ def check(report: Report, program: str) -> None:
         return
     needs = INTERPRETER in header_kinds(PROGRAM)
     report.check("the static program loads no library", ["it does"] if needs else [])
-    if not may_change_root():
-        report.skip("the static program alone", "this user may not change the root")
-        return
-    listed = run_alone(("klist", "-kt", "/k"))
-    wanted = Outcome(0, sample("t").replace(b"FILE:k\n", b"FILE:/k\n"))
-    report.compare("the static program alone: a listing", wanted, listed)
-    missing = run_alone(("klist", "-k", "/x"))
-    refusal = Outcome(1, err=b"krbfile: /x: no such file\n")
-    report.compare("the static program alone: a missing file", refusal, missing)
+    check_alone(report, "the static program", PROGRAM)

@@ -1,0 +1,234 @@
+"""What `make dist` packs, the same bytes each time, with a program that runs alone; and what `make install` puts."""
+
+import os
+import re
+import shutil
+import sys
+import tarfile
+from collections.abc import Iterator
+from contextlib import contextmanager
+
+from makers.images import TWO
+from pages.documents import read
+from pages.readme import SHOWN
+from runs.harness import TOP, Outcome, Report, files_in, folder_of, run
+from system.static import check_alone
+
+# What is packed besides text, the sources that it is built of, and tools that build it, each by its name in Makefile.
+BUILT = ("bin/krbfile-static", "lib/libkrbfile.a", "lib/libkrbfile.so.1")
+STAGES = ("crates/krbfile/out/krbfile", "crates/krb_c/out/libkrb_c.a", "lib/krbfile.o")
+SOURCES = ("crates.txt", *(f"crates/krbfile/{part}/lib.rt" for part in ("src", "specs", "proofs")))
+VERSION = "crates/krbfile/src/command_lines.rt"
+CONFIG = "c/krbfile.pc.in"
+TOOLS = ("CC=false", "LD=false", "AR=false")
+
+# Each file in the archive, and the one of the repository that it is, unless `make dist` writes it.
+FILES = {
+    "README.md": "README.md",
+    "SHA256SUMS": None,
+    "bin/krbfile": BUILT[0],
+    "include/krbfile.h": "c/krbfile.h",
+    "lib/libkrbfile.a": BUILT[1],
+    "lib/libkrbfile.so": BUILT[2],
+    "lib/libkrbfile.so.1": BUILT[2],
+    "lib/pkgconfig/krbfile.pc": None,
+    "python/krbfile.py": "python/krbfile.py",
+    "share/bash-completion/completions/krbfile": "completions/krbfile.bash",
+    "share/fish/vendor_completions.d/krbfile.fish": "completions/krbfile.fish",
+    "share/man/man1/krbfile.1": "docs/krbfile.1",
+    "share/man/man3/krbfile.3": "docs/krbfile.3",
+    "share/zsh/site-functions/_krbfile": "completions/_krbfile",
+}
+LINK = "lib/libkrbfile.so"
+
+# What is installed of them, and what belongs to the program alone.
+FOLDERS = ("bin/", "include/", "lib/", "share/")
+OF_PROGRAM = {path for path in FILES if path.startswith(("bin/", "share/")) and not path.endswith(".3")}
+
+# What others run.
+PROGRAMS = ("bin/krbfile", "lib/libkrbfile.so.1")
+
+# 2026-01-01.
+TIME = 1_767_225_600
+
+# Other surroundings, in which the archive has the same bytes.
+ELSEWHERE = {"TZ": "Asia/Tokyo", "LC_ALL": "C.UTF-8", "umask": 0o077}
+
+
+def make(top: str, *words: str, umask: int = -1, **more: str) -> Outcome:
+    """Runs make in that repository. It is no part of a make that runs the tests."""
+    env = {name: text for name, text in os.environ.items() if name not in ("MAKEFLAGS", "MFLAGS", "MAKELEVEL")}
+    return run("make", words, top, env={**env, "LC_ALL": "C", **more}, umask=umask)
+
+
+def pack(folder: str, **surroundings) -> Outcome:
+    """Packs what is built, up to date or not, in a folder."""
+    as_built = [word for name in BUILT for word in ("-o", name)]
+    return make(TOP, *as_built, f"DIST={folder}", "dist", **surroundings)
+
+
+def faults_of_files(folder: str) -> list[str]:
+    """Returns the faults of an unpacked archive's files and of their sums."""
+    found = files_in(folder)
+    faults = sorted(found.keys() ^ FILES.keys())
+    for name, source in FILES.items():
+        if source is not None:
+            with open(os.path.join(TOP, source), "rb") as file:
+                faults += [] if found.get(name) == file.read() else [f"{name} is not {source}"]
+    summed = re.findall(r"^[0-9a-f]{64}  (.*)$", found.get("SHA256SUMS", b"").decode(), re.MULTILINE)
+    if summed != sorted(found.keys() - {"SHA256SUMS", LINK}):
+        faults.append(f"sums of {summed}")
+    sums = run("sha256sum", ("--check", "--strict", "--quiet", "SHA256SUMS"), folder)
+    return faults + ([] if sums == Outcome(0) else [f"sums: {sums}"])
+
+
+def faults_of_members(path: str, name: str) -> list[str]:
+    """Returns the faults of an archive's members: below one folder, in order, of one time, root's to write and all
+    others' to read."""
+    with tarfile.open(path) as archive:
+        members = archive.getmembers()
+    paths = [member.name.split("/") for member in members]
+    faults = [] if paths == sorted(paths) and {path[0] for path in paths} == {name} else [f"{paths}"]
+    for member in members:
+        inner = member.name.removeprefix(f"{name}/")
+        mode = 0o755 if member.isdir() or inner in PROGRAMS else 0o644
+        if (member.uid, member.gid, member.mtime) != (0, 0, TIME):
+            faults.append(f"{member.name} of {member.uid}:{member.gid} at {member.mtime}")
+        if member.issym() != (inner == LINK) or not member.issym() and member.mode != mode:
+            faults.append(f"{member.name} has mode {member.mode:o}")
+    return faults
+
+
+def check_version(report: Report, folder: str, name: str) -> None:
+    """Checks that the program, pkg-config's file and the archive's name tell the same version."""
+    told = run(os.path.join(folder, "bin", "krbfile"), ("--version",), folder).out.decode().split()[:2]
+    wanted = name.split("-")[:2]
+    report.check("the version of the archive", [] if told == wanted else [f"{told}, not {wanted}"])
+    if shutil.which("pkg-config") is None:
+        report.skip("the version of the archive's library", "pkg-config is not there")
+        return
+    of_library = asked(folder, "--modversion")
+    report.check("the version of the archive's library", [] if of_library == wanted[1:] else [f"{of_library}"])
+
+
+def asked(folder: str, *words: str) -> list[str]:
+    """Returns the words that pkg-config answers about an unpacked library."""
+    env = {**os.environ, "PKG_CONFIG_PATH": os.path.join(folder, "lib", "pkgconfig")}
+    return run("pkg-config", (*words, "krbfile"), folder, env=env).out.decode().split()
+
+
+def check_library(report: Report, folder: str) -> None:
+    """Builds README's program with the unpacked library, as pkg-config tells, and uses Python's module."""
+    env = {**os.environ, "LD_LIBRARY_PATH": os.path.join(folder, "lib"), "PYTHONDONTWRITEBYTECODE": "1",
+           "PYTHONPATH": os.path.join(folder, "python")}
+    script = "import sys, krbfile\nfor entry in krbfile.Keytab.open(sys.stdin.buffer.read()):\n" \
+             "    print(entry.kvno, entry.name.decode())"
+    wanted = Outcome(0, b"3 host/a@R\n3 b@R\n")
+    report.compare("the archive's module", wanted, run(sys.executable, ("-c", script), folder, TWO, env=env))
+    if shutil.which("cc") is None or shutil.which("pkg-config") is None:
+        report.skip("a program over the archive's library", "there is no C compiler, or no pkg-config")
+        return
+    source = "".join(re.findall(r"```c\n(.*?)```", read(SHOWN), re.DOTALL))
+    with folder_of({"list.c": source.encode()}) as at:
+        words = asked(folder, "--cflags", "--libs")
+        report.compare("the archive's library", Outcome(0), run("cc", ("-o", "list", "list.c", *words), at))
+        listed = run(os.path.join(at, "list"), (), at, TWO, env=env)
+    report.compare("a program over the archive's library", wanted, listed)
+
+
+def check_installed(report: Report, folder: str, top: str) -> None:
+    """Unpacks and installs an archive by the lines of README, to another place."""
+    lines = " && ".join(re.findall(r"^    ((?:tar|sha256sum) .*)", read(SHOWN), re.MULTILINE))
+    place = os.path.join(folder, "local")
+    os.mkdir(place)
+    got = run("sh", ("-c", lines.replace("/usr/local", place).replace("ldconfig", "true")), folder)
+    report.compare("the archive is installed", Outcome(0), got)
+    wanted = {path: data for path, data in files_in(top).items() if path.startswith(FOLDERS)}
+    is_whole = len(wanted) == len(FILES) - 3 and files_in(place) == wanted
+    report.check("what is installed of the archive", [] if is_whole else [f"{sorted(files_in(place))}"])
+
+
+def check_archive(report: Report) -> None:
+    """Packs what is built twice, and unpacks it."""
+    with folder_of({}) as one, folder_of({}) as two:
+        for folder, surroundings in ((one, {}), (two, ELSEWHERE)):
+            made = pack(folder, **surroundings)
+            report.check("make dist", [] if made.status == 0 else [f"{made}"])
+        packed, again = files_in(one), files_in(two)
+        report.check("the archive made twice", [] if packed and packed == again else [f"{[*packed]}, {[*again]}"])
+        if not packed:
+            return
+        (archive,) = packed
+        report.check("the archive's name", [] if re.fullmatch(r"krbfile-[\d.]+-linux-x86_64\.tar\.gz", archive)
+                     else [archive])
+        name = archive.removesuffix(".tar.gz")
+        report.check("the archive's members", faults_of_members(os.path.join(one, archive), name))
+        top = os.path.join(one, name)
+        check_installed(report, one, top)
+        report.check("the archive's files", faults_of_files(top))
+        check_version(report, top, name)
+        check_library(report, top)
+        check_alone(report, "the archive's program", os.path.join(top, "bin", "krbfile"))
+
+
+@contextmanager
+def repository() -> Iterator[str]:
+    """Yields a repository in which all is built, of a few bytes each, and nothing can be proved."""
+    with folder_of({"Makefile": read("Makefile").encode()}) as top:
+        texts = [source for source in FILES.values() if source and source not in BUILT]
+        for age, name in enumerate((VERSION, CONFIG, "c/krbfile.map", *texts, *SOURCES, *STAGES, *BUILT)):
+            path = os.path.join(top, name)
+            os.makedirs(os.path.dirname(path), exist_ok=True)
+            with open(path, "w", encoding="utf-8") as file:
+                file.write(read(name) if name in (VERSION, CONFIG) else "built")
+            os.utime(path, (10**9 + age, 10**9 + age))
+        os.makedirs(os.path.join(top, "tests"))
+        with open(os.path.join(top, "tests", "prove"), "w", encoding="ascii") as file:
+            file.write("#!/bin/sh\necho proves $1\nexit 1\n")
+            os.chmod(file.name, 0o755)
+        yield top
+
+
+def check_again(report: Report) -> None:
+    """Checks that what is up to date is neither proved, built nor packed again, and that all else is."""
+    with repository() as top:
+        first, again = (make(top, "dist", *TOOLS) for _ in range(2))
+        report.check("make dist of what is built", [] if first.status == 0 else [f"{first}"])
+        report.compare("make dist again", Outcome(0, b"make: Nothing to be done for 'dist'.\n"), again)
+        packed = [name for name in os.listdir(top) if name.startswith("krbfile-")]
+        report.check("make dist leaves the archive", [] if len(packed) == 1 else packed)
+        os.utime(os.path.join(top, "c", "krbfile.h"))
+        got = make(top, "dist", *TOOLS)
+        is_packed = got.status == 0 and b"\ntar " in got.out
+        report.check("make dist after a change of the header", [] if is_packed else [f"{got}"])
+        os.utime(os.path.join(top, SOURCES[1]))
+        got = make(top, "--keep-going", "dist", *TOOLS)
+        is_proved = got.status != 0 and b"\ntar " not in got.out and \
+            all(f"proves {crate}\n".encode() in got.out for crate in ("krbfile", "krb_c"))
+        report.check("make dist after a change of the program", [] if is_proved else [f"{got}"])
+
+
+def check_install(report: Report) -> None:
+    """Checks what is installed where all is built."""
+    whole = {path for path in FILES if path.startswith(FOLDERS)}
+    with repository() as top:
+        for target, wanted in (("install-program", OF_PROGRAM), ("install", whole)):
+            made = make(top, target, "DESTDIR=root", "PREFIX=/opt", *TOOLS)
+            found = files_in(os.path.join(top, "root", "opt"))
+            faults = ([] if made.status == 0 else [f"{made}"]) + sorted(found.keys() ^ wanted)
+            report.check(f"make {target}", faults)
+        config = found.get("lib/pkgconfig/krbfile.pc", b"")
+        report.check("the prefix of make install", [] if config.startswith(b"prefix=/opt\n") else [f"{config}"])
+
+
+def check(report: Report, _program: str) -> None:
+    """Runs this topic, over what is built."""
+    if shutil.which("make") is None:
+        report.skip("the archive", "make is not there")
+        return
+    check_again(report)
+    check_install(report)
+    if all(os.path.exists(os.path.join(TOP, name)) for name in BUILT):
+        check_archive(report)
+    else:
+        report.skip("the archive", "not all that it packs is there: make static lib builds it")

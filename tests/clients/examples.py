@@ -1,0 +1,214 @@
+"""The jobs in examples/: their shell over the keytabs of a small root, systemd's and Ansible's look at the rest."""
+
+import os
+import re
+import shlex
+import shutil
+import subprocess
+import sys
+import time
+from collections.abc import Iterator
+from contextlib import contextmanager
+from dataclasses import dataclass, replace
+
+from makers.samples import SAMPLES
+from pages.documents import read
+from runs.harness import SECONDS, TOP, Outcome, Report, folder_of, message, run
+from system.saving import write
+
+FOLDER = os.path.join(TOP, "examples")
+
+# Where `make install` puts the program.
+INSTALLED = "/usr/local/bin"
+
+# What is found in samples.
+FINDINGS = {
+    "mixed.keytab": "weak 53 kvno 3 etype 23 b@R\nentries 2 free 0 holes 0\n",
+    "twice.keytab": "same 53 2 kvno 3 etype 17 host/a@R\nentries 2 free 0 holes 0\n",
+    "damaged.keytab": "fault 2 at 53\nentries 1 free 0 holes 0\n",
+}
+
+# `find` takes days that have gone by, so more than 7 are 8. What is removed then, and what is left.
+OLD_ENOUGH = 8 * 86_400
+REMOVED = "removed 2 kvno 3 etype 17 host/a@R\n"
+LEFT = "KVNO Principal\n---- ---------\n   5 host/a@R\n   3 b@R\n"
+
+
+@dataclass(frozen=True)
+class Job:
+    """The shell that a job runs, and its environment."""
+
+    name: str
+    shell: str
+    env: dict[str, str]
+
+    def run(self, root: str, programs: str) -> Outcome:
+        """Runs it over the keytabs below a root, with the program of a folder."""
+        env = {name: re.sub(r"(?<![\w/])/(?=etc/|var/)", f"{root}/", text) for name, text in self.env.items()}
+        env["PATH"] = self.env["PATH"].replace(INSTALLED, programs)
+        return run("/bin/sh", ("-c", self.shell), "/", env=env)
+
+
+def of_cron(name: str) -> Job:
+    """Returns the job of a file for /etc/cron.d. A % would end its command."""
+    lines = [line for line in read(f"examples/{name}").splitlines() if not line.startswith("#")]
+    env = {key: text.strip('"') for key, text in (line.split("=", 1) for line in lines[:-1])}
+    found = re.fullmatch(r"(?:[\d*]+ ){5}root ([^%]+)", lines[-1])
+    return Job(name, found.group(1), env)
+
+
+def of_systemd(name: str) -> Job:
+    """Returns the job of a service. Of its command, systemd joins the lines, and makes $ of $$."""
+    text = read(f"examples/{name}").replace("\\\n", " ")
+    env = dict(word.split("=", 1) for line in re.findall("^Environment=(.*)$", text, re.MULTILINE)
+               for word in shlex.split(line))
+    (command,) = re.findall("^ExecStart=/bin/sh -c (.*)$", text, re.MULTILINE)
+    (script,) = shlex.split(command)
+    return Job(name, script.replace("$$", "$"), env)
+
+
+@contextmanager
+def root_of(keytabs: dict[str, str]) -> Iterator[str]:
+    """Yields a root with those samples, by path."""
+    with folder_of({}) as root:
+        for path, sample in keytabs.items():
+            place = os.path.join(root, path)
+            os.makedirs(os.path.dirname(place), exist_ok=True)
+            write(place, SAMPLES[sample])
+        yield root
+
+
+@contextmanager
+def folder_with(program: str) -> Iterator[str]:
+    """Yields a folder in which the program is named as installed."""
+    with folder_of({}) as programs:
+        os.symlink(program, os.path.join(programs, "krbfile"))
+        yield programs
+
+
+# Keytabs of a host, in the order in which they are checked.
+HOSTS = {
+    "no keytabs": {},
+    "a good keytab": {"etc/krb5.keytab": "host.keytab"},
+    "good ones and old keys": {"etc/krb5.keytab": "rotated.keytab", "etc/a b/http.keytab": "other.keytab",
+                               "var/lib/db/db.keytab": "old.keytab"},
+    "a weak key": {"etc/krb5.keytab": "mixed.keytab"},
+    "a key that stands there twice": {"etc/krb5.keytab": "host.keytab", "var/lib/db/db.keytab": "twice.keytab"},
+    "a damaged keytab": {"etc/krb5.keytab": "damaged.keytab"},
+    "several findings": {"etc/krb5.keytab": "twice.keytab", "etc/nfs.keytab": "other.keytab",
+                         "etc/a b/http.keytab": "mixed.keytab", "var/lib/db/db.keytab": "host.keytab"},
+    "files of other names": {"etc/keytab": "mixed.keytab", "etc/krb5.keytab.old": "twice.keytab"},
+}
+
+
+def findings(root: str, keytabs: dict[str, str]) -> Outcome:
+    """Returns the outcome of a check of those keytabs, which are in the order of the patterns."""
+    told = [f"{os.path.join(root, path)}\n{FINDINGS[sample]}" for path, sample in keytabs.items()
+            if sample in FINDINGS and path.endswith(".keytab")]
+    return Outcome(1 if told else 0, "".join(told).encode())
+
+
+def check_hosts(report: Report, job: Job, programs: str) -> None:
+    """Runs a daily check over the keytabs of each host."""
+    for name, keytabs in HOSTS.items():
+        with root_of(keytabs) as root:
+            report.compare(f"{job.name}: {name}", findings(root, keytabs), job.run(root, programs))
+
+
+def check_odd(report: Report, job: Job, programs: str) -> None:
+    """Runs a daily check over a keytab that all may read, over a file that is none, and with a program that fails."""
+    with root_of({"etc/krb5.keytab": "host.keytab"}) as root, folder_with("/bin/false") as failing:
+        path = os.path.join(root, "etc", "krb5.keytab")
+        report.compare(f"{job.name}: a program that fails", Outcome(1, f"{path}\n".encode()), job.run(root, failing))
+        os.chmod(path, 0o644)
+        told = f"{path}\nmode 644\nentries 2 free 0 holes 0\n"
+        report.compare(f"{job.name}: a keytab that all may read", Outcome(1, told.encode()), job.run(root, programs))
+        write(path, SAMPLES["krb5cc_0"])
+        wanted = replace(message(1, f"{path}: not a keytab (2)"), out=f"{path}\n".encode())
+        report.compare(f"{job.name}: a cache", wanted, job.run(root, programs))
+
+
+def check_removal(report: Report, job: Job, program: str, programs: str) -> None:
+    """Runs the removal of old keys over keytabs that changed lately, and over those that did not."""
+    for sample, age, wanted in (("rotated.keytab", OLD_ENOUGH, REMOVED), ("rotated.keytab", OLD_ENOUGH - 60, ""),
+                                ("host.keytab", OLD_ENOUGH, "")):
+        with root_of({"etc/krb5.keytab": sample}) as root:
+            path = os.path.join(root, "etc", "krb5.keytab")
+            changed = int(time.time()) - age - 5
+            os.utime(path, (changed, changed))
+            name = f"{job.name}: {sample} of {age} seconds"
+            report.compare(name, Outcome(0, wanted.encode()), job.run(root, programs))
+            if wanted:
+                report.compare(f"{name}, again", Outcome(0), job.run(root, programs))
+                check_left(report, name, program, path)
+            else:
+                with open(path, "rb") as file:
+                    is_same = file.read() == SAMPLES[sample] and os.stat(path).st_mtime == changed
+                report.check(f"{name}, left", [] if is_same else ["it has changed"])
+    with root_of({"etc/krb5.keytab": "damaged.keytab"}) as root:
+        path = os.path.join(root, "etc", "krb5.keytab")
+        os.utime(path, (0, 0))
+        wanted = message(1, f"{path}: refused 1")
+        report.compare(f"{job.name}: a damaged keytab", wanted, job.run(root, programs))
+
+
+def check_left(report: Report, name: str, program: str, path: str) -> None:
+    """Checks that the keys that were not old are left."""
+    listed = Outcome(0, f"Keytab name: FILE:{path}\n{LEFT}".encode())
+    report.compare(f"{name}, left", listed, run(program, ("klist", "-k", path), "/"))
+
+
+def check_units(report: Report) -> None:
+    """Lets systemd look at the service and its timer, in which nothing but $$ stands for something else."""
+    others = re.findall(r"%|\\(?!\n)|(?<!\$)\$(?:\$\$)*(?!\$)", read("examples/check-keytabs.service"))
+    report.check("the service of examples/", others)
+    if shutil.which("systemd-analyze") is None:
+        report.skip("the units of examples/", "systemd-analyze is not there")
+        return
+    units = [name for name in sorted(os.listdir(FOLDER)) if name.endswith((".service", ".timer"))]
+    done = subprocess.run(["systemd-analyze", "verify", *(f"./{name}" for name in units)], cwd=FOLDER,
+                          capture_output=True, text=True, timeout=SECONDS, check=False)
+    told = [line for line in done.stderr.splitlines() if any(name in line for name in units)]
+    report.check("the units of examples/", told + ([f"status {done.returncode}"] if done.returncode else []))
+
+
+def play(root: str, *words: str) -> Outcome:
+    """Runs Ansible's play over this host, with a root for what it would use of the system's."""
+    places = {"program": f"{root}/krbfile", "keytab": f"{root}/etc/krb5.keytab", "archive": root,
+              "ansible_become": "false", "ansible_python_interpreter": sys.executable}
+    given = [word for name, place in places.items() for word in ("-e", f"{name}={place}")]
+    env = {**os.environ, "HOME": root, "ANSIBLE_NOCOLOR": "1", "ANSIBLE_LOCALHOST_WARNING": "0"}
+    return run("ansible-playbook", ("-c", "local", "-i", "localhost,", *given, "-e", f'{{"folders": ["{root}/etc"]}}',
+                                    *words, os.path.join(FOLDER, "keytabs.yml")), root, env=env)
+
+
+def check_play(report: Report, program: str) -> None:
+    """Lets Ansible read its play, and runs it over keytabs of this host: a good one, and a weak one beside that."""
+    if shutil.which("ansible-playbook") is None:
+        report.skip("Ansible's play of examples/", "ansible-playbook is not there")
+        return
+    with root_of({"etc/krb5.keytab": "rotated.keytab"}) as root:
+        got = play(root, "--syntax-check")
+        report.check("the syntax of Ansible's play", [] if got.status == 0 and not got.err else [f"{got}"])
+        os.mkdir(os.path.join(root, "bin"))
+        shutil.copy(program, os.path.join(root, "bin", "krbfile"))
+        path = os.path.join(root, "etc", "krb5.keytab")
+        os.utime(path, (0, 0))
+        got = play(root)
+        report.check("Ansible's play", [] if got.status == 0 and b"changed=2 " in got.out else [f"{got}"])
+        check_left(report, "Ansible's play", program, path)
+        write(os.path.join(root, "etc", "weak.keytab"), SAMPLES["mixed.keytab"])
+        got = play(root)
+        is_told = got.status == 2 and b"changed=0 " in got.out and b"weak 53 kvno 3 etype 23 b@R" in got.out
+        report.check("Ansible's play over a weak key", [] if is_told else [f"{got}"])
+
+
+def check(report: Report, program: str) -> None:
+    """Runs this topic."""
+    with folder_with(program) as programs:
+        for job in (of_cron("check-keytabs.cron"), of_systemd("check-keytabs.service")):
+            check_hosts(report, job, programs)
+            check_odd(report, job, programs)
+        check_removal(report, of_cron("remove-old-keys.cron"), program, programs)
+    check_units(report)
+    check_play(report, program)
