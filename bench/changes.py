@@ -193,8 +193,7 @@ def edits(setting):
 
 
 def cell_cases(quick):
-    """Yields one hole that fits, as many as there are additions, and none: an addition at the end of all
-    cells, one into a hole, and a removal."""
+    """Yields additions into one hole that fits, the last cell, and into as many as there are; and removals."""
     some, many = (100, 200) if quick else (1_000, 10_000)
     small, large = (1_000, 10_000) if quick else (10_000, 100_000)
     for group, fitting, work in (
