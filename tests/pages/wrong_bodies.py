@@ -101,7 +101,7 @@ WRONG_BODIES = {
         "saves-under-another-name": "the file is saved under another name",
     },
     "krb_driver": {
-        "leaves-nothing": "what a command held is never left",
+        "holds-no-file": "a command does not hold the file that it may change",
         "saves-the-text": "what is printed is saved in the file's place",
     },
     "krb_editors": {
@@ -113,7 +113,6 @@ WRONG_BODIES = {
     },
     "krb_ktutil": {
         "saves-part": "write_kt saves what it added before a refusal",
-        "writes-what-is-not-held": "write_kt does not hold the file",
     },
     "krb_c": {
         "tells-the-length-that-was-cut": "a text that does not fit answers the length that was taken",
