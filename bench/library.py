@@ -19,8 +19,8 @@ def names(entries):
 def run(program, file, entries, env):
     """Returns the nanoseconds of each part: open, look-ups of both, iteration of both."""
     words = [program, file, str(LOOKUPS), *names(entries)]
-    told = subprocess.run(words, env=env, check=True, capture_output=True, text=True).stdout
-    return [int(word) for line in told.splitlines() for word in line.split() if word.isdigit()]
+    output = subprocess.run(words, env=env, check=True, capture_output=True, text=True).stdout
+    return [int(word) for line in output.splitlines() for word in line.split() if word.isdigit()]
 
 
 def rows(setting):

@@ -80,10 +80,10 @@ def mit(program):
     path, klist = shutil.which(program), shutil.which("klist")
     if path is None or klist is None:
         sys.exit(f"bench: no {program}; install MIT's (Debian: krb5-user)")
-    said = subprocess.run([klist, "-V"], capture_output=True, text=True).stdout.strip()
-    if not said.startswith("Kerberos 5 version"):
+    output = subprocess.run([klist, "-V"], capture_output=True, text=True).stdout.strip()
+    if not output.startswith("Kerberos 5 version"):
         sys.exit(f"bench: {klist} is not MIT's klist")
-    return path, said.replace("Kerberos 5 version", "MIT krb5")
+    return path, output.replace("Kerberos 5 version", "MIT krb5")
 
 
 def built(folder, name, *more):

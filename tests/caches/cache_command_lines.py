@@ -87,5 +87,5 @@ CASES = [
     Case("a cache as a keytab", ("klist", "-ke", "c"), message(1, "c: not a keytab (2)"), FILES),
     *(over(f"order: {options}", ("klist", *options, "c"), cache(replace(TICKET, renew_till=1)),
            Outcome(0, listed(b"u@R", TICKET_LINE, *UNDER))) for options in permutations(("-e", "-f", "-C"))),
-    *(Help(line, told) for lines, told in HELP for line in lines),
+    *(Help(line, help_text) for lines, help_text in HELP for line in lines),
 ]

@@ -10,10 +10,10 @@ from chance.random_keytabs import Choices
 from makers.cache_images import CONFIG_FIRST, CONFIG_REALM, Credential, Name
 from models.cases import ccremove, ktcheck, ktfind, ktremove
 from models.reading import name_text
-from models.removal_model import OLD, Asked
-from models.ticket_removal_model import Asked as AskedTickets
+from models.removal_model import OLD, Selection
+from models.ticket_removal_model import Selection as TicketSelection
 from runs.harness import Case, Outcome
-from runs.random_runs import CaseAt, Topic, said
+from runs.random_runs import CaseAt, Topic, output
 
 FOUND = Choices(names=((b"a", b"R"), (b"a", b"b", b"R"), (b"a/b", b"R"), (b"", b"\n", b"@")),
                 versions=(0, 1, 2, 255, 256, 257, 2**32 - 1), enctypes=(0, 17, 18, 273))
@@ -43,7 +43,7 @@ def random_look_up(random: Random) -> Iterator[CaseAt]:
 
 def kinds_of_look_up(case: Case) -> Iterator[str]:
     """Yields the kind of the result."""
-    yield said(case) or "found"
+    yield output(case) or "found"
 
 
 def random_check(random: Random) -> Iterator[CaseAt]:
@@ -57,23 +57,23 @@ def kinds_of_check(case: Case) -> Iterator[str]:
     yield from {line.split()[0].decode() for line in case.wanted.out.splitlines()}
 
 
-def random_asked(random: Random) -> Asked:
+def random_selection(random: Random) -> Selection:
     """Returns random selectors, at least one."""
     while True:
         name = name_text(random.choice(REMOVED.names)) if random.random() < 0.4 else None
         kvno = random.choice([None, OLD, OLD, random.choice(REMOVED.versions)])
         count = random.choice([0, 0, 1, 2])
-        asked = Asked(name, kvno, tuple(random.choice(REMOVED.enctypes) for _ in range(count)))
-        if asked.words():
-            return asked
+        selection = Selection(name, kvno, tuple(random.choice(REMOVED.enctypes) for _ in range(count)))
+        if selection.words():
+            return selection
 
 
 def random_removal(random: Random) -> Iterator[CaseAt]:
     """Yields a removal from a keytab of a few parts, and the same again over the file that it left."""
     image, is_big = REMOVED.random_keytab(random)
-    asked, is_dry = random_asked(random), random.random() < 0.2
+    selection, is_dry = random_selection(random), random.random() < 0.2
     for _ in range(2):
-        case_at = partial(ktremove, image, asked=asked, v1_big=is_big, is_dry=is_dry)
+        case_at = partial(ktremove, image, selection=selection, v1_big=is_big, is_dry=is_dry)
         yield case_at
         image = case_at(0).files_after["k"]
 
@@ -85,19 +85,19 @@ def random_ticket(random: Random) -> Credential:
     return ticket.removed() if random.random() < 0.2 else ticket
 
 
-def random_tickets_asked(random: Random) -> AskedTickets:
+def random_ticket_selection(random: Random) -> TicketSelection:
     """Returns random selectors, at least one."""
     server = random.choice(SERVERS)
     service = name_text((*server.components, server.realm)) if random.random() < 0.6 else None
-    return AskedTickets(service, service is None or random.random() < 0.4)
+    return TicketSelection(service, service is None or random.random() < 0.4)
 
 
 def random_ticket_removal(random: Random) -> Iterator[CaseAt]:
     """Yields a removal from a cache, and the same again over the file that it left."""
     image = with_damage(random, filled_cache(random, random.choice([3, *[4] * 9]), [random_ticket] * 3, 9), 0.1)
-    asked, is_dry = random_tickets_asked(random), random.random() < 0.2
+    selection, is_dry = random_ticket_selection(random), random.random() < 0.2
     for _ in range(2):
-        case_at = partial(ccremove, image, asked=asked, is_dry=is_dry)
+        case_at = partial(ccremove, image, selection=selection, is_dry=is_dry)
         yield case_at
         image = case_at(BETWEEN).files_after["c"]
 
@@ -105,7 +105,7 @@ def random_ticket_removal(random: Random) -> Iterator[CaseAt]:
 def kinds_of_removal(case: Case) -> Iterator[str]:
     """Yields the kind of the result."""
     if case.wanted.status:
-        yield said(case).split(" (")[0]
+        yield output(case).split(" (")[0]
     else:
         yield "nothing to do" if case.wanted == Outcome(0) else "dry" if "-n" in case.words else "removed"
 

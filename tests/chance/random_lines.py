@@ -11,7 +11,7 @@ from models.reading import KeytabEntry
 from models.script_model import KEY_SIZES
 from models.walks import Event, Session, Store
 from runs.harness import Case
-from runs.random_runs import CaseAt, said
+from runs.random_runs import CaseAt, output
 
 
 def random_number(random: Random) -> str:
@@ -107,4 +107,4 @@ def reply_kind(line: bytes) -> str:
 def kinds_of(case: Case) -> Iterator[str]:
     """Yields the kinds of a run's lines."""
     yield from map(reply_kind, case.wanted.out.splitlines())
-    yield from filter(None, [said(case).split(" (")[0]])
+    yield from filter(None, [output(case).split(" (")[0]])

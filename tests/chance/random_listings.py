@@ -12,7 +12,7 @@ from chance.random_keytabs import random_image
 from makers.mutations import damaged, mutated
 from models.cases import big, klist, klist_cache, klist_cache_json, klist_json, ktfind
 from runs.harness import Case
-from runs.random_runs import CaseAt, Topic, said
+from runs.random_runs import CaseAt, Topic, output
 
 KEYTABS, CACHES = random_keytabs.SAMPLES, random_caches.SAMPLES
 
@@ -59,7 +59,7 @@ def kinds_of_keytab(case: Case) -> Iterator[str]:
         yield "found" if case.wanted.out else "not found"
     else:
         last = (case.wanted.out.splitlines() or [b""])[-1].decode("latin-1")
-        yield said(case) or (last.split(" at ")[0] if last.startswith("fault") else "whole")
+        yield output(case) or (last.split(" at ")[0] if last.startswith("fault") else "whole")
 
 
 def cache_image(random: Random) -> bytes:
@@ -88,8 +88,8 @@ def damaged_cache(random: Random) -> Iterator[CaseAt]:
 
 def kinds_of_cache(case: Case) -> Iterator[str]:
     """Yields the kinds of the result and of its lines."""
-    if said(case):
-        yield said(case)
+    if output(case):
+        yield output(case)
         return
     for line in case.wanted.out.splitlines()[4:]:
         front = line.partition(b" = ")[0]

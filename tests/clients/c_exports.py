@@ -74,11 +74,11 @@ def shown() -> dict[str, Signature]:
 
 def check(report: Report, _program: str) -> None:
     """Runs this topic."""
-    said, there = prototypes(), exports()
-    wrong = sorted(name for name in said.keys() | shown() if said.get(name) != shown().get(name))
+    declared, there = prototypes(), exports()
+    wrong = sorted(name for name in declared.keys() | shown() if declared.get(name) != shown().get(name))
     report.check("the synopsis of krbfile(3)", wrong)
-    report.check("krbfile.h has calls", [] if len(said) > 30 else [f"{len(said)} were found"])
-    for name in sorted(said.keys() | there.keys()):
-        is_same = said.get(name) == there.get(name)
-        faults = [] if is_same else [f"{said.get(name)}, not {there.get(name)}"]
+    report.check("krbfile.h has calls", [] if len(declared) > 30 else [f"{len(declared)} were found"])
+    for name in sorted(declared.keys() | there.keys()):
+        is_same = declared.get(name) == there.get(name)
+        faults = [] if is_same else [f"{declared.get(name)}, not {there.get(name)}"]
         report.check(f"krbfile.h: {name}", faults)

@@ -101,17 +101,17 @@ def faults_of_members(path: str, name: str) -> list[str]:
 
 def check_version(report: Report, folder: str, name: str) -> None:
     """Checks that the program, pkg-config's file and the archive's name tell the same version."""
-    told = run(os.path.join(folder, "bin", "krbfile"), ("--version",), folder).out.decode().split()[:2]
+    version = run(os.path.join(folder, "bin", "krbfile"), ("--version",), folder).out.decode().split()[:2]
     wanted = name.split("-")[:2]
-    report.check("the version of the archive", [] if told == wanted else [f"{told}, not {wanted}"])
+    report.check("the version of the archive", [] if version == wanted else [f"{version}, not {wanted}"])
     if shutil.which("pkg-config") is None:
         report.skip("the version of the archive's library", "pkg-config is not there")
         return
-    of_library = asked(folder, "--modversion")
+    of_library = pkg_config(folder, "--modversion")
     report.check("the version of the archive's library", [] if of_library == wanted[1:] else [f"{of_library}"])
 
 
-def asked(folder: str, *words: str) -> list[str]:
+def pkg_config(folder: str, *words: str) -> list[str]:
     """Returns the words that pkg-config answers about an unpacked library."""
     env = {**os.environ, "PKG_CONFIG_PATH": os.path.join(folder, "lib", "pkgconfig")}
     return run("pkg-config", (*words, "krbfile"), folder, env=env).out.decode().split()
@@ -130,7 +130,7 @@ def check_library(report: Report, folder: str) -> None:
         return
     source = "".join(re.findall(r"```c\n(.*?)```", read(SHOWN), re.DOTALL))
     with folder_of({"list.c": source.encode()}) as at:
-        words = asked(folder, "--cflags", "--libs")
+        words = pkg_config(folder, "--cflags", "--libs")
         report.compare("the archive's library", Outcome(0), run("cc", ("-o", "list", "list.c", *words), at))
         listed = run(os.path.join(at, "list"), (), at, TWO, env=env)
     report.compare("a program over the archive's library", wanted, listed)

@@ -103,9 +103,9 @@ HOSTS = {
 
 def findings(root: str, keytabs: dict[str, str]) -> Outcome:
     """Returns the outcome of a check of those keytabs, which are in the order of the patterns."""
-    told = [f"{os.path.join(root, path)}\n{FINDINGS[sample]}" for path, sample in keytabs.items()
+    printed = [f"{os.path.join(root, path)}\n{FINDINGS[sample]}" for path, sample in keytabs.items()
             if sample in FINDINGS and path.endswith(".keytab")]
-    return Outcome(1 if told else 0, "".join(told).encode())
+    return Outcome(1 if printed else 0, "".join(printed).encode())
 
 
 def check_hosts(report: Report, job: Job, programs: str) -> None:
@@ -121,8 +121,8 @@ def check_odd(report: Report, job: Job, programs: str) -> None:
         path = os.path.join(root, "etc", "krb5.keytab")
         report.compare(f"{job.name}: a program that fails", Outcome(1, f"{path}\n".encode()), job.run(root, failing))
         os.chmod(path, 0o644)
-        told = f"{path}\nmode 644\nentries 2 free 0 holes 0\n"
-        report.compare(f"{job.name}: a keytab that all may read", Outcome(1, told.encode()), job.run(root, programs))
+        printed = f"{path}\nmode 644\nentries 2 free 0 holes 0\n"
+        report.compare(f"{job.name}: a keytab that all may read", Outcome(1, printed.encode()), job.run(root, programs))
         write(path, SAMPLES["krb5cc_0"])
         wanted = replace(message(1, f"{path}: not a keytab (2)"), out=f"{path}\n".encode())
         report.compare(f"{job.name}: a cache", wanted, job.run(root, programs))
@@ -168,8 +168,8 @@ def check_units(report: Report) -> None:
     units = [name for name in sorted(os.listdir(FOLDER)) if name.endswith((".service", ".timer"))]
     done = subprocess.run(["systemd-analyze", "verify", *(f"./{name}" for name in units)], cwd=FOLDER,
                           capture_output=True, text=True, timeout=SECONDS, check=False)
-    told = [line for line in done.stderr.splitlines() if any(name in line for name in units)]
-    report.check("the units of examples/", told + ([f"status {done.returncode}"] if done.returncode else []))
+    printed = [line for line in done.stderr.splitlines() if any(name in line for name in units)]
+    report.check("the units of examples/", printed + ([f"status {done.returncode}"] if done.returncode else []))
 
 
 def play(root: str, *words: str) -> Outcome:
@@ -199,8 +199,8 @@ def check_play(report: Report, program: str) -> None:
         check_left(report, "Ansible's play", program, path)
         write(os.path.join(root, "etc", "weak.keytab"), SAMPLES["mixed.keytab"])
         got = play(root)
-        is_told = got.status == 2 and b"changed=0 " in got.out and b"weak 53 kvno 3 etype 23 b@R" in got.out
-        report.check("Ansible's play over a weak key", [] if is_told else [f"{got}"])
+        is_printed = got.status == 2 and b"changed=0 " in got.out and b"weak 53 kvno 3 etype 23 b@R" in got.out
+        report.check("Ansible's play over a weak key", [] if is_printed else [f"{got}"])
 
 
 def check(report: Report, program: str) -> None:

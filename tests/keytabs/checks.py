@@ -56,9 +56,9 @@ def hidden() -> list[Case]:
             image = keytab(first, entry, last, version=version, order=order)
             got = checked(image)
             where = place if name in ODD else place + 4 + len(entry.spelled(version, order))
-            told = [line for line in got.out.split(b"\n") if line.startswith(b"hidden ")]
+            reported = [line for line in got.out.split(b"\n") if line.startswith(b"hidden ")]
             # The last one has no key, and is reported if none before it is.
-            assert [line.split()[1] for line in told] == [b"%d" % where], (name, told)
+            assert [line.split()[1] for line in reported] == [b"%d" % where], (name, reported)
             cases.append(over(f"hidden, {name}, version {version}", "ktcheck k", image, got))
     return cases
 
@@ -121,12 +121,12 @@ def check_modes(report: Report, program: str) -> None:
     with folder_of({"k": TWO}) as folder:
         os.symlink("k", os.path.join(folder, "link"))
         path = os.path.join(folder, "k")
-        for mode, told, status in rows:
+        for mode, reported, status in rows:
             os.chmod(path, mode)
             if stat.S_IMODE(os.stat(path).st_mode) != mode:
                 report.skip(f"mode {mode:o}", "the file does not take it")
                 continue
-            out = (f"mode {told}\n" if told else "") + "entries 2 free 0 holes 0\n"
+            out = (f"mode {reported}\n" if reported else "") + "entries 2 free 0 holes 0\n"
             for name in ("k", "link"):
                 got = run(program, ("ktcheck", name), folder)
                 if mode & 0o400 or os.geteuid() == 0:

@@ -24,12 +24,12 @@ OF_THREE = {
 }
 
 
-def find(name: str, image: bytes, asked: str, wanted: Outcome | tuple[int, int, int], *options: str) -> Case:
+def find(name: str, image: bytes, query: str, wanted: Outcome | tuple[int, int, int], *options: str) -> Case:
     """Returns a look-up by a version, an enctype and a name.
 
     Wanted is an outcome, or the place, the version and the enctype of an entry that prints with that name.
     """
-    kvno, etype, text = asked.split(" ", 2)
+    kvno, etype, text = query.split(" ", 2)
     words = ("ktfind", *options, "k", kvno, etype, "--", text)
     return Case(name, words, wanted if isinstance(wanted, Outcome) else shown(*wanted, text), {"k": image})
 
@@ -110,7 +110,7 @@ ETYPES = {**{str(number): number for number in NUMBERS},
 
 CASES = [
     # Which of several entries of one name is found.
-    *(find(f"{asked} of three", THREE, f"{asked} host/a@R", wanted) for asked, wanted in OF_THREE.items()),
+    *(find(f"{query} of three", THREE, f"{query} host/a@R", wanted) for query, wanted in OF_THREE.items()),
     find("the first of equals", SAME, "0 0 host/a@R", (2, 3, 17)),
     find("the first of equals by version", SAME, "3 17 host/a@R", (2, 3, 17)),
     find("the highest in the middle", FALLING, "0 0 host/a@R", (53, 12, 17)),
@@ -148,7 +148,7 @@ CASES = [
     find("version 1, little-endian, read as big", old(HOST, B), "0 0 b@R", DAMAGED, "--v1-big"),
     find("version 2 under --v1-big", TWO, "0 0 b@R", (53, 3, 17), "--v1-big"),
     # Damaged files give nothing, not even an entry before the fault.
-    *(find(f"{kind}, {asked}", image, asked, DAMAGED) for asked in ("0 0 host/a@R", "0 0 x@R", "9 0 host/a@R")
+    *(find(f"{kind}, {query}", image, query, DAMAGED) for query in ("0 0 host/a@R", "0 0 x@R", "9 0 host/a@R")
       for kind, image in (("a cut length", TWO + b"\0"), ("a cut record", TWO[:-1]),
                           ("a bad entry", keytab(HOST, record(bytes(10)), B)))),
     *(find(f"no keytab {image[:3]!r}", image, "0 0 b@R", message(1, "k: not a keytab (1)"))

@@ -99,16 +99,16 @@ def json() -> list[Case]:
 def checks() -> list[Case]:
     """Returns checks of keytabs. Counts of 0 and above 32,767 hide entries from MIT's programs."""
     mode = mode_of_files()
-    told = b"mode %o\n" % mode if mode & 0o66 else b""
+    mode_line = b"mode %o\n" % mode if mode & 0o66 else b""
     same = at_each(b"same %d 2 kvno 0 etype 0 @\n", PLACES[1:])
     most = b"hidden 2 kvno 0 etype 0 @\n" + same + b"entries %d free %d holes 1\n" % (COUNT, LIMIT - END - 4)
     holes = b"entries 0 free %d holes %d\n" % (HOLES, HOLES)
     many = b"hidden 2 kvno 3 etype 17 " + many_quoted(b"\\/") + b"@R\nentries 1 free %d holes 1\n"
     return [
-        over("ktcheck, the most entries", "ktcheck k", filled(least()), Outcome(1, told + most)),
-        over("ktcheck, the most holes", "ktcheck k", most_holes(), Outcome(1 if mode & 0o6 else 0, told + holes)),
+        over("ktcheck, the most entries", "ktcheck k", filled(least()), Outcome(1, mode_line + most)),
+        over("ktcheck, the most holes", "ktcheck k", most_holes(), Outcome(1 if mode & 0o6 else 0, mode_line + holes)),
         over("ktcheck, one entry of 65,535 components", "ktcheck k", filled(of_many()),
-             Outcome(1, told + many % (LIMIT - len(of_many()) - 4))),
+             Outcome(1, mode_line + many % (LIMIT - len(of_many()) - 4))),
         over("ktcheck, a file that is too large", "ktcheck k", sized(LIMIT + 1), TOO_LARGE),
     ]
 
@@ -127,9 +127,9 @@ def many_long_names() -> Case:
         *(Entry((b"x" * 200, b"%05d" % number), version32=None) for number in range(60_000))), [])
 
 
-def find(name: str, asked: str, image: bytes, wanted: Outcome) -> Case:
+def find(name: str, query: str, image: bytes, wanted: Outcome) -> Case:
     """Returns a look-up of a name."""
-    return Case(f"ktfind, {name}", ("ktfind", "k", "0", "0", asked), wanted, {"k": image})
+    return Case(f"ktfind, {name}", ("ktfind", "k", "0", "0", query), wanted, {"k": image})
 
 
 def finds() -> list[Case]:

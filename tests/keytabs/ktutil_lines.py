@@ -20,15 +20,15 @@ HOST_KEY, B_KEY = (f" (0x{entry.key.hex()})" for entry in (HOST, B))
 ETYPE = " (aes128-cts-hmac-sha1-96)"
 
 
-def lines(name: str, given: list[str] | bytes, printed: list[str], *said: str, files: dict[str, bytes] | None = None,
+def lines(name: str, given: list[str] | bytes, printed: list[str], *output: str, files: dict[str, bytes] | None = None,
           after: dict[str, bytes] | None = None, status: int | None = None, options: tuple[str, ...] = ()) -> Case:
     """Returns a run over an input, with its output, its messages, and the files that it adds or changes.
 
     The status is 0, or 1 if there are messages.
     """
     if status is None:
-        status = 1 if said else 0
-    err = "".join(f"krbfile: {one}\n" for one in said).encode()
+        status = 1 if output else 0
+    err = "".join(f"krbfile: {one}\n" for one in output).encode()
     before = files or {}
     return Case(name, ("ktutil", *options), Outcome(status, text(printed), err), before, {**before, **(after or {})},
                 given if isinstance(given, bytes) else text(given))

@@ -28,9 +28,9 @@ def version(version8: int, after: str, kvno: int) -> Case:
     return case(f"version {version8} and then {after!r}", keytab(record(entry)), b"%4d host/a@R" % kvno)
 
 
-def named(name: str, components: tuple[bytes, ...], realm: bytes, told: bytes) -> Case:
+def named(name: str, components: tuple[bytes, ...], realm: bytes, printed: bytes) -> Case:
     """Returns a listing of an entry of a name."""
-    return case(f"name {name}", keytab(Entry(components, realm)), b"   3 " + told)
+    return case(f"name {name}", keytab(Entry(components, realm)), b"   3 " + printed)
 
 
 def after_host(name: str, after: bytes, fault: bytes) -> Case:

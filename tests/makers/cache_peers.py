@@ -34,7 +34,7 @@ class Shown:
 
 
 # A ticket, or the line of a configuration entry.
-Told = Shown | bytes
+Parsed = Shown | bytes
 
 
 def as_mit(text: bytes) -> bytes:
@@ -45,11 +45,11 @@ def as_mit(text: bytes) -> bytes:
     return time.strftime("%m/%d/%y %H:%M:%S", then).encode()
 
 
-def told(
+def parsed(
     listed: bytes, ticket: re.Pattern[bytes], parts: dict[str, re.Pattern[bytes]]
-) -> list[Told]:
+) -> list[Parsed]:
     """Returns what the lines after the heading show."""
-    found: list[Told] = []
+    found: list[Parsed] = []
     for line in listed.splitlines()[4:]:
         begun = ticket.fullmatch(line)
         if begun:
@@ -65,11 +65,11 @@ def told(
     return found
 
 
-def told_by_mit(listed: bytes) -> list[Told]:
+def listed_by_mit(listed: bytes) -> list[Parsed]:
     """Returns what MIT's klist shows."""
-    return told(listed, MIT_TICKET, MIT_PARTS)
+    return parsed(listed, MIT_TICKET, MIT_PARTS)
 
 
-def told_by_us(listed: bytes) -> list[Told]:
+def listed_by_us(listed: bytes) -> list[Parsed]:
     """Returns what ours shows."""
-    return told(listed, OUR_TICKET, OUR_PARTS)
+    return parsed(listed, OUR_TICKET, OUR_PARTS)

@@ -25,14 +25,14 @@ class Cell:
     version: int
 
     @cached_property
-    def said(self) -> Credential:
+    def output(self) -> Credential:
         """The credential, decoded."""
         return CacheFields(self.data).credential(self.version)
 
     @property
     def is_live(self) -> bool:
         """Whether it was not removed."""
-        return not self.said.is_removed()
+        return not self.output.is_removed()
 
     def front(self) -> int:
         """Returns the number of bytes of its two names and the first enctype."""
@@ -80,14 +80,14 @@ class Cache(Store):
         """Returns the bytes of the file."""
         return b"".join([self.front, *(cell.data for cell in self.cells), self.rest])
 
-    def said(self, cell: Cell) -> Credential:
+    def output(self, cell: Cell) -> Credential:
         """Returns the fields of a credential."""
-        return cell.said
+        return cell.output
 
     def keys_of(self, server: bytes) -> list[bytes]:
         """Returns the session key of each live ticket for a server, given by the text of its name."""
         live = (cell for cell in self.cells if cell.is_live)
-        return [cell.key() for cell in live if name_text(cell.said.server) == server]
+        return [cell.key() for cell in live if name_text(cell.output.server) == server]
 
     def check_writable(self) -> None:
         """Refuses a change of a version 3 cache, other than a rewrite, and any change of a damaged one."""
@@ -107,8 +107,8 @@ class Cache(Store):
     def settings(self, key: bytes, principal: bytes | None) -> list[int]:
         """Returns the places of the values under a key that belong to the default principal."""
         own = [CONFIG_FIRST, key] if principal is None else [CONFIG_FIRST, key, principal]
-        return [place for place, said in self.live()
-                if said.is_config() and [*said.server[:-1]] == own and said.client == self.default]
+        return [place for place, output in self.live()
+                if output.is_config() and [*output.server[:-1]] == own and output.client == self.default]
 
     def setting(self, key: bytes, value: bytes, principal: bytes | None) -> bytes:
         """Returns the bytes of a new value of the default principal."""

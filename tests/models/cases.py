@@ -10,9 +10,9 @@ from models import cache_reading, check_model, json_model, reading
 from models.cache_script_model import cache_edited
 from models.ktutil_model import handled
 from models.reading import name_text
-from models.removal_model import Asked, removal
+from models.removal_model import Selection, removal
 from models.script_model import edited
-from models.ticket_removal_model import Asked as AskedTickets
+from models.ticket_removal_model import Selection as TicketSelection
 from models.ticket_removal_model import ticket_removal
 from runs.harness import Case, Outcome
 
@@ -94,11 +94,11 @@ def ktedit(image: bytes | None, script: bytes, *, v1_big: bool = False, name: st
 
 
 @timeless
-def ktremove(image: bytes, *, asked: Asked, v1_big: bool = False, is_dry: bool = False,
+def ktremove(image: bytes, *, selection: Selection, v1_big: bool = False, is_dry: bool = False,
              name: str = "") -> Case:
     """Returns a removal of entries."""
-    wanted, after = removal(image, v1_big, asked)
-    words = ("ktremove", *big(v1_big), *["-n"] * is_dry, *asked.words(), "k")
+    wanted, after = removal(image, v1_big, selection)
+    words = ("ktremove", *big(v1_big), *["-n"] * is_dry, *selection.words(), "k")
     return changing(name, words, "k", (image, image if is_dry else after), wanted)
 
 
@@ -115,8 +115,8 @@ def ccedit(image: bytes | None, script: bytes, *, name: str = "") -> Case:
     return changing(name, ("ccedit", "c"), "c", (image, after), wanted, script)
 
 
-def ccremove(image: bytes, now: int, *, asked: AskedTickets, is_dry: bool = False, name: str = "") -> Case:
+def ccremove(image: bytes, now: int, *, selection: TicketSelection, is_dry: bool = False, name: str = "") -> Case:
     """Returns a removal of tickets."""
-    wanted, after = ticket_removal(image, asked, now)
-    words = ("ccremove", *["-n"] * is_dry, *asked.words(), "c")
+    wanted, after = ticket_removal(image, selection, now)
+    words = ("ccremove", *["-n"] * is_dry, *selection.words(), "c")
     return changing(name, words, "c", (image, image if is_dry else after), wanted)

@@ -44,7 +44,7 @@ class Keytab(Store):
         """Returns the size of a cell with its length field."""
         return 4 + len(cell.data)
 
-    def said(self, cell: Cell) -> KeytabEntry:
+    def output(self, cell: Cell) -> KeytabEntry:
         """Returns the entry of a record."""
         return read_entry(cell.data, self.version, self.order)
 

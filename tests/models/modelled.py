@@ -11,8 +11,8 @@ from models import cases
 from models.cache_model import Cache
 from models.keytab_model import Keytab
 from models.ktutil_model import handled
-from models.removal_model import OLD, Asked
-from models.ticket_removal_model import Asked as AskedTickets
+from models.removal_model import OLD, Selection
+from models.ticket_removal_model import Selection as TicketSelection
 from runs.harness import Case, Outcome, message
 from runs.rows import text
 
@@ -167,16 +167,16 @@ def small() -> list[Modelled]:
         cases.ktedit(image, script, name="a small script"),
         cases.ktedit(None, b"add 3 1 0 - b@R\nadd 3 1 0 00 c@R\nstart\nstep 0\n", name="no file"),
         cases.ktedit(image, script + b"frob\n", name="a faulty script"),
-        cases.ktremove(rotated_keytab(4), asked=Asked(kvno=OLD), name="of old versions"),
-        cases.ktremove(image, asked=Asked(b"xxx/3@R", None, (17, 23)), name="of a name"),
-        cases.ktremove(image, asked=Asked(kvno=4_000), name="of nothing"),
+        cases.ktremove(rotated_keytab(4), selection=Selection(kvno=OLD), name="of old versions"),
+        cases.ktremove(image, selection=Selection(b"xxx/3@R", None, (17, 23)), name="of a name"),
+        cases.ktremove(image, selection=Selection(kvno=4_000), name="of nothing"),
         cases.ccedit(cache, cache_script, name="a small script"),
         cases.ccedit(cache[:-1], b"start\nstep 0\nconfig k - v\ncut 3\n", name="a damaged cache"),
         cases.ccedit(cache, b"config k a@R v\nconfig k a v\n", name="a faulty script"),
         cases.ccedit(VERSION_3, b"start\ncut 20\nconfig k - v\nrewrite\nstep 0\n", name="version 3"),
-        cases.ccremove(USUAL, NOW, asked=AskedTickets(b"krbtgt/R@R"), name="of a service"),
-        cases.ccremove(cache, NOW, asked=AskedTickets(is_expired=True), name="of expired ones"),
-        cases.ccremove(cache, NOW, asked=AskedTickets(b"no@R"), name="of nothing"),
+        cases.ccremove(USUAL, NOW, selection=TicketSelection(b"krbtgt/R@R"), name="of a service"),
+        cases.ccremove(cache, NOW, selection=TicketSelection(is_expired=True), name="of expired ones"),
+        cases.ccremove(cache, NOW, selection=TicketSelection(b"no@R"), name="of nothing"),
         cases.ktutil(talk(), NOW, files=talk_files(3), name="over small files"),
     )]
 
@@ -194,8 +194,8 @@ def large() -> list[Modelled]:
         cases.klist_json(image),
         cases.klist_cache_json(cache),
         cases.ktedit(image, mixed_script(image, 200), name="a long script"),
-        cases.ktremove(rotated_keytab(300), asked=Asked(kvno=OLD), name="of many old versions"),
+        cases.ktremove(rotated_keytab(300), selection=Selection(kvno=OLD), name="of many old versions"),
         cases.ccedit(cache, mixed_cache_script(cache, 100), name="a long script"),
-        cases.ccremove(cache, NOW, asked=AskedTickets(is_expired=True), name="of many expired ones"),
+        cases.ccremove(cache, NOW, selection=TicketSelection(is_expired=True), name="of many expired ones"),
         cases.ktutil(talk("-e"), NOW, files=talk_files(200), name="over a large file"),
     )]

@@ -11,7 +11,7 @@ OLD = "old"
 
 
 @dataclass(frozen=True)
-class Asked:
+class Selection:
     """The selectors. `name` is the text of a name, `kvno` a number or OLD."""
 
     name: bytes | None = None
@@ -51,21 +51,21 @@ def newest_versions(entries: list[KeytabEntry]) -> dict[tuple[bytes, ...], int]:
     return {name: entry.kvno for name, entry in newest.items()}
 
 
-def removed_by(keytab: Keytab, asked: Asked) -> list[tuple[int, KeytabEntry]]:
+def removed_by(keytab: Keytab, selection: Selection) -> list[tuple[int, KeytabEntry]]:
     """Returns the selected entries, with their places."""
     newest = newest_versions(keytab.entries())
     found = []
     for place, entry in keytab.live():
-        if asked.kvno == OLD:
+        if selection.kvno == OLD:
             has_version = entry.kvno != newest[entry.name]
         else:
-            has_version = asked.kvno in (None, entry.kvno)
-        if has_version and asked.is_named(entry):
+            has_version = selection.kvno in (None, entry.kvno)
+        if has_version and selection.is_named(entry):
             found.append((place, entry))
     return found
 
 
-def removal(image: bytes, v1_big: bool, asked: Asked) -> tuple[Outcome, bytes]:
+def removal(image: bytes, v1_big: bool, selection: Selection) -> tuple[Outcome, bytes]:
     """Returns the outcome of a run over the file k, and the file afterwards."""
     refused = no_keytab(image)
     if refused:
@@ -73,10 +73,10 @@ def removal(image: bytes, v1_big: bool, asked: Asked) -> tuple[Outcome, bytes]:
     keytab = Keytab(image, v1_big)
     if keytab.fault:
         return message(1, f"k: refused {DAMAGED}"), image
-    found = removed_by(keytab, asked)
+    found = removed_by(keytab, selection)
     if not found:
-        is_any = asked.name is None and not asked.etypes
-        if asked.kvno == OLD and (is_any or any(map(asked.is_named, keytab.entries()))):
+        is_any = selection.name is None and not selection.etypes
+        if selection.kvno == OLD and (is_any or any(map(selection.is_named, keytab.entries()))):
             return Outcome(0), image
         return message(1, "k: refused 9"), image
     lines = b""

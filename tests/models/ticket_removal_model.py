@@ -13,7 +13,7 @@ NOT_FOUND = 9
 
 
 @dataclass(frozen=True)
-class Asked:
+class Selection:
     """The selectors. `service` is the text of a name."""
 
     service: bytes | None = None
@@ -28,17 +28,17 @@ class Asked:
         """Whether a ticket is one for the service."""
         return self.service is None or name_text(ticket.server) == self.service
 
-    def is_asked(self, ticket: Credential, now: int) -> bool:
+    def is_selected(self, ticket: Credential, now: int) -> bool:
         """Whether a ticket is selected."""
         return self.is_named(ticket) and (not self.is_expired or ticket.endtime <= now)
 
 
 def tickets_of(cache: Cache) -> list[tuple[int, Credential]]:
     """Returns the tickets with their places: live credentials that are not configuration entries."""
-    return [(place, said) for place, said in cache.live() if not said.is_config()]
+    return [(place, output) for place, output in cache.live() if not output.is_config()]
 
 
-def ticket_removal(image: bytes, asked: Asked, now: int) -> tuple[Outcome, bytes]:
+def ticket_removal(image: bytes, selection: Selection, now: int) -> tuple[Outcome, bytes]:
     """Returns the outcome of a run over the file c at a time, and the file afterwards."""
     refused = no_cache(image)
     if refused:
@@ -49,14 +49,14 @@ def ticket_removal(image: bytes, asked: Asked, now: int) -> tuple[Outcome, bytes
     if cache.fault:
         return message(1, f"c: refused {DAMAGED}"), image
     tickets = tickets_of(cache)
-    found = [(place, said) for place, said in tickets if asked.is_asked(said, now)]
+    found = [(place, output) for place, output in tickets if selection.is_selected(output, now)]
     if not found:
-        is_any = asked.service is None or any(asked.is_named(said) for _, said in tickets)
-        is_done = asked.is_expired and is_any
+        is_any = selection.service is None or any(selection.is_named(output) for _, output in tickets)
+        is_done = selection.is_expired and is_any
         return Outcome(0) if is_done else message(1, f"c: refused {NOT_FOUND}"), image
     lines = b""
-    for place, said in found:
+    for place, output in found:
         cache.cut(place)
-        lines += b"removed %d " % place + name_text(said.server) + b"\n"
+        lines += b"removed %d " % place + name_text(output.server) + b"\n"
     cache.rewrite([])
     return Outcome(0, lines), cache.image()

@@ -65,7 +65,7 @@ class Store:
         """The version of its format."""
         return self.front[1]
 
-    def said(self, cell: Cell) -> Record:
+    def output(self, cell: Cell) -> Record:
         """Returns a record, decoded."""
         raise NotImplementedError
 
@@ -83,7 +83,7 @@ class Store:
 
     def live(self) -> list[tuple[int, Record]]:
         """Returns each live record with its place."""
-        return [(place, self.said(cell)) for place, cell in zip(self.places(), self.cells) if cell.is_live]
+        return [(place, self.output(cell)) for place, cell in zip(self.places(), self.cells) if cell.is_live]
 
     def live_places(self) -> list[int]:
         """Returns the place of each live record."""
@@ -94,7 +94,7 @@ class Store:
         places = self.places()
         for at, after, cell in zip(places, places[1:], self.cells):
             if at >= place and cell.is_live:
-                return at, after, self.said(cell)
+                return at, after, self.output(cell)
         return None
 
     def check_sound(self) -> None:
@@ -164,16 +164,16 @@ class Session:
         """Moves a walk to the next record, the end or the fault."""
         if walk >= len(self.cursors):
             raise Refused(NO_SUCH_WALK)
-        told = b"walk %d " % walk
+        head = b"walk %d " % walk
         found = self.store.next_record(self.cursors[walk])
         if found:
             place, self.cursors[walk], record = found
-            return told + b"gave %d next %d " % found[:2] + record.tail()
+            return head + b"gave %d next %d " % found[:2] + record.tail()
         self.cursors[walk] = self.store.places()[-1]
         if self.store.fault:
             self.status = 1
-            return told + b"fault %d at %d" % self.store.fault
-        return told + b"end %d" % self.cursors[walk]
+            return head + b"fault %d at %d" % self.store.fault
+        return head + b"end %d" % self.cursors[walk]
 
     def cut(self, place: int) -> bytes:
         """Removes the record at a place."""

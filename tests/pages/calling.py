@@ -5,7 +5,7 @@ import re
 
 from pages.calls import LIBRARY, calls_on_page, page_of
 from pages.documents import read
-from pages.readme import lines_of, stands_in
+from pages.readme import lines_of, is_part_of
 from runs.harness import TOP, Report
 
 
@@ -30,7 +30,7 @@ def faults_of_code(crate: str) -> list[str]:
     for at in range(1, len(parts), 2):
         path = re.findall(r"\]\(([\w./]+\.rt)\)", "".join(parts[:at:2]))[-1]
         source = read(os.path.join("crates", crate, path))
-        if not stands_in(lines_of(parts[at]), lines_of(source)):
+        if not is_part_of(lines_of(parts[at]), lines_of(source)):
             wrong.append(f"{parts[at].splitlines()[0]} .. is not in {path}")
     return wrong
 

@@ -12,7 +12,7 @@ from runs.harness import TOP, Report
 from runs.rows import made
 from words import explained
 from words import explained_caches
-from words.completions import told
+from words.completions import offered
 
 PAGE = "docs/krbfile.1"
 PAGES = (PAGE, "docs/krbfile.3")
@@ -27,17 +27,17 @@ def check_form(report: Report) -> None:
         report.skip("the form of the manual pages", "mandoc is not there")
         return
     for page in PAGES:
-        said = subprocess.run(["mandoc", "-Tlint", "-Wwarning", page], cwd=TOP, capture_output=True,
+        output = subprocess.run(["mandoc", "-Tlint", "-Wwarning", page], cwd=TOP, capture_output=True,
                               text=True, check=False).stdout
-        report.check(f"the form of {page}", said.splitlines())
+        report.check(f"the form of {page}", output.splitlines())
 
 
 def check_commands(report: Report) -> None:
     """Checks that the page describes each command, with an example, and no other."""
     synopsis = read(PAGE).partition("\n.Sh SYNOPSIS\n")[2].partition("\n.Sh ")[0]
-    told = set(re.findall(r"^\.Cm (\w+)$", synopsis, re.MULTILINE))
+    offered = set(re.findall(r"^\.Cm (\w+)$", synopsis, re.MULTILINE))
     shown = {command.split()[1] for command, _ in examples()}
-    for part, names in (("the synopsis", told), ("the examples", shown)):
+    for part, names in (("the synopsis", offered), ("the examples", shown)):
         wrong = sorted(names ^ set(COMMANDS))
         report.check(f"the commands in {part} of the manual page", wrong)
 
@@ -45,7 +45,7 @@ def check_commands(report: Report) -> None:
 def check_options(report: Report, program: str) -> None:
     """Checks that the page describes each option that help lists."""
     for command in ("", *COMMANDS):
-        missing = [option for option in sorted(told(program, command)[1])
+        missing = [option for option in sorted(offered(program, command)[1])
                    if re.search(rf"\bFl {option[1:]}\b", read(PAGE)) is None]
         report.check(f"the options of krbfile {command} in the manual page", missing)
 
@@ -55,7 +55,7 @@ def check_words(report: Report) -> None:
     lines = read(PAGE).replace(".Ar NAME Ns .krbfile", "k.krbfile").splitlines()
     lines = [re.sub(r"^\.Dl |^\.It .* Ta |[:;]$", "", line) for line in lines]
     words = {re.sub(r"^line \d+: |^refused \d+: |^fault \d+: |^(?:weak|hidden|same|clash|old|mode): ", "", words)
-             for case in made([*explained.CASES, *explained_caches.CASES]) for _, words in case.said}
+             for case in made([*explained.CASES, *explained_caches.CASES]) for _, words in case.output}
     odd = {"", "no such file", "error 6"} | {word for word in words if word.startswith("k: fault")}
     report.check("the words of messages in the manual page", sorted(words - odd - set(lines)))
 

@@ -20,7 +20,7 @@ def lines_of(text: str) -> list[str]:
     return [line.strip() for line in text.strip().splitlines()]
 
 
-def stands_in(part: list[str], whole: list[str]) -> bool:
+def is_part_of(part: list[str], whole: list[str]) -> bool:
     """Whether some lines occur consecutively in others."""
     return any(whole[at : at + len(part)] == part for at in range(len(whole)))
 
@@ -31,7 +31,7 @@ def check_snippets(report: Report) -> None:
     proved = lines_of(read(PROVED))
     report.check("README has snippets", [] if snippets else ["none"])
     for number, snippet in enumerate(snippets, 1):
-        is_there = stands_in(lines_of(snippet), proved)
+        is_there = is_part_of(lines_of(snippet), proved)
         report.check(f"snippet {number} of README", [] if is_there else [f"is not in {PROVED}"])
 
 

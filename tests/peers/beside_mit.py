@@ -60,7 +60,7 @@ def mit_klist(folder: str, *words: str) -> bytes:
                           check=False).stdout
 
 
-def told(entry: KeytabEntry) -> tuple[bytes, ...]:
+def shown(entry: KeytabEntry) -> tuple[bytes, ...]:
     """Returns an entry as a listing with all columns shows it."""
     then = time.gmtime(entry.timestamp)
     second = time.strftime("%m/%d/%y %H:%M:%S", then).encode()
@@ -134,7 +134,7 @@ def check_scripts(report: Report, program: str) -> None:
             mit = Mit(folder)
             run(program, ("ktedit", "k"), folder, text(script))
             _, after = edited(image, text(script))
-            wanted = [told(entry) for entry in Keytab(after).entries()]
+            wanted = [shown(entry) for entry in Keytab(after).entries()]
             for peer, listed in (("klist", mit.klist("k")), ("ktutil", mit.ktutil_list("k"))):
                 found = [] if listed == wanted else [f"{listed} is listed, not {wanted}"]
                 report.check(f"MIT's {peer} after ktedit: {name}", found)

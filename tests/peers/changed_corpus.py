@@ -6,12 +6,12 @@ Each change is also compared with the models.
 import time
 from collections.abc import Iterator
 
-from makers.cache_peers import Shown, Told, told_by_mit, told_by_us
+from makers.cache_peers import Shown, Parsed, listed_by_mit, listed_by_us
 from models.cache_model import Cache
 from models.cache_reading import read_cache
 from models.cases import ccedit, ccremove
 from models.reading import name_text
-from models.ticket_removal_model import Asked, tickets_of
+from models.ticket_removal_model import Selection, tickets_of
 from peers.beside_mit import are_there, mit_klist
 from peers.corpus import files
 from runs.harness import Case, Report, faults_of, files_in, folder_of, run
@@ -38,21 +38,21 @@ def changes(image: bytes) -> Iterator[Case]:
         yield ccedit(image, b"start\nstep 0\ncut %d\nstep 0\n" % place, name=f"cut {place}")
     # None of these caches expires while this runs.
     now = int(time.time())
-    yield ccremove(image, now, asked=Asked(is_expired=True), name="--expired")
-    services = {name_text(said.server) for _, said in tickets_of(Cache(image))}
+    yield ccremove(image, now, selection=Selection(is_expired=True), name="--expired")
+    services = {name_text(output.server) for _, output in tickets_of(Cache(image))}
     for service in sorted(filter(is_text, services)):
-        yield ccremove(image, now, asked=Asked(service), name=f"-p {service.decode()}")
+        yield ccremove(image, now, selection=Selection(service), name=f"-p {service.decode()}")
 
 
-def tickets(told: list[Told]) -> list[Shown]:
+def tickets(parsed: list[Parsed]) -> list[Shown]:
     """Returns the tickets that a listing shows."""
-    return [one for one in told if isinstance(one, Shown)]
+    return [one for one in parsed if isinstance(one, Shown)]
 
 
 def faults_beside_mit(program: str, folder: str) -> list[str]:
     """Returns what MIT's klist shows differently from ours of the tickets in `c`."""
-    ours = tickets(told_by_us(run(program, ("klist", "-f", "c"), folder).out))
-    theirs = tickets(told_by_mit(mit_klist(folder, "-f", "c")))
+    ours = tickets(listed_by_us(run(program, ("klist", "-f", "c"), folder).out))
+    theirs = tickets(listed_by_mit(mit_klist(folder, "-f", "c")))
     return [] if ours == theirs else [f"MIT's klist shows {theirs}, not {ours}"]
 
 

@@ -25,12 +25,12 @@ def faults_of(program: str, image: bytes, is_odd: bool) -> list[str]:
     options = ("--v1-big",) if image[1] == 1 and sys.byteorder == "big" else ()
     with folder_of({"k": image}) as folder:
         mit = Mit(folder)
-        told = hidden_places(run(program, ("ktcheck", *options, "k"), folder).out)
+        reported = hidden_places(run(program, ("ktcheck", *options, "k"), folder).out)
         count = len(mit.klist("k"))
         words = ("ktremove", *options, "-p", keytab.entries()[1].text(), "k")
         status = run(program, words, folder).status
         left = len(mit.klist("k"))
-    found = [] if told == keytab.places()[1:2] * is_odd else [f"{told} are told as hidden"]
+    found = [] if reported == keytab.places()[1:2] * is_odd else [f"{reported} are told as hidden"]
     found += [] if count == (1 if is_odd else 3) else [f"MIT's klist lists {count}"]
     return found + ([] if (status, left) == (0, 2) else [f"status {status}, then it lists {left}"])
 

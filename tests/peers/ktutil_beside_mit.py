@@ -14,7 +14,7 @@ def untimed(image: bytes) -> list[tuple[bool, int, KeytabEntry | None]]:
     """Returns the cells of a keytab, and its entries without times."""
     opened = Keytab(image)
     return [
-        (cell.is_live, len(cell.data), replace(opened.said(cell), timestamp=0) if cell.is_live else None)
+        (cell.is_live, len(cell.data), replace(opened.output(cell), timestamp=0) if cell.is_live else None)
         for cell in opened.cells
     ]
 

@@ -38,7 +38,7 @@ def runs_of(program: str) -> list[Run]:
 
 def names_in(image: bytes) -> set[str]:
     """Returns the services and the keys of a cache."""
-    return {said.tail().split(b" ")[-1].decode() for _, said in Cache(image).live()}
+    return {output.tail().split(b" ")[-1].decode() for _, output in Cache(image).live()}
 
 
 def faults_of(runs: list[Run], image: bytes) -> list[str]:
@@ -46,7 +46,7 @@ def faults_of(runs: list[Run], image: bytes) -> list[str]:
     if isinstance(read_cache(image), int) or Cache(image).fault:
         return [f"the cache is not whole: {image[-200:]!r}"]
     names = names_in(image)
-    failed = [f"{each.name}: {each.said!r}" for each in runs if each.is_mits and each.started.returncode]
+    failed = [f"{each.name}: {each.output!r}" for each in runs if each.is_mits and each.started.returncode]
     return failed + [fault for each in runs for fault in each.faults(names, True)]
 
 

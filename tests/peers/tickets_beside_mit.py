@@ -49,8 +49,8 @@ class Filled:
 
     def places_of(self, server: bytes) -> list[int]:
         """Returns the places of the live tickets for a server."""
-        return [place for place, said in self.cache().live()
-                if said.tail().endswith(b" " + server)]
+        return [place for place, output in self.cache().live()
+                if output.tail().endswith(b" " + server)]
 
     def remove(self, server: bytes) -> None:
         """Removes the tickets for a server with ccremove."""
@@ -114,9 +114,9 @@ def check_cut(report: Report, program: str, made: Realm) -> None:
 def check_expired(report: Report, program: str, made: Realm) -> None:
     """Checks that tickets with a lifetime of a second are removed once it is over, and that values stay."""
     with filled(program, made, (*KINIT, "-l", "1s", "user")) as one:
-        said = {said.endtime for _, said in one.cache().live() if not said.is_config()}
-        values = [place for place, said in one.cache().live() if said.is_config()]
-        time.sleep(max(0, max(said) - time.time()) + 0.01)
+        output = {output.endtime for _, output in one.cache().live() if not output.is_config()}
+        values = [place for place, output in one.cache().live() if output.is_config()]
+        time.sleep(max(0, max(output) - time.time()) + 0.01)
         lines = b"".join(b"removed %d %s\n" % (place, TGT) for place in one.places_of(TGT))
         one.change(("ccremove", "--expired"), Outcome(0, lines))
         one.want("a ticket is left, or a value is gone", len(one.cache().live()) == len(values))

@@ -47,8 +47,8 @@ def at_once(jobs: int) -> int:
 @cache
 def kit() -> str:
     """Returns the folder of the toolchain."""
-    said = subprocess.run(["rt", "doc"], stdout=subprocess.PIPE, text=True, check=True).stdout
-    return os.path.dirname(said.strip())
+    output = subprocess.run(["rt", "doc"], stdout=subprocess.PIPE, text=True, check=True).stdout
+    return os.path.dirname(output.strip())
 
 
 @cache
@@ -108,16 +108,16 @@ def clause_of(goal: str) -> str:
     return found[1] + (found[2] or "") if found else goal
 
 
-def proved_in(said: str) -> set[str]:
+def proved_in(output: str) -> set[str]:
     """Returns the functions that are proved."""
-    verdicts = filter(None, map(VERDICT.match, said.splitlines()))
+    verdicts = filter(None, map(VERDICT.match, output.splitlines()))
     return {verdict[1] for verdict in verdicts if verdict[2] == "proved"}
 
 
-def clauses_of(said: str) -> dict[str, list[str]]:
+def clauses_of(output: str) -> dict[str, list[str]]:
     """Returns the open clauses of each function that is not proved. Its goals come before its verdict, or in it."""
     found, before, by_hand = {}, [], set()
-    for line in said.splitlines():
+    for line in output.splitlines():
         goal, verdict, refused = OPEN_GOAL.match(line), VERDICT.match(line), BY_HAND.match(line)
         if refused:
             by_hand.add(refused[1].replace("/", "::"))

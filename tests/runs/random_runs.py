@@ -39,7 +39,7 @@ MOST_KEPT = 10
 SEARCH = 20
 
 
-def said(case: Case) -> str:
+def output(case: Case) -> str:
     """Returns the last words of a run's message."""
     return case.wanted.err.decode().split(": ")[-1].strip()
 
@@ -146,12 +146,12 @@ class Topic:
     def judge(self, report: Report, program: str, tried: Tried, count: int) -> None:
         """Reports the results of that many numbers."""
         report.passed += tried.runs - len(tried.wrong)
-        self.tell_wrong(report, program, sorted(tried.wrong, key=lambda one: (one.number, one.nth)))
+        self.report_wrong(report, program, sorted(tried.wrong, key=lambda one: (one.number, one.nth)))
         if count >= self.usual:
             missing = [f"no {kind}" for kind in self.kinds if tried.seen[kind] < FEWEST]
             report.check(f"{self.title}: each kind", missing)
 
-    def tell_wrong(self, report: Report, program: str, wrong: list[Wrong]) -> None:
+    def report_wrong(self, report: Report, program: str, wrong: list[Wrong]) -> None:
         """Keeps the first wrong cases, made smaller, and reports how to run each again."""
         for one in (self.smallest(program, each) for each in wrong[:MOST_KEPT]):
             again = keep(f"{self.title} {one.number} {one.nth}", one.case_at(0), program)

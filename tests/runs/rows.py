@@ -48,14 +48,14 @@ class Help:
     """A line that prints help, on the output, and words that it has."""
 
     line: str
-    told: tuple[bytes, ...]
+    wanted_words: tuple[bytes, ...]
 
     def check(self, report: Report, program: str) -> None:
         """Runs it. Help ends with a newline."""
         with folder_of({}) as folder:
             got = run(program, self.line.split(), folder)
         found = differences(Outcome(0, got.out), got)
-        found += [f"no word of {word.decode()}" for word in self.told if word not in got.out]
+        found += [f"no word of {word.decode()}" for word in self.wanted_words if word not in got.out]
         if not got.out.endswith(b"\n"):
             found.append("the last line does not end")
         report.check(f"help: {shown(self.line)}", found)

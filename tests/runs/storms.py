@@ -27,7 +27,7 @@ class Run:
     is_mits: bool = False
     is_killed: bool = False
     seconds: float = 0
-    said: bytes = b""
+    output: bytes = b""
     started: subprocess.Popen[bytes] = field(init=False)
 
     def start(self, folder: str, env: dict[str, str]) -> None:
@@ -45,14 +45,14 @@ class Run:
 
     def end(self) -> None:
         """Waits for its end."""
-        self.said = self.started.communicate(timeout=SECONDS)[0]
+        self.output = self.started.communicate(timeout=SECONDS)[0]
         self.seconds += time.monotonic()
 
     def saves(self) -> bool:
         """Whether it reports that it saved. MIT's ktutil ends with status 0 even if it failed."""
-        return self.started.returncode == 0 and not (self.is_mits and b" while " in self.said)
+        return self.started.returncode == 0 and not (self.is_mits and b" while " in self.output)
 
-    def end_is_told(self, beside_mit: bool) -> bool:
+    def end_is_reported(self, beside_mit: bool) -> bool:
         """Whether it ended as it may: it saved, was killed, or was refused for good reason."""
         status = self.started.returncode
         was_killed = self.is_killed and status == -signal.SIGKILL
@@ -68,8 +68,8 @@ class Run:
         found = [f"{self.name} is lost"] if self.saves() and not is_done else []
         if is_done and not (self.saves() or self.is_killed):
             found.append(f"{self.name} was refused, and is done")
-        if not self.end_is_told(beside_mit):
-            found.append(f"{self.name}: status {self.started.returncode}, {self.said}")
+        if not self.end_is_reported(beside_mit):
+            found.append(f"{self.name}: status {self.started.returncode}, {self.output}")
         return found
 
 

@@ -12,8 +12,8 @@ from makers.images import B, TWO, keytab
 from makers.usual_caches import USUAL
 from models import cases
 from models.modelled import NOW, Modelled, modelled
-from models.removal_model import Asked
-from models.ticket_removal_model import Asked as AskedTickets
+from models.removal_model import Selection
+from models.ticket_removal_model import Selection as TicketSelection
 from runs.harness import Outcome, Report, differences, files_in, folder_of
 from runs.preload import Counted, Line
 from runs.system_calls import Call, calls_of, check_traced, traced
@@ -106,9 +106,9 @@ def runs() -> list[tuple[Modelled, list[Step]]]:
         (cases.ktcheck(TWO), [*load("k"), PRINT]),
         (cases.ktedit(TWO, b"start\ncut 2\n" + add, name="a keytab"), [READ, *change_k]),
         (cases.ktedit(None, add, name="no file"), [READ, *hold("k"), *load("k"), *save("k", is_new=True), PRINT]),
-        (cases.ktremove(TWO, asked=Asked(b"host/a@R"), name="a keytab"), change_k),
+        (cases.ktremove(TWO, selection=Selection(b"host/a@R"), name="a keytab"), change_k),
         (cases.ccedit(USUAL, config, name="a cache"), [READ, *change_c]),
-        (cases.ccremove(USUAL, NOW, asked=AskedTickets(b"krbtgt/R@R"), name="a cache"), change_c),
+        (cases.ccremove(USUAL, NOW, selection=TicketSelection(b"krbtgt/R@R"), name="a cache"), change_c),
         (cases.ktutil(TALK, NOW, files={"j": TWO, "k": keytab(B)}, name="three files"), TALKED),
     )]
 

@@ -36,8 +36,8 @@ def is_early(case: Case, got: Outcome, after: dict[str, bytes]) -> bool:
     last = case.files if case.files_after is None else case.files_after
     files_are_whole = all(after.get(name) in (case.files.get(name), last.get(name))
                           for name in {*after, *last})
-    said = got.err.removesuffix(NO_MEMORY.err)
-    is_front = case.wanted.out.startswith(got.out) and case.wanted.err.startswith(said)
+    output = got.err.removesuffix(NO_MEMORY.err)
+    is_front = case.wanted.out.startswith(got.out) and case.wanted.err.startswith(output)
     has_done_nothing = not got.out and after == case.files
     return files_are_whole and is_front and (has_done_nothing or case.words[0] not in GATHERING)
 

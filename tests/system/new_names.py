@@ -129,7 +129,7 @@ def check_strange(report: Report, program: str) -> None:
         report.check(f"{name} in the new file's place", faults.result())
 
 
-def check_leftovers(report: Report, program: str) -> None:
+def check_stale_files(report: Report, program: str) -> None:
     """Checks that stale files of killed runs are removed."""
     root, user, me = os.geteuid() == 0, as_another(program), os.geteuid()
     cases = [("to be written", {"k": OLD}, owned_by(me), me, {}),
@@ -233,7 +233,7 @@ def check(report: Report, program: str) -> None:
     if os.geteuid() != 0 or as_another(program) is None:
         report.skip("new files of others", "none but root may make them, or start the program")
     check_strange(report, program)
-    check_leftovers(report, program)
+    check_stale_files(report, program)
     check_strangers(report, program)
     check_own_names(report, program)
     check_places(report, program)

@@ -45,12 +45,12 @@ def fed(path: str) -> Iterator[list[bool]]:
 def check(report: Report, program: str) -> None:
     """Runs this topic."""
     for words, stdin, name, place in RUNS:
-        said = f"krbfile: {name}: cannot read\nkrbfile: {place}not a plain file\n"
+        output = f"krbfile: {name}: cannot read\nkrbfile: {place}not a plain file\n"
         with folder_of({}) as folder:
             os.symlink("k", os.path.join(folder, "link"))
             with fed(os.path.join(folder, "k")) as opened:
                 got = run(program, (EXPLAIN, *words), folder, stdin)
-                faults = differences(Outcome(3, err=said.encode()), got)
+                faults = differences(Outcome(3, err=output.encode()), got)
                 faults += ["it was opened"] if opened else []
                 faults += tree_faults({"k": "p", "link": "k"}, folder)
         report.check(f"a pipe is not changed: {' '.join(words)}", faults)

@@ -40,8 +40,8 @@ def faults_of(run: Modelled, nth: int, got: Counted) -> list[str]:
         return []
     if run.ends_early(got.outcome, got.files, NO_MEMORY):
         return []
-    said = ", ".join(differences(NO_MEMORY, got.outcome))
-    return [f"at {nth} {said or 'files that are not as they should be'}"]
+    output = ", ".join(differences(NO_MEMORY, got.outcome))
+    return [f"at {nth} {output or 'files that are not as they should be'}"]
 
 
 def check_run(report: Report, under: Preloaded, run: Modelled, numbers) -> None:
@@ -65,8 +65,8 @@ def check_run(report: Report, under: Preloaded, run: Modelled, numbers) -> None:
 
 def command_lines(under: Preloaded) -> list[Modelled]:
     """Returns runs that print help, or that are refused. Help is the same as without refused allocations."""
-    asked = (("--help",), ("klist", "--help"))
-    wanted = [(words, under.run(Line(words)).outcome) for words in asked]
+    lines = (("--help",), ("klist", "--help"))
+    wanted = [(words, under.run(Line(words)).outcome) for words in lines]
     unread = message(2, "bad command line")
     wanted += [(words, unread) for words in (("frob",), ("klist", "-k", "k", "--nosuch"))]
     return [Modelled(Case(" ".join(words), words, outcome), (Stage(b"", b"", {}),), may_print=True)

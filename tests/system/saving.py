@@ -8,7 +8,7 @@ from dataclasses import dataclass
 from makers.images import HOST, keytab
 from makers.usual_caches import USUAL
 from models.cases import ccedit, ccremove, ktedit
-from models.ticket_removal_model import Asked
+from models.ticket_removal_model import Selection
 from runs.harness import Case, Outcome, message, run
 
 # The script of each run, and the file before and after it.
@@ -29,14 +29,14 @@ Place = Callable[[str], None]
 # Runs that change a file, those that take no hold, and those that take one and then have nothing to save. None depends
 # on the clock.
 ADD = ktedit(OLD, SCRIPT, name="adds")
-TGT, NONE = Asked(b"krbtgt/R@R"), Asked(b"b@R")
-CHANGES = (ADD, ccedit(USUAL, b"cut 40\n", name="cuts"), ccremove(USUAL, 0, asked=TGT, name="takes"))
+TGT, NONE = Selection(b"krbtgt/R@R"), Selection(b"b@R")
+CHANGES = (ADD, ccedit(USUAL, b"cut 40\n", name="cuts"), ccremove(USUAL, 0, selection=TGT, name="takes"))
 HOLDING_NOTHING = (
     ccedit(USUAL, b"start\n", name="walks"), ccedit(USUAL, b"frob\n", name="is at fault"),
-    ccremove(USUAL, 0, asked=TGT, is_dry=True, name="tells"),
-    ccremove(USUAL, 0, asked=NONE, is_dry=True, name="tells of none"),
+    ccremove(USUAL, 0, selection=TGT, is_dry=True, name="tells"),
+    ccremove(USUAL, 0, selection=NONE, is_dry=True, name="tells of none"),
 )
-SAVING_NOTHING = (ccedit(USUAL, b"cut 3\n", name="is refused"), ccremove(USUAL, 0, asked=NONE, name="finds none"))
+SAVING_NOTHING = (ccedit(USUAL, b"cut 3\n", name="is refused"), ccremove(USUAL, 0, selection=NONE, name="finds none"))
 
 
 def run_over(program: str, case: Case, folder: str, name: str = "", **options: object) -> Outcome:

@@ -44,7 +44,7 @@ def names_of_cache(image: bytes) -> list[str] | None:
     if isinstance(read_cache(image), int):
         return None
     made = Cache(image)
-    return None if made.fault else [said.server[said.is_config()].decode() for _, said in made.live()]
+    return None if made.fault else [output.server[output.is_config()].decode() for _, output in made.live()]
 
 
 @dataclass(frozen=True)

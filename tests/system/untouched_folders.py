@@ -8,7 +8,7 @@ import os
 from makers.images import TWO
 from makers.usual_caches import USUAL
 from models.cases import klist, klist_cache, klist_cache_json, klist_json, ktcheck, ktedit, ktfind, ktremove
-from models.removal_model import Asked
+from models.removal_model import Selection
 from runs.harness import Case, Outcome, Report, faults_of, files_in, folder_of, run
 from system.saving import HOLDING_NOTHING, OLD, SAVING_NOTHING, WALK
 
@@ -18,7 +18,7 @@ SCRIPTS = (b"", b"# none\n", WALK, b"resume 2\n", b"start\nfrob\n")
 # Runs of each command that lists, dry runs, and such scripts.
 CASES = (
     klist(TWO), klist_json(TWO), ktfind(TWO, name=(b"b", b"R")), ktcheck(TWO), klist_cache(USUAL),
-    klist_cache_json(USUAL), ktremove(TWO, asked=Asked(b"b@R"), is_dry=True, name="-n"),
+    klist_cache_json(USUAL), ktremove(TWO, selection=Selection(b"b@R"), is_dry=True, name="-n"),
     Case("rkt", ("ktutil",), Outcome(0), {"k": TWO}, stdin=b"rkt k\ndelent 1\n"),
     *(ktedit(OLD, script, name=f"{script}") for script in SCRIPTS), *HOLDING_NOTHING,
 )

@@ -96,5 +96,5 @@ CASES = [
     *(case(line, printed("walk 0 at 2")) for line in EDITING),
     *(talk(line, message(1, "line 1: fault 1")) for line in TALKING),
     *(talk(line, BAD_LINE) for line in NO_TALKS),
-    *(Help(line, told) for lines, told in HELP for line in lines),
+    *(Help(line, help_text) for lines, help_text in HELP for line in lines),
 ]

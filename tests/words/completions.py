@@ -27,7 +27,7 @@ def part(text: str, heading: str) -> str:
     return text.partition(f"\n{heading}:\n")[2].partition("\n\n")[0]
 
 
-def told(program: str, command: str) -> tuple[set[str], set[str]]:
+def offered(program: str, command: str) -> tuple[set[str], set[str]]:
     """Returns the commands and the options that the help of a command, or of none, lists."""
     with folder_of({}) as folder:
         text = run(program, [*command.split(), "--help"], folder).out.decode()
@@ -76,10 +76,10 @@ def check_bash(report: Report, program: str) -> None:
     if shutil.which("bash") is None:
         report.skip("completion by bash", "bash is not there")
         return
-    commands, options = told(program, "")
+    commands, options = offered(program, "")
     compare(report, "the first word in bash", commands | options, by_bash(""))
     for command in sorted(commands - {"help"}):
-        options = told(program, command)[1]
+        options = offered(program, command)[1]
         compare(report, f"{command} in bash", options, by_bash(command, "-"))
         compare(report, f"{command} k in bash", options, by_bash(command, "k", "-"))
         compare(report, f"--explain {command} in bash", options, by_bash("--explain", command, "-"))
@@ -94,11 +94,11 @@ def check_bash(report: Report, program: str) -> None:
 
 def check_texts(report: Report, program: str) -> None:
     """Reads the texts for zsh and fish, which need not be installed."""
-    commands, options = told(program, "")
+    commands, options = offered(program, "")
     compare(report, "options in zsh", options, by_zsh(""))
     compare(report, "options in fish", options, by_fish(""))
     for command in sorted(commands - {"help"}):
-        options = told(program, command)[1]
+        options = offered(program, command)[1]
         compare(report, f"{command} in zsh", options, by_zsh(command))
         compare(report, f"{command} in fish", options, by_fish(command))
     named = {"zsh": re.findall(r"^    '(\w+):", read(ZSH), re.MULTILINE),

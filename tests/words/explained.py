@@ -22,12 +22,12 @@ CUT = TWO + b"\0\0\0"
 
 
 @dataclass(frozen=True)
-class Told:
+class Explained:
     """A run, and the messages on its error output, each with its explanation or an empty text."""
 
     name: str
     words: Line
-    said: tuple[tuple[str, str], ...]
+    output: tuple[tuple[str, str], ...]
     files: dict[str, bytes]
     stdin: bytes = b""
     status: int = 1
@@ -38,7 +38,7 @@ class Told:
 
     def wanted(self, explained: bool, out: bytes) -> Outcome:
         """Returns the expected outcome with that output."""
-        lines = [line for one in self.said for line in (one if explained else one[:1]) if line]
+        lines = [line for one in self.output for line in (one if explained else one[:1]) if line]
         return Outcome(self.status, out, "".join(f"krbfile: {line}\n" for line in lines).encode())
 
     def check(self, report: Report, program: str) -> None:
@@ -54,27 +54,27 @@ class Told:
                 report.compare(f"{self.name}, {way}", self.wanted(True, out), got)
 
 
-def told(name: str, line: str | Line, image: bytes | None, *said: tuple[str, str], file: str = "k", **more) -> Told:
+def case(name: str, line: str | Line, image: bytes | None, *output: tuple[str, str], file: str = "k", **more) -> Explained:
     """Returns a run over that file, or over none."""
-    return Told(name, words_of(line), said, {} if image is None else {file: image}, **more)
+    return Explained(name, words_of(line), output, {} if image is None else {file: image}, **more)
 
 
-def found(name: str, words: str, image: bytes, mode: int, *fault: str, status: int = 1) -> Told:
+def found(name: str, words: str, image: bytes, mode: int, *fault: str, status: int = 1) -> Explained:
     """Returns a run of ktcheck: each printed word is explained once, and then the fault."""
-    return told(f"ktcheck: {name}", "ktcheck k", image, *(("", f"{word}: {MEANINGS[word]}") for word in words.split()),
+    return case(f"ktcheck: {name}", "ktcheck k", image, *(("", f"{word}: {MEANINGS[word]}") for word in words.split()),
                 *(("", line) for line in fault), status=status,
                 setting=lambda folder: os.chmod(os.path.join(folder, "k"), mode))
 
 
-def faulty(line: str, number: int, phrase: str) -> Told:
+def faulty(line: str, number: int, phrase: str) -> Explained:
     """Returns a run over a faulty line of a script."""
-    return told(f"ktedit: {line!r}", "ktedit k", TWO, (f"line 2: fault {number}", phrase),
+    return case(f"ktedit: {line!r}", "ktedit k", TWO, (f"line 2: fault {number}", phrase),
                 stdin=f"start\n{line}\n".encode())
 
 
-def faulty_talk(line: str, number: int, phrase: str) -> Told:
+def faulty_talk(line: str, number: int, phrase: str) -> Explained:
     """Returns a run over a faulty line of ktutil: the explanation has its number."""
-    return told(f"ktutil: {line!r}", "ktutil", TWO, (f"line 2: fault {number}", f"line 2: {phrase}"),
+    return case(f"ktutil: {line!r}", "ktutil", TWO, (f"line 2: fault {number}", f"line 2: {phrase}"),
                 stdin=f"l\n{line}\n".encode(errors="surrogateescape"))
 
 
@@ -83,14 +83,14 @@ def first_of_each(faults: dict[str, int]) -> dict[int, str]:
     return {fault: line for line, fault in reversed(faults.items())}
 
 
-def unread(name: str, file: str, phrase: str, **more) -> Told:
+def unread(name: str, file: str, phrase: str, **more) -> Explained:
     """Returns a run over a file that is not read."""
-    return told(f"unread: {name}", ("klist", "-k", file), TWO, (f"{file}: cannot read", phrase), status=3, **more)
+    return case(f"unread: {name}", ("klist", "-k", file), TWO, (f"{file}: cannot read", phrase), status=3, **more)
 
 
-def unsaved(name: str, file: str, phrase: str, **more) -> Told:
+def unsaved(name: str, file: str, phrase: str, **more) -> Explained:
     """Returns a run over a file that is not saved."""
-    return told(f"unsaved: {name}", ("ktedit", file), None, (f"{file}: cannot write", phrase), stdin=ADD, status=3,
+    return case(f"unsaved: {name}", ("ktedit", file), None, (f"{file}: cannot write", phrase), stdin=ADD, status=3,
                 **more)
 
 
@@ -142,29 +142,29 @@ ALL_WORDS = keytab(WEAK, WEAK, Entry((b"",), enctype=23, key=bytes(16)), Entry((
 
 CASES = [
     # Files that are not keytabs, for each command.
-    told("klist -k of 05", "klist -k k", b"\x05", ("k: not a keytab (1)", "it has fewer than two bytes")),
-    told("klist -k of 0503", "klist -k k", b"\x05\x03", LISTED_CACHE),
-    told("klist -k of 0504", "klist -k k", b"\x05\x04", LISTED_CACHE),
-    told("klist -k of 0505", "klist -k k", b"\x05\x05", NO_KEYTAB),
-    told("klist -k of 0402", "klist -k k", b"\x04\x02", NO_KEYTAB),
-    told("ktfind in a cache", "ktfind k 0 0 b@R", b"\x05\x04", IS_CACHE),
-    told("ktedit of a cache", "ktedit k", b"\x05\x04", IS_CACHE),
-    told("ktremove from a cache", "ktremove -k old k", b"\x05\x04", IS_CACHE),
-    told("ktcheck of a cache", "ktcheck k", b"\x05\x04", IS_CACHE),
-    told("rkt of a cache", "ktutil", b"\x05\x04", (IS_CACHE[0], f"line 1: {IS_CACHE[1]}"), stdin=b"rkt k\n"),
+    case("klist -k of 05", "klist -k k", b"\x05", ("k: not a keytab (1)", "it has fewer than two bytes")),
+    case("klist -k of 0503", "klist -k k", b"\x05\x03", LISTED_CACHE),
+    case("klist -k of 0504", "klist -k k", b"\x05\x04", LISTED_CACHE),
+    case("klist -k of 0505", "klist -k k", b"\x05\x05", NO_KEYTAB),
+    case("klist -k of 0402", "klist -k k", b"\x04\x02", NO_KEYTAB),
+    case("ktfind in a cache", "ktfind k 0 0 b@R", b"\x05\x04", IS_CACHE),
+    case("ktedit of a cache", "ktedit k", b"\x05\x04", IS_CACHE),
+    case("ktremove from a cache", "ktremove -k old k", b"\x05\x04", IS_CACHE),
+    case("ktcheck of a cache", "ktcheck k", b"\x05\x04", IS_CACHE),
+    case("rkt of a cache", "ktutil", b"\x05\x04", (IS_CACHE[0], f"line 1: {IS_CACHE[1]}"), stdin=b"rkt k\n"),
     # Refused look-ups and lines of ktutil.
-    told("ktfind of no entry", "ktfind k 0 0 c@R", TWO, ("k: refused 9", "no entry of this name and encryption type")),
-    told("ktfind of no version", "ktfind k 4 0 b@R", TWO,
+    case("ktfind of no entry", "ktfind k 0 0 c@R", TWO, ("k: refused 9", "no entry of this name and encryption type")),
+    case("ktfind of no version", "ktfind k 4 0 b@R", TWO,
          ("k: refused 10", "this name and encryption type have no such version")),
-    told("ktfind in a damaged file", "ktfind k 3 0 b@R", CUT, ("k: refused 1", DAMAGED)),
-    told("ktremove of nothing", "ktremove -k 4 k", TWO, ("k: refused 9", "no entry has what was asked for")),
-    told("ktremove from a damaged file", "ktremove -k old k", CUT, ("k: refused 1", DAMAGED)),
-    told("rkt of a damaged file", "ktutil", CUT, ("line 1: refused 1", f"line 1: {DAMAGED}"), stdin=b"rkt k\n"),
-    told("wkt to a damaged file", "ktutil", CUT, ("line 3: refused 1", f"line 3: {DAMAGED}"), stdin=WRITE),
-    told("wkt of a long name", "ktutil", None,
+    case("ktfind in a damaged file", "ktfind k 3 0 b@R", CUT, ("k: refused 1", DAMAGED)),
+    case("ktremove of nothing", "ktremove -k 4 k", TWO, ("k: refused 9", "no entry has what was asked for")),
+    case("ktremove from a damaged file", "ktremove -k old k", CUT, ("k: refused 1", DAMAGED)),
+    case("rkt of a damaged file", "ktutil", CUT, ("line 1: refused 1", f"line 1: {DAMAGED}"), stdin=b"rkt k\n"),
+    case("wkt to a damaged file", "ktutil", CUT, ("line 3: refused 1", f"line 3: {DAMAGED}"), stdin=WRITE),
+    case("wkt of a long name", "ktutil", None,
          ("line 3: refused 2", "line 3: a name or a key is too long for a keytab"),
          stdin=f"addent -key -p {'x' * 65_536}@R -k 3 -e 17\n{KEY}\nwkt k\n".encode()),
-    lambda: told("wkt to a full file", "ktutil",
+    lambda: case("wkt to a full file", "ktutil",
                  keytab(record(HOST.spelled() + bytes(LIMIT - 6 - len(HOST.spelled())))),
                  ("line 3: refused 3", "line 3: the file would be longer than 16,777,216 bytes"), stdin=WRITE),
     # Checks.
@@ -178,16 +178,16 @@ CASES = [
     *(faulty(line, number, PHRASES[number]) for number, line in first_of_each(FAULTS).items()),
     *(faulty_talk(line, number, TALK_PHRASES[number]) for number, line in first_of_each(TALK_FAULTS).items()),
     faulty_talk("rkt \udcff", 8, "the file's name is not UTF-8"),
-    told("ktutil: two faults", "ktutil", None,
+    case("ktutil: two faults", "ktutil", None,
          ("line 2: fault 5", "line 2: the key is not hexadecimal, not as long as its type's, or empty"),
          ("line 3: fault 1", "line 3: unknown command"), stdin=f"{ADDENT}00\nx\n".encode()),
     # Files that are not read.
-    told("a missing file", "klist k", None, ("k: no such file", "")),
-    told("rkt of a missing file", "ktutil", None, ("k: no such file", "line 1: no such file"), stdin=b"rkt k\n"),
-    lambda: told("a large file", "klist -k k", bytes(LIMIT + 1), ("k: file too large", LARGE)),
-    lambda: told("a large file in ktutil", "ktutil", bytes(LIMIT + 1), ("k: file too large", f"line 1: {LARGE}"),
+    case("a missing file", "klist k", None, ("k: no such file", "")),
+    case("rkt of a missing file", "ktutil", None, ("k: no such file", "line 1: no such file"), stdin=b"rkt k\n"),
+    lambda: case("a large file", "klist -k k", bytes(LIMIT + 1), ("k: file too large", LARGE)),
+    lambda: case("a large file in ktutil", "ktutil", bytes(LIMIT + 1), ("k: file too large", f"line 1: {LARGE}"),
                  stdin=b"rkt k\n"),
-    lambda: told("a large script", "ktedit k", None, ("input too large", LARGE), stdin=bytes(LIMIT + 1)),
+    lambda: case("a large script", "ktedit k", None, ("input too large", LARGE), stdin=bytes(LIMIT + 1)),
     unread("a folder", ".", "is a directory"),
     unread("a file as a folder", "k/x", "not a directory"),
     unread("a long name", "x" * 256, "the name is too long"),
@@ -199,22 +199,22 @@ CASES = [
     unsaved("a name of 248 bytes", "x" * 248, "the name is too long"),
     unsaved("another's new file", "k", "k.krbfile is in the way", setting=in_the_way),
     unsaved("a link that is no text", "l", "a link that cannot be followed", setting=link(b"\xff")),
-    told("wkt to a name of saves", "ktutil", None,
+    case("wkt to a name of saves", "ktutil", None,
          ("k.krbfile: cannot write", "line 1: a name that ends in .krbfile is kept for saves"),
          stdin=b"wkt k.krbfile\n", status=3),
     # Damaged files: the fault is in the listing, and with explanations on the error output too.
-    told("listed: fault 1", "klist -k k", CUT, ("", "k: fault 1 at 98"), ("", "the file ends within a length")),
-    told("listed: fault 2", "klist -k k", TWO + b"\x7f\xff\xff\xff", ("", "k: fault 2 at 98"),
+    case("listed: fault 1", "klist -k k", CUT, ("", "k: fault 1 at 98"), ("", "the file ends within a length")),
+    case("listed: fault 2", "klist -k k", TWO + b"\x7f\xff\xff\xff", ("", "k: fault 2 at 98"),
          ("", "a record or a hole is longer than the rest of the file")),
-    told("listed: fault 3", "klist -k k", keytab(record(bytes(3))), ("", "k: fault 3 at 2"),
+    case("listed: fault 3", "klist -k k", keytab(record(bytes(3))), ("", "k: fault 3 at 2"),
          ("", "a record holds no entry")),
     # Replies of ktedit: each number that occurs is explained once, refusals before faults.
-    told("replies: places", "ktedit k", TWO, ("", "refused 4: no record, hole or end stands at this place"),
+    case("replies: places", "ktedit k", TWO, ("", "refused 4: no record, hole or end stands at this place"),
          ("", "refused 5: no entry stands at this place"), ("", "refused 6: no such walk"),
          stdin=b"step 7\ncut 3\nresume 3\ncut 4\nstep 7\n"),
-    told("replies: walks", "ktedit k", TWO, ("", "refused 7: there are 1,024 walks already"),
+    case("replies: walks", "ktedit k", TWO, ("", "refused 7: there are 1,024 walks already"),
          stdin=b"start\n" * 1_025),
-    told("replies: a damaged file", "ktedit k", CUT, ("", f"refused 1: {DAMAGED}"),
+    case("replies: a damaged file", "ktedit k", CUT, ("", f"refused 1: {DAMAGED}"),
          ("", "fault 1: the file ends within a length"), stdin=b"resume 98\nstep 0\ncut 2\nstep 0\n"),
 ]
 

@@ -7,7 +7,7 @@ from caches.cache_scripts import FAULTS
 from keytabs.file_names import LIMIT
 from makers.cache_images import cache
 from makers.usual_caches import USUAL, VERSION_3
-from words.explained import DAMAGED, LARGE, PHRASES, Told, first_of_each, in_the_way, told
+from words.explained import DAMAGED, LARGE, PHRASES, Explained, first_of_each, case, in_the_way
 
 READ_ONLY = "a cache of version 3 is changed only by a rewrite"
 FAULT = "no whole credential follows; cut off, or being written"
@@ -19,45 +19,45 @@ CHANGING = (("ccedit", b"cut 40\n"), ("ccremove -p krbtgt/R@R", b""))
 CUT = USUAL + b"\0"
 
 
-def no_cache(image: bytes, number: int, phrase: str) -> list[Told]:
+def no_cache(image: bytes, number: int, phrase: str) -> list[Explained]:
     """Returns runs of each command over a file that is not a cache."""
-    return [told(f"{line} of {image.hex()}", f"{line} k", image, (f"k: not a cache ({number})", phrase), stdin=stdin)
+    return [case(f"{line} of {image.hex()}", f"{line} k", image, (f"k: not a cache ({number})", phrase), stdin=stdin)
             for line, stdin in (("klist", b""), *CHANGING)]
 
 
-def refused(name: str, line: str, image: bytes, number: int, phrase: str) -> Told:
+def refused(name: str, line: str, image: bytes, number: int, phrase: str) -> Explained:
     """Returns a refused removal."""
-    return told(f"ccremove: {name}", f"ccremove {line} c", image, (f"c: refused {number}", phrase), file="c")
+    return case(f"ccremove: {name}", f"ccremove {line} c", image, (f"c: refused {number}", phrase), file="c")
 
 
-def faulty(line: str, number: int, phrase: str) -> Told:
+def faulty(line: str, number: int, phrase: str) -> Explained:
     """Returns a run over a faulty line of a script."""
-    return told(f"ccedit: {line!r}", "ccedit c", USUAL, (f"line 2: fault {number}", phrase), file="c",
+    return case(f"ccedit: {line!r}", "ccedit c", USUAL, (f"line 2: fault {number}", phrase), file="c",
                 stdin=f"start\n{line}\n".encode())
 
 
-def replies(name: str, image: bytes, script: bytes, *phrases: str) -> Told:
+def replies(name: str, image: bytes, script: bytes, *phrases: str) -> Explained:
     """Returns a run of ccedit: each number in the replies is explained once, refusals before faults."""
-    return told(f"replies of ccedit: {name}", "ccedit c", image, *(("", phrase) for phrase in phrases), file="c",
+    return case(f"replies of ccedit: {name}", "ccedit c", image, *(("", phrase) for phrase in phrases), file="c",
                 stdin=script)
 
 
-def files(line: str, stdin: bytes) -> list[Told]:
+def files(line: str, stdin: bytes) -> list[Explained]:
     """Returns runs over files that are not read or not saved."""
     way = {"stdin": stdin, "status": 3}
     return [
-        told(f"{line}: no file", f"{line} c", None, ("c: no such file", ""), stdin=stdin),
-        told(f"{line}: a folder", f"{line} .", None, (".: cannot read", "is a directory"), **way),
-        told(f"{line}: a name of saves", f"{line} c.krbfile", USUAL,
+        case(f"{line}: no file", f"{line} c", None, ("c: no such file", ""), stdin=stdin),
+        case(f"{line}: a folder", f"{line} .", None, (".: cannot read", "is a directory"), **way),
+        case(f"{line}: a name of saves", f"{line} c.krbfile", USUAL,
              ("c.krbfile: cannot write", "a name that ends in .krbfile is kept for saves"), file="c.krbfile", **way),
-        told(f"{line}: another's new file", f"{line} k", USUAL, ("k: cannot write", "k.krbfile is in the way"),
+        case(f"{line}: another's new file", f"{line} k", USUAL, ("k: cannot write", "k.krbfile is in the way"),
              setting=in_the_way, **way),
     ]
 
 
-def large(line: str, stdin: bytes) -> Told:
+def large(line: str, stdin: bytes) -> Explained:
     """Returns a run over a file that is too large."""
-    return told(f"{line}: a large file", f"{line} c", bytes(LIMIT + 1), ("c: file too large", LARGE), file="c",
+    return case(f"{line}: a large file", f"{line} c", bytes(LIMIT + 1), ("c: file too large", LARGE), file="c",
                 stdin=stdin)
 
 
@@ -69,19 +69,19 @@ CASES = [
     *no_cache(b"\x04\x04", 2, "it does not begin as a cache of version 3 or 4"),
     *no_cache(b"\x05\x04\x00", 4, "its header is damaged"),
     *no_cache(b"\x05\x03", 5, "it has no default principal"),
-    told("listed: fault 4 at 392", "klist k", CUT, ("", "k: fault 4 at 392"), ("", FAULT)),
+    case("listed: fault 4 at 392", "klist k", CUT, ("", "k: fault 4 at 392"), ("", FAULT)),
     # Refused removals.
     refused("of nothing", "-p c@R", USUAL, 9, "no ticket has what was asked for"),
     refused("of nothing that has expired", "-p c@R --expired", USUAL, 9, "no ticket has what was asked for"),
     refused("from a damaged file", "--expired", CUT, 1, DAMAGED),
     refused("from version 3", "--expired", VERSION_3, 8, READ_ONLY),
-    told("ccremove: nothing to do", "ccremove --expired c", cache(), file="c", status=0),
+    case("ccremove: nothing to do", "ccremove --expired c", cache(), file="c", status=0),
     # Faulty lines of scripts.
     *(faulty(line, number, PHRASES[number]) for number, line in first_of_each(FAULTS).items()),
     # Files that are not read or not saved.
     *(each for line, stdin in CHANGING for each in files(line, stdin)),
     *(partial(large, line, stdin) for line, stdin in CHANGING),
-    lambda: told("ccedit: a large script", "ccedit c", None, ("input too large", LARGE), stdin=bytes(LIMIT + 1)),
+    lambda: case("ccedit: a large script", "ccedit c", None, ("input too large", LARGE), stdin=bytes(LIMIT + 1)),
     # Replies of ccedit.
     replies("places", USUAL, b"step 7\ncut 3\nresume 3\ncut 284\nstep 7\n",
             "refused 4: no credential or end stands at this place",

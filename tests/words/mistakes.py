@@ -5,7 +5,7 @@ from runs.harness import Case, Outcome, Report, differences, folder_of, run
 from runs.rows import Line, shown, words_of
 from runs.terminal import EXPLAIN, run_on_terminal, runs_with_words
 from words.command_lines import REFUSED
-from words.explained import Told
+from words.explained import Explained
 
 MESSAGE = b"krbfile: bad command line\n"
 
@@ -67,9 +67,9 @@ MISTAKES: dict[str, list[str | Line]] = {
 COMMANDS = ("klist", "ktfind", "ktedit", "ktremove", "ktcheck", "ktutil", "ccedit", "ccremove")
 
 
-def mistake(line: str | Line, phrase: str) -> Told:
+def mistake(line: str | Line, phrase: str) -> Explained:
     """Returns a line, beside a file `k`, and what is wrong with it."""
-    return Told(shown(line), words_of(line), (("bad command line", phrase),), {"k": TWO}, status=2, out=b"")
+    return Explained(shown(line), words_of(line), (("bad command line", phrase),), {"k": TWO}, status=2, out=b"")
 
 
 def help_for(line: str | Line) -> str:

@@ -23,6 +23,6 @@ def check(report: Report, _: str) -> None:
     if shutil.which("rt") is None:
         report.skip("the toolchain of the version", "rt is not there")
         return
-    said = subprocess.run(["rt", "version"], capture_output=True, text=True, check=False).stdout
-    named = said.strip().partition(" ")[2]
-    report.check("the toolchain of the version", [] if named == TOOLCHAIN else [f"it is {said!r}"])
+    output = subprocess.run(["rt", "version"], capture_output=True, text=True, check=False).stdout
+    named = output.strip().partition(" ")[2]
+    report.check("the toolchain of the version", [] if named == TOOLCHAIN else [f"it is {output!r}"])
