@@ -54,7 +54,8 @@ class Explained:
                 report.compare(f"{self.name}, {way}", self.wanted(True, out), got)
 
 
-def case(name: str, line: str | Line, image: bytes | None, *output: tuple[str, str], file: str = "k", **more) -> Explained:
+def case(name: str, line: str | Line, image: bytes | None, *output: tuple[str, str], file: str = "k",
+         **more) -> Explained:
     """Returns a run over that file, or over none."""
     return Explained(name, words_of(line), output, {} if image is None else {file: image}, **more)
 

@@ -7,7 +7,7 @@ from caches.cache_scripts import FAULTS
 from keytabs.file_names import LIMIT
 from makers.cache_images import cache
 from makers.usual_caches import USUAL, VERSION_3
-from words.explained import DAMAGED, LARGE, PHRASES, Explained, first_of_each, case, in_the_way
+from words.explained import DAMAGED, LARGE, PHRASES, Explained, case, first_of_each, in_the_way
 
 READ_ONLY = "a cache of version 3 is changed only by a rewrite"
 FAULT = "no whole credential follows; cut off, or being written"
