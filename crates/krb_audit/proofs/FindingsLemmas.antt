@@ -21,7 +21,7 @@ use Rattle.krb_audit.specs.Findings.{as_alike, ends_mit, is_alike, marked, marke
 use Rattle.krb_audit.specs.Firsts.{AreFirsts, Key, key_of, same_key}
 use Rattle.krb_audit.specs.Newest.{is_old}
 use Rattle.krb_audit.specs.Stamps.{first_number}
-use Rattle.krb_audit.specs.Report.{is_clash, is_same, mark_lines, told_of, with_marks}
+use Rattle.krb_audit.specs.Report.{is_clash, is_same, mark_lines, words_of, with_marks}
 use Rattle.krb_audit.proofs.FirstsLemmas.{first_of_alike, one_more}
 use Rattle.krb_audit.proofs.Numbers.{entry_here, numbered_at, numbered_before}
 
@@ -38,13 +38,13 @@ joined t u = record {
   mode = t.mode;
 }
 
-join_marks : (t : FindingWords) (x : PlacedEntry) (m : Marks) (ms : List (PlacedEntry × Marks)) → joined (with_marks t m) (told_of ms) ≡ joined t (told_of ((x, m) ∷ ms))
+join_marks : (t : FindingWords) (x : PlacedEntry) (m : Marks) (ms : List (PlacedEntry × Marks)) → joined (with_marks t m) (words_of ms) ≡ joined t (words_of ((x, m) ∷ ms))
 join_marks t x m ms = λ i. record {
-  weak = or_assoc t.weak m.weak (told_of ms).weak i;
-  hidden = or_assoc t.hidden m.hidden (told_of ms).hidden i;
-  same = or_assoc t.same (is_same m.alike) (told_of ms).same i;
-  clash = or_assoc t.clash (is_clash m.alike) (told_of ms).clash i;
-  old = or_assoc t.old m.old (told_of ms).old i;
+  weak = or_assoc t.weak m.weak (words_of ms).weak i;
+  hidden = or_assoc t.hidden m.hidden (words_of ms).hidden i;
+  same = or_assoc t.same (is_same m.alike) (words_of ms).same i;
+  clash = or_assoc t.clash (is_clash m.alike) (words_of ms).clash i;
+  old = or_assoc t.old m.old (words_of ms).old i;
   mode = t.mode;
 }
 
@@ -56,15 +56,15 @@ pub record IsListedUpTo {A : Type 0} (k : KeytabState) (rest : List PlacedEntry)
   pub all : placed_entries k ≡ before ++ rest
   pub known : IsBefore k before b
   pub text : out ++ flat_map mark_lines (marked_after k before rest) ≡ start ++ flat_map mark_lines (marked k)
-  pub told : joined words (told_of (marked_after k before rest)) ≡ told_of (marked k)
+  pub words_found : joined words (words_of (marked_after k before rest)) ≡ words_of (marked k)
 
-pub none_listed : {A : Type 0} (k : KeytabState) (rest : List PlacedEntry) (b : Before A) (t : FindingWords) (start : List ℕ) → rest ≡ placed_entries k → IsBefore k [] b → t ≡ told_of [] → IsListedUpTo k rest b t start start
+pub none_listed : {A : Type 0} (k : KeytabState) (rest : List PlacedEntry) (b : Before A) (t : FindingWords) (start : List ℕ) → rest ≡ placed_entries k → IsBefore k [] b → t ≡ words_of [] → IsListedUpTo k rest b t start start
 none_listed k rest b t start is known none = record {
   before = [];
   all = sym is;
   known = known;
   text = ap (λ xs. start ++ flat_map mark_lines (marked_after k [] xs)) is;
-  told = ap (λ u. joined u (told_of (marked_after k [] rest))) none ∙ ap (λ xs. told_of (marked_after k [] xs)) is;
+  words_found = ap (λ u. joined u (words_of (marked_after k [] rest))) none ∙ ap (λ xs. words_of (marked_after k [] xs)) is;
 }
 
 -- what the check of the next entry must return, and what must be known after it
@@ -73,7 +73,7 @@ Gives k x b m c = (before rest : List PlacedEntry) → IsBefore k before b → p
 
 pub one_listed : {A : Type 0} (k : KeytabState) (x : PlacedEntry) (rest : List PlacedEntry) (b c : Before A) (m : Marks) (t u : FindingWords) (start text new : List ℕ) → IsListedUpTo k (x ∷ rest) b t start text
     → Gives k x b m c → u ≡ with_marks t m → new ≡ text ++ mark_lines (x, m) → IsListedUpTo k rest c u start new
-one_listed k x rest b c m t u start text new h gives told lines =
+one_listed k x rest b c m t u start text new h gives words_found lines =
     let given = gives h.before rest h.known h.all in
     let after = marked_after k (h.before ++ x ∷ []) rest in
     record {
@@ -82,7 +82,7 @@ one_listed k x rest b c m t u start text new h gives told lines =
       known = given.1;
       text = ap (λ (s : List ℕ). s ++ flat_map mark_lines after) lines ∙ append_assoc text (mark_lines (x, m)) (flat_map mark_lines after)
           ∙ ap (λ (n : Marks). text ++ (mark_lines (x, n) ++ flat_map mark_lines after)) given.0 ∙ h.text;
-      told = ap (λ (v : FindingWords). joined v (told_of after)) told ∙ join_marks t x m after ∙ ap (λ (n : Marks). joined t (told_of ((x, n) ∷ after))) given.0 ∙ h.told;
+      words_found = ap (λ (v : FindingWords). joined v (words_of after)) words_found ∙ join_marks t x m after ∙ ap (λ (n : Marks). joined t (words_of ((x, n) ∷ after))) given.0 ∙ h.words_found;
     }
 
 -- ---- the next entry

@@ -58,20 +58,20 @@ first_alike n p q (x ∷ xs) e =
 both_of : (p q r : Parts) → have_same_name p r ≡ true → have_same_name q r ≡ true → have_same_name p q ≡ true
 both_of p q r ep eq = same_equiv.congr p r q ep ∙ same_equiv.symm r q ∙ eq
 
-told_by : (a b : Bool) (n i : ℕ) (p q : Parts) (op oq : Option ℕ) → cond a (Some n) op ≡ Some i → cond b (Some n) oq ≡ Some i → (a ≡ true → b ≡ true → have_same_name p q ≡ true) → (op ≡ Some i → n + 1 ≤ i) → (oq ≡ Some i → n + 1 ≤ i) → (op ≡ Some i → oq ≡ Some i → have_same_name p q ≡ true) → have_same_name p q ≡ true
-told_by true true n i p q op oq ea eb both lp lq ih = both refl refl
-told_by true false n i p q op oq ea eb both lp lq ih = let is : n ≡ i = some_is n i ea in let lt = lq eb in absurd (omega arith)
-told_by false true n i p q op oq ea eb both lp lq ih = let is : n ≡ i = some_is n i eb in let lt = lp ea in absurd (omega arith)
-told_by false false n i p q op oq ea eb both lp lq ih = ih ea eb
+number_by : (a b : Bool) (n i : ℕ) (p q : Parts) (op oq : Option ℕ) → cond a (Some n) op ≡ Some i → cond b (Some n) oq ≡ Some i → (a ≡ true → b ≡ true → have_same_name p q ≡ true) → (op ≡ Some i → n + 1 ≤ i) → (oq ≡ Some i → n + 1 ≤ i) → (op ≡ Some i → oq ≡ Some i → have_same_name p q ≡ true) → have_same_name p q ≡ true
+number_by true true n i p q op oq ea eb both lp lq ih = both refl refl
+number_by true false n i p q op oq ea eb both lp lq ih = let is : n ≡ i = some_is n i ea in let lt = lq eb in absurd (omega arith)
+number_by false true n i p q op oq ea eb both lp lq ih = let is : n ≡ i = some_is n i eb in let lt = lp ea in absurd (omega arith)
+number_by false false n i p q op oq ea eb both lp lq ih = ih ea eb
 
 -- names with the same first entry are the same
-pub first_tells : (n : ℕ) (p q : Parts) (xs : List PlacedEntry) (i : ℕ) → first_from n p xs ≡ Some i → first_from n q xs ≡ Some i → have_same_name p q ≡ true
-first_tells n p q [] i ep eq = absurd cc
-first_tells n p q (x ∷ xs) i ep eq = told_by (have_same_name p x.1.principal) (have_same_name q x.1.principal) n i p q (first_from (n + 1) p xs) (first_from (n + 1) q xs) ep eq
+pub first_number_is : (n : ℕ) (p q : Parts) (xs : List PlacedEntry) (i : ℕ) → first_from n p xs ≡ Some i → first_from n q xs ≡ Some i → have_same_name p q ≡ true
+first_number_is n p q [] i ep eq = absurd cc
+first_number_is n p q (x ∷ xs) i ep eq = number_by (have_same_name p x.1.principal) (have_same_name q x.1.principal) n i p q (first_from (n + 1) p xs) (first_from (n + 1) q xs) ep eq
     (λ a b. both_of p q x.1.principal a b)
     (λ h. (first_within (n + 1) p xs i h).0)
     (λ h. (first_within (n + 1) q xs i h).0)
-    (λ hp hq. first_tells (n + 1) p q xs i hp hq)
+    (λ hp hq. first_number_is (n + 1) p q xs i hp hq)
 
 present_by : (b : Bool) (n : ℕ) (others : Option ℕ) → ((j : ℕ) × (others ≡ Some j)) → (j : ℕ) × (cond b (Some n) others ≡ Some j)
 present_by true n others h = (n, refl)

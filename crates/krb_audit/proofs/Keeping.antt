@@ -13,7 +13,7 @@ use Rattle.krb_keytab.specs.Find.{PlacedEntry}
 use Rattle.krb_audit.specs.declared.stamp.Stamp.{Stamp}
 use Rattle.krb_audit.specs.Newest.{is_newer, newer, newest}
 use Rattle.krb_audit.specs.Stamps.{stamp_of, first_number, newest_stamp, AreKept}
-use Rattle.krb_audit.proofs.FirstNumbers.{same_equiv, first_within, first_tells, first_alike, first_present, first_next, newest_next}
+use Rattle.krb_audit.proofs.FirstNumbers.{same_equiv, first_within, first_number_is, first_alike, first_present, first_next, newest_next}
 
 -- ---- elements
 
@@ -115,7 +115,7 @@ apart : (p : Parts) (xs : List PlacedEntry) (x : PlacedEntry) (first j : ℕ) (o
 apart p xs x first j None was is other some e = (let w = (first_within 0 p xs j some).1 in absurd (omega (arith, w, is, e)))
 apart p xs x first j (Some k) was is other some e =
     let same : first_number p xs ≡ Some k = some ∙ ap (λ (n : ℕ). Some n) (e ∙ is) in
-    let alike : true ≡ false = sym (first_tells 0 p x.1.principal xs k same was) ∙ other in
+    let alike : true ≡ false = sym (first_number_is 0 p x.1.principal xs k same was) ∙ other in
     absurd cc
 
 of_other : (p : Parts) (xs : List PlacedEntry) (x : PlacedEntry) (stamps new : List Stamp) (first : ℕ) (o : Option ℕ) → length stamps ≡ length xs → Renews (stamps ++ stamp_of x.1 ∷ []) new first x.1

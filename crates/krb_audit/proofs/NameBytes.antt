@@ -12,7 +12,7 @@ use Rattle.krb_wire.specs.Spelling.{Parts, digits, data16, order_of, count_field
 use Rattle.krb_wire.specs.Reading.{kt_principal_at}
 use Rattle.krb_wire.specs.SameName.{have_same_name}
 use Rattle.krb_wire.proofs.Fields.{some_is, wide32}
-use Rattle.krb_wire.proofs.NamesTold.{same_name_is}
+use Rattle.krb_wire.proofs.NamesCompared.{same_name_is}
 use Rattle.krb_wire.proofs.Principals.{kt_principal_again}
 use Rattle.krb_keytab.specs.Entry.{EntryParts, Spells}
 use Rattle.krb_audit.specs.Names.{kt_name, type_len}
@@ -93,8 +93,8 @@ no_type V2 = omega arith
 read_again : (f : KtFormat) (p : Parts) → FitsKt f p → kt_principal_at f ((kt_name f p ++ name_type_field f 0) ++ []) ≡ Some (untyped p, [])
 read_again f p fits = ap (λ (b : List ℕ). kt_principal_at f (b ++ [])) (sym (with_type f (untyped p))) ∙ kt_principal_again f (untyped p) [] (record { lengths = fits.lengths; name_type = no_type f })
 
-told : (f : KtFormat) (p q : Parts) → FitsKt f p → FitsKt f q → kt_name f p ≡ kt_name f q → untyped p ≡ untyped q
-told f p q fp fq e =
+same_untyped : (f : KtFormat) (p q : Parts) → FitsKt f p → FitsKt f q → kt_name f p ≡ kt_name f q → untyped p ≡ untyped q
+same_untyped f p q fp fq e =
     ap (λ (x : Parts × List ℕ). x.0) (some_is (untyped p, []) (untyped q, []) (sym (read_again f p fp) ∙ ap (λ (b : List ℕ). kt_principal_at f ((b ++ name_type_field f 0) ++ [])) e ∙ read_again f q fq))
 
 named_alike : (f : KtFormat) (p q : Parts) → p.realm ≡ q.realm → p.components ≡ q.components → kt_name f p ≡ kt_name f q
@@ -104,5 +104,5 @@ named_alike f p q realm components = ap (λ (c : List (List ℕ)). digits (order
 -- two names are the same iff these bytes are equal
 pub same_bytes : (f : KtFormat) (p q : Parts) → FitsKt f p → FitsKt f q → bytes_eq (kt_name f p) (kt_name f q) ≡ have_same_name p q
 same_bytes f p q fp fq = same_name_is p q (bytes_eq (kt_name f p) (kt_name f q))
-    (λ e. let is = told f p q fp fq ((bytes_eq-Decides (kt_name f p) (kt_name f q)).0 e) in (ap (λ (x : Parts). x.realm) is, ap (λ (x : Parts). x.components) is))
+    (λ e. let is = same_untyped f p q fp fq ((bytes_eq-Decides (kt_name f p) (kt_name f q)).0 e) in (ap (λ (x : Parts). x.realm) is, ap (λ (x : Parts). x.components) is))
     (λ realm components. (bytes_eq-Decides (kt_name f p) (kt_name f q)).1 (named_alike f p q realm components))

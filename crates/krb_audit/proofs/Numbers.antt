@@ -6,12 +6,12 @@ use Rattle.krb_wire.specs.Spelling.{Parts}
 use Rattle.krb_wire.specs.SameName.{have_same_name}
 use Rattle.krb_keytab.specs.Find.{PlacedEntry}
 use Rattle.krb_audit.specs.Stamps.{first_number}
-use Rattle.krb_audit.proofs.FirstNumbers.{first_alike, first_present, first_tells}
+use Rattle.krb_audit.proofs.FirstNumbers.{first_alike, first_present, first_number_is}
 
 -- names of entries are the same iff their numbers are equal
 pub names_by_number : (p q : Parts) (xs : List PlacedEntry) (i j : ℕ) → first_number p xs ≡ Some i → first_number q xs ≡ Some j → (i ≡ j → have_same_name p q ≡ true) × (have_same_name p q ≡ true → i ≡ j)
 names_by_number p q xs i j e g = (
-  λ same. first_tells 0 p q xs j (e ∙ ap Some same) g,
+  λ same. first_number_is 0 p q xs j (e ∙ ap Some same) g,
   λ same. (let is : Some i ≡ Some j = sym e ∙ first_alike 0 p q xs same ∙ g in cc),
 )
 

@@ -16,9 +16,9 @@ use Rattle.krb_keytab.specs.Find.{PlacedEntry, placed_entries}
 use Rattle.krb_keytab.specs.Store.{KeytabState}
 use Rattle.krb_keytab.proofs.EntryLists.{entries_of_cells}
 use Rattle.krb_audit.specs.declared.selection.Selection.{Selection}
-use Rattle.krb_audit.specs.declared.asked.Selected.{Selected}
-use Rattle.krb_audit.specs.Selection.{is_named, has_asked_kvno}
-use Rattle.krb_audit.specs.Asked.{asked_among, SelectsOf, SelectsUpTo}
+use Rattle.krb_audit.specs.declared.selected.Selected.{Selected}
+use Rattle.krb_audit.specs.Selection.{is_named, has_selected_kvno}
+use Rattle.krb_audit.specs.Prepared.{selected_among, SelectsOf, SelectsUpTo}
 use Rattle.krb_audit.proofs.Keeping.{get_seam}
 
 pub on_ok_both : {E P Q R : Type 0} (r : Result (Unit {0}) E) → (P → Q → R) → OnOk r P → OnOk r Q → OnOk r R
@@ -36,19 +36,19 @@ or_true false = refl
 -- ---- one entry more
 
 -- an entry is selected
-abbrev pub is_asked : {A : Type 0} → Selection A → List PlacedEntry → PlacedEntry → Bool
-is_asked s xs x = is_named s x.1 && has_asked_kvno s.kvno xs x.1
+abbrev pub is_selected : {A : Type 0} → Selection A → List PlacedEntry → PlacedEntry → Bool
+is_selected s xs x = is_named s x.1 && has_selected_kvno s.kvno xs x.1
 
-among_next : {A : Type 0} (s : Selection A) (xs ys : List PlacedEntry) (x : PlacedEntry) (b : Bool) → is_asked s xs x ≡ b → asked_among s xs (ys ++ x ∷ []) ≡ asked_among s xs ys ++ cond b (x ∷ []) []
-among_next s xs ys x b e = filter-append (λ (y : PlacedEntry). is_asked s xs y) ys (x ∷ []) ∙ ap (λ (c : Bool). asked_among s xs ys ++ cond c (x ∷ []) []) e
+among_next : {A : Type 0} (s : Selection A) (xs ys : List PlacedEntry) (x : PlacedEntry) (b : Bool) → is_selected s xs x ≡ b → selected_among s xs (ys ++ x ∷ []) ≡ selected_among s xs ys ++ cond b (x ∷ []) []
+among_next s xs ys x b e = filter-append (λ (y : PlacedEntry). is_selected s xs y) ys (x ∷ []) ∙ ap (λ (c : Bool). selected_among s xs ys ++ cond c (x ∷ []) []) e
 
 named_next : {A : Type 0} (s : Selection A) (ys : List PlacedEntry) (x : PlacedEntry) → list_any (λ (y : PlacedEntry). is_named s y.1) (ys ++ x ∷ []) ≡ (list_any (λ (y : PlacedEntry). is_named s y.1) ys || is_named s x.1)
 named_next s ys x = list_any-append (λ (y : PlacedEntry). is_named s y.1) ys (x ∷ []) ∙ ap (λ (b : Bool). list_any (λ (y : PlacedEntry). is_named s y.1) ys || b) (sym (or_false (is_named s x.1)))
 
 -- the next entry is not selected
-pub skips : {A B : Type 0} (s : Selection A) (xs ys : List PlacedEntry) (x : PlacedEntry) (old new : Selected B) → is_asked s xs x ≡ false → new.places.items ≡ old.places.items → new.text.items ≡ old.text.items → new.is_named ≡ (old.is_named || is_named s x.1) → SelectsOf s xs ys old → SelectsOf s xs (ys ++ x ∷ []) new
+pub skips : {A B : Type 0} (s : Selection A) (xs ys : List PlacedEntry) (x : PlacedEntry) (old new : Selected B) → is_selected s xs x ≡ false → new.places.items ≡ old.places.items → new.text.items ≡ old.text.items → new.is_named ≡ (old.is_named || is_named s x.1) → SelectsOf s xs ys old → SelectsOf s xs (ys ++ x ∷ []) new
 skips s xs ys x old new not_so places text named h =
-    let same : asked_among s xs ys ≡ asked_among s xs (ys ++ x ∷ []) = sym (among_next s xs ys x false not_so ∙ append-nil (asked_among s xs ys)) in
+    let same : selected_among s xs ys ≡ selected_among s xs (ys ++ x ∷ []) = sym (among_next s xs ys x false not_so ∙ append-nil (selected_among s xs ys)) in
     record {
       places = places ∙ h.places ∙ ap (map (λ (y : PlacedEntry). y.0)) same;
       text = text ∙ h.text ∙ ap (flat_map removed_line) same;
@@ -56,21 +56,21 @@ skips s xs ys x old new not_so places text named h =
     }
 
 -- the next entry is selected
-pub takes : {A B : Type 0} (s : Selection A) (xs ys : List PlacedEntry) (x : PlacedEntry) (old new : Selected B) → is_asked s xs x ≡ true → new.places.items ≡ old.places.items ++ x.0 ∷ [] → new.text.items ≡ old.text.items ++ removed_line x → new.is_named ≡ (old.is_named || is_named s x.1) → SelectsOf s xs ys old → SelectsOf s xs (ys ++ x ∷ []) new
+pub takes : {A B : Type 0} (s : Selection A) (xs ys : List PlacedEntry) (x : PlacedEntry) (old new : Selected B) → is_selected s xs x ≡ true → new.places.items ≡ old.places.items ++ x.0 ∷ [] → new.text.items ≡ old.text.items ++ removed_line x → new.is_named ≡ (old.is_named || is_named s x.1) → SelectsOf s xs ys old → SelectsOf s xs (ys ++ x ∷ []) new
 takes s xs ys x old new is places text named h =
-    let more : asked_among s xs ys ++ x ∷ [] ≡ asked_among s xs (ys ++ x ∷ []) = sym (among_next s xs ys x true is) in
+    let more : selected_among s xs ys ++ x ∷ [] ≡ selected_among s xs (ys ++ x ∷ []) = sym (among_next s xs ys x true is) in
     record {
-      places = places ∙ ap (λ (ps : List ℕ). ps ++ x.0 ∷ []) h.places ∙ sym (map-append (λ (y : PlacedEntry). y.0) (asked_among s xs ys) (x ∷ [])) ∙ ap (map (λ (y : PlacedEntry). y.0)) more;
-      text = text ∙ ap (λ (t : List ℕ). t ++ removed_line x) h.text ∙ ap (λ (t : List ℕ). flat_map removed_line (asked_among s xs ys) ++ t) (sym (append-nil (removed_line x)))
-          ∙ sym (flat_map-append removed_line (asked_among s xs ys) (x ∷ [])) ∙ ap (flat_map removed_line) more;
+      places = places ∙ ap (λ (ps : List ℕ). ps ++ x.0 ∷ []) h.places ∙ sym (map-append (λ (y : PlacedEntry). y.0) (selected_among s xs ys) (x ∷ [])) ∙ ap (map (λ (y : PlacedEntry). y.0)) more;
+      text = text ∙ ap (λ (t : List ℕ). t ++ removed_line x) h.text ∙ ap (λ (t : List ℕ). flat_map removed_line (selected_among s xs ys) ++ t) (sym (append-nil (removed_line x)))
+          ∙ sym (flat_map-append removed_line (selected_among s xs ys) (x ∷ [])) ∙ ap (flat_map removed_line) more;
       is_named = named ∙ ap (λ (b : Bool). b || is_named s x.1) h.is_named ∙ sym (named_next s ys x);
     }
 
 -- ---- all entries
 
 -- the next entry is the one with index `number`
-pub stands : {A B : Type 0} (s : Selection A) (xs old rest : List PlacedEntry) (number : ℕ) (x : PlacedEntry) (selected : Selected B) → SelectsUpTo s xs old number selected → old ≡ x ∷ rest → slice_get xs number ≡ Some x
-stands s xs old rest number x selected l is =
+pub next_selected : {A B : Type 0} (s : Selection A) (xs old rest : List PlacedEntry) (number : ℕ) (x : PlacedEntry) (selected : Selected B) → SelectsUpTo s xs old number selected → old ≡ x ∷ rest → slice_get xs number ≡ Some x
+next_selected s xs old rest number x selected l is =
     ap (slice_get xs) l.numbered ∙ ap (λ (ys : List PlacedEntry). slice_get ys (length l.before)) (sym (ap (λ (ys : List PlacedEntry). l.before ++ ys) (sym is) ∙ l.all)) ∙ get_seam l.before x rest
 
 pub selects_next : {A B : Type 0} (s : Selection A) (xs old rest : List PlacedEntry) (number next : ℕ) (x : PlacedEntry) (selected new : Selected B) (l : SelectsUpTo s xs old number selected) → old ≡ x ∷ rest → next ≡ number + 1

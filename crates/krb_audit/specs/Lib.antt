@@ -9,8 +9,8 @@ pub mod Names
 pub mod Hash
 pub mod Stamps
 pub mod Known
-pub mod Asked
+pub mod Prepared
 pub mod TicketText
-pub mod AskedTickets
+pub mod TicketCriteria
 pub mod Firsts
 pub mod Before

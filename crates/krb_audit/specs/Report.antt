@@ -87,8 +87,8 @@ is_clash None = false
 is_clash (Some a) = not a.has_same_key
 
 -- which words the lines of entries begin with
-abbrev pub told_of : List Marked → FindingWords
-told_of ms = record {
+abbrev pub words_of : List Marked → FindingWords
+words_of ms = record {
   weak = list_any (λ m. m.1.weak) ms;
   hidden = list_any (λ m. m.1.hidden) ms;
   same = list_any (λ m. is_same m.1.alike) ms;
@@ -108,16 +108,16 @@ with_marks t m = record t {
 }
 
 -- which words the lines of entries and of the mode begin with
-abbrev pub told : Option ℕ → KeytabState → FindingWords
-told mode k = record (told_of (marked k)) { mode = has_mode is_open mode }
+abbrev pub words_found : Option ℕ → KeytabState → FindingWords
+words_found mode k = record (words_of (marked k)) { mode = has_mode is_open mode }
 
 -- one of the words reports something wrong with an entry
-abbrev pub tells_wrong : FindingWords → Bool
-tells_wrong t = t.weak || (t.hidden || (t.same || t.clash))
+abbrev pub has_wrong_words : FindingWords → Bool
+has_wrong_words t = t.weak || (t.hidden || (t.same || t.clash))
 
 -- a line reports something wrong
 abbrev pub is_wrong : Option ℕ → KeytabState → Bool
-is_wrong mode k = tells_wrong (told_of (marked k)) || (is_some (fault_of (store_of k)) || has_mode is_open_to_all mode)
+is_wrong mode k = has_wrong_words (words_of (marked k)) || (is_some (fault_of (store_of k)) || has_mode is_open_to_all mode)
 
 -- ---- all of it
 

@@ -7,11 +7,11 @@ use Rattle.krb_ccache.specs.Credential.{CredParts}
 use Rattle.krb_ccache.specs.Config.{is_config}
 use Rattle.krb_ccache.specs.Store.{CacheState, PlacedCredential, placed_credentials}
 use Rattle.krb_audit.specs.declared.tickets.SelectedTickets.{SelectedTickets}
-use Rattle.krb_audit.specs.Selection.{has_asked_name}
+use Rattle.krb_audit.specs.Selection.{has_selected_name}
 
 -- a credential is a ticket, and its server prints as the selected name, if one is given
 abbrev pub names_ticket : {A : Type 0} → Option (Principal A) → CredParts → Bool
-names_ticket server c = not (is_config c) && has_asked_name server c.server
+names_ticket server c = not (is_config c) && has_selected_name server c.server
 
 -- a credential's end time is at or before a second, if one is given
 abbrev pub has_ended_by : Option ℕ → CredParts → Bool
@@ -19,8 +19,8 @@ has_ended_by None c = true
 has_ended_by (Some now) c = nat_le c.times.endtime now
 
 -- the tickets of a cache that are selected, in file order
-abbrev pub asked_tickets : {A : Type 0} → Option (Principal A) → Option ℕ → CacheState → List PlacedCredential
-asked_tickets server ended_by k = filter (λ x. names_ticket server x.1 && has_ended_by ended_by x.1) (placed_credentials k)
+abbrev pub selected_tickets : {A : Type 0} → Option (Principal A) → Option ℕ → CacheState → List PlacedCredential
+selected_tickets server ended_by k = filter (λ x. names_ticket server x.1 && has_ended_by ended_by x.1) (placed_credentials k)
 
 -- the line that reports a ticket removed
 abbrev pub removed_ticket_line : PlacedCredential → List ℕ
@@ -28,6 +28,6 @@ removed_ticket_line x = codes "removed " ++ (decimal x.0 ++ (codes " " ++ (name_
 
 -- the result is these tickets: their places, their lines, and whether some ticket has the server
 pub record SelectsTickets {A B : Type 0} (server : Option (Principal A)) (ended_by : Option ℕ) (k : CacheState) (selected : SelectedTickets B) : Type 0 where
-  pub places : selected.places.items ≡ map (λ x. x.0) (asked_tickets server ended_by k)
-  pub text : selected.text.items ≡ flat_map removed_ticket_line (asked_tickets server ended_by k)
+  pub places : selected.places.items ≡ map (λ x. x.0) (selected_tickets server ended_by k)
+  pub text : selected.text.items ≡ flat_map removed_ticket_line (selected_tickets server ended_by k)
   pub is_named : selected.is_named ≡ list_any (λ x. names_ticket server x.1) (placed_credentials k)

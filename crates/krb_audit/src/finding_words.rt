@@ -1,7 +1,7 @@
 //! The words of findings.
 
 ghost use Rattle.std.specs.Prelude.{◌≡◌, []};
-ghost use Rattle.krb_audit.specs.Report.{is_clash, is_same, told_of, tells_wrong, with_marks};
+ghost use Rattle.krb_audit.specs.Report.{is_clash, is_same, words_of, has_wrong_words, with_marks};
 
 use crate::marks::{Alike, Marks};
 
@@ -31,7 +31,7 @@ fn is_clash(alike: Option<Alike>) -> bool
 impl FindingWords {
     /// Returns a `FindingWords` with no words.
     pub(crate) fn none() -> FindingWords
-        ensures { result ≡ told_of [] }
+        ensures { result ≡ words_of [] }
     {
         FindingWords {
             weak: false,
@@ -66,7 +66,7 @@ impl FindingWords {
 
     /// Returns whether some entry has something wrong.
     pub(crate) fn is_wrong(self) -> bool
-        ensures { result ≡ tells_wrong self }
+        ensures { result ≡ has_wrong_words self }
     {
         self.weak || self.hidden || self.same || self.clash
     }

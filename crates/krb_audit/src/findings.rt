@@ -6,7 +6,7 @@ ghost use Rattle.krb_keytab.specs.Find.{PlacedEntry, placed_entries};
 ghost use Rattle.krb_keytab.specs.Store.{KeytabState};
 ghost use Rattle.krb_audit.specs.Before.{IsBefore};
 ghost use Rattle.krb_audit.specs.Findings.{marked, marks_of};
-ghost use Rattle.krb_audit.specs.Report.{is_wrong, mark_lines, report, told, told_of};
+ghost use Rattle.krb_audit.specs.Report.{is_wrong, mark_lines, report, words_found, words_of};
 
 use crate::counts::append_counts;
 use crate::finding_words::FindingWords;
@@ -26,7 +26,7 @@ pub struct CheckUp<A: Allocator> {
     /// A line for each finding, and a line that counts entries and holes.
     pub text: Vec<u8, A>,
     /// Which words the lines begin with.
-    pub told: FindingWords,
+    pub words_found: FindingWords,
     /// True if one of them reports something wrong.
     pub is_wrong: bool,
 }
@@ -104,18 +104,18 @@ fn append_marks<A: Allocator + Copy, B: Allocator>(
     out: &mut Vec<u8, A>,
 ) -> Result<(FindingWords, u32), NoMemory>
     ensures text { OnOk result (out.new.items ≡ out.old.items ++ flat_map mark_lines (marked keytab.now.state)) }
-    ensures told { IfOk result (λ listed. listed.0 ≡ told_of (marked keytab.now.state)) }
+    ensures words_found { IfOk result (λ listed. listed.0 ≡ words_of (marked keytab.now.state)) }
     ensures count { IfOk result (λ listed. listed.1 ≡ length (placed_entries keytab.now.state)) }
 {
     let _few = keytab.cell_count();
     let mut before = Before::first(alloc, keytab)?;
-    let mut told = FindingWords::none();
+    let mut words_found = FindingWords::none();
     'entries: for (place, entry) in keytab.entries() {
         let marks = before.marks(place, &entry)?;
-        marks.append(place, &entry, out)?;
-        told = told.with(marks);
+        marks.append_lines(place, &entry, out)?;
+        words_found = words_found.with(marks);
     }
-    Ok((told, before.count))
+    Ok((words_found, before.count))
 }
 
 /// Checks a keytab and, if it is given, the `mode` of its plain file. Takes time n log n in the bytes of the keytab.
@@ -125,7 +125,7 @@ pub fn check_up<A: Allocator + Copy, B: Allocator>(
     keytab: &Keytab<B>,
 ) -> Result<CheckUp<A>, NoMemory>
     ensures text { IfOk result (λ found. found.text.items ≡ report mode keytab.now.state) }
-    ensures told { IfOk result (λ found. found.told ≡ told mode keytab.now.state) }
+    ensures words_found { IfOk result (λ found. found.words_found ≡ words_found mode keytab.now.state) }
     ensures wrong { IfOk result (λ found. found.is_wrong ≡ is_wrong mode keytab.now.state) }
 {
     let mut text = Vec::new(alloc);
@@ -136,7 +136,7 @@ pub fn check_up<A: Allocator + Copy, B: Allocator>(
     append_counts(count, keytab, &mut text)?;
     Ok(CheckUp {
         text,
-        told: entries.with_mode(is_open_file(mode)),
+        words_found: entries.with_mode(is_open_file(mode)),
         is_wrong: entries.is_wrong() || fault.is_some() || is_open_to_all(mode),
     })
 }

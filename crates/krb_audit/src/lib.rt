@@ -2,10 +2,10 @@
 //! and selections of a cache's tickets.
 #![tactic(auto)]
 
-mod asked;
-mod asked_name;
-mod asked_tickets;
-mod asked_versions;
+mod selected;
+mod selected_name;
+mod ticket_criteria;
+mod selected_versions;
 mod counts;
 mod finding_words;
 mod findings;
@@ -21,9 +21,9 @@ mod selection;
 mod stamp;
 mod tickets;
 
-pub use asked::{Selected, select};
+pub use selected::{Selected, select};
 pub use finding_words::FindingWords;
 pub use findings::{CheckUp, check_up};
 pub use laws::each_name_keeps_an_entry;
-pub use selection::{AskedKvno, Selection};
+pub use selection::{SelectedKvno, Selection};
 pub use tickets::{SelectedTickets, select_tickets};

@@ -65,7 +65,7 @@ fn append_alike<A: Allocator>(
 
 impl Marks {
     /// Appends the lines of the findings about the entry at `place`.
-    pub fn append<A: Allocator>(
+    pub fn append_lines<A: Allocator>(
         self,
         place: u32,
         entry: &EntryView<'_>,

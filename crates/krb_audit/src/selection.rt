@@ -5,7 +5,7 @@ use std::alloc::Allocator;
 
 /// Which kvnos are selected.
 #[derive(Clone, Copy, Debug, PartialEq, Eq)]
-pub enum AskedKvno {
+pub enum SelectedKvno {
     Any,
     Exactly(u32),
     /// Any kvno other than that of the newest entry of the name.
@@ -17,7 +17,7 @@ pub enum AskedKvno {
 pub struct Selection<A: Allocator> {
     /// The name; names are compared as they are printed. `None` selects any.
     pub name: Option<Principal<A>>,
-    pub kvno: AskedKvno,
+    pub kvno: SelectedKvno,
     /// The enctypes; an empty list selects any.
     pub enctypes: Vec<u16, A>,
 }

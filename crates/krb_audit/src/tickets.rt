@@ -2,10 +2,10 @@
 
 ghost use Rattle.std.specs.Prelude.{◌≡◌, ◌++◌, ◌∷◌, [], List, IfOk, OnOk};
 ghost use Rattle.krb_ccache.specs.Store.{PlacedCredential};
-ghost use Rattle.krb_audit.specs.AskedTickets.{SelectsSoFar};
+ghost use Rattle.krb_audit.specs.TicketCriteria.{SelectsSoFar};
 ghost use Rattle.krb_audit.specs.Tickets.{SelectsTickets, removed_ticket_line};
 
-use crate::asked_tickets::AskedTickets;
+use crate::ticket_criteria::TicketCriteria;
 use krb_ccache::{Ccache, CredView};
 use krb_text::{append_byte, append_labelled};
 use krb_wire::{NoMemory, Principal, write_name};
@@ -51,20 +51,20 @@ impl<A: Allocator> SelectedTickets<A> {
     // Adds the next credential if it is a selected ticket.
     fn consider<B: Allocator>(
         &mut self,
-        asked: &mut AskedTickets<B>,
+        prepared: &mut TicketCriteria<B>,
         place: u32,
         credential: &CredView<'_>,
     ) -> Result<(), NoMemory>
-        ensures kept { asked.new ≡ asked.old }
+        ensures kept { prepared.new ≡ prepared.old }
         ensures selects { (rest all : List PlacedCredential)
-            → SelectsSoFar asked.old ((place, credential.now) ∷ rest) all self.old
-            → OnOk result (SelectsSoFar asked.old rest all self.new) }
+            → SelectsSoFar prepared.old ((place, credential.now) ∷ rest) all self.old
+            → OnOk result (SelectsSoFar prepared.old rest all self.new) }
     {
-        if !asked.names(credential)? {
+        if !prepared.names(credential)? {
             return Ok(());
         }
         self.is_named = true;
-        if !asked.has_ended(credential) {
+        if !prepared.has_ended(credential) {
             return Ok(());
         }
         self.add(place, credential)
@@ -81,14 +81,14 @@ pub fn select_tickets<A: Allocator + Copy, B: Allocator>(
 ) -> Result<SelectedTickets<A>, NoMemory>
     ensures { IfOk result (SelectsTickets server.now ended_by cache.now.state) }
 {
-    let mut asked = AskedTickets::of(alloc, server, ended_by)?;
+    let mut prepared = TicketCriteria::of(alloc, server, ended_by)?;
     let mut selected = SelectedTickets {
         places: Vec::new(alloc),
         text: Vec::new(alloc),
         is_named: false,
     };
     'credentials: for (place, credential) in cache.credentials() {
-        selected.consider(&mut asked, place, &credential)?;
+        selected.consider(&mut prepared, place, &credential)?;
     }
     Ok(selected)
 }

@@ -7,13 +7,13 @@ use Rattle.krb_wire.specs.Spelling.{Parts}
 use Rattle.krb_c.specs.Status.{name_status}
 use Rattle.krb_c.specs.Text.{ByName, IsUnread}
 
-memory_told : (named : Result Parts NameFault) (fault : NameFault) → fault ≡ NoMemory → IsOk named → IsUnread named (name_status fault)
-memory_told (Ok name) fault e ok = rw e refl
-memory_told (Err other) fault e ok = search
+memory_fault : (named : Result Parts NameFault) (fault : NameFault) → fault ≡ NoMemory → IsOk named → IsUnread named (name_status fault)
+memory_fault (Ok name) fault e ok = rw e refl
+memory_fault (Err other) fault e ok = search
 
-pub fault_told : (named : Result Parts NameFault) (fault : NameFault) → (named ≡ Err fault) ⊎ ((fault ≡ NoMemory) × IsOk named) → IsUnread named (name_status fault)
-fault_told named fault (inl e) = rw e refl
-fault_told named fault (inr x) = memory_told named fault x.0 x.1
+pub fault_is : (named : Result Parts NameFault) (fault : NameFault) → (named ≡ Err fault) ⊎ ((fault ≡ NoMemory) × IsOk named) → IsUnread named (name_status fault)
+fault_is named fault (inl e) = rw e refl
+fault_is named fault (inr x) = memory_fault named fault x.0 x.1
 
 pub unread : (Does : Parts → Type 0) (Refuses : ℕ → Type 0) (named : Result Parts NameFault) (status : ℕ) → IsUnread named status → Refuses status → ByName Does Refuses named
 unread Does Refuses (Ok name) status e refused = inr (subst Refuses e refused)

@@ -14,7 +14,7 @@ use Rattle.krb_walk.proofs.Lists.{some_is}
 use Rattle.krb_walk.proofs.Places.{Extends, puts-extends, cuts-extends, place_kept, stop_place}
 use Rattle.krb_c.specs.Walks.{AreKnown}
 use Rattle.std.specs.List.{AllByRecursion}
-use Rattle.krb_wire.proofs.NamesTold.{and_both}
+use Rattle.krb_wire.proofs.NamesCompared.{and_both}
 use Rattle.krb_c.specs.Cursors.{are_places}
 use Rattle.krb_c.specs.Status.{Adds, refusal_status}
 
@@ -23,18 +23,18 @@ pub known_after : (s : Store) (c p n : ℕ) → IsSound s → Live p n ≡ stop_
 known_after s c p n sound is =
     let live = stops_live s c p n sound is in
     record {
-      stands = some_is _ live.bytes live.stands;
+      is_live = some_is _ live.bytes live.is_live;
       place = ap (λ r. is_place s (stop_cursor (end_of s) r)) (sym live.next) ∙ stop_place s c;
     }
 
 -- a place stays one if the cells stay where they are
 kept_by : (s new : Store) (next : Option ℕ) → Extends s new → IfSome next (IsPlace s) → AreKnown new None next
-kept_by s new None more h = record { stands = tt; place = tt }
-kept_by s new (Some p) more h = record { stands = tt; place = place_kept s new p more h }
+kept_by s new None more h = record { is_live = tt; place = tt }
+kept_by s new (Some p) more h = record { is_live = tt; place = place_kept s new p more h }
 
 module _ {S : Type 0} (seen : S → Store) where
   kept_same : (k new : S) (next : Option ℕ) → new ≡ k → IfSome next (IsPlace (seen k)) → AreKnown (seen new) None next
-  kept_same k new next same h = subst (λ (x : S). AreKnown (seen x) None next) (sym same) (record { stands = tt; place = h })
+  kept_same k new next same h = subst (λ (x : S). AreKnown (seen x) None next) (sym same) (record { is_live = tt; place = h })
 
   pub kept_by_put : (k new : S) (given : Result (ℕ × S) Code) (r : Result ℕ Refusal) (next : Option ℕ) → PutGives given k r new → IfOk r (Puts (seen k) (seen new)) → IfSome next (IsPlace (seen k)) → AreKnown (seen new) None next
   kept_by_put k new given (Ok p) next gives puts h = kept_by (seen k) (seen new) next (puts-extends (seen k) (seen new) p puts) h

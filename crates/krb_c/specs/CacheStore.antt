@@ -12,7 +12,7 @@ use Rattle.krb_c.specs.Text.{ByName}
 -- ---- what a credential is made of
 
 -- the texts of its names, its key, its tickets and its numbers
-pub record AskedParts : Type 0 where
+pub record NewCredentialParts : Type 0 where
   pub client : List ℕ
   pub server : List ℕ
   pub key : List ℕ
@@ -21,15 +21,15 @@ pub record AskedParts : Type 0 where
   pub numbers : KrbfNumbers
 
 -- the same, from the arguments of a call
-abbrev pub asked_of : List ℕ → List ℕ → List ℕ → List ℕ → List ℕ → KrbfNumbers → AskedParts
-asked_of client server key ticket second_ticket numbers = record { client = client; server = server; key = key; ticket = ticket; second_ticket = second_ticket; numbers = numbers }
+abbrev pub new_credential_of : List ℕ → List ℕ → List ℕ → List ℕ → List ℕ → KrbfNumbers → NewCredentialParts
+new_credential_of client server key ticket second_ticket numbers = record { client = client; server = server; key = key; ticket = ticket; second_ticket = second_ticket; numbers = numbers }
 
 -- an enctype has sixteen bits, and is_skey is 0 or 1
 abbrev pub numbers_fit : KrbfNumbers → Bool
 numbers_fit n = nat_lt n.enctype 65536 && nat_lt n.is_skey 2
 
 -- the credential of a client and a server, without addresses and authorization data
-abbrev pub credential_between : AskedParts → Parts → Parts → CredParts
+abbrev pub credential_between : NewCredentialParts → Parts → Parts → CredParts
 credential_between a client server = record {
   client = client;
   server = server;
@@ -44,7 +44,7 @@ credential_between a client server = record {
 }
 
 -- the same, or 32 if a number does not fit
-abbrev pub with_parts : AskedParts → Parts → Parts → Result CredParts ℕ
+abbrev pub with_parts : NewCredentialParts → Parts → Parts → Result CredParts ℕ
 with_parts a client server = if numbers_fit a.numbers then Ok (credential_between a client server) else Err 32
 
 -- ---- what an addition returns
@@ -55,7 +55,7 @@ StoresOr (Ok c) old status place new_place new = AddsOr (put_result old c) old s
 StoresOr (Err why) old status place new_place new = Refuses why old status place new_place new
 
 -- the credential of these parts is stored: the client's text is checked first, then the server's, and then the numbers
-abbrev pub Stores : AskedParts → CacheState → ℕ → ℕ → ℕ → CacheState → Type 0
+abbrev pub Stores : NewCredentialParts → CacheState → ℕ → ℕ → ℕ → CacheState → Type 0
 Stores a old status place new_place new =
     let Refused : ℕ → Type 0 = λ why. Refuses why old status place new_place new in
     ByName (λ client. ByName (λ server. StoresOr (with_parts a client server) old status place new_place new) Refused (name_of a.server None)) Refused (name_of a.client None)

@@ -19,12 +19,12 @@ abbrev pub in_room : List ℕ → List ℕ → List ℕ
 in_room room text = take (length room) text ++ drop (length text) room
 
 -- a text was copied into a buffer, and its length reported; or it is out of memory, and nothing was written
-abbrev pub Tells : List ℕ → ℕ → List ℕ → List ℕ → ℕ → ℕ → Type 0
-Tells text status room new_room len new_len =
+abbrev pub CopiesText : List ℕ → ℕ → List ℕ → List ℕ → ℕ → ℕ → Type 0
+CopiesText text status room new_room len new_len =
     ((status ≡ 0) × (new_room ≡ in_room room text) × (new_len ≡ length text))
     ⊎ ((status ≡ 1) × (new_room ≡ room) × (new_len ≡ len))
 
 -- the text of a name of the record at a place is reported; 35 if there is no record
-abbrev pub TellsAt : Option (List ℕ) → ℕ → List ℕ → List ℕ → ℕ → ℕ → Type 0
-TellsAt (Some text) status room new_room len new_len = Tells text status room new_room len new_len
-TellsAt None status room new_room len new_len = (status ≡ 35) × (new_room ≡ room) × (new_len ≡ len)
+abbrev pub CopiesTextAt : Option (List ℕ) → ℕ → List ℕ → List ℕ → ℕ → ℕ → Type 0
+CopiesTextAt (Some text) status room new_room len new_len = CopiesText text status room new_room len new_len
+CopiesTextAt None status room new_room len new_len = (status ≡ 35) × (new_room ≡ room) × (new_len ≡ len)

@@ -6,7 +6,7 @@ use Rattle.krb_walk.specs.Store.{Store, IsPlace, is_place, live_bytes, stop_at}
 
 -- what is remembered of a store: the place of a live cell, and a place
 pub record AreKnown (s : Store) (given next : Option ℕ) : Type 0 where
-  pub stands : IfSome given (λ p. IsSome (live_bytes s p))
+  pub is_live : IfSome given (λ p. IsSome (live_bytes s p))
   pub place : IfSome next (IsPlace s)
 
 module _ {Record Shown : Type 0} (at_place : ℕ → Option Record) (Shows : Shown → ℕ → Record → Type 0) where

@@ -1,6 +1,6 @@
 //! Credential caches for C.
 
-mod asked;
+mod new_credential;
 mod calls;
 mod changes;
 mod looks;

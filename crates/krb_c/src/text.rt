@@ -4,7 +4,7 @@ ghost use Rattle.std.specs.Prelude.{◌≡◌, ◌<◌, Ok, None, IfOk, IfErr};
 ghost use Rattle.krb_wire.specs.Reading.{principal_parts};
 ghost use Rattle.krb_wire.specs.NameOf.{name_of};
 ghost use Rattle.krb_wire.specs.Names.{name_text};
-ghost use Rattle.krb_c.specs.Text.{Tells, in_room, IsUnread};
+ghost use Rattle.krb_c.specs.Text.{CopiesText, in_room, IsUnread};
 
 use crate::heap::{Heap, heap};
 use crate::status::{DONE, NO_MEMORY, of_name};
@@ -12,7 +12,7 @@ use krb_wire::{Name, NoMemory, Principal, parse_name, write_name};
 use std::alloc::Global;
 
 /// Returns the name of a text, or the status that says why it has none.
-#[tactic(auto, using(crate::proofs::NameLemmas::fault_told))]
+#[tactic(auto, using(crate::proofs::NameLemmas::fault_is))]
 pub fn read_name(alloc: Global, text: &[u8]) -> Result<Principal<Heap>, u32>
     ensures ok { IfOk result (λ name. name_of text.now None ≡ Ok (principal_parts name)) }
     ensures err { IfErr result (IsUnread (name_of text.now None)) }
@@ -42,8 +42,8 @@ fn put_text(room: &mut [u8], text: &[u8])
 }
 
 /// Copies as much of a name's text as fits into the buffer `room`, and reports the length of the whole text.
-pub fn tell_name<N: Name>(alloc: Global, name: &N, room: &mut [u8], len: &mut usize) -> u32
-    ensures { Tells (name_text (N.parts name.now)) result room.old room.new len.old len.new }
+pub fn copy_name<N: Name>(alloc: Global, name: &N, room: &mut [u8], len: &mut usize) -> u32
+    ensures { CopiesText (name_text (N.parts name.now)) result room.old room.new len.old len.new }
 {
     match text_of(alloc, name) {
         Ok(text) => {

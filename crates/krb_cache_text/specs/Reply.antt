@@ -1,7 +1,7 @@
 -- The lines of the replies of a session over a cache.
 use Rattle.std.specs.Prelude.{ℕ, List, ◌++◌, decimal, codes, Option, None, Some}
 use Rattle.krb_wire.specs.Names.{name_text}
-use Rattle.krb_walk.specs.Said.{Said}
+use Rattle.krb_walk.specs.ReplyContent.{ReplyContent}
 use Rattle.krb_ccache.specs.declared.version.Version.{Version}
 use Rattle.krb_ccache.specs.Credential.{CredParts, credential_in}
 use Rattle.krb_ccache.specs.Config.{ConfigParts, config_name}
@@ -32,5 +32,5 @@ abbrev pub cache_record_tail : Version → List ℕ → List ℕ
 cache_record_tail version bytes = credential_tail (credential_in version bytes)
 
 -- the line of a reply, with the bytes of records read in this version
-abbrev pub cache_reply_text : Version → Said → List ℕ
+abbrev pub cache_reply_text : Version → ReplyContent → List ℕ
 cache_reply_text version reply = reply_text_by cache_record_tail version reply

@@ -8,12 +8,12 @@ use Rattle.krb_text.specs.declared.line_fault.LineFault.TheVariants.{UnknownWord
 use Rattle.krb_text.specs.Pieces.{pieces}
 use Rattle.krb_text.specs.Word.{name_word}
 use Rattle.krb_text.specs.Script.{◌>>=◌, made, common_event}
-use Rattle.krb_cache_text.specs.declared.asked.Asked.{Asked}
-use Rattle.krb_cache_text.specs.declared.asked.Asked.TheVariants as asked
+use Rattle.krb_cache_text.specs.declared.request.Request.{Request}
+use Rattle.krb_cache_text.specs.declared.request.Request.TheVariants as request
 
 -- the request in a line
 abbrev pub CacheLineParts : Type 0
-CacheLineParts = Asked CredParts SettingParts
+CacheLineParts = Request CredParts SettingParts
 
 -- the principal in a word; `-` means none
 abbrev pub principal_of : List ℕ → Option (List ℕ)
@@ -44,7 +44,7 @@ setting_in words = ok_or (setting_of words) WordCount >>= checked_setting
 -- the request in the words of a line, or the first fault
 abbrev pub cache_line_of : List (List ℕ) → Result CacheLineParts LineFault
 cache_line_of [] = Err UnknownWord
-cache_line_of (word ∷ words) = if bytes_eq word (codes "config") then made asked.Setting (setting_in words) else made asked.Event (common_event word words)
+cache_line_of (word ∷ words) = if bytes_eq word (codes "config") then made request.Setting (setting_in words) else made request.Event (common_event word words)
 
 -- the request in a line, or its first fault; words are separated by single spaces
 abbrev pub cache_line_in : List ℕ → Result CacheLineParts LineFault

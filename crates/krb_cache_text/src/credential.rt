@@ -48,7 +48,7 @@ fn append_instant<A: Allocator>(
 ) -> Result<(), NoMemory>
     ensures { OnOk result (out.new.items ≡ out.old.items ++ instant seconds) }
 {
-    last.append(seconds, out)?;
+    last.append_seconds(seconds, out)?;
     append_byte(b' ', out)
 }
 
@@ -91,7 +91,7 @@ fn append_renewal<A: Allocator>(
         return Ok(());
     }
     append(b"    renew until ", out)?;
-    last.append(seconds, out)?;
+    last.append_seconds(seconds, out)?;
     append_byte(b'\n', out)
 }
 

@@ -1,7 +1,7 @@
 //! Credential caches as text.
 #![tactic(auto)]
 
-mod asked;
+mod request;
 mod columns;
 mod credential;
 mod escape;
@@ -10,7 +10,7 @@ mod listing;
 mod record;
 mod setting;
 
-pub use asked::Asked;
+pub use request::Request;
 pub use columns::CcColumns;
 pub use line::CacheLine;
 pub use listing::list_cache;

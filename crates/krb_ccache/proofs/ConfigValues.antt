@@ -7,7 +7,7 @@ use Rattle.std.proofs.lemmas.List.Elements.{filter-append}
 use Rattle.std.proofs.lemmas.Slice.Eq.{bytes_eq-Decides}
 use Rattle.krb_wire.specs.Spelling.{Parts}
 use Rattle.krb_wire.specs.SameName.{have_same_name}
-use Rattle.krb_wire.proofs.NamesTold.{same_name_is}
+use Rattle.krb_wire.proofs.NamesCompared.{same_name_is}
 use Rattle.krb_walk.specs.declared.refusal.Code.{Code}
 use Rattle.krb_walk.specs.Events.{cut_store}
 use Rattle.krb_walk.specs.Store.{end_from, end_of, live_bytes}
@@ -42,7 +42,7 @@ abbrev matches_in : QueryParts → CacheState → List PlacedCredential
 matches_in q k = matches_from k.version q (first_place k) k.contents.cells
 
 taken : (v : Version) (q : QueryParts) (at : ℕ) (c : CredParts) (cs : List CredParts) → is_marked c ≡ false → is_match q c ≡ true → matches_from v q at (c ∷ cs) ≡ (at, c) ∷ matches_from v q (at + length (credential v c)) cs
-taken v q at c cs live asked = rw (live, asked) refl
+taken v q at c cs live matches = rw (live, matches) refl
 
 passed : (v : Version) (q : QueryParts) (at : ℕ) (c : CredParts) (cs : List CredParts) (marked matched : Bool) → is_marked c ≡ marked → is_match q c ≡ matched → (not marked && matched) ≡ false
     → matches_from v q at (c ∷ cs) ≡ matches_from v q (at + length (credential v c)) cs
@@ -131,11 +131,11 @@ placed_last v at (d ∷ cs) c = ap (λ (xs : List PlacedCredential). (at, d) ∷
 
 -- the new entry is the last match
 match_last : (q : QueryParts) (k : CacheState) (c : CredParts) → is_marked c ≡ false → is_match q c ≡ true → matches_in q (with_last k c) ≡ matches_in q k ++ (end_of (store_of k), c) ∷ []
-match_last q k c live asked =
+match_last q k c live matches =
     let asks : PlacedCredential → Bool = λ x. is_match q x.1 in
     let all = placed_from k.version (first_place k) k.contents.cells in
     let last : List PlacedCredential = (end_of (store_of k), c) ∷ [] in
-    let one : filter asks (filter is_live last) ≡ last = rw (live, asked) refl in
+    let one : filter asks (filter is_live last) ≡ last = rw (live, matches) refl in
     ap (λ (xs : List PlacedCredential). filter asks (filter is_live xs)) (placed_last k.version (first_place k) k.contents.cells c)
     ∙ ap (filter asks) (filter-append is_live all last) ∙ filter-append asks (filter is_live all) (filter is_live last)
     ∙ ap (λ (xs : List PlacedCredential). filter asks (filter is_live all) ++ xs) one

@@ -18,7 +18,7 @@ use Rattle.krb_ccache.proofs.CredentialField.{credential_field}
 use Rattle.krb_ccache.proofs.CellLemmas.{end_is}
 use Rattle.krb_ccache.proofs.ImageLemmas.{image_parts}
 use Rattle.krb_ccache.proofs.CacheLemmas.{IsReadable, image_readable, holds, layout_is}
-use Rattle.krb_ccache.proofs.MarkLemmas.{StandsAt, stands, marked_one, marked_len, splice_part}
+use Rattle.krb_ccache.proofs.MarkLemmas.{IsAt, found_at, marked_one, marked_len, splice_part}
 
 -- the bytes before the credentials
 abbrev pub front_of : CacheState → List ℕ
@@ -69,7 +69,7 @@ fits_marked v c fit = record {
 
 -- a live credential at a place of an image
 pub record LiveIn (h : Layout) (image : List ℕ) (place : ℕ) (c : CredParts) : Type 0 where
-  pub stands : StandsAt h.version (first_place (cache_of h image)) (cache_of h image).contents.cells place c
+  pub found_at : IsAt h.version (first_place (cache_of h image)) (cache_of h image).contents.cells place c
   pub within : place ≤ length image
   pub after : List ℕ
   pub read : credential_at h.version (drop place image) ≡ Some (c, after)
@@ -80,7 +80,7 @@ live_in h image place c fits is live =
     let k = cache_of h image in
     let f = credential v in
     let kept = image_readable h image fits is in
-    let s = stands v (first_place k) place k.contents.cells c live in
+    let s = found_at v (first_place k) place k.contents.cells c live in
     let spells = (image_parts h image fits is).spells in
     let x = front_of k ++ flat_map f s.before in
     let rest = flat_map f s.after ++ k.contents.end in
@@ -89,7 +89,7 @@ live_in h image place c fits is live =
     let left : drop place image ≡ f c ++ rest = ap (drop place) parts ∙ drop_at x (f c ++ rest) place len in
     let fit = all_here (FitsCredential v) s.before s.after c (subst (AllByRecursion (FitsCredential v)) s.parts kept.cells) in
     record {
-      stands = s;
+      found_at = s;
       within = omega (arith, ap length parts, length-append x (f c ++ rest), len);
       after = rest;
       read = ap (credential_at v) left ∙ (credential_field v).again c rest fit;
@@ -110,7 +110,7 @@ marked_held h image new place c fits new_fits is live written =
     let k = cache_of h image in
     let f = credential v in
     let kept = image_readable h image fits is in
-    let s = live.stands in
+    let s = live.found_at in
     let d = with_mark k place in
     let x = front_of k ++ flat_map f s.before in
     let rest = flat_map f s.after ++ k.contents.end in

@@ -119,14 +119,14 @@ marked_is v image mid new place at i j k c rest w le is_at is_i is_j is_k first 
     let len_ff = length-append (p ++ f) ff in
     let new_is : new ≡ (((p ++ f) ++ ff) ++ s) ++ (zz ++ (r ++ (b ++ rest))) =
     second ∙ ap (λ (x : List ℕ). splice x j k zz) mid_split ∙ splice_part (((p ++ f) ++ ff) ++ s) e zz (r ++ (b ++ rest)) j k (omega arith) is_k in
-    let told : splice image place (place + length (credential v c)) (credential v (add_mark c)) ≡ p ++ (credential v (add_mark c) ++ rest) =
+    let fit_lens : splice image place (place + length (credential v c)) (credential v (add_mark c)) ≡ p ++ (credential v (add_mark c) ++ rest) =
     ap (λ (x : List ℕ). splice x place (place + length (credential v c)) (credential v (add_mark c))) w.whole ∙ splice_part p (credential v c) (credential v (add_mark c)) rest place (place + length (credential v c)) (sym len_p) refl in
-    new_is ∙ group_back p f ff s zz r b rest ∙ ap (λ (x : List ℕ). p ++ (x ++ rest)) (sym (as_marked v c)) ∙ sym told
+    new_is ∙ group_back p f ff s zz r b rest ∙ ap (λ (x : List ℕ). p ++ (x ++ rest)) (sym (as_marked v c)) ∙ sym fit_lens
 
 -- ---- a credential among others
 
 -- a live credential is at a place
-pub record StandsAt (v : Version) (at : ℕ) (cs : List CredParts) (p : ℕ) (c : CredParts) : Type 0 where
+pub record IsAt (v : Version) (at : ℕ) (cs : List CredParts) (p : ℕ) (c : CredParts) : Type 0 where
   pub before : List CredParts
   pub after : List CredParts
   pub place : p ≡ end_from at (map (store_cell v) before)
@@ -140,19 +140,19 @@ live_is : (c d : CredParts) (b : Bool) → is_marked d ≡ b → if_live d ≡ S
 live_is c d true e is = let none : if_live d ≡ None = rw e refl in absurd (let no = sym none ∙ is in cc)
 live_is c d false e is = let some : if_live d ≡ Some d = rw e refl in (some_cred d c (sym some ∙ is), e)
 
-stands_cons : (v : Version) (at p : ℕ) (d : CredParts) (cs : List CredParts) (c : CredParts) (b : Bool) → (at == p) ≡ b → (live_of (find (λ x. x.0 == p) (placed_from v (at + length (credential v d)) cs)) ≡ Some c → StandsAt v (at + length (credential v d)) cs p c)
-    → live_of (find (λ x. x.0 == p) (placed_from v at (d ∷ cs))) ≡ Some c → StandsAt v at (d ∷ cs) p c
-stands_cons v at p d cs c true e ih is =
+is_at_cons : (v : Version) (at p : ℕ) (d : CredParts) (cs : List CredParts) (c : CredParts) (b : Bool) → (at == p) ≡ b → (live_of (find (λ x. x.0 == p) (placed_from v (at + length (credential v d)) cs)) ≡ Some c → IsAt v (at + length (credential v d)) cs p c)
+    → live_of (find (λ x. x.0 == p) (placed_from v at (d ∷ cs))) ≡ Some c → IsAt v at (d ∷ cs) p c
+is_at_cons v at p d cs c true e ih is =
     let found : find (λ x. x.0 == p) (placed_from v at (d ∷ cs)) ≡ Some (at, d) = rw e refl in
     let live = live_is c d (is_marked d) refl (sym (ap live_of found) ∙ is) in
     record { before = []; after = cs; place = grind (arith, nat_tests); parts = ap (λ (x : CredParts). x ∷ cs) live.0; live = ap is_marked (sym live.0) ∙ live.1 }
-stands_cons v at p d cs c false e ih is =
+is_at_cons v at p d cs c false e ih is =
     let rest = ih (rw e at is) in
     record { before = d ∷ rest.before; after = rest.after; place = rest.place; parts = ap (λ (xs : List CredParts). d ∷ xs) rest.parts; live = rest.live }
 
-pub stands : (v : Version) (at p : ℕ) (cs : List CredParts) (c : CredParts) → live_of (find (λ x. x.0 == p) (placed_from v at cs)) ≡ Some c → StandsAt v at cs p c
-stands v at p [] c is = absurd cc
-stands v at p (d ∷ cs) c is = stands_cons v at p d cs c (at == p) refl (stands v (at + length (credential v d)) p cs c) is
+pub found_at : (v : Version) (at p : ℕ) (cs : List CredParts) (c : CredParts) → live_of (find (λ x. x.0 == p) (placed_from v at cs)) ≡ Some c → IsAt v at cs p c
+found_at v at p [] c is = absurd cc
+found_at v at p (d ∷ cs) c is = is_at_cons v at p d cs c (at == p) refl (found_at v (at + length (credential v d)) p cs c) is
 
 pub unmarked_by : (v : Version) (at p : ℕ) (c : CredParts) (cs : List CredParts) → (at == p) ≡ false → add_mark_at v at p (c ∷ cs) ≡ c ∷ add_mark_at v (at + length (credential v c)) p cs
 unmarked_by v at p c cs e = rw e refl

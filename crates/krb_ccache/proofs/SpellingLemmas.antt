@@ -6,7 +6,7 @@ use Rattle.std.proofs.lemmas.List.Concat.{flat_map-cons}
 use Rattle.krb_wire.specs.declared.format.Order.TheVariants.{Big}
 use Rattle.krb_wire.specs.Spelling.{Parts, digits, data32, cc_principal, cc_name_fits, IsLong, FitsCc}
 use Rattle.krb_wire.proofs.Fields.{wide16, wide32}
-use Rattle.krb_wire.proofs.NamesTold.{has_cc_len, and_both, long_lengths_of, long_lengths_fit}
+use Rattle.krb_wire.proofs.NamesCompared.{has_cc_len, and_both, long_lengths_of, long_lengths_fit}
 use Rattle.krb_ccache.specs.declared.version.Version.TheVariants.{V4}
 use Rattle.krb_ccache.specs.Credential.{TypedData, Key, CredParts, number32, typed_data, typed_list, key, times, credential, FitsTypedData, FitsTypedList, FitsTimes, FitsCredential, plain_key, middle_text, lists_text}
 use Rattle.krb_ccache.specs.declared.credential.times.Times.{Times}
@@ -14,14 +14,14 @@ use Rattle.krb_ccache.specs.declared.credential.times.Times.{Times}
 -- ---- what fits
 
 -- a name that has a length fits
-pub told_fits : (p : Parts) → true ≡ has_cc_len p → p.name_type < 2 ^ 32 → FitsCc p
-told_fits p e lt =
+pub spelled_fits : (p : Parts) → true ≡ has_cc_len p → p.name_type < 2 ^ 32 → FitsCc p
+spelled_fits p e lt =
     let l = long_lengths_of p (and_both (cc_name_fits p) _ (sym e)).0 in
     record { name_type = lt; count = l.count; realm = l.realm; components = l.components }
 
 -- a name that fits can be written
-pub fits_told : (p : Parts) → FitsCc p → cc_name_fits p ≡ true
-fits_told p fit = long_lengths_fit p (record { count = fit.count; realm = fit.realm; components = fit.components })
+pub fits_spelled : (p : Parts) → FitsCc p → cc_name_fits p ≡ true
+fits_spelled p fit = long_lengths_fit p (record { count = fit.count; realm = fit.realm; components = fit.components })
 
 -- each item takes at least a byte
 items_le : (xs : List TypedData) → length xs ≤ length (flat_map typed_data xs)
@@ -89,8 +89,8 @@ credential_len c =
 -- ---- its length, by the fields of an equal credential
 
 -- the clause of a call that returns `None`
-pub none_told : {r : Option ℕ} {P : Type 0} → r ≡ None → P → IfNone r P
-none_told {P = P} e p = subst (λ (o : Option ℕ). IfNone o P) (sym e) p
+pub none_if : {r : Option ℕ} {P : Type 0} → r ≡ None → P → IfNone r P
+none_if {P = P} e p = subst (λ (o : Option ℕ). IfNone o P) (sym e) p
 
 pub client_too_long : (c d : CredParts) (most : ℕ) → d ≡ c → most ≤ 2 ^ 30 → 2 ^ 32 ≤ length (cc_principal d.client) → most < length (credential V4 c)
 client_too_long c d most same le long = omega (arith, le, long, ap (λ (x : CredParts). length (cc_principal x.client)) same, credential_len c)
@@ -99,33 +99,33 @@ pub server_too_long : (c d : CredParts) (most : ℕ) → d ≡ c → most ≤ 2 
 server_too_long c d most same le long = omega (arith, le, long, ap (λ (x : CredParts). length (cc_principal x.server)) same, credential_len c)
 
 -- the lengths that are added up are its own
-pub lens_told : (c d : CredParts) (client server key ticket second : ℕ) → d ≡ c → client ≡ length (cc_principal d.client) → server ≡ length (cc_principal d.server) → key ≡ length d.key.bytes → ticket ≡ length d.ticket → second ≡ length d.second_ticket
+pub lens_within : (c d : CredParts) (client server key ticket second : ℕ) → d ≡ c → client ≡ length (cc_principal d.client) → server ≡ length (cc_principal d.server) → key ≡ length d.key.bytes → ticket ≡ length d.ticket → second ≡ length d.second_ticket
     → sum (43 ∷ client ∷ server ∷ key ∷ ticket ∷ second ∷ []) ≡ sum (lens_of d)
-lens_told c d client server key ticket second same is_client is_server is_key is_ticket is_second = rw (is_client, is_server, is_key, is_ticket, is_second) refl
+lens_within c d client server key ticket second same is_client is_server is_key is_ticket is_second = rw (is_client, is_server, is_key, is_ticket, is_second) refl
 
 pub lens_too_long : (c d : CredParts) (most len : ℕ) → d ≡ c → len ≡ sum (lens_of d) → most < len → most < length (credential V4 c)
 lens_too_long c d most len same is long = omega (arith, long, is, ap (λ (x : CredParts). sum (lens_of x)) same, credential_len c)
 
 -- what is outside its lists takes `len` bytes, which are at most `most`
-pub record LensTold (c d : CredParts) (most len : ℕ) : Type 0 where
+pub record LensWithin (c d : CredParts) (most len : ℕ) : Type 0 where
   pub same : d ≡ c
   pub lens : len ≡ sum (lens_of d)
   pub within : len ≤ most
 
-told_len : (c d : CredParts) (most len : ℕ) → LensTold c d most len → length (credential V4 c) ≡ len + length (flat_map typed_data d.addresses) + length (flat_map typed_data d.authdata)
-told_len c d most len t = sym (ap (λ (x : CredParts). length (credential V4 x)) t.same) ∙ credential_len d ∙ ap (λ (n : ℕ). n + length (flat_map typed_data d.addresses) + length (flat_map typed_data d.authdata)) (sym t.lens)
+len_of_lens : (c d : CredParts) (most len : ℕ) → LensWithin c d most len → length (credential V4 c) ≡ len + length (flat_map typed_data d.addresses) + length (flat_map typed_data d.authdata)
+len_of_lens c d most len t = sym (ap (λ (x : CredParts). length (credential V4 x)) t.same) ∙ credential_len d ∙ ap (λ (n : ℕ). n + length (flat_map typed_data d.addresses) + length (flat_map typed_data d.authdata)) (sym t.lens)
 
-pub addresses_too_long : (c d : CredParts) (most len : ℕ) (xs : List TypedData) → LensTold c d most len → xs ≡ d.addresses → most - len < length (flat_map typed_data xs) → most < length (credential V4 c)
-addresses_too_long c d most len xs t is long = omega (arith, long, t.within, ap (λ (x : List TypedData). length (flat_map typed_data x)) is, told_len c d most len t)
+pub addresses_too_long : (c d : CredParts) (most len : ℕ) (xs : List TypedData) → LensWithin c d most len → xs ≡ d.addresses → most - len < length (flat_map typed_data xs) → most < length (credential V4 c)
+addresses_too_long c d most len xs t is long = omega (arith, long, t.within, ap (λ (x : List TypedData). length (flat_map typed_data x)) is, len_of_lens c d most len t)
 
-pub authdata_too_long : (c d : CredParts) (most len room : ℕ) (xs ys : List TypedData) → LensTold c d most len → xs ≡ d.addresses → ys ≡ d.authdata → room + length (flat_map typed_data xs) ≡ most - len → room < length (flat_map typed_data ys) → most < length (credential V4 c)
+pub authdata_too_long : (c d : CredParts) (most len room : ℕ) (xs ys : List TypedData) → LensWithin c d most len → xs ≡ d.addresses → ys ≡ d.authdata → room + length (flat_map typed_data xs) ≡ most - len → room < length (flat_map typed_data ys) → most < length (credential V4 c)
 authdata_too_long c d most len room xs ys t is_xs is_ys left long =
-    omega (arith, left, long, t.within, ap (λ (x : List TypedData). length (flat_map typed_data x)) is_xs, ap (λ (x : List TypedData). length (flat_map typed_data x)) is_ys, told_len c d most len t)
+    omega (arith, left, long, t.within, ap (λ (x : List TypedData). length (flat_map typed_data x)) is_xs, ap (λ (x : List TypedData). length (flat_map typed_data x)) is_ys, len_of_lens c d most len t)
 
 -- the room that it takes is its length
-pub room_told : (c d : CredParts) (most len room left : ℕ) (xs ys : List TypedData) → LensTold c d most len → xs ≡ d.addresses → ys ≡ d.authdata → room + length (flat_map typed_data xs) ≡ most - len → left + length (flat_map typed_data ys) ≡ room → most - left ≡ length (credential V4 c)
-room_told c d most len room left xs ys t is_xs is_ys first second =
-    omega (arith, first, second, t.within, ap (λ (x : List TypedData). length (flat_map typed_data x)) is_xs, ap (λ (x : List TypedData). length (flat_map typed_data x)) is_ys, told_len c d most len t)
+pub room_within : (c d : CredParts) (most len room left : ℕ) (xs ys : List TypedData) → LensWithin c d most len → xs ≡ d.addresses → ys ≡ d.authdata → room + length (flat_map typed_data xs) ≡ most - len → left + length (flat_map typed_data ys) ≡ room → most - left ≡ length (credential V4 c)
+room_within c d most len room left xs ys t is_xs is_ys first second =
+    omega (arith, first, second, t.within, ap (λ (x : List TypedData). length (flat_map typed_data x)) is_xs, ap (λ (x : List TypedData). length (flat_map typed_data x)) is_ys, len_of_lens c d most len t)
 
 -- ---- what was written, by the fields of an equal credential
 
@@ -153,9 +153,9 @@ pub record PartsFit (d : CredParts) : Type 0 where
   pub second_ticket : IsLong d.second_ticket
 
 -- they fit if their lengths add up to at most `most`
-pub told_parts : (c d : CredParts) (most len room left : ℕ) (xs ys : List TypedData) → LensTold c d most len → most ≤ 2 ^ 30 → xs ≡ d.addresses → ys ≡ d.authdata → room + length (flat_map typed_data xs) ≡ most - len → left + length (flat_map typed_data ys) ≡ room
+pub parts_within : (c d : CredParts) (most len room left : ℕ) (xs ys : List TypedData) → LensWithin c d most len → most ≤ 2 ^ 30 → xs ≡ d.addresses → ys ≡ d.authdata → room + length (flat_map typed_data xs) ≡ most - len → left + length (flat_map typed_data ys) ≡ room
     → true ≡ has_cc_len d.client → true ≡ has_cc_len d.server → d.key.second_enctype ≡ 0 → AllByRecursion FitsTypedData xs → AllByRecursion FitsTypedData ys → PartsFit d
-told_parts c d most len room left xs ys t small is_xs is_ys first second client server one_enctype address element =
+parts_within c d most len room left xs ys t small is_xs is_ys first second client server one_enctype address element =
     let within = t.within in
     let lens = t.lens in
     record {
@@ -175,8 +175,8 @@ pub fits_by : (c d : CredParts) → d ≡ c → PartsFit d → c.client.name_typ
 fits_by c d same parts client server enctype is_skey flags times =
     let p = subst PartsFit same parts in
     record {
-      client = told_fits c.client p.client client;
-      server = told_fits c.server p.server server;
+      client = spelled_fits c.client p.client client;
+      server = spelled_fits c.server p.server server;
       key = record { enctype = enctype; second_enctype = p.one_enctype; bytes = p.key };
       times = times;
       is_skey = is_skey;

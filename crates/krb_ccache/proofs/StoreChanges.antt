@@ -15,7 +15,7 @@ use Rattle.krb_ccache.specs.Credential.{CredParts, credential, is_marked}
 use Rattle.krb_ccache.specs.Store.{CacheState, live_by, store_cell, store_of, fault_kind, first_place, credential_at_place}
 use Rattle.krb_ccache.specs.Changes.{add_mark, add_mark_at, with_mark, with_last, is_read_only}
 use Rattle.krb_ccache.proofs.CredentialField.{credential_field}
-use Rattle.krb_ccache.proofs.MarkLemmas.{stands, marked_one, marked_len}
+use Rattle.krb_ccache.proofs.MarkLemmas.{found_at, marked_one, marked_len}
 use Rattle.krb_ccache.proofs.Splits.{live_is}
 
 pub whole_of : (place : ℕ) (kind : Option FaultKind) → is_some (fault_from place kind) ≡ false → kind ≡ None
@@ -46,7 +46,7 @@ pub mark_cuts : (k : CacheState) (p : ℕ) (c : CredParts) → is_some (fault_of
 mark_cuts k p c whole there =
     let v = k.version in
     let seen = store_cell v in
-    let s = stands v (first_place k) p k.contents.cells c there in
+    let s = found_at v (first_place k) p k.contents.cells c there in
     record {
       whole = whole_of (end_of (store_of k)) (fault_kind k.contents.end) whole;
       how = record {
@@ -74,7 +74,7 @@ pub mark_gone : (k : CacheState) (p : ℕ) (c : CredParts) → credential_at_pla
 mark_gone k p c there =
     let v = k.version in
     let seen = store_cell v in
-    let s = stands v (first_place k) p k.contents.cells c there in
+    let s = found_at v (first_place k) p k.contents.cells c there in
     let cells : map seen (with_mark k p).contents.cells ≡ map seen s.before ++ record { width = length (credential v (add_mark c)); live = None } ∷ map seen s.after =
     ap (λ cs. map seen (add_mark_at v (first_place k) p cs)) s.parts ∙ ap (map seen) (marked_one v (first_place k) p s.before s.after c s.place) ∙ map-append seen s.before (add_mark c ∷ s.after) in
     ap (λ (cs : List Cell). bytes_from (first_place k) cs p) cells
@@ -87,7 +87,7 @@ mark_place k p live =
     let t = is_some_has (credential_at_place k p) live in
     let v = k.version in
     let seen = store_cell v in
-    let s = stands v (first_place k) p k.contents.cells t.0 t.1 in
+    let s = found_at v (first_place k) p k.contents.cells t.0 t.1 in
     let cells : map seen (with_mark k p).contents.cells ≡ map seen s.before ++ seen (add_mark t.0) ∷ map seen s.after =
     ap (λ cs. map seen (add_mark_at v (first_place k) p cs)) s.parts ∙ ap (map seen) (marked_one v (first_place k) p s.before s.after t.0 s.place) ∙ map-append seen s.before (add_mark t.0 ∷ s.after) in
     ap (λ (cs : List Cell). is_place_from (first_place k) cs p) cells

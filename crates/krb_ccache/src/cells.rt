@@ -15,7 +15,7 @@ pub fn bytes_fit(bytes: &[u8])
 {}
 
 // Returns `text` if the credential is live, or `None` if it has the removed mark.
-fn live<'a>(credential: &CredView<'_>, text: &'a [u8]) -> Option<&'a [u8]>
+fn live_text<'a>(credential: &CredView<'_>, text: &'a [u8]) -> Option<&'a [u8]>
     ensures { option_copied result ≡ live_by (is_marked credential.now) text.now }
 {
     if credential.is_marked() {
@@ -36,7 +36,7 @@ impl CellFormat for Version {
         let width = bytes.len() - after.len();
         Some(CellView {
             width,
-            live: live(&credential, bytes.split_at(width).0),
+            live: live_text(&credential, bytes.split_at(width).0),
         })
     }
 }

@@ -23,7 +23,7 @@ pub fn header_len(offset: Option<Offset>) -> usize
 }
 
 /// Shows that a new header has the offset that it is made for.
-pub fn tells_offset(offset: Option<Offset>)
+pub fn new_header_has_its_offset(offset: Option<Offset>)
     ensures { offset_in (new_header offset) ≡ offset }
 {
     if let Some(offset) = offset {

@@ -14,7 +14,7 @@ use Rattle.krb_walk.specs.Store.{Cell, Store, end_from, is_place_from}
 use Rattle.krb_cells.specs.declared.cell_format.CellView.{CellView}
 use Rattle.krb_cells.specs.CellFormat.{HasCells, AreCells}
 use Rattle.krb_cells.specs.Cells.{GivesCell}
-use Rattle.krb_cells.specs.Carry.{between, width_anew, after_anew, Passes, new_place, AreGiven}
+use Rattle.krb_cells.specs.Carry.{between, new_width, new_after, Passes, new_place, AreGiven}
 
 -- ---- places of cells
 
@@ -38,7 +38,7 @@ not_within at c cs p h lt = elim (eqb_tells at p) [
   | inr n ↦ let no = n.0 in let ge = place_ge (at + c.width) cs p (rw no at h) in absurd (omega (arith, ge, lt))
 ]
 
-goes_past : (at : ℕ) (c : Cell) (cs : List Cell) (to : ℕ) (ds : List Cell) (p : ℕ) → at < p → new_place at (c ∷ cs) to ds p ≡ new_place (at + c.width) cs (to + width_anew (is_some c.live) ds) (after_anew (is_some c.live) ds) p
+goes_past : (at : ℕ) (c : Cell) (cs : List Cell) (to : ℕ) (ds : List Cell) (p : ℕ) → at < p → new_place at (c ∷ cs) to ds p ≡ new_place (at + c.width) cs (to + new_width (is_some c.live) ds) (new_after (is_some c.live) ds) p
 goes_past at c cs to ds p lt = let no : nat_le p at ≡ false = grind (arith, nat_tests) in rw no refl
 
 goes_here : (at : ℕ) (cs : List Cell) (to : ℕ) (ds : List Cell) → new_place at cs to ds at ≡ to
@@ -46,7 +46,7 @@ goes_here at [] to ds = refl
 goes_here at (c ∷ cs) to ds = let yes : nat_le at at ≡ true = grind (arith, nat_tests) in rw yes refl
 
 -- passing a new cell keeps the end of the new cells
-pub end_after : (live : Bool) (to : ℕ) (ds : List Cell) → end_from (to + width_anew live ds) (after_anew live ds) ≡ end_from to ds
+pub end_after : (live : Bool) (to : ℕ) (ds : List Cell) → end_from (to + new_width live ds) (new_after live ds) ≡ end_from to ds
 end_after false to ds = let same : to + 0 ≡ to = omega arith in ap (λ (n : ℕ). end_from n ds) same
 end_after true to [] = let same : to + 0 ≡ to = omega arith in same
 end_after true to (d ∷ ds) = refl
@@ -97,7 +97,7 @@ pub record IsGivenTo (all news : List Cell) (first start : ℕ) (image : List �
   pub left : (p : ℕ) → at ≤ p → is_place_from first all p ≡ is_place_from at cs p
   pub same : (p : ℕ) → at ≤ p → new_place first all start news p ≡ new_place at cs to ds p
   pub before : (p : ℕ) → is_place_from first all p ≡ true → p < at → p + 4 ≤ at
-  pub told : (p : ℕ) → is_place_from first all p ≡ true → p < at → take 4 (drop p image) ≡ digits Big w32 (new_place first all start news p)
+  pub encoded : (p : ℕ) → is_place_from first all p ≡ true → p < at → take 4 (drop p image) ≡ digits Big w32 (new_place first all start news p)
 
 given_first : (cs ds : List Cell) (first start : ℕ) (image : List ℕ) → first ≤ length image → IsGivenTo cs ds first start image cs ds first start
 given_first cs ds first start image le = record {
@@ -107,12 +107,12 @@ given_first cs ds first start image le = record {
   left = λ p le. refl;
   same = λ p le. refl;
   before = λ p h lt. let ge = place_ge first cs p h in absurd (omega (arith, ge, lt));
-  told = λ p h lt. let ge = place_ge first cs p h in absurd (omega (arith, ge, lt));
+  encoded = λ p h lt. let ge = place_ge first cs p h in absurd (omega (arith, ge, lt));
 }
 
 -- one more cell
 given_next : (all news : List Cell) (first start : ℕ) (image put : List ℕ) (c : Cell) (cs ds : List Cell) (at to : ℕ) → IsGivenTo all news first start image (c ∷ cs) ds at to → 4 ≤ c.width → at + c.width ≤ length image
-    → put ≡ splice image at (at + 4) (digits Big w32 to) → length put ≡ length image → IsGivenTo all news first start put cs (after_anew (is_some c.live) ds) (at + c.width) (to + width_anew (is_some c.live) ds)
+    → put ≡ splice image at (at + 4) (digits Big w32 to) → length put ≡ length image → IsGivenTo all news first start put cs (new_after (is_some c.live) ds) (at + c.width) (to + new_width (is_some c.live) ds)
 given_next all news first start image put c cs ds at to g wide room wrote len =
     let within = g.within in
     let not_in : (p : ℕ) → is_place_from first all p ≡ true → at ≤ p → p < at + c.width → p ≡ at = λ p h le lt. not_within at c cs p (sym (g.left p le) ∙ h) lt in
@@ -129,8 +129,8 @@ given_next all news first start image put c cs ds at to g wide room wrote len =
         | inl less ↦ omega (arith, g.before p h less, wide)
         | inr ge ↦ omega (arith, not_in p h ge lt, wide)
       ];
-      told = λ p h lt. elim (cases_lt p at) [
-        | inl less ↦ ap (λ (b : List ℕ). take 4 (drop p b)) wrote ∙ put_before image (digits Big w32 to) at p within (g.before p h less) ∙ g.told p h less
+      encoded = λ p h lt. elim (cases_lt p at) [
+        | inl less ↦ ap (λ (b : List ℕ). take 4 (drop p b)) wrote ∙ put_before image (digits Big w32 to) at p within (g.before p h less) ∙ g.encoded p h less
         | inr ge ↦ subst (λ (q : ℕ). take 4 (drop q put) ≡ digits Big w32 (new_place first all start news q)) (sym (not_in p h ge lt)) new_told
       ];
     }
@@ -138,18 +138,18 @@ given_next all news first start image put c cs ds at to g wide room wrote len =
 -- ---- the new cells
 
 -- for a live cell, the first new cell is passed
-pub next_passed : (old new : Store) (o : Option (ℕ × CellView)) → GivesCell old o new → (new.first ≡ old.first + width_anew true old.cells) × (new.cells ≡ after_anew true old.cells)
+pub next_passed : (old new : Store) (o : Option (ℕ × CellView)) → GivesCell old o new → (new.first ≡ old.first + new_width true old.cells) × (new.cells ≡ new_after true old.cells)
 next_passed old new None g =
-    let width : width_anew true old.cells ≡ 0 = rw g.0 refl in
-    let left : after_anew true old.cells ≡ [] = rw g.0 refl in
+    let width : new_width true old.cells ≡ 0 = rw g.0 refl in
+    let left : new_after true old.cells ≡ [] = rw g.0 refl in
     (ap (λ (s : Store). s.first) g.1 ∙ omega (arith, width), ap (λ (s : Store). s.cells) g.1 ∙ g.0 ∙ sym left)
 next_passed old new (Some x) g =
-    let width : width_anew true old.cells ≡ x.1.width = rw g.cells refl in
-    let left : after_anew true old.cells ≡ new.cells = rw g.cells refl in
+    let width : new_width true old.cells ≡ x.1.width = rw g.cells refl in
+    let left : new_after true old.cells ≡ new.cells = rw g.cells refl in
     (omega (arith, width, g.place, g.next), sym left)
 
 -- a cell is passed
-pub passes : (cells : List ℕ → List Cell) (bytes : List ℕ) (c : Cell) (old new : Store) (live : Bool) → cells bytes ≡ c ∷ cells (drop c.width bytes) → is_some c.live ≡ live → (new.first ≡ old.first + width_anew live old.cells) × (new.cells ≡ after_anew live old.cells)
+pub passes : (cells : List ℕ → List Cell) (bytes : List ℕ) (c : Cell) (old new : Store) (live : Bool) → cells bytes ≡ c ∷ cells (drop c.width bytes) → is_some c.live ≡ live → (new.first ≡ old.first + new_width live old.cells) × (new.cells ≡ new_after live old.cells)
     → Passes cells bytes old c.width new
 passes cells bytes c old new live parts is next = record {
   cell = c;
@@ -187,14 +187,14 @@ none_given cells news first end image to ahead within are is_to = rw is_to (
     )
 
 -- the cell at a place
-pub record StandsAt (cells : List ℕ → List Cell) (image : List ℕ) (at end : ℕ) (c : Cell) : Type 0 where
+pub record IsAt (cells : List ℕ → List Cell) (image : List ℕ) (at end : ℕ) (c : Cell) : Type 0 where
   pub wide : 4 ≤ c.width
   pub room : at + c.width ≤ end
   pub parts : cells (between at end image) ≡ c ∷ cells (between (at + c.width) end image)
   pub others : AreCells cells (between (at + c.width) end image)
 
-pub stands_at : (cells : List ℕ → List Cell) (image : List ℕ) (at end : ℕ) (c : Cell) → at ≤ end → end ≤ length image → AreCells cells (between at end image) → cells (between at end image) ≡ c ∷ cells (drop c.width (between at end image)) → StandsAt cells image at end c
-stands_at cells image at end c ahead within are first =
+pub is_at_place : (cells : List ℕ → List Cell) (image : List ℕ) (at end : ℕ) (c : Cell) → at ≤ end → end ≤ length image → AreCells cells (between at end image) → cells (between at end image) ≡ c ∷ cells (drop c.width (between at end image)) → IsAt cells image at end c
+is_at_place cells image at end c ahead within are first =
     let bytes = between at end image in
     let has : HasCells cells bytes (c ∷ cells (drop c.width bytes)) = subst (HasCells cells bytes) first are in
     let wide = has.0 in
@@ -219,14 +219,14 @@ one_given cells all news first end image put bytes old left at to w n next g is 
     let is_w = x.is_width in
     let ahead = g.ahead in
     let within = g.within in
-    let s = stands_at cells image at end c g.ahead g.within g.are x.parts in
+    let s = is_at_place cells image at end c g.ahead g.within g.are x.parts in
     let wide = s.wide in
     let room = s.room in
     let four = put_four image put at n to wrote is_n in
     let behind : between (at + c.width) end put ≡ between (at + c.width) end image = ap (take (end - (at + c.width))) (put_behind image put at (at + c.width) to (omega (arith, ahead, within)) (omega (arith, wide)) four) in
     let more = given_next all news.cells first news.first image put c (cells (between (at + c.width) end image)) old.cells at to
     (subst (λ (cs : List Cell). IsGivenTo all news.cells first news.first image cs old.cells at to) s.parts g.given) wide (omega (arith, room, within)) four len in
-    let goes : to + width_anew (is_some c.live) old.cells ≡ left.first = ap (λ (m : ℕ). m + width_anew (is_some c.live) old.cells) g.is_to ∙ sym x.first in
+    let goes : to + new_width (is_some c.live) old.cells ≡ left.first = ap (λ (m : ℕ). m + new_width (is_some c.live) old.cells) g.is_to ∙ sym x.first in
     rw (is_w, is_next) (record {
       ahead = room;
       within = omega (arith, within, len);
@@ -234,7 +234,7 @@ one_given cells all news first end image put bytes old left at to w n next g is 
       is_to = refl;
       given = subst (λ (b : List ℕ). IsGivenTo all news.cells first news.first put (cells b) left.cells (at + c.width) left.first) (sym behind)
           (subst (λ (m : ℕ). IsGivenTo all news.cells first news.first put (cells (between (at + c.width) end image)) left.cells (at + c.width) m) goes
-          (subst (λ (ds : List Cell). IsGivenTo all news.cells first news.first put (cells (between (at + c.width) end image)) ds (at + c.width) (to + width_anew (is_some c.live) old.cells)) (sym x.left) more));
+          (subst (λ (ds : List Cell). IsGivenTo all news.cells first news.first put (cells (between (at + c.width) end image)) ds (at + c.width) (to + new_width (is_some c.live) old.cells)) (sym x.left) more));
     })
 
 -- all cells hold where they go
@@ -256,7 +256,7 @@ all_given cells all news first end image bytes left at to i is no_cells =
     record {
       given = λ p h lt. record {
         within = omega (arith, g.before p h (omega (arith, lt, last, here)), here, within);
-        bytes = g.told p h (omega (arith, lt, last, here));
+        bytes = g.encoded p h (omega (arith, lt, last, here));
       };
       is_end = sym last;
       last = sym (g.same end (omega (arith, here)) ∙ ap (λ (xs : List Cell). new_place at xs to left.cells end) none);

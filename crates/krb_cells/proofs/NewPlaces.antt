@@ -6,7 +6,7 @@ use Rattle.std.proofs.lemmas.Bool.{cases_lt}
 use Rattle.std.proofs.lemmas.Bool.Decides.{nat_tests}
 use Rattle.krb_walk.specs.Store.{Cell, Store, end_from, end_of, is_place_from, IsPlace}
 use Rattle.krb_walk.specs.Ranks.{nth_or, carry, Rewrites}
-use Rattle.krb_cells.specs.Carry.{whole, width_anew, after_anew, new_place, Tells, AreGiven, HasGiven, GoesBy}
+use Rattle.krb_cells.specs.Carry.{whole, new_width, new_after, new_place, EncodesAt, AreGiven, HasGiven, GoesBy}
 use Rattle.krb_walk.proofs.Stops.{end_from-ge}
 use Rattle.krb_walk.proofs.Lives.{lives}
 use Rattle.krb_walk.proofs.Places.{place_in}
@@ -36,31 +36,31 @@ at_or_after cs ds at to p sound live le =
     let none : below p (lives at cs) ≡ 0 = below_none p at (end_from at cs) (lives at cs) le (lives_rise at cs sound) in
     ap (nth_or (end_from to ds) (lives to ds)) none ∙ first_of to ds live
 
-goes_by : (cs ds : List Cell) (c : Cell) (at to p n : ℕ) → (p ≤ at → n ≡ to) → (at < p → n ≡ new_place (at + c.width) cs (to + width_anew (is_some c.live) ds) (after_anew (is_some c.live) ds) p) → new_place at (c ∷ cs) to ds p ≡ n
+goes_by : (cs ds : List Cell) (c : Cell) (at to p n : ℕ) → (p ≤ at → n ≡ to) → (at < p → n ≡ new_place (at + c.width) cs (to + new_width (is_some c.live) ds) (new_after (is_some c.live) ds) p) → new_place at (c ∷ cs) to ds p ≡ n
 goes_by cs ds c at to p n here later = elim (cases_lt at p) [
   | inl lt ↦ let no : nat_le p at ≡ false = grind (arith, nat_tests) in rw no (sym (later lt))
   | inr le ↦ let yes : nat_le p at ≡ true = grind (arith, nat_tests) in rw yes (sym (here le))
 ]
 
 -- where a place goes among these cells is given by rank
-abbrev AreTold : ℕ → List Cell → ℕ → Type 0
-AreTold at cs p = (to : ℕ) (ds : List Cell) → AreLive ds → length (lives to ds) ≡ length (lives at cs) → new_place at cs to ds p ≡ by_rank at cs to ds p
+abbrev AreEncoded : ℕ → List Cell → ℕ → Type 0
+AreEncoded at cs p = (to : ℕ) (ds : List Cell) → AreLive ds → length (lives to ds) ≡ length (lives at cs) → new_place at cs to ds p ≡ by_rank at cs to ds p
 
 after_live : (cs ds : List Cell) (at w to v p : ℕ) (bytes : List ℕ) (live : Option (List ℕ)) → at < p → is_some live ≡ true → AreLive ds
-    → length (lives to (record { width = v; live = live } ∷ ds)) ≡ length (lives at (record { width = w; live = Some bytes } ∷ cs)) → AreTold (at + w) cs p
+    → length (lives to (record { width = v; live = live } ∷ ds)) ≡ length (lives at (record { width = w; live = Some bytes } ∷ cs)) → AreEncoded (at + w) cs p
     → by_rank at (record { width = w; live = Some bytes } ∷ cs) to (record { width = v; live = live } ∷ ds) p ≡ new_place (at + w) cs (to + v) ds p
-after_live cs ds at w to v p bytes None lt some lives_on many told = cc
-after_live cs ds at w to v p bytes (Some new) lt some lives_on many told =
+after_live cs ds at w to v p bytes None lt some lives_on many encoded = cc
+after_live cs ds at w to v p bytes (Some new) lt some lives_on many encoded =
     ap (nth_or (end_from (to + v) ds) (to ∷ lives (to + v) ds)) (below_some p at (lives (at + w) cs) lt)
-    ∙ sym (told (to + v) ds lives_on (let same : length (lives (to + v) ds) ≡ length (lives (at + w) cs) = omega (arith, many) in same))
+    ∙ sym (encoded (to + v) ds lives_on (let same : length (lives (to + v) ds) ≡ length (lives (at + w) cs) = omega (arith, many) in same))
 
-after_cell : (cs ds : List Cell) (at w to p : ℕ) (live : Option (List ℕ)) → at < p → AreLive ds → length (lives to ds) ≡ length (lives at (record { width = w; live = live } ∷ cs)) → AreTold (at + w) cs p
-    → by_rank at (record { width = w; live = live } ∷ cs) to ds p ≡ new_place (at + w) cs (to + width_anew (is_some live) ds) (after_anew (is_some live) ds) p
-after_cell cs ds at w to p None lt lives_on many told = let same : to ≡ to + 0 = omega arith in sym (told to ds lives_on many) ∙ ap (λ (n : ℕ). new_place (at + w) cs n ds p) same
-after_cell cs [] at w to p (Some bytes) lt lives_on many told = cc
-after_cell cs (d ∷ ds) at w to p (Some bytes) lt lives_on many told = after_live cs ds at w to d.width p bytes d.live lt lives_on.0 lives_on.1 many told
+after_cell : (cs ds : List Cell) (at w to p : ℕ) (live : Option (List ℕ)) → at < p → AreLive ds → length (lives to ds) ≡ length (lives at (record { width = w; live = live } ∷ cs)) → AreEncoded (at + w) cs p
+    → by_rank at (record { width = w; live = live } ∷ cs) to ds p ≡ new_place (at + w) cs (to + new_width (is_some live) ds) (new_after (is_some live) ds) p
+after_cell cs ds at w to p None lt lives_on many encoded = let same : to ≡ to + 0 = omega arith in sym (encoded to ds lives_on many) ∙ ap (λ (n : ℕ). new_place (at + w) cs n ds p) same
+after_cell cs [] at w to p (Some bytes) lt lives_on many encoded = cc
+after_cell cs (d ∷ ds) at w to p (Some bytes) lt lives_on many encoded = after_live cs ds at w to d.width p bytes d.live lt lives_on.0 lives_on.1 many encoded
 
-goes_to : (cs : List Cell) (at p : ℕ) → AreSound cs → AreTold at cs p
+goes_to : (cs : List Cell) (at p : ℕ) → AreSound cs → AreEncoded at cs p
 goes_to [] at p sound to ds live many = sym (first_of to ds live)
 goes_to (c ∷ cs) at p sound to ds live many = goes_by cs ds c at to p (by_rank at (c ∷ cs) to ds p) (λ le. at_or_after (c ∷ cs) ds at to p sound live le)
     (λ lt. after_cell cs ds at c.width to p c.live lt live many (goes_to cs (at + c.width) p sound.1))
@@ -76,8 +76,8 @@ one_of false m n end x y = y
 goes_within : (cs ds : List Cell) (at to p : ℕ) → new_place at cs to ds p ≤ end_from to ds
 goes_within [] ds at to p = end_from-ge to ds
 goes_within (c ∷ cs) ds at to p =
-    one_of (nat_le p at) to (new_place (at + c.width) cs (to + width_anew (is_some c.live) ds) (after_anew (is_some c.live) ds) p) _ (end_from-ge to ds)
-    (omega (arith, goes_within cs (after_anew (is_some c.live) ds) (at + c.width) (to + width_anew (is_some c.live) ds) p, end_after (is_some c.live) to ds))
+    one_of (nat_le p at) to (new_place (at + c.width) cs (to + new_width (is_some c.live) ds) (new_after (is_some c.live) ds) p) _ (end_from-ge to ds)
+    (omega (arith, goes_within cs (new_after (is_some c.live) ds) (at + c.width) (to + new_width (is_some c.live) ds) p, end_after (is_some c.live) to ds))
 
 -- ---- cursors
 
@@ -102,7 +102,7 @@ all_go image cs new first end last (p ∷ ps) given is is_last small sound rewri
       record {
         small = omega (arith, goes_within cs new.cells first new.first p, carries, small);
         ends = λ e. is_last ∙ ap (new_place first cs new.first new.cells) (sym e) ∙ carries;
-        told = λ ne. subst (Tells image p) carries (given p h.0 (let lt = place_before first cs p end h.0 is ne in omega (arith, lt, is)));
+        encoded = λ ne. subst (EncodesAt image p) carries (given p h.0 (let lt = place_before first cs p end h.0 is ne in omega (arith, lt, is)));
       },
       all_go image cs new first end last ps given is is_last small sound rewrites h.1,
     )

@@ -20,38 +20,38 @@ store_in cells image first end = whole first (cells (between first end image))
 -- ---- for private contracts alone
 
 -- the width of what a cell is rewritten as: that of the first new cell, if the old one is live
-abbrev pub width_anew : Bool → List Cell → ℕ
-width_anew false ds = 0
-width_anew true [] = 0
-width_anew true (d ∷ ds) = d.width
+abbrev pub new_width : Bool → List Cell → ℕ
+new_width false ds = 0
+new_width true [] = 0
+new_width true (d ∷ ds) = d.width
 
 -- the new cells after that one
-abbrev pub after_anew : Bool → List Cell → List Cell
-after_anew false ds = ds
-after_anew true [] = []
-after_anew true (d ∷ ds) = ds
+abbrev pub new_after : Bool → List Cell → List Cell
+new_after false ds = ds
+new_after true [] = []
+new_after true (d ∷ ds) = ds
 
 -- the first cell of some bytes is passed, and with it the new cell that it is rewritten as, if it is live
 pub record Passes (cells : List ℕ → List Cell) (bytes : List ℕ) (old : Store) (width : ℕ) (new : Store) : Type 0 where
   pub cell : Cell
   pub is_width : width ≡ cell.width
   pub parts : cells bytes ≡ cell ∷ cells (drop cell.width bytes)
-  pub first : new.first ≡ old.first + width_anew (is_some cell.live) old.cells
-  pub left : new.cells ≡ after_anew (is_some cell.live) old.cells
+  pub first : new.first ≡ old.first + new_width (is_some cell.live) old.cells
+  pub left : new.cells ≡ new_after (is_some cell.live) old.cells
 
 -- where the place p goes, if the cells from `at` on are rewritten as those from `to` on, one for each that is live
 abbrev pub new_place : ℕ → List Cell → ℕ → List Cell → ℕ → ℕ
 new_place at [] to ds p = to
-new_place at (c ∷ cs) to ds p = if nat_le p at then to else new_place (at + c.width) cs (to + width_anew (is_some c.live) ds) (after_anew (is_some c.live) ds) p
+new_place at (c ∷ cs) to ds p = if nat_le p at then to else new_place (at + c.width) cs (to + new_width (is_some c.live) ds) (new_after (is_some c.live) ds) p
 
 -- the four bytes at a place encode a number
-pub record Tells (image : List ℕ) (p n : ℕ) : Type 0 where
+pub record EncodesAt (image : List ℕ) (p n : ℕ) : Type 0 where
   pub within : p + 4 ≤ length image
   pub bytes : take 4 (drop p image) ≡ digits Big w32 n
 
 -- the first four bytes of each cell encode where it goes
 abbrev pub AreGiven : List ℕ → ℕ → List Cell → ℕ → List Cell → Type 0
-AreGiven image at cs to ds = (p : ℕ) → is_place_from at cs p ≡ true → p < end_from at cs → Tells image p (new_place at cs to ds p)
+AreGiven image at cs to ds = (p : ℕ) → is_place_from at cs p ≡ true → p < end_from at cs → EncodesAt image p (new_place at cs to ds p)
 
 -- a place is the end, or has four bytes at it
 abbrev pub HasGiven : List ℕ → ℕ → ℕ → Type 0
@@ -61,4 +61,4 @@ HasGiven image end p = p ≢ end → p + 4 ≤ length image
 pub record GoesBy (image : List ℕ) (end last : ℕ) (go : ℕ → ℕ) (p : ℕ) : Type 0 where
   pub small : go p < 2 ^ 32
   pub ends : p ≡ end → last ≡ go p
-  pub told : p ≢ end → Tells image p (go p)
+  pub encoded : p ≢ end → EncodesAt image p (go p)

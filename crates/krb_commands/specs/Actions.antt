@@ -67,11 +67,11 @@ module _ {F : Type 0} (trait : Ghosts F) (now : Option ℕ) (input input' : Sour
   pub record EndsByWords (fault : WordFault) : Type 0 where
     pub files : new ≡ old
     pub quiet : out' ≡ out
-    pub said : Writes err.to err'.to (word_text err.explains fault)
+    pub writes : Writes err.to err'.to (word_text err.explains fault)
     pub still : err'.explains ≡ err.explains
     pub status_is : status ≡ word_status fault
 
   -- the action was run, or it was reported why there is none
-  abbrev pub EndsAsked : Result Action WordFault → Type 0
-  EndsAsked (Ok action) = EndsAction action
-  EndsAsked (Err fault) = EndsByWords fault
+  abbrev pub EndsParsed : Result Action WordFault → Type 0
+  EndsParsed (Ok action) = EndsAction action
+  EndsParsed (Err fault) = EndsByWords fault

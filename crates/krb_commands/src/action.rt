@@ -49,7 +49,7 @@ impl Action<'_> {
 }
 
 // Returns the action for the words of a command.
-fn asked<'a, M: Matches<'a>>(
+fn parsed<'a, M: Matches<'a>>(
     alloc: Global,
     command: CommandName,
     matches: &M,
@@ -81,7 +81,7 @@ pub fn action_of<'a, M: Matches<'a>>(
     ensures readable { OnOk result (line_mistake command (M.matched matches.now) ≡ None) }
     ensures refused { IfErr result (IsRefusal name.now (line_mistake command (M.matched matches.now))) }
 {
-    match asked(alloc, command, matches) {
+    match parsed(alloc, command, matches) {
         Ok(action) => Ok(action),
         Err(fault) => Err(fault.in_command(name)),
     }

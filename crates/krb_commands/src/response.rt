@@ -1,7 +1,7 @@
 //! Runs the action of a command line.
 
 ghost use Rattle.std.specs.Prelude.{[], None, IsFalse};
-ghost use Rattle.krb_commands.specs.Actions.{EndsAsked, help_run};
+ghost use Rattle.krb_commands.specs.Actions.{EndsParsed, help_run};
 ghost use Rattle.krb_driver.specs.Runs.{EndsRun};
 
 use crate::action::Action;
@@ -26,16 +26,16 @@ fn show_help<W: Write, E: Write>(text: &str, out: &mut Watched<W>, err: &mut Err
 /// with the time `now`, in seconds, or 0 if the clock was not read. A failure of `err` changes nothing else.
 pub fn respond<A: Allocator + Copy, F: Files, R: Read, W: Write, E: Write>(
     alloc: A,
-    asked: &Result<Action<'_>, WordFault<'_>>,
+    parsed: &Result<Action<'_>, WordFault<'_>>,
     files: &mut F,
     now: Option<u32>,
     streams: &mut Streams<R, W, E>,
 ) -> u8
     requires { IsFalse streams.old.out.failed }
-    ensures { EndsAsked F.Files now streams.old.input streams.new.input files.old files.new
-        streams.old.out streams.new.out streams.old.err streams.new.err result asked.now }
+    ensures { EndsParsed F.Files now streams.old.input streams.new.input files.old files.new
+        streams.old.out streams.new.out streams.old.err streams.new.err result parsed.now }
 {
-    match asked {
+    match parsed {
         Ok(Action::Klist(options, file)) => { run_klist(alloc, options, file, files, streams) }
         Ok(Action::Ktfind(options, file)) => { run_ktfind(alloc, options, file, files, streams) }
         Ok(Action::Ktedit(v1_order, file)) => { run_ktedit(alloc, *v1_order, file, files, streams) }

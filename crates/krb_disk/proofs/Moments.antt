@@ -2,8 +2,8 @@
 use Rattle.std.proofs.Common.{◌≡◌, ◌≢◌, ℕ, ◌+◌, Bool, true, false, List, [], ◌∷◌, ◌++◌, Option, None, Some, IsSomeAnd, IsTrue, codes, length, length-append, arith, sym, ap, subst, ◌∙◌, refl}
 use Rattle.krb_disk.specs.declared.looks.Found.{Found}
 use Rattle.krb_disk.specs.declared.stage.Stage.{Stage}
-use Rattle.krb_disk.specs.declared.stage.Stage.TheVariants.{Written, Told, Permitted, Synced, Ours, Same, Quiet}
-use Rattle.krb_disk.specs.Disk.{File, Names, Save, Call, Make, Lock, Stands, Double, Write, Own, Stat, Permit, Sync, Remove, Fail, Compare, Watch, Rename, Intrude, Pass, Moment, Turns, Asks, Does, Happens, IsFirst, IsLeft, HasDueMode, IsSafe}
+use Rattle.krb_disk.specs.declared.stage.Stage.TheVariants.{Written, Examined, Permitted, Synced, Ours, Same, Quiet}
+use Rattle.krb_disk.specs.Disk.{File, Names, Save, Call, Make, Lock, AtPath, Double, Write, Own, Stat, Permit, Sync, Remove, Fail, Compare, Watch, Rename, Intrude, Pass, Moment, Turns, Asks, Does, Happens, IsFirst, IsLeft, HasDueMode, IsSafe}
 use Rattle.krb_disk.specs.Stages.{IsDueMode, IsSame, IsQuiet, stood, watched, synced}
 use Rattle.krb_disk.specs.Target.{new_path}
 
@@ -22,7 +22,7 @@ IsWhole save file = IsSomeAnd file (λ f. (f.bytes ≡ save.bytes) × (HasDueMod
 -- what is known of the new file at each stage
 abbrev HasCome : Save → Stage → Option File → Type 0
 HasCome save Written file = HasBytes save file
-HasCome save (Told found) file = HasBytes save file
+HasCome save (Examined found) file = HasBytes save file
 HasCome save (Permitted old) file = IsPermitted save file
 HasCome save (Synced old) file = IsWhole save file
 HasCome save (Ours old) file = IsWhole save file
@@ -49,7 +49,7 @@ synced_keeps save _ f come = tt
 -- at a stage where a mode is due, the new file has the bytes of the save
 due_bytes : (save : Save) (old : Option Found) (s : Stage) (f : File) (mode : ℕ) → IsDueMode old s mode → HasCome save s (Some f) → f.bytes ≡ save.bytes
 due_bytes save None Written f mode due come = come
-due_bytes save (Some old) (Told found) f mode due come = come
+due_bytes save (Some old) (Examined found) f mode due come = come
 due_bytes save _ _ f mode due come = absurd due
 
 -- a new file that may be renamed over the old one is whole
@@ -61,7 +61,7 @@ quiet_whole save _ file quiet come = absurd quiet
 keeps : (save : Save) (call : Call) (s : Stage) (file : Option File) (t : Stage) (new : Option File) → HasCome save s file → Turns save call s file t new → HasCome save t new
 keeps save Make s file t new come turns = rw turns.1 tt
 keeps save Lock s file t new come turns = rw turns.1 tt
-keeps save Stands s file t new come turns = rw (turns.0, turns.1) (stood_keeps save s file come)
+keeps save AtPath s file t new come turns = rw (turns.0, turns.1) (stood_keeps save s file come)
 keeps save Double s file t new come turns = rw turns.1 tt
 keeps save Write s None t new come turns = absurd turns
 keeps save Write s (Some f) t new come turns = rw (turns.1, turns.2) refl

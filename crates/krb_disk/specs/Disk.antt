@@ -2,7 +2,7 @@
 use Rattle.std.specs.Prelude.{◌≡◌, ◌≢◌, ℕ, Bool, true, false, List, [], ◌∷◌, Option, None, Some, IsSomeAnd, IsTrue}
 use Rattle.krb_disk.specs.declared.looks.Found.{Found}
 use Rattle.krb_disk.specs.declared.stage.Stage.{Stage}
-use Rattle.krb_disk.specs.declared.stage.Stage.TheVariants.{Made, Locked, Agreed, Held, Written, Told, Permitted, Ours, Same, Lost}
+use Rattle.krb_disk.specs.declared.stage.Stage.TheVariants.{Made, Locked, Agreed, Held, Written, Examined, Permitted, Ours, Same, Lost}
 use Rattle.krb_disk.specs.Stages.{private_mode, IsDueMode, IsFound, IsSame, IsQuiet, stood, watched, synced}
 use Rattle.krb_disk.specs.Target.{new_path}
 
@@ -27,7 +27,7 @@ pub record Save : Type 0 where
 pub data Call : Type 0 where
   Make : Call
   Lock : Call
-  Stands : Call
+  AtPath : Call
   Double : Call
   Write : Call
   Own : Call
@@ -54,11 +54,11 @@ pub record Moment : Type 0 where
 abbrev pub Turns : Save → Call → Stage → Option File → Stage → Option File → Type 0
 Turns save Make s file t new = (file ≡ None) × (t ≡ Made) × (new ≡ Some (record { bytes = []; mode = private_mode; durable = false }))
 Turns save Lock s file t new = (s ≡ Made) × (t ≡ Locked) × (new ≡ file)
-Turns save Stands s file t new = (t ≡ stood s) × (new ≡ file)
+Turns save AtPath s file t new = (t ≡ stood s) × (new ≡ file)
 Turns save Double s file t new = (s ≡ Agreed) × (t ≡ Held) × (new ≡ file)
 Turns save Write s (Some f) t new = (s ≡ Held) × (t ≡ Written) × (new ≡ Some (record f { bytes = save.bytes; durable = false }))
 Turns save Own s file t new = (s ≡ Written) × (t ≡ Written) × (new ≡ file)
-Turns save (Stat found) s file t new = (s ≡ Written) × (t ≡ Told found) × (new ≡ file)
+Turns save (Stat found) s file t new = (s ≡ Written) × (t ≡ Examined found) × (new ≡ file)
 Turns save (Permit mode) s (Some f) t new = IsDueMode save.old s mode × (t ≡ Permitted save.old) × (new ≡ Some (record f { mode = mode; durable = false }))
 Turns save Sync s (Some f) t new = (t ≡ synced s) × (new ≡ Some (record f { durable = true }))
 Turns save (Watch is_quiet) s file t new = (t ≡ watched is_quiet s) × (new ≡ file)

@@ -31,7 +31,7 @@ permissions found = if bit_and found.mode 0o170000 == 0o100000 then Some (found.
 -- a failed call is counted, its cause is known, and no save was completed
 pub record Fails (old new : Disk) : Type 0 where
   pub counted : CountsFailure old.failures new.failures
-  pub told : IsSome new.cause
+  pub has_cause : IsSome new.cause
   pub unsaved : new.saved ≡ old.saved
   pub held : new.is_held ≡ old.is_held
 

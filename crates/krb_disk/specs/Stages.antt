@@ -4,7 +4,7 @@ use Rattle.krb_disk.specs.declared.looks.Found.{Found}
 use Rattle.krb_disk.specs.declared.snapshot.Snapshot.{Snapshot}
 use Rattle.krb_disk.specs.declared.snapshot.Snapshot.TheVariants.{Nothing, File, Loaded}
 use Rattle.krb_disk.specs.declared.stage.Stage.{Stage}
-use Rattle.krb_disk.specs.declared.stage.Stage.TheVariants.{Locked, Agreed, Written, Told, Permitted, Synced, Ours, Same, Quiet, Ended, Lost}
+use Rattle.krb_disk.specs.declared.stage.Stage.TheVariants.{Locked, Agreed, Written, Examined, Permitted, Synced, Ours, Same, Quiet, Ended, Lost}
 use Rattle.krb_disk.specs.Looks.{IsPlainOrNone}
 use Rattle.krb_disk.specs.Mode.{IsNewMode}
 
@@ -15,7 +15,7 @@ private_mode = 0o600
 -- the mode due to the new file: if it replaces a file, by the owner and the group that the system reported of the new one
 abbrev pub IsDueMode : Option Found → Stage → ℕ → Type 0
 IsDueMode None Written mode = mode ≡ private_mode
-IsDueMode (Some old) (Told new) mode = IsNewMode (new.owner == old.owner) (new.group == old.group) old.mode mode
+IsDueMode (Some old) (Examined new) mode = IsNewMode (new.owner == old.owner) (new.group == old.group) old.mode mode
 IsDueMode _ _ mode = ⊥
 
 -- the stage after it was found under its name

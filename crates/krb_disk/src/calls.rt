@@ -4,7 +4,7 @@ ghost use Rattle.std.specs.Prelude.{◌≡◌, [], IfOk, IfSome, OnOk, IsTrue, s
 ghost use Rattle.std.specs.Io.KnownBytes.{Appends};
 ghost use Rattle.krb_disk.specs.NewFile.{IsFilled};
 ghost use Rattle.krb_disk.specs.Stages.{private_mode, IsDueMode, IsFound, stood, synced};
-ghost use Rattle.krb_disk.specs.declared.stage.Stage.TheVariants.{Made, Locked, Agreed, Held, Written, Told, Permitted};
+ghost use Rattle.krb_disk.specs.declared.stage.Stage.TheVariants.{Made, Locked, Agreed, Held, Written, Examined, Permitted};
 
 mod log;
 mod old;
@@ -50,13 +50,13 @@ pub struct NewFile<S, F> {
 }
 
 // Returns what the system reports of an open file.
-fn tell<F: OpenFile>(file: &F) -> io::Result<Found> {
+fn describe<F: OpenFile>(file: &F) -> io::Result<Found> {
     Ok(Found::of(&file.metadata()?))
 }
 
 // Returns whether `path` still names an open file.
-fn stands_at<R: rt::Files>(looks: &Looks<'_, R>, path: &str, file: &R::File) -> io::Result<bool> {
-    let opened = tell(file)?;
+fn is_at_path<R: rt::Files>(looks: &Looks<'_, R>, path: &str, file: &R::File) -> io::Result<bool> {
+    let opened = describe(file)?;
     match looks.look(path)? {
         Some(named) => Ok(is_same_file(&named, &opened)),
         None => Ok(false),
@@ -102,18 +102,18 @@ impl<R: rt::Files + Alloc> Calls<'_, R> {
     }
 
     /// Returns whether the new file is still at its path.
-    pub fn stands(&self, file: &mut NewFile<String<R::A>, R::File>) -> io::Result<bool>
+    pub fn is_at_path(&self, file: &mut NewFile<String<R::A>, R::File>) -> io::Result<bool>
         ensures stage { IfOk result (λ is. IsTrue is
             → file.new ≡ record file.old { stage = stood file.old.stage }) }
         ensures found { IfOk result (λ is. IsTrue is → IsFound file.new.stage) }
     {
-        let stands = stands_at(&self.looks, &file.path, &file.file.file)?;
-        file.stage = if stands {
+        let is_at_path = is_at_path(&self.looks, &file.path, &file.file.file)?;
+        file.stage = if is_at_path {
             file.stage.stood()
         } else {
             Stage::Lost
         };
-        Ok(stands)
+        Ok(is_at_path)
     }
 
     /// Replaces the handle of the new file with a duplicate, which is never a standard stream, even if one is closed.
@@ -154,10 +154,10 @@ impl<R: rt::Files + Alloc> Calls<'_, R> {
     /// Returns what the system reports of the new file.
     pub fn stat(&self, file: &mut NewFile<String<R::A>, R::File>) -> io::Result<Found>
         requires written { file.old.stage ≡ Written }
-        ensures { IfOk result (λ found. file.new ≡ record file.old { stage = Told found }) }
+        ensures { IfOk result (λ found. file.new ≡ record file.old { stage = Examined found }) }
     {
-        let found = tell(&file.file.file)?;
-        file.stage = Stage::Told(found);
+        let found = describe(&file.file.file)?;
+        file.stage = Stage::Examined(found);
         Ok(found)
     }
 

@@ -120,7 +120,7 @@ fn is_ready<R: rt::Files + rt::Clock + Alloc>(
         ≡ record new_file.old { stage = watched is (Same (snapshot_file snapshot.now)) }) }
     ensures plain { OnOk result (IsPlainOrNone (snapshot_file snapshot.now)) }
 {
-    if !calls.stands(new_file)? || !calls.compare(new_file, path, snapshot)? {
+    if !calls.is_at_path(new_file)? || !calls.compare(new_file, path, snapshot)? {
         return Err(DiskFault::Failed(Cause::Changed));
     }
     calls.watch(new_file, deadline)

@@ -91,7 +91,7 @@ impl<F: Read> Read for Opened<F> {
 
 impl<F: OpenFile> Opened<F> {
     /// Returns what the system reports of it.
-    pub fn tell(&self) -> io::Result<Found> {
+    pub fn describe(&self) -> io::Result<Found> {
         Ok(Found::of(&self.file.metadata()?))
     }
 }

@@ -33,7 +33,7 @@ pub fn remove_own<R: rt::Files + Alloc>(
     calls: &Calls<'_, R>,
     file: &mut NewFile<String<R::A>, R::File>,
 ) -> io::Result<()> {
-    if calls.stands(file)? {
+    if calls.is_at_path(file)? {
         calls.remove(file)?;
     }
     Ok(())
@@ -49,7 +49,7 @@ where
     requires { file.old.stage ≡ Made }
     ensures { IfOk result (λ is. IsTrue is → IsHeldAt (string_bytes file.old.path) file.new) }
 {
-    if !calls.lock(file)? || !calls.stands(file)? {
+    if !calls.lock(file)? || !calls.is_at_path(file)? {
         return Ok(false);
     }
     calls.double(file)?;

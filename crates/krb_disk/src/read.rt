@@ -26,7 +26,7 @@ pub fn read_file<R: rt::Files, A: Allocator>(
     let Some(file) = looks.open(path)? else {
         return Err(ReadFault::Missing);
     };
-    let found = file.tell()?;
+    let found = file.describe()?;
     let mut file = WatchedReader::new(Noted::new(file));
     match load(alloc, &mut file, limit, found.size.saturating_add(room)) {
         Ok(bytes) => Ok((found, bytes)),

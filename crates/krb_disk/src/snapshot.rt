@@ -32,7 +32,7 @@ fn has_content<F: OpenFile + Read>(
     ensures { IfOk result (λ has. IsTrue has
         → IfSome (F.remaining opened.old.file) (λ left. left ≡ bytes.now)) }
 {
-    Ok(is_unchanged(file, &opened.tell()?) && has_bytes(opened, bytes)?)
+    Ok(is_unchanged(file, &opened.describe()?) && has_bytes(opened, bytes)?)
 }
 
 // Returns whether `path` leads to that file, unchanged, with these bytes.

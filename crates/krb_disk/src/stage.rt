@@ -17,7 +17,7 @@ pub enum Stage {
     /// It has the bytes.
     Written,
     /// Since then the system reported this of it.
-    Told(Found),
+    Examined(Found),
     /// It has the mode due to a file that replaces this one, or none.
     Permitted(Option<Found>),
     Synced(Option<Found>),

@@ -79,7 +79,7 @@ pub fn find_target<R: rt::Files + Alloc>(
     name: &str,
 ) -> Result<Target<R::A>, DiskFault>
     ensures named { OnOk result (name.now ≢ []) }
-    ensures asked { IfOk result (λ target. string_bytes target.name ≡ name.now) }
+    ensures of_name { IfOk result (λ target. string_bytes target.name ≡ name.now) }
     ensures plain { IfOk result (λ target. IfSome target.old (λ old. bit_and old.mode 0o170000 ≡ 0o100000)) }
 {
     if name.is_empty() {
@@ -101,7 +101,7 @@ fn target_at<A: Allocator>(
     path: PathBuf<A>,
     old: Option<Found>,
 ) -> Result<Target<A>, DiskFault>
-    ensures asked { IfOk result (λ target. string_bytes target.name ≡ name.now) }
+    ensures of_name { IfOk result (λ target. string_bytes target.name ≡ name.now) }
     ensures old { IfOk result (λ target. target.old ≡ old) }
 {
     if path.as_str().ends_with(SUFFIX) {

@@ -29,14 +29,14 @@ words_if-nothing false = refl
 pub ReportsEnd-nothing : (file : List ℕ) (line : Option ℕ) (err : ErrorWatch) → ReportsEnd file line (Ok Well) err err
 ReportsEnd-nothing file line err = record {
   cause = None;
-  said = subst (Writes err.to err.to) (sym (words_if-nothing err.explains)) (Writes-nothing err.to);
+  writes = subst (Writes err.to err.to) (sym (words_if-nothing err.explains)) (Writes-nothing err.to);
   still = refl;
 }
 
 -- a message was written, with the words that are shown
 pub Writes-words : (file : List ℕ) (line : Option ℕ) (cause : Option Cause) (ending : Ending) (err : ErrorWatch) (to : Watch) (words : List ℕ)
     → Writes err.to to (ending_message file ending ++ words) → words ≡ words_if err.explains (ending_words file line cause ending) → Writes err.to to (ending_text err.explains file line cause ending)
-Writes-words file line cause ending err to words said are = subst (λ (w : List ℕ). Writes err.to to (ending_message file ending ++ w)) are said
+Writes-words file line cause ending err to words writes are = subst (λ (w : List ℕ). Writes err.to to (ending_message file ending ++ w)) are writes
 
 -- ---- what a reader gave
 

@@ -6,35 +6,35 @@ use Rattle.krb_walk.specs.declared.fault.FaultKind.TheVariants.{CutLength, Overr
 use Rattle.krb_walk.specs.declared.refusal.Code.{Code}
 use Rattle.krb_walk.specs.declared.refusal.Code.TheVariants.{Damaged, TooLong, Full, NotAPlace, NotLive, NoSuchWalk, TooManyWalks, ReadOnly, NotFound, KvnoNotFound, Marked}
 use Rattle.krb_walk.specs.Numbers.{code_number, fault_number}
-use Rattle.krb_walk.specs.Said.{Said, Refused, Faulted}
+use Rattle.krb_walk.specs.ReplyContent.{ReplyContent, Refused, Faulted}
 use Rattle.krb_driver.specs.declared.verdict.FileKind.{FileKind}
 use Rattle.krb_driver.specs.declared.verdict.Verdict.{Verdict}
 use Rattle.krb_driver.specs.declared.verdict.Verdict.TheVariants.{Well, Replied}
 
 -- a reply is a refusal or a fault
-abbrev pub is_failure : Said → Bool
+abbrev pub is_failure : ReplyContent → Bool
 is_failure (Refused code) = true
 is_failure (Faulted walk fault) = true
-is_failure said = false
+is_failure other = false
 
 -- a reply is a refusal with this code
-abbrev pub reports_code : Code → Said → Bool
+abbrev pub reports_code : Code → ReplyContent → Bool
 reports_code code (Refused reported) = code_number reported == code_number code
-reports_code code said = false
+reports_code code other = false
 
 -- a reply is a fault of this kind
-abbrev pub reports_fault : FaultKind → Said → Bool
+abbrev pub reports_fault : FaultKind → ReplyContent → Bool
 reports_fault kind (Faulted walk fault) = fault_number fault.kind == fault_number kind
-reports_fault kind said = false
+reports_fault kind other = false
 
-module _ {R : Type 0} (said : R → Said) (replies : List R) where
+module _ {R : Type 0} (content_of : R → ReplyContent) (replies : List R) where
   -- the code, if some reply reports it
   abbrev pub reported_code : Code → Option Code
-  reported_code code = if list_any (λ r. reports_code code (said r)) replies then Some code else None
+  reported_code code = if list_any (λ r. reports_code code (content_of r)) replies then Some code else None
 
   -- the kind of fault, if some reply reports it
   abbrev pub reported_fault : FaultKind → Option FaultKind
-  reported_fault kind = if list_any (λ r. reports_fault kind (said r)) replies then Some kind else None
+  reported_fault kind = if list_any (λ r. reports_fault kind (content_of r)) replies then Some kind else None
 
   -- each code that is reported, at its place in the order of the numbers
   abbrev pub reported_codes : List (Option Code)
@@ -45,5 +45,5 @@ module _ {R : Type 0} (said : R → Said) (replies : List R) where
   reported_faults = map reported_fault (CutLength ∷ Overrun ∷ BadEntry ∷ BadCredential ∷ [])
 
 -- the verdict of a run that printed these replies about a file of that kind
-abbrev pub replied_verdict : {R : Type 0} → FileKind → (R → Said) → List R → Verdict
-replied_verdict kind said replies = if list_any (λ r. is_failure (said r)) replies then Replied (record { kind = kind; codes = reported_codes said replies; faults = reported_faults said replies }) else Well
+abbrev pub replied_verdict : {R : Type 0} → FileKind → (R → ReplyContent) → List R → Verdict
+replied_verdict kind content_of replies = if list_any (λ r. is_failure (content_of r)) replies then Replied (record { kind = kind; codes = reported_codes content_of replies; faults = reported_faults content_of replies }) else Well

@@ -39,7 +39,7 @@ pub record Writes (old new : Watch) (text : List ℕ) : Type 0 where
 -- the end of a run over that file, or of a line of ktutil, was reported, with the words for some cause or for none
 pub record ReportsEnd (file : List ℕ) (line : Option ℕ) (ending : Ending) (err err' : ErrorWatch) : Type 0 where
   pub cause : Option Cause
-  pub said : Writes err.to err'.to (ending_text err.explains file line cause ending)
+  pub writes : Writes err.to err'.to (ending_text err.explains file line cause ending)
   pub still : err'.explains ≡ err.explains
 
 -- the end was reported, and the exit status is that of the end

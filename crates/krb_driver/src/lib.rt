@@ -12,7 +12,7 @@ mod verdict;
 
 pub use command::{Command, FileError, Made, Output, Show, hold_if, run};
 pub use command_line::matches::{
-    Matches, asked_name, first_value, spelled_name, times_given, v1_order,
+    Matches, selected_name, first_value, spelled_name, times_given, v1_order,
 };
 pub use command_line::mistake::{BadLine, Mistake, WordFault};
 pub use command_line::words::{CommandName, CommandWords, DRY_RUN, V1_BIG, Word};

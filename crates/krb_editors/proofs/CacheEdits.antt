@@ -5,9 +5,9 @@ use Rattle.std.proofs.lemmas.List.{append-nil, take_more}
 use Rattle.krb_walk.specs.declared.event.Event.{Event}
 use Rattle.krb_walk.specs.declared.event.Event.TheVariants.{Put, Cut}
 use Rattle.krb_walk.specs.declared.refusal.Code.{Code}
-use Rattle.krb_walk.specs.Said.{Said}
+use Rattle.krb_walk.specs.ReplyContent.{ReplyContent}
 use Rattle.krb_walk.specs.Rules.{Rules}
-use Rattle.krb_walk.specs.Events.{SessionState, after, put_said, reply_to}
+use Rattle.krb_walk.specs.Events.{SessionState, after, put_reply, reply_to}
 use Rattle.krb_walk.specs.History.{AllLawful, history, replies, state_after}
 use Rattle.krb_walk.specs.Ran.{Ran}
 use Rattle.krb_walk.proofs.Runs.{ran_of}
@@ -27,46 +27,46 @@ state_join r s (e ∷ es) fs = state_join r (after r s e) es fs
 
 replies_join : {S I : Type 0} (r : Rules S I) (s : SessionState S) (es fs : List (Event I)) → replies (history r s (es ++ fs)) ≡ replies (history r s es) ++ replies (history r (state_after r s es) fs)
 replies_join r s [] fs = refl
-replies_join r s (e ∷ es) fs = ap (λ (reported : List Said). reply_to r s e ∷ reported) (replies_join r (after r s e) es fs)
+replies_join r s (e ∷ es) fs = ap (λ (reported : List ReplyContent). reply_to r s e ∷ reported) (replies_join r (after r s e) es fs)
 
 lawful_join : {S I : Type 0} (r : Rules S I) (s : SessionState S) (es fs : List (Event I)) → AllLawful r (history r s es) → AllLawful r (history r (state_after r s es) fs) → AllLawful r (history r s (es ++ fs))
 lawful_join r s [] fs all more = more
 lawful_join r s (e ∷ es) fs all more = (all.0, lawful_join r (after r s e) es fs all.1 more)
 
 -- two runs, one after the other, are one run
-pub ran_join : {S I : Type 0} (r : Rules S I) (old mid new : SessionState S) (es fs : List (Event I)) (t u v : List Said) → Ran r old mid es t u → Ran r mid new fs u v → Ran r old new (es ++ fs) t v
+pub ran_join : {S I : Type 0} (r : Rules S I) (old mid new : SessionState S) (es fs : List (Event I)) (t u v : List ReplyContent) → Ran r old mid es t u → Ran r mid new fs u v → Ran r old new (es ++ fs) t v
 ran_join {S} r old mid new es fs t u v first second =
     ran_of r old new (es ++ fs) t v first.run.ready
-    (second.replies_are ∙ ap (λ (s : SessionState S). u ++ replies (history r s fs)) first.state ∙ ap (λ (x : List Said). x ++ replies (history r (state_after r old es) fs)) first.replies_are
-    ∙ append_assoc t (replies (history r old es)) (replies (history r (state_after r old es) fs)) ∙ sym (ap (λ (x : List Said). t ++ x) (replies_join r old es fs)))
+    (second.replies_are ∙ ap (λ (s : SessionState S). u ++ replies (history r s fs)) first.state ∙ ap (λ (x : List ReplyContent). x ++ replies (history r (state_after r old es) fs)) first.replies_are
+    ∙ append_assoc t (replies (history r old es)) (replies (history r (state_after r old es) fs)) ∙ sym (ap (λ (x : List ReplyContent). t ++ x) (replies_join r old es fs)))
     (second.state ∙ ap (λ (s : SessionState S). state_after r s fs) first.state ∙ sym (state_join r old es fs))
     (lawful_join r old es fs first.run.lawful (subst (λ (s : SessionState S). AllLawful r (history r s fs)) first.state second.run.lawful))
 
 -- a run ends in the state that its events leave
-pub ran_to_end : {S I : Type 0} (r : Rules S I) (old new : SessionState S) (es : List (Event I)) (t u : List Said) → Ran r old new es t u → Ran r old (state_after r old es) es t u
+pub ran_to_end : {S I : Type 0} (r : Rules S I) (old new : SessionState S) (es : List (Event I)) (t u : List ReplyContent) → Ran r old new es t u → Ran r old (state_after r old es) es t u
 ran_to_end {S} r old new es t u ran = subst (λ (s : SessionState S). Ran r old s es t u) ran.state ran
 
 -- ---- a value
 
 -- an addition was refused iff its reply is a refusal
-refusal_said : (given : Result (ℕ × CacheState) Code) → is_refused given ≡ is_refusal (put_said given)
-refusal_said (Ok given) = refl
-refusal_said (Err refused) = refl
+refusal_reply : (given : Result (ℕ × CacheState) Code) → is_refused given ≡ is_refusal (put_reply given)
+refusal_reply (Ok given) = refl
+refusal_reply (Err refused) = refl
 
 -- the events of a setting, by whether its addition is refused
-events_by : (k : CacheState) (s : SettingParts) (entry : CredParts) (refused : Bool) → entry ≡ entry_of k.principal s → is_refusal (put_said (put_result k entry)) ≡ refused
+events_by : (k : CacheState) (s : SettingParts) (entry : CredParts) (refused : Bool) → entry ≡ entry_of k.principal s → is_refusal (put_reply (put_result k entry)) ≡ refused
     → setting_events k s ≡ Put entry ∷ (if refused then [] else map Cut (match_places k s))
 events_by k s entry refused is answered =
     let removals : Bool → List (Event CredParts) = λ b. if b then [] else map Cut (match_places k s) in
-    sym (ap (λ (c : CredParts). Put c ∷ removals (is_refused (put_result k c))) is) ∙ ap (λ (b : Bool). Put entry ∷ removals b) (refusal_said (put_result k entry) ∙ answered)
+    sym (ap (λ (c : CredParts). Put c ∷ removals (is_refused (put_result k c))) is) ∙ ap (λ (b : Bool). Put entry ∷ removals b) (refusal_reply (put_result k entry) ∙ answered)
 
 -- if the addition was refused, a setting does nothing else
-pub set_refused : (old new : SessionState CacheState) (s : SettingParts) (entry : CredParts) (t u : List Said) → entry ≡ entry_of old.store.principal s → is_refusal (reply_to cache_rules old (Put entry)) ≡ true
+pub set_refused : (old new : SessionState CacheState) (s : SettingParts) (entry : CredParts) (t u : List ReplyContent) → entry ≡ entry_of old.store.principal s → is_refusal (reply_to cache_rules old (Put entry)) ≡ true
     → Ran cache_rules old new (Put entry ∷ []) t u → Ran cache_rules old new (setting_events old.store s) t u
 set_refused old new s entry t u is refused ran = rw (events_by old.store s entry true is refused) ran
 
 -- if it was not refused, the removals follow
-pub set_placed : (old mid new : SessionState CacheState) (s : SettingParts) (entry : CredParts) (removals : List (Event CredParts)) (t u v : List Said) → entry ≡ entry_of old.store.principal s → removals ≡ map Cut (match_places old.store s)
+pub set_placed : (old mid new : SessionState CacheState) (s : SettingParts) (entry : CredParts) (removals : List (Event CredParts)) (t u v : List ReplyContent) → entry ≡ entry_of old.store.principal s → removals ≡ map Cut (match_places old.store s)
     → is_refusal (reply_to cache_rules old (Put entry)) ≡ false → Ran cache_rules old mid (Put entry ∷ []) t u → Ran cache_rules mid new removals u v → Ran cache_rules old new (setting_events old.store s) t v
 set_placed old mid new s entry removals t u v is removals_are placed first second =
     let joined : Ran cache_rules old new (Put entry ∷ removals) t v = ran_join cache_rules old mid new (Put entry ∷ []) removals t u v first second in
@@ -87,7 +87,7 @@ lines_more s (x ∷ xs) line =
     ∙ ap (λ (t : SessionState CacheState). (first ++ more) ++ line_events t line) (sym (state_join cache_rules s first more))
 
 -- a run of the first lines, and one of the next
-pub ran_line : (start old new : SessionState CacheState) (lines : List CacheLineParts) (i : ℕ) (line : CacheLineParts) (t u v : List Said) → i < length lines → line ≡ get_or lines i line
+pub ran_line : (start old new : SessionState CacheState) (lines : List CacheLineParts) (i : ℕ) (line : CacheLineParts) (t u v : List ReplyContent) → i < length lines → line ≡ get_or lines i line
     → Ran cache_rules start old (lines_events start (take i lines)) t u → Ran cache_rules old new (line_events old line) u v
     → Ran cache_rules start new (lines_events start (take (i + 1) lines)) t v
 ran_line start old new lines i line t u v below is first second =

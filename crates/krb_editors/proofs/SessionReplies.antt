@@ -11,9 +11,9 @@ use Rattle.krb_walk.specs.declared.fault.FaultKind.TheVariants.{CutLength, Overr
 use Rattle.krb_walk.specs.declared.refusal.Code.{Code}
 use Rattle.krb_walk.specs.declared.refusal.Code.TheVariants as code
 use Rattle.krb_walk.specs.Store.{Store, Record, end_of, fault_of, is_place, live_bytes, next_live}
-use Rattle.krb_walk.specs.Said.{Said, Started, Refused}
+use Rattle.krb_walk.specs.ReplyContent.{ReplyContent, Started, Refused}
 use Rattle.krb_walk.specs.Rules.{Rules}
-use Rattle.krb_walk.specs.Events.{SessionState, reply_to, after, store_after, step_said, stop_said, end_said, put_said, put_store, cut_said, cut_store, rewrite_said}
+use Rattle.krb_walk.specs.Events.{SessionState, reply_to, after, store_after, step_reply, stop_reply, end_reply, put_reply, put_store, cut_reply, cut_store, rewrite_reply}
 use Rattle.krb_walk.specs.History.{history, replies, state_after}
 use Rattle.krb_walk.specs.Ran.{Ran}
 use Rattle.krb_keytab.specs.Changes as keytab
@@ -72,15 +72,15 @@ module _ {S F : Type 0} (format : S → F) (rewritten : F) where
   rewrite_if false x y hx hy = hy
 
   -- the format after a reply is that of the store after its event
-  of_put : (k : S) (given : Result (ℕ × S) Code) → PutKeeps k given → format (put_store k given) ≡ format_after_by rewritten (format k) (put_said given)
+  of_put : (k : S) (given : Result (ℕ × S) Code) → PutKeeps k given → format (put_store k given) ≡ format_after_by rewritten (format k) (put_reply given)
   of_put k (Ok given) keeps = keeps
   of_put k (Err refused) keeps = refl
 
-  of_cut : (k : S) (p : ℕ) (given : Result S Code) → CutKeeps k given → format (cut_store k given) ≡ format_after_by rewritten (format k) (cut_said p given)
+  of_cut : (k : S) (p : ℕ) (given : Result S Code) → CutKeeps k given → format (cut_store k given) ≡ format_after_by rewritten (format k) (cut_reply p given)
   of_cut k p (Ok new) keeps = keeps
   of_cut k p (Err refused) keeps = refl
 
-  of_rewrite : (seen : S → Store) (k : S) (given : Result S Code) → RewriteSets given → format (cut_store k given) ≡ format_after_by rewritten (format k) (rewrite_said seen given)
+  of_rewrite : (seen : S → Store) (k : S) (given : Result S Code) → RewriteSets given → format (cut_store k given) ≡ format_after_by rewritten (format k) (rewrite_reply seen given)
   of_rewrite seen k (Ok new) sets = sets
   of_rewrite seen k (Err refused) sets = refl
 
@@ -91,26 +91,26 @@ module _ {S F : Type 0} (format : S → F) (rewritten : F) where
     pub rewrite : (k : S) → RewriteSets (r.rewrite k)
 
 module _ {F : Type 0} (rewritten : F) where
-  abbrev next_format : F → Said → F
-  next_format f said = format_after_by rewritten f said
+  abbrev next_format : F → ReplyContent → F
+  next_format f other = format_after_by rewritten f other
 
-  of_cond : (f : F) (b : Bool) (x y : Said) → next_format f x ≡ f → next_format f y ≡ f → f ≡ next_format f (cond b x y)
+  of_cond : (f : F) (b : Bool) (x y : ReplyContent) → next_format f x ≡ f → next_format f y ≡ f → f ≡ next_format f (cond b x y)
   of_cond f true x y hx hy = sym hx
   of_cond f false x y hx hy = sym hy
 
-  of_resume : (f : F) (a b : Bool) (x y z : Said) → next_format f x ≡ f → next_format f y ≡ f → next_format f z ≡ f → f ≡ next_format f (cond a (cond b x y) z)
+  of_resume : (f : F) (a b : Bool) (x y z : ReplyContent) → next_format f x ≡ f → next_format f y ≡ f → next_format f z ≡ f → f ≡ next_format f (cond a (cond b x y) z)
   of_resume f true b x y z hx hy hz = of_cond f b x y hx hy
   of_resume f false b x y z hx hy hz = sym hz
 
-  of_end : (f : F) (w end : ℕ) (fault : Option FaultKind) → f ≡ next_format f (end_said w end fault)
+  of_end : (f : F) (w end : ℕ) (fault : Option FaultKind) → f ≡ next_format f (end_reply w end fault)
   of_end f w end None = refl
   of_end f w end (Some kind) = refl
 
-  of_stop : (f : F) (s : Store) (w : ℕ) (next : Option Record) → f ≡ next_format f (stop_said s w next)
+  of_stop : (f : F) (s : Store) (w : ℕ) (next : Option Record) → f ≡ next_format f (stop_reply s w next)
   of_stop f s w (Some r) = refl
   of_stop f s w None = of_end f w (end_of s) s.fault
 
-  of_step : (f : F) (s : Store) (w : ℕ) (cursor : Option ℕ) → f ≡ next_format f (step_said s w cursor)
+  of_step : (f : F) (s : Store) (w : ℕ) (cursor : Option ℕ) → f ≡ next_format f (step_reply s w cursor)
   of_step f s w None = refl
   of_step f s w (Some c) = of_stop f s w (next_live s c)
 
@@ -177,69 +177,69 @@ cache_keeps =
 
 -- ---- what was made of a store
 
-pub any_said : {A B : Type 0} (f : A → B) (test : B → Bool) (xs : List A) → list_any (λ x. test (f x)) xs ≡ list_any test (map f xs)
-any_said f test [] = refl
-any_said f test (x ∷ xs) = ap (λ (b : Bool). test (f x) || b) (any_said f test xs)
+pub any_content : {A B : Type 0} (f : A → B) (test : B → Bool) (xs : List A) → list_any (λ x. test (f x)) xs ≡ list_any test (map f xs)
+any_content f test [] = refl
+any_content f test (x ∷ xs) = ap (λ (b : Bool). test (f x) || b) (any_content f test xs)
 
 same_map : {A B : Type 0} (f g : A → B) → ((x : A) → f x ≡ g x) → (xs : List A) → map f xs ≡ map g xs
 same_map f g each [] = refl
 same_map f g each (x ∷ xs) = ap (λ y. y ∷ map f xs) (each x) ∙ ap (λ ys. g x ∷ ys) (same_map f g each xs)
 
 -- the verdict of a run that printed replies depends only on what the replies say
-pub replied_said : {A : Type 0} (kind : FileKind) (f : A → Said) (rs : List A) → replied_verdict kind f rs ≡ replied_verdict kind (λ said. said) (map f rs)
-replied_said kind f rs =
+pub replied_contents : {A : Type 0} (kind : FileKind) (f : A → ReplyContent) (rs : List A) → replied_verdict kind f rs ≡ replied_verdict kind (λ reply. reply) (map f rs)
+replied_contents kind f rs =
     let ends : Bool → List (Option Code) → List (Option FaultKind) → Verdict = λ b codes faults. if b then Replied (record { kind = kind; codes = codes; faults = faults }) else Well in
-    let code_is : (c : Code) → reported_code f rs c ≡ reported_code (λ said. said) (map f rs) c = λ c. ap (λ (b : Bool). if b then Some c else None) (any_said f (reports_code c) rs) in
-    let fault_is : (k : FaultKind) → reported_fault f rs k ≡ reported_fault (λ said. said) (map f rs) k = λ k. ap (λ (b : Bool). if b then Some k else None) (any_said f (reports_fault k) rs) in
-    ap (λ (b : Bool). ends b (reported_codes f rs) (reported_faults f rs)) (any_said f is_failure rs)
-    ∙ ap (λ (cs : List (Option Code)). ends (list_any is_failure (map f rs)) cs (reported_faults f rs)) (same_map (reported_code f rs) (reported_code (λ said. said) (map f rs)) code_is (code.Damaged ∷ code.TooLong ∷ code.Full ∷ code.NotAPlace ∷ code.NotLive ∷ code.NoSuchWalk ∷ code.TooManyWalks ∷ code.ReadOnly ∷ code.NotFound ∷ code.KvnoNotFound ∷ code.Marked ∷ []))
-    ∙ ap (λ (ks : List (Option FaultKind)). ends (list_any is_failure (map f rs)) (reported_codes (λ said. said) (map f rs)) ks) (same_map (reported_fault f rs) (reported_fault (λ said. said) (map f rs)) fault_is (CutLength ∷ Overrun ∷ BadEntry ∷ BadCredential ∷ []))
+    let code_is : (c : Code) → reported_code f rs c ≡ reported_code (λ reply. reply) (map f rs) c = λ c. ap (λ (b : Bool). if b then Some c else None) (any_content f (reports_code c) rs) in
+    let fault_is : (k : FaultKind) → reported_fault f rs k ≡ reported_fault (λ reply. reply) (map f rs) k = λ k. ap (λ (b : Bool). if b then Some k else None) (any_content f (reports_fault k) rs) in
+    ap (λ (b : Bool). ends b (reported_codes f rs) (reported_faults f rs)) (any_content f is_failure rs)
+    ∙ ap (λ (cs : List (Option Code)). ends (list_any is_failure (map f rs)) cs (reported_faults f rs)) (same_map (reported_code f rs) (reported_code (λ reply. reply) (map f rs)) code_is (code.Damaged ∷ code.TooLong ∷ code.Full ∷ code.NotAPlace ∷ code.NotLive ∷ code.NoSuchWalk ∷ code.TooManyWalks ∷ code.ReadOnly ∷ code.NotFound ∷ code.KvnoNotFound ∷ code.Marked ∷ []))
+    ∙ ap (λ (ks : List (Option FaultKind)). ends (list_any is_failure (map f rs)) (reported_codes (λ reply. reply) (map f rs)) ks) (same_map (reported_fault f rs) (reported_fault (λ reply. reply) (map f rs)) fault_is (CutLength ∷ Overrun ∷ BadEntry ∷ BadCredential ∷ []))
 
 -- a run of a session that began as a new one is a run of the new session over the store
-pub ran_begun : {S I : Type 0} (r : Rules S I) (store : S) (events : List (Event I)) (old new : SessionState S) (reported : List Said)
+pub ran_begun : {S I : Type 0} (r : Rules S I) (store : S) (events : List (Event I)) (old new : SessionState S) (reported : List ReplyContent)
     → old ≡ new_session store → Ran r old new events [] reported → Ran r (new_session store) (state_after r (new_session store) events) events [] reported
 ran_begun {S} r store events old new reported begins ran =
     let from_new : Ran r (new_session store) new events [] reported = subst (λ (s : SessionState S). Ran r s new events [] reported) begins ran in
     subst (λ (s : SessionState S). Ran r (new_session store) s events [] reported) from_new.state from_new
 
 -- every walk is given what is due to it
-pub ran_fair : {S I : Type 0} (r : Rules S I) (store : S) (events : List (Event I)) (reported : List Said)
+pub ran_fair : {S I : Type 0} (r : Rules S I) (store : S) (events : List (Event I)) (reported : List ReplyContent)
     → Ran r (new_session store) (state_after r (new_session store) events) events [] reported → RunsFairly r store events
-ran_fair r store events reported ran = subst (λ (t : List Said). Ran r (new_session store) (state_after r (new_session store) events) events [] t) ran.replies_are ran
+ran_fair r store events reported ran = subst (λ (t : List ReplyContent). Ran r (new_session store) (state_after r (new_session store) events) events [] t) ran.replies_are ran
 
 -- the same for a session that began as a new one
-pub begun_fair : {S I : Type 0} (r : Rules S I) (store : S) (events : List (Event I)) (old new : SessionState S) (reported : List Said)
+pub begun_fair : {S I : Type 0} (r : Rules S I) (store : S) (events : List (Event I)) (old new : SessionState S) (reported : List ReplyContent)
     → old ≡ new_session store → Ran r old new events [] reported → RunsFairly r store events
 begun_fair r store events old new reported begins ran = ran_fair r store events reported (ran_begun r store events old new reported begins ran)
 
 -- such a session leaves the store that the events leave
-pub left_begun : {S I : Type 0} (r : Rules S I) (store : S) (events : List (Event I)) (old new : SessionState S) (reported : List Said)
+pub left_begun : {S I : Type 0} (r : Rules S I) (store : S) (events : List (Event I)) (old new : SessionState S) (reported : List ReplyContent)
     → old ≡ new_session store → Ran r old new events [] reported → new.store ≡ left r store events
 left_begun {S} r store events old new reported begins ran =
     ap (λ (s : SessionState S). s.store) (ran.state ∙ ap (λ (s : SessionState S). state_after r s events) begins)
 
-module _ (kind : FileKind) (reported : List Said) (image lines text_ : List ℕ) (verdict : Verdict) where
+module _ (kind : FileKind) (reported : List ReplyContent) (image lines text_ : List ℕ) (verdict : Verdict) where
   -- replies that report a change save the image
-  pub replied_saves : list_any is_change reported ≡ true → text_ ≡ lines → verdict ≡ replied_verdict kind (λ said. said) reported → (file : List ℕ) → Saves file image text_ verdict ≡ replied kind file reported image lines
+  pub replied_saves : list_any is_change reported ≡ true → text_ ≡ lines → verdict ≡ replied_verdict kind (λ reply. reply) reported → (file : List ℕ) → Saves file image text_ verdict ≡ replied kind file reported image lines
   replied_saves changed text_is verdict_is file =
-      let due = replied_verdict kind (λ said. said) reported in
+      let due = replied_verdict kind (λ reply. reply) reported in
       ap (λ (t : List ℕ). Saves file image t verdict) text_is ∙ ap (Saves file image lines) verdict_is
       ∙ ap (λ (b : Bool). if b then Saves file image lines due else Displays file (text lines due)) (sym changed)
 
   -- others save nothing
-  pub replied_shows : list_any is_change reported ≡ false → text_ ≡ lines → verdict ≡ replied_verdict kind (λ said. said) reported → (file : List ℕ) → Displays file (text text_ verdict) ≡ replied kind file reported image lines
+  pub replied_shows : list_any is_change reported ≡ false → text_ ≡ lines → verdict ≡ replied_verdict kind (λ reply. reply) reported → (file : List ℕ) → Displays file (text text_ verdict) ≡ replied kind file reported image lines
   replied_shows changed text_is verdict_is file =
-      let due = replied_verdict kind (λ said. said) reported in
+      let due = replied_verdict kind (λ reply. reply) reported in
       ap (λ (t : List ℕ). Displays file (text t verdict)) text_is ∙ ap (λ (v : Verdict). Displays file (text lines v)) verdict_is
       ∙ ap (λ (b : Bool). if b then Saves file image lines due else Displays file (text lines due)) (sym changed)
 
 -- what is due after the replies of a session is the effect of the session
 pub session_made : {S I F : Type 0} (kind : FileKind) (r : Rules S I) (image : S → List ℕ) (tail_of : F → List ℕ → List ℕ) (format : S → F) (rewritten : F) → KeepsFormat format rewritten r
-    → (store : S) (events : List (Event I)) (reported : List Said) (bytes : List ℕ) → Ran r (new_session store) (state_after r (new_session store) events) events [] reported → bytes ≡ image (left r store events)
+    → (store : S) (events : List (Event I)) (reported : List ReplyContent) (bytes : List ℕ) → Ran r (new_session store) (state_after r (new_session store) events) events [] reported → bytes ≡ image (left r store events)
     → (file : List ℕ) → replied kind file reported bytes (reply_texts_by tail_of rewritten (format store) reported) ≡ session_effect kind r image (λ k. reply_text_by tail_of (format k)) file store events
 session_made kind r image tail_of format rewritten keeps store events reported bytes ran bytes_are file =
     let due = replies (moments r store events) in
-    ap (λ (t : List Said). replied kind file t bytes (reply_texts_by tail_of rewritten (format store) t)) ran.replies_are
+    ap (λ (t : List ReplyContent). replied kind file t bytes (reply_texts_by tail_of rewritten (format store) t)) ran.replies_are
     ∙ ap (λ (b : List ℕ). replied kind file due b (reply_texts_by tail_of rewritten (format store) due)) bytes_are
     ∙ ap (replied kind file due (image (left r store events))) (sym (lines_of r format rewritten keeps tail_of (new_session store) events))
 

@@ -2,7 +2,7 @@
 use Rattle.std.specs.Prelude.{ℕ, Bool, true, false, List, [], ◌∷◌, ◌++◌}
 use Rattle.std.specs.List.{list_any}
 use Rattle.krb_walk.specs.declared.event.Event.{Event}
-use Rattle.krb_walk.specs.Said.{Said, Refused}
+use Rattle.krb_walk.specs.ReplyContent.{ReplyContent, Refused}
 use Rattle.krb_walk.specs.Events.{SessionState, session_of}
 use Rattle.krb_walk.specs.History.{state_after}
 use Rattle.krb_ccache.specs.Credential.{CredParts}
@@ -12,7 +12,7 @@ use Rattle.krb_ccache.specs.Open.{InMemory}
 use Rattle.krb_ccache.specs.Store.{CacheState, image_of}
 use Rattle.krb_files.specs.Loading.{Answer}
 use Rattle.krb_files.specs.Plan.{Ends, Holds}
-use Rattle.krb_cache_text.specs.declared.asked.Asked.TheVariants as asked
+use Rattle.krb_cache_text.specs.declared.request.Request.TheVariants as request
 use Rattle.krb_cache_text.specs.Reply.{cache_reply_text}
 use Rattle.krb_cache_text.specs.Script.{CacheLineParts}
 use Rattle.krb_driver.specs.declared.verdict.FileKind.TheVariants.{Cache}
@@ -23,9 +23,9 @@ use Rattle.krb_editors.specs.Sessions as session
 use Rattle.krb_editors.specs.Sessions.{may_change}
 
 -- a reply is a refusal
-abbrev pub is_refusal : Said → Bool
+abbrev pub is_refusal : ReplyContent → Bool
 is_refusal (Refused code) = true
-is_refusal said = false
+is_refusal other = false
 
 -- a session over a cache in memory
 abbrev pub cache_session : SessionState InMemory → SessionState CacheState
@@ -33,13 +33,13 @@ cache_session s = session_of (λ k. k.state) s
 
 -- a line that may change a cache
 abbrev pub line_may_change : CacheLineParts → Bool
-line_may_change (asked.Event event) = may_change event
-line_may_change (asked.Setting setting) = true
+line_may_change (request.Event event) = may_change event
+line_may_change (request.Setting setting) = true
 
 -- the events of a line when the run reaches it: its event, or those that set its value
 abbrev pub line_events : SessionState CacheState → CacheLineParts → List (Event CredParts)
-line_events s (asked.Event event) = event ∷ []
-line_events s (asked.Setting setting) = setting_events s.store setting
+line_events s (request.Event event) = event ∷ []
+line_events s (request.Setting setting) = setting_events s.store setting
 
 -- the events of lines in order, each line when the run reaches it
 abbrev pub lines_events : SessionState CacheState → List CacheLineParts → List (Event CredParts)

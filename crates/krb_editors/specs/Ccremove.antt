@@ -9,7 +9,7 @@ use Rattle.krb_ccache.specs.Store.{CacheState, PlacedCredential, image_of, place
 use Rattle.krb_files.specs.declared.files.Files.{Ghosts}
 use Rattle.krb_files.specs.Bytes.{Watch}
 use Rattle.krb_files.specs.Plan.{Ends, Holds}
-use Rattle.krb_audit.specs.Tickets.{asked_tickets, names_ticket, removed_ticket_line}
+use Rattle.krb_audit.specs.Tickets.{selected_tickets, names_ticket, removed_ticket_line}
 use Rattle.krb_editors.specs.declared.ccremove.TicketOptions.{TicketOptions}
 use Rattle.krb_driver.specs.declared.error.RunError.{RunError}
 use Rattle.krb_driver.specs.declared.error.RunError.TheVariants.{ClockNotRead}
@@ -53,7 +53,7 @@ module _ {A : Type 0} (o : TicketOptions A) (file : List ℕ) where
 
   -- the file is held, unless it is a dry run, and opened; the selected tickets of its cache are removed
   abbrev pub ccremove_plan : Option ℕ → CommandPlan
-  ccremove_plan ended = Holds (not o.dry_run) file (opens file writable_in (λ k. Ends (removes k (asked_tickets o.server ended k))))
+  ccremove_plan ended = Holds (not o.dry_run) file (opens file writable_in (λ k. Ends (removes k (selected_tickets o.server ended k))))
 
 module _ {F A : Type 0} (trait : Ghosts F) (file : List ℕ) (o : TicketOptions A) (old new : F) (out out' : Watch) (err err' : ErrorWatch) (status : ℕ) where
   -- a run of ccremove, or the error if the clock was needed and not read

@@ -10,10 +10,10 @@ use Rattle.krb_files.specs.Plan.{Ends, Holds}
 use Rattle.krb_text.specs.Etype.{etype_in}
 use Rattle.krb_text.specs.Found.{removed_line}
 use Rattle.krb_text.specs.Numbers.{number_in}
-use Rattle.krb_audit.specs.declared.selection.AskedKvno.{AskedKvno}
-use Rattle.krb_audit.specs.declared.selection.AskedKvno.TheVariants.{Any, Exactly, Old}
+use Rattle.krb_audit.specs.declared.selection.SelectedKvno.{SelectedKvno}
+use Rattle.krb_audit.specs.declared.selection.SelectedKvno.TheVariants.{Any, Exactly, Old}
 use Rattle.krb_audit.specs.declared.selection.Selection.{Selection}
-use Rattle.krb_audit.specs.Selection.{asked, is_named}
+use Rattle.krb_audit.specs.Selection.{selected_in, is_named}
 use Rattle.krb_editors.specs.declared.ktremove.RemoveOptions.{RemoveOptions}
 use Rattle.krb_driver.specs.declared.verdict.FileKind.TheVariants.{Keytab}
 use Rattle.krb_driver.specs.declared.verdict.Verdict.{Verdict}
@@ -24,7 +24,7 @@ use Rattle.krb_driver.specs.Mistakes.{MistakeParts, NoEtype, NoVersion, NothingS
 use Rattle.krb_driver.specs.Opening.{whole_in}
 
 -- old entries are selected
-abbrev pub asks_for_old : AskedKvno → Bool
+abbrev pub asks_for_old : SelectedKvno → Bool
 asks_for_old Old = true
 asks_for_old kvno = false
 
@@ -48,7 +48,7 @@ removes o file k xs =
 
 -- the file is held, unless it is a dry run, and opened; the selected entries of its keytab are removed
 abbrev pub ktremove_plan : {A : Type 0} → RemoveOptions A → List ℕ → CommandPlan
-ktremove_plan o file = Holds (not o.dry_run) file (opens file (whole_in o.v1_order) (λ k. Ends (removes o file k (asked o.selection k))))
+ktremove_plan o file = Holds (not o.dry_run) file (opens file (whole_in o.v1_order) (λ k. Ends (removes o file k (selected_in o.selection k))))
 
 -- ---- what the words ask for
 
@@ -61,7 +61,7 @@ odd_selection words =
     else None))
 
 -- the kvnos that a word selects: `old`, or a number
-abbrev pub kvno_in : List ℕ → Option AskedKvno
+abbrev pub kvno_in : List ℕ → Option SelectedKvno
 kvno_in word = if bytes_eq word (codes "old") then Some Old else option_map Exactly (number_in 32 word)
 
 -- the mistake of a word that is neither `old` nor a kvno
@@ -81,7 +81,7 @@ remove_mistake words =
     (option_or (bad_etype (words.values (codes "etype"))) (option_and_then bad_name (slice_get (words.values (codes "name")) 0))))
 
 -- the kvnos are those that the word selects, or any without a word
-abbrev pub IsSpelledKvno : Option (List ℕ) → AskedKvno → Type 0
+abbrev pub IsSpelledKvno : Option (List ℕ) → SelectedKvno → Type 0
 IsSpelledKvno None kvno = kvno ≡ Any
 IsSpelledKvno (Some word) kvno = kvno_in word ≡ Some kvno
 

@@ -3,7 +3,7 @@ use Rattle.std.specs.Prelude.{ℕ, Bool, true, false, List, [], if◌then◌else
 use Rattle.std.specs.List.{flat_map, list_any}
 use Rattle.krb_walk.specs.declared.event.Event.{Event}
 use Rattle.krb_walk.specs.declared.event.Event.TheVariants as event
-use Rattle.krb_walk.specs.Said.{Said, Placed, Gone, Rewritten}
+use Rattle.krb_walk.specs.ReplyContent.{ReplyContent, Placed, Gone, Rewritten}
 use Rattle.krb_walk.specs.Rules.{Rules}
 use Rattle.krb_walk.specs.Events.{SessionState}
 use Rattle.krb_walk.specs.History.{Moment, history, replies, state_after}
@@ -20,16 +20,16 @@ may_change event.Rewrite = true
 may_change event = false
 
 -- a reply that reports a change of the store
-abbrev pub is_change : Said → Bool
+abbrev pub is_change : ReplyContent → Bool
 is_change (Placed place) = true
 is_change (Gone place) = true
 is_change (Rewritten end) = true
-is_change said = false
+is_change other = false
 
 -- the effect of replies over a file of that kind: the image is saved if they report a change, and the lines printed
-abbrev pub replied : FileKind → List ℕ → List Said → List ℕ → List ℕ → Effect
+abbrev pub replied : FileKind → List ℕ → List ReplyContent → List ℕ → List ℕ → Effect
 replied kind file reported image lines =
-    let verdict = replied_verdict kind (λ said. said) reported in
+    let verdict = replied_verdict kind (λ reply. reply) reported in
     if list_any is_change reported then Saves file image lines verdict else Displays file (text lines verdict)
 
 -- a new session over a store
@@ -49,7 +49,7 @@ module _ {S I : Type 0} (rules : Rules S I) (store : S) (events : List (Event I)
   abbrev pub RunsFairly : Type 0
   RunsFairly = Ran rules (new_session store) (state_after rules (new_session store) events) events [] (replies moments)
 
-module _ {S I : Type 0} (kind : FileKind) (rules : Rules S I) (image : S → List ℕ) (line : S → Said → List ℕ) (file : List ℕ) (store : S) (events : List (Event I)) where
+module _ {S I : Type 0} (kind : FileKind) (rules : Rules S I) (image : S → List ℕ) (line : S → ReplyContent → List ℕ) (file : List ℕ) (store : S) (events : List (Event I)) where
   -- the lines of the replies, each by the store just before its event
   abbrev pub reply_lines : List ℕ
   reply_lines = flat_map (λ m. line m.before.store m.reply) (moments rules store events)

@@ -6,7 +6,7 @@ ghost use Rattle.krb_walk.specs.declared.event.Event.TheVariants.{Cut};
 ghost use Rattle.krb_walk.specs.Events.{reply_to};
 ghost use Rattle.krb_walk.specs.History.{state_after};
 ghost use Rattle.krb_walk.specs.Ran.{Ran};
-ghost use Rattle.krb_walk.specs.Said.{said};
+ghost use Rattle.krb_walk.specs.ReplyContent.{content_of};
 ghost use Rattle.krb_ccache.specs.Placed.{cache_rules};
 ghost use Rattle.krb_ccache.specs.SetConfig.{setting_events};
 ghost use Rattle.krb_cache_text.specs.Script.{cache_line_in};
@@ -17,7 +17,7 @@ ghost use Rattle.krb_editors.specs.Sessions.{left, new_session};
 
 use crate::edited::{may_change, replied};
 use crate::scripted::read_script;
-use krb_cache_text::{Asked, CacheLine, CcFormat};
+use krb_cache_text::{Request, CacheLine, CcFormat};
 use krb_ccache::{Ccache, Cred, Setting};
 use krb_driver::{
     Command, CommandName, CommandWords, FileError, FileKind, Made, Output, Streams, Word,
@@ -74,7 +74,7 @@ fn apply<A: Allocator + Copy>(
     replies: &mut Vec<Reply<A>, A>,
 ) -> Result<bool, NoMemory>
     ensures ran { OnOk result (Ran cache_rules (cache_session session.old) (cache_session session.new)
-        (event.now ∷ []) (map said replies.old.items) (map said replies.new.items)) }
+        (event.now ∷ []) (map content_of replies.old.items) (map content_of replies.new.items)) }
     ensures refused { IfOk result (λ b. b ≡ is_refusal (reply_to cache_rules (cache_session session.old) event.now)) }
 {
     let reply = session.apply(event)?;
@@ -91,7 +91,7 @@ fn set_value<A: Allocator + Copy>(
     replies: &mut Vec<Reply<A>, A>,
 ) -> Result<(), NoMemory>
     ensures { OnOk result (Ran cache_rules (cache_session session.old) (cache_session session.new)
-        (setting_events session.old.store.state setting.now) (map said replies.old.items) (map said replies.new.items)) }
+        (setting_events session.old.store.state setting.now) (map content_of replies.old.items) (map content_of replies.new.items)) }
 {
     let entry = session.store().setting_entry(alloc, setting)?;
     let places = session.store().setting_places(alloc, setting)?;
@@ -111,14 +111,14 @@ fn run_line<A: Allocator + Copy>(
     replies: &mut Vec<Reply<A>, A>,
 ) -> Result<(), NoMemory>
     ensures { OnOk result (Ran cache_rules (cache_session session.old) (cache_session session.new)
-        (line_events (cache_session session.old) line.now) (map said replies.old.items) (map said replies.new.items)) }
+        (line_events (cache_session session.old) line.now) (map content_of replies.old.items) (map content_of replies.new.items)) }
 {
     match line {
-        Asked::Event(event) => {
+        Request::Event(event) => {
             apply(session, event, replies)?;
             Ok(())
         }
-        Asked::Setting(setting) => set_value(alloc, session, &setting.as_setting(), replies),
+        Request::Setting(setting) => set_value(alloc, session, &setting.as_setting(), replies),
     }
 }
 
@@ -131,7 +131,7 @@ fn run_lines<A: Allocator + Copy>(
 ) -> Result<Ccache<A>, NoMemory>
     ensures ran { OnOk result (Ran cache_rules (new_session cache.state)
         (state_after cache_rules (new_session cache.state) (cache_events lines.now cache.state))
-        (cache_events lines.now cache.state) (map said replies.old.items) (map said replies.new.items)) }
+        (cache_events lines.now cache.state) (map content_of replies.old.items) (map content_of replies.new.items)) }
     ensures left { IfOk result (λ k. k.state ≡ left cache_rules cache.state (cache_events lines.now cache.state)) }
 {
     let mut session = Session::new(alloc, cache);
@@ -161,8 +161,8 @@ fn line_may_change<A: Allocator>(line: &CacheLine<A>) -> bool
     ensures { result ≡ line_may_change line.now }
 {
     match line {
-        Asked::Event(event) => may_change(event),
-        Asked::Setting(_) => true,
+        Request::Event(event) => may_change(event),
+        Request::Setting(_) => true,
     }
 }
 

@@ -2,7 +2,7 @@
 
 ghost use Rattle.std.specs.Prelude.{◌≡◌, IfOk, IsFalse, option_map};
 ghost use Rattle.krb_ccache.specs.Store.{image_of};
-ghost use Rattle.krb_audit.specs.Tickets.{asked_tickets};
+ghost use Rattle.krb_audit.specs.Tickets.{selected_tickets};
 ghost use Rattle.krb_editors.specs.Ccremove.{RunsCcremove, SpellsTickets, cache_after, ended_by, none_verdict, odd_tickets, removes, ticket_mistake};
 ghost use Rattle.krb_driver.specs.Commands.{text_effect};
 ghost use Rattle.krb_driver.specs.Effects.{IsMade};
@@ -12,7 +12,7 @@ use krb_audit::select_tickets;
 use krb_ccache::Ccache;
 use krb_driver::{
     Command, CommandName, CommandWords, DRY_RUN, FileError, FileKind, Made, Matches, Mistake,
-    Output, RunError, Streams, Verdict, Word, WordFault, asked_name, first_value, hold_if,
+    Output, RunError, Streams, Verdict, Word, WordFault, selected_name, first_value, hold_if,
     open_writable, report, run, times_given,
 };
 use krb_files::Files;
@@ -77,7 +77,7 @@ pub fn ticket_options<'a, M: Matches<'a>>(
         return Err(WordFault::of(mistake));
     }
     Ok(TicketOptions {
-        server: asked_name(alloc, first_value(matches, "service"))?,
+        server: selected_name(alloc, first_value(matches, "service"))?,
         expired: matches.flag("expired"),
         dry_run: matches.flag("dry-run"),
     })
@@ -135,7 +135,7 @@ fn remove<'a, A: Allocator + Copy, B: Allocator>(
     cache: Ccache<A>,
 ) -> Result<Made<A, Output<A>>, FileError<'a>>
     ensures { IsMade (removes command.now.options.now command.now.file.now cache.state
-        (asked_tickets command.now.options.now.server command.now.ended_by cache.state))
+        (selected_tickets command.now.options.now.server command.now.ended_by cache.state))
         (text_effect command.now.file.now result) }
 {
     let options = command.options;

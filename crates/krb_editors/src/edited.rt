@@ -2,7 +2,7 @@
 
 ghost use Rattle.std.specs.Prelude.{◌≡◌, ℕ, List, IfOk, Ok, map};
 ghost use Rattle.std.specs.List.{list_any};
-ghost use Rattle.krb_walk.specs.Said.{said};
+ghost use Rattle.krb_walk.specs.ReplyContent.{content_of};
 ghost use Rattle.krb_text.specs.Reply.{reply_texts_by};
 ghost use Rattle.krb_driver.specs.Commands.{text_effect};
 ghost use Rattle.krb_editors.specs.Sessions.{is_change, may_change, replied};
@@ -32,7 +32,7 @@ pub fn may_any_change<I>(events: &[Event<I>]) -> bool
 
 // Returns whether a reply reports a change of the file.
 fn is_change<A: Allocator>(reply: &Reply<A>) -> bool
-    ensures { result ≡ is_change (said reply.now) }
+    ensures { result ≡ is_change (content_of reply.now) }
 {
     match reply {
         Reply::Placed(_) | Reply::Gone(_) | Reply::Rewritten(_) => true,
@@ -41,7 +41,7 @@ fn is_change<A: Allocator>(reply: &Reply<A>) -> bool
 }
 
 fn are_changes<A: Allocator>(replies: &[Reply<A>]) -> bool
-    ensures { result ≡ list_any (λ r. is_change (said r)) replies.now }
+    ensures { result ≡ list_any (λ r. is_change (content_of r)) replies.now }
 {
     replies.iter().any(is_change)
 }
@@ -55,7 +55,7 @@ pub fn replied<A: Allocator + Copy, F: RecordFormat>(
     image: Vec<u8, A>,
 ) -> Result<Made<A, Output<A>>, NoMemory>
     ensures { IfOk result (λ made. (file : List ℕ) → text_effect file (Ok made)
-        ≡ replied kind file (map said replies.now) image.items (reply_texts_by F.tail_of F.rewritten format (map said replies.now))) }
+        ≡ replied kind file (map content_of replies.now) image.items (reply_texts_by F.tail_of F.rewritten format (map content_of replies.now))) }
 {
     let mut text = Vec::new(alloc);
     reply_lines(format, replies, &mut text)?;

@@ -3,16 +3,16 @@
 ghost use Rattle.std.specs.Prelude.{◌≡◌, IfErr, IfOk, IsFalse, None, OnOk, Some, codes, find, is_none, map, option_map};
 ghost use Rattle.std.specs.List.{filter_map};
 ghost use Rattle.krb_text.specs.Etype.{etype_in};
-ghost use Rattle.krb_audit.specs.Selection.{asked};
+ghost use Rattle.krb_audit.specs.Selection.{selected_in};
 ghost use Rattle.krb_driver.specs.Commands.{RunsCommand, always, any, text_effect};
 ghost use Rattle.krb_driver.specs.Effects.{IsMade};
 ghost use Rattle.krb_editors.specs.Ktremove.{IsSpelledKvno, SpellsRemoval, bad_etype, bad_kvno, ktremove_plan, kvno_in, none_verdict, odd_selection, remove_mistake, removes};
 ghost use Rattle.krb_driver.specs.Mistakes.{Reads, mistake_parts};
 
-use krb_audit::{AskedKvno, Selection, select};
+use krb_audit::{SelectedKvno, Selection, select};
 use krb_driver::{
     Command, CommandName, CommandWords, DRY_RUN, FileError, FileKind, Made, Matches, Mistake,
-    Output, Streams, V1_BIG, Verdict, Word, WordFault, asked_name, first_value, hold_if,
+    Output, Streams, V1_BIG, Verdict, Word, WordFault, selected_name, first_value, hold_if,
     open_whole, run, times_given, v1_order,
 };
 use krb_files::Files;
@@ -65,13 +65,13 @@ pub struct RemoveOptions<A: Allocator> {
 }
 
 // Parses a word as `old` or a kvno.
-fn kvno_of(word: &str) -> Option<AskedKvno>
+fn kvno_of(word: &str) -> Option<SelectedKvno>
     ensures { result ≡ kvno_in word.now }
 {
     if word == "old" {
-        return Some(AskedKvno::Old);
+        return Some(SelectedKvno::Old);
     }
-    Some(AskedKvno::Exactly(parse_u32(word.as_bytes())?))
+    Some(SelectedKvno::Exactly(parse_u32(word.as_bytes())?))
 }
 
 // Returns the first word that is not an enctype.
@@ -118,13 +118,13 @@ fn odd_selection<'a, M: Matches<'a>>(matches: &M) -> Option<Mistake<'a>>
 }
 
 // Returns the kvnos that a word selects, or `Any` without a word.
-fn asked_kvno<'a>(word: Option<&'a str>) -> Result<AskedKvno, Mistake<'a>>
+fn asked_kvno<'a>(word: Option<&'a str>) -> Result<SelectedKvno, Mistake<'a>>
     ensures ok { IfOk result (IsSpelledKvno (option_map (λ word. word.now) word.entry)) }
     ensures readable { OnOk result (bad_kvno (option_map (λ word. word.now) word.entry) ≡ None) }
     ensures mistake { IfErr result (λ mistake. bad_kvno (option_map (λ word. word.now) word.entry) ≡ Some (mistake_parts mistake)) }
 {
     let Some(word) = word else {
-        return Ok(AskedKvno::Any);
+        return Ok(SelectedKvno::Any);
     };
     match kvno_of(word) {
         Some(kvno) => Ok(kvno),
@@ -169,7 +169,7 @@ pub fn remove_options<'a, M: Matches<'a>>(
     if let Some(mistake) = bad_etype(matches) {
         return Err(WordFault::of(mistake));
     }
-    let name = asked_name(alloc, first_value(matches, "name"))?;
+    let name = selected_name(alloc, first_value(matches, "name"))?;
     let Ok(enctypes) = etypes_of(alloc, matches.values("etype")) else {
         return Err(WordFault::NoMemory);
     };
@@ -196,7 +196,7 @@ fn none_verdict<B: Allocator>(selection: &Selection<B>, is_named: bool) -> Verdi
     ensures { result ≡ none_verdict selection.now is_named }
 {
     let is_any = selection.name.is_none() && selection.enctypes.is_empty();
-    if selection.kvno == AskedKvno::Old && (is_any || is_named) {
+    if selection.kvno == SelectedKvno::Old && (is_any || is_named) {
         Verdict::Well
     } else {
         Verdict::NothingToRemove(FileKind::Keytab)
@@ -209,7 +209,7 @@ fn remove<'a, A: Allocator + Copy, B: Allocator>(
     command: &RemoveEntries<'a, B>,
     mut keytab: Keytab<A>,
 ) -> Result<Made<A, Output<A>>, FileError<'a>>
-    ensures { IsMade (removes command.now.options.now command.now.file.now keytab.state (asked command.now.options.now.selection keytab.state))
+    ensures { IsMade (removes command.now.options.now command.now.file.now keytab.state (selected_in command.now.options.now.selection keytab.state))
         (text_effect command.now.file.now result) }
 {
     let options = command.options;

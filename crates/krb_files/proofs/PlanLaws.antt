@@ -127,8 +127,8 @@ module _ {F R : Type 0} (trait : Ghosts F) (faults : Faults R) where
         (name, ap (λ (a : Answer). by faults (Loads name then_) (a ∷ answers)) failed),
       ))
   comes-loaded name then_ before old between new answer answers h same loads l next (inr (inl spent)) = inr (inr (name, ap (λ (a : Answer). by faults (Loads name then_) (a ∷ answers)) spent))
-  comes-loaded name then_ before old between new answer answers h same loads l next (inr (inr stands)) =
-      let is : answer ≡ loaded (before name) most_bytes = stands ∙ ap (λ (x : Option (List ℕ)). loaded x most_bytes) (same name) in
+  comes-loaded name then_ before old between new answer answers h same loads l next (inr (inr is_what_is_there)) =
+      let is : answer ≡ loaded (before name) most_bytes = is_what_is_there ∙ ap (λ (x : Option (List ℕ)). loaded x most_bytes) (same name) in
       let due = follow before (Loads name then_) in
       comes-later due (by faults (Loads name then_) (answer ∷ answers)) old between new loads.count (loaded-lasts (then_ answer) between answers new l).count
       (subst (λ (r : R). Comes due between new r) (sym (ap (λ (a : Answer). by faults (Loads name then_) (a ∷ answers)) is ∙ by-loaded name then_ answers (before name)))
@@ -154,4 +154,4 @@ module _ {F R : Type 0} (trait : Ghosts F) (faults : Faults R) where
       let loads = l.1.0 in
       comes-loaded name then_ before old l.0 new answer answers h same loads l.1.1
       (comes (then_ (loaded (before name) most_bytes)) before l.0 answers new (loads.honest h) (same-trans before (trait.file old) (trait.file l.0) same (loads.same h)))
-      (loads.stands h)
+      (loads.is_what_is_there h)

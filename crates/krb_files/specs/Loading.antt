@@ -32,7 +32,7 @@ module _ {F : Type 0} (trait : Ghosts F) (old : F) (name : List ℕ) where
     pub held : trait.is_held new ≡ trait.is_held old
     pub honest : trait.is_honest old → trait.is_honest new
     pub same : trait.is_honest old → SameFiles (trait.file old) (trait.file new)
-    pub stands : trait.is_honest old → (answer ≡ Err load.Failed) ⊎ (answer ≡ Err load.NoMemory) ⊎ (answer ≡ loaded (trait.file old name) most_bytes)
+    pub is_what_is_there : trait.is_honest old → (answer ≡ Err load.Failed) ⊎ (answer ≡ Err load.NoMemory) ⊎ (answer ≡ loaded (trait.file old name) most_bytes)
 
   -- these bytes were saved under a name, or not, by the result
   pub record SavesFile (bytes : List ℕ) (answer : Result (Unit {0}) SaveFault) (new : F) : Type 0 where

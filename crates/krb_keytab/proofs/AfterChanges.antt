@@ -15,7 +15,7 @@ use Rattle.krb_keytab.specs.Changes.{PlacedCell, zero_hole, with_zeros, record_i
 use Rattle.krb_keytab.proofs.CellLemmas.{chosen}
 use Rattle.krb_keytab.proofs.Cuts.{live_there}
 use Rattle.krb_keytab.proofs.EntryLemmas.{entry_again}
-use Rattle.krb_keytab.proofs.Replacements.{StandsAt, live_stands, hole_stands, replaced_cells}
+use Rattle.krb_keytab.proofs.Replacements.{IsAt, live_is_at, hole_is_at, replaced_cells}
 use Rattle.krb_keytab.proofs.Removals.{holds}
 use Rattle.krb_keytab.proofs.WrittenLemmas.{written_spells}
 
@@ -61,7 +61,7 @@ reads k e p zeros fit is held =
     ap (λ (b : Option (List ℕ)). b >>= entry_at k.format) held
     ∙ entry_again k.format (read_back k.format e) (written_form k.format e ++ replicate {A = ℕ} zeros 0) (written_spells k.format e zeros fit is)
 
-in_hole : (k : KeytabState) (e : EntryParts) (p : ℕ) (c : Cell) → fits k.format e ≡ true → IsEntry e → StandsAt k.contents.cells 2 p c → entry_at_place (with_record_in k (written_form k.format e) p) p ≡ Some (read_back k.format e)
+in_hole : (k : KeytabState) (e : EntryParts) (p : ℕ) (c : Cell) → fits k.format e ≡ true → IsEntry e → IsAt k.contents.cells 2 p c → entry_at_place (with_record_in k (written_form k.format e) p) p ≡ Some (read_back k.format e)
 in_hole k e p c fit is s =
     let x = written_form k.format e in
     let held = holds (with_record_in k x p) s.front s.back (with_zeros x (size c)) p (replaced_cells (record_in x) k.contents.cells p c s) s.place in
@@ -80,7 +80,7 @@ added_reads k e given is put =
     let p = put_gives k e given put in
     let Reads : ℕ × KeytabState → Type 0 = λ y. entry_at_place y.1 y.0 ≡ Some (read_back k.format e) in
     elim p.how [
-      | inl h ↦ subst Reads h.gives (in_hole k e h.hole.0 h.hole.1 p.fit is (hole_stands k.contents.cells 2 (length (written_form k.format e)) h.hole.0 h.hole.1 h.is).stands)
+      | inl h ↦ subst Reads h.gives (in_hole k e h.hole.0 h.hole.1 p.fit is (hole_is_at k.contents.cells 2 (length (written_form k.format e)) h.hole.0 h.hole.1 h.is).is_at)
       | inr last ↦ subst Reads last (behind k e p.fit is)
     ]
 
@@ -108,6 +108,6 @@ pub removed_none : (k : KeytabState) (p : ℕ) (new : KeytabState) → cut_resul
 removed_none k p new cut =
     let c = cut_gives k p new cut in
     let old = Live c.bytes in
-    let s = live_stands k.contents.cells 2 p c.bytes c.held in
+    let s = live_is_at k.contents.cells 2 p c.bytes c.held in
     ap (λ (x : KeytabState). store_bytes (store_of x) p) (sym c.gives)
     ∙ ap (λ (cs : List Cell). bytes_from 2 (map store_cell cs) p) (replaced_cells zero_hole k.contents.cells p old s) ∙ live_there s.front s.back (zero_hole old) p s.place

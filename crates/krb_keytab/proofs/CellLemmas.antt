@@ -17,7 +17,7 @@ use Rattle.krb_keytab.specs.declared.length.Length.TheVariants as says
 use Rattle.krb_keytab.specs.Entry.{entry_at}
 use Rattle.krb_keytab.specs.Length.{length_of, field_of, HasField}
 use Rattle.krb_keytab.specs.Cells.{Cell, Live, Free, End, Bare, Mark, Damaged, Contents, bytes_of, length_of_cell, length_field, cell, end_bytes, spelling, short_end, next_of_length, next_by, next, keytab_format, contents, IsCell, IsEnd, IsSound, IsSpelled, image}
-use Rattle.krb_keytab.proofs.LengthLemmas.{said, length_again, cell_has}
+use Rattle.krb_keytab.proofs.LengthLemmas.{content_of, length_again, cell_has}
 
 pub chosen : {A : Type 0} (b : Bool) (x y z : A) → cond b x y ≡ z → ((b ≡ true) × (x ≡ z)) ⊎ ((b ≡ false) × (y ≡ z))
 chosen true x y z e = inl (refl, e)
@@ -56,9 +56,9 @@ free_taken f bytes n rest t has long =
     let len : length (take n rest) ≡ n = omega (arith, length-take n rest) in
     taken f bytes rest (Free (take n rest)) n (2 ^ 32 - n) t refl (ap (λ (k : ℕ). 2 ^ 32 - k) (sym len)) (omega (arith, len, has.0), omega (arith, len, has.1))
 
-told_is : (f : KtFormat) (bytes rest : List ℕ) (l : Length) (s : NextCell Cell End) → next f bytes ≡ s → Takes bytes (digits (order_of f) w32 (field_of l)) rest → HasField l → next_of_length f bytes rest l ≡ s → IsNext f bytes s
-told_is f bytes rest says.End s whole t has e = subst (IsNext f bytes) e (record { parts = t.parts; sound = tt })
-told_is f bytes rest (says.Live n) s whole t has e =
+first_cell_is : (f : KtFormat) (bytes rest : List ℕ) (l : Length) (s : NextCell Cell End) → next f bytes ≡ s → Takes bytes (digits (order_of f) w32 (field_of l)) rest → HasField l → next_of_length f bytes rest l ≡ s → IsNext f bytes s
+first_cell_is f bytes rest says.End s whole t has e = subst (IsNext f bytes) e (record { parts = t.parts; sound = tt })
+first_cell_is f bytes rest (says.Live n) s whole t has e =
     let P = IsNext f bytes in
     elim (chosen (ltb (length rest) n) _ _ s e) [
       | inl q ↦ subst P q.1 (record { parts = refl; sound = whole ∙ sym q.1 })
@@ -68,7 +68,7 @@ told_is f bytes rest (says.Live n) s whole t has e =
             | inr r ↦ subst P r.1 (record { parts = refl; sound = whole ∙ sym r.1 })
           ]
     ]
-told_is f bytes rest (says.Free n) s whole t has e =
+first_cell_is f bytes rest (says.Free n) s whole t has e =
     let P = IsNext f bytes in
     elim (chosen (ltb (length rest) n) _ _ s e) [
       | inl q ↦ subst P q.1 (record { parts = refl; sound = whole ∙ sym q.1 })
@@ -84,8 +84,8 @@ next_by_is f bytes s None fits whole got e = short_is f bytes s whole e
 next_by_is f bytes s (Some n) fits whole got e =
     let t = number_takes (order_of f) w32 (2 ^ 32) (wide32 (order_of f)) bytes n.0 n.1 fits got in
     let l = length_of n.0 in
-    let is = said n.0 l t.1 refl in
-    told_is f bytes n.1 l s whole (subst (λ (m : ℕ). Takes bytes (digits (order_of f) w32 m) n.1) (sym is.field) t.0) is.has e
+    let is = content_of n.0 l t.1 refl in
+    first_cell_is f bytes n.1 l s whole (subst (λ (m : ℕ). Takes bytes (digits (order_of f) w32 m) n.1) (sym is.field) t.0) is.has e
 
 -- what one read returns is what the bytes spell
 pub next_is : (f : KtFormat) (bytes : List ℕ) (s : NextCell Cell End) → IsBytes bytes → next f bytes ≡ s → IsNext f bytes s

@@ -19,7 +19,7 @@ use Rattle.krb_keytab.specs.Changes.{PlacedCell, placed_cells, replaced_at, zero
 use Rattle.krb_keytab.specs.Form.{IsRecord}
 use Rattle.krb_keytab.proofs.CellLemmas.{contents_spelled, sound_size}
 use Rattle.krb_keytab.proofs.Cuts.{end_place-append}
-use Rattle.krb_keytab.proofs.Replacements.{StandsAt, live_stands, stands_sound, hole_stands, replaced_cells, IsReplaced, replaced}
+use Rattle.krb_keytab.proofs.Replacements.{IsAt, live_is_at, is_at_sound, hole_is_at, replaced_cells, IsReplaced, replaced}
 
 -- the empty list of bytes holds no cells
 pub contents_none : (f : KtFormat) → contents f [] ≡ record { cells = []; end = Bare }
@@ -38,7 +38,7 @@ pub as_many : (f : KtFormat) (old new : List ℕ) (change : Cell → Cell) (p : 
 as_many f old new change p e end changed = ap (λ (k : Contents). length k.cells) changed.contents ∙ replaced_len 2 change p (contents f (drop 2 old)).cells
 
 -- a cell ends where the cells do, or before
-pub ends_within : (cs : List Cell) (p : ℕ) (c : Cell) → StandsAt cs 2 p c → p + 4 + size c ≤ end_place 2 cs
+pub ends_within : (cs : List Cell) (p : ℕ) (c : Cell) → IsAt cs 2 p c → p + 4 + size c ≤ end_place 2 cs
 ends_within cs p c s =
     let at : p ≡ end_place 2 s.front = s.place in
     let whole : end_place 2 cs ≡ end_place (p + (4 + size c)) s.back =
@@ -46,23 +46,23 @@ ends_within cs p c s =
     omega (arith, whole, end_from-ge (p + (4 + size c)) (map store_cell s.back))
 
 -- what is known of a cell of an image
-pub record StandsIn (f : KtFormat) (image : List ℕ) (p : ℕ) (c : Cell) : Type 0 where
+pub record IsIn (f : KtFormat) (image : List ℕ) (p : ℕ) (c : Cell) : Type 0 where
   pub room : p + 4 + size c ≤ length image
   pub sound : IsCell f c
 
-pub stands_in : (f : KtFormat) (image : List ℕ) (p : ℕ) (c : Cell) (end : CellsEnd) → IsBytes image → IsKnownEnd f image end → StandsAt (contents f (drop 2 image)).cells 2 p c → StandsIn f image p c
-stands_in f image p c end fits known s =
+pub is_in : (f : KtFormat) (image : List ℕ) (p : ℕ) (c : Cell) (end : CellsEnd) → IsBytes image → IsKnownEnd f image end → IsAt (contents f (drop 2 image)).cells 2 p c → IsIn f image p c
+is_in f image p c end fits known s =
     let cs = (contents f (drop 2 image)).cells in
     let stops = known.place in
     let within = known.within in
     let sound = (contents_spelled f (drop 2 image) (IsBytes-drop 2 image fits)).sound in
     record {
       room = omega (arith, ends_within cs p c s, stops, within);
-      sound = stands_sound f cs 2 p c sound.cells s;
+      sound = is_at_sound f cs 2 p c sound.cells s;
     }
 
-pub live_in : (f : KtFormat) (image : List ℕ) (p : ℕ) (b : List ℕ) (end : CellsEnd) → IsBytes image → IsKnownEnd f image end → Some b ≡ live_bytes (store_of_image f image) p → StandsIn f image p (Live b)
-live_in f image p b end fits known live = stands_in f image p (Live b) end fits known (live_stands (contents f (drop 2 image)).cells 2 p b (sym live))
+pub live_in : (f : KtFormat) (image : List ℕ) (p : ℕ) (b : List ℕ) (end : CellsEnd) → IsBytes image → IsKnownEnd f image end → Some b ≡ live_bytes (store_of_image f image) p → IsIn f image p (Live b)
+live_in f image p b end fits known live = is_in f image p (Live b) end fits known (live_is_at (contents f (drop 2 image)).cells 2 p b (sym live))
 
 -- the bytes of the record there, and their number
 pub bytes_of_size : (o : Option (List ℕ)) (n : ℕ) → IsSome o → IfSome o (λ b. length b ≡ n) → (b : List ℕ) × (Some b ≡ o) × (length b ≡ n)
@@ -71,7 +71,7 @@ bytes_of_size None n some len = absurd cc
 
 -- a cell is replaced by its changed one, which is sound and of its size
 changed_is : (f : KtFormat) (image image' : List ℕ) (change : Cell → Cell) (old : Cell) (p : ℕ) (end : CellsEnd) → 2 ≤ length image → IsBytes image → IsBytes image' → IsKnownEnd f image end
-    → StandsAt (contents f (drop 2 image)).cells 2 p old → size (change old) ≡ size old → IsCell f (change old) → image' ≡ splice image p (p + 4 + size old) (cell (order_of f) (change old))
+    → IsAt (contents f (drop 2 image)).cells 2 p old → size (change old) ≡ size old → IsCell f (change old) → image' ≡ splice image p (p + 4 + size old) (cell (order_of f) (change old))
     → IsChanged f image image' (record { cells = replaced_at 2 change p (contents f (drop 2 image)).cells; end = (contents f (drop 2 image)).end }) end
 changed_is f image image' change old p end long fits fits' known s same sound written =
     let k = contents f (drop 2 image) in
@@ -91,7 +91,7 @@ pub freed_is : (f : KtFormat) (image image' b : List ℕ) (p n : ℕ) (end : Cel
     → IsChanged f image image' (record { cells = replaced_at 2 zero_hole p (contents f (drop 2 image)).cells; end = (contents f (drop 2 image)).end }) end
 freed_is f image image' b p n end long some small fits fits' known live len written =
     let zeros : length (replicate {A = ℕ} (length b) 0) ≡ length b = length-replicate (length b) 0 in
-    changed_is f image image' zero_hole (Live b) p end long fits fits' known (live_stands (contents f (drop 2 image)).cells 2 p b (sym live)) zeros (omega arith, omega arith)
+    changed_is f image image' zero_hole (Live b) p end long fits fits' known (live_is_at (contents f (drop 2 image)).cells 2 p b (sym live)) zeros (omega arith, omega arith)
     (written ∙ ap (λ (m : ℕ). splice image p (p + 4 + m) (cell (order_of f) (Free (replicate {A = ℕ} m 0)))) len)
 
 -- ---- the first hole that is large enough
@@ -99,7 +99,7 @@ freed_is f image image' b p n end long some small fits fits' known live len writ
 -- what is known of it
 pub record HoleIn (f : KtFormat) (image : List ℕ) (n : ℕ) (h : Hole) : Type 0 where
   pub cell : Cell
-  pub stands : StandsAt (contents f (drop 2 image)).cells 2 h.place cell
+  pub is_at : IsAt (contents f (drop 2 image)).cells 2 h.place cell
   pub size_is : size cell ≡ h.size
   pub large : n ≤ h.size
   pub some : 0 < h.size
@@ -115,12 +115,12 @@ hole_by f image n h end (Some x) fits known is e =
     let same : hole_of x ≡ h = some_is (hole_of x) h e in
     let place : x.0 ≡ h.place = ap (λ (y : Hole). y.place) same in
     let is_size : size x.1 ≡ h.size = ap (λ (y : Hole). y.size) same in
-    let at = hole_stands (contents f (drop 2 image)).cells 2 n x.0 x.1 is in
-    let inside = stands_in f image x.0 x.1 end fits known at.stands in
+    let at = hole_is_at (contents f (drop 2 image)).cells 2 n x.0 x.1 is in
+    let inside = is_in f image x.0 x.1 end fits known at.is_at in
     let room = inside.room in
     record {
       cell = x.1;
-      stands = subst (λ (p : ℕ). StandsAt (contents f (drop 2 image)).cells 2 p x.1) place at.stands;
+      is_at = subst (λ (p : ℕ). IsAt (contents f (drop 2 image)).cells 2 p x.1) place at.is_at;
       size_is = is_size;
       large = omega (arith, hole_large n x.1 at.large);
       some = omega (arith, sound_size f x.1 inside.sound);
@@ -146,5 +146,5 @@ filled_is f image image' x h end long small fits fits' known entry hole written 
     let some = i.some in
     let room = i.room in
     let len : length (with_zeros x (size old)) ≡ size old = padded_len x (size old) (omega arith) in
-    changed_is f image image' (record_in x) old h.place end long fits fits' known i.stands len (omega arith, omega arith, entry (size old - length x))
+    changed_is f image image' (record_in x) old h.place end long fits fits' known i.is_at len (omega arith, omega arith, entry (size old - length x))
     (written ∙ ap (λ (m : ℕ). splice image h.place (h.place + 4 + m) (cell (order_of f) (Live (with_zeros x m)))) (sym is_size))

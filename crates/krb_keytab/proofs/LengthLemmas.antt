@@ -8,17 +8,17 @@ use Rattle.krb_keytab.specs.Length.{length_of, field_of, size_of, HasField}
 use Rattle.krb_keytab.specs.Cells.{Cell, IsCell, bytes_of, size, length_of_cell, cell_in, Live as LiveCell, Free as FreeCell}
 
 -- a field says this length, whose field it is
-pub record Said (n : ℕ) (l : Length) : Type 0 where
+pub record Means (n : ℕ) (l : Length) : Type 0 where
   pub field : field_of l ≡ n
   pub has : HasField l
 
-said_by : (n : ℕ) (none small : Bool) → n < 2 ^ 32 → eqb n 0 ≡ none → ltb n (2 ^ 31) ≡ small → Said n (cond none End (cond small (Live n) (Free (2 ^ 32 - n))))
-said_by n true small lt e s = record { field = sym (eqb-true n 0 e); has = tt }
-said_by n false true lt e s = let pos = eqb-false n 0 e in record { field = refl; has = (omega (arith, pos), ltb-true _ _ s) }
-said_by n false false lt e s = let big = ltb-false _ _ s in record { field = omega (arith, big); has = (omega (arith, big), omega (arith, big)) }
+means_by : (n : ℕ) (none small : Bool) → n < 2 ^ 32 → eqb n 0 ≡ none → ltb n (2 ^ 31) ≡ small → Means n (cond none End (cond small (Live n) (Free (2 ^ 32 - n))))
+means_by n true small lt e s = record { field = sym (eqb-true n 0 e); has = tt }
+means_by n false true lt e s = let pos = eqb-false n 0 e in record { field = refl; has = (omega (arith, pos), ltb-true _ _ s) }
+means_by n false false lt e s = let big = ltb-false _ _ s in record { field = omega (arith, big); has = (omega (arith, big), omega (arith, big)) }
 
-pub said : (n : ℕ) (l : Length) → n < 2 ^ 32 → length_of n ≡ l → Said n l
-said n l lt is = subst (Said n) is (said_by n (eqb n 0) (ltb n (2 ^ 31)) lt refl refl)
+pub means : (n : ℕ) (l : Length) → n < 2 ^ 32 → length_of n ≡ l → Means n l
+means n l lt is = subst (Means n) is (means_by n (eqb n 0) (ltb n (2 ^ 31)) lt refl refl)
 
 -- a length is read back from its field
 pub length_again : (l : Length) → HasField l → length_of (field_of l) ≡ l

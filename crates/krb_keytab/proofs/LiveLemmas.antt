@@ -17,7 +17,7 @@ use Rattle.krb_keytab.specs.Cells.{Cell, Live, Free, IsCell, IsSound}
 use Rattle.krb_keytab.specs.Cells as cells
 use Rattle.krb_keytab.specs.Store.{KeytabState, store_of, store_cell, end_place}
 use Rattle.krb_keytab.proofs.Cuts.{live_there, store_sound}
-use Rattle.krb_keytab.proofs.Replacements.{StandsAt, live_stands, stands_sound as sound_there}
+use Rattle.krb_keytab.proofs.Replacements.{IsAt, live_is_at, is_at_sound as sound_there}
 use Rattle.krb_keytab.specs.declared.indexed.slot.Slot.{Slot}
 use Rattle.krb_keytab.specs.Slot.{is_free, slots_from, slot_of, places, IsRank}
 use Rattle.krb_keytab.specs.Index.{slot_at, IsLiveNumber}
@@ -129,19 +129,19 @@ live_number k p rank sound lt is live =
 
 -- the cell with a number, at a place
 pub record CellOf (k : KeytabState) (number p : ℕ) (c : Cell) : Type 0 where
-  pub stands : StandsAt k.contents.cells 2 p c
-  pub count : length stands.front ≡ number
-  pub slot : slot_at k number ≡ slot_of (end_place 2 stands.front, c)
+  pub is_at : IsAt k.contents.cells 2 p c
+  pub count : length is_at.front ≡ number
+  pub slot : slot_at k number ≡ slot_of (end_place 2 is_at.front, c)
 
-pub cell_of : (k : KeytabState) (number p : ℕ) (c : Cell) → number < length k.contents.cells → (slot_at k number).place ≡ p → StandsAt k.contents.cells 2 p c → CellOf k number p c
+pub cell_of : (k : KeytabState) (number p : ℕ) (c : Cell) → number < length k.contents.cells → (slot_at k number).place ≡ p → IsAt k.contents.cells 2 p c → CellOf k number p c
 cell_of k number p c lt at s =
     let count = number_is k.contents.cells s.front (c ∷ s.back) number s.parts lt (sym s.place ∙ sym at ∙ slot_place k number lt) in
-    record { stands = s; count = count; slot = ap (slot_at k) (sym count) ∙ slot_seam k s.front s.back c s.parts }
+    record { is_at = s; count = count; slot = ap (slot_at k) (sym count) ∙ slot_seam k s.front s.back c s.parts }
 
 -- it has bytes, so that its field is not 0
 pub cell_field : (k : KeytabState) (number p : ℕ) (c : Cell) → IsSound k.format k.contents → CellOf k number p c → 0 < (slot_at k number).field
-cell_field k number p (Live b) sound s = omega (arith, ap (λ (x : Slot). x.field) s.slot, (sound_there k.format k.contents.cells 2 p (Live b) sound.cells s.stands).0)
-cell_field k number p (Free b) sound s = omega (arith, ap (λ (x : Slot). x.field) s.slot, (sound_there k.format k.contents.cells 2 p (Free b) sound.cells s.stands).1)
+cell_field k number p (Live b) sound s = omega (arith, ap (λ (x : Slot). x.field) s.slot, (sound_there k.format k.contents.cells 2 p (Live b) sound.cells s.is_at).0)
+cell_field k number p (Free b) sound s = omega (arith, ap (λ (x : Slot). x.field) s.slot, (sound_there k.format k.contents.cells 2 p (Free b) sound.cells s.is_at).1)
 
 -- a live one
 pub record LiveAt (k : KeytabState) (number p : ℕ) : Type 0 where
@@ -151,4 +151,4 @@ pub record LiveAt (k : KeytabState) (number p : ℕ) : Type 0 where
 pub live_at : (k : KeytabState) (number p : ℕ) → IsLiveNumber k p number → LiveAt k number p
 live_at k number p h =
     let b = is_some_has (live_bytes (store_of k) p) h.live in
-    record { bytes = b.0; cell = cell_of k number p (Live b.0) h.inside h.place (live_stands k.contents.cells 2 p b.0 b.1) }
+    record { bytes = b.0; cell = cell_of k number p (Live b.0) h.inside h.place (live_is_at k.contents.cells 2 p b.0 b.1) }

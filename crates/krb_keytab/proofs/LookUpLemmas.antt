@@ -9,7 +9,7 @@ use Rattle.krb_wire.specs.Spelling.{Parts}
 use Rattle.krb_wire.specs.SameName.{have_same_name}
 use Rattle.krb_keytab.specs.LookUp.{answer, IsFoundAmong}
 use Rattle.krb_keytab.proofs.HasNameLemmas.{and_true}
-use Rattle.krb_keytab.specs.Find.{PlacedEntry, is_match, greatest, version_asked, first_or_missing, look_up_in}
+use Rattle.krb_keytab.specs.Find.{PlacedEntry, is_match, greatest, selected_version, first_or_missing, look_up_in}
 
 -- ---- one entry after the other
 
@@ -101,16 +101,16 @@ first_greatest b (y ∷ ys) = elim (cases_lt b.1.version y.1.version) [
 -- ---- look-up
 
 -- the best of the entries that match is the one selected
-best_found : (v : ℕ) (x : PlacedEntry) (xs : List PlacedEntry) → best_after v None (x ∷ xs) ≡ with_version (version_asked v (x ∷ xs)) (x ∷ xs)
+best_found : (v : ℕ) (x : PlacedEntry) (xs : List PlacedEntry) → best_after v None (x ∷ xs) ≡ with_version (selected_version v (x ∷ xs)) (x ∷ xs)
 best_found v x xs = elim (eqb_tells v 0) [
   | inl zero_ ↦
       let is = zero_.0 in
       let here : v ≡ 0 = zero_.1 in
-      subst (λ (n : ℕ). best_after n None (x ∷ xs) ≡ with_version (version_asked n (x ∷ xs)) (x ∷ xs)) (sym here) (first_greatest x xs)
+      subst (λ (n : ℕ). best_after n None (x ∷ xs) ≡ with_version (selected_version n (x ∷ xs)) (x ∷ xs)) (sym here) (first_greatest x xs)
   | inr some ↦
       let no = some.0 in
-      let asked : version_asked v (x ∷ xs) ≡ v = ap (λ (b : Bool). cond b (greatest (x ∷ xs)) v) no in
-      first_with v (x ∷ xs) no ∙ ap (λ (n : ℕ). with_version n (x ∷ xs)) (sym asked)
+      let selected : selected_version v (x ∷ xs) ≡ v = ap (λ (b : Bool). cond b (greatest (x ∷ xs)) v) no in
+      first_with v (x ∷ xs) no ∙ ap (λ (n : ℕ). with_version n (x ∷ xs)) (sym selected)
 ]
 
 answer_found : (o : Option PlacedEntry) → answer true o ≡ first_or_missing o
@@ -120,7 +120,7 @@ answer_found (Some x) = refl
 -- what is found after all entries is the result of the look-up
 looked_up : (v : ℕ) (xs : List PlacedEntry) → answer (some_of xs) (best_after v None xs) ≡ look_up_in v xs
 looked_up v [] = refl
-looked_up v (x ∷ xs) = ap (answer true) (best_found v x xs) ∙ answer_found (with_version (version_asked v (x ∷ xs)) (x ∷ xs))
+looked_up v (x ∷ xs) = ap (answer true) (best_found v x xs) ∙ answer_found (with_version (selected_version v (x ∷ xs)) (x ∷ xs))
 
 -- one result has one entry
 same_best : (n m : Bool) (a b : Option PlacedEntry) → answer n a ≡ answer m b → a ≡ b

@@ -12,7 +12,7 @@ use Rattle.krb_wire.specs.Spelling.{Parts, count_field, name_fits, is_short}
 use Rattle.krb_wire.specs.Reading.{byte_at, number_at, data16_at, kt_principal_at}
 use Rattle.krb_wire.proofs.Fields.{IsBytes, wide16, wide32, number_takes, data16_takes}
 use Rattle.krb_wire.proofs.Principals.{kt_principal_takes}
-use Rattle.krb_wire.proofs.NamesTold.{lengths_of, lengths_fit}
+use Rattle.krb_wire.proofs.NamesCompared.{lengths_of, lengths_fit}
 use Rattle.krb_walk.specs.Store.{Record, records}
 use Rattle.krb_keytab.specs.Entry.{EntryParts, entry_at, Spells}
 use Rattle.krb_keytab.specs.Cells.{cell}

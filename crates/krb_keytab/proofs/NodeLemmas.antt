@@ -50,10 +50,10 @@ under nodes leaves inner (suc k) i j some room low high =
 
 -- before the last level, the node of a descent has children
 pub has_children : (height : ℕ) (nodes : List ℕ) (need level node : ℕ) → IsTree height nodes → Descends height nodes need level node → level < height → (0 < node) × (node < 2 ^ height)
-has_children height nodes need level node tree stands lt =
+has_children height nodes need level node tree is_at lt =
     let lower : 2 ^ suc level ≤ 2 ^ height = pow_mono (omega arith) in
     let p = pow-suc 2 level in
-    (omega (arith, pow_pos level, stands.from), omega (arith, lower, p, stands.to))
+    (omega (arith, pow_pos level, is_at.from), omega (arith, lower, p, is_at.to))
 
 -- it starts at the root
 pub descends_from_root : (height : ℕ) (nodes : List ℕ) (need : ℕ) → need ≤ slice_index nodes 1 → Descends height nodes need 0 1
@@ -67,9 +67,9 @@ descends_from_root height nodes need fits = record {
 
 -- no leaf before those under the left child is large enough, and if that child is not, none under it
 before_left : (height : ℕ) (nodes : List ℕ) (need level node : ℕ) → Descends height nodes need level node → (i rest : ℕ) → rest + suc level ≡ height → 2 ^ height ≤ i → i < 2 * node * 2 ^ rest → slice_index nodes i < need
-before_left height nodes need level node stands i rest e low high =
+before_left height nodes need level node is_at i rest e low high =
     let p : node * 2 ^ suc rest ≡ 2 * (node * 2 ^ rest) = ap (λ (n : ℕ). node * n) (pow-suc 2 rest) ∙ times_twice node (2 ^ rest) in
-    stands.before i (suc rest) (omega arith) low (omega (arith, high, p, times_left node (2 ^ rest)))
+    is_at.before i (suc rest) (omega arith) low (omega (arith, high, p, times_left node (2 ^ rest)))
 
 room_under : (n s l h : ℕ) → n < 2 * l → 2 * s * l ≡ h → 2 * n * s + s ≤ 2 * h
 room_under n s l h lt e =
@@ -78,58 +78,58 @@ room_under n s l h lt e =
     omega (arith, more, e)
 
 descends_right : (height : ℕ) (nodes : List ℕ) (need level node : ℕ) → IsTree height nodes → Descends height nodes need level node → level < height → slice_index nodes (2 * node) < need → Descends height nodes need (suc level) (2 * node + 1)
-descends_right height nodes need level node tree stands lt small =
+descends_right height nodes need level node tree is_at lt small =
     let p = pow-suc 2 level in
-    let inner = has_children height nodes need level node tree stands lt in
+    let inner = has_children height nodes need level node tree is_at lt in
     let greater = tree.inner node (omega (arith, inner.0)) inner.1 in
     record {
       low = omega arith;
-      from = omega (arith, p, stands.from);
-      to = omega (arith, p, stands.to);
-      fits = omega (arith, greater, stands.fits, small);
+      from = omega (arith, p, is_at.from);
+      to = omega (arith, p, is_at.to);
+      fits = omega (arith, greater, is_at.fits, small);
       before = λ i rest e low high. elim (cases_lt i (2 * node * 2 ^ rest)) [
-        | inl left ↦ before_left height nodes need level node stands i rest e low left
+        | inl left ↦ before_left height nodes need level node is_at i rest e low left
         | inr ge ↦
             let e2 : 2 ^ suc rest * 2 ^ level ≡ 2 ^ height = sym (pow-add 2 (suc rest) level) ∙ ap (λ (n : ℕ). 2 ^ n) (omega arith) in
             let e3 : 2 * 2 ^ rest * 2 ^ level ≡ 2 ^ height = sym (ap (λ (n : ℕ). n * 2 ^ level) (pow-succ' 2 rest)) ∙ e2 in
-            let room = room_under node (2 ^ rest) (2 ^ level) (2 ^ height) stands.to e3 in
+            let room = room_under node (2 ^ rest) (2 ^ level) (2 ^ height) is_at.to e3 in
             let no_more = under nodes (2 ^ height) tree.inner rest (2 * node) i (omega (arith, inner.0)) room ge (omega (arith, high, times_right node (2 ^ rest), times_left node (2 ^ rest))) in
             omega (arith, no_more, small)
       ];
     }
 
 descends_left : (height : ℕ) (nodes : List ℕ) (need level node : ℕ) → IsTree height nodes → Descends height nodes need level node → level < height → need ≤ slice_index nodes (2 * node) → Descends height nodes need (suc level) (2 * node)
-descends_left height nodes need level node tree stands lt fits =
+descends_left height nodes need level node tree is_at lt fits =
     let p = pow-suc 2 level in
     record {
       low = omega arith;
-      from = omega (arith, p, stands.from);
-      to = omega (arith, p, stands.to);
+      from = omega (arith, p, is_at.from);
+      to = omega (arith, p, is_at.to);
       fits = fits;
-      before = before_left height nodes need level node stands;
+      before = before_left height nodes need level node is_at;
     }
 
 -- it goes on to the child that is chosen
 pub descends_on : (height : ℕ) (nodes : List ℕ) (need level node next : ℕ) → IsTree height nodes → Descends height nodes need level node → level < height → next ≡ child_with need node nodes → Descends height nodes need (level + 1) next
-descends_on height nodes need level node next tree stands lt is =
+descends_on height nodes need level node next tree is_at lt is =
     let up : level + 1 ≡ suc level = omega arith in
     rw (is, up) (elim (leb_tells need (slice_index nodes (2 * node))) [
-      | inl y ↦ let yes = y.0 in rw yes (descends_left height nodes need level node tree stands lt y.1)
-      | inr n ↦ let no = n.0 in rw no (descends_right height nodes need level node tree stands lt n.1)
+      | inl y ↦ let yes = y.0 in rw yes (descends_left height nodes need level node tree is_at lt y.1)
+      | inr n ↦ let no = n.0 in rw no (descends_right height nodes need level node tree is_at lt n.1)
     ])
 
 -- ---- what it finds
 
 -- on the last level it is at the first leaf that is large enough
 pub descends_to : (height : ℕ) (nodes : List ℕ) (need node : ℕ) → IsTree height nodes → Descends height nodes need height node → first_fit need (drop (2 ^ height) nodes) ≡ Some (node - 2 ^ height)
-descends_to height nodes need node tree stands =
+descends_to height nodes need node tree is_at =
     let n = 2 ^ height in
     let xs = drop n nodes in
     let i = node - n in
     let len : length xs ≡ n = omega (arith, length-drop n nodes, tree.len) in
-    let inside : i < length xs = omega (arith, len, stands.from, stands.to) in
-    let here : nat_le need (get_or xs i 0) ≡ true = rw (get_or-drop n nodes i 0) (le-leb need (get_or nodes (n + i) 0) (subst (λ (m : ℕ). need ≤ slice_index nodes m) (omega (arith, stands.from)) stands.fits)) in
-    let before : (k : ℕ) → k < i → nat_le need (get_or xs k 0) ≡ false = λ k lt. rw (get_or-drop n nodes k 0) (lt-leb need (get_or nodes (n + k) 0) (stands.before (n + k) 0 (omega arith) (omega arith) (omega (arith, lt)))) in
+    let inside : i < length xs = omega (arith, len, is_at.from, is_at.to) in
+    let here : nat_le need (get_or xs i 0) ≡ true = rw (get_or-drop n nodes i 0) (le-leb need (get_or nodes (n + i) 0) (subst (λ (m : ℕ). need ≤ slice_index nodes m) (omega (arith, is_at.from)) is_at.fits)) in
+    let before : (k : ℕ) → k < i → nat_le need (get_or xs k 0) ≡ false = λ k lt. rw (get_or-drop n nodes k 0) (lt-leb need (get_or nodes (n + k) 0) (is_at.before (n + k) 0 (omega arith) (omega arith) (omega (arith, lt)))) in
     let is = position_or_len_is (λ (m : ℕ). nat_le need m) xs i 0 (omega (arith, inside)) before (λ _. here) in
     rw (is, lt-ltb i (length xs) inside) refl
 

@@ -13,7 +13,7 @@ use Rattle.krb_wire.specs.declared.format.KtFormat.{KtFormat}
 use Rattle.krb_wire.specs.Spelling.{Parts, order_of, digits, data16, count_field, kt_principal, name_type_field}
 use Rattle.krb_wire.specs.SameName.{have_same_name}
 use Rattle.krb_wire.proofs.Fields.{IsBytes}
-use Rattle.krb_wire.proofs.NamesTold.{and_both}
+use Rattle.krb_wire.proofs.NamesCompared.{and_both}
 use Rattle.krb_keytab.specs.Entry.{EntryParts, entry_at}
 use Rattle.krb_keytab.specs.Find.{PlacedEntry}
 use Rattle.krb_keytab.specs.LookUp.{IsFoundAmong}

@@ -10,7 +10,7 @@ use Rattle.krb_walk.proofs.Stops.{bytes_from}
 use Rattle.krb_keytab.specs.Entry.{EntryParts, entry_at}
 use Rattle.krb_keytab.specs.Cells.{Cell, Live, Free, size}
 use Rattle.krb_keytab.specs.Store.{KeytabState, store_cell, store_of, end_place}
-use Rattle.krb_keytab.specs.Find.{PlacedEntry, is_match, version_asked, first_or_missing, look_up_in, look_up, find_result, placed_entry, placed_entries}
+use Rattle.krb_keytab.specs.Find.{PlacedEntry, is_match, selected_version, first_or_missing, look_up_in, look_up, find_result, placed_entry, placed_entries}
 use Rattle.krb_keytab.specs.Changes.{with_hole, cut_result}
 use Rattle.krb_keytab.proofs.CellLemmas.{chosen}
 use Rattle.krb_keytab.proofs.Cuts.{end_place-append, live_there}
@@ -50,8 +50,8 @@ if_placed k p None h = tt
 pub holds : (k : KeytabState) (front back : List Cell) (b : List ℕ) (p : ℕ) → k.contents.cells ≡ front ++ (Live b ∷ back) → p ≡ end_place 2 front → store_bytes (store_of k) p ≡ Some b
 holds k front back b p parts place = ap (λ (cs : List Cell). bytes_from 2 (map store_cell cs) p) parts ∙ live_there front back (Live b) p place
 
-stands : (k : KeytabState) (front back : List Cell) (b : List ℕ) (p : ℕ) → k.contents.cells ≡ front ++ (Live b ∷ back) → p ≡ end_place 2 front → is_some (store_bytes (store_of k) p) ≡ true
-stands k front back b p parts place = ap is_some (holds k front back b p parts place)
+is_at : (k : KeytabState) (front back : List Cell) (b : List ℕ) (p : ℕ) → k.contents.cells ≡ front ++ (Live b ∷ back) → p ≡ end_place 2 front → is_some (store_bytes (store_of k) p) ≡ true
+is_at k front back b p parts place = ap is_some (holds k front back b p parts place)
 
 -- the place after one more cell
 next_place : (front : List Cell) (c : Cell) (p : ℕ) → p ≡ end_place 2 front → p + (4 + size c) ≡ end_place 2 (front ++ c ∷ [])
@@ -62,7 +62,7 @@ all_live : (k : KeytabState) (front cs : List Cell) (p : ℕ) → k.contents.cel
 all_live k front [] p parts place = tt
 all_live k front (Live b ∷ cs) p parts place =
     let others = all_live k (front ++ Live b ∷ []) cs (p + (4 + length b)) (parts ∙ sym (append_assoc front (Live b ∷ []) cs)) (next_place front (Live b) p place) in
-    all_cons (IsLiveAt k) _ _ (if_placed k p (entry_at k.format b) (stands k front cs b p parts place)) others
+    all_cons (IsLiveAt k) _ _ (if_placed k p (entry_at k.format b) (is_at k front cs b p parts place)) others
 all_live k front (Free b ∷ cs) p parts place =
     all_live k (front ++ Free b ∷ []) cs (p + (4 + length b)) (parts ∙ sym (append_assoc front (Free b ∷ []) cs)) (next_place front (Free b) p place)
 
@@ -73,7 +73,7 @@ some_found None x e = absurd cc
 found_live : (k : KeytabState) (v : ℕ) (xs : List PlacedEntry) (x : PlacedEntry) → AllByRecursion (IsLiveAt k) xs → look_up_in v xs ≡ Ok x → IsLiveAt k x
 found_live k v [] x all e = absurd cc
 found_live k v (y ∷ ys) x all e =
-    all_find (IsLiveAt k) (λ z. z.1.version == version_asked v (y ∷ ys)) (y ∷ ys) x all (some_found (find (λ z. z.1.version == version_asked v (y ∷ ys)) (y ∷ ys)) x e)
+    all_find (IsLiveAt k) (λ z. z.1.version == selected_version v (y ∷ ys)) (y ∷ ys) x all (some_found (find (λ z. z.1.version == selected_version v (y ∷ ys)) (y ∷ ys)) x e)
 
 -- the record that was found is removed
 pub found_is_cut : (k : KeytabState) (n : Parts) (v t : ℕ) (x : PlacedEntry) → find_result k n v t ≡ Ok x → cut_result k x.0 ≡ Ok (with_hole k x.0)

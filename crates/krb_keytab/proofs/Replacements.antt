@@ -32,49 +32,49 @@ all_join P (x ∷ xs) ys h k = (h.0, all_join P xs ys h.1 k)
 -- ---- where a cell is
 
 -- the cells before and after the one at a place
-pub record StandsAt (cs : List Cell) (at p : ℕ) (c : Cell) : Type 0 where
+pub record IsAt (cs : List Cell) (at p : ℕ) (c : Cell) : Type 0 where
   pub front : List Cell
   pub back : List Cell
   pub parts : cs ≡ front ++ (c ∷ back)
   pub place : p ≡ end_place at front
 
-here : (c d : Cell) (cs : List Cell) (at p : ℕ) → p ≡ at → c ≡ d → StandsAt (c ∷ cs) at p d
+here : (c d : Cell) (cs : List Cell) (at p : ℕ) → p ≡ at → c ≡ d → IsAt (c ∷ cs) at p d
 here c d cs at p is same = record { front = []; back = cs; parts = ap (λ (x : Cell). x ∷ cs) same; place = is }
 
-further : (c d : Cell) (cs : List Cell) (at p : ℕ) → StandsAt cs (at + (4 + size c)) p d → StandsAt (c ∷ cs) at p d
+further : (c d : Cell) (cs : List Cell) (at p : ℕ) → IsAt cs (at + (4 + size c)) p d → IsAt (c ∷ cs) at p d
 further c d cs at p s = record { front = c ∷ s.front; back = s.back; parts = ap (λ (xs : List Cell). c ∷ xs) s.parts; place = s.place }
 
 is_live : (at : ℕ) (c : Cell) (b : List ℕ) → bytes_of_some (record_of_some (Some (record { place = at; cell = store_cell c }))) ≡ Some b → c ≡ Live b
 is_live at (Live x) b e = ap (λ (y : List ℕ). Live y) (some_is x b e)
 is_live at (Free x) b e = absurd cc
 
-pub live_stands : (cs : List Cell) (at p : ℕ) (b : List ℕ) → bytes_from at (map store_cell cs) p ≡ Some b → StandsAt cs at p (Live b)
-live_stands [] at p b e = absurd cc
-live_stands (c ∷ cs) at p b e = elim (eqb_tells at p) [
+pub live_is_at : (cs : List Cell) (at p : ℕ) (b : List ℕ) → bytes_from at (map store_cell cs) p ≡ Some b → IsAt cs at p (Live b)
+live_is_at [] at p b e = absurd cc
+live_is_at (c ∷ cs) at p b e = elim (eqb_tells at p) [
   | inl y ↦ let yes = y.0 in here c (Live b) cs at p (sym y.1) (is_live at c b (rw yes at e))
-  | inr n ↦ let no = n.0 in further c (Live b) cs at p (live_stands cs (at + (4 + size c)) p b (rw no at e))
+  | inr n ↦ let no = n.0 in further c (Live b) cs at p (live_is_at cs (at + (4 + size c)) p b (rw no at e))
 ]
 
 -- the cell there is sound
-pub stands_sound : (f : KtFormat) (cs : List Cell) (at p : ℕ) (c : Cell) → AllByRecursion (IsCell f) cs → StandsAt cs at p c → IsCell f c
-stands_sound f cs at p c sound s = (all_back (IsCell f) s.front (c ∷ s.back) (subst (AllByRecursion (IsCell f)) s.parts sound)).0
+pub is_at_sound : (f : KtFormat) (cs : List Cell) (at p : ℕ) (c : Cell) → AllByRecursion (IsCell f) cs → IsAt cs at p c → IsCell f c
+is_at_sound f cs at p c sound s = (all_back (IsCell f) s.front (c ∷ s.back) (subst (AllByRecursion (IsCell f)) s.parts sound)).0
 
 -- the first hole that is large enough
 pub record HoleAt (cs : List Cell) (at n p : ℕ) (c : Cell) : Type 0 where
-  pub stands : StandsAt cs at p c
+  pub is_at : IsAt cs at p c
   pub large : is_hole n c ≡ true
 
-pub hole_stands : (cs : List Cell) (at n p : ℕ) (c : Cell) → first_hole at n cs ≡ Some (p, c) → HoleAt cs at n p c
-hole_stands [] at n p c e = absurd cc
-hole_stands (d ∷ cs) at n p c e =
+pub hole_is_at : (cs : List Cell) (at n p : ℕ) (c : Cell) → first_hole at n cs ≡ Some (p, c) → HoleAt cs at n p c
+hole_is_at [] at n p c e = absurd cc
+hole_is_at (d ∷ cs) at n p c e =
     elim (chosen (is_hole n d) (Some (at, d)) (first_hole (at + (4 + size d)) n cs) (Some (p, c)) e) [
       | inl h ↦
           let same : ◌≡◌ {A = PlacedCell} (at, d) (p, c) = some_is (at, d) (p, c) h.1 in
           let is_c : d ≡ c = ap (λ (x : PlacedCell). x.1) same in
-          record { stands = here d c cs at p (sym (ap (λ (x : PlacedCell). x.0) same)) is_c; large = ap (is_hole n) (sym is_c) ∙ h.0 }
+          record { is_at = here d c cs at p (sym (ap (λ (x : PlacedCell). x.0) same)) is_c; large = ap (is_hole n) (sym is_c) ∙ h.0 }
       | inr h ↦
-          let others = hole_stands cs (at + (4 + size d)) n p c h.1 in
-          record { stands = further d c cs at p others.stands; large = others.large }
+          let others = hole_is_at cs (at + (4 + size d)) n p c h.1 in
+          record { is_at = further d c cs at p others.is_at; large = others.large }
     ]
 
 -- ---- the cells with one replaced
@@ -94,7 +94,7 @@ replaced_one change at p (x ∷ front) back c is =
     rw no (ap (λ (xs : List Cell). x ∷ xs) (replaced_one change (at + (4 + size x)) p front back c is))
 
 -- all cells but the one at the place are unchanged
-pub replaced_cells : (change : Cell → Cell) (cs : List Cell) (p : ℕ) (c : Cell) (s : StandsAt cs 2 p c) → replaced_at 2 change p cs ≡ s.front ++ (change c ∷ s.back)
+pub replaced_cells : (change : Cell → Cell) (cs : List Cell) (p : ℕ) (c : Cell) (s : IsAt cs 2 p c) → replaced_at 2 change p cs ≡ s.front ++ (change c ∷ s.back)
 replaced_cells change cs p c s = ap (replaced_at 2 change p) s.parts ∙ replaced_one change 2 p s.front s.back c s.place
 
 -- ---- the image

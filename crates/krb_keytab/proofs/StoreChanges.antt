@@ -8,7 +8,7 @@ use Rattle.krb_walk.specs.declared.refusal.Refusal.{Refusal}
 use Rattle.krb_walk.specs.declared.event.Event.TheVariants.{Cut}
 use Rattle.krb_walk.specs.Store.{end_of, live_bytes as store_bytes, IsPlace}
 use Rattle.krb_walk.specs.Changes.{OneCell, Puts, Cuts, Changes}
-use Rattle.krb_walk.specs.Events.{SessionState, cut_said, cut_store}
+use Rattle.krb_walk.specs.Events.{SessionState, cut_reply, cut_store}
 use Rattle.krb_walk.specs.History.{IsReady, AllLawful, history, replies, state_after}
 use Rattle.krb_walk.proofs.Places.{cuts-extends, place_kept}
 use Rattle.krb_walk.proofs.Runs.{ran_of}
@@ -23,11 +23,11 @@ use Rattle.krb_walk.specs.Rules.{PutGives, CutGives}
 use Rattle.krb_keytab.proofs.AfterChanges.{added_reads, put_gives, cut_gives, removed_none}
 use Rattle.krb_keytab.proofs.Cuts.{store_sound}
 use Rattle.krb_keytab.proofs.ImageChanges.{padded_len}
-use Rattle.krb_keytab.proofs.Replacements.{StandsAt, live_stands, hole_stands, replaced_cells}
+use Rattle.krb_keytab.proofs.Replacements.{IsAt, live_is_at, hole_is_at, replaced_cells}
 use Rattle.krb_keytab.proofs.Stores.{whole_of}
 
 -- replacing one cell changes one cell of the store
-replaced_cell : (k : KeytabState) (change : Cell → Cell) (p : ℕ) (c : Cell) → StandsAt k.contents.cells 2 p c
+replaced_cell : (k : KeytabState) (change : Cell → Cell) (p : ℕ) (c : Cell) → IsAt k.contents.cells 2 p c
     → OneCell (store_of k) (store_of (record k { contents = record { cells = replaced_at 2 change p k.contents.cells; end = k.contents.end } })) p (store_cell c) (store_cell (change c))
 replaced_cell k change p c s = record {
   before = map store_cell s.front;
@@ -43,7 +43,7 @@ replaced_cell k change p c s = record {
 
 cuts_at : (k : KeytabState) (p : ℕ) (b : List ℕ) → (store_of k).fault ≡ None → store_bytes (store_of k) p ≡ Some b → Cuts (store_of k) (store_of (with_hole k p)) p
 cuts_at k p b whole held =
-    let s = live_stands k.contents.cells 2 p b held in
+    let s = live_is_at k.contents.cells 2 p b held in
     let one = replaced_cell k zero_hole p (Live b) s in
     record {
       whole = whole;
@@ -68,7 +68,7 @@ pub removal_gone : (k new : KeytabState) (p : ℕ) (result : Result (Unit {0}) C
 removal_gone k new p (Ok done) a = removed_none k p new a
 removal_gone k new p (Err refused) a = tt
 
-cut_lawful : (k : KeytabState) (p : ℕ) (given : Result KeytabState Code) → cut_result k p ≡ given → Changes (cut_said p given) (store_of k) (store_of (cut_store k given))
+cut_lawful : (k : KeytabState) (p : ℕ) (given : Result KeytabState Code) → cut_result k p ≡ given → Changes (cut_reply p given) (store_of k) (store_of (cut_store k given))
 cut_lawful k p (Ok new) cut = removal_cuts k new p (Ok tt) cut
 cut_lawful k p (Err refused) cut = refl
 
@@ -89,7 +89,7 @@ cuts_ran k places =
 
 -- ---- additions
 
-fills_at : (k : KeytabState) (x : List ℕ) (p : ℕ) (c : Cell) → (store_of k).fault ≡ None → StandsAt k.contents.cells 2 p c → is_hole (length x) c ≡ true → Puts (store_of k) (store_of (with_record_in k x p)) p
+fills_at : (k : KeytabState) (x : List ℕ) (p : ℕ) (c : Cell) → (store_of k).fault ≡ None → IsAt k.contents.cells 2 p c → is_hole (length x) c ≡ true → Puts (store_of k) (store_of (with_record_in k x p)) p
 fills_at k x p (Live b) whole s large = absurd cc
 fills_at k x p (Free b) whole s large =
     let len = padded_len x (length b) (leb-true (length x) (length b) large) in
@@ -130,7 +130,7 @@ addition_puts k new e (Ok p) a =
     let whole = whole_of _ _ g.whole in
     let PutsTo : ℕ × KeytabState → Type 0 = λ y. Puts (store_of k) (store_of y.1) y.0 in
     elim g.how [
-      | inl h ↦ let at = hole_stands k.contents.cells 2 (length x) h.hole.0 h.hole.1 h.is in subst PutsTo h.gives (fills_at k x h.hole.0 h.hole.1 whole at.stands at.large)
+      | inl h ↦ let at = hole_is_at k.contents.cells 2 (length x) h.hole.0 h.hole.1 h.is in subst PutsTo h.gives (fills_at k x h.hole.0 h.hole.1 whole at.is_at at.large)
       | inr last ↦ subst PutsTo last (appends_at k x whole (still_whole k.contents.end whole))
     ]
 addition_puts k new e (Err refusal) a = tt

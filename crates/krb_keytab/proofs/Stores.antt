@@ -15,7 +15,7 @@ use Rattle.krb_keytab.specs.Image.{ends, ending_kind, IsKnownEnd}
 use Rattle.krb_keytab.specs.CellViews.{CellsFrom, AreKnown, cells_of}
 use Rattle.krb_keytab.specs.Store.{KeytabState, InMemory, IsImage, store_of_image, store_of}
 use Rattle.krb_keytab.proofs.Cuts.{places_for}
-use Rattle.krb_keytab.proofs.Replacements.{live_stands, stands_sound}
+use Rattle.krb_keytab.proofs.Replacements.{live_is_at, is_at_sound}
 
 -- ---- a keytab that is kept as an image
 
@@ -70,7 +70,7 @@ cells_held f limit image bytes k same is = ap (λ (b : List ℕ). cells_of (keyt
 
 -- the bytes of a record begin with an entry
 pub entry_held : (k : KeytabState) (p : ℕ) (b : List ℕ) → IsSound k.format k.contents → store_bytes (store_of k) p ≡ Some b → IsSome (entry_at k.format b)
-entry_held k p b sound e = (stands_sound k.format k.contents.cells 2 p (Live b) sound.cells (live_stands k.contents.cells 2 p b e)).2
+entry_held k p b sound e = (is_at_sound k.format k.contents.cells 2 p (Live b) sound.cells (live_is_at k.contents.cells 2 p b e)).2
 
 -- a read that is sure to return an entry returns one
 pub none_there : {X Y : Type 0} (view : X → Y) (result : Option X) (read : Option Y) (o : Option (List ℕ)) → Gives view result read → IsSome read → IfNone result (o ≡ None)

@@ -12,7 +12,7 @@ use Rattle.krb_wire.proofs.Fields.{some_is, wide16, wide32, number_again}
 use Rattle.krb_keytab.specs.Entry.{EntryParts, front, version_by, Spells}
 use Rattle.krb_keytab.specs.Form.{fits, front_of, written_form, kept_type, read_back, IsEntry, IsRecord}
 use Rattle.krb_keytab.proofs.EntryLemmas.{entry_again}
-use Rattle.krb_wire.proofs.NamesTold.{and_both, both_and}
+use Rattle.krb_wire.proofs.NamesCompared.{and_both, both_and}
 
 -- ---- what fits
 

@@ -31,8 +31,8 @@ greatest [] = 0
 greatest (x ∷ xs) = max x.1.version (greatest xs)
 
 -- the version that is selected among the entries: 0 selects their greatest
-abbrev pub version_asked : ℕ → List PlacedEntry → ℕ
-version_asked kvno xs = if kvno == 0 then greatest xs else kvno
+abbrev pub selected_version : ℕ → List PlacedEntry → ℕ
+selected_version kvno xs = if kvno == 0 then greatest xs else kvno
 
 -- the first of the entries, if there is one
 abbrev pub first_or_missing : Option PlacedEntry → Result PlacedEntry Code
@@ -42,7 +42,7 @@ first_or_missing (Some x) = Ok x
 -- look-up among the selected entries: the first with the version
 abbrev pub look_up_in : ℕ → List PlacedEntry → Result PlacedEntry Code
 look_up_in kvno [] = Err NotFound
-look_up_in kvno (x ∷ xs) = first_or_missing (find (λ y. y.1.version == version_asked kvno (x ∷ xs)) (x ∷ xs))
+look_up_in kvno (x ∷ xs) = first_or_missing (find (λ y. y.1.version == selected_version kvno (x ∷ xs)) (x ∷ xs))
 
 -- look-up: of the entries with the name and the enctype, the first in file order with the version
 abbrev pub look_up : KeytabState → Parts → ℕ → ℕ → Result PlacedEntry Code

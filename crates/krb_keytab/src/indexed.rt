@@ -213,7 +213,7 @@ impl<A: Allocator> Indexed<A> {
     }
 
     // Returns the number of the live cell at `place`, or `None`.
-    fn live(&self, place: u32) -> Option<usize>
+    fn live_number(&self, place: u32) -> Option<usize>
         ensures none { IfNone result (live_bytes (store_of self.now.state) place ≡ None) }
         ensures some { IfSome result (λ number. IsLiveNumber self.now.state place number) }
     {
@@ -248,7 +248,7 @@ impl<A: Allocator> Indexed<A> {
             (λ b. Spells self.now.state.format e b)) }
         ensures exact { Gives (λ e. e) result (entry_at_place self.now.state place) }
     {
-        let _ = self.live(place)?;
+        let _ = self.live_number(place)?;
         read_entry(self.format(), self.bytes_at(place))
     }
 

@@ -145,7 +145,7 @@ spent_by trait file which run status last end ends worst none memory same false 
     inr (inr (record {
       files = same;
       out = subst (λ (text : List ℕ). Appends last.out.contents end.out.contents text) none done.0;
-      err = (end.err, record { cause = reports.cause; said = reports.said; still = reports.still }, refl);
+      err = (end.err, record { cause = reports.cause; writes = reports.writes; still = reports.still }, refl);
       status = worst ∙ ap (max last.status) (ends.reported.status_is ∙ ap ending_status spent);
     }))
 
@@ -185,12 +185,12 @@ module _ {F : Type 0} (trait : Ghosts F) (now : ℕ) (given : Option (List ℕ))
 
   pub honest_unread : (fault : LoadFault) → AreFirst lines given → (err' : ErrorWatch) (status : ℕ) → ReportsEnd [] None (Err (input_error fault)) last.err err' → status ≡ max last.status (error_status (input_error fault)) → trait.is_honest first.files
       → TalksHonestly trait now given first (record { files = last.files; state = last.state; out = last.out; err = err'; status = status })
-  honest_unread fault are_first err' status said worst =
+  honest_unread fault are_first err' status writes worst =
       leaves_final (ends_by (input_error fault)) (record { files = last.files; state = last.state; out = last.out; err = err'; status = status })
       (GivesLines-unread fault are_first) (omega arith) (inr (inr (record {
         files = λ name. refl;
         out = Appends-nil last.out.contents;
-        err = (err', said, refl);
+        err = (err', writes, refl);
         status = worst;
       })))
 

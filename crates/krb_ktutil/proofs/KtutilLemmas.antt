@@ -214,7 +214,7 @@ module _ {F : Type 0} (trait : Ghosts F) (now : ℕ) (order : Order) (files : F)
   -- the input was not read further
   pub RunsKtutil-unread : (fault : LoadFault) (err' : ErrorWatch) (status : ℕ) → KeepsLines old new left last.left → IsWithin old → HasNoMore old new → last.failed ≡ (is_failed fault || first.failed) → fault ≢ Missing → (fault ≡ TooLarge → most_bytes < length new.read)
       → ReportsEnd [] None (Err (input_error fault)) talk.err err' → status ≡ max talk.status (error_status (input_error fault)) → RunsKtutil trait order now first last files talk.files out talk.out err err' status
-  RunsKtutil-unread fault err' status keeps was no_more failed never too_large said worst =
+  RunsKtutil-unread fault err' status keeps was no_more failed never too_large writes worst =
       let are_first = ToCome-first first.left u.lines new last.left (λ more has. u.to_come more (keeps more has)) in
       let consumes = grown first.left left last.left old.read new.read u.consumes grows in
       runs (record { files = talk.files; state = talk.state; out = talk.out; err = err'; status = status }) (inr (inr (record {
@@ -226,8 +226,8 @@ module _ {F : Type 0} (trait : Ghosts F) (now : ℕ) (order : Order) (files : F)
         first = are_first;
         never = never;
         too_large = λ e. too_long first.left last.left new.read consumes (too_large e);
-        said = said;
+        writes = writes;
         worst = worst;
         files = refl;
         out = refl;
-      }))) (honest_unread trait now first.left u.lines (first_talk order files out err) talk u.talked fault are_first err' status said worst)
+      }))) (honest_unread trait now first.left u.lines (first_talk order files out err) talk u.talked fault are_first err' status writes worst)

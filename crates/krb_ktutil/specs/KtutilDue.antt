@@ -15,7 +15,7 @@ use Rattle.krb_driver.specs.declared.verdict.Verdict.TheVariants.{Well}
 use Rattle.krb_driver.specs.RunErrors.{Ending, ending_status, input_error}
 
 -- a report: an ending, the file that may be named, and the line
-pub record Telling : Type 0 where
+pub record DueReport : Type 0 where
   pub file : List ℕ
   pub line : Option ℕ
   pub ending : Ending
@@ -24,7 +24,7 @@ pub record Telling : Type 0 where
 pub record TalkDue : Type 0 where
   pub files : FileMap
   pub out : List ℕ
-  pub reported : List Telling
+  pub reported : List DueReport
   pub status : ℕ
 
 -- one run, of that line, which may name that file, and no line after it
@@ -47,9 +47,9 @@ talk_due final now number (line ∷ lines) state files =
     else last_due (named_in line) (Some number) run (line_files files effect)
 
 -- these endings were reported in order, each message whole unless the writer has failed
-abbrev pub TellsInTurn : ErrorWatch → ErrorWatch → List Telling → Type 0
-TellsInTurn old new [] = new ≡ old
-TellsInTurn old new (t ∷ others) = (between : ErrorWatch) × ReportsEnd t.file t.line t.ending old between × TellsInTurn between new others
+abbrev pub ReportsInTurn : ErrorWatch → ErrorWatch → List DueReport → Type 0
+ReportsInTurn old new [] = new ≡ old
+ReportsInTurn old new (t ∷ others) = (between : ErrorWatch) × ReportsEnd t.file t.line t.ending old between × ReportsInTurn between new others
 
 -- nothing is printed, and all is well
 abbrev pub quiet_run : Run
@@ -64,7 +64,7 @@ module _ {F : Type 0} (trait : Ghosts F) where
   pub record LeavesDue (due : TalkDue) (old new : Talk F) : Type 0 where
     pub files : SameFiles due.files (trait.file new.files)
     pub out : Appends old.out.contents new.out.contents due.out
-    pub err : TellsInTurn old.err new.err due.reported
+    pub err : ReportsInTurn old.err new.err due.reported
     pub status : new.status ≡ max old.status due.status
 
   -- a run left what was due, unless a file call failed, which is counted, or the output failed

@@ -119,7 +119,7 @@ module _ {F : Type 0} (trait : Ghosts F) (now : ℕ) where
       pub read : List ℕ
       pub consumes : Consumes input.left input'.left read
       pub due : CutsOff lines (take most_bytes read) ⊎ IfSome input.left (λ bytes. lines_of bytes ≡ lines)
-      pub said : ReportsEnd [] None (Err (input_error fault)) last.err end.err
+      pub writes : ReportsEnd [] None (Err (input_error fault)) last.err end.err
       pub worst : end.status ≡ max last.status (error_status (input_error fault))
       pub files : end.files ≡ last.files
       pub out : end.out ≡ last.out

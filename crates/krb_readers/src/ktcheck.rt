@@ -37,8 +37,8 @@ struct CheckKeytab<'f> {
 fn found_verdict(findings: Findings) -> Verdict
     ensures { result ≡ found_verdict findings }
 {
-    let told = findings.words;
-    let is_printed = told.weak || told.hidden || told.same || told.clash || told.old || told.mode;
+    let words_found = findings.words;
+    let is_printed = words_found.weak || words_found.hidden || words_found.same || words_found.clash || words_found.old || words_found.mode;
     if is_printed || findings.fault.is_some() {
         Verdict::Found(findings)
     } else {
@@ -58,7 +58,7 @@ fn check<'a, A: Allocator + Copy, F: Files>(
 {
     let found = check_up(alloc, files.mode(), keytab)?;
     let verdict = found_verdict(Findings {
-        words: found.told,
+        words: found.words_found,
         fault: keytab.fault(),
         is_wrong: found.is_wrong,
     });

@@ -2,7 +2,7 @@
 use Rattle.std.specs.Prelude.{ℕ, List, [], ◌∷◌, ◌++◌, decimal, codes, Option, None, Some}
 use Rattle.krb_wire.specs.declared.format.KtFormat.{KtFormat}
 use Rattle.krb_walk.specs.Numbers.{code_number}
-use Rattle.krb_walk.specs.Said.{Said, Started, Gave, Ended, Faulted, Placed, Gone, Rewritten, Refused}
+use Rattle.krb_walk.specs.ReplyContent.{ReplyContent, Started, Gave, Ended, Faulted, Placed, Gone, Rewritten, Refused}
 use Rattle.krb_keytab.specs.Entry.{EntryParts, entry_at}
 use Rattle.krb_text.specs.Line.{entry_tail, fault_text}
 
@@ -15,7 +15,7 @@ abbrev pub number_line : List ℕ → ℕ → List ℕ
 number_line label n = label ++ (decimal n ++ codes "\n")
 
 -- the line of a reply; the line of a record given to a walk ends with the record's tail in the format
-abbrev pub reply_text_by : {F : Type 0} → (F → List ℕ → List ℕ) → F → Said → List ℕ
+abbrev pub reply_text_by : {F : Type 0} → (F → List ℕ → List ℕ) → F → ReplyContent → List ℕ
 reply_text_by tail_of f (Started w next) = walk_line w (number_line (codes " at ") next)
 reply_text_by tail_of f (Gave w place next bytes) =
     walk_line w (codes " gave " ++ (decimal place ++ (codes " next " ++ (decimal next ++ tail_of f bytes))))
@@ -27,12 +27,12 @@ reply_text_by tail_of f (Rewritten end) = number_line (codes "rewritten ") end
 reply_text_by tail_of f (Refused code) = number_line (codes "refused ") (code_number code)
 
 -- the format after a reply: a rewrite makes it `rewritten`
-abbrev pub format_after_by : {F : Type 0} → F → F → Said → F
+abbrev pub format_after_by : {F : Type 0} → F → F → ReplyContent → F
 format_after_by rewritten f (Rewritten end) = rewritten
-format_after_by rewritten f said = f
+format_after_by rewritten f other = f
 
 -- the lines of replies in order
-abbrev pub reply_texts_by : {F : Type 0} → (F → List ℕ → List ℕ) → F → F → List Said → List ℕ
+abbrev pub reply_texts_by : {F : Type 0} → (F → List ℕ → List ℕ) → F → F → List ReplyContent → List ℕ
 reply_texts_by tail_of rewritten f [] = []
 reply_texts_by tail_of rewritten f (reply ∷ replies) =
     reply_text_by tail_of f reply ++ reply_texts_by tail_of rewritten (format_after_by rewritten f reply) replies
@@ -49,5 +49,5 @@ abbrev pub record_tail : KtFormat → List ℕ → List ℕ
 record_tail f bytes = given_tail (entry_at f bytes)
 
 -- the line of a reply; a record's bytes are read in the format
-abbrev pub reply_text : KtFormat → Said → List ℕ
+abbrev pub reply_text : KtFormat → ReplyContent → List ℕ
 reply_text f reply = reply_text_by record_tail f reply

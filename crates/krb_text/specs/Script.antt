@@ -110,13 +110,13 @@ event_in line = event_of (pieces 32 line)
 -- ---- a script
 
 -- the line is a command: it is neither empty nor a comment, which begins with `#`
-abbrev pub is_asked : List ℕ → Bool
-is_asked [] = false
-is_asked (b ∷ others) = not (b == 35)
+abbrev pub is_command : List ℕ → Bool
+is_command [] = false
+is_command (b ∷ others) = not (b == 35)
 
 -- those lines that are commands, with their numbers: all lines are numbered, from n on
-abbrev pub asked_from : ℕ → List (List ℕ) → List (ℕ × List ℕ)
-asked_from n lines = filter (λ line. is_asked line.1) (enumerate_from n lines)
+abbrev pub commands_from : ℕ → List (List ℕ) → List (ℕ × List ℕ)
+commands_from n lines = filter (λ line. is_command line.1) (enumerate_from n lines)
 
 -- a faulty line, counted from 1, and its first fault
 pub record ScriptFault : Type 0 where
@@ -133,21 +133,21 @@ abbrev pub faults_of : {L : Type 0} → (List ℕ → Result L LineFault) → Li
 faults_of line_in lines = filter_map (λ line. fault_at line.0 (line_in line.1)) lines
 
 -- what the other lines are read as
-abbrev pub asked_of : {L : Type 0} → (List ℕ → Result L LineFault) → List (ℕ × List ℕ) → List L
-asked_of line_in lines = filter_map (λ line. result_ok (line_in line.1)) lines
+abbrev pub commands_read : {L : Type 0} → (List ℕ → Result L LineFault) → List (ℕ × List ℕ) → List L
+commands_read line_in lines = filter_map (λ line. result_ok (line_in line.1)) lines
 
 -- the first faulty line, or if there is none what was read
-abbrev pub asked_or_fault : {L : Type 0} → List ScriptFault → List L → Result (List L) ScriptFault
-asked_or_fault [] asked = Ok asked
-asked_or_fault (fault ∷ others) asked = Err fault
+abbrev pub read_or_fault : {L : Type 0} → List ScriptFault → List L → Result (List L) ScriptFault
+read_or_fault [] read_lines = Ok read_lines
+read_or_fault (fault ∷ others) read_lines = Err fault
 
 -- what numbered lines are read as, in order, or the first that is faulty
 abbrev pub script_of : {L : Type 0} → (List ℕ → Result L LineFault) → List (ℕ × List ℕ) → Result (List L) ScriptFault
-script_of line_in lines = asked_or_fault (faults_of line_in lines) (asked_of line_in lines)
+script_of line_in lines = read_or_fault (faults_of line_in lines) (commands_read line_in lines)
 
 -- what the lines of a script, numbered from 1, are read as, in order, or its first faulty line with its first fault
 abbrev pub script_by : {L : Type 0} → (List ℕ → Result L LineFault) → List ℕ → Result (List L) ScriptFault
-script_by line_in text = script_of line_in (asked_from 1 (pieces 10 text))
+script_by line_in text = script_of line_in (commands_from 1 (pieces 10 text))
 
 -- the message for a script that is refused
 abbrev pub refusal_text : ScriptRefusal → List ℕ

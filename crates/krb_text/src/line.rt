@@ -25,7 +25,7 @@ fn append_time<A: Allocator>(
     if !is_shown {
         return Ok(());
     }
-    last.append(seconds, out)?;
+    last.append_seconds(seconds, out)?;
     append_byte(b' ', out)
 }
 

@@ -2,7 +2,7 @@
 
 ghost use Rattle.std.specs.Prelude.{◌≡◌, ◌++◌, decimal, codes, map};
 ghost use Rattle.krb_wire.specs.Text.{Appended, AppendedPart};
-ghost use Rattle.krb_walk.specs.Said.{said};
+ghost use Rattle.krb_walk.specs.ReplyContent.{content_of};
 ghost use Rattle.krb_text.specs.Line.{fault_text};
 ghost use Rattle.krb_text.specs.Reply.{walk_line, number_line, reply_text_by, reply_texts_by, format_after_by};
 
@@ -76,7 +76,7 @@ fn append_reply<F: RecordFormat, A: Allocator, B: Allocator>(
     reply: &Reply<B>,
     out: &mut Vec<u8, A>,
 ) -> Result<(), NoMemory>
-    ensures { AppendedPart (reply_text_by F.tail_of format (said reply.now)) out.old out.new result }
+    ensures { AppendedPart (reply_text_by F.tail_of format (content_of reply.now)) out.old out.new result }
 {
     match reply {
         Reply::Started { walk, next } => append_place(*walk, b" at ", *next, out),
@@ -97,7 +97,7 @@ fn append_reply<F: RecordFormat, A: Allocator, B: Allocator>(
 
 // Returns the format after a reply: only a rewrite changes it.
 fn format_after<F: RecordFormat, B: Allocator>(format: F, reply: &Reply<B>) -> F
-    ensures { result ≡ format_after_by F.rewritten format (said reply.now) }
+    ensures { result ≡ format_after_by F.rewritten format (content_of reply.now) }
 {
     match reply {
         Reply::Rewritten(_) => F::rewritten(),
@@ -110,7 +110,7 @@ fn append_replies<F: RecordFormat, A: Allocator, B: Allocator>(
     replies: &[Reply<B>],
     out: &mut Vec<u8, A>,
 ) -> Result<(), NoMemory>
-    ensures { AppendedPart (reply_texts_by F.tail_of F.rewritten format (map said replies.now)) out.old out.new result }
+    ensures { AppendedPart (reply_texts_by F.tail_of F.rewritten format (map content_of replies.now)) out.old out.new result }
 {
     let mut now = format;
     'replies: for reply in replies {
@@ -126,7 +126,7 @@ pub fn reply_line<F: RecordFormat, A: Allocator, B: Allocator>(
     reply: &Reply<B>,
     out: &mut Vec<u8, A>,
 ) -> Result<(), NoMemory>
-    ensures { Appended (reply_text_by F.tail_of format (said reply.now)) out.old out.new result }
+    ensures { Appended (reply_text_by F.tail_of format (content_of reply.now)) out.old out.new result }
 {
     let len = out.len();
     let appended = append_reply(format, reply, out);
@@ -139,7 +139,7 @@ pub fn reply_lines<F: RecordFormat, A: Allocator, B: Allocator>(
     replies: &[Reply<B>],
     out: &mut Vec<u8, A>,
 ) -> Result<(), NoMemory>
-    ensures { Appended (reply_texts_by F.tail_of F.rewritten format (map said replies.now)) out.old out.new result }
+    ensures { Appended (reply_texts_by F.tail_of F.rewritten format (map content_of replies.now)) out.old out.new result }
 {
     let len = out.len();
     let appended = append_replies(format, replies, out);

@@ -3,7 +3,7 @@
 ghost use Rattle.std.specs.Prelude.{◌≡◌, ◌++◌, ◌∷◌, [], Ok, IfOk, IfErr, OnOk, IsOkAnd, IsErrOf};
 ghost use Rattle.krb_text.specs.declared.script.ScriptRefusal.TheVariants.{NoMemory as OutOfMemory};
 ghost use Rattle.krb_text.specs.Pieces.{pieces};
-ghost use Rattle.krb_text.specs.Script.{is_asked, asked_from, script_of, script_by, refusal_text, RefusesScript, TakesMemory};
+ghost use Rattle.krb_text.specs.Script.{is_command, commands_from, script_of, script_by, refusal_text, RefusesScript, TakesMemory};
 
 mod addition;
 pub(crate) mod command;
@@ -48,8 +48,8 @@ impl<T: Drop> From<AllocFailed<T>> for ScriptRefusal {
 }
 
 // Whether a line is a command: it is neither empty nor a comment.
-fn is_asked(line: &[u8]) -> bool
-    ensures { result ≡ is_asked line.now }
+fn is_command(line: &[u8]) -> bool
+    ensures { result ≡ is_command line.now }
 {
     line.first().is_some_and(|first| *first != b'#')
 }
@@ -59,16 +59,16 @@ fn add_line<A: Allocator, L: ScriptLine<A>>(
     alloc: A,
     number: u64,
     line: &[u8],
-    asked: &mut Vec<L, A>,
+    read_lines: &mut Vec<L, A>,
 ) -> Result<(), ScriptRefusal>
     ensures ok { OnOk result
-        (IsOkAnd (L.line_in line.now) (λ x. asked.new.items ≡ asked.old.items ++ x ∷ [])) }
+        (IsOkAnd (L.line_in line.now) (λ x. read_lines.new.items ≡ read_lines.old.items ++ x ∷ [])) }
     ensures err { IfErr result (RefusesScript (script_of L.line_in ((number, line.now) ∷ []))) }
     ensures memory { IsErrOf result ScriptRefusal.NoMemory
         → TakesMemory L.line_in ((number, line.now) ∷ []) }
 {
     match L::parse(alloc, line) {
-        Ok(x) => Ok(asked.push(x)?),
+        Ok(x) => Ok(read_lines.push(x)?),
         Err(LineRefusal::Fault(kind)) => Err(ScriptRefusal::Fault { line: number, kind }),
         Err(LineRefusal::NoMemory) => Err(ScriptRefusal::NoMemory),
     }
@@ -80,18 +80,18 @@ pub fn parse_script<A: Allocator + Copy, L: ScriptLine<A>>(
     alloc: A,
     text: &[u8],
 ) -> Result<Vec<L, A>, ScriptRefusal>
-    ensures ok { IfOk result (λ asked. script_by L.line_in text.now ≡ Ok asked.items) }
+    ensures ok { IfOk result (λ read_lines. script_by L.line_in text.now ≡ Ok read_lines.items) }
     ensures err { IfErr result (RefusesScript (script_by L.line_in text.now)) }
     ensures memory { IsErrOf result ScriptRefusal.NoMemory
-        → TakesMemory L.line_in (asked_from 1 (pieces 10 text.now)) }
+        → TakesMemory L.line_in (commands_from 1 (pieces 10 text.now)) }
 {
-    let mut asked = Vec::new(alloc);
+    let mut read_lines = Vec::new(alloc);
     let mut number = 0;
     'lines: for line in Lines::of(text) {
         number += 1;
-        if is_asked(line) {
-            add_line(alloc, number, line, &mut asked)?;
+        if is_command(line) {
+            add_line(alloc, number, line, &mut read_lines)?;
         }
     }
-    Ok(asked)
+    Ok(read_lines)
 }

@@ -130,7 +130,7 @@ impl LastTime {
     }
 
     /// Appends the same text as `time_text`, and remembers it.
-    pub fn append<A: Allocator>(
+    pub fn append_seconds<A: Allocator>(
         &mut self,
         seconds: u32,
         out: &mut Vec<u8, A>,
@@ -148,5 +148,5 @@ impl LastTime {
 pub fn time_text<A: Allocator>(seconds: u32, out: &mut Vec<u8, A>) -> Result<(), NoMemory>
     ensures { Appended (time_text_of seconds) out.old out.new result }
 {
-    LastTime::new().append(seconds, out)
+    LastTime::new().append_seconds(seconds, out)
 }

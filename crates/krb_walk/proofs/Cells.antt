@@ -10,8 +10,8 @@ use Rattle.krb_walk.specs.declared.fault.FaultKind.{FaultKind}
 use Rattle.krb_walk.specs.declared.stop.Stop.TheVariants.{Live}
 use Rattle.krb_walk.specs.History.{Row}
 use Rattle.krb_walk.specs.Due.{row_of}
-use Rattle.krb_walk.specs.Events.{stop_cursor, stop_said}
-use Rattle.krb_walk.specs.Said.{Gave}
+use Rattle.krb_walk.specs.Events.{stop_cursor, stop_reply}
+use Rattle.krb_walk.specs.ReplyContent.{Gave}
 
 -- the places of cells of these widths, the first at a place
 abbrev pub spots : ℕ → List ℕ → List ℕ
@@ -109,7 +109,7 @@ step_gives f g n c end at (x ∷ cells) more found steps sound look is_end =
 pub record StopsLive (s : Store) (c p n : ℕ) : Type 0 where
   pub bytes : List ℕ
   pub next : next_live s c ≡ Some (record { place = p; next = n; bytes = bytes })
-  pub stands : live_bytes s p ≡ Some bytes
+  pub is_there : live_bytes s p ≡ Some bytes
 
 live_no_end : (p n end : ℕ) (fault : Option FaultKind) → Live p n ≡ end_stop end fault → ⊥
 live_no_end p n end None e = cc
@@ -124,14 +124,14 @@ stops_live_of s c p n (Some r) sound is e =
     record {
       bytes = r.bytes;
       next = is ∙ ap Some (ap (λ (q : ℕ). record { place = q; next = r.next; bytes = r.bytes }) place ∙ ap (λ (m : ℕ). record { place = p; next = m; bytes = r.bytes }) after);
-      stands = ap (live_bytes s) (sym place) ∙ h.bytes;
+      is_there = ap (live_bytes s) (sym place) ∙ h.bytes;
     }
 
 pub stops_live : (s : Store) (c p n : ℕ) → IsSound s → Live p n ≡ stop_at s c → StopsLive s c p n
 stops_live s c p n sound e = stops_live_of s c p n (next_live s c) sound refl e
 
 -- the reply to a step with that stop
-pub gave_told : (s : Store) (w c p n : ℕ) (items : List ℕ) → StopsLive s c p n → live_bytes s p ≡ Some items → Gave w p n items ≡ stop_said s w (next_live s c)
-gave_told s w c p n items live here =
-    let same : items ≡ live.bytes = cc (here, live.stands) in
-    ap (Gave w p n) same ∙ sym (ap (stop_said s w) live.next)
+pub gave_reply : (s : Store) (w c p n : ℕ) (items : List ℕ) → StopsLive s c p n → live_bytes s p ≡ Some items → Gave w p n items ≡ stop_reply s w (next_live s c)
+gave_reply s w c p n items live here =
+    let same : items ≡ live.bytes = cc (here, live.is_there) in
+    ap (Gave w p n) same ∙ sym (ap (stop_reply s w) live.next)

@@ -8,7 +8,7 @@ use Rattle.std.proofs.lemmas.Grind.{flat_map-append}
 use Rattle.krb_walk.specs.Store.{Store, end_of, IsSound}
 use Rattle.krb_walk.specs.Ranks.{live_places}
 use Rattle.krb_walk.specs.Changes.{Puts, Cuts, Changes}
-use Rattle.krb_walk.specs.Said.{Said, Placed, Gone, completes, tells_step, is_rewritten}
+use Rattle.krb_walk.specs.ReplyContent.{ReplyContent, Placed, Gone, completes, is_step_reply, is_rewritten}
 use Rattle.krb_walk.specs.History.{Row, rows_of_reply}
 use Rattle.krb_walk.specs.Track.{RecordName, WalkEvent, Track, first_names, names_after, IsWalkEvent, IsTrack, IsWalk}
 use Rattle.krb_walk.specs.Due.{rows_at_event}
@@ -38,17 +38,17 @@ record HasPlace (o : Option ℕ) : Type 0 where
   at : ℕ
   is : o ≡ Some at
 
-stands_of : (o : Option ℕ) → IsSome o → HasPlace o
-stands_of (Some p) h = record { at = p; is = refl }
-stands_of None h = cc
+place_in : (o : Option ℕ) → IsSome o → HasPlace o
+place_in (Some p) h = record { at = p; is = refl }
+place_in None h = cc
 
-stands_next : (r : RecordName) (n : ℕ) (s : Store) (names : List RecordName) (c : Option ℕ) (steps : Track) (done : WalkEvent) (later : Track) (last : Store) → IsTrack n s names c (steps ++ done ∷ later) last
+place_next : (r : RecordName) (n : ℕ) (s : Store) (names : List RecordName) (c : Option ℕ) (steps : Track) (done : WalkEvent) (later : Track) (last : Store) → IsTrack n s names c (steps ++ done ∷ later) last
     → AllByRecursion (λ x. IsSome (place_of r x)) steps → IsSome (place_of r done) → HasPlace (place_among r names (live_places s))
-stands_next r n s names c [] done later last h all some = let at = stands_of (place_of r done) some in record { at = at.at; is = sym (place_here r n s names c done h.0) ∙ at.is }
-stands_next r n s names c (x ∷ steps) done later last h all some = let at = stands_of (place_of r x) all.0 in record { at = at.at; is = sym (place_here r n s names c x h.0) ∙ at.is }
+place_next r n s names c [] done later last h all some = let at = place_in (place_of r done) some in record { at = at.at; is = sym (place_here r n s names c done h.0) ∙ at.is }
+place_next r n s names c (x ∷ steps) done later last h all some = let at = place_in (place_of r x) all.0 in record { at = at.at; is = sym (place_here r n s names c x h.0) ∙ at.is }
 
 ahead_on : (was is : Option ℕ) (c d p : ℕ) → (is ≡ None) ⊎ Still was is c d → was ≡ Some p → c ≤ p → HasPlace is → (q : ℕ) → is ≡ Some q → d ≤ q
-ahead_on was is c d p h at le stands q e = elim h [
+ahead_on was is c d p h at le is_there q e = elim h [
   | inl none ↦ cc (none, e)
   | inr still ↦ (
       let same_p : still.p ≡ p = cc (still.was_at, at) in
@@ -67,21 +67,21 @@ has_later r x xs e has = record { at = has.at; is = turn_later r x xs e ∙ has.
 step_has : (r : RecordName) (n : ℕ) (s : Store) (names : List RecordName) (c : Option ℕ) (x : WalkEvent) (t : Track) (start p : ℕ) (b : Bool) → passes_record r x ≡ b → IsWalkEvent n s names c x → Keeps n s names → c ≡ Some start → place_of r x ≡ Some p → start ≤ p
     → HasPlace (place_among r (names_after x.number x.reply x.before x.after x.names) (live_places x.after))
     → ((next q : ℕ) → x.to ≡ Some next → place_among r (names_after x.number x.reply x.before x.after x.names) (live_places x.after) ≡ Some q → next ≤ q → HasTurn r t) → HasTurn r (x ∷ t)
-step_has r n s names c x t start p true e h k at is le stands ih = has_now r x t e
-step_has r n s names c x t start p false e h k at is le stands ih =
+step_has r n s names c x t start p true e h k at is le is_there ih = has_now r x t e
+step_has r n s names c x t start p false e h k at is le is_there ih =
     let kx = keeps_here n s names c x h k in
     let born = among_born x.number r x.names (live_places x.before) p kx.born is in
     has_later r x t e (elim (effect_of x h.effect) [
       | inl holds ↦ (
-          let on = ahead_on _ _ start _ p (still_after x.number x.reply x.before x.after x.names r start h.sound h.changes kx born) is le stands stands.at stands.is in
-          ih _ stands.at (holds.stays start (h.from ∙ at)) stands.is on)
+          let on = ahead_on _ _ start _ p (still_after x.number x.reply x.before x.after x.names r start h.sound h.changes kx born) is le is_there is_there.at is_there.is in
+          ih _ is_there.at (holds.stays start (h.from ∙ at)) is_there.is on)
       | inr goes ↦ (
           let same : start ≡ goes.at = cc (at, goes.stood, h.from) in
           let to = end_of_step x goes.at in
-          let missed : (nat_le goes.at p && nat_lt p to) ≡ false = sym (passes_by r x p goes.at _ goes.stepped is goes.stood goes.stands) ∙ e in
+          let missed : (nat_le goes.at p && nat_lt p to) ≡ false = sym (passes_by r x p goes.at _ goes.stepped is goes.stood goes.is_there) ∙ e in
           let near : to ≤ p = grind (arith, nat_tests) in
-          let on = ahead_on _ _ to _ p (still_after x.number x.reply x.before x.after x.names r to h.sound h.changes kx born) is near stands stands.at stands.is in
-          ih to stands.at goes.stands stands.is (omega (arith, on, carry_by-own x.walk x.reply x.before x.after to goes.own)))
+          let on = ahead_on _ _ to _ p (still_after x.number x.reply x.before x.after x.names r to h.sound h.changes kx born) is near is_there is_there.at is_there.is in
+          ih to is_there.at goes.is_there is_there.is (omega (arith, on, carry_by-own x.walk x.reply x.before x.after to goes.own)))
     ])
 
 done_has : (r : RecordName) (n : ℕ) (s : Store) (names : List RecordName) (c : Option ℕ) (steps : Track) (done : WalkEvent) (later : Track) (last : Store) (start p : ℕ) → IsTrack n s names c (steps ++ done ∷ later) last → Keeps n s names → c ≡ Some start
@@ -92,8 +92,8 @@ done_has r n s names c [] done later last start p h k at is le all some complete
     let passed : (nat_le start p && nat_lt p (end_of done.before)) ≡ true = grind (arith, nat_tests) in
     has_now r done later (passes_by r done p start _ (completes_stepped done h.0.effect completed) here (h.0.from ∙ at) (ends_of done h.0.effect completed) ∙ passed)
 done_has r n s names c (x ∷ steps) done later last start p h k at is le all some completed =
-    let stands = stands_next r (suc n) x.after _ x.to steps done later last h.1 all.1 some in
-    step_has r n s names c x (steps ++ done ∷ later) start p (passes_record r x) refl h.0 k at (place_here r n s names c x h.0 ∙ is) le stands
+    let is_there = place_next r (suc n) x.after _ x.to steps done later last h.1 all.1 some in
+    step_has r n s names c x (steps ++ done ∷ later) start p (passes_record r x) refl h.0 k at (place_here r n s names c x h.0 ∙ is) le is_there
     (λ next q to there near. done_has r (suc n) x.after _ x.to steps done later last next q h.1 (keeps_next n s names c x h.0 k) to there near all.1 some completed)
 
 begins_is : (n : ℕ) (s : Store) (names : List RecordName) (c : Option ℕ) (u : Track) (last : Store) (d : ℕ) → IsTrack n s names c u last → begins u ≡ Some d → c ≡ Some d
@@ -149,9 +149,9 @@ cut_never r n s names c t last h k a =
     let kept = keeps_rest n s names c a.earlier (x ∷ a.later) last whole k in
     let kx = keeps_here _ _ _ _ x rest.0 kept in
     let kn = keeps_next _ _ _ _ x rest.0 kept in
-    let cuts : Cuts x.before x.after a.place = subst (λ (told : Said). Changes told x.before x.after) a.gone rest.0.changes in
+    let cuts : Cuts x.before x.after a.place = subst (λ (content : ReplyContent). Changes content x.before x.after) a.gone rest.0.changes in
     let dead : place_among r (names_after x.number x.reply x.before x.after x.names) (live_places x.after) ≡ None =
-    ap (λ (told : Said). place_among r (names_after x.number told x.before x.after x.names) (live_places x.after)) a.gone ∙ cut_none r x.number a.place x.before x.after x.names rest.0.sound cuts kx a.stood in
+    ap (λ (content : ReplyContent). place_among r (names_after x.number content x.before x.after x.names) (live_places x.after)) a.gone ∙ cut_none r x.number a.place x.before x.after x.names rest.0.sound cuts kx a.stood in
     let born : r.birth < suc (n + length a.earlier) = omega (arith, among_born x.number r x.names (live_places x.before) a.place kx.born a.stood, rest.0.number) in
     let none = dead_none r _ x.after _ x.to a.later last rest.1 kn born dead in
     let later : rows_of r a.later ≡ [] = none_if r a.later (comes r _ x.after _ x.to a.later last rest.1 kn) none in
@@ -184,15 +184,15 @@ among_self r nm p (q ∷ front) back [] own new e = absurd (omega (arith, e))
 among_self r nm p (q ∷ front) back (x ∷ names) own new e =
     among_self_cons r x p q (is_name r x) _ names refl new (λ rest. among_self r nm p front back names own rest (let s : length names ≡ length (front ++ back) = omega (arith, e) in s))
 
-put_stands : (r : RecordName) (n : ℕ) (old new : Store) (names : List RecordName) → IsSound old → Puts old new r.place → Keeps n old names → r.birth ≡ n → place_among r (names_after n (Placed r.place) old new names) (live_places new) ≡ Some r.place
-put_stands r n old new names sound puts k born =
+put_is_at : (r : RecordName) (n : ℕ) (old new : Store) (names : List RecordName) → IsSound old → Puts old new r.place → Keeps n old names → r.birth ≡ n → place_among r (names_after n (Placed r.place) old new names) (live_places new) ≡ Some r.place
+put_is_at r n old new names sound puts k born =
     let i = puts_insert old new r.place sound puts in
     let nm : RecordName = record { place = r.place; birth = n } in
     ap (λ (j : ℕ). place_among r (take j names ++ nm ∷ drop j names) (live_places new)) i.rank_is ∙ ap (place_among r (take (length i.front) names ++ nm ∷ drop (length i.front) names)) i.hi_is
     ∙ among_self r nm r.place i.front i.back names (self_by r nm (r.place == nm.place) (r.birth == nm.birth) refl refl refl born) (unborn n r names k.born (omega (arith, born))) (k.as_many ∙ ap length i.lo_is)
 
-not_step : (w : ℕ) (told : Said) (p : ℕ) → told ≡ Placed p → (tells_step w told ≡ false) × (is_rewritten told ≡ false)
-not_step w told p e = (ap (tells_step w) e, ap is_rewritten e)
+not_step : (w : ℕ) (content : ReplyContent) (p : ℕ) → content ≡ Placed p → (is_step_reply w content ≡ false) × (is_rewritten content ≡ false)
+not_step w content p e = (ap (is_step_reply w) e, ap is_rewritten e)
 
 some_empty : (o : Option ℕ) (rows : List Row) → rows ≡ [] → rows_at_some o rows ≡ []
 some_empty None rows e = refl
@@ -206,15 +206,15 @@ behind_never r at n s names c t last h k a lt =
     let kept = keeps_rest n s names c a.earlier (x ∷ a.later) last whole k in
     let kx = keeps_here _ _ _ _ x rest.0 kept in
     let kn = keeps_next _ _ _ _ x rest.0 kept in
-    let told = not_step x.walk x.reply r.place a.placed in
+    let content = not_step x.walk x.reply r.place a.placed in
     let front = track_front n s names c a.earlier (x ∷ a.later) last whole in
     let first : rows_of r a.earlier ≡ [] = none_if r a.earlier (comes r n s names c a.earlier _ front k) (early_none r n s names c a.earlier _ front k (omega (arith, a.born, rest.0.number))) in
     let here : rows_here r x ≡ [] = some_empty (place_of r x) (rows_at_event x) (ap (rows_of_reply x.walk x.number) a.placed) in
-    let puts : Puts x.before x.after r.place = subst (λ (z : Said). Changes z x.before x.after) a.placed rest.0.changes in
-    let stands : place_among r (names_after x.number x.reply x.before x.after x.names) (live_places x.after) ≡ Some r.place =
-    ap (λ (z : Said). place_among r (names_after x.number z x.before x.after x.names) (live_places x.after)) a.placed ∙ put_stands r x.number x.before x.after x.names rest.0.sound puts kx a.born in
-    let to : x.to ≡ Some at = elim (effect_of x rest.0.effect) [ inl holds ↦ holds.stays at a.cursor ∙ ap Some (carry_by-same x.reply x.before x.after at told.1) | inr goes ↦ cc (goes.own, told.0) ] in
-    let none = behind_none r _ x.after _ x.to a.later last at rest.1 kn (omega (arith, a.born, rest.0.number)) to (λ q e. (let same : r.place ≡ q = cc (stands, e) in omega arith)) in
+    let puts : Puts x.before x.after r.place = subst (λ (z : ReplyContent). Changes z x.before x.after) a.placed rest.0.changes in
+    let is_there : place_among r (names_after x.number x.reply x.before x.after x.names) (live_places x.after) ≡ Some r.place =
+    ap (λ (z : ReplyContent). place_among r (names_after x.number z x.before x.after x.names) (live_places x.after)) a.placed ∙ put_is_at r x.number x.before x.after x.names rest.0.sound puts kx a.born in
+    let to : x.to ≡ Some at = elim (effect_of x rest.0.effect) [ inl holds ↦ holds.stays at a.cursor ∙ ap Some (carry_by-same x.reply x.before x.after at content.1) | inr goes ↦ cc (goes.own, content.0) ] in
+    let none = behind_none r _ x.after _ x.to a.later last at rest.1 kn (omega (arith, a.born, rest.0.number)) to (λ q e. (let same : r.place ≡ q = cc (is_there, e) in omega arith)) in
     let later : rows_of r a.later ≡ [] = none_if r a.later (comes r _ x.after _ x.to a.later last rest.1 kn) none in
     ap (rows_of r) a.track_is ∙ flat_map-append (rows_here r) a.earlier (x ∷ a.later) ∙ ap (λ (rows : List Row). rows ++ (rows_here r x ++ rows_of r a.later)) first ∙ ap (λ (rows : List Row). rows ++ rows_of r a.later) here ∙ later
 

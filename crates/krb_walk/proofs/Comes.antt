@@ -95,7 +95,7 @@ behind_next r n s names o x c h k lt b = λ q e. behind_on (place_of r x) _ c _ 
 
 misses_by : (r : RecordName) (x : WalkEvent) (g : Advances x) (o : Option ℕ) → place_of r x ≡ o → ((p : ℕ) → o ≡ Some p → p < g.at) → passes_record r x ≡ false
 misses_by r x g None e b = passes_none r x e
-misses_by r x g (Some p) e b = let lt = b p refl in let misses : (nat_le g.at p && nat_lt p (end_of_step x g.at)) ≡ false = grind (arith, nat_tests) in passes_by r x p g.at _ g.stepped e g.stood g.stands ∙ misses
+misses_by r x g (Some p) e b = let lt = b p refl in let misses : (nat_le g.at p && nat_lt p (end_of_step x g.at)) ≡ false = grind (arith, nat_tests) in passes_by r x p g.at _ g.stepped e g.stood g.is_there ∙ misses
 
 -- a record is before the cursor after an event
 pub record StaysBehind (r : RecordName) (x : WalkEvent) : Type 0 where
@@ -110,7 +110,7 @@ behind_step r n s names c x g h k lt b =
     let put = carry_by-own x.walk x.reply x.before x.after to g.own in
     record {
       to = to;
-      is = g.stands;
+      is = g.is_there;
       behind = subst (λ (m : ℕ). IsBehind r (names_after x.number x.reply x.before x.after x.names) x.after m) put (behind_next r n s names c x to h k lt b);
     }
 
@@ -197,7 +197,7 @@ passed_at r n s names c x g p h k is e =
 
 passed_by : (r : RecordName) (n : ℕ) (s : Store) (names : List RecordName) (c : Option ℕ) (x : WalkEvent) (g : Advances x) (o : Option ℕ) → IsWalkEvent n s names c x → Keeps n s names → place_of r x ≡ o → passes_record r x ≡ true → IsPassed r n x
 passed_by r n s names c x g None h k is e = cc (passes_none r x is, e)
-passed_by r n s names c x g (Some p) h k is e = passed_at r n s names c x g p h k is (sym (passes_by r x p g.at _ g.stepped is g.stood g.stands) ∙ e)
+passed_by r n s names c x g (Some p) h k is e = passed_at r n s names c x g p h k is (sym (passes_by r x p g.at _ g.stepped is g.stood g.is_there) ∙ e)
 
 pub passed : (r : RecordName) (n : ℕ) (s : Store) (names : List RecordName) (c : Option ℕ) (x : WalkEvent) → IsWalkEvent n s names c x → Keeps n s names → passes_record r x ≡ true → IsPassed r n x
 passed r n s names c x h k e = elim (effect_of x h.effect) [
@@ -214,11 +214,11 @@ comes_at : (r : RecordName) (n : ℕ) (s : Store) (names : List RecordName) (c :
     → (nat_le g.at p && nat_lt p (end_of_step x g.at)) ≡ b → Comes r xs → Comes r (x ∷ xs)
 comes_at r n s names c x xs last g p true h k is e ih =
     let held = in_lives x.before.first p x.before.cells h.0.sound (among_any r x.names (live_places x.before) p is) in
-    let rows = here_some r x p is ∙ ap (rows_at p) g.tells ∙ step_at x.number x.before g.at p true h.0.sound (h.0.here g.at g.stood) e in
-    let now = passes_by r x p g.at _ g.stepped is g.stood g.stands ∙ e in
+    let rows = here_some r x p is ∙ ap (rows_at p) g.same_rows ∙ step_at x.number x.before g.at p true h.0.sound (h.0.here g.at g.stood) e in
+    let now = passes_by r x p g.at _ g.stepped is g.stood g.is_there ∙ e in
     comes_now r x xs now (one_found x.number (live_at x.before p) held.held (rows_here r x) held.is rows) (passed_once r n s names c x xs last h k now) ih
 comes_at r n s names c x xs last g p false h k is e ih =
-    comes_later r x xs (passes_by r x p g.at _ g.stepped is g.stood g.stands ∙ e) (here_some r x p is ∙ ap (rows_at p) g.tells ∙ step_at x.number x.before g.at p false h.0.sound (h.0.here g.at g.stood) e) ih
+    comes_later r x xs (passes_by r x p g.at _ g.stepped is g.stood g.is_there ∙ e) (here_some r x p is ∙ ap (rows_at p) g.same_rows ∙ step_at x.number x.before g.at p false h.0.sound (h.0.here g.at g.stood) e) ih
 
 comes_go : (r : RecordName) (n : ℕ) (s : Store) (names : List RecordName) (c : Option ℕ) (x : WalkEvent) (xs : Track) (last : Store) (g : Advances x) (o : Option ℕ) → IsTrack n s names c (x ∷ xs) last → Keeps n s names → place_of r x ≡ o → Comes r xs → Comes r (x ∷ xs)
 comes_go r n s names c x xs last g None h k is ih = comes_later r x xs (passes_none r x is) (here_none r x is) ih

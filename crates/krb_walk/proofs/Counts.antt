@@ -6,7 +6,7 @@ use Rattle.std.proofs.lemmas.List.{length-append}
 use Rattle.std.proofs.lemmas.Bool.Decides.{nat_tests}
 use Rattle.krb_walk.specs.Store.{Store, Record, end_of, IsSound, records, next_live}
 use Rattle.krb_walk.specs.Changes.{Changes}
-use Rattle.krb_walk.specs.Said.{Said, Placed, Gone, Rewritten, is_placed}
+use Rattle.krb_walk.specs.ReplyContent.{ReplyContent, Placed, Gone, Rewritten, is_placed}
 use Rattle.krb_walk.specs.Events.{stop_cursor}
 use Rattle.krb_walk.specs.History.{Row}
 use Rattle.krb_walk.specs.Ranks.{live_places, carry}
@@ -72,8 +72,8 @@ go_count n s c None sound is = omega (arith, ap length (none_at_end s sound))
 go_count n s c (Some r) sound is = omega (arith, ap length (stops_give_records s c r sound is).first)
 
 -- 1 if a reply accepts an addition, or else 0
-abbrev added : Said → ℕ
-added told = cond (is_placed told) 1 0
+abbrev added : ReplyContent → ℕ
+added content = cond (is_placed content) 1 0
 
 ahead_below_by : (a b : Bool) (p : ℕ) (xs ys : List ℕ) (n : ℕ) → (a ≡ true → b ≡ false) → (a ≡ false → b ≡ true) → length xs + length ys ≡ n → length (cond a (p ∷ xs) xs) + length (cond b (p ∷ ys) ys) ≡ suc n
 ahead_below_by true true p xs ys n h k e = cc (h refl)
@@ -85,13 +85,13 @@ ahead_below : (c : ℕ) (ps : List ℕ) → ahead_of c ps + below c ps ≡ lengt
 ahead_below c [] = refl
 ahead_below c (p ∷ ps) = ahead_below_by (nat_le c p) (nat_lt p c) p (filter (λ q. nat_le c q) ps) (filter (λ q. nat_lt q c) ps) (length ps) (λ e. grind (arith, nat_tests)) (λ e. grind (arith, nat_tests)) (ahead_below c ps)
 
-shift_count : (told : Said) (old new : Store) (c : ℕ) → IsSound old → Changes told old new → length (records_from new (carry_by told old new c)) ≤ length (records_from old c) + added told
+shift_count : (content : ReplyContent) (old new : Store) (c : ℕ) → IsSound old → Changes content old new → length (records_from new (carry_by content old new c)) ≤ length (records_from old c) + added content
 shift_count (Placed p) old new c sound h = let i = puts_insert old new p sound h in omega (arith, count_in (λ q. nat_le c q) i.front i.back p, ap (ahead_of c) i.lo_is, ap (ahead_of c) i.hi_is, ahead_places c (records old), ahead_places c (records new))
 shift_count (Gone p) old new c sound h = let i = cuts_insert old new p sound h in omega (arith, count_out (λ q. nat_le c q) i.front i.back p, ap (ahead_of c) i.lo_is, ap (ahead_of c) i.hi_is, ahead_places c (records old), ahead_places c (records new))
 shift_count (Rewritten p) old new c sound h =
     let kept = carry_keeps_rank old new c h in
     omega (arith, kept, h.as_many, ahead_below c (live_places old), ahead_below (carry old new c) (live_places new), ahead_places c (records old), ahead_places (carry old new c) (records new))
-shift_count told old new c sound h = omega (arith, ap (λ (s : Store). length (records_from s c)) h)
+shift_count content old new c sound h = omega (arith, ap (λ (s : Store). length (records_from s c)) h)
 
 additions_cons : (x : WalkEvent) (xs : Track) (b : Bool) → is_placed x.reply ≡ b → additions (x ∷ xs) ≡ added x.reply + additions xs
 additions_cons x xs true e = rw e (omega arith)
@@ -112,26 +112,26 @@ few_steps n s names c (x ∷ t) u last d h at =
           let stop = end_of_step x goes.at in
           let is : d ≡ goes.at = cc (at, goes.stood, h.0.from) in
           let from = ap (λ (m : ℕ). length (records_from x.before m)) is in
-          let ih = few_steps (suc n) x.after _ x.to t u last stop h.1 goes.stands in
+          let ih = few_steps (suc n) x.after _ x.to t u last stop h.1 goes.is_there in
           let go = go_count x.number x.before goes.at (next_live x.before goes.at) h.0.sound refl in
           let put = ap (λ (m : ℕ). length (records_from x.after m)) (carry_by-own x.walk x.reply x.before x.after stop goes.own) in
-          omega (arith, ih, adds, rows, same, from, go, put, ap length goes.tells, shift_count x.reply x.before x.after stop h.0.sound h.0.changes))
+          omega (arith, ih, adds, rows, same, from, go, put, ap length goes.same_rows, shift_count x.reply x.before x.after stop h.0.sound h.0.changes))
     ]
 
 -- each row is of a record that is alive
 record Named (names : List RecordName) (ps : List ℕ) (p : ℕ) : Type 0 where
   name : RecordName
-  stands : place_among name names ps ≡ Some p
+  is_there : place_among name names ps ≡ Some p
 
 itself : (x : RecordName) → is_name x x ≡ true
 itself x = let one : (x.place == x.place) ≡ true = grind (arith, nat_tests) in let two : (x.birth == x.birth) ≡ true = grind (arith, nat_tests) in rw (one, two) refl
 
 named_head : (x : RecordName) (q p : ℕ) (names : List RecordName) (ps : List ℕ) → (q == p) ≡ true → Named (x ∷ names) (q ∷ ps) p
-named_head x q p names ps e = let same : q ≡ p = grind (arith, nat_tests) in record { name = x; stands = ap (λ (b : Bool). cond b (Some q) (place_among x names ps)) (itself x) ∙ ap Some same }
+named_head x q p names ps e = let same : q ≡ p = grind (arith, nat_tests) in record { name = x; is_there = ap (λ (b : Bool). cond b (Some q) (place_among x names ps)) (itself x) ∙ ap Some same }
 
 named_tail : (x : RecordName) (q p : ℕ) (b : Bool) (names : List RecordName) (ps : List ℕ) → (n : Named names ps p) → is_name n.name x ≡ b → list_any (is_name x) names ≡ false → Named (x ∷ names) (q ∷ ps) p
-named_tail x q p true names ps n e apart = let same : n.name ≡ x = same_name_is n.name x e in cc (n.stands, among_none n.name names ps (subst (λ (y : RecordName). list_any (is_name y) names ≡ false) (sym same) apart))
-named_tail x q p false names ps n e apart = record { name = n.name; stands = ap (λ (b : Bool). cond b (Some q) (place_among n.name names ps)) e ∙ n.stands }
+named_tail x q p true names ps n e apart = let same : n.name ≡ x = same_name_is n.name x e in cc (n.is_there, among_none n.name names ps (subst (λ (y : RecordName). list_any (is_name y) names ≡ false) (sym same) apart))
+named_tail x q p false names ps n e apart = record { name = n.name; is_there = ap (λ (b : Bool). cond b (Some q) (place_among n.name names ps)) e ∙ n.is_there }
 
 named_of : (p : ℕ) (names : List RecordName) (ps : List ℕ) → AreDistinct names → length names ≡ length ps → list_any (λ q. q == p) ps ≡ true → Named names ps p
 named_of p [] [] d e h = cc
@@ -158,7 +158,7 @@ named_next : (x : WalkEvent) (c : ℕ) (found : Option Record) → IsSound x.bef
 named_next x c None sound k is = tt
 named_next x c (Some r) sound k is =
     let named = named_of r.place x.names (live_places x.before) k.distinct k.as_many (in_filtered (λ y. nat_le c y.place) (records x.before) r _ (stops_give_records x.before c r sound is).first) in
-    (record { name = named.name; stands = named.stands }, tt)
+    (record { name = named.name; is_there = named.is_there }, tt)
 
 pub rows_named : (n : ℕ) (s : Store) (names : List RecordName) (c : Option ℕ) (t : Track) (last : Store) → IsTrack n s names c t last → Keeps n s names → AllByRecursion (λ x. AllByRecursion (λ row. IsNamed x row.stood.place) (rows_at_event x)) t
 rows_named n s names c [] last h k = tt
@@ -168,5 +168,5 @@ rows_named n s names c (x ∷ t) last h k =
     let here : (rows : List Row) → rows_at_event x ≡ rows → AllByRecursion (λ row. IsNamed x row.stood.place) rows → AllByRecursion (λ row. IsNamed x row.stood.place) (rows_at_event x) = λ rows e all. subst (AllByRecursion (λ row. IsNamed x row.stood.place)) (sym e) all in
     elim (effect_of x h.0.effect) [
       | inl holds ↦ (here [] holds.silent tt, rest)
-      | inr goes ↦ (here (rows_of_next x.number (next_live x.before goes.at)) goes.tells (named_next x goes.at (next_live x.before goes.at) h.0.sound now refl), rest)
+      | inr goes ↦ (here (rows_of_next x.number (next_live x.before goes.at)) goes.same_rows (named_next x goes.at (next_live x.before goes.at) h.0.sound now refl), rest)
     ]

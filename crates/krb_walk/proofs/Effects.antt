@@ -8,9 +8,9 @@ use Rattle.krb_walk.specs.declared.fault.FaultKind.{FaultKind}
 use Rattle.krb_walk.specs.declared.refusal.Code.{Code}
 use Rattle.krb_walk.specs.Store.{Cell, Store, Record, end_from, end_of, is_place_from, IsSound, fault_from, is_place, next_live}
 use Rattle.krb_walk.specs.Changes.{Changes}
-use Rattle.krb_walk.specs.Said.{Said, Placed, Gone, Rewritten, tells_step, is_rewritten}
+use Rattle.krb_walk.specs.ReplyContent.{ReplyContent, Placed, Gone, Rewritten, is_step_reply, is_rewritten}
 use Rattle.krb_walk.specs.Rules.{Rules}
-use Rattle.krb_walk.specs.Events.{SessionState, after, reply_to, store_after, cursors_after, stop_cursor, stop_said, end_said, put_said, cut_said, cut_store, rewrite_said, rewrite_cursors, step_said, step_cursors}
+use Rattle.krb_walk.specs.Events.{SessionState, after, reply_to, store_after, cursors_after, stop_cursor, stop_reply, end_reply, put_reply, cut_reply, cut_store, rewrite_reply, rewrite_cursors, step_reply, step_cursors}
 use Rattle.krb_walk.specs.History.{IsReady, IsLawful, AllLawful, AllPlain, moment, history, state_after, steps_walk}
 use Rattle.krb_walk.specs.Ranks.{rank, nth_or, carry}
 use Rattle.krb_walk.specs.Track.{carry_by, AnswersStep}
@@ -23,30 +23,30 @@ use Rattle.krb_walk.proofs.WalkEvents.{carry_by-same}
 pub same_extends : (old new : Store) → new ≡ old → Extends old new
 same_extends old new e = subst (λ (s : Store). Extends old s) (sym e) (extends_self old)
 
-pub changes-extends : (told : Said) (old new : Store) → is_rewritten told ≡ false → Changes told old new → Extends old new
+pub changes-extends : (content : ReplyContent) (old new : Store) → is_rewritten content ≡ false → Changes content old new → Extends old new
 changes-extends (Placed p) old new plain h = puts-extends old new p h
 changes-extends (Gone p) old new plain h = cuts-extends old new p h
 changes-extends (Rewritten p) old new plain h = cc
-changes-extends told old new plain h = same_extends old new h
+changes-extends content old new plain h = same_extends old new h
 
-put_extends : {S : Type 0} (given : Result (ℕ × S) Code) (old new : Store) → Changes (put_said given) old new → Extends old new
+put_extends : {S : Type 0} (given : Result (ℕ × S) Code) (old new : Store) → Changes (put_reply given) old new → Extends old new
 put_extends (Ok given) old new h = puts-extends old new given.0 h
 put_extends (Err code) old new h = same_extends old new h
 
-cut_extends : {S : Type 0} (p : ℕ) (given : Result S Code) (old new : Store) → Changes (cut_said p given) old new → Extends old new
+cut_extends : {S : Type 0} (p : ℕ) (given : Result S Code) (old new : Store) → Changes (cut_reply p given) old new → Extends old new
 cut_extends p (Ok given) old new h = cuts-extends old new p h
 cut_extends p (Err code) old new h = same_extends old new h
 
 -- an event that leaves the store unchanged is lawful
-changes_end : (w end : ℕ) (fault : Option FaultKind) (s : Store) → Changes (end_said w end fault) s s
+changes_end : (w end : ℕ) (fault : Option FaultKind) (s : Store) → Changes (end_reply w end fault) s s
 changes_end w end None s = refl
 changes_end w end (Some kind) s = refl
 
-changes_stop : (s : Store) (w : ℕ) (found : Option Record) → Changes (stop_said s w found) s s
+changes_stop : (s : Store) (w : ℕ) (found : Option Record) → Changes (stop_reply s w found) s s
 changes_stop s w None = changes_end w (end_of s) s.fault s
 changes_stop s w (Some r) = refl
 
-changes_step : (s : Store) (w : ℕ) (o : Option ℕ) → Changes (step_said s w o) s s
+changes_step : (s : Store) (w : ℕ) (o : Option ℕ) → Changes (step_reply s w o) s s
 changes_step s w None = refl
 changes_step s w (Some c) = changes_stop s w (next_live s c)
 
@@ -108,7 +108,7 @@ at_rewrite : {S : Type 0} (seen : S → Store) (old : S) (cursors : List ℕ) (g
 at_rewrite seen old cursors (Ok new) all w c e = let was = was_map (carry (seen old) (seen new)) cursors w c e in subst (λ (p : ℕ). is_place (seen new) p ≡ true) was.is (place_carried (seen old) (seen new) was.at)
 at_rewrite seen old cursors (Err code) all w c e = all w c e
 
-rewrite_sound : {S : Type 0} (seen : S → Store) (old : S) (given : Result S Code) → Changes (rewrite_said seen given) (seen old) (seen (cut_store old given)) → IsSound (seen old) → IsSound (seen (cut_store old given))
+rewrite_sound : {S : Type 0} (seen : S → Store) (old : S) (given : Result S Code) → Changes (rewrite_reply seen given) (seen old) (seen (cut_store old given)) → IsSound (seen old) → IsSound (seen (cut_store old given))
 rewrite_sound seen old (Ok new) h sound = h.sound
 rewrite_sound seen old (Err code) h sound = sound
 
@@ -138,69 +138,69 @@ ready_after r s e ready h = record {
 pub record Unmoved {S I : Type 0} (r : Rules S I) (s : SessionState S) (e : Event I) (w : ℕ) : Type 0 where
   pub idle : steps_walk s e w ≡ false
   pub stays : (d : ℕ) → slice_get s.cursors w ≡ Some d → slice_get (cursors_after r s e) w ≡ Some (carry_by (reply_to r s e) (r.seen s.store) (r.seen (store_after r s e)) d)
-  pub other : tells_step w (reply_to r s e) ≡ false
+  pub other : is_step_reply w (reply_to r s e) ≡ false
 
 pub record Moves {S I : Type 0} (r : Rules S I) (s : SessionState S) (e : Event I) (w : ℕ) : Type 0 where
   pub stepped : steps_walk s e w ≡ true
   pub at : ℕ
   pub stood : slice_get s.cursors w ≡ Some at
-  pub stands : slice_get (cursors_after r s e) w ≡ Some (stop_cursor (end_of (r.seen s.store)) (next_live (r.seen s.store) at))
+  pub is_there : slice_get (cursors_after r s e) w ≡ Some (stop_cursor (end_of (r.seen s.store)) (next_live (r.seen s.store) at))
   pub answered : AnswersStep (r.seen s.store) w at (reply_to r s e) (stop_cursor (end_of (r.seen s.store)) (next_live (r.seen s.store) at))
 
 -- replies that are not to a step of the walk
-other_cond : (w : ℕ) (b : Bool) (x y : Said) → tells_step w x ≡ false → tells_step w y ≡ false → tells_step w (cond b x y) ≡ false
+other_cond : (w : ℕ) (b : Bool) (x y : ReplyContent) → is_step_reply w x ≡ false → is_step_reply w y ≡ false → is_step_reply w (cond b x y) ≡ false
 other_cond w true x y h k = h
 other_cond w false x y h k = k
 
-other_put : {S : Type 0} (w : ℕ) (given : Result (ℕ × S) Code) → tells_step w (put_said given) ≡ false
+other_put : {S : Type 0} (w : ℕ) (given : Result (ℕ × S) Code) → is_step_reply w (put_reply given) ≡ false
 other_put w (Ok given) = refl
 other_put w (Err code) = refl
 
-other_cut : {S : Type 0} (w p : ℕ) (given : Result S Code) → tells_step w (cut_said p given) ≡ false
+other_cut : {S : Type 0} (w p : ℕ) (given : Result S Code) → is_step_reply w (cut_reply p given) ≡ false
 other_cut w p (Ok given) = refl
 other_cut w p (Err code) = refl
 
-other_rewrite : {S : Type 0} (w : ℕ) (seen : S → Store) (given : Result S Code) → tells_step w (rewrite_said seen given) ≡ false
+other_rewrite : {S : Type 0} (w : ℕ) (seen : S → Store) (given : Result S Code) → is_step_reply w (rewrite_reply seen given) ≡ false
 other_rewrite w seen (Ok new) = refl
 other_rewrite w seen (Err code) = refl
 
 -- replies that accept no rewrite
-plain_cond : (b : Bool) (x y : Said) → is_rewritten x ≡ false → is_rewritten y ≡ false → is_rewritten (cond b x y) ≡ false
+plain_cond : (b : Bool) (x y : ReplyContent) → is_rewritten x ≡ false → is_rewritten y ≡ false → is_rewritten (cond b x y) ≡ false
 plain_cond true x y h k = h
 plain_cond false x y h k = k
 
-plain_end : (w end : ℕ) (fault : Option FaultKind) → is_rewritten (end_said w end fault) ≡ false
+plain_end : (w end : ℕ) (fault : Option FaultKind) → is_rewritten (end_reply w end fault) ≡ false
 plain_end w end None = refl
 plain_end w end (Some kind) = refl
 
-plain_stop : (s : Store) (w : ℕ) (found : Option Record) → is_rewritten (stop_said s w found) ≡ false
+plain_stop : (s : Store) (w : ℕ) (found : Option Record) → is_rewritten (stop_reply s w found) ≡ false
 plain_stop s w None = plain_end w (end_of s) s.fault
 plain_stop s w (Some r) = refl
 
-plain_step : (s : Store) (w : ℕ) (o : Option ℕ) → is_rewritten (step_said s w o) ≡ false
+plain_step : (s : Store) (w : ℕ) (o : Option ℕ) → is_rewritten (step_reply s w o) ≡ false
 plain_step s w None = refl
 plain_step s w (Some c) = plain_stop s w (next_live s c)
 
-plain_put : {S : Type 0} (given : Result (ℕ × S) Code) → is_rewritten (put_said given) ≡ false
+plain_put : {S : Type 0} (given : Result (ℕ × S) Code) → is_rewritten (put_reply given) ≡ false
 plain_put (Ok given) = refl
 plain_put (Err code) = refl
 
-plain_cut : {S : Type 0} (p : ℕ) (given : Result S Code) → is_rewritten (cut_said p given) ≡ false
+plain_cut : {S : Type 0} (p : ℕ) (given : Result S Code) → is_rewritten (cut_reply p given) ≡ false
 plain_cut p (Ok given) = refl
 plain_cut p (Err code) = refl
 
-stays_plain : (told : Said) (old new : Store) (q : Option ℕ) (d : ℕ) → is_rewritten told ≡ false → q ≡ Some d → q ≡ Some (carry_by told old new d)
-stays_plain told old new q d plain h = h ∙ sym (ap Some (carry_by-same told old new d plain))
+stays_plain : (content : ReplyContent) (old new : Store) (q : Option ℕ) (d : ℕ) → is_rewritten content ≡ false → q ≡ Some d → q ≡ Some (carry_by content old new d)
+stays_plain content old new q d plain h = h ∙ sym (ap Some (carry_by-same content old new d plain))
 
-rewrite_stays : {S : Type 0} (seen : S → Store) (old : S) (cursors : List ℕ) (given : Result S Code) (w d : ℕ) → slice_get cursors w ≡ Some d → slice_get (rewrite_cursors seen old cursors given) w ≡ Some (carry_by (rewrite_said seen given) (seen old) (seen (cut_store old given)) d)
+rewrite_stays : {S : Type 0} (seen : S → Store) (old : S) (cursors : List ℕ) (given : Result S Code) (w d : ℕ) → slice_get cursors w ≡ Some d → slice_get (rewrite_cursors seen old cursors given) w ≡ Some (carry_by (rewrite_reply seen given) (seen old) (seen (cut_store old given)) d)
 rewrite_stays seen old cursors (Ok new) w d h = get_map (carry (seen old) (seen new)) cursors w d h
 rewrite_stays seen old cursors (Err code) w d h = h
 
-other_end : (w v end : ℕ) (fault : Option FaultKind) → (v == w) ≡ false → tells_step w (end_said v end fault) ≡ false
+other_end : (w v end : ℕ) (fault : Option FaultKind) → (v == w) ≡ false → is_step_reply w (end_reply v end fault) ≡ false
 other_end w v end None e = e
 other_end w v end (Some kind) e = e
 
-other_walk : (s : Store) (w v : ℕ) (found : Option Record) → (v == w) ≡ false → tells_step w (stop_said s v found) ≡ false
+other_walk : (s : Store) (w v : ℕ) (found : Option Record) → (v == w) ≡ false → is_step_reply w (stop_reply s v found) ≡ false
 other_walk s w v None e = other_end w v (end_of s) s.fault e
 other_walk s w v (Some found) e = e
 
@@ -209,16 +209,16 @@ get_push_cond true cursors p w d h = get-append cursors (p ∷ []) w d h
 get_push_cond false cursors p w d h = h
 
 -- the reply to a step of the walk
-answered_none : (s : Store) (w c : ℕ) (fault : Option FaultKind) → next_live s c ≡ None → s.fault ≡ fault → AnswersStep s w c (end_said w (end_of s) fault) (end_of s)
+answered_none : (s : Store) (w c : ℕ) (fault : Option FaultKind) → next_live s c ≡ None → s.fault ≡ fault → AnswersStep s w c (end_reply w (end_of s) fault) (end_of s)
 answered_none s w c None is e = (refl, is, e, refl, refl)
 answered_none s w c (Some kind) is e = (refl, is, ap (fault_from (end_of s)) e, refl)
 
-answered_by : (s : Store) (w c : ℕ) (found : Option Record) → next_live s c ≡ found → AnswersStep s w c (stop_said s w found) (stop_cursor (end_of s) found)
+answered_by : (s : Store) (w c : ℕ) (found : Option Record) → next_live s c ≡ found → AnswersStep s w c (stop_reply s w found) (stop_cursor (end_of s) found)
 answered_by s w c None is = answered_none s w c s.fault is refl
 answered_by s w c (Some r) is = (refl, is, refl)
 
 pub record OwnStep {S I : Type 0} (r : Rules S I) (s : SessionState S) (w c : ℕ) : Type 0 where
-  pub stands : slice_get (cursors_after r s (Step w)) w ≡ Some (stop_cursor (end_of (r.seen s.store)) (next_live (r.seen s.store) c))
+  pub is_there : slice_get (cursors_after r s (Step w)) w ≡ Some (stop_cursor (end_of (r.seen s.store)) (next_live (r.seen s.store) c))
   pub answered : AnswersStep (r.seen s.store) w c (reply_to r s (Step w)) (stop_cursor (end_of (r.seen s.store)) (next_live (r.seen s.store) c))
 
 pub own_step : {S I : Type 0} (r : Rules S I) (s : SessionState S) (w c : ℕ) → slice_get s.cursors w ≡ Some c → OwnStep r s w c
@@ -226,15 +226,15 @@ own_step r s w c is =
     let store = r.seen s.store in
     let to = stop_cursor (end_of store) (next_live store c) in
     record {
-      stands = ap (λ o. slice_get (step_cursors store s.cursors w o) w) is ∙ get-set_same s.cursors w to c is;
-      answered = subst (λ (o : Option ℕ). AnswersStep store w c (step_said store w o) to) (sym is) (answered_by store w c (next_live store c) refl);
+      is_there = ap (λ o. slice_get (step_cursors store s.cursors w o) w) is ∙ get-set_same s.cursors w to c is;
+      answered = subst (λ (o : Option ℕ). AnswersStep store w c (step_reply store w o) to) (sym is) (answered_by store w c (next_live store c) refl);
     }
 
 moves_own : {S I : Type 0} (r : Rules S I) (s : SessionState S) (w c : ℕ) → slice_get s.cursors w ≡ Some c → Moves r s (Step w) w
 moves_own r s w c is =
     let step = own_step r s w c is in
     let itself : (w == w) ≡ true = grind (arith, nat_tests) in
-    record { stepped = ap (λ (b : Bool). b && is_some (slice_get s.cursors w)) itself ∙ ap (λ (o : Option ℕ). is_some o) is; at = c; stood = is; stands = step.stands; answered = step.answered }
+    record { stepped = ap (λ (b : Bool). b && is_some (slice_get s.cursors w)) itself ∙ ap (λ (o : Option ℕ). is_some o) is; at = c; stood = is; is_there = step.is_there; answered = step.answered }
 
 -- a step of another walk, or of none
 idle_none : (cursors : List ℕ) (v w : ℕ) (b : Bool) → slice_get cursors v ≡ None → (v == w) ≡ b → ((v == w) && is_some (slice_get cursors w)) ≡ false
@@ -249,7 +249,7 @@ effect_step r s v w None b is e =
     inl (record {
       idle = idle_none s.cursors v w b is e;
       stays = λ d h. stays_plain _ store store _ d (plain_step store v (slice_get s.cursors v)) (ap (λ o. slice_get (step_cursors store s.cursors v o) w) is ∙ h);
-      other = ap (λ o. tells_step w (step_said store v o)) is;
+      other = ap (λ o. is_step_reply w (step_reply store v o)) is;
     })
 effect_step r s v w (Some c) false is e =
     let store = r.seen s.store in
@@ -257,7 +257,7 @@ effect_step r s v w (Some c) false is e =
     inl (record {
       idle = ap (λ (b : Bool). b && is_some (slice_get s.cursors w)) e;
       stays = λ d h. stays_plain _ store store _ d (plain_step store v (slice_get s.cursors v)) (ap (λ o. slice_get (step_cursors store s.cursors v o) w) is ∙ get-set_other s.cursors v _ w differ ∙ h);
-      other = ap (λ o. tells_step w (step_said store v o)) is ∙ other_walk store w v (next_live store c) e;
+      other = ap (λ o. is_step_reply w (step_reply store v o)) is ∙ other_walk store w v (next_live store c) e;
     })
 effect_step r s v w (Some c) true is e =
     let same : v ≡ w = grind (arith, nat_tests) in

@@ -23,7 +23,7 @@ use Rattle.krb_walk.proofs.ComeLaws.{each_comes}
 use Rattle.krb_walk.proofs.Names.{first_named}
 use Rattle.krb_walk.proofs.Unique.{one_past, names_many, names_at}
 use Rattle.krb_walk.proofs.Counts.{rows_named, few_steps}
-use Rattle.krb_walk.proofs.Faults.{faulted_from, steps_told, others_end}
+use Rattle.krb_walk.proofs.Faults.{faulted_from, steps_replied, others_end}
 use Rattle.krb_walk.proofs.Joins.{history_walks, walk_goes_on, joined_next, length_track}
 
 few_of : (n : ℕ) (s : Store) (names : List RecordName) (c : Option ℕ) (t : Track) (last : Store) → IsTrack n s names c t last → (earlier : Track) (x : WalkEvent) (steps later : Track) (d : ℕ) → t ≡ earlier ++ (x ∷ steps ++ later) → x.from ≡ Some d → length (given_over (x ∷ steps)) ≤ length (records_from x.before d) + additions (x ∷ steps)
@@ -47,12 +47,12 @@ walk_fair first start t last walk =
       given_is_due_at_places = λ keeps. track_gives 1 first names start t last keeps walk.is;
       turn_of_a_place_is_unique = λ keeps p. one_past p 1 first names start t last keeps walk.is;
       names_are_as_many = names_many 1 first names start t last walk.is k;
-      names_stand_at_places = λ keeps. names_at 1 first names start t last keeps walk.is (first_named first);
+      names_are_at_places = λ keeps. names_at 1 first names start t last keeps walk.is (first_named first);
       rows_are_of_records = rows_named 1 first names start t last walk.is k;
       each = each_comes first start t last walk;
       sides = λ r. sides_kept r 1 first names start t last walk.is k;
       few_steps = few_of 1 first names start t last walk.is;
-      steps_are_told = steps_told 1 first names start t last walk.is;
+      steps_get_replies = steps_replied 1 first names start t last walk.is;
       other_steps_end = others_end 1 first names start t last walk.is;
       damaged_gives_then_faults = faulted_from 1 first names start t last walk.is;
       cursor = cursors_keep 1 first names start t last walk.is;
@@ -69,15 +69,15 @@ given_track : {S I : Type 0} (r : Rules S I) (n w : ℕ) (names : List RecordNam
 given_track r n w names c [] = refl
 given_track r n w names c (m ∷ ms) = ap (λ (rows : List Row). rows_of_reply w n m.reply ++ rows) (given_track r (suc n) w _ c ms)
 
-pub track_told : {S I : Type 0} (r : Rules S I) (s : SessionState S) (es : List (Event I)) (w : ℕ) → given_over (track r s w (history r s es)) ≡ given w (history r s es)
-track_told r s es w = given_track r 1 w (first_names (r.seen s.store)) None (history r s es)
+pub track_replies : {S I : Type 0} (r : Rules S I) (s : SessionState S) (es : List (Event I)) (w : ℕ) → given_over (track r s w (history r s es)) ≡ given w (history r s es)
+track_replies r s es w = given_track r 1 w (first_names (r.seen s.store)) None (history r s es)
 
 -- what a walk is given is what is due to it
 pub gives_due_at_places : {S I : Type 0} (r : Rules S I) (s : SessionState S) (es : List (Event I)) (w : ℕ) → IsReady r s → AllLawful r (history r s es) → PlacesStay (track r s w (history r s es)) → given w (history r s es) ≡ due_over (track r s w (history r s es)) (r.seen (state_after r s es).store)
-gives_due_at_places r s es w ready h keeps = sym (track_told r s es w) ∙ (history_fair r s es w ready h).given_is_due_at_places keeps
+gives_due_at_places r s es w ready h keeps = sym (track_replies r s es w) ∙ (history_fair r s es w ready h).given_is_due_at_places keeps
 
 pub gives_due : {S I : Type 0} (r : Rules S I) (s : SessionState S) (es : List (Event I)) (w : ℕ) → IsReady r s → AllLawful r (history r s es) → given w (history r s es) ≡ due_by_steps (track r s w (history r s es))
-gives_due r s es w ready h = sym (track_told r s es w) ∙ (history_fair r s es w ready h).given_is_due
+gives_due r s es w ready h = sym (track_replies r s es w) ∙ (history_fair r s es w ready h).given_is_due
 
 pub joined_gives : {S T I J : Type 0} (r : Rules S I) (s : SessionState S) (es : List (Event I)) (w : ℕ) (q : Rules T J) (z : SessionState T) (gs : List (Event J)) (v c : ℕ) → Join r s es w q z gs v c
     → given w (history r s es) ++ given_from (suc (length (history r s es))) v (history q z gs) ≡ due_by_steps (joined r s es w q z gs v c)

@@ -7,10 +7,10 @@ use Rattle.krb_walk.specs.declared.fault.Fault.{Fault}
 use Rattle.krb_walk.specs.declared.fault.FaultKind.{FaultKind}
 use Rattle.krb_walk.specs.Store.{Store, Record, end_of, IsSound, next_live, fault_from}
 use Rattle.krb_walk.specs.Changes.{Changes}
-use Rattle.krb_walk.specs.Said.{Said, Started, Gave, Ended, Faulted, Placed, Gone, Rewritten, Refused, tells_step, completes, is_gave, is_rewritten}
-use Rattle.krb_walk.specs.Events.{stop_cursor, stop_said, end_said}
+use Rattle.krb_walk.specs.ReplyContent.{ReplyContent, Started, Gave, Ended, Faulted, Placed, Gone, Rewritten, Refused, is_step_reply, completes, is_gave, is_rewritten}
+use Rattle.krb_walk.specs.Events.{stop_cursor, stop_reply, end_reply}
 use Rattle.krb_walk.specs.Track.{RecordName, WalkEvent, Track, AnswersStep, IsTrack}
-use Rattle.krb_walk.specs.Damage.{IsToldToFault, as_walk, gave, told_over}
+use Rattle.krb_walk.specs.Damage.{GiveToFault, as_walk, gave, step_replies}
 use Rattle.krb_walk.specs.Stops.{records_from}
 use Rattle.krb_walk.proofs.Stops.{stops_give_records, stops_end}
 use Rattle.krb_walk.proofs.WalkEvents.{end_of_step, effect_of, carry_by-same}
@@ -23,32 +23,32 @@ records_next s c None sound is = stops_end s c is ∙ sym (none_at_end s sound)
 records_next s c (Some r) sound is = (stops_give_records s c r sound is).first
 
 -- the replies to the steps of a walk over a store with a fault
-abbrev pub told_damaged : Store → ℕ → ℕ → ℕ → FaultKind → List Said
-told_damaged s w c m kind = map (gave w) (records_from s c) ++ replicate m (Faulted w (record { place = end_of s; kind = kind }))
+abbrev pub damaged_replies : Store → ℕ → ℕ → ℕ → FaultKind → List ReplyContent
+damaged_replies s w c m kind = map (gave w) (records_from s c) ++ replicate m (Faulted w (record { place = end_of s; kind = kind }))
 
-pub damaged_step : (s : Store) (w c m k : ℕ) (kind : FaultKind) (found : Option Record) (rest : List Said) → s.fault ≡ Some kind → next_live s c ≡ found → records_from s c ≡ option_to_list found ++ records_from s (stop_cursor (end_of s) found)
-    → (found ≡ None → records_from s (end_of s) ≡ []) → suc k ≤ m → ((j : ℕ) → k ≤ j → rest ≡ take k (told_damaged s w (stop_cursor (end_of s) found) j kind)) → stop_said s w found ∷ rest ≡ take (suc k) (told_damaged s w c m kind)
+pub damaged_step : (s : Store) (w c m k : ℕ) (kind : FaultKind) (found : Option Record) (rest : List ReplyContent) → s.fault ≡ Some kind → next_live s c ≡ found → records_from s c ≡ option_to_list found ++ records_from s (stop_cursor (end_of s) found)
+    → (found ≡ None → records_from s (end_of s) ≡ []) → suc k ≤ m → ((j : ℕ) → k ≤ j → rest ≡ take k (damaged_replies s w (stop_cursor (end_of s) found) j kind)) → stop_reply s w found ∷ rest ≡ take (suc k) (damaged_replies s w c m kind)
 damaged_step s w c zero k kind found rest fault is from empty le ih = absurd (omega arith)
 damaged_step s w c (suc m) k kind None rest fault is from empty le ih =
-    let f : Said = Faulted w (record { place = end_of s; kind = kind }) in
+    let f : ReplyContent = Faulted w (record { place = end_of s; kind = kind }) in
     let none : records_from s c ≡ [] = from ∙ empty refl in
     let tail : rest ≡ take k (replicate m f) = ih m (omega arith) ∙ ap (λ (rs : List Record). take k (map (gave w) rs ++ replicate m f)) (empty refl) in
-    ap (λ (x : Option FaultKind). end_said w (end_of s) x ∷ rest) fault ∙ ap (λ (l : List Said). f ∷ l) tail ∙ sym (ap (λ (rs : List Record). take (suc k) (map (gave w) rs ++ f ∷ replicate m f)) none)
+    ap (λ (x : Option FaultKind). end_reply w (end_of s) x ∷ rest) fault ∙ ap (λ (l : List ReplyContent). f ∷ l) tail ∙ sym (ap (λ (rs : List Record). take (suc k) (map (gave w) rs ++ f ∷ replicate m f)) none)
 damaged_step s w c (suc m) k kind (Some r) rest fault is from empty le ih =
-    ap (λ (l : List Said). gave w r ∷ l) (ih (suc m) (omega arith)) ∙ sym (ap (λ (rs : List Record). take (suc k) (map (gave w) rs ++ replicate (suc m) (Faulted w (record { place = end_of s; kind = kind })))) from)
+    ap (λ (l : List ReplyContent). gave w r ∷ l) (ih (suc m) (omega arith)) ∙ sym (ap (λ (rs : List Record). take (suc k) (map (gave w) rs ++ replicate (suc m) (Faulted w (record { place = end_of s; kind = kind })))) from)
 
-abbrev pub ToldBy : List Said → Store → ℕ → ℕ → ℕ → FaultKind → Type 0
-ToldBy told s w c m kind = length told ≤ m → told ≡ take (length told) (told_damaged s w c m kind)
+abbrev pub RepliesBy : List ReplyContent → Store → ℕ → ℕ → ℕ → FaultKind → Type 0
+RepliesBy content s w c m kind = length content ≤ m → content ≡ take (length content) (damaged_replies s w c m kind)
 
 -- the reply to a step, with another number for its walk
-fault_said : (w end : ℕ) (o : Option FaultKind) (f : Fault) → fault_from end o ≡ Some f → end_said w end o ≡ Faulted w f
-fault_said w end None f is = cc
-fault_said w end (Some kind) f is = let same : record { place = end; kind = kind } ≡ f = cc in ap (Faulted w) same
+fault_reply : (w end : ℕ) (o : Option FaultKind) (f : Fault) → fault_from end o ≡ Some f → end_reply w end o ≡ Faulted w f
+fault_reply w end None f is = cc
+fault_reply w end (Some kind) f is = let same : record { place = end; kind = kind } ≡ f = cc in ap (Faulted w) same
 
-answer_is : (s : Store) (w c u : ℕ) (told : Said) (to : ℕ) → AnswersStep s w c told to → as_walk u told ≡ stop_said s u (next_live s c)
-answer_is s w c u (Gave v p next bytes) to a = sym (ap (stop_said s u) a.1)
-answer_is s w c u (Ended v next) to a = ap (Ended u) a.3 ∙ sym (ap (stop_said s u) a.1 ∙ ap (end_said u (end_of s)) a.2)
-answer_is s w c u (Faulted v fault) to a = sym (ap (stop_said s u) a.1 ∙ fault_said u (end_of s) s.fault fault a.2)
+answer_is : (s : Store) (w c u : ℕ) (content : ReplyContent) (to : ℕ) → AnswersStep s w c content to → as_walk u content ≡ stop_reply s u (next_live s c)
+answer_is s w c u (Gave v p next bytes) to a = sym (ap (stop_reply s u) a.1)
+answer_is s w c u (Ended v next) to a = ap (Ended u) a.3 ∙ sym (ap (stop_reply s u) a.1 ∙ ap (end_reply u (end_of s)) a.2)
+answer_is s w c u (Faulted v fault) to a = sym (ap (stop_reply s u) a.1 ∙ fault_reply u (end_of s) s.fault fault a.2)
 answer_is s w c u (Started v next) to a = absurd a
 answer_is s w c u (Placed p) to a = absurd a
 answer_is s w c u (Gone p) to a = absurd a
@@ -56,25 +56,25 @@ answer_is s w c u (Rewritten p) to a = absurd a
 answer_is s w c u (Refused code) to a = absurd a
 
 -- a store with a fault is unchanged, and is not rewritten
-fault_stays : (told : Said) (old new : Store) (kind : FaultKind) → old.fault ≡ Some kind → Changes told old new → new ≡ old
+fault_stays : (content : ReplyContent) (old new : Store) (kind : FaultKind) → old.fault ≡ Some kind → Changes content old new → new ≡ old
 fault_stays (Placed p) old new kind fault h = cc (fault, h.whole)
 fault_stays (Gone p) old new kind fault h = cc (fault, h.whole)
 fault_stays (Rewritten p) old new kind fault h = cc (fault, h.whole)
-fault_stays told old new kind fault h = h
+fault_stays content old new kind fault h = h
 
-fault_plain : (told : Said) (old new : Store) (kind : FaultKind) → old.fault ≡ Some kind → Changes told old new → is_rewritten told ≡ false
+fault_plain : (content : ReplyContent) (old new : Store) (kind : FaultKind) → old.fault ≡ Some kind → Changes content old new → is_rewritten content ≡ false
 fault_plain (Rewritten p) old new kind fault h = cc (fault, h.whole)
-fault_plain told old new kind fault h = refl
+fault_plain content old new kind fault h = refl
 
-told_idle : (w : ℕ) (x : WalkEvent) (xs : Track) → x.stepped ≡ false → told_over w (x ∷ xs) ≡ told_over w xs
-told_idle w x xs e = ap (λ (b : Bool). map (λ y. as_walk w y.reply) (cond {A = Track} b (x ∷ filter (λ y. y.stepped) xs) (filter (λ y. y.stepped) xs))) e
+replies_idle : (w : ℕ) (x : WalkEvent) (xs : Track) → x.stepped ≡ false → step_replies w (x ∷ xs) ≡ step_replies w xs
+replies_idle w x xs e = ap (λ (b : Bool). map (λ y. as_walk w y.reply) (cond {A = Track} b (x ∷ filter (λ y. y.stepped) xs) (filter (λ y. y.stepped) xs))) e
 
-told_step : (w : ℕ) (x : WalkEvent) (xs : Track) → x.stepped ≡ true → told_over w (x ∷ xs) ≡ as_walk w x.reply ∷ told_over w xs
-told_step w x xs e = ap (λ (b : Bool). map (λ y. as_walk w y.reply) (cond {A = Track} b (x ∷ filter (λ y. y.stepped) xs) (filter (λ y. y.stepped) xs))) e
+replies_step : (w : ℕ) (x : WalkEvent) (xs : Track) → x.stepped ≡ true → step_replies w (x ∷ xs) ≡ as_walk w x.reply ∷ step_replies w xs
+replies_step w x xs e = ap (λ (b : Bool). map (λ y. as_walk w y.reply) (cond {A = Track} b (x ∷ filter (λ y. y.stepped) xs) (filter (λ y. y.stepped) xs))) e
 
-faulted_told : (w n : ℕ) (s : Store) (names : List RecordName) (c : Option ℕ) (t : Track) (last : Store) (d m : ℕ) (kind : FaultKind) → s.fault ≡ Some kind → IsTrack n s names c t last → c ≡ Some d → ToldBy (told_over w t) s w d m kind
-faulted_told w n s names c [] last d m kind fault h at = λ le. refl
-faulted_told w n s names c (x ∷ xs) last d m kind fault h at =
+faulted_replies : (w n : ℕ) (s : Store) (names : List RecordName) (c : Option ℕ) (t : Track) (last : Store) (d m : ℕ) (kind : FaultKind) → s.fault ≡ Some kind → IsTrack n s names c t last → c ≡ Some d → RepliesBy (step_replies w t) s w d m kind
+faulted_replies w n s names c [] last d m kind fault h at = λ le. refl
+faulted_replies w n s names c (x ∷ xs) last d m kind fault h at =
     let fault_x : x.before.fault ≡ Some kind = ap (λ (z : Store). z.fault) h.0.before ∙ fault in
     let stays = fault_stays x.reply x.before x.after kind fault_x h.0.changes in
     let plain = fault_plain x.reply x.before x.after kind fault_x h.0.changes in
@@ -83,30 +83,30 @@ faulted_told w n s names c (x ∷ xs) last d m kind fault h at =
     elim (effect_of x h.0.effect) [
       | inl holds ↦ (
           let to = holds.stays d (h.0.from ∙ at) ∙ ap Some (carry_by-same x.reply x.before x.after d plain) in
-          let ih = faulted_told w (suc n) x.after _ x.to xs last d m kind fault_on h.1 to in
-          subst (λ (l : List Said). ToldBy l s w d m kind) (sym (told_idle w x xs holds.idle)) (subst (λ (z : Store). ToldBy (told_over w xs) z w d m kind) same_store ih))
+          let ih = faulted_replies w (suc n) x.after _ x.to xs last d m kind fault_on h.1 to in
+          subst (λ (l : List ReplyContent). RepliesBy l s w d m kind) (sym (replies_idle w x xs holds.idle)) (subst (λ (z : Store). RepliesBy (step_replies w xs) z w d m kind) same_store ih))
       | inr goes ↦ (
           let same : d ≡ goes.at = cc (at, goes.stood, h.0.from) in
           let b = x.before in
-          let rest = told_over w xs in
+          let rest = step_replies w xs in
           let found = next_live b goes.at in
-          let told : told_over w (x ∷ xs) ≡ stop_said b w found ∷ rest = told_step w x xs goes.stepped ∙ ap (λ (y : Said). y ∷ rest) (answer_is b x.walk goes.at w x.reply _ goes.answered) in
-          let ih : (j : ℕ) → ToldBy rest b w (end_of_step x goes.at) j kind = λ j. subst (λ (z : Store). ToldBy rest z w (end_of_step x goes.at) j kind) stays (faulted_told w (suc n) x.after _ x.to xs last (end_of_step x goes.at) j kind fault_on h.1 goes.stands) in
-          let here : ToldBy (stop_said b w found ∷ rest) b w goes.at m kind = λ le. damaged_step b w goes.at m (length rest) kind found rest fault_x refl (records_next b goes.at found h.0.sound refl) (λ e. none_at_end b h.0.sound) le (λ j k. ih j k) in
-          subst (λ (e : ℕ). ToldBy (told_over w (x ∷ xs)) s w e m kind) (sym same)
-          (subst (λ (z : Store). ToldBy (told_over w (x ∷ xs)) z w goes.at m kind) h.0.before
-          (subst (λ (l : List Said). ToldBy l b w goes.at m kind) (sym told) here)))
+          let content : step_replies w (x ∷ xs) ≡ stop_reply b w found ∷ rest = replies_step w x xs goes.stepped ∙ ap (λ (y : ReplyContent). y ∷ rest) (answer_is b x.walk goes.at w x.reply _ goes.answered) in
+          let ih : (j : ℕ) → RepliesBy rest b w (end_of_step x goes.at) j kind = λ j. subst (λ (z : Store). RepliesBy rest z w (end_of_step x goes.at) j kind) stays (faulted_replies w (suc n) x.after _ x.to xs last (end_of_step x goes.at) j kind fault_on h.1 goes.is_there) in
+          let here : RepliesBy (stop_reply b w found ∷ rest) b w goes.at m kind = λ le. damaged_step b w goes.at m (length rest) kind found rest fault_x refl (records_next b goes.at found h.0.sound refl) (λ e. none_at_end b h.0.sound) le (λ j k. ih j k) in
+          subst (λ (e : ℕ). RepliesBy (step_replies w (x ∷ xs)) s w e m kind) (sym same)
+          (subst (λ (z : Store). RepliesBy (step_replies w (x ∷ xs)) z w goes.at m kind) h.0.before
+          (subst (λ (l : List ReplyContent). RepliesBy l b w goes.at m kind) (sym content) here)))
     ]
 
-pub faulted_from : (n : ℕ) (s : Store) (names : List RecordName) (c : Option ℕ) (t : Track) (last : Store) → IsTrack n s names c t last → (earlier : Track) (x : WalkEvent) (later : Track) (d : ℕ) (kind : FaultKind) → t ≡ earlier ++ (x ∷ later) → x.from ≡ Some d → x.before.fault ≡ Some kind → IsToldToFault x.before x.walk d kind (told_over x.walk (x ∷ later))
+pub faulted_from : (n : ℕ) (s : Store) (names : List RecordName) (c : Option ℕ) (t : Track) (last : Store) → IsTrack n s names c t last → (earlier : Track) (x : WalkEvent) (later : Track) (d : ℕ) (kind : FaultKind) → t ≡ earlier ++ (x ∷ later) → x.from ≡ Some d → x.before.fault ≡ Some kind → GiveToFault x.before x.walk d kind (step_replies x.walk (x ∷ later))
 faulted_from n s names c t last h earlier x later d kind is at fault =
     let rest = track_rest n s names c earlier (x ∷ later) last (subst (λ (z : Track). IsTrack n s names c z last) is h) in
     let fault_s = ap (λ (z : Store). z.fault) (sym rest.0.before) ∙ fault in
-    let all = told_over x.walk (x ∷ later) in
-    subst (λ (z : Store). IsToldToFault z x.walk d kind all) (sym rest.0.before) (faulted_told x.walk _ _ _ _ (x ∷ later) last d (length all) kind fault_s rest (sym rest.0.from ∙ at) (omega arith))
+    let all = step_replies x.walk (x ∷ later) in
+    subst (λ (z : Store). GiveToFault z x.walk d kind all) (sym rest.0.before) (faulted_replies x.walk _ _ _ _ (x ∷ later) last d (length all) kind fault_s rest (sym rest.0.from ∙ at) (omega arith))
 
 -- each step of the walk gets a reply to it; without a record, the reply is the end or the fault
-answer_completes : (s : Store) (w c : ℕ) (told : Said) (to : ℕ) → AnswersStep s w c told to → tells_step w told ≡ true → is_gave told ≡ false → completes w told ≡ true
+answer_completes : (s : Store) (w c : ℕ) (content : ReplyContent) (to : ℕ) → AnswersStep s w c content to → is_step_reply w content ≡ true → is_gave content ≡ false → completes w content ≡ true
 answer_completes s w c (Gave v p next bytes) to a own e = cc
 answer_completes s w c (Ended v next) to a own e = own
 answer_completes s w c (Faulted v fault) to a own e = own
@@ -116,9 +116,9 @@ answer_completes s w c (Gone p) to a own e = absurd a
 answer_completes s w c (Rewritten p) to a own e = absurd a
 answer_completes s w c (Refused code) to a own e = absurd a
 
-pub steps_told : (n : ℕ) (s : Store) (names : List RecordName) (c : Option ℕ) (t : Track) (last : Store) → IsTrack n s names c t last → AllByRecursion (λ x. tells_step x.walk x.reply ≡ x.stepped) t
-steps_told n s names c [] last h = tt
-steps_told n s names c (x ∷ xs) last h = (elim (effect_of x h.0.effect) [ inl holds ↦ holds.other ∙ sym holds.idle | inr goes ↦ goes.own ∙ sym goes.stepped ], steps_told (suc n) x.after _ x.to xs last h.1)
+pub steps_replied : (n : ℕ) (s : Store) (names : List RecordName) (c : Option ℕ) (t : Track) (last : Store) → IsTrack n s names c t last → AllByRecursion (λ x. is_step_reply x.walk x.reply ≡ x.stepped) t
+steps_replied n s names c [] last h = tt
+steps_replied n s names c (x ∷ xs) last h = (elim (effect_of x h.0.effect) [ inl holds ↦ holds.other ∙ sym holds.idle | inr goes ↦ goes.own ∙ sym goes.stepped ], steps_replied (suc n) x.after _ x.to xs last h.1)
 
 pub others_end : (n : ℕ) (s : Store) (names : List RecordName) (c : Option ℕ) (t : Track) (last : Store) → IsTrack n s names c t last → AllByRecursion (λ x. x.stepped ≡ true → is_gave x.reply ≡ false → completes x.walk x.reply ≡ true) t
 others_end n s names c [] last h = tt

@@ -4,7 +4,7 @@ use Rattle.std.specs.Prelude.{slice_get, IsSomeAnd}
 use Rattle.std.specs.Option.{option_or}
 use Rattle.krb_walk.specs.declared.event.Event.{Event}
 use Rattle.krb_walk.specs.Store.{Store, is_place}
-use Rattle.krb_walk.specs.Said.{Said, is_rewritten}
+use Rattle.krb_walk.specs.ReplyContent.{ReplyContent, is_rewritten}
 use Rattle.krb_walk.specs.Rules.{Rules}
 use Rattle.krb_walk.specs.Events.{SessionState, after, reply_to, store_after, cursors_after}
 use Rattle.krb_walk.specs.History.{IsReady, AllLawful, history, state_after}
@@ -26,11 +26,11 @@ pub made_none : {S I : Type 0} (r : Rules S I) (w : ℕ) (s : SessionState S) (e
 made_none r w s [] = tt
 made_none r w s (e ∷ es) = (record { made = λ d a is. cc; plain = λ d is. cc }, made_none r w (after r s e) es)
 
-stays_on : (told : Said) (old new : Store) (c o q : Option ℕ) → ((d : ℕ) → o ≡ Some d → q ≡ Some (carry_by told old new d)) → ((d a : ℕ) → c ≡ Some d → o ≡ None → q ≡ Some a → a ≡ d) → ((d : ℕ) → c ≡ Some d → o ≡ None → is_rewritten told ≡ false)
-    → (d : ℕ) → option_or o c ≡ Some d → option_or q c ≡ Some (carry_by told old new d)
-stays_on told old new c (Some x) q stays made plain d h = let same : x ≡ d = cc in ap (λ (z : Option ℕ). option_or z c) (stays x refl) ∙ ap (λ (y : ℕ). Some (carry_by told old new y)) same
-stays_on told old new c None None stays made plain d h = h ∙ sym (ap Some (carry_by-same told old new d (plain d h refl)))
-stays_on told old new c None (Some a) stays made plain d h = ap Some (made d a h refl refl) ∙ sym (ap Some (carry_by-same told old new d (plain d h refl)))
+stays_on : (content : ReplyContent) (old new : Store) (c o q : Option ℕ) → ((d : ℕ) → o ≡ Some d → q ≡ Some (carry_by content old new d)) → ((d a : ℕ) → c ≡ Some d → o ≡ None → q ≡ Some a → a ≡ d) → ((d : ℕ) → c ≡ Some d → o ≡ None → is_rewritten content ≡ false)
+    → (d : ℕ) → option_or o c ≡ Some d → option_or q c ≡ Some (carry_by content old new d)
+stays_on content old new c (Some x) q stays made plain d h = let same : x ≡ d = cc in ap (λ (z : Option ℕ). option_or z c) (stays x refl) ∙ ap (λ (y : ℕ). Some (carry_by content old new y)) same
+stays_on content old new c None None stays made plain d h = h ∙ sym (ap Some (carry_by-same content old new d (plain d h refl)))
+stays_on content old new c None (Some a) stays made plain d h = ap Some (made d a h refl refl) ∙ sym (ap Some (carry_by-same content old new d (plain d h refl)))
 
 places_on : {S I : Type 0} (r : Rules S I) (s : SessionState S) (c o : Option ℕ) → ((d : ℕ) → o ≡ Some d → is_place (r.seen s.store) d ≡ true) → ((d : ℕ) → c ≡ Some d → o ≡ None → is_place (r.seen s.store) d ≡ true) → (d : ℕ) → option_or o c ≡ Some d → is_place (r.seen s.store) d ≡ true
 places_on r s c None all made d h = made d h refl
@@ -39,7 +39,7 @@ places_on r s c (Some x) all made d h = all d h
 -- a walk that does not exist after an event did not exist before it
 not_made : {S I : Type 0} (r : Rules S I) (s : SessionState S) (e : Event I) (w : ℕ) (o : Option ℕ) → slice_get s.cursors w ≡ o → slice_get (cursors_after r s e) w ≡ None → o ≡ None
 not_made r s e w None is none = refl
-not_made r s e w (Some d) is none = elim (effect r s e w) [ inl still ↦ cc (still.stays d is, none) | inr moves ↦ cc (moves.stands, none) ]
+not_made r s e w (Some d) is none = elim (effect r s e w) [ inl still ↦ cc (still.stays d is, none) | inr moves ↦ cc (moves.is_there, none) ]
 
 pub track_is : {S I : Type 0} (r : Rules S I) (s : SessionState S) (es : List (Event I)) (n w : ℕ) (names : List RecordName) (c : Option ℕ) → IsReady r s → AllLawful r (history r s es) → MadeAt c r w s es → ((d : ℕ) → c ≡ Some d → slice_get s.cursors w ≡ None → is_place (r.seen s.store) d ≡ true)
     → IsTrack n (r.seen s.store) names (option_or (slice_get s.cursors w) c) (track_on n names c r w (history r s es)) (r.seen (state_after r s es).store)
@@ -63,7 +63,7 @@ track_is r s (e ∷ es) n w names c ready h made here =
             stepped = moves.stepped;
             at = moves.at;
             stood = ap (λ (z : Option ℕ). option_or z c) moves.stood;
-            answered = subst (λ (z : Option ℕ). IsSomeAnd (option_or z c) (AnswersStep (r.seen s.store) w moves.at (reply_to r s e))) (sym moves.stands) moves.answered;
+            answered = subst (λ (z : Option ℕ). IsSomeAnd (option_or z c) (AnswersStep (r.seen s.store) w moves.at (reply_to r s e))) (sym moves.is_there) moves.answered;
           })
         ];
       },

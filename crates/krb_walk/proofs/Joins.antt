@@ -8,34 +8,34 @@ use Rattle.krb_walk.specs.declared.event.Event.{Event}
 use Rattle.krb_walk.specs.declared.event.Event.TheVariants.{Resume}
 use Rattle.krb_walk.specs.declared.refusal.Code.TheVariants.{NotAPlace, TooManyWalks}
 use Rattle.krb_walk.specs.Store.{Store, is_place}
-use Rattle.krb_walk.specs.Said.{Started, Refused, is_rewritten}
+use Rattle.krb_walk.specs.ReplyContent.{Started, Refused, is_rewritten}
 use Rattle.krb_walk.specs.Rules.{Rules}
 use Rattle.krb_walk.specs.Events.{SessionState, after, reply_to, cursors_after}
 use Rattle.krb_walk.specs.History.{Moment, IsReady, AllLawful, history, state_after}
 use Rattle.krb_walk.specs.Track.{RecordName, Track, first_names, track_on, track, last_names, last_cursor, IsTrack, IsWalk}
-use Rattle.krb_walk.specs.Joins.{StandsOrResumes, Next, track_then, Join}
+use Rattle.krb_walk.specs.Joins.{IsThereOrResumes, Next, track_then, Join}
 use Rattle.krb_walk.proofs.Effects.{effect}
 use Rattle.krb_walk.proofs.Tracks.{tracks_join}
 use Rattle.krb_walk.proofs.Histories.{MadeAt, made_none, track_is}
 
 -- a walk exists, and still does after any event
-pub record Stands (cursors : List ℕ) (w : ℕ) : Type 0 where
+pub record HasCursor (cursors : List ℕ) (w : ℕ) : Type 0 where
   pub at : ℕ
   pub is : slice_get cursors w ≡ Some at
 
-pub stands_after : {S I : Type 0} (r : Rules S I) (s : SessionState S) (e : Event I) (w : ℕ) → Stands s.cursors w → Stands (cursors_after r s e) w
-stands_after r s e w stands = elim (effect r s e w) [
-  | inl still ↦ record { at = _; is = still.stays stands.at stands.is }
-  | inr moves ↦ record { at = _; is = moves.stands }
+pub cursor_after_event : {S I : Type 0} (r : Rules S I) (s : SessionState S) (e : Event I) (w : ℕ) → HasCursor s.cursors w → HasCursor (cursors_after r s e) w
+cursor_after_event r s e w is_there = elim (effect r s e w) [
+  | inl still ↦ record { at = _; is = still.stays is_there.at is_there.is }
+  | inr moves ↦ record { at = _; is = moves.is_there }
 ]
 
-pub stands_to : {S I : Type 0} (r : Rules S I) (s : SessionState S) (es : List (Event I)) (w : ℕ) → Stands s.cursors w → Stands (state_after r s es).cursors w
-stands_to r s [] w stands = stands
-stands_to r s (e ∷ es) w stands = stands_to r (after r s e) es w (stands_after r s e w stands)
+pub cursor_to_end : {S I : Type 0} (r : Rules S I) (s : SessionState S) (es : List (Event I)) (w : ℕ) → HasCursor s.cursors w → HasCursor (state_after r s es).cursors w
+cursor_to_end r s [] w is_there = is_there
+cursor_to_end r s (e ∷ es) w is_there = cursor_to_end r (after r s e) es w (cursor_after_event r s e w is_there)
 
-stands_fits : {S I : Type 0} (r : Rules S I) (s : SessionState S) (es : List (Event I)) (w : ℕ) (c : Option ℕ) → Stands s.cursors w → MadeAt c r w s es
-stands_fits r s [] w c stands = tt
-stands_fits r s (e ∷ es) w c stands = (record { made = λ d a is none now. cc (stands.is, none); plain = λ d is none. cc (stands.is, none) }, stands_fits r (after r s e) es w c (stands_after r s e w stands))
+cursor_fits : {S I : Type 0} (r : Rules S I) (s : SessionState S) (es : List (Event I)) (w : ℕ) (c : Option ℕ) → HasCursor s.cursors w → MadeAt c r w s es
+cursor_fits r s [] w c is_there = tt
+cursor_fits r s (e ∷ es) w c is_there = (record { made = λ d a is none now. cc (is_there.is, none); plain = λ d is none. cc (is_there.is, none) }, cursor_fits r (after r s e) es w c (cursor_after_event r s e w is_there))
 
 record Resumed (cursors after : List ℕ) (p w c : ℕ) : Type 0 where
   number : length cursors ≡ w
@@ -54,8 +54,8 @@ get_last : (xs : List ℕ) (p : ℕ) → slice_get (xs ++ p ∷ []) (length xs) 
 get_last [] p = refl
 get_last (x ∷ xs) p = get_last xs p
 
-not_yet : (cursors : List ℕ) (w : ℕ) → length cursors ≡ w → Stands cursors w → ⊥
-not_yet cursors w e stands = omega (arith, e, slice_get_within cursors w stands.at stands.is)
+not_yet : (cursors : List ℕ) (w : ℕ) → length cursors ≡ w → HasCursor cursors w → ⊥
+not_yet cursors w e is_there = omega (arith, e, slice_get_within cursors w is_there.at is_there.is)
 
 plain_resume : (b d : Bool) (k p : ℕ) → is_rewritten (cond b (cond d (Started k p) (Refused NotAPlace)) (Refused TooManyWalks)) ≡ false
 plain_resume true true k p = refl
@@ -63,32 +63,32 @@ plain_resume true false k p = refl
 plain_resume false d k p = refl
 
 resumes_fits : {S I : Type 0} (r : Rules S I) (s : SessionState S) (w c : ℕ) (earlier later : List (Event I)) → reply_to r (state_after r s earlier) (Resume c) ≡ Started w c → AllByRecursion (λ m. is_rewritten m.reply ≡ false) (history r s earlier) → MadeAt (Some c) r w s (earlier ++ Resume c ∷ later)
-resumes_fits r s w c [] later told plain =
-    let now = resumed r s c w c told in
-    let stands : slice_get (cursors_after r s (Resume c)) w ≡ Some c = ap (λ (xs : List ℕ). slice_get xs w) now.made ∙ ap (slice_get (s.cursors ++ c ∷ [])) (sym now.number) ∙ get_last s.cursors c in
-    (record { made = λ d a is none there. cc (stands, there, is); plain = λ d is none. plain_resume (nat_lt (length s.cursors) 1024) (is_place (r.seen s.store) c) (length s.cursors) c }, stands_fits r (after r s (Resume c)) later w (Some c) (record { at = c; is = stands }))
-resumes_fits r s w c (e ∷ earlier) later told plain = (
+resumes_fits r s w c [] later content plain =
+    let now = resumed r s c w c content in
+    let is_there : slice_get (cursors_after r s (Resume c)) w ≡ Some c = ap (λ (xs : List ℕ). slice_get xs w) now.made ∙ ap (slice_get (s.cursors ++ c ∷ [])) (sym now.number) ∙ get_last s.cursors c in
+    (record { made = λ d a is none there. cc (is_there, there, is); plain = λ d is none. plain_resume (nat_lt (length s.cursors) 1024) (is_place (r.seen s.store) c) (length s.cursors) c }, cursor_fits r (after r s (Resume c)) later w (Some c) (record { at = c; is = is_there }))
+resumes_fits r s w c (e ∷ earlier) later content plain = (
   record {
-    made = λ d a is none there. absurd (not_yet (state_after r (after r s e) earlier).cursors w (resumed r (state_after r (after r s e) earlier) c w c told).number (stands_to r (after r s e) earlier w (record { at = a; is = there })));
+    made = λ d a is none there. absurd (not_yet (state_after r (after r s e) earlier).cursors w (resumed r (state_after r (after r s e) earlier) c w c content).number (cursor_to_end r (after r s e) earlier w (record { at = a; is = there })));
     plain = λ d is none. plain.0;
   },
-  resumes_fits r (after r s e) w c earlier later told plain.1,
+  resumes_fits r (after r s e) w c earlier later content plain.1,
 )
 
-made_at : {S I : Type 0} (r : Rules S I) (s : SessionState S) (es : List (Event I)) (w c : ℕ) → StandsOrResumes r s es w c → MadeAt (Some c) r w s es
+made_at : {S I : Type 0} (r : Rules S I) (s : SessionState S) (es : List (Event I)) (w c : ℕ) → IsThereOrResumes r s es w c → MadeAt (Some c) r w s es
 made_at r s es w c on = elim on [
-  | inl at ↦ stands_fits r s es w (Some c) (record { at = c; is = at })
-  | inr res ↦ subst (MadeAt (Some c) r w s) (sym res.events_are) (resumes_fits r s w c res.earlier res.later res.told res.plain)
+  | inl at ↦ cursor_fits r s es w (Some c) (record { at = c; is = at })
+  | inr res ↦ subst (MadeAt (Some c) r w s) (sym res.events_are) (resumes_fits r s w c res.earlier res.later res.content res.plain)
 ]
 
-begins_none : (cursors : List ℕ) (w c : ℕ) (o : Option ℕ) → slice_get cursors w ≡ o → (Stands cursors w → ⊥) → option_or o (Some c) ≡ Some c
+begins_none : (cursors : List ℕ) (w c : ℕ) (o : Option ℕ) → slice_get cursors w ≡ o → (HasCursor cursors w → ⊥) → option_or o (Some c) ≡ Some c
 begins_none cursors w c None is no_walk = refl
 begins_none cursors w c (Some d) is no_walk = absurd (no_walk (record { at = d; is = is }))
 
-begins_at : {S I : Type 0} (r : Rules S I) (s : SessionState S) (es : List (Event I)) (w c : ℕ) → StandsOrResumes r s es w c → option_or (slice_get s.cursors w) (Some c) ≡ Some c
+begins_at : {S I : Type 0} (r : Rules S I) (s : SessionState S) (es : List (Event I)) (w c : ℕ) → IsThereOrResumes r s es w c → option_or (slice_get s.cursors w) (Some c) ≡ Some c
 begins_at r s es w c on = elim on [
   | inl at ↦ ap (λ (o : Option ℕ). option_or o (Some c)) at
-  | inr res ↦ begins_none s.cursors w c (slice_get s.cursors w) refl (λ stands. not_yet _ w (resumed r (state_after r s res.earlier) c w c res.told).number (stands_to r s res.earlier w stands))
+  | inr res ↦ begins_none s.cursors w c (slice_get s.cursors w) refl (λ is_there. not_yet _ w (resumed r (state_after r s res.earlier) c w c res.content).number (cursor_to_end r s res.earlier w is_there))
 ]
 
 -- the cursor at the end of a history's track

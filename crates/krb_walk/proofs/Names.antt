@@ -7,7 +7,7 @@ use Rattle.std.proofs.Math.Seq.{take-append_seam, drop-append_seam, drop-append-
 use Rattle.std.proofs.lemmas.Bool.Decides.{nat_tests}
 use Rattle.krb_walk.specs.Store.{Cell, Store, Record, IsSound}
 use Rattle.krb_walk.specs.Changes.{Changes}
-use Rattle.krb_walk.specs.Said.{Said, Placed, Gone, Rewritten, is_rewritten}
+use Rattle.krb_walk.specs.ReplyContent.{ReplyContent, Placed, Gone, Rewritten, is_rewritten}
 use Rattle.krb_walk.specs.Ranks.{live_places, rank}
 use Rattle.krb_walk.specs.Track.{RecordName, first_names, names_after}
 use Rattle.krb_walk.proofs.Cells.{live_from, find_head, find_tail}
@@ -33,11 +33,11 @@ named_remove names front back k p k_is are =
     ∙ ap (λ (l : List ℕ). l ++ map f (drop (suc k) names)) (sym (take-map f k names) ∙ ap (take k) are ∙ ap (λ (j : ℕ). take j (front ++ p ∷ back)) k_is ∙ take-append_seam front (p ∷ back))
     ∙ ap (λ (l : List ℕ). front ++ l) (sym (drop-map f (suc k) names) ∙ ap (drop (suc k)) are ∙ ap (λ (j : ℕ). drop j (front ++ p ∷ back)) next ∙ drop-append-add front (p ∷ back) 1)
 
-pub names_stand : (n : ℕ) (told : Said) (old new : Store) (names : List RecordName) → is_rewritten told ≡ false → IsSound old → Changes told old new → AreNamed old names → AreNamed new (names_after n told old new names)
-names_stand n (Placed p) old new names same sound h are = let i = puts_insert old new p sound h in named_insert names i.front i.back (rank new p) (record { place = p; birth = n }) i.rank_is (are ∙ i.lo_is) ∙ sym i.hi_is
-names_stand n (Rewritten p) old new names same sound h are = cc
-names_stand n (Gone p) old new names same sound h are = let i = cuts_insert old new p sound h in named_remove names i.front i.back (rank old p) p i.rank_is (are ∙ i.hi_is) ∙ sym i.lo_is
-names_stand n told old new names same sound h are = are ∙ sym (ap live_places h)
+pub names_stay : (n : ℕ) (content : ReplyContent) (old new : Store) (names : List RecordName) → is_rewritten content ≡ false → IsSound old → Changes content old new → AreNamed old names → AreNamed new (names_after n content old new names)
+names_stay n (Placed p) old new names same sound h are = let i = puts_insert old new p sound h in named_insert names i.front i.back (rank new p) (record { place = p; birth = n }) i.rank_is (are ∙ i.lo_is) ∙ sym i.hi_is
+names_stay n (Rewritten p) old new names same sound h are = cc
+names_stay n (Gone p) old new names same sound h are = let i = cuts_insert old new p sound h in named_remove names i.front i.back (rank old p) p i.rank_is (are ∙ i.hi_is) ∙ sym i.lo_is
+names_stay n content old new names same sound h are = are ∙ sym (ap live_places h)
 
 map_place : (ps : List ℕ) → map (λ x. x.place) (map {A = ℕ} {B = RecordName} (λ p. record { place = p; birth = 0 }) ps) ≡ ps
 map_place [] = refl
@@ -115,7 +115,7 @@ born_later : (n : ℕ) (names : List RecordName) → AreBorn n names → AreBorn
 born_later n [] h = tt
 born_later n (x ∷ names) h = (omega (arith, h.0), born_later n names h.1)
 
-pub born_after : (n : ℕ) (told : Said) (old new : Store) (names : List RecordName) → AreBorn n names → AreBorn (suc n) (names_after n told old new names)
+pub born_after : (n : ℕ) (content : ReplyContent) (old new : Store) (names : List RecordName) → AreBorn n names → AreBorn (suc n) (names_after n content old new names)
 born_after n (Placed p) old new names h =
     let P : RecordName → Type 0 = λ x. x.birth < suc n in
     let all = born_later n names h in
@@ -124,7 +124,7 @@ born_after n (Gone p) old new names h =
     let P : RecordName → Type 0 = λ x. x.birth < suc n in
     let all = born_later n names h in
     all_both P (take (rank old p) names) _ (all_take P (rank old p) names all) (all_drop P (suc (rank old p)) names all)
-born_after n told old new names h = born_later n names h
+born_after n content old new names h = born_later n names h
 
 first_born_of : (ps : List ℕ) → AreBorn 1 (map {A = ℕ} {B = RecordName} (λ p. record { place = p; birth = 0 }) ps)
 first_born_of [] = tt

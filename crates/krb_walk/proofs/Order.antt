@@ -58,8 +58,8 @@ in_order q r n s names c t last h k a =
     let whole : IsTrack n s names c (a.earlier ++ x ∷ a.later) last = subst (λ (z : Track). IsTrack n s names c z last) a.track_is h in
     let front = track_front n s names c a.earlier (x ∷ a.later) last whole in
     let has = turn_if_row q a.earlier (comes q n s names c a.earlier _ front k) a.given in
-    let begins = begins_before x.stepped (place_of r x) x.from x.to a.second_place a.turn a.second_stands in
-    let behind = passed_later q n s names c a.earlier x a.later last begins.at a.first_place whole k has begins.is a.first_stands in
+    let begins = begins_before x.stepped (place_of r x) x.from x.to a.second_place a.turn a.second_is_at in
+    let behind = passed_later q n s names c a.earlier x a.later last begins.at a.first_place whole k has begins.is a.first_is_at in
     omega (arith, behind, begins.le)
 
 -- an event that is no step of the walk keeps each record on its side of the cursor

@@ -6,7 +6,7 @@ use Rattle.std.proofs.lemmas.Bool.Decides.{nat_tests}
 use Rattle.krb_walk.specs.Store.{Store, end_of, IsSound}
 use Rattle.krb_walk.specs.Ranks.{live_places, rank}
 use Rattle.krb_walk.specs.Changes.{Changes}
-use Rattle.krb_walk.specs.Said.{Said, Placed, Gone, Rewritten}
+use Rattle.krb_walk.specs.ReplyContent.{ReplyContent, Placed, Gone, Rewritten}
 use Rattle.krb_walk.specs.Track.{RecordName, first_names, names_after, carry_by}
 use Rattle.krb_walk.specs.Records.{is_name, place_among}
 use Rattle.krb_walk.proofs.Lives.{puts_insert, cuts_insert}
@@ -111,7 +111,7 @@ first_keeps s sound = record {
   distinct = first_distinct_of s.first (end_of s) (live_places s) (places_rise s sound);
 }
 
-pub keeps_after : (n : ℕ) (told : Said) (old new : Store) (names : List RecordName) → IsSound old → Changes told old new → Keeps n old names → Keeps (suc n) new (names_after n told old new names)
+pub keeps_after : (n : ℕ) (content : ReplyContent) (old new : Store) (names : List RecordName) → IsSound old → Changes content old new → Keeps n old names → Keeps (suc n) new (names_after n content old new names)
 keeps_after n (Placed p) old new names sound h k =
     let i = puts_insert old new p sound h in
     let nm : RecordName = record { place = p; birth = n } in
@@ -128,7 +128,7 @@ keeps_after n (Gone p) old new names sound h k =
       distinct = distinct_remove (rank old p) names k.distinct;
     }
 keeps_after n (Rewritten p) old new names sound h k = record { as_many = k.as_many ∙ sym h.as_many; born = born_after n (Rewritten p) old new names k.born; distinct = k.distinct }
-keeps_after n told old new names sound h k = record { as_many = k.as_many ∙ sym (ap (λ (s : Store). length (live_places s)) h); born = born_after n told old new names k.born; distinct = k.distinct }
+keeps_after n content old new names sound h k = record { as_many = k.as_many ∙ sym (ap (λ (s : Store). length (live_places s)) h); born = born_after n content old new names k.born; distinct = k.distinct }
 
 -- a record had a place and has one, on the same side of a cursor
 pub record Still (was is : Option ℕ) (c d : ℕ) : Type 0 where
@@ -180,8 +180,8 @@ rewrite_still r old new names c d None (Some q) a b e side = cc (still_some r na
 rewrite_still r old new names c d (Some p) (Some q) a b e side = inr (record { p = p; q = q; was_at = refl; is_at = refl; side = side p q refl refl })
 
 -- an event keeps a record on its side of each cursor, or the record is gone
-pub still_after : (n : ℕ) (told : Said) (old new : Store) (names : List RecordName) (r : RecordName) (c : ℕ) → IsSound old → Changes told old new → Keeps n old names → r.birth < n
-    → (place_among r (names_after n told old new names) (live_places new) ≡ None) ⊎ Still (place_among r names (live_places old)) (place_among r (names_after n told old new names) (live_places new)) c (carry_by told old new c)
+pub still_after : (n : ℕ) (content : ReplyContent) (old new : Store) (names : List RecordName) (r : RecordName) (c : ℕ) → IsSound old → Changes content old new → Keeps n old names → r.birth < n
+    → (place_among r (names_after n content old new names) (live_places new) ≡ None) ⊎ Still (place_among r names (live_places old)) (place_among r (names_after n content old new names) (live_places new)) c (carry_by content old new c)
 still_after n (Placed p) old new names r c sound h k lt =
     let i = puts_insert old new p sound h in
     let nm : RecordName = record { place = p; birth = n } in
@@ -196,4 +196,4 @@ still_after n (Gone p) old new names r c sound h k lt =
       | inr same ↦ same_still _ _ c (now ∙ same ∙ sym (ap (place_among r names) i.hi_is))
     ]
 still_after n (Rewritten e) old new names r c sound h k lt = rewrite_still r old new names c _ _ _ refl refl h.as_many (λ p q was is. carry_same_side r old new names c p q sound h was is)
-still_after n told old new names r c sound h k lt = same_still _ _ c (ap (λ (s : Store). place_among r names (live_places s)) h)
+still_after n content old new names r c sound h k lt = same_still _ _ c (ap (λ (s : Store). place_among r names (live_places s)) h)

@@ -5,7 +5,7 @@ use Rattle.std.proofs.lemmas.List.{append-nil}
 use Rattle.krb_walk.specs.declared.event.Event.{Event}
 use Rattle.krb_walk.specs.declared.event.Event.TheVariants.{Step}
 use Rattle.krb_walk.specs.declared.event.Reply.{Reply}
-use Rattle.krb_walk.specs.Said.{Said, said}
+use Rattle.krb_walk.specs.ReplyContent.{ReplyContent, content_of}
 use Rattle.krb_walk.specs.Rules.{Rules}
 use Rattle.krb_walk.specs.Events.{SessionState, after, reply_to}
 use Rattle.krb_walk.specs.History.{IsReady, IsLawful, AllLawful, moment, history, state_after, replies}
@@ -19,7 +19,7 @@ use Rattle.krb_walk.proofs.Damaged.{damaged_refuses}
 
 pub replies_more : {S I : Type 0} (r : Rules S I) (s : SessionState S) (es : List (Event I)) (e : Event I) → replies (history r s (es ++ e ∷ [])) ≡ replies (history r s es) ++ reply_to r (state_after r s es) e ∷ []
 replies_more r s [] e = refl
-replies_more r s (x ∷ es) e = ap (λ (told : List Said). reply_to r s x ∷ told) (replies_more r (after r s x) es e)
+replies_more r s (x ∷ es) e = ap (λ (content : List ReplyContent). reply_to r s x ∷ content) (replies_more r (after r s x) es e)
 
 pub state_more : {S I : Type 0} (r : Rules S I) (s : SessionState S) (es : List (Event I)) (e : Event I) → state_after r s (es ++ e ∷ []) ≡ after r (state_after r s es) e
 state_more r s [] e = refl
@@ -30,9 +30,9 @@ lawful_more r s [] e all last = (last, tt)
 lawful_more r s (x ∷ es) e all last = (all.0, lawful_more r (after r s x) es e all.1 last)
 
 -- the parts of a run from which `Ran` follows
-pub ran_of : {S I : Type 0} (r : Rules S I) (old new : SessionState S) (es : List (Event I)) (told_old told_new : List Said) → IsReady r old → told_new ≡ told_old ++ replies (history r old es) → new ≡ state_after r old es → AllLawful r (history r old es) → Ran r old new es told_old told_new
-ran_of {S} r old new es told_old told_new ready told is lawful = record {
-  replies_are = told;
+pub ran_of : {S I : Type 0} (r : Rules S I) (old new : SessionState S) (es : List (Event I)) (old_replies new_replies : List ReplyContent) → IsReady r old → new_replies ≡ old_replies ++ replies (history r old es) → new ≡ state_after r old es → AllLawful r (history r old es) → Ran r old new es old_replies new_replies
+ran_of {S} r old new es old_replies new_replies ready content is lawful = record {
+  replies_are = content;
   state = is;
   run = record { ready = ready; lawful = lawful };
   is_ready = subst (IsReady r) (sym is) (ready_to_last r old es ready lawful);
@@ -42,28 +42,28 @@ ran_of {S} r old new es told_old told_new ready told is lawful = record {
   damaged_refuses = λ kind fault. damaged_refuses r old es kind fault lawful;
 }
 
-pub ran_none : {S I : Type 0} (r : Rules S I) (s : SessionState S) (told : List Said) → IsReady r s → Ran r s s [] told told
-ran_none r s told ready = ran_of r s s [] told told ready (sym (append-nil told)) refl tt
+pub ran_none : {S I : Type 0} (r : Rules S I) (s : SessionState S) (content : List ReplyContent) → IsReady r s → Ran r s s [] content content
+ran_none r s content ready = ran_of r s s [] content content ready (sym (append-nil content)) refl tt
 
-pub ran_more : {S I : Type 0} (r : Rules S I) (old mid new : SessionState S) (es : List (Event I)) (e : Event I) (t u v : List Said) → IsReady r old → Ran r old mid es t u → new ≡ after r mid e → IsLawful r (moment r mid e) → v ≡ u ++ reply_to r mid e ∷ [] → Ran r old new (es ++ e ∷ []) t v
-ran_more {S} r old mid new es e t u v ready ran is lawful told =
+pub ran_more : {S I : Type 0} (r : Rules S I) (old mid new : SessionState S) (es : List (Event I)) (e : Event I) (t u v : List ReplyContent) → IsReady r old → Ran r old mid es t u → new ≡ after r mid e → IsLawful r (moment r mid e) → v ≡ u ++ reply_to r mid e ∷ [] → Ran r old new (es ++ e ∷ []) t v
+ran_more {S} r old mid new es e t u v ready ran is lawful content =
     ran_of r old new (es ++ e ∷ []) t v ready
-    (told ∙ ap (λ (s : SessionState S). u ++ reply_to r s e ∷ []) ran.state ∙ ap (λ (x : List Said). x ++ reply_to r (state_after r old es) e ∷ []) ran.replies_are
-    ∙ append_assoc t (replies (history r old es)) (reply_to r (state_after r old es) e ∷ []) ∙ sym (ap (λ (x : List Said). t ++ x) (replies_more r old es e)))
+    (content ∙ ap (λ (s : SessionState S). u ++ reply_to r s e ∷ []) ran.state ∙ ap (λ (x : List ReplyContent). x ++ reply_to r (state_after r old es) e ∷ []) ran.replies_are
+    ∙ append_assoc t (replies (history r old es)) (reply_to r (state_after r old es) e ∷ []) ∙ sym (ap (λ (x : List ReplyContent). t ++ x) (replies_more r old es e)))
     (is ∙ ap (λ (s : SessionState S). after r s e) ran.state ∙ sym (state_more r old es e))
     (lawful_more r old es e ran.run.lawful (subst (λ (s : SessionState S). IsLawful r (moment r s e)) ran.state lawful))
 
 -- a run of one event
-pub ran_one : {S I : Type 0} (r : Rules S I) (old new : SessionState S) (e : Event I) (told : Said) → IsReady r old → told ≡ reply_to r old e → new ≡ after r old e → IsLawful r (moment r old e) → Ran r old new (e ∷ []) [] (told ∷ [])
-ran_one r old new e told ready says is lawful = ran_of r old new (e ∷ []) [] (told ∷ []) ready (ap (λ (x : Said). x ∷ []) says) is (lawful, tt)
+pub ran_one : {S I : Type 0} (r : Rules S I) (old new : SessionState S) (e : Event I) (content : ReplyContent) → IsReady r old → content ≡ reply_to r old e → new ≡ after r old e → IsLawful r (moment r old e) → Ran r old new (e ∷ []) [] (content ∷ [])
+ran_one r old new e content ready says is lawful = ran_of r old new (e ∷ []) [] (content ∷ []) ready (ap (λ (x : ReplyContent). x ∷ []) says) is (lawful, tt)
 
 -- a step whose reply is not appended
 pub ran_step : {S I : Type 0} (r : Rules S I) (old new : SessionState S) (w : ℕ) → IsReady r old → new ≡ after {I = I} r old (Step w) → Ran {I = I} r old new (Step w ∷ []) [] (reply_to {I = I} r old (Step w) ∷ [])
 ran_step r old new w ready is = ran_one r old new (Step w) _ ready refl is (lawful_step r old w)
 
 -- an event that is applied, or runs out of memory
-pub ran_applied : {S I A E : Type 0} (r : Rules S I) (old new : SessionState S) (e : Event I) (result : Result (Reply A) E) → IsReady r old → IfOk result (λ x. said x ≡ reply_to r old e) → OnOk result (new ≡ after r old e) → OnOk result (IsLawful r (moment r old e)) → IfOk result (λ x. Ran r old new (e ∷ []) [] (said x ∷ []))
-ran_applied r old new e (Ok x) ready says is lawful = ran_one r old new e (said x) ready says is lawful
+pub ran_applied : {S I A E : Type 0} (r : Rules S I) (old new : SessionState S) (e : Event I) (result : Result (Reply A) E) → IsReady r old → IfOk result (λ x. content_of x ≡ reply_to r old e) → OnOk result (new ≡ after r old e) → OnOk result (IsLawful r (moment r old e)) → IfOk result (λ x. Ran r old new (e ∷ []) [] (content_of x ∷ []))
+ran_applied r old new e (Ok x) ready says is lawful = ran_one r old new e (content_of x) ready says is lawful
 ran_applied r old new e (Err want) ready says is lawful = tt
 
 -- what always holds, holds if there is an error

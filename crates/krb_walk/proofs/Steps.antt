@@ -8,9 +8,9 @@ use Rattle.krb_walk.specs.declared.event.Event.TheVariants.{Start, Resume, Step,
 use Rattle.krb_walk.specs.declared.refusal.Code.{Code}
 use Rattle.krb_walk.specs.Store.{Cell, Store, standing, end_from, end_of, is_place, next_live, size_at}
 use Rattle.krb_walk.specs.Changes.{Fills, Appends, Puts, Changes}
-use Rattle.krb_walk.specs.Said.{Said, Placed, is_rewritten}
+use Rattle.krb_walk.specs.ReplyContent.{ReplyContent, Placed, is_rewritten}
 use Rattle.krb_walk.specs.Rules.{Rules}
-use Rattle.krb_walk.specs.Events.{SessionState, after, reply_to, stop_cursor, step_cursors, rewrite_said, rewrite_cursors}
+use Rattle.krb_walk.specs.Events.{SessionState, after, reply_to, stop_cursor, step_cursors, rewrite_reply, rewrite_cursors}
 use Rattle.krb_walk.specs.History.{IsReady, IsLawful, AllLawful, AllPlain, moment, history, state_after}
 use Rattle.krb_walk.specs.Track.{AnswersStep}
 use Rattle.krb_walk.proofs.Lists.{get-set_other}
@@ -23,14 +23,14 @@ use Rattle.krb_walk.proofs.WalkEvents.{carry_by-same}
 pub step_answered : {S I : Type 0} (r : Rules S I) (s : SessionState S) (w c : ℕ) → slice_get s.cursors w ≡ Some c → IsSomeAnd (slice_get (after {I = I} r s (Step w)).cursors w) (AnswersStep (r.seen s.store) w c (reply_to {I = I} r s (Step w)))
 step_answered {I = I} r s w c at =
     let moves = own_step r s w c at in
-    subst (λ (o : Option ℕ). IsSomeAnd o (AnswersStep (r.seen s.store) w c (reply_to {I = I} r s (Step w)))) (sym moves.stands) moves.answered
+    subst (λ (o : Option ℕ). IsSomeAnd o (AnswersStep (r.seen s.store) w c (reply_to {I = I} r s (Step w)))) (sym moves.is_there) moves.answered
 
 -- a cursor moves only at a step of its walk
 step_other : (s : Store) (cursors : List ℕ) (v w c : ℕ) (o : Option ℕ) → v ≢ w → slice_get cursors w ≡ Some c → slice_get (step_cursors s cursors v o) w ≡ Some c
 step_other s cursors v w c None ne at = at
 step_other s cursors v w c (Some d) ne at = get-set_other cursors v (stop_cursor (end_of s) (next_live s d)) w ne ∙ at
 
-only_rewrite : {S : Type 0} (seen : S → Store) (old : S) (cursors : List ℕ) (given : Result S Code) (w c : ℕ) → slice_get cursors w ≡ Some c → is_rewritten (rewrite_said seen given) ≡ false → slice_get (rewrite_cursors seen old cursors given) w ≡ Some c
+only_rewrite : {S : Type 0} (seen : S → Store) (old : S) (cursors : List ℕ) (given : Result S Code) (w c : ℕ) → slice_get cursors w ≡ Some c → is_rewritten (rewrite_reply seen given) ≡ false → slice_get (rewrite_cursors seen old cursors given) w ≡ Some c
 only_rewrite seen old cursors (Ok new) w c at kept = cc
 only_rewrite seen old cursors (Err code) w c at kept = at
 
@@ -52,7 +52,7 @@ never_back r s (e ∷ es) w b c ready plain h at le =
       | inr moves ↦ (
           let same : c ≡ moves.at = cc (at, moves.stood) in
           let forward = stop_forward (r.seen s.store) moves.at (ready.cursors w moves.at moves.stood) in
-          never_back r (after r s e) es w b _ next plain.1 h.1 moves.stands (omega arith))
+          never_back r (after r s e) es w b _ next plain.1 h.1 moves.is_there (omega arith))
     ]
 
 -- a place stays a place, and its cell keeps its size
@@ -104,8 +104,8 @@ appends_end old new p a =
 
 pub put_place : {S I : Type 0} (r : Rules S I) (s : SessionState S) (item : I) (p : ℕ) → IsLawful r (moment r s (Put item)) → reply_to r s (Put item) ≡ Placed p
     → (end_of (r.seen (after r s (Put item)).store) ≡ end_of (r.seen s.store)) ⊎ ((p ≡ end_of (r.seen s.store)) × (end_of (r.seen s.store) < end_of (r.seen (after r s (Put item)).store)))
-put_place r s item p h told =
+put_place r s item p h content =
     let old = r.seen s.store in
     let new = r.seen (after r s (Put item)).store in
-    let puts : Puts old new p = subst (λ (x : Said). Changes x old new) told h in
+    let puts : Puts old new p = subst (λ (x : ReplyContent). Changes x old new) content h in
     elim puts.how [ inl f ↦ inl (fills_end old new p f) | inr a ↦ inr (a.place, appends_end old new p a) ]

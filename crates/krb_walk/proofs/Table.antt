@@ -34,8 +34,8 @@ place_after-stop_at s c = place_after_of s (next_live s c)
 
 -- a cursor is written
 pub go_shown : {S : Type 0} (s : SessionState S) (store : S) (table : List ℕ) (count walk to : ℕ) → shown store table count ≡ s → walk < length s.cursors → shown store (set table walk to) count ≡ record { store = s.store; cursors = set s.cursors walk to }
-go_shown {S} s store table count walk to is stands =
-    let within : walk < count = omega (arith, stands, length-take count table, ap (λ (x : SessionState S). length x.cursors) is) in
+go_shown {S} s store table count walk to is is_there =
+    let within : walk < count = omega (arith, is_there, length-take count table, ap (λ (x : SessionState S). length x.cursors) is) in
     ap (λ (cs : List ℕ). record { store = store; cursors = cs }) (take-set-lt count table walk to within) ∙ ap (λ (x : SessionState S). record { store = x.store; cursors = set x.cursors walk to }) is
 
 -- a change of the store without a rewrite keeps the table valid

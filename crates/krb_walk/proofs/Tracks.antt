@@ -55,7 +55,7 @@ behind_none p n s names c (x ∷ xs) last d k h at lt = elim (effect_of x h.0.ef
       let same : d ≡ goes.at = cc (at, goes.stood, h.0.from) in
       let forward = stop_forward x.before goes.at (h.0.here goes.at goes.stood) in
       let misses : (nat_le goes.at p && nat_lt p (end_of_step x goes.at)) ≡ false = grind (arith, nat_tests) in
-      turn_later p x xs (past_by p _ _ _ _ goes.stood goes.stands ∙ misses) ∙ behind_none p (suc n) x.after _ x.to xs last (end_of_step x goes.at) k.1 h.1 goes.stands (omega arith))
+      turn_later p x xs (past_by p _ _ _ _ goes.stood goes.is_there ∙ misses) ∙ behind_none p (suc n) x.after _ x.to xs last (end_of_step x goes.at) k.1 h.1 goes.is_there (omega arith))
 ]
 
 steps_rows : (n : ℕ) (s : Store) (names : List RecordName) (c : Option ℕ) (x : WalkEvent) (xs : Track) (last : Store) → PlacesStay xs → IsTrack n s names c (x ∷ xs) last → (g : Advances x)
@@ -63,19 +63,19 @@ steps_rows : (n : ℕ) (s : Store) (names : List RecordName) (c : Option ℕ) (x
 steps_rows n s names c x xs last k h g =
     let at = g.at in
     let to = end_of_step x g.at in
-    let none = λ (p : ℕ) (lt : p < to). behind_none p (suc n) x.after _ x.to xs last to k h.1 g.stands lt in
+    let none = λ (p : ℕ) (lt : p < to). behind_none p (suc n) x.after _ x.to xs last to k h.1 g.is_there lt in
     record {
       forward = stop_forward x.before at (h.0.here at g.stood);
       passed = λ p le lt. (
           let yes : (nat_le at p && nat_lt p to) ≡ true = grind (arith, nat_tests) in
-          ap (row_at_turn p) (turn_first p x xs (past_by p at to _ _ g.stood g.stands ∙ yes)));
+          ap (row_at_turn p) (turn_first p x xs (past_by p at to _ _ g.stood g.is_there ∙ yes)));
       behind = λ p lt. (
           let forward = stop_forward x.before at (h.0.here at g.stood) in
           let misses : (nat_le at p && nat_lt p to) ≡ false = grind (arith, nat_tests) in
-          ap (row_at_turn p) (turn_later p x xs (past_by p at to _ _ g.stood g.stands ∙ misses) ∙ none p (omega arith)));
+          ap (row_at_turn p) (turn_later p x xs (past_by p at to _ _ g.stood g.is_there ∙ misses) ∙ none p (omega arith)));
       ahead = λ p le. (
           let misses : (nat_le at p && nat_lt p to) ≡ false = grind (arith, nat_tests) in
-          ap (row_at_turn p) (turn_later p x xs (past_by p at to _ _ g.stood g.stands ∙ misses)));
+          ap (row_at_turn p) (turn_later p x xs (past_by p at to _ _ g.stood g.is_there ∙ misses)));
       none = λ p lt. ap (row_at_turn p) (none p lt);
     }
 
@@ -93,7 +93,7 @@ given_spots n s names c (x ∷ xs) last k h =
           let grows = extends_on x.before x.after last (changes-extends x.reply x.before x.after k.0 h.0.changes) (track_extends (suc n) x.after _ x.to xs last k.1 h.1) in
           let same : spots last.first (widths last.cells) ≡ spots x.before.first (widths x.before.cells ++ grows.more) = ap (λ (at : ℕ). spots at (widths last.cells)) grows.first ∙ ap (spots x.before.first) grows.widths_are in
           let steps = step_gives f g x.number goes.at _ x.before.first x.before.cells grows.more (live_at x.before) (steps_rows n s names c x xs last k.1 h goes) h.0.sound (λ p le. refl) refl in
-          ap (λ (rows : List Row). rows ++ given_over xs) goes.tells
+          ap (λ (rows : List Row). rows ++ given_over xs) goes.same_rows
           ∙ ap (λ (rows : List Row). rows_of_next x.number (next_live x.before goes.at) ++ rows) ih
           ∙ ap (λ (ps : List ℕ). rows_of_next x.number (next_live x.before goes.at) ++ filter_map g ps) same
           ∙ sym steps
@@ -126,8 +126,8 @@ event_gives n s names c x h = elim (effect_of x h.effect) [
   | inl holds ↦ holds.silent ∙ sym (ap (λ (b : Bool). cond {A = List Row} b (rows_between x.number x.before x.from x.to) []) holds.idle)
   | inr goes ↦ (
       let due : rows_between x.number x.before x.from x.to ≡ rows_of_next x.number (next_live x.before goes.at) =
-      ap (λ (o : Option ℕ). rows_between x.number x.before o x.to) goes.stood ∙ ap (rows_between x.number x.before (Some goes.at)) goes.stands ∙ between x.before x.number goes.at h.sound (h.here goes.at goes.stood) in
-      goes.tells ∙ sym due ∙ sym (ap (λ (b : Bool). cond {A = List Row} b (rows_between x.number x.before x.from x.to) []) goes.stepped))
+      ap (λ (o : Option ℕ). rows_between x.number x.before o x.to) goes.stood ∙ ap (rows_between x.number x.before (Some goes.at)) goes.is_there ∙ between x.before x.number goes.at h.sound (h.here goes.at goes.stood) in
+      goes.same_rows ∙ sym due ∙ sym (ap (λ (b : Bool). cond {A = List Row} b (rows_between x.number x.before x.from x.to) []) goes.stepped))
 ]
 
 -- what a track gives is due step by step

@@ -7,7 +7,7 @@ use Rattle.krb_walk.specs.Store.{Store}
 use Rattle.krb_walk.specs.Ranks.{live_places}
 use Rattle.krb_walk.specs.Track.{RecordName, WalkEvent, Track, PlacesStay, goes_past, passes, IsTrack}
 use Rattle.krb_walk.specs.Records.{passes_record}
-use Rattle.krb_walk.proofs.Names.{AreNamed, names_stand}
+use Rattle.krb_walk.proofs.Names.{AreNamed, names_stay}
 use Rattle.krb_walk.proofs.Tracks.{behind_none}
 use Rattle.krb_walk.proofs.Ranked.{Keeps}
 use Rattle.krb_walk.proofs.Comes.{keeps_here, keeps_next, passed_once}
@@ -61,4 +61,4 @@ pub names_at : (n : ℕ) (s : Store) (names : List RecordName) (c : Option ℕ) 
 names_at n s names c [] last k h are = tt
 names_at n s names c (x ∷ t) last k h are =
     let here : AreNamed x.before x.names = subst (λ (z : Store). AreNamed z x.names) (sym h.0.before) (subst (AreNamed s) (sym h.0.names) are) in
-    (here, names_at (suc n) x.after _ x.to t last k.1 h.1 (names_stand x.number x.reply x.before x.after x.names k.0 h.0.sound h.0.changes here))
+    (here, names_at (suc n) x.after _ x.to t last k.1 h.1 (names_stay x.number x.reply x.before x.after x.names k.0 h.0.sound h.0.changes here))

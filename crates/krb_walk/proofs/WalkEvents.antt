@@ -3,7 +3,7 @@ use Rattle.std.proofs.Common.{◌≡◌, ℕ, true, false, List, [], Option, Som
 use Rattle.std.specs.Prelude.{◌==◌, ◌⊎◌, IsSomeAnd}
 use Rattle.std.proofs.lemmas.Bool.Decides.{nat_tests}
 use Rattle.krb_walk.specs.Store.{Store, end_of, next_live}
-use Rattle.krb_walk.specs.Said.{Said, Started, Gave, Ended, Faulted, Placed, Gone, Rewritten, Refused, tells_step, completes, is_rewritten}
+use Rattle.krb_walk.specs.ReplyContent.{ReplyContent, Started, Gave, Ended, Faulted, Placed, Gone, Rewritten, Refused, is_step_reply, completes, is_rewritten}
 use Rattle.krb_walk.specs.Events.{stop_cursor}
 use Rattle.krb_walk.specs.History.{rows_of_reply}
 use Rattle.krb_walk.specs.Track.{RecordName, WalkEvent, carry_by, AnswersStep, Stays, MovesCursor, IsWalkEvent}
@@ -19,7 +19,7 @@ end_of_step x at = stop_cursor (end_of x.before) (next_live x.before at)
 -- an event that is no step gives no row, and a step gives the row of the next live cell
 pub record Holds (x : WalkEvent) : Type 0 where
   pub idle : x.stepped ≡ false
-  pub other : tells_step x.walk x.reply ≡ false
+  pub other : is_step_reply x.walk x.reply ≡ false
   pub stays : (d : ℕ) → x.from ≡ Some d → x.to ≡ Some (carry_by x.reply x.before x.after d)
   pub silent : rows_at_event x ≡ []
 
@@ -27,43 +27,43 @@ pub record Advances (x : WalkEvent) : Type 0 where
   pub stepped : x.stepped ≡ true
   pub at : ℕ
   pub stood : x.from ≡ Some at
-  pub stands : x.to ≡ Some (end_of_step x at)
-  pub tells : rows_at_event x ≡ rows_of_next x.number (next_live x.before at)
+  pub is_there : x.to ≡ Some (end_of_step x at)
+  pub same_rows : rows_at_event x ≡ rows_of_next x.number (next_live x.before at)
   pub answered : AnswersStep x.before x.walk at x.reply (end_of_step x at)
-  pub own : tells_step x.walk x.reply ≡ true
+  pub own : is_step_reply x.walk x.reply ≡ true
 
 -- a reply that is not to a step of the walk gives no row
-silent_of : (w n : ℕ) (told : Said) → tells_step w told ≡ false → rows_of_reply w n told ≡ []
+silent_of : (w n : ℕ) (content : ReplyContent) → is_step_reply w content ≡ false → rows_of_reply w n content ≡ []
 silent_of w n (Gave v p next bytes) e = rw e refl
-silent_of w n told e = refl
+silent_of w n content e = refl
 
 -- what holds of a step with its reply
-record Answered (s : Store) (w c : ℕ) (told : Said) (to : ℕ) : Type 0 where
+record Answered (s : Store) (w c : ℕ) (content : ReplyContent) (to : ℕ) : Type 0 where
   leads : to ≡ stop_cursor (end_of s) (next_live s c)
-  tells : (n : ℕ) → rows_of_reply w n told ≡ rows_of_next n (next_live s c)
-  own : tells_step w told ≡ true
+  same_rows : (n : ℕ) → rows_of_reply w n content ≡ rows_of_next n (next_live s c)
+  own : is_step_reply w content ≡ true
 
-answered : (s : Store) (w c : ℕ) (told : Said) (to : ℕ) → AnswersStep s w c told to → Answered s w c told to
+answered : (s : Store) (w c : ℕ) (content : ReplyContent) (to : ℕ) → AnswersStep s w c content to → Answered s w c content to
 answered s w c (Gave v p next bytes) to a =
     let same : v ≡ w = a.0 in
     let own : (v == w) ≡ true = grind (arith, nat_tests) in
     record {
       leads = a.2 ∙ sym (ap (stop_cursor (end_of s)) a.1);
-      tells = λ n. rw own (sym (ap (rows_of_next n) a.1));
+      same_rows = λ n. rw own (sym (ap (rows_of_next n) a.1));
       own = own;
     }
 answered s w c (Ended v next) to a =
     let same : v ≡ w = a.0 in
     record {
       leads = a.4 ∙ sym (ap (stop_cursor (end_of s)) a.1);
-      tells = λ n. sym (ap (rows_of_next n) a.1);
+      same_rows = λ n. sym (ap (rows_of_next n) a.1);
       own = grind (arith, nat_tests);
     }
 answered s w c (Faulted v fault) to a =
     let same : v ≡ w = a.0 in
     record {
       leads = a.3 ∙ sym (ap (stop_cursor (end_of s)) a.1);
-      tells = λ n. sym (ap (rows_of_next n) a.1);
+      same_rows = λ n. sym (ap (rows_of_next n) a.1);
       own = grind (arith, nat_tests);
     }
 answered s w c (Started v next) to a = absurd a
@@ -74,15 +74,15 @@ answered s w c (Refused code) to a = absurd a
 
 goes_by : (x : WalkEvent) (at : ℕ) (to : Option ℕ) → x.stepped ≡ true → x.from ≡ Some at → x.to ≡ to → IsSomeAnd to (AnswersStep x.before x.walk at x.reply) → Advances x
 goes_by x at (Some d) step stood is a =
-    let told = answered x.before x.walk at x.reply d a in
+    let content = answered x.before x.walk at x.reply d a in
     record {
       stepped = step;
       at = at;
       stood = stood;
-      stands = is ∙ ap Some told.leads;
-      tells = told.tells x.number;
-      answered = subst (AnswersStep x.before x.walk at x.reply) told.leads a;
-      own = told.own;
+      is_there = is ∙ ap Some content.leads;
+      same_rows = content.same_rows x.number;
+      answered = subst (AnswersStep x.before x.walk at x.reply) content.leads a;
+      own = content.own;
     }
 goes_by x at None step stood is a = absurd a
 
@@ -93,13 +93,13 @@ effect_of x effect = elim effect [
 ]
 
 -- after a reply that no record is left, the walk's cursor is at the end
-pub completes_tells : (w : ℕ) (told : Said) → completes w told ≡ true → tells_step w told ≡ true
-completes_tells w (Gave v p next bytes) h = cc
-completes_tells w (Ended v next) h = h
-completes_tells w (Faulted v fault) h = h
-completes_tells w told h = h
+pub completes_is_reply : (w : ℕ) (content : ReplyContent) → completes w content ≡ true → is_step_reply w content ≡ true
+completes_is_reply w (Gave v p next bytes) h = cc
+completes_is_reply w (Ended v next) h = h
+completes_is_reply w (Faulted v fault) h = h
+completes_is_reply w content h = h
 
-ends_at : (s : Store) (w c : ℕ) (told : Said) (to : ℕ) → AnswersStep s w c told to → completes w told ≡ true → to ≡ end_of s
+ends_at : (s : Store) (w c : ℕ) (content : ReplyContent) (to : ℕ) → AnswersStep s w c content to → completes w content ≡ true → to ≡ end_of s
 ends_at s w c (Gave v p next bytes) to a h = cc
 ends_at s w c (Ended v next) to a h = a.4
 ends_at s w c (Faulted v fault) to a h = a.3
@@ -110,29 +110,29 @@ ends_at s w c (Rewritten p) to a h = absurd a
 ends_at s w c (Refused code) to a h = absurd a
 
 pub ends_of : (x : WalkEvent) → Stays x ⊎ MovesCursor x → completes x.walk x.reply ≡ true → x.to ≡ Some (end_of x.before)
-ends_of x effect told = elim (effect_of x effect) [
-  | inl holds ↦ cc (holds.other, completes_tells x.walk x.reply told)
-  | inr goes ↦ goes.stands ∙ ap Some (ends_at x.before x.walk goes.at x.reply _ goes.answered told)
+ends_of x effect content = elim (effect_of x effect) [
+  | inl holds ↦ cc (holds.other, completes_is_reply x.walk x.reply content)
+  | inr goes ↦ goes.is_there ∙ ap Some (ends_at x.before x.walk goes.at x.reply _ goes.answered content)
 ]
 
 pub completes_stepped : (x : WalkEvent) → Stays x ⊎ MovesCursor x → completes x.walk x.reply ≡ true → x.stepped ≡ true
-completes_stepped x effect told = elim (effect_of x effect) [
-  | inl holds ↦ cc (holds.other, completes_tells x.walk x.reply told)
+completes_stepped x effect content = elim (effect_of x effect) [
+  | inl holds ↦ cc (holds.other, completes_is_reply x.walk x.reply content)
   | inr goes ↦ goes.stepped
 ]
 
 -- without an accepted rewrite, a cursor is not carried
-pub carry_by-same : (told : Said) (old new : Store) (c : ℕ) → is_rewritten told ≡ false → carry_by told old new c ≡ c
+pub carry_by-same : (content : ReplyContent) (old new : Store) (c : ℕ) → is_rewritten content ≡ false → carry_by content old new c ≡ c
 carry_by-same (Rewritten p) old new c e = cc
-carry_by-same told old new c e = refl
+carry_by-same content old new c e = refl
 
-own_no_rewrite : (w : ℕ) (told : Said) → tells_step w told ≡ true → is_rewritten told ≡ false
+own_no_rewrite : (w : ℕ) (content : ReplyContent) → is_step_reply w content ≡ true → is_rewritten content ≡ false
 own_no_rewrite w (Rewritten p) e = cc
-own_no_rewrite w told e = refl
+own_no_rewrite w content e = refl
 
 -- at a step, a cursor is not carried
-pub carry_by-own : (w : ℕ) (told : Said) (old new : Store) (c : ℕ) → tells_step w told ≡ true → carry_by told old new c ≡ c
-carry_by-own w told old new c e = carry_by-same told old new c (own_no_rewrite w told e)
+pub carry_by-own : (w : ℕ) (content : ReplyContent) (old new : Store) (c : ℕ) → is_step_reply w content ≡ true → carry_by content old new c ≡ c
+carry_by-own w content old new c e = carry_by-same content old new c (own_no_rewrite w content e)
 
 pub stays_put : (x : WalkEvent) (d : ℕ) → Holds x → is_rewritten x.reply ≡ false → x.from ≡ Some d → x.to ≡ Some d
 stays_put x d holds put_by at = holds.stays d at ∙ ap Some (carry_by-same x.reply x.before x.after d put_by)
@@ -149,7 +149,7 @@ cursor_is_sound n s names c x d h at = elim (effect_of x h.effect) [
       let forward = stop_forward x.before goes.at (h.here goes.at goes.stood) in
       record {
         place = h.here d at;
-        to = subst (λ (o : Option ℕ). IsSomeAnd o (CursorMayGo x d)) (sym goes.stands) (record {
+        to = subst (λ (o : Option ℕ). IsSomeAnd o (CursorMayGo x d)) (sym goes.is_there) (record {
           forward = λ _. omega (arith, forward, same);
           moves = λ own. subst (λ (m : ℕ). AnswersStep x.before x.walk m x.reply (end_of_step x goes.at)) same goes.answered;
           stays = λ other. cc (other, goes.stepped);

@@ -2,7 +2,7 @@
 use Rattle.std.specs.Prelude.{◌≡◌, ℕ, ◌<◌, ◌⊎◌, List, [], ◌∷◌, ◌++◌, Some, None}
 use Rattle.krb_walk.specs.Store.{Cell, Store, end_from, end_of}
 use Rattle.krb_walk.specs.Ranks.{Rewrites}
-use Rattle.krb_walk.specs.Said.{Said, Placed, Gone, Rewritten}
+use Rattle.krb_walk.specs.ReplyContent.{ReplyContent, Placed, Gone, Rewritten}
 
 -- one cell, at a place, becomes another; all else is unchanged
 pub record OneCell (old new : Store) (p : ℕ) (was is : Cell) : Type 0 where
@@ -47,8 +47,8 @@ pub record Cuts (old new : Store) (p : ℕ) : Type 0 where
   pub how : Frees old new p
 
 -- a store changes as the reply reports: by one cell, or it is rewritten, or it is unchanged
-abbrev pub Changes : Said → Store → Store → Type 0
+abbrev pub Changes : ReplyContent → Store → Store → Type 0
 Changes (Placed p) old new = Puts old new p
 Changes (Gone p) old new = Cuts old new p
 Changes (Rewritten p) old new = Rewrites old new
-Changes said old new = new ≡ old
+Changes other old new = new ≡ old

@@ -1,7 +1,7 @@
 -- How many steps of a walk give a record.
 use Rattle.std.specs.Prelude.{◌≡◌, ℕ, ◌+◌, ◌≤◌, ◌∷◌, ◌++◌, length, filter, Some}
 use Rattle.krb_walk.specs.Stops.{records_from}
-use Rattle.krb_walk.specs.Said.{is_placed}
+use Rattle.krb_walk.specs.ReplyContent.{is_placed}
 use Rattle.krb_walk.specs.Track.{WalkEvent, Track}
 use Rattle.krb_walk.specs.Due.{given_over}
 

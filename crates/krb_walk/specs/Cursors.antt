@@ -2,7 +2,7 @@
 use Rattle.std.specs.Prelude.{◌≡◌, ◌↔◌, ℕ, ◌≤◌, true, false, IsSomeAnd, Option, Some}
 use Rattle.krb_walk.specs.Store.{IsPlace}
 use Rattle.krb_walk.specs.Ranks.{live_places}
-use Rattle.krb_walk.specs.Said.{is_rewritten}
+use Rattle.krb_walk.specs.ReplyContent.{is_rewritten}
 use Rattle.krb_walk.specs.Track.{RecordName, WalkEvent, names_after, carry_by, AnswersStep}
 use Rattle.krb_walk.specs.Records.{place_among, place_of}
 

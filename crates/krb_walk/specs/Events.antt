@@ -8,7 +8,7 @@ use Rattle.krb_walk.specs.declared.refusal.Code.TheVariants.{NotAPlace, NoSuchWa
 use Rattle.krb_walk.specs.declared.stop.Stop.{Stop}
 use Rattle.krb_walk.specs.Store.{Store, Record, end_of, is_place, next_live, stop_at}
 use Rattle.krb_walk.specs.Ranks.{carry}
-use Rattle.krb_walk.specs.Said.{Said, Started, Gave, Ended, Faulted, Placed, Gone, Rewritten, Refused}
+use Rattle.krb_walk.specs.ReplyContent.{ReplyContent, Started, Gave, Ended, Faulted, Placed, Gone, Rewritten, Refused}
 use Rattle.krb_walk.specs.Rules.{Rules}
 
 -- a store, and the cursor of each walk
@@ -23,16 +23,16 @@ session_of state s = record { store = state s.store; cursors = s.cursors }
 -- ---- Start and Resume: a new walk at a place; a session has up to 1,024 walks
 
 -- the reply to Start, where p is the first place
-abbrev pub start_said : List ℕ → ℕ → Said
-start_said cursors p = cond (nat_lt (length cursors) 1024) (Started (length cursors) p) (Refused TooManyWalks)
+abbrev pub start_reply : List ℕ → ℕ → ReplyContent
+start_reply cursors p = cond (nat_lt (length cursors) 1024) (Started (length cursors) p) (Refused TooManyWalks)
 
 -- the cursors after Start
 abbrev pub start_cursors : List ℕ → ℕ → List ℕ
 start_cursors cursors p = cond (nat_lt (length cursors) 1024) (cursors ++ p ∷ []) cursors
 
 -- the reply to Resume at p
-abbrev pub resume_said : Store → List ℕ → ℕ → Said
-resume_said s cursors p = cond (nat_lt (length cursors) 1024) (cond (is_place s p) (Started (length cursors) p) (Refused NotAPlace)) (Refused TooManyWalks)
+abbrev pub resume_reply : Store → List ℕ → ℕ → ReplyContent
+resume_reply s cursors p = cond (nat_lt (length cursors) 1024) (cond (is_place s p) (Started (length cursors) p) (Refused NotAPlace)) (Refused TooManyWalks)
 
 -- the cursors after Resume at p
 abbrev pub resume_cursors : Store → List ℕ → ℕ → List ℕ
@@ -41,14 +41,14 @@ resume_cursors s cursors p = cond (nat_lt (length cursors) 1024 && is_place s p)
 -- ---- Step: the cursor goes past the next live cell; if there is none, to the end place
 
 -- the reply if no live cell is left
-abbrev pub end_said : ℕ → ℕ → Option FaultKind → Said
-end_said w end None = Ended w end
-end_said w end (Some kind) = Faulted w (record { place = end; kind = kind })
+abbrev pub end_reply : ℕ → ℕ → Option FaultKind → ReplyContent
+end_reply w end None = Ended w end
+end_reply w end (Some kind) = Faulted w (record { place = end; kind = kind })
 
 -- the reply to a step that finds a live cell, or none
-abbrev pub stop_said : Store → ℕ → Option Record → Said
-stop_said s w (Some r) = Gave w r.place r.next r.bytes
-stop_said s w None = end_said w (end_of s) s.fault
+abbrev pub stop_reply : Store → ℕ → Option Record → ReplyContent
+stop_reply s w (Some r) = Gave w r.place r.next r.bytes
+stop_reply s w None = end_reply w (end_of s) s.fault
 
 -- the cursor after that step
 abbrev pub stop_cursor : ℕ → Option Record → ℕ
@@ -56,9 +56,9 @@ stop_cursor end (Some r) = r.next
 stop_cursor end None = end
 
 -- the reply to a step of walk w, whose cursor is given, or which does not exist
-abbrev pub step_said : Store → ℕ → Option ℕ → Said
-step_said s w None = Refused NoSuchWalk
-step_said s w (Some c) = stop_said s w (next_live s c)
+abbrev pub step_reply : Store → ℕ → Option ℕ → ReplyContent
+step_reply s w None = Refused NoSuchWalk
+step_reply s w (Some c) = stop_reply s w (next_live s c)
 
 -- the cursors after a step
 abbrev pub step_cursors : Store → List ℕ → ℕ → Option ℕ → List ℕ
@@ -73,9 +73,9 @@ step_result s (Some c) = Ok (stop_at s c)
 -- ---- Put and Cut: what the store's rules give
 
 -- the reply to Put
-abbrev pub put_said : {S : Type 0} → Result (ℕ × S) Code → Said
-put_said (Ok given) = Placed given.0
-put_said (Err code) = Refused code
+abbrev pub put_reply : {S : Type 0} → Result (ℕ × S) Code → ReplyContent
+put_reply (Ok given) = Placed given.0
+put_reply (Err code) = Refused code
 
 -- the store after Put
 abbrev pub put_store : {S : Type 0} → S → Result (ℕ × S) Code → S
@@ -83,9 +83,9 @@ put_store old (Ok given) = given.1
 put_store old (Err code) = old
 
 -- the reply to Cut at p
-abbrev pub cut_said : {S : Type 0} → ℕ → Result S Code → Said
-cut_said p (Ok new) = Gone p
-cut_said p (Err code) = Refused code
+abbrev pub cut_reply : {S : Type 0} → ℕ → Result S Code → ReplyContent
+cut_reply p (Ok new) = Gone p
+cut_reply p (Err code) = Refused code
 
 -- the store after Cut, or Rewrite
 abbrev pub cut_store : {S : Type 0} → S → Result S Code → S
@@ -93,9 +93,9 @@ cut_store old (Ok new) = new
 cut_store old (Err code) = old
 
 -- the reply to Rewrite: the new end place
-abbrev pub rewrite_said : {S : Type 0} → (S → Store) → Result S Code → Said
-rewrite_said seen (Ok new) = Rewritten (end_of (seen new))
-rewrite_said seen (Err code) = Refused code
+abbrev pub rewrite_reply : {S : Type 0} → (S → Store) → Result S Code → ReplyContent
+rewrite_reply seen (Ok new) = Rewritten (end_of (seen new))
+rewrite_reply seen (Err code) = Refused code
 
 -- the cursors after it: each is carried
 abbrev pub rewrite_cursors : {S : Type 0} → (S → Store) → S → List ℕ → Result S Code → List ℕ
@@ -105,13 +105,13 @@ rewrite_cursors seen old cursors (Err code) = cursors
 -- ---- the whole table
 
 -- the reply to an event
-abbrev pub reply_to : {S I : Type 0} → Rules S I → SessionState S → Event I → Said
-reply_to r s Start = start_said s.cursors (r.seen s.store).first
-reply_to r s (Resume p) = resume_said (r.seen s.store) s.cursors p
-reply_to r s (Step w) = step_said (r.seen s.store) w (slice_get s.cursors w)
-reply_to r s (Put item) = put_said (r.put s.store item)
-reply_to r s (Cut p) = cut_said p (r.cut s.store p)
-reply_to r s Rewrite = rewrite_said r.seen (r.rewrite s.store)
+abbrev pub reply_to : {S I : Type 0} → Rules S I → SessionState S → Event I → ReplyContent
+reply_to r s Start = start_reply s.cursors (r.seen s.store).first
+reply_to r s (Resume p) = resume_reply (r.seen s.store) s.cursors p
+reply_to r s (Step w) = step_reply (r.seen s.store) w (slice_get s.cursors w)
+reply_to r s (Put item) = put_reply (r.put s.store item)
+reply_to r s (Cut p) = cut_reply p (r.cut s.store p)
+reply_to r s Rewrite = rewrite_reply r.seen (r.rewrite s.store)
 
 -- the store after an event
 abbrev pub store_after : {S I : Type 0} → Rules S I → SessionState S → Event I → S

@@ -3,7 +3,7 @@ use Rattle.std.specs.Prelude.{◌≡◌, ℕ, ◌≤◌, true, false, length, fi
 use Rattle.std.specs.List.{AllByRecursion}
 use Rattle.krb_walk.specs.Store.{Store}
 use Rattle.krb_walk.specs.Ranks.{live_places}
-use Rattle.krb_walk.specs.Said.{tells_step, completes, is_gave}
+use Rattle.krb_walk.specs.ReplyContent.{is_step_reply, completes, is_gave}
 use Rattle.krb_walk.specs.Track.{RecordName, Track, PlacesStay, passes}
 use Rattle.krb_walk.specs.Due.{rows_at_event, given_over, due_over, due_by_steps}
 use Rattle.krb_walk.specs.Records.{IsNamed, EachComesAsDue}
@@ -23,7 +23,7 @@ pub record IsFair (t : Track) (last : Store) : Type 0 where
   -- "the records alive": there is one name for each live cell
   pub names_are_as_many : AllByRecursion (λ x. length x.names ≡ length (live_places x.before)) t
   -- "their place": if no event rewrites the store, each name has the place of its cell
-  pub names_stand_at_places : PlacesStay t → AllByRecursion (λ x. map (λ r. r.place) x.names ≡ live_places x.before) t
+  pub names_are_at_places : PlacesStay t → AllByRecursion (λ x. map (λ r. r.place) x.names ≡ live_places x.before) t
   -- "exactly the records alive": each row is of a record that is alive just before, at the place of the row
   pub rows_are_of_records : AllByRecursion (λ x. AllByRecursion (λ row. IsNamed x row.stood.place) (rows_at_event x)) t
   -- "in file order, each once", and what comes once, what never, and what exactly if it lies ahead
@@ -31,7 +31,7 @@ pub record IsFair (t : Track) (last : Store) : Type 0 where
   -- "its place lies ahead": a record stays ahead of the cursor, or not ahead of it, except at the walk's own steps
   pub sides : (r : RecordName) → AllByRecursion (KeepsSide r) t
   -- "every list of steps": each step of the walk gets a reply about a step of it, and no other event does
-  pub steps_are_told : AllByRecursion (λ x. tells_step x.walk x.reply ≡ x.stepped) t
+  pub steps_get_replies : AllByRecursion (λ x. is_step_reply x.walk x.reply ≡ x.stepped) t
   -- "a completed walk": few steps give a record
   pub few_steps : FewStepsGive t
   -- "a completed walk": the reply to each step that gives no record is the end or the fault

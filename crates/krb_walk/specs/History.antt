@@ -4,7 +4,7 @@ use Rattle.krb_walk.specs.declared.event.Event.{Event}
 use Rattle.krb_walk.specs.declared.event.Event.TheVariants.{Step}
 use Rattle.krb_walk.specs.Store.{Store, Record, IsPlace, IsSound}
 use Rattle.krb_walk.specs.Changes.{Changes}
-use Rattle.krb_walk.specs.Said.{Said, Gave, is_rewritten}
+use Rattle.krb_walk.specs.ReplyContent.{ReplyContent, Gave, is_rewritten}
 use Rattle.krb_walk.specs.Rules.{Rules}
 use Rattle.krb_walk.specs.Events.{SessionState, reply_to, after}
 
@@ -12,7 +12,7 @@ use Rattle.krb_walk.specs.Events.{SessionState, reply_to, after}
 pub record Moment (S I : Type 0) : Type 0 where
   pub before : SessionState S
   pub event : Event I
-  pub reply : Said
+  pub reply : ReplyContent
   pub after : SessionState S
 
 -- the moment of an event in a state
@@ -25,7 +25,7 @@ history r s [] = []
 history r s (e ∷ es) = moment r s e ∷ history r (after r s e) es
 
 -- the replies of a history
-abbrev pub replies : {S I : Type 0} → List (Moment S I) → List Said
+abbrev pub replies : {S I : Type 0} → List (Moment S I) → List ReplyContent
 replies h = map (λ m. m.reply) h
 
 -- the state after events
@@ -67,9 +67,9 @@ pub record Row : Type 0 where
   pub stood : Record
 
 -- what the reply to event n gives to walk w
-abbrev pub rows_of_reply : ℕ → ℕ → Said → List Row
+abbrev pub rows_of_reply : ℕ → ℕ → ReplyContent → List Row
 rows_of_reply w n (Gave v p next bytes) = cond (v == w) (record { event = n; stood = record { place = p; next = next; bytes = bytes } } ∷ []) []
-rows_of_reply w n said = []
+rows_of_reply w n other = []
 
 -- what walk w is given by replies to events numbered from n
 abbrev pub given_from : {S I : Type 0} → ℕ → ℕ → List (Moment S I) → List Row

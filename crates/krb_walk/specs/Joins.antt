@@ -3,7 +3,7 @@ use Rattle.std.specs.Prelude.{◌≡◌, ◌⊎◌, ℕ, suc, false, List, ◌�
 use Rattle.std.specs.List.{AllByRecursion}
 use Rattle.krb_walk.specs.declared.event.Event.{Event}
 use Rattle.krb_walk.specs.declared.event.Event.TheVariants.{Resume}
-use Rattle.krb_walk.specs.Said.{Started, is_rewritten}
+use Rattle.krb_walk.specs.ReplyContent.{Started, is_rewritten}
 use Rattle.krb_walk.specs.Store.{Store}
 use Rattle.krb_walk.specs.Rules.{Rules}
 use Rattle.krb_walk.specs.Events.{SessionState, reply_to}
@@ -15,19 +15,19 @@ pub record Resumes {S I : Type 0} (r : Rules S I) (s : SessionState S) (events :
   pub earlier : List (Event I)
   pub later : List (Event I)
   pub events_are : events ≡ earlier ++ Resume c ∷ later
-  pub told : reply_to r (state_after r s earlier) (Resume c) ≡ Started w c
+  pub content : reply_to r (state_after r s earlier) (Resume c) ≡ Started w c
   pub plain : AllByRecursion (λ m. is_rewritten m.reply ≡ false) (history r s earlier)
 
 -- a walk continues at a place: it is there already, or it is resumed there
-abbrev pub StandsOrResumes : {S I : Type 0} → Rules S I → SessionState S → List (Event I) → ℕ → ℕ → Type 0
-StandsOrResumes r s events w c = (slice_get s.cursors w ≡ Some c) ⊎ Resumes r s events w c
+abbrev pub IsThereOrResumes : {S I : Type 0} → Rules S I → SessionState S → List (Event I) → ℕ → ℕ → Type 0
+IsThereOrResumes r s events w c = (slice_get s.cursors w ≡ Some c) ⊎ Resumes r s events w c
 
 -- a run over the last store of a track, in which walk v continues at the last cursor of the track's walk
 pub record Next {T J : Type 0} (first : Store) (start : Option ℕ) (t : Track) (last : Store) (q : Rules T J) (z : SessionState T) (events : List (Event J)) (v c : ℕ) : Type 0 where
   pub run : IsRun q z events
   pub store : q.seen z.store ≡ last
   pub cursor : last_cursor start t ≡ Some c
-  pub goes_on : StandsOrResumes q z events v c
+  pub goes_on : IsThereOrResumes q z events v c
 
 -- a track followed by that of walk v over the next run, with the cursor at c in between
 abbrev pub track_then : {T J : Type 0} → Store → Track → Rules T J → ℕ → ℕ → List (Moment T J) → Track
@@ -39,7 +39,7 @@ pub record Join {S T I J : Type 0} (r : Rules S I) (s : SessionState S) (events 
   pub next_run : IsRun q z next
   pub store : q.seen z.store ≡ last_store r s events
   pub cursor : slice_get (state_after r s events).cursors w ≡ Some c
-  pub goes_on : StandsOrResumes q z next v c
+  pub goes_on : IsThereOrResumes q z next v c
 
 -- the track of walk w over a run, followed by that of v over the next
 abbrev pub joined : {S T I J : Type 0} → Rules S I → SessionState S → List (Event I) → ℕ → Rules T J → SessionState T → List (Event J) → ℕ → ℕ → Track

@@ -15,7 +15,7 @@ pub mod Store
 pub mod Stops
 pub mod Ranks
 pub mod Rules
-pub mod Said
+pub mod ReplyContent
 pub mod Changes
 pub mod Events
 pub mod Memory

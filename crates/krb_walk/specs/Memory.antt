@@ -4,7 +4,7 @@ use Rattle.krb_walk.specs.declared.event.Event.{Event}
 use Rattle.krb_walk.specs.declared.event.Event.TheVariants.{Step, Put, Rewrite}
 use Rattle.krb_walk.specs.declared.refusal.Refusal.{Refusal}
 use Rattle.krb_walk.specs.declared.refusal.Refusal.TheVariants.{NoMemory}
-use Rattle.krb_walk.specs.Said.{is_gave}
+use Rattle.krb_walk.specs.ReplyContent.{is_gave}
 use Rattle.krb_walk.specs.Rules.{Rules}
 use Rattle.krb_walk.specs.Events.{SessionState, reply_to}
 

@@ -2,7 +2,7 @@
 use Rattle.std.specs.Prelude.{◌≡◌, ℕ, ◌<◌, List, ◌++◌, length, take, Some}
 use Rattle.krb_walk.specs.declared.event.Event.{Event}
 use Rattle.krb_walk.specs.declared.fault.FaultKind.{FaultKind}
-use Rattle.krb_walk.specs.Said.{Said}
+use Rattle.krb_walk.specs.ReplyContent.{ReplyContent}
 use Rattle.krb_walk.specs.Rules.{Rules}
 use Rattle.krb_walk.specs.Events.{SessionState}
 use Rattle.krb_walk.specs.History.{IsReady, IsRun, history, replies, state_after, given}
@@ -12,8 +12,8 @@ use Rattle.krb_walk.specs.Fair.{IsFair}
 use Rattle.krb_walk.specs.Damage.{RefusesChanges}
 
 -- a run of events: the replies and the state are those of the history, and every walk is given what is due to it
-pub record Ran {S I : Type 0} (r : Rules S I) (old new : SessionState S) (events : List (Event I)) (told_old told_new : List Said) : Type 0 where
-  pub replies_are : told_new ≡ told_old ++ replies (history r old events)
+pub record Ran {S I : Type 0} (r : Rules S I) (old new : SessionState S) (events : List (Event I)) (old_replies new_replies : List ReplyContent) : Type 0 where
+  pub replies_are : new_replies ≡ old_replies ++ replies (history r old events)
   pub state : new ≡ state_after r old events
   pub run : IsRun r old events
   pub is_ready : IsReady r new
@@ -23,7 +23,7 @@ pub record Ran {S I : Type 0} (r : Rules S I) (old new : SessionState S) (events
   pub damaged_refuses : (kind : FaultKind) → (r.seen old.store).fault ≡ Some kind → RefusesChanges r old events
 
 -- a run that ran out of memory: a run of the events before one of them
-pub record RanSome {S I : Type 0} (r : Rules S I) (old new : SessionState S) (events : List (Event I)) (told_old told_new : List Said) : Type 0 where
+pub record RanSome {S I : Type 0} (r : Rules S I) (old new : SessionState S) (events : List (Event I)) (old_replies new_replies : List ReplyContent) : Type 0 where
   pub done : ℕ
   pub fewer : done < length events
-  pub ran : Ran r old new (take done events) told_old told_new
+  pub ran : Ran r old new (take done events) old_replies new_replies

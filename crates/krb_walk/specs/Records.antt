@@ -2,7 +2,7 @@
 use Rattle.std.specs.Prelude.{◌≡◌, ◌↔◌, ℕ, ◌<◌, ◌≤◌, Bool, false, true, cond, ◌&&◌, ◌==◌, IsSome, List, [], ◌∷◌, ◌++◌, length, find, filter, flat_map, Option, Some, None}
 use Rattle.std.specs.List.{AllByRecursion}
 use Rattle.krb_walk.specs.Ranks.{live_places}
-use Rattle.krb_walk.specs.Said.{Gone, Placed, completes}
+use Rattle.krb_walk.specs.ReplyContent.{Gone, Placed, completes}
 use Rattle.krb_walk.specs.History.{Row}
 use Rattle.krb_walk.specs.Track.{RecordName, WalkEvent, Track, goes_past}
 use Rattle.krb_walk.specs.Due.{rows_at_event}
@@ -41,7 +41,7 @@ place_of r x = place_among r x.names (live_places x.before)
 -- there is a record alive at a place
 pub record IsNamed (x : WalkEvent) (p : ℕ) : Type 0 where
   pub name : RecordName
-  pub stands : place_of name x ≡ Some p
+  pub is_there : place_of name x ≡ Some p
 
 -- the rows at a place, if there is one
 abbrev pub rows_at_some : Option ℕ → List Row → List Row
@@ -127,8 +127,8 @@ pub record ComeInTurn (first second : RecordName) (t : Track) : Type 0 where
   pub turn : passes_record second at ≡ true
   pub first_place : ℕ
   pub second_place : ℕ
-  pub first_stands : place_of first at ≡ Some first_place
-  pub second_stands : place_of second at ≡ Some second_place
+  pub first_is_at : place_of first at ≡ Some first_place
+  pub second_is_at : place_of second at ≡ Some second_place
 
 -- each record comes as it is due, over rewrites too
 pub record EachComesAsDue (t : Track) : Type 0 where

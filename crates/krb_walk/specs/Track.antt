@@ -6,7 +6,7 @@ use Rattle.krb_walk.specs.declared.event.Event.{Event}
 use Rattle.krb_walk.specs.Store.{Store, IsSound, IsPlace, next_live, end_of, fault_of}
 use Rattle.krb_walk.specs.Ranks.{live_places, rank, carry}
 use Rattle.krb_walk.specs.Changes.{Changes}
-use Rattle.krb_walk.specs.Said.{Said, Gave, Ended, Faulted, Placed, Gone, Rewritten, tells_step, is_rewritten}
+use Rattle.krb_walk.specs.ReplyContent.{ReplyContent, Gave, Ended, Faulted, Placed, Gone, Rewritten, is_step_reply, is_rewritten}
 use Rattle.krb_walk.specs.Rules.{Rules}
 use Rattle.krb_walk.specs.Events.{SessionState}
 use Rattle.krb_walk.specs.History.{Moment, history, steps_walk}
@@ -21,10 +21,10 @@ abbrev pub first_names : Store → List RecordName
 first_names s = map (λ p. record { place = p; birth = 0 }) (live_places s)
 
 -- the names after event n: an addition inserts one at the rank of its cell, a removal removes that of its cell
-abbrev pub names_after : ℕ → Said → Store → Store → List RecordName → List RecordName
+abbrev pub names_after : ℕ → ReplyContent → Store → Store → List RecordName → List RecordName
 names_after n (Placed p) old new names = insert names (rank new p) (record { place = p; birth = n })
 names_after n (Gone p) old new names = remove names (rank old p)
-names_after n said old new names = names
+names_after n other old new names = names
 
 -- one event, as a walk sees it
 pub record WalkEvent : Type 0 where
@@ -39,7 +39,7 @@ pub record WalkEvent : Type 0 where
   pub to : Option ℕ
   -- the names of the live cells before it, in order
   pub names : List RecordName
-  pub reply : Said
+  pub reply : ReplyContent
 
 -- the events as a walk sees them, in order
 abbrev pub Track : Type 0
@@ -96,21 +96,21 @@ PlacesStay t = AllByRecursion (λ x. is_rewritten x.reply ≡ false) t
 -- ---- what makes a track that of one walk
 
 -- a step of walk w at c replies with the next live cell, or else the fault, or the end; `to` is the place after that
-abbrev pub AnswersStep : Store → ℕ → ℕ → Said → ℕ → Type 0
+abbrev pub AnswersStep : Store → ℕ → ℕ → ReplyContent → ℕ → Type 0
 AnswersStep s w c (Gave v p next bytes) to = (v ≡ w) × (next_live s c ≡ Some (record { place = p; next = next; bytes = bytes })) × (to ≡ next)
 AnswersStep s w c (Ended v next) to = (v ≡ w) × (next_live s c ≡ None) × (s.fault ≡ None) × (next ≡ end_of s) × (to ≡ end_of s)
 AnswersStep s w c (Faulted v fault) to = (v ≡ w) × (next_live s c ≡ None) × (fault_of s ≡ Some fault) × (to ≡ end_of s)
-AnswersStep s w c said to = ⊥
+AnswersStep s w c other to = ⊥
 
 -- where a cursor is after an event that is no step of its walk: a rewrite carries it, any other leaves it
-abbrev pub carry_by : Said → Store → Store → ℕ → ℕ
+abbrev pub carry_by : ReplyContent → Store → Store → ℕ → ℕ
 carry_by (Rewritten p) old new c = carry old new c
-carry_by said old new c = c
+carry_by other old new c = c
 
 -- an event that is no step of the walk, nor replied to as one, leaves its cursor or carries it
 pub record Stays (x : WalkEvent) : Type 0 where
   pub idle : x.stepped ≡ false
-  pub other : tells_step x.walk x.reply ≡ false
+  pub other : is_step_reply x.walk x.reply ≡ false
   pub stays : (c : ℕ) → x.from ≡ Some c → x.to ≡ Some (carry_by x.reply x.before x.after c)
 
 -- a step of the walk moves its cursor, and replies as `AnswersStep` has it

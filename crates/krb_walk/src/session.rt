@@ -111,7 +111,7 @@ impl<P: Placed, A: Allocator + Copy> Session<P, A> {
     }
 
     fn go_to(&mut self, walk: u32, place: u32)
-        requires stands { walk < length self.old.cursors }
+        requires is_there { walk < length self.old.cursors }
         requires at_place { IsPlace (P.rules.seen (P.state_of self.old.store)) place }
         ensures { self.new ≡ record { store = self.old.store; cursors = slice_set self.old.cursors walk place } }
     {

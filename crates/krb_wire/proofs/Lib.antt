@@ -2,7 +2,7 @@ pub mod Fields
 pub mod ReadLists
 pub mod Places
 pub mod PenLemmas
-pub mod NamesTold
+pub mod NamesCompared
 pub mod Principals
 pub mod QuoteLemmas
 pub mod TextLemmas

@@ -13,7 +13,7 @@ use Rattle.krb_wire.specs.declared.format.KtFormat.TheVariants.{V1, V2}
 use Rattle.krb_wire.specs.Spelling.{Parts, digits, data16, data32, order_of, counted_realms, count_field, name_type_field, kt_principal, cc_principal, HasNameType, IsShort, IsLong, FitsKt, FitsCc, data_text, FitsLength}
 use Rattle.krb_wire.specs.Reading.{◌>>=◌, number_at, data16_at, data32_at, data_at, list_at, components_at, components_of_count, name_type_at, kt_principal_at, cc_principal_at}
 use Rattle.krb_wire.proofs.Fields.{IsBytes, bind_some, some_is, Takes, Takes-then, wide16, wide32, number_takes, number_again, data16_takes, data16_again, data32_takes, data32_again}
-use Rattle.krb_wire.proofs.NamesTold.{lengths_of, lengths_fit}
+use Rattle.krb_wire.proofs.NamesCompared.{lengths_of, lengths_fit}
 use Rattle.krb_wire.proofs.Places.{IsField}
 use Rattle.krb_wire.proofs.ReadLists.{length_list, list_takes, list_again}
 

@@ -130,7 +130,7 @@ FitsLength (Bits16 o) = IsShort
 FitsLength (Bits32 o) = IsLong
 
 -- a text is in the bytes, from a place to the next
-pub record Stands (bytes : List ℕ) (at next : ℕ) (text : List ℕ) : Type 0 where
+pub record HasText (bytes : List ℕ) (at next : ℕ) (text : List ℕ) : Type 0 where
   pub parts : drop at bytes ≡ text ++ drop next bytes
   pub end : next ≡ at + length text
   pub within : next ≤ length bytes

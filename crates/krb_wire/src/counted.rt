@@ -1,7 +1,7 @@
 //! Counted data: a length of 16 or 32 bits, and that many bytes.
 
 ghost use Rattle.std.specs.Prelude.{◌≡◌, ◌≤◌, ◌++◌, ℕ, List, length, drop, IfSome, Some};
-ghost use Rattle.krb_wire.specs.Spelling.{data16, data32, IsShort, IsLong, Stands};
+ghost use Rattle.krb_wire.specs.Spelling.{data16, data32, IsShort, IsLong, HasText};
 ghost use Rattle.krb_wire.specs.Reading.{Gives, ReadsAt, bytes_at, data16_at, data32_at, data_at};
 
 use crate::format::{Lengths, Order};
@@ -72,7 +72,7 @@ fn data_from(lengths: Lengths, bytes: &[u8], at: usize) -> Option<(&[u8], usize)
 pub fn read_data16(order: Order, bytes: &[u8], at: usize) -> Option<(&[u8], usize)>
     // What is read has this encoding.
     ensures found { IfSome result (λ x. IsShort x.0.now
-        × Stands bytes.now at x.1 (data16 order x.0.now)) }
+        × HasText bytes.now at x.1 (data16 order x.0.now)) }
     // What has this encoding is read.
     ensures only { (text rest : List ℕ) → IsShort text
         → drop at bytes.now ≡ data16 order text ++ rest
@@ -86,7 +86,7 @@ pub fn read_data16(order: Order, bytes: &[u8], at: usize) -> Option<(&[u8], usiz
 pub fn read_data32(order: Order, bytes: &[u8], at: usize) -> Option<(&[u8], usize)>
     // What is read has this encoding.
     ensures found { IfSome result (λ x. IsLong x.0.now
-        × Stands bytes.now at x.1 (data32 order x.0.now)) }
+        × HasText bytes.now at x.1 (data32 order x.0.now)) }
     // What has this encoding is read.
     ensures only { (text rest : List ℕ) → IsLong text
         → drop at bytes.now ≡ data32 order text ++ rest

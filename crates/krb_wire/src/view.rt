@@ -1,7 +1,7 @@
 //! Names that borrow from an image.
 
 ghost use Rattle.std.specs.Prelude.{◌≡◌, ◌+◌, ◌++◌, ℕ, List, drop, IsSome, IfSome, Some, slice_get, option_copied};
-ghost use Rattle.krb_wire.specs.Spelling.{Parts, FitsKt, FitsCc, Stands, kt_principal, cc_principal};
+ghost use Rattle.krb_wire.specs.Spelling.{Parts, FitsKt, FitsCc, HasText, kt_principal, cc_principal};
 ghost use Rattle.krb_wire.specs.Reading.{Gives, ReadsAt, data_at, list_at, list_in, list_end, name_type_at, kt_principal_at, cc_principal_at};
 
 use crate::components::Components;
@@ -162,7 +162,7 @@ pub fn read_kt_principal(
 ) -> Option<(PrincipalView<'_>, usize)>
     // What is read has this encoding.
     ensures found { IfSome result (λ x. FitsKt format x.0
-        × Stands bytes.now at x.1 (kt_principal format x.0)) }
+        × HasText bytes.now at x.1 (kt_principal format x.0)) }
     // What has this encoding is read.
     ensures only { (p : Parts) (rest : List ℕ) → FitsKt format p
         → drop at bytes.now ≡ kt_principal format p ++ rest
@@ -189,7 +189,7 @@ fn cc_principal_from(bytes: &[u8], at: usize) -> Option<(PrincipalView<'_>, usiz
 pub fn read_cc_principal(bytes: &[u8], at: usize) -> Option<(PrincipalView<'_>, usize)>
     // What is read has this encoding.
     ensures found { IfSome result (λ x. FitsCc x.0
-        × Stands bytes.now at x.1 (cc_principal x.0)) }
+        × HasText bytes.now at x.1 (cc_principal x.0)) }
     // What has this encoding is read.
     ensures only { (p : Parts) (rest : List ℕ) → FitsCc p
         → drop at bytes.now ≡ cc_principal p ++ rest

@@ -3,7 +3,7 @@
 ghost use Rattle.std.specs.Prelude.{ℕ, Option, Result, IsFalse};
 ghost use Rattle.krb_commands.specs.declared.action.Action.{Action};
 ghost use Rattle.krb_driver.specs.declared.command_line.mistake.WordFault.{WordFault};
-ghost use Rattle.krb_commands.specs.Actions.{EndsAsked};
+ghost use Rattle.krb_commands.specs.Actions.{EndsParsed};
 
 use crate::clock::seconds_now;
 use crate::words::parse_words;
@@ -51,7 +51,7 @@ pub fn run<H: rt::Env + rt::Clock + AllocGlobal, F: Files, R: Read, W: Write, E:
 
     // The action, or the mistake in the line, and the clock decide the run.
     ensures { (asked : Result Action WordFault) × (now : Option ℕ)
-        × EndsAsked F.Files now streams.old.input streams.new.input files.old files.new
+        × EndsParsed F.Files now streams.old.input streams.new.input files.old files.new
         streams.old.out streams.new.out streams.old.err streams.new.err result asked }
 {
     let mut words = words_of(rt);

@@ -11,24 +11,24 @@ ghost use Rattle.krb_ccache.specs.Changes.{cut_result};
 ghost use Rattle.krb_ccache.specs.SetConfig.{set_config_result};
 ghost use Rattle.krb_ccache.specs.Rewrite.{rewrite_result};
 ghost use Rattle.krb_c.specs.Behind.{cache_of, Looks, Over};
-ghost use Rattle.krb_c.specs.Text.{Tells, TellsAt};
+ghost use Rattle.krb_c.specs.Text.{CopiesText, CopiesTextAt};
 ghost use Rattle.krb_c.specs.CacheLooks.{Finds, text_or_none};
 ghost use Rattle.krb_c.specs.Walks.{StepsOver};
 ghost use Rattle.krb_c.specs.CacheTicket.{Shows};
 ghost use Rattle.krb_c.specs.Shown.{AreShown, LooksAt, ShowsBytes};
 ghost use Rattle.krb_c.specs.Status.{kind_number, Adds, Changes, Rewrites};
 ghost use Rattle.krb_c.specs.Cursors.{with_cursors};
-ghost use Rattle.krb_c.specs.CacheStore.{Stores, asked_of};
+ghost use Rattle.krb_c.specs.CacheStore.{Stores, new_credential_of};
 
 use crate::bytes::{KrbfBytes, bytes_of};
-use crate::cache::asked::Asked;
+use crate::cache::new_credential::NewCredential;
 use crate::cache::changes::store;
-use crate::cache::looks::{config, find, look_at, tell_client, tell_server};
+use crate::cache::looks::{config, find, look_at, copy_client, copy_server};
 use crate::cache::numbers::KrbfNumbers;
 use crate::cache::ticket::KrbfTicket;
 use crate::handle::{KrbfCcache, with_held};
 use crate::status::{DONE, kind_of};
-use crate::text::tell_name;
+use crate::text::copy_name;
 use std::alloc::Global;
 
 /// Copies the default principal's text into the buffer `room`, as much as fits, and reports the length of the text.
@@ -40,9 +40,9 @@ pub extern "C" fn krbf_cc_principal(
     len: &mut usize,
 ) -> u32
     requires { IsSome (cache_of cc.old) }
-    ensures tells { Looks (cache_of cc.old) (cache_of cc.new) (λ k. Tells (name_text k.principal) result room.old room.new len.old len.new) }
+    ensures copies { Looks (cache_of cc.old) (cache_of cc.new) (λ k. CopiesText (name_text k.principal) result room.old room.new len.old len.new) }
 {
-    with_held!(cc, alloc, held => tell_name(alloc, &held.cache().store().default_principal(), room, len))
+    with_held!(cc, alloc, held => copy_name(alloc, &held.cache().store().default_principal(), room, len))
 }
 
 /// Reports the place of the first credential, where a walk starts.
@@ -97,10 +97,10 @@ pub extern "C" fn krbf_cc_client(
     len: &mut usize,
 ) -> u32
     requires { IsSome (cache_of cc.old) }
-    ensures tells { Looks (cache_of cc.old) (cache_of cc.new) (λ k. TellsAt (option_map (λ c. name_text c.client) (credential_at_place k place))
+    ensures copies { Looks (cache_of cc.old) (cache_of cc.new) (λ k. CopiesTextAt (option_map (λ c. name_text c.client) (credential_at_place k place))
         result room.old room.new len.old len.new) }
 {
-    with_held!(cc, alloc, held => tell_client(alloc, held.cache(), place, room, len))
+    with_held!(cc, alloc, held => copy_client(alloc, held.cache(), place, room, len))
 }
 
 /// Copies the text of the server of the credential at `place` into `room`, as much as fits, and reports its length.
@@ -113,10 +113,10 @@ pub extern "C" fn krbf_cc_server(
     len: &mut usize,
 ) -> u32
     requires { IsSome (cache_of cc.old) }
-    ensures tells { Looks (cache_of cc.old) (cache_of cc.new) (λ k. TellsAt (option_map (λ c. name_text c.server) (credential_at_place k place))
+    ensures copies { Looks (cache_of cc.old) (cache_of cc.new) (λ k. CopiesTextAt (option_map (λ c. name_text c.server) (credential_at_place k place))
         result room.old room.new len.old len.new) }
 {
-    with_held!(cc, alloc, held => tell_server(alloc, held.cache(), place, room, len))
+    with_held!(cc, alloc, held => copy_server(alloc, held.cache(), place, room, len))
 }
 
 /// Shows the first live ticket for the server that a text names. Skips configuration entries. In a damaged cache, looks
@@ -144,7 +144,7 @@ pub extern "C" fn krbf_cc_fault(
 ) -> u32
     requires { IsSome (cache_of cc.old) }
     ensures done { result ≡ 0 }
-    ensures tells { Looks (cache_of cc.old) (cache_of cc.new)
+    ensures copies { Looks (cache_of cc.old) (cache_of cc.new)
         (λ k. (kind.new ≡ kind_number (fault_of (store_of k))) × (place.new ≡ end_of (store_of k))) }
 {
     with_held!(cc, alloc, held => {
@@ -199,10 +199,10 @@ pub extern "C" fn krbf_cc_store(
 ) -> u32
     requires { IsSome (cache_of cc.old) }
     ensures { Over (cache_of cc.old) (cache_of cc.new)
-        (λ old new. Stores (asked_of client.now server.now key.now ticket.now second_ticket.now numbers.now)
+        (λ old new. Stores (new_credential_of client.now server.now key.now ticket.now second_ticket.now numbers.now)
         old result place.old place.new new) }
 {
-    let asked = Asked {
+    let new_credential = NewCredential {
         client,
         server,
         key,
@@ -210,7 +210,7 @@ pub extern "C" fn krbf_cc_store(
         second_ticket,
         numbers: *numbers,
     };
-    with_held!(cc, alloc, held => store(alloc, held.cache(), &asked, place))
+    with_held!(cc, alloc, held => store(alloc, held.cache(), &new_credential, place))
 }
 
 /// Marks the credential at `place` as removed.

@@ -6,7 +6,7 @@ ghost use Rattle.krb_c.specs.CacheStore.{Stores};
 ghost use Rattle.krb_c.specs.Status.{Adds};
 
 use crate::cache::HeldCache;
-use crate::cache::asked::Asked;
+use crate::cache::new_credential::NewCredential;
 use crate::cache::looks::some_text;
 use crate::heap::{Heap, copied};
 use crate::status::{DONE, NO_MEMORY, of_refusal};
@@ -17,18 +17,18 @@ use std::alloc::Global;
 
 /// Stores a credential of these parts, and reports its place.
 #[tactic(auto, using(crate::proofs::NameLemmas::unread))]
-pub fn store(alloc: Global, held: &mut HeldCache, asked: &Asked<'_>, place: &mut u32) -> u32
-    ensures { Stores asked.now held.old.state result place.old place.new held.new.state }
+pub fn store(alloc: Global, held: &mut HeldCache, new_credential: &NewCredential<'_>, place: &mut u32) -> u32
+    ensures { Stores new_credential.now held.old.state result place.old place.new held.new.state }
 {
-    let client = match read_name(alloc, asked.client) {
+    let client = match read_name(alloc, new_credential.client) {
         Ok(client) => client,
         Err(status) => return status,
     };
-    let server = match read_name(alloc, asked.server) {
+    let server = match read_name(alloc, new_credential.server) {
         Ok(server) => server,
         Err(status) => return status,
     };
-    match asked.between(alloc, client, server) {
+    match new_credential.between(alloc, client, server) {
         Ok(credential) => held.put(&credential, place),
         Err(status) => status,
     }

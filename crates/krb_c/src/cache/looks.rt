@@ -9,14 +9,14 @@ ghost use Rattle.krb_ccache.specs.Config.{config_of};
 ghost use Rattle.krb_c.specs.CacheLooks.{FindsOne, Finds, ticket_for, is_ticket_for, text_or_none};
 ghost use Rattle.krb_c.specs.CacheTicket.{Shows};
 ghost use Rattle.krb_c.specs.Shown.{LooksAt, ShowsBytes};
-ghost use Rattle.krb_c.specs.Text.{TellsAt};
+ghost use Rattle.krb_c.specs.Text.{CopiesTextAt};
 
 use crate::bytes::{KrbfBytes, bytes_of};
 use crate::cache::HeldCache;
 use crate::cache::ticket::{KrbfTicket, shown};
 use crate::heap::Heap;
 use crate::status::{DONE, of_code};
-use crate::text::{read_name, tell_name};
+use crate::text::{read_name, copy_name};
 use krb_ccache::{Ccache, CredView, is_config};
 use krb_walk::Code;
 use krb_wire::{Principal, same_name};
@@ -102,35 +102,35 @@ pub fn config(cache: &Ccache<Heap>, key: &[u8], principal: &[u8], value: &mut Kr
 }
 
 /// Copies the text of the client of the credential at `place` into `room`, as much as fits, and reports its length.
-pub fn tell_client(
+pub fn copy_client(
     alloc: Global,
     held: &HeldCache,
     place: u32,
     room: &mut [u8],
     len: &mut usize,
 ) -> u32
-    ensures { TellsAt (option_map (λ c. name_text c.client) (credential_at_place held.now.state place))
+    ensures { CopiesTextAt (option_map (λ c. name_text c.client) (credential_at_place held.now.state place))
         result room.old room.new len.old len.new }
 {
     match held.cred_at(place) {
-        Some(credential) => tell_name(alloc, credential.client(), room, len),
+        Some(credential) => copy_name(alloc, credential.client(), room, len),
         None => of_code(Code::NotLive),
     }
 }
 
 /// Copies the text of the server of the credential at `place` into `room`, as much as fits, and reports its length.
-pub fn tell_server(
+pub fn copy_server(
     alloc: Global,
     held: &HeldCache,
     place: u32,
     room: &mut [u8],
     len: &mut usize,
 ) -> u32
-    ensures { TellsAt (option_map (λ c. name_text c.server) (credential_at_place held.now.state place))
+    ensures { CopiesTextAt (option_map (λ c. name_text c.server) (credential_at_place held.now.state place))
         result room.old room.new len.old len.new }
 {
     match held.cred_at(place) {
-        Some(credential) => tell_name(alloc, credential.server(), room, len),
+        Some(credential) => copy_name(alloc, credential.server(), room, len),
         None => of_code(Code::NotLive),
     }
 }

@@ -13,7 +13,7 @@ ghost use Rattle.krb_c.specs.KeytabEntry.{Shows};
 ghost use Rattle.krb_c.specs.KeytabLooks.{Finds, ShowsPart};
 ghost use Rattle.krb_c.specs.Walks.{StepsOver};
 ghost use Rattle.krb_c.specs.Shown.{AreShown, LooksAt};
-ghost use Rattle.krb_c.specs.Text.{TellsAt};
+ghost use Rattle.krb_c.specs.Text.{CopiesTextAt};
 ghost use Rattle.krb_c.specs.Status.{kind_number, Changes, Rewrites};
 ghost use Rattle.krb_c.specs.Cursors.{with_cursors};
 ghost use Rattle.krb_c.specs.KeytabChanges.{AddsNamed, ReadsBack, entry_with};
@@ -22,7 +22,7 @@ use crate::bytes::{KrbfBytes, bytes_of};
 use crate::handle::{KrbfKeytab, with_held};
 use crate::keytab::changes::{Numbers, add};
 use crate::keytab::entry::KrbfEntry;
-use crate::keytab::looks::{find, look_at, show_component, tell_name_at};
+use crate::keytab::looks::{find, look_at, show_component, copy_name_at};
 use crate::status::{DONE, kind_of};
 use std::alloc::Global;
 
@@ -65,7 +65,7 @@ pub extern "C" fn krbf_kt_fault(
 ) -> u32
     requires { IsSome (keytab_of kt.old) }
     ensures done { result ≡ 0 }
-    ensures tells { Looks (keytab_of kt.old) (keytab_of kt.new)
+    ensures copies { Looks (keytab_of kt.old) (keytab_of kt.new)
         (λ k. (kind.new ≡ kind_number (fault_of (store_of k))) × (place.new ≡ end_of (store_of k))) }
 {
     with_held!(kt, alloc, held => {
@@ -101,9 +101,9 @@ pub extern "C" fn krbf_kt_name(
     len: &mut usize,
 ) -> u32
     requires { IsSome (keytab_of kt.old) }
-    ensures tells { Looks (keytab_of kt.old) (keytab_of kt.new) (λ k. TellsAt (option_map (λ e. name_text e.principal) (entry_at_place k place)) result room.old room.new len.old len.new) }
+    ensures copies { Looks (keytab_of kt.old) (keytab_of kt.new) (λ k. CopiesTextAt (option_map (λ e. name_text e.principal) (entry_at_place k place)) result room.old room.new len.old len.new) }
 {
-    with_held!(kt, alloc, held => tell_name_at(alloc, held.keytab(), place, room, len))
+    with_held!(kt, alloc, held => copy_name_at(alloc, held.keytab(), place, room, len))
 }
 
 /// Shows component `number`, from 0 on, of the name of the entry at `place`.

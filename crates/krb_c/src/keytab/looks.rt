@@ -7,13 +7,13 @@ ghost use Rattle.krb_keytab.specs.Store.{entry_at_place};
 ghost use Rattle.krb_c.specs.KeytabEntry.{Shows};
 ghost use Rattle.krb_c.specs.KeytabLooks.{Finds, ShowsPart};
 ghost use Rattle.krb_c.specs.Shown.{LooksAt};
-ghost use Rattle.krb_c.specs.Text.{TellsAt};
+ghost use Rattle.krb_c.specs.Text.{CopiesTextAt};
 
 use crate::bytes::{KrbfBytes, bytes_of};
 use crate::keytab::HeldKeytab;
 use crate::keytab::entry::{KrbfEntry, shown};
 use crate::status::{DONE, of_code};
-use crate::text::{read_name, tell_name};
+use crate::text::{read_name, copy_name};
 use krb_walk::Code;
 use krb_wire::Name;
 use std::alloc::Global;
@@ -57,17 +57,17 @@ pub fn find(
 }
 
 /// Copies the text of the name of the entry at `place` into `room`, as much as fits, and reports its length.
-pub fn tell_name_at(
+pub fn copy_name_at(
     alloc: Global,
     held: &HeldKeytab,
     place: u32,
     room: &mut [u8],
     len: &mut usize,
 ) -> u32
-    ensures { TellsAt (option_map (λ e. name_text e.principal) (entry_at_place held.now.state place)) result room.old room.new len.old len.new }
+    ensures { CopiesTextAt (option_map (λ e. name_text e.principal) (entry_at_place held.now.state place)) result room.old room.new len.old len.new }
 {
     match held.store().entry_at(place) {
-        Some(entry) => tell_name(alloc, entry.principal(), room, len),
+        Some(entry) => copy_name(alloc, entry.principal(), room, len),
         None => of_code(Code::NotLive),
     }
 }

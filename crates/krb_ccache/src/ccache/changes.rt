@@ -17,7 +17,7 @@ use crate::credential::Cred;
 use crate::mark::mark_in_image;
 use crate::offset::Offset;
 use crate::open::{Layout, Places};
-use crate::preamble::{header_len, preamble_len, tells_offset, write_preamble};
+use crate::preamble::{header_len, preamble_len, new_header_has_its_offset, write_preamble};
 use crate::version::Version;
 use krb_walk::{Code, Refusal};
 use krb_wire::{Limits, Name};
@@ -35,7 +35,7 @@ impl<A: Allocator> Ccache<A> {
         ensures offset { IfOk result (λ k. offset_in k.state.header ≡ offset) }
         ensures err { IfErr result (RefusesAs (create_result (N.parts default.now) offset limits)) }
     {
-        tells_offset(offset);
+        new_header_has_its_offset(offset);
         let limit = limits.image();
         let Some(len) = preamble_len(default, offset, limit as usize) else {
             return Err(Refusal::Code(Code::Full));

@@ -2,7 +2,7 @@
 
 ghost use Rattle.std.specs.Prelude.{◌≡◌, true, IfOk};
 
-use super::{Calls, stands_at, tell};
+use super::{Calls, is_at_path, describe};
 use crate::lock::TakeLock;
 use crate::looks::users::Users;
 use std::fs::{self, OpenOptions};
@@ -34,9 +34,9 @@ impl<R: rt::Files> Calls<'_, R> {
         requires { file.old.is_locked ≡ true }
         ensures { IfOk result (λ is. file.new.is_abandoned ≡ is) }
     {
-        let found = tell(&file.file)?;
+        let found = describe(&file.file)?;
         file.is_abandoned = users.may_have_left(&found)
-            && stands_at(&self.looks, file.path, &file.file)?;
+            && is_at_path(&self.looks, file.path, &file.file)?;
         Ok(file.is_abandoned)
     }
 

@@ -69,7 +69,7 @@ pub fn spelled_name<'a>(alloc: Global, word: &'a str) -> Result<Principal<Global
 }
 
 /// Parses a word, if there is one, as a principal name with a realm.
-pub fn asked_name<'a>(
+pub fn selected_name<'a>(
     alloc: Global,
     word: Option<&'a str>,
 ) -> Result<Option<Principal<Global>>, WordFault<'a>>

@@ -141,7 +141,7 @@ fn report_text<E: Write>(text: &'static str, err: &mut Watched<E>)
 
 /// Reports on `err` why words were not read, and returns the exit status. Ignores a failure of `err`.
 pub fn report_word_fault<E: Write>(fault: WordFault<'_>, err: &mut ErrorOutput<E>) -> u8
-    ensures said { Writes err.old.to err.new.to (word_text err.old.explains fault.entry) }
+    ensures writes { Writes err.old.to err.new.to (word_text err.old.explains fault.entry) }
     ensures still { err.new.explains ≡ err.old.explains }
     ensures status { result ≡ word_status fault.entry }
 {

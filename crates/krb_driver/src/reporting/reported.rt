@@ -2,7 +2,7 @@
 
 ghost use Rattle.std.specs.Prelude.{◌≡◌};
 ghost use Rattle.std.specs.List.{list_any};
-ghost use Rattle.krb_walk.specs.Said.{said};
+ghost use Rattle.krb_walk.specs.ReplyContent.{content_of};
 ghost use Rattle.krb_driver.specs.Reported.{reported_code, reported_codes, reported_fault, reported_faults, is_failure, replied_verdict, reports_code, reports_fault};
 
 use crate::verdict::{FileKind, Verdict};
@@ -20,7 +20,7 @@ pub struct Reported {
 
 // Returns whether a reply is a refusal or a fault.
 fn is_failure<A: Allocator>(reply: &Reply<A>) -> bool
-    ensures { result ≡ is_failure (said reply.now) }
+    ensures { result ≡ is_failure (content_of reply.now) }
 {
     match reply {
         Reply::Refused(_) | Reply::Faulted { .. } => true,
@@ -30,7 +30,7 @@ fn is_failure<A: Allocator>(reply: &Reply<A>) -> bool
 
 // Returns whether a reply is a refusal with that code.
 fn reports_code<A: Allocator>(code: Code, reply: &Reply<A>) -> bool
-    ensures { result ≡ reports_code code (said reply.now) }
+    ensures { result ≡ reports_code code (content_of reply.now) }
 {
     match reply {
         Reply::Refused(reported) => reported.number() == code.number(),
@@ -40,7 +40,7 @@ fn reports_code<A: Allocator>(code: Code, reply: &Reply<A>) -> bool
 
 // Returns whether a reply is a fault of that kind.
 fn reports_fault<A: Allocator>(kind: FaultKind, reply: &Reply<A>) -> bool
-    ensures { result ≡ reports_fault kind (said reply.now) }
+    ensures { result ≡ reports_fault kind (content_of reply.now) }
 {
     match reply {
         Reply::Faulted { fault, .. } => fault.kind.number() == kind.number(),
@@ -49,20 +49,20 @@ fn reports_fault<A: Allocator>(kind: FaultKind, reply: &Reply<A>) -> bool
 }
 
 fn has_code<A: Allocator>(replies: &[Reply<A>], code: Code) -> bool
-    ensures { result ≡ list_any (λ r. reports_code code (said r)) replies.now }
+    ensures { result ≡ list_any (λ r. reports_code code (content_of r)) replies.now }
 {
     replies.iter().any(|reply| reports_code(code, reply))
 }
 
 fn has_fault<A: Allocator>(replies: &[Reply<A>], kind: FaultKind) -> bool
-    ensures { result ≡ list_any (λ r. reports_fault kind (said r)) replies.now }
+    ensures { result ≡ list_any (λ r. reports_fault kind (content_of r)) replies.now }
 {
     replies.iter().any(|reply| reports_fault(kind, reply))
 }
 
 // Returns the code if some reply reports it.
 fn reported_code<A: Allocator>(replies: &[Reply<A>], code: Code) -> Option<Code>
-    ensures { result ≡ reported_code said replies.now code }
+    ensures { result ≡ reported_code content_of replies.now code }
 {
     if has_code(replies, code) {
         Some(code)
@@ -73,7 +73,7 @@ fn reported_code<A: Allocator>(replies: &[Reply<A>], code: Code) -> Option<Code>
 
 // Returns the kind of fault if some reply reports it.
 fn reported_fault<A: Allocator>(replies: &[Reply<A>], kind: FaultKind) -> Option<FaultKind>
-    ensures { result ≡ reported_fault said replies.now kind }
+    ensures { result ≡ reported_fault content_of replies.now kind }
 {
     if has_fault(replies, kind) {
         Some(kind)
@@ -83,7 +83,7 @@ fn reported_fault<A: Allocator>(replies: &[Reply<A>], kind: FaultKind) -> Option
 }
 
 fn reported_codes<A: Allocator>(replies: &[Reply<A>]) -> [Option<Code>; 11]
-    ensures { result ≡ reported_codes said replies.now }
+    ensures { result ≡ reported_codes content_of replies.now }
 {
     [
         reported_code(replies, Code::Damaged),
@@ -101,7 +101,7 @@ fn reported_codes<A: Allocator>(replies: &[Reply<A>]) -> [Option<Code>; 11]
 }
 
 fn reported_faults<A: Allocator>(replies: &[Reply<A>]) -> [Option<FaultKind>; 4]
-    ensures { result ≡ reported_faults said replies.now }
+    ensures { result ≡ reported_faults content_of replies.now }
 {
     [
         reported_fault(replies, FaultKind::CutLength),
@@ -112,14 +112,14 @@ fn reported_faults<A: Allocator>(replies: &[Reply<A>]) -> [Option<FaultKind>; 4]
 }
 
 fn are_failures<A: Allocator>(replies: &[Reply<A>]) -> bool
-    ensures { result ≡ list_any (λ r. is_failure (said r)) replies.now }
+    ensures { result ≡ list_any (λ r. is_failure (content_of r)) replies.now }
 {
     replies.iter().any(is_failure)
 }
 
 /// Returns the verdict of a run that printed these replies about a file of that kind.
 pub fn replied_verdict<A: Allocator>(kind: FileKind, replies: &[Reply<A>]) -> Verdict
-    ensures { result ≡ replied_verdict kind said replies.now }
+    ensures { result ≡ replied_verdict kind content_of replies.now }
 {
     if are_failures(replies) {
         Verdict::Replied(Reported {

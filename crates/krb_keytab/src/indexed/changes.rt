@@ -131,7 +131,7 @@ impl<A: Allocator> Indexed<A> {
         if self.fault().is_some() {
             return Err(Code::Damaged);
         }
-        let Some(number) = self.live(place) else {
+        let Some(number) = self.live_number(place) else {
             return Err(Code::NotLive);
         };
         self.free(number, place);

@@ -14,5 +14,5 @@ pub trait ScriptLine<A: Allocator>: Sized + Drop {
 
     /// Parses a line. If it has a fault, that fault is returned, even when out of memory.
     fn parse(alloc: A, line: &[u8]) -> Result<Self, LineRefusal>
-        ensures { Reads (λ asked. asked) (line_in line.now) result };
+        ensures { Reads (λ read_lines. read_lines) (line_in line.now) result };
 }

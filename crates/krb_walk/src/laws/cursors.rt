@@ -4,7 +4,7 @@ ghost use Rattle.std.specs.Prelude.{◌≡◌, false, ◌≢◌, ◌⊎◌, ℕ,
 ghost use Rattle.krb_walk.specs.declared.event.Event.{Event};
 ghost use Rattle.krb_walk.specs.declared.event.Event.TheVariants.{Step, Put};
 ghost use Rattle.krb_walk.specs.Store.{IsPlace, end_of, size_at};
-ghost use Rattle.krb_walk.specs.Said.{Placed, is_rewritten};
+ghost use Rattle.krb_walk.specs.ReplyContent.{Placed, is_rewritten};
 ghost use Rattle.krb_walk.specs.Events.{SessionState, after, reply_to};
 ghost use Rattle.krb_walk.specs.History.{IsReady, IsLawful, IsRun, AllLawful, AllPlain, moment, history, state_after, last_store};
 ghost use Rattle.krb_walk.specs.Track.{AnswersStep};
@@ -46,7 +46,7 @@ pub fn places_stay<P: Placed>()
 {}
 
 /// A record whose addition moves the end place is at the old end place.
-pub fn what_is_appended_stands_at_the_old_end<P: Placed>()
+pub fn what_is_appended_is_at_the_old_end<P: Placed>()
     ensures { (s : SessionState P.State) (item : P.Item) (p : ℕ) → IsLawful P.rules (moment P.rules s (Put item))
         → reply_to P.rules s (Put item) ≡ Placed p
         → (end_of (P.rules.seen (after P.rules s (Put item)).store) ≡ end_of (P.rules.seen s.store))

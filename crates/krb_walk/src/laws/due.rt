@@ -25,7 +25,7 @@ pub fn given_is_due_at_places<P: Placed>()
 {}
 
 /// The rows along a walk's track are those that the replies give to it.
-pub fn tracks_tell_the_replies<P: Placed>()
+pub fn tracks_have_the_replies<P: Placed>()
     ensures { (s : SessionState P.State) (events : List (Event P.Item)) (w : ℕ)
         → given_over (track_of P.rules s events w) ≡ given w (history P.rules s events) }
 {}

@@ -6,8 +6,8 @@ ghost use Rattle.krb_walk.specs.Store.{IsPlace, next_live, stop_at};
 ghost use Rattle.std.specs.List.{AllByRecursion};
 ghost use Rattle.krb_walk.specs.Ranks.{carry, Rewrites};
 ghost use Rattle.krb_walk.specs.Rules.{RewriteGives};
-ghost use Rattle.krb_walk.specs.Said.{said, Started, is_gave};
-ghost use Rattle.krb_walk.specs.Events.{session_of, reply_to, after, stop_said};
+ghost use Rattle.krb_walk.specs.ReplyContent.{content_of, Started, is_gave};
+ghost use Rattle.krb_walk.specs.Events.{session_of, reply_to, after, stop_reply};
 ghost use Rattle.krb_walk.specs.History.{IsLawful, IsReady, moment};
 ghost use Rattle.krb_walk.specs.Memory.{TakesNone};
 ghost use Rattle.krb_walk.specs.Ran.{Ran, RanSome};
@@ -26,7 +26,7 @@ const MOST_WALKS: u32 = 1024;
 impl<P: Placed, A: Allocator + Copy> Session<P, A> {
     /// Applies an event. Only the bytes of `Gave`, an addition that grows the store and a rewrite take memory.
     pub fn apply(&mut self, event: &Event<P::Item>) -> Result<Reply<A>, NoMemory>
-        ensures ran { IfOk result (λ r. Ran P.rules (session_of P.state_of self.old) (session_of P.state_of self.new) (event.now ∷ []) [] (said r ∷ [])) }
+        ensures ran { IfOk result (λ r. Ran P.rules (session_of P.state_of self.old) (session_of P.state_of self.new) (event.now ∷ []) [] (content_of r ∷ [])) }
         ensures memory { TakesNone P.rules (session_of P.state_of self.old) event.now → IsOk result }
         ensures err { OnErr result (session_of P.state_of self.new ≡ session_of P.state_of self.old) }
     {
@@ -40,8 +40,8 @@ impl<P: Placed, A: Allocator + Copy> Session<P, A> {
         events: &[Event<P::Item>],
         replies: &mut Vec<Reply<A>, A>,
     ) -> Result<(), NoMemory>
-        ensures ok { OnOk result (Ran P.rules (session_of P.state_of self.old) (session_of P.state_of self.new) events.now (map said replies.old.items) (map said replies.new.items)) }
-        ensures err { OnErr result (RanSome P.rules (session_of P.state_of self.old) (session_of P.state_of self.new) events.now (map said replies.old.items) (map said replies.new.items)) }
+        ensures ok { OnOk result (Ran P.rules (session_of P.state_of self.old) (session_of P.state_of self.new) events.now (map content_of replies.old.items) (map content_of replies.new.items)) }
+        ensures err { OnErr result (RanSome P.rules (session_of P.state_of self.old) (session_of P.state_of self.new) events.now (map content_of replies.old.items) (map content_of replies.new.items)) }
     {
         let _ = &self.count;
         for event in events {
@@ -53,7 +53,7 @@ impl<P: Placed, A: Allocator + Copy> Session<P, A> {
     }
 
     fn answer(&mut self, event: &Event<P::Item>) -> Result<Reply<A>, NoMemory>
-        ensures reply { IfOk result (λ r. said r ≡ reply_to P.rules (session_of P.state_of self.old) event.now) }
+        ensures reply { IfOk result (λ r. content_of r ≡ reply_to P.rules (session_of P.state_of self.old) event.now) }
         ensures state { OnOk result (session_of P.state_of self.new ≡ after P.rules (session_of P.state_of self.old) event.now) }
         ensures lawful { OnOk result (IsLawful P.rules (moment P.rules (session_of P.state_of self.old) event.now)) }
         ensures ready { IsReady P.rules (session_of P.state_of self.old) }
@@ -75,7 +75,7 @@ impl<P: Placed, A: Allocator + Copy> Session<P, A> {
     fn begin(&mut self, place: u32) -> Reply<A>
         requires few { length self.old.cursors < 1024 }
         requires at_place { IsPlace (P.rules.seen (P.state_of self.old.store)) place }
-        ensures reply { said result ≡ Started (length self.old.cursors) place }
+        ensures reply { content_of result ≡ Started (length self.old.cursors) place }
         ensures state { self.new ≡ record { store = self.old.store; cursors = self.old.cursors ++ place ∷ [] } }
     {
         let walk = self.count;
@@ -85,7 +85,7 @@ impl<P: Placed, A: Allocator + Copy> Session<P, A> {
     }
 
     fn start(&mut self) -> Reply<A>
-        ensures reply { said result ≡ reply_to P.rules (session_of P.state_of self.old) Start }
+        ensures reply { content_of result ≡ reply_to P.rules (session_of P.state_of self.old) Start }
         ensures state { session_of P.state_of self.new ≡ after P.rules (session_of P.state_of self.old) Start }
     {
         if self.walks() >= MOST_WALKS {
@@ -96,7 +96,7 @@ impl<P: Placed, A: Allocator + Copy> Session<P, A> {
     }
 
     fn resume(&mut self, place: u32) -> Reply<A>
-        ensures reply { said result ≡ reply_to P.rules (session_of P.state_of self.old) (Resume place) }
+        ensures reply { content_of result ≡ reply_to P.rules (session_of P.state_of self.old) (Resume place) }
         ensures state { session_of P.state_of self.new ≡ after P.rules (session_of P.state_of self.old) (Resume place) }
     {
         if self.walks() >= MOST_WALKS {
@@ -110,7 +110,7 @@ impl<P: Placed, A: Allocator + Copy> Session<P, A> {
 
     /// Applies a step. Copies the bytes of the record before the cursor moves.
     fn give(&mut self, walk: u32) -> Result<Reply<A>, NoMemory>
-        ensures reply { IfOk result (λ r. said r ≡ reply_to P.rules (session_of P.state_of self.old) (Step walk)) }
+        ensures reply { IfOk result (λ r. content_of r ≡ reply_to P.rules (session_of P.state_of self.old) (Step walk)) }
         ensures state { OnOk result (session_of P.state_of self.new ≡ after P.rules (session_of P.state_of self.old) (Step walk)) }
         ensures memory { TakesNone P.rules (session_of P.state_of self.old) (Step walk) → IsOk result }
         ensures err { OnErr result (session_of P.state_of self.new ≡ session_of P.state_of self.old) }
@@ -119,13 +119,13 @@ impl<P: Placed, A: Allocator + Copy> Session<P, A> {
             return Ok(Reply::Refused(Code::NoSuchWalk));
         };
         let (stop, next) = stop_from(&self.store, cursor);
-        let reply = tell(self.alloc, &self.store, walk, cursor, stop)?;
+        let reply = reply_at(self.alloc, &self.store, walk, cursor, stop)?;
         self.go_to(walk, next);
         Ok(reply)
     }
 
     fn put(&mut self, item: &P::Item) -> Result<Reply<A>, NoMemory>
-        ensures reply { IfOk result (λ r. said r ≡ reply_to P.rules (session_of P.state_of self.old) (Put item.now)) }
+        ensures reply { IfOk result (λ r. content_of r ≡ reply_to P.rules (session_of P.state_of self.old) (Put item.now)) }
         ensures state { OnOk result (session_of P.state_of self.new ≡ after P.rules (session_of P.state_of self.old) (Put item.now)) }
         ensures lawful { OnOk result (IsLawful P.rules (moment P.rules (session_of P.state_of self.old) (Put item.now))) }
         ensures memory { TakesNone P.rules (session_of P.state_of self.old) (Put item.now) → IsOk result }
@@ -139,7 +139,7 @@ impl<P: Placed, A: Allocator + Copy> Session<P, A> {
     }
 
     fn cut(&mut self, place: u32) -> Reply<A>
-        ensures reply { said result ≡ reply_to P.rules (session_of P.state_of self.old) (Cut place) }
+        ensures reply { content_of result ≡ reply_to P.rules (session_of P.state_of self.old) (Cut place) }
         ensures state { session_of P.state_of self.new ≡ after P.rules (session_of P.state_of self.old) (Cut place) }
         ensures lawful { IsLawful P.rules (moment P.rules (session_of P.state_of self.old) (Cut place)) }
     {
@@ -151,7 +151,7 @@ impl<P: Placed, A: Allocator + Copy> Session<P, A> {
 
     /// Rewrites the store, which carries all cursors.
     fn rewrite(&mut self) -> Result<Reply<A>, NoMemory>
-        ensures reply { IfOk result (λ r. said r ≡ reply_to P.rules (session_of P.state_of self.old) Rewrite) }
+        ensures reply { IfOk result (λ r. content_of r ≡ reply_to P.rules (session_of P.state_of self.old) Rewrite) }
         ensures state { OnOk result (session_of P.state_of self.new ≡ after P.rules (session_of P.state_of self.old) Rewrite) }
         ensures lawful { OnOk result (IsLawful P.rules (moment P.rules (session_of P.state_of self.old) Rewrite)) }
         ensures memory { TakesNone P.rules (session_of P.state_of self.old) Rewrite → IsOk result }
@@ -179,7 +179,7 @@ fn rewrite_with<P: Placed>(store: &mut P, table: &mut [u32], count: usize) -> Re
 }
 
 /// Returns the reply to a step of a walk at `cursor` that stops at `stop`.
-fn tell<P: Placed, A: Allocator>(
+fn reply_at<P: Placed, A: Allocator>(
     alloc: A,
     store: &P,
     walk: u32,
@@ -187,8 +187,8 @@ fn tell<P: Placed, A: Allocator>(
     stop: Stop,
 ) -> Result<Reply<A>, NoMemory>
     requires { stop ≡ stop_at (P.rules.seen (P.state_of store.now)) cursor }
-    ensures reply { IfOk result (λ r. said r ≡ stop_said (P.rules.seen (P.state_of store.now)) walk (next_live (P.rules.seen (P.state_of store.now)) cursor)) }
-    ensures memory { is_gave (stop_said (P.rules.seen (P.state_of store.now)) walk (next_live (P.rules.seen (P.state_of store.now)) cursor)) ≡ false → IsOk result }
+    ensures reply { IfOk result (λ r. content_of r ≡ stop_reply (P.rules.seen (P.state_of store.now)) walk (next_live (P.rules.seen (P.state_of store.now)) cursor)) }
+    ensures memory { is_gave (stop_reply (P.rules.seen (P.state_of store.now)) walk (next_live (P.rules.seen (P.state_of store.now)) cursor)) ≡ false → IsOk result }
 {
     let _ = store.first();
     match stop {

@@ -1,7 +1,7 @@
 //! The runs of commands, each with the result if nothing fails.
 
 use super::images::{ADDED, CACHE, CACHE_EDITED, CACHE_REWRITTEN, EDITED, IMAGE, REMOVED};
-use krb_audit::{AskedKvno, Selection};
+use krb_audit::{SelectedKvno, Selection};
 use krb_cache_text::CcColumns;
 use krb_commands::{
     Action, FindOptions, KlistOptions, ListKind, RemoveOptions, TicketOptions, WordFault,
@@ -13,7 +13,7 @@ use std::test::Fail;
 
 /// A command on the keytab `k` or the cache `c`.
 #[derive(Clone, Copy)]
-pub enum Asked {
+pub enum ActionKind {
     Klist,
     KlistCache,
     Ktfind,
@@ -30,7 +30,7 @@ pub enum Asked {
 /// A run, the file that it saves, and the bytes of that file afterwards; of a run that saves none, those of `k`.
 #[derive(Clone, Copy)]
 pub struct Command {
-    pub asked: Asked,
+    pub action: ActionKind,
     pub input: &'static str,
     pub text: &'static str,
     pub message: &'static str,
@@ -40,7 +40,7 @@ pub struct Command {
 
 /// A run that saves nothing and prints nothing.
 const COMMAND: Command = Command {
-    asked: Asked::Ktutil,
+    action: ActionKind::Ktutil,
     input: "",
     text: "",
     message: "",
@@ -50,12 +50,12 @@ const COMMAND: Command = Command {
 
 pub const COMMANDS: [Command; 8] = [
     Command {
-        asked: Asked::Klist,
+        action: ActionKind::Klist,
         text: "Keytab name: FILE:k\nKVNO Principal\n---- ---------\n   3 host/a@R\n   3 b@R\n",
         ..COMMAND
     },
     Command {
-        asked: Asked::KlistCache,
+        action: ActionKind::KlistCache,
         text: "Ticket cache: FILE:c\nDefault principal: u@R\n\n\
 Valid starting       Expires              Service principal\n\
 2023-11-14T22:13:20Z 2023-11-15T08:13:20Z krbtgt/R@R\n    \
@@ -64,13 +64,13 @@ config: pa_type(krbtgt/R@R) = \\\\\\x7f2\n",
         ..COMMAND
     },
     Command {
-        asked: Asked::Ktfind,
+        action: ActionKind::Ktfind,
         text: "found 2 kvno 3 etype 17 host/a@R\n",
         ..COMMAND
     },
     // Walks while an entry is removed, another is added, and the keytab is rewritten.
     Command {
-        asked: Asked::Ktedit,
+        action: ActionKind::Ktedit,
         input: "start\nstep 0\ncut 2\n\
 add 3 17 1700000000 202122232425262728292a2b2c2d2e2f c@R\nrewrite\nstep 0\nstep 0\n",
         text: "walk 0 at 2\nwalk 0 gave 2 next 53 kvno 3 etype 17 host/a@R\ngone 2\nplaced 2\n\
@@ -79,14 +79,14 @@ rewritten 92\nwalk 0 gave 47 next 92 kvno 3 etype 17 b@R\nwalk 0 end 92\n",
         ..COMMAND
     },
     Command {
-        asked: Asked::Ktremove(false),
+        action: ActionKind::Ktremove(false),
         text: "removed 2 kvno 3 etype 17 host/a@R\n",
         left: REMOVED,
         ..COMMAND
     },
     // Removes the ticket and replaces the value, while a walk has its cursor before both.
     Command {
-        asked: Asked::Ccedit,
+        action: ActionKind::Ccedit,
         input: "start\ncut 22\nconfig pa_type krbtgt/R@R 2\nstep 0\nstep 0\n",
         text: "walk 0 at 22\ngone 22\nplaced 268\ngone 130\n\
 walk 0 gave 268 next 404 config pa_type(krbtgt/R@R)\nwalk 0 end 404\n",
@@ -95,7 +95,7 @@ walk 0 gave 268 next 404 config pa_type(krbtgt/R@R)\nwalk 0 end 404\n",
         ..COMMAND
     },
     Command {
-        asked: Asked::Ccremove(false),
+        action: ActionKind::Ccremove(false),
         text: "removed 22 krbtgt/R@R\n",
         name: "c",
         left: CACHE_REWRITTEN,
@@ -151,7 +151,7 @@ fn removal(alloc: Global, dry_run: bool) -> Result<RemoveOptions<Global>, Fail> 
     Ok(RemoveOptions {
         selection: Selection {
             name: Some(name(alloc, b"host/a@R")?),
-            kvno: AskedKvno::Exactly(3),
+            kvno: SelectedKvno::Exactly(3),
             enctypes: vec![in alloc; 17]?,
         },
         dry_run,
@@ -174,11 +174,11 @@ const ALL: CcColumns = CcColumns {
     configs: true,
 };
 
-impl Asked {
+impl ActionKind {
     /// Returns the name of its file.
     pub fn file(self) -> &'static str {
         match self {
-            Asked::KlistCache | Asked::Ccedit | Asked::Ccremove(_) => "c",
+            ActionKind::KlistCache | ActionKind::Ccedit | ActionKind::Ccremove(_) => "c",
             _ => "k",
         }
     }
@@ -190,15 +190,15 @@ impl Asked {
         file: &'a str,
     ) -> Result<Result<Action<'a>, WordFault<'static>>, Fail> {
         Ok(Ok(match self {
-            Asked::Klist => Action::Klist(listing(ListKind::Keytab(KtColumns::default())), file),
-            Asked::KlistCache => Action::Klist(listing(ListKind::Cache(ALL)), file),
-            Asked::Ktfind => Action::Ktfind(look_up(alloc)?, file),
-            Asked::Ktcheck => Action::Ktcheck(Order::Little, file),
-            Asked::Ktedit => Action::Ktedit(Order::Little, file),
-            Asked::Ktremove(dry_run) => Action::Ktremove(removal(alloc, dry_run)?, file),
-            Asked::Ccedit => Action::Ccedit(file),
-            Asked::Ccremove(dry_run) => Action::Ccremove(tickets(alloc, dry_run)?, file),
-            Asked::Ktutil => Action::Ktutil(Order::Little),
+            ActionKind::Klist => Action::Klist(listing(ListKind::Keytab(KtColumns::default())), file),
+            ActionKind::KlistCache => Action::Klist(listing(ListKind::Cache(ALL)), file),
+            ActionKind::Ktfind => Action::Ktfind(look_up(alloc)?, file),
+            ActionKind::Ktcheck => Action::Ktcheck(Order::Little, file),
+            ActionKind::Ktedit => Action::Ktedit(Order::Little, file),
+            ActionKind::Ktremove(dry_run) => Action::Ktremove(removal(alloc, dry_run)?, file),
+            ActionKind::Ccedit => Action::Ccedit(file),
+            ActionKind::Ccremove(dry_run) => Action::Ccremove(tickets(alloc, dry_run)?, file),
+            ActionKind::Ktutil => Action::Ktutil(Order::Little),
         }))
     }
 }

@@ -45,7 +45,7 @@ impl Disk {
     }
 
     /// Returns whether exactly those calls were made, in that order.
-    pub fn was_asked(&self, calls: &[&str]) -> bool {
+    pub fn was_called(&self, calls: &[&str]) -> bool {
         let Ok(made) = self.calls.try_borrow() else {
             return false;
         };

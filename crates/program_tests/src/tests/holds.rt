@@ -1,7 +1,7 @@
 //! A command holds the file that it changes, from the load to the save, and then releases it.
 
 use super::checks::is;
-use super::commands::Asked;
+use super::commands::ActionKind;
 use super::disk::Disk;
 use super::images::{CACHE, IMAGE};
 use super::locks::{LOCK, NONE};
@@ -51,14 +51,14 @@ fn a_file_that_changes(rt: HostRuntime) {
 }
 
 /// Runs a command over a disk on which `k` has those bytes, and returns the disk.
-fn run_on(alloc: Global, asked: Asked, bytes: &'static [u8], input: &str) -> Result<Disk, Fail> {
+fn run_on(alloc: Global, action: ActionKind, bytes: &'static [u8], input: &str) -> Result<Disk, Fail> {
     let disk = Disk::new(alloc, WHOLE.having(bytes));
-    let asked = asked.of(alloc, "k")?;
+    let action = action.of(alloc, "k")?;
     let reached = (disk.reached(), alloc);
     let mut files = DiskFiles::new(&reached);
     let mut out = Vec::new(alloc);
     let mut err = Vec::new(alloc);
-    respond_over(alloc, &asked, &mut files, input, &mut out, &mut err);
+    respond_over(alloc, &action, &mut files, input, &mut out, &mut err);
     drop(files);
     drop(reached);
     Ok(disk)
@@ -80,24 +80,24 @@ const READS_AND_CHANGES: &[&str] = &[
 /// Dry runs and scripts that change nothing hold nothing. A run that finds nothing to change releases what it held.
 #[test]
 fn what_is_changed_is_held(rt: HostRuntime) -> Result<(), Fail> {
-    for (asked, bytes, input, calls) in [
-        (Asked::Klist, IMAGE, "", LOOKS),
-        (Asked::KlistCache, CACHE, "", LOOKS),
-        (Asked::Ktfind, IMAGE, "", LOOKS),
-        (Asked::Ktcheck, IMAGE, "", LOOKS),
-        (Asked::Ktedit, IMAGE, "start\nstep 0\n", LOOKS),
-        (Asked::Ktedit, IMAGE, "cut 2\n", CHANGES),
-        (Asked::Ktedit, IMAGE, "cut 3\n", LEAVES),
-        (Asked::Ktremove(true), IMAGE, "", LOOKS),
-        (Asked::Ktremove(false), IMAGE, "", CHANGES),
-        (Asked::Ccedit, CACHE, "start\nstep 0\n", LOOKS),
-        (Asked::Ccedit, CACHE, "cut 22\n", CHANGES),
-        (Asked::Ccremove(true), CACHE, "", LOOKS),
-        (Asked::Ccremove(false), CACHE, "", CHANGES),
-        (Asked::Ktutil, IMAGE, "rkt k\nwkt k\n", READS_AND_CHANGES),
+    for (action, bytes, input, calls) in [
+        (ActionKind::Klist, IMAGE, "", LOOKS),
+        (ActionKind::KlistCache, CACHE, "", LOOKS),
+        (ActionKind::Ktfind, IMAGE, "", LOOKS),
+        (ActionKind::Ktcheck, IMAGE, "", LOOKS),
+        (ActionKind::Ktedit, IMAGE, "start\nstep 0\n", LOOKS),
+        (ActionKind::Ktedit, IMAGE, "cut 2\n", CHANGES),
+        (ActionKind::Ktedit, IMAGE, "cut 3\n", LEAVES),
+        (ActionKind::Ktremove(true), IMAGE, "", LOOKS),
+        (ActionKind::Ktremove(false), IMAGE, "", CHANGES),
+        (ActionKind::Ccedit, CACHE, "start\nstep 0\n", LOOKS),
+        (ActionKind::Ccedit, CACHE, "cut 22\n", CHANGES),
+        (ActionKind::Ccremove(true), CACHE, "", LOOKS),
+        (ActionKind::Ccremove(false), CACHE, "", CHANGES),
+        (ActionKind::Ktutil, IMAGE, "rkt k\nwkt k\n", READS_AND_CHANGES),
     ] {
-        let disk = run_on(rt.alloc(), asked, bytes, input)?;
-        is(&rt, &disk.was_asked(calls), &true, input);
+        let disk = run_on(rt.alloc(), action, bytes, input)?;
+        is(&rt, &disk.was_called(calls), &true, input);
     }
     Ok(())
 }
@@ -112,12 +112,12 @@ fn a_file_that_is_left(rt: HostRuntime) {
     hold(&mut files);
     release(&mut files);
     release(&mut files);
-    is(&rt, &disk.was_asked(&[HOLD, LOCKS, LEAVE]), &true, "left");
+    is(&rt, &disk.was_called(&[HOLD, LOCKS, LEAVE]), &true, "left");
     hold(&mut files);
     let another = save(&mut files, "d.krbfile");
     is(&rt, &another, &saved(Some(Cause::NameOfSaves)), "another");
     let calls = [HOLD, LOCKS, LEAVE, HOLD, LOCKS, LEAVE, "look d.krbfile\n"];
-    is(&rt, &disk.was_asked(&calls), &true, "left for another");
+    is(&rt, &disk.was_called(&calls), &true, "left for another");
     disk.state.set(WHOLE.failing(2, 13));
     hold(&mut files);
     let denied = saved(Some(Cause::PermissionDenied));

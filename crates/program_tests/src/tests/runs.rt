@@ -1,7 +1,7 @@
 //! Runs over files in memory.
 
 use super::checks::is;
-use super::commands::{Asked, COMMANDS, Command, file_before};
+use super::commands::{ActionKind, COMMANDS, Command, file_before};
 use super::images::{CACHE, IMAGE};
 use krb_commands::{Action, ErrorOutput, Ktutil, LineEnd, Streams, WordFault, respond};
 use krb_files::{Files, MemFiles, Watched, WatchedReader};
@@ -15,7 +15,7 @@ use std::test::Fail;
 /// Runs an action over some files, with that input, and returns the exit status.
 pub fn respond_over<A: Allocator + Copy, F: Files, E: Write>(
     alloc: A,
-    asked: &Result<Action<'_>, WordFault<'_>>,
+    action: &Result<Action<'_>, WordFault<'_>>,
     files: &mut F,
     input: &str,
     out: &mut Vec<u8, Global>,
@@ -29,7 +29,7 @@ pub fn respond_over<A: Allocator + Copy, F: Files, E: Write>(
             explains: false,
         },
     };
-    respond(alloc, asked, files, Some(1_700_000_000), &mut streams)
+    respond(alloc, action, files, Some(1_700_000_000), &mut streams)
 }
 
 /// Returns a file `k`, the keytab, and a file `c`, the cache.
@@ -64,13 +64,13 @@ fn is_due(command: &Command, (status, out, err, left): Ending<'_>, is_refused: b
 
 /// Refuses each allocation of a run in turn, and returns how many it makes.
 fn requests_of<R: Abort + AllocGlobal>(rt: &R, command: &Command) -> Result<u64, Fail> {
-    let asked = command.asked.of(rt.alloc(), command.asked.file())?;
+    let action = command.action.of(rt.alloc(), command.action.file())?;
     refuse_each(rt.alloc(), 200, |heap, nth| {
         let mut files = files_of(heap)?;
         let mut out = Vec::new(rt.alloc());
         let mut err = Vec::new(rt.alloc());
         heap.refuse(nth);
-        let status = respond_over(heap, &asked, &mut files, command.input, &mut out, &mut err);
+        let status = respond_over(heap, &action, &mut files, command.input, &mut out, &mut err);
         let ending = (
             status,
             out.as_slice(),
@@ -106,10 +106,10 @@ fn handle<A: Allocator + Copy>(alloc: A, ktutil: &mut Ktutil<A>, line: &str) -> 
 fn the_key_line_of_ktutil(rt: HostRuntime) -> Result<(), Fail> {
     let requests = refuse_each(rt.alloc(), 10, |heap, nth| {
         let mut ktutil = Ktutil::new(heap, Order::Little);
-        let is_asked = handle(heap, &mut ktutil, "addent -key -p a@R -k 1 -e 17");
+        let is_selected = handle(heap, &mut ktutil, "addent -key -p a@R -k 1 -e 17");
         heap.refuse(nth);
         let is_done = handle(heap, &mut ktutil, KEY);
-        let got = (is_asked, is_done, ktutil.pending());
+        let got = (is_selected, is_done, ktutil.pending());
         is(&rt, &got, &(true, !heap.refused(), heap.refused()), "key");
         let is_done = is_done || handle(heap, &mut ktutil, KEY);
         let got = (is_done, ktutil.pending(), ktutil.entries().len());
@@ -140,11 +140,11 @@ impl Write for Writes {
 fn a_message_is_one_write(rt: HostRuntime) -> Result<(), Fail> {
     for (length, wanted) in [(1, 1), (4096, 1), (5000, 3)] {
         let name = vec![in rt.alloc(); b'n'; length]?;
-        let asked = Asked::Klist.of(rt.alloc(), str::from_utf8(&name)?)?;
+        let action = ActionKind::Klist.of(rt.alloc(), str::from_utf8(&name)?)?;
         let mut files = files_of(rt.alloc())?;
         let mut out = Vec::new(rt.alloc());
         let mut writes = Writes(0);
-        respond_over(rt.alloc(), &asked, &mut files, "", &mut out, &mut writes);
+        respond_over(rt.alloc(), &action, &mut files, "", &mut out, &mut writes);
         is(&rt, &writes.0, &wanted, "writes");
     }
     Ok(())

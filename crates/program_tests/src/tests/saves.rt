@@ -143,7 +143,7 @@ fn the_calls_of_a_save(rt: HostRuntime) {
         let disk = Disk::new(rt.alloc(), WHOLE.failing(failing, error));
         is(&rt, &save_on(rt.alloc(), &disk), &saved(None), own);
         let calls = [HOLD, LOCKS, WRITES, own, KEEPS, LOOK, LOCKS, RENAME];
-        is(&rt, &disk.was_asked(&calls), &true, own);
+        is(&rt, &disk.was_called(&calls), &true, own);
     }
 }
 

@@ -41,13 +41,13 @@ fn each_request_of_parse_name(rt: HostRuntime) -> Result<(), Fail> {
     for (text, default_realm, fault, least) in PARSED {
         let requests = refuse_each(rt.alloc(), 100, |heap, n| {
             heap.refuse(n);
-            let told = fault_of(heap, text, *default_realm)?;
+            let found = fault_of(heap, text, *default_realm)?;
             let wanted = if heap.refused() {
                 Some(NameFault::NoMemory)
             } else {
                 *fault
             };
-            is(told == wanted, "another fault")
+            is(found == wanted, "another fault")
         })?;
         is(
             requests >= *least && (fault.is_none() || requests == 0),

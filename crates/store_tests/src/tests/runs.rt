@@ -2,9 +2,9 @@
 
 use super::made::{indexed_of, keytab_of};
 use super::records::{B, B_BYTES, C_AND_ZEROS, HEAD, HOST, HOST_BYTES, UNTYPED_BYTES, VERSION_1};
-use super::turns::Told::{Ended, Gave, Gone, Placed as PlacedAt, Rewritten, Started};
+use super::turns::ExpectedReply::{Ended, Gave, Gone, Placed as PlacedAt, Rewritten, Started};
 use super::turns::Turn::{Cut, Rewrite, Start, Step};
-use super::turns::{PUT_B, PUT_C, PUT_HOST, Row, Told, Turn, are_told, events_of, told_by};
+use super::turns::{PUT_B, PUT_C, PUT_HOST, Row, ExpectedReply, Turn, are_replies, events_of, reply_of};
 use super::{are, is};
 use krb_walk::{Event, Placed, Reply, Session};
 use refusing::{Refusing, refuse_each};
@@ -103,7 +103,7 @@ fn store_after<P: Placed + Drop, A: Allocator + Copy>(
     let mut session = Session::new(alloc, store);
     let mut replies = Vec::new(alloc);
     let ran_out = run(&mut session, events, &mut replies)?;
-    is(are_told(&replies, row), row.name)?;
+    is(are_replies(&replies, row), row.name)?;
     Ok((session.into_store(), ran_out))
 }
 
@@ -143,16 +143,16 @@ fn each_request_of_a_run(rt: HostRuntime) -> Result<(), Fail> {
 fn apply<P: Placed + Drop, A: Allocator + Copy>(
     session: &mut Session<P, A>,
     event: &Event<P::Item>,
-    told: &Told<'_>,
+    expected: &ExpectedReply<'_>,
 ) -> Result<bool, Fail> {
     match session.apply(event) {
         Ok(reply) => {
-            is(told_by(&reply) == *told, "another reply")?;
+            is(reply_of(&reply) == *expected, "another reply")?;
             Ok(false)
         }
         Err(_) => {
             let reply = session.apply(event)?;
-            is(told_by(&reply) == *told, "another reply after a refusal")?;
+            is(reply_of(&reply) == *expected, "another reply after a refusal")?;
             Ok(true)
         }
     }
@@ -163,12 +163,12 @@ fn apply_each<P: Placed + Drop, A: Allocator + Copy>(
     alloc: A,
     store: P,
     events: &[Event<P::Item>],
-    turns: &[(Turn, Told<'_>)],
+    turns: &[(Turn, ExpectedReply<'_>)],
 ) -> Result<bool, Fail> {
     let mut session = Session::new(alloc, store);
     let mut ran_out = false;
-    for (event, (_, told)) in events.iter().zip(turns) {
-        if apply(&mut session, event, told)? {
+    for (event, (_, expected)) in events.iter().zip(turns) {
+        if apply(&mut session, event, expected)? {
             ran_out = true;
         }
     }

@@ -26,7 +26,7 @@ pub const PUT_C: Turn = Turn::Put(b"c@R", C_KEY);
 
 /// A reply: the walk first, then places. No row has any other reply.
 #[derive(Clone, Copy, PartialEq, Eq)]
-pub enum Told<'a> {
+pub enum ExpectedReply<'a> {
     Started(u32, u32),
     Gave(u32, u32, u32, &'a [u8]),
     Ended(u32, u32),
@@ -42,7 +42,7 @@ pub enum Told<'a> {
 pub struct Row<'a> {
     pub name: &'a str,
     pub before: &'a [&'a [u8]],
-    pub turns: &'a [(Turn, Told<'a>)],
+    pub turns: &'a [(Turn, ExpectedReply<'a>)],
     pub after: &'a [&'a [u8]],
     pub least: (u64, u64),
 }
@@ -78,27 +78,27 @@ pub fn events_of<A: Allocator + Copy>(
 }
 
 /// Returns what a reply reports.
-pub fn told_by<A: Allocator>(reply: &Reply<A>) -> Told<'_> {
+pub fn reply_of<A: Allocator>(reply: &Reply<A>) -> ExpectedReply<'_> {
     match reply {
-        Reply::Started { walk, next } => Told::Started(*walk, *next),
+        Reply::Started { walk, next } => ExpectedReply::Started(*walk, *next),
         Reply::Gave {
             walk,
             place,
             next,
             bytes,
-        } => Told::Gave(*walk, *place, *next, bytes.as_slice()),
-        Reply::Ended { walk, next } => Told::Ended(*walk, *next),
-        Reply::Placed(place) => Told::Placed(*place),
-        Reply::Gone(place) => Told::Gone(*place),
-        Reply::Rewritten(end) => Told::Rewritten(*end),
-        _ => Told::Other,
+        } => ExpectedReply::Gave(*walk, *place, *next, bytes.as_slice()),
+        Reply::Ended { walk, next } => ExpectedReply::Ended(*walk, *next),
+        Reply::Placed(place) => ExpectedReply::Placed(*place),
+        Reply::Gone(place) => ExpectedReply::Gone(*place),
+        Reply::Rewritten(end) => ExpectedReply::Rewritten(*end),
+        _ => ExpectedReply::Other,
     }
 }
 
 /// Returns whether the replies are those of a row.
-pub fn are_told<A: Allocator>(replies: &[Reply<A>], row: &Row<'_>) -> bool {
-    for (reply, (_, told)) in replies.iter().zip(row.turns) {
-        if told_by(reply) != *told {
+pub fn are_replies<A: Allocator>(replies: &[Reply<A>], row: &Row<'_>) -> bool {
+    for (reply, (_, expected)) in replies.iter().zip(row.turns) {
+        if reply_of(reply) != *expected {
             return false;
         }
     }

@@ -1,6 +1,6 @@
 //! Calls that parse scripts, with a letter for each line. Each returns `None` if an allocation fails.
 
-use krb_cache_text::{Asked, CacheLine};
+use krb_cache_text::{Request, CacheLine};
 use krb_keytab::NewEntry;
 use krb_text::parse_script;
 use krb_walk::Event;
@@ -21,8 +21,8 @@ fn letter<I>(event: &Event<I>) -> u8 {
 // Returns the letter of a line of a cache's script.
 fn cache_letter<A: Allocator>(asked: &CacheLine<A>) -> u8 {
     match asked {
-        Asked::Event(event) => letter(event),
-        Asked::Setting(_) => b'v',
+        Request::Event(event) => letter(event),
+        Request::Setting(_) => b'v',
     }
 }
 

@@ -1,7 +1,7 @@
 //! Calls that scan a keytab or a cache, and their lines. Each returns `None` if an allocation fails.
 
 use super::images::{BAD_KEYTAB, KEYTAB, cache_of, keytab_of};
-use krb_audit::{AskedKvno, Selection, check_up, select, select_tickets};
+use krb_audit::{SelectedKvno, Selection, check_up, select, select_tickets};
 use krb_wire::parse_name;
 use std::alloc::Allocator;
 
@@ -9,7 +9,7 @@ use std::alloc::Allocator;
 pub fn entries<A: Allocator + Copy>(alloc: A, out: &mut Vec<u8, A>) -> Option<()> {
     let selection = Selection {
         name: Some(parse_name(alloc, b"host/a@R", None).ok()?),
-        kvno: AskedKvno::Old,
+        kvno: SelectedKvno::Old,
         enctypes: Vec::from_slice(alloc, &[17]).ok()?,
     };
     let selected = select(alloc, &keytab_of(alloc, KEYTAB)?, &selection).ok()?;

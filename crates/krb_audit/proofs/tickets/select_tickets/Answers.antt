@@ -1,6 +1,6 @@
 use Rattle.std.proofs.Common.{List, sym, subst, ◌∙◌}
 use Rattle.krb_ccache.specs.Store.{PlacedCredential, placed_credentials}
-use Rattle.krb_audit.specs.AskedTickets.{SelectsSoFar}
+use Rattle.krb_audit.specs.TicketCriteria.{SelectsSoFar}
 use Rattle.krb_audit.specs.TicketText.{TicketText}
 use Rattle.krb_audit.proofs.tickets.select_tickets.Goals as goal
 
@@ -12,8 +12,8 @@ credentials-preserved g c =
     let x : PlacedCredential = (c.in-Some.place, c.in-Some.credential) in
     let old = c.credentials.selected in
     let h = c.credentials.invariant in
-    let next = subst (λ (xs : List PlacedCredential). SelectsSoFar c.credentials.asked xs all old) c.in-Some.ensures.steps (subst (λ (t : TicketText). SelectsSoFar t c.credentials.place-iterator all old) (sym h.asked) h.selects) in
+    let next = subst (λ (xs : List PlacedCredential). SelectsSoFar c.credentials.prepared xs all old) c.in-Some.ensures.steps (subst (λ (t : TicketText). SelectsSoFar t c.credentials.place-iterator all old) (sym h.prepared) h.selects) in
     record {
-      asked = c.in_ok-consider.ensures.kept ∙ h.asked;
-      selects = subst (λ (t : TicketText). SelectsSoFar t rest all c.consider.new.self) h.asked (c.in_ok-consider.ensures.selects rest all next);
+      prepared = c.in_ok-consider.ensures.kept ∙ h.prepared;
+      selects = subst (λ (t : TicketText). SelectsSoFar t rest all c.consider.new.self) h.prepared (c.in_ok-consider.ensures.selects rest all next);
     }

@@ -1,11 +1,11 @@
 use Rattle.std.proofs.Common.{◌≡◌}
 use Rattle.krb_ccache.specs.Store.{placed_credentials}
-use Rattle.krb_audit.specs.AskedTickets.{ticket_text, SelectsSoFar}
+use Rattle.krb_audit.specs.TicketCriteria.{ticket_text, SelectsSoFar}
 use Rattle.krb_audit.proofs.tickets.select_tickets.Given as goal
 
 -- the selected ones of the credentials so far were added
 abbrev pub invariant-credentials : goal.invariant-credentials
 invariant-credentials g l = record {
-  asked : l.asked ≡ ticket_text l.server l.fn.ended_by;
+  prepared : l.prepared ≡ ticket_text l.server l.fn.ended_by;
   selects : SelectsSoFar (ticket_text l.server l.fn.ended_by) l.place-iterator (placed_credentials l.cache.state) l.selected;
 }

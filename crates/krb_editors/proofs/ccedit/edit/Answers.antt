@@ -1,5 +1,5 @@
 use Rattle.std.proofs.Common.{ℕ, List, map, ap, ◌∙◌}
-use Rattle.krb_walk.specs.Said.{said}
+use Rattle.krb_walk.specs.ReplyContent.{content_of}
 use Rattle.krb_ccache.specs.declared.version.Version.TheVariants.{V4}
 use Rattle.krb_ccache.specs.Placed.{cache_rules}
 use Rattle.krb_ccache.specs.Store.{CacheState, image_of}
@@ -16,7 +16,7 @@ pub returns-clause-made : goal.returns-clause-made
 returns-clause-made g c =
     let cache = c.args.cache.state in
     let events = cache_events c.args.lines.now cache in
-    let reported = map said c.run_lines.new.replies.items in
+    let reported = map content_of c.run_lines.new.replies.items in
     let bytes = c.into_image.result.items in
     let ran = rw c.new-replies.ensures.items at c.in_ok-cache.ensures.ran in
     let image = c.into_image.ensures.spelled ∙ ap image_of c.in_ok-cache.ensures.left in
@@ -30,4 +30,4 @@ returns-clause-fair g c =
     let cache = c.args.cache.state in
     let events = cache_events c.args.lines.now cache in
     let ran = rw c.new-replies.ensures.items at c.in_ok-cache.ensures.ran in
-    made_so (RunsFairly c.args.lines.now cache) (ran_fair cache_rules cache events (map said c.run_lines.new.replies.items) ran) c.replied.result
+    made_so (RunsFairly c.args.lines.now cache) (ran_fair cache_rules cache events (map content_of c.run_lines.new.replies.items) ran) c.replied.result

@@ -2,7 +2,7 @@ use Rattle.std.proofs.Common.{rules, ◌≡◌, ◌∙◌, inr, ℕ, Bool, false
 use Rattle.std.specs.Prelude.{[], ◌==◌, if◌then◌else◌}
 use Rattle.std.specs.List.{flat_map, list_any}
 use Rattle.krb_ccache.specs.Store.{CacheState, PlacedCredential, image_of, placed_credentials}
-use Rattle.krb_audit.specs.Tickets.{asked_tickets, names_ticket, removed_ticket_line}
+use Rattle.krb_audit.specs.Tickets.{selected_tickets, names_ticket, removed_ticket_line}
 use Rattle.krb_editors.specs.declared.ccremove.TicketOptions.{TicketOptions}
 use Rattle.krb_driver.specs.declared.verdict.Verdict.TheVariants.{Well}
 use Rattle.krb_editors.specs.Ccremove.{cache_after, none_verdict, places, removes}
@@ -23,5 +23,5 @@ pub returns : goal.returns
 returns g c =
     let o = c.args.command.now.options.now in
     let selected = c.in_ok-selected.ensures in
-    inr (removed o c.args.command.now.file.now c.args.cache.state (asked_tickets o.server c.args.command.now.ended_by c.args.cache.state) c.in_ok-selected.selected.places.items c.in_ok-image.image.items c.in_ok-selected.selected.text.items _
+    inr (removed o c.args.command.now.file.now c.args.cache.state (selected_tickets o.server c.args.command.now.ended_by c.args.cache.state) c.in_ok-selected.selected.places.items c.in_ok-image.image.items c.in_ok-selected.selected.text.items _
     selected.places selected.text (c.in_ok-image.ensures ∙ ap (λ (p : List ℕ). image_of (cache_after c.args.cache.state p)) c.deref.ensures.value) (search rules) (sym (ap (λ (b : Bool). saves_unless b c.args.command.now.file.now c.in_ok-image.image.items c.in_ok-selected.selected.text.items Well) c.if-options.false)))

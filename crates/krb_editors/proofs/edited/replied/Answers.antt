@@ -1,18 +1,18 @@
 use Rattle.std.proofs.Common.{map, sym, ◌∙◌}
-use Rattle.krb_walk.specs.Said.{said}
+use Rattle.krb_walk.specs.ReplyContent.{content_of}
 use Rattle.krb_text.specs.Reply.{reply_texts_by}
 use Rattle.krb_editors.specs.Sessions.{is_change}
-use Rattle.krb_editors.proofs.SessionReplies.{any_said, replied_said, replied_shows, replied_saves}
+use Rattle.krb_editors.proofs.SessionReplies.{any_content, replied_contents, replied_shows, replied_saves}
 use Rattle.krb_editors.proofs.edited.replied.Goals as goal
 
 pub returns-then-are_changes : goal.returns-then-are_changes
 returns-then-are_changes g c =
     let is = rw c.new-text.ensures.items at c.in_ok-reply_lines.ensures.ok in
-    replied_saves c.args.kind (map said c.args.replies.now) c.args.image.items (reply_texts_by g.F.RecordFormat.tail_of g.F.RecordFormat.rewritten c.args.format (map said c.args.replies.now)) c.reply_lines.new.out.items c.replied_verdict.result
-    (sym (any_said said is_change c.args.replies.now) ∙ sym c.are_changes.ensures ∙ c.if-are_changes.true) is (c.replied_verdict.ensures ∙ replied_said c.args.kind said c.args.replies.now)
+    replied_saves c.args.kind (map content_of c.args.replies.now) c.args.image.items (reply_texts_by g.F.RecordFormat.tail_of g.F.RecordFormat.rewritten c.args.format (map content_of c.args.replies.now)) c.reply_lines.new.out.items c.replied_verdict.result
+    (sym (any_content content_of is_change c.args.replies.now) ∙ sym c.are_changes.ensures ∙ c.if-are_changes.true) is (c.replied_verdict.ensures ∙ replied_contents c.args.kind content_of c.args.replies.now)
 
 pub returns-else-are_changes : goal.returns-else-are_changes
 returns-else-are_changes g c =
     let is = rw c.new-text.ensures.items at c.in_ok-reply_lines.ensures.ok in
-    replied_shows c.args.kind (map said c.args.replies.now) c.args.image.items (reply_texts_by g.F.RecordFormat.tail_of g.F.RecordFormat.rewritten c.args.format (map said c.args.replies.now)) c.reply_lines.new.out.items c.replied_verdict.result
-    (sym (any_said said is_change c.args.replies.now) ∙ sym c.are_changes.ensures ∙ c.if-are_changes.false) is (c.replied_verdict.ensures ∙ replied_said c.args.kind said c.args.replies.now)
+    replied_shows c.args.kind (map content_of c.args.replies.now) c.args.image.items (reply_texts_by g.F.RecordFormat.tail_of g.F.RecordFormat.rewritten c.args.format (map content_of c.args.replies.now)) c.reply_lines.new.out.items c.replied_verdict.result
+    (sym (any_content content_of is_change c.args.replies.now) ∙ sym c.are_changes.ensures ∙ c.if-are_changes.false) is (c.replied_verdict.ensures ∙ replied_contents c.args.kind content_of c.args.replies.now)

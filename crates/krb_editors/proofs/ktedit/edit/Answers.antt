@@ -1,6 +1,6 @@
 use Rattle.std.proofs.Common.{ℕ, List, map, ap, ◌∙◌}
 use Rattle.krb_wire.specs.declared.format.KtFormat.TheVariants.{V2}
-use Rattle.krb_walk.specs.Said.{said}
+use Rattle.krb_walk.specs.ReplyContent.{content_of}
 use Rattle.krb_walk.specs.Events.{session_of}
 use Rattle.krb_keytab.specs.Placed.{keytab_rules}
 use Rattle.krb_keytab.specs.Store.{InMemory, KeytabState, image_of}
@@ -16,7 +16,7 @@ pub returns-clause-made : goal.returns-clause-made
 returns-clause-made g c =
     let keytab = c.args.keytab.state in
     let events = c.args.events.now in
-    let reported = map said c.run.new.replies.items in
+    let reported = map content_of c.run.new.replies.items in
     let bytes = c.into_image-image.result.items in
     let old = session_of (λ (k : InMemory). k.state) c.new-session.result in
     let new = session_of (λ (k : InMemory). k.state) c.run.new.self in
@@ -36,4 +36,4 @@ returns-clause-fair g c =
     let new = session_of (λ (k : InMemory). k.state) c.run.new.self in
     let begins = ap (session_of (λ (k : InMemory). k.state)) c.new-session.ensures.is ∙ ap (λ (k : InMemory). new_session k.state) c.in-Ok.ensures.ok in
     let ran = rw c.new-replies.ensures.items at c.in_ok-run.ensures.ok in
-    made_so (RunsFairly events keytab) (begun_fair keytab_rules keytab events old new (map said c.run.new.replies.items) begins ran) c.replied.result
+    made_so (RunsFairly events keytab) (begun_fair keytab_rules keytab events old new (map content_of c.run.new.replies.items) begins ran) c.replied.result

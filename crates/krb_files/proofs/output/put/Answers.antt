@@ -4,13 +4,13 @@ use Rattle.krb_files.proofs.output.put.Goals as goal
 
 pub loop-done-preserved : goal.loop-done-preserved
 loop-done-preserved g c =
-    let said = c.in-Some.ensures in
-    let bound = simp (length-take, length-drop) at said.1 in
+    let content_of = c.in-Some.ensures in
+    let bound = simp (length-take, length-drop) at content_of.1 in
     record {
       within = omega arith;
       sent = Appends-take-more _ _ _ c.loop-done.done c.in-Some.n c.args.bytes.now c.loop-done.invariant.within
-          c.loop-done.invariant.sent said.2;
-      well = said.3 ∙ c.loop-done.invariant.well;
+          c.loop-done.invariant.sent content_of.2;
+      well = content_of.3 ∙ c.loop-done.invariant.well;
     }
 
 -- a failed write keeps what was sent before, by `Appends-keeps`

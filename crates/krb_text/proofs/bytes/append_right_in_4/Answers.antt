@@ -12,15 +12,15 @@ write_digits-start-requires g c =
 
 pub returns-then-start-lt16 : goal.returns-then-start-lt16
 returns-then-start-lt16 g c =
-    let said = c.write_digits-start.ensures in
+    let content_of = c.write_digits-start.ensures in
     let start = c.write_digits-start.result in
-    let text = right_aligned _ (decimal c.args.number) start start said.start said.written said.before (omega arith) in
+    let text = right_aligned _ (decimal c.args.number) start start content_of.start content_of.written content_of.before (omega arith) in
     let P : List ℕ → Type 0 = λ t. Appended t c.args.out.now c.append.new.out c.append.result in
     subst P text c.append.ensures
 
 pub returns : goal.returns
 returns g c =
-    let said = c.write_digits-start.ensures in
-    let text = right_aligned _ (decimal c.args.number) c.write_digits-start.result 16 said.start said.written said.before (omega arith) in
+    let content_of = c.write_digits-start.ensures in
+    let text = right_aligned _ (decimal c.args.number) c.write_digits-start.result 16 content_of.start content_of.written content_of.before (omega arith) in
     let P : List ℕ → Type 0 = λ t. Appended t c.args.out.now c.append-2.new.out c.append-2.result in
     subst P text c.append-2.ensures

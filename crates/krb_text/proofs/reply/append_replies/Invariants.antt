@@ -1,10 +1,10 @@
 use Rattle.std.proofs.Common.{drop, map}
 use Rattle.krb_wire.proofs.TextLemmas.{Left}
-use Rattle.krb_walk.specs.Said.{said}
+use Rattle.krb_walk.specs.ReplyContent.{content_of}
 use Rattle.krb_text.specs.Reply.{reply_texts_by}
 use Rattle.krb_text.proofs.reply.append_replies.Given as goal
 
 abbrev pub invariant-replies : goal.invariant-replies
 invariant-replies g l =
-    Left (reply_texts_by g.F.RecordFormat.tail_of g.F.RecordFormat.rewritten l.fn.format (map said l.replies))
-    (reply_texts_by g.F.RecordFormat.tail_of g.F.RecordFormat.rewritten l.now (map said (drop l.reply-index l.replies))) l.fn.out l.out
+    Left (reply_texts_by g.F.RecordFormat.tail_of g.F.RecordFormat.rewritten l.fn.format (map content_of l.replies))
+    (reply_texts_by g.F.RecordFormat.tail_of g.F.RecordFormat.rewritten l.now (map content_of (drop l.reply-index l.replies))) l.fn.out l.out

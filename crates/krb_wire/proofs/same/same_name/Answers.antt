@@ -1,5 +1,5 @@
 use Rattle.std.proofs.Common.{rules, ◌≡◌, ◌∙◌, sym}
-use Rattle.krb_wire.proofs.NamesTold.{same_name_is}
+use Rattle.krb_wire.proofs.NamesCompared.{same_name_is}
 use Rattle.krb_wire.proofs.same.same_name.Goals as goal
 
 pub returns-then-eq : goal.returns-then-eq

@@ -36,4 +36,4 @@ returns-clause-offset g c =
     let within = c.in-Some.ensures.within in
     let parts = empty_held p c.args.offset c.image-limit.result c.write_preamble.new.image.items (2 + c.header_len.result) c.in-Some.len c.in-Some.ensures.fits fits c.write_preamble.ensures
     (omega (arith, len, within)) c.image-limit.ensures.most (ap (λ (n : ℕ). 2 + n) c.header_len.ensures) len in
-    ap (λ (s : CacheState). offset_in s.header) parts.state ∙ c.tells_offset.ensures
+    ap (λ (s : CacheState). offset_in s.header) parts.state ∙ c.new_header_has_its_offset.ensures

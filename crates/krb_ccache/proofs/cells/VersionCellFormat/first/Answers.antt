@@ -16,4 +16,4 @@ overflow_sub-width c =
 
 pub returns-clause-some : goal.returns-clause-some
 returns-clause-some c =
-    cell_first c.args.self c.args.bytes.now _ c.in_ok-credential.after.now _ c.bytes_fit.ensures c.in_ok-credential.ensures (c.live.ensures ∙ ap (live_by _) c.split_at.ensures.front)
+    cell_first c.args.self c.args.bytes.now _ c.in_ok-credential.after.now _ c.bytes_fit.ensures c.in_ok-credential.ensures (c.live_text.ensures ∙ ap (live_by _) c.split_at.ensures.front)

@@ -6,11 +6,11 @@ use Rattle.krb_wire.proofs.PenLemmas.{puts_then}
 use Rattle.krb_ccache.specs.declared.version.Version.TheVariants.{V4}
 use Rattle.krb_ccache.specs.Credential.{CredParts, credential, middle_text, lists_text}
 use Rattle.krb_ccache.proofs.Pens.{first_room, rest_room}
-use Rattle.krb_ccache.proofs.SpellingLemmas.{four_is, fits_told}
+use Rattle.krb_ccache.proofs.SpellingLemmas.{four_is, fits_spelled}
 use Rattle.krb_ccache.proofs.credential.Cred.put.Goals as goal
 
 pub put_cc_principal-requires-clause-spelled : goal.put_cc_principal-requires-clause-spelled
-put_cc_principal-requires-clause-spelled g c = ap (λ (x : CredParts). cc_name_fits x.client) c.self.view_is ∙ fits_told c.args.self.now.client c.requires.fits.client
+put_cc_principal-requires-clause-spelled g c = ap (λ (x : CredParts). cc_name_fits x.client) c.self.view_is ∙ fits_spelled c.args.self.now.client c.requires.fits.client
 
 pub put_cc_principal-requires-clause-room : goal.put_cc_principal-requires-clause-room
 put_cc_principal-requires-clause-room g c =
@@ -21,7 +21,7 @@ put_cc_principal-requires-clause-room g c =
     first_room c.args.pen.now (credential V4 x) client (server ++ rest) (sym (four_is x _ c.self.view_is)) c.requires.room
 
 pub put_cc_principal-requires-2-clause-spelled : goal.put_cc_principal-requires-2-clause-spelled
-put_cc_principal-requires-2-clause-spelled g c = ap (λ (x : CredParts). cc_name_fits x.server) c.self.view_is ∙ fits_told c.args.self.now.server c.requires.fits.server
+put_cc_principal-requires-2-clause-spelled g c = ap (λ (x : CredParts). cc_name_fits x.server) c.self.view_is ∙ fits_spelled c.args.self.now.server c.requires.fits.server
 
 pub put_cc_principal-requires-2-clause-room : goal.put_cc_principal-requires-2-clause-room
 put_cc_principal-requires-2-clause-room g c =

@@ -2,7 +2,7 @@ use Rattle.std.proofs.Common.{◌≡◌, ◌+◌, ◌∷◌, drop, sym, ap, subs
 use Rattle.std.specs.List.{AllByRecursion}
 use Rattle.std.proofs.lemmas.List.{at_drop_more}
 use Rattle.krb_ccache.specs.Credential.{TypedData, FitsTypedData, owned_typed, owned_list}
-use Rattle.krb_ccache.proofs.SpellingLemmas.{none_told, items_len}
+use Rattle.krb_ccache.proofs.SpellingLemmas.{none_if, items_len}
 use Rattle.krb_ccache.proofs.credential.spelling.room_after.Goals as goal
 
 pub returns-in_err-room-clause-none : goal.returns-in_err-room-clause-none
@@ -15,7 +15,7 @@ returns-in_err-room-clause-none g c =
     let less = c.in_err-room.ensures in
     let len = c.len.ensures in
     let ok = c.loop-kind-item.result.1.ok.0 in
-    none_told c.from_residual.ensures (omega (arith, left, less, len, ok, items_len (owned_list (drop now.kind-index c.args.items.now)) item others more))
+    none_if c.from_residual.ensures (omega (arith, left, less, len, ok, items_len (owned_list (drop now.kind-index c.args.items.now)) item others more))
 
 pub loop-kind-preserved : goal.loop-kind-preserved
 loop-kind-preserved g c =

@@ -2,6 +2,6 @@ use Rattle.krb_driver.proofs.Words.{Writes-alone}
 use Rattle.krb_driver.proofs.reporting.mistake_words.report_word_fault.Goals as goal
 
 -- words are not shown
-pub returns-clause-said : goal.returns-clause-said
-returns-clause-said g c =
+pub returns-clause-writes : goal.returns-clause-writes
+returns-clause-writes g c =
     rw (← c.err.view_is, c.in-BadLine.is) (Writes-alone (record { to = c.err.inside.to; explains = c.err.inside.explains }) c.report_text-2.new.err c.in-BadLine.line c.if-err.false c.report_text-2.ensures)

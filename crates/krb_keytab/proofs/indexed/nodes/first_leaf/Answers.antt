@@ -10,24 +10,24 @@ returns-then-look-need-clause-first c = sym (none_fits _ _ _ c.requires (omega (
 
 pub levels-init : goal.levels-init
 levels-init c = record {
-  stands = descends_from_root _ _ _ (omega (arith, c.look.ensures.value));
+  is_at = descends_from_root _ _ _ (omega (arith, c.look.ensures.value));
   looks = omega arith;
 }
 
 pub child_with-node-requires-clause-there : goal.child_with-node-requires-clause-there
 child_with-node-requires-clause-there c =
-    let inside = has_children _ _ _ _ _ c.requires c.levels.invariant.stands c.levels-test.true in
+    let inside = has_children _ _ _ _ _ c.requires c.levels.invariant.is_at c.levels-test.true in
     omega (arith, inside.1, c.requires.len)
 
 pub levels-preserved : goal.levels-preserved
 levels-preserved c = record {
-  stands = descends_on _ _ _ _ _ _ c.requires c.levels.invariant.stands c.levels-test.true c.child_with-node.ensures.value;
+  is_at = descends_on _ _ _ _ _ _ c.requires c.levels.invariant.is_at c.levels-test.true c.child_with-node.ensures.value;
   looks = omega arith;
 }
 
 pub returns-clause-first : goal.returns-clause-first
 returns-clause-first c =
     let at_end : c.levels._level ≡ c.args.height = omega arith in
-    let stands = subst (λ (n : ℕ). Descends c.args.height c.args.nodes.now c.args.need n c.levels.node) at_end c.levels.invariant.stands in
+    let is_at = subst (λ (n : ℕ). Descends c.args.height c.args.nodes.now c.args.need n c.levels.node) at_end c.levels.invariant.is_at in
     let half : length c.args.nodes.now / 2 ≡ 2 ^ c.args.height = omega (arith, c.requires.len) in
-    ap (λ (n : ℕ). Some (c.levels.node - n)) half ∙ sym (descends_to _ _ _ _ c.requires stands)
+    ap (λ (n : ℕ). Some (c.levels.node - n)) half ∙ sym (descends_to _ _ _ _ c.requires is_at)

@@ -5,6 +5,6 @@ use Rattle.krb_keytab.proofs.indexed.nodes.first_leaf.Given as goal
 
 abbrev pub invariant-levels : goal.invariant-levels
 invariant-levels l = record {
-  stands : Descends l.height l.nodes l.need l._level l.node;
+  is_at : Descends l.height l.nodes l.need l._level l.node;
   looks : l.looks ≡ l._level + 1;
 }

@@ -5,4 +5,4 @@ pub returns-clause-as_many : goal.returns-clause-as_many
 returns-clause-as_many c = λ first start t last walk. (walk_fair first start t last walk).names_are_as_many
 
 pub returns-clause-places : goal.returns-clause-places
-returns-clause-places c = λ first start t last walk keeps. (walk_fair first start t last walk).names_stand_at_places keeps
+returns-clause-places c = λ first start t last walk keeps. (walk_fair first start t last walk).names_are_at_places keeps

@@ -1,4 +1,4 @@
-use Rattle.krb_wire.proofs.NamesTold.{long_lengths_of}
+use Rattle.krb_wire.proofs.NamesCompared.{long_lengths_of}
 use Rattle.krb_wire.proofs.PenLemmas.{puts_then}
 use Rattle.krb_wire.proofs.pen.Pen.put_cc_principal.Goals as goal
 

@@ -1,4 +1,4 @@
-use Rattle.krb_wire.proofs.NamesTold.{lengths_of}
+use Rattle.krb_wire.proofs.NamesCompared.{lengths_of}
 use Rattle.krb_wire.proofs.PenLemmas.{puts_then}
 use Rattle.krb_wire.proofs.pen.Pen.put_kt_principal.Goals as goal
 

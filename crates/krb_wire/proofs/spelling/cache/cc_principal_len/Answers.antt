@@ -2,7 +2,7 @@ use Rattle.std.proofs.Common.{ℕ, List, ◌<◌, ◌^◌, length, ap, sym, subs
 use Rattle.std.specs.List.{flat_map, AllByRecursion}
 use Rattle.krb_wire.specs.declared.format.Order.TheVariants.{Big}
 use Rattle.krb_wire.specs.Spelling.{data32, IsLong, cc_principal}
-use Rattle.krb_wire.proofs.NamesTold.{no_cc_len, some_cc_len, many_long}
+use Rattle.krb_wire.proofs.NamesCompared.{no_cc_len, some_cc_len, many_long}
 use Rattle.krb_wire.proofs.spelling.cache.cc_principal_len.Goals as goal
 
 pub returns-then-component-clause-some : goal.returns-then-component-clause-some

@@ -4,7 +4,7 @@ use Rattle.std.specs.List.{flat_map, AllByRecursion}
 use Rattle.std.proofs.lemmas.List.Concat.{flat_map-cons}
 use Rattle.krb_wire.specs.Spelling.{digits, data16, order_of, kt_principal, IsShort, count_field, name_type_field}
 use Rattle.krb_wire.proofs.Fields.{wide16}
-use Rattle.krb_wire.proofs.NamesTold.{lengths_fit, fits_not}
+use Rattle.krb_wire.proofs.NamesCompared.{lengths_fit, fits_not}
 use Rattle.krb_wire.proofs.spelling.keytab.kt_principal_len.Goals as goal
 
 pub returns-then-component-gt65535-clause-some : goal.returns-then-component-gt65535-clause-some

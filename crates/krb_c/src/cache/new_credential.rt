@@ -15,7 +15,7 @@ use std::marker::Model;
 
 /// The parts of a credential to store: the texts of its names, its key, its tickets and its numbers.
 #[derive(Drop)]
-pub struct Asked<'a> {
+pub struct NewCredential<'a> {
     pub client: &'a [u8],
     pub server: &'a [u8],
     pub key: &'a [u8],
@@ -24,10 +24,10 @@ pub struct Asked<'a> {
     pub numbers: KrbfNumbers,
 }
 
-impl<'a> Model for Asked<'a> {
-    ghost use Rattle.krb_c.specs.CacheStore.{AskedParts};
+impl<'a> Model for NewCredential<'a> {
+    ghost use Rattle.krb_c.specs.CacheStore.{NewCredentialParts};
 
-    ghost Value = { AskedParts };
+    ghost Value = { NewCredentialParts };
 
     ghost view = { λ a. record {
       client = a.client.now;
@@ -39,7 +39,7 @@ impl<'a> Model for Asked<'a> {
     } };
 }
 
-impl<'a> Asked<'a> {
+impl<'a> NewCredential<'a> {
     /// Returns the credential of this client and this server, or the status that says why there is none.
     pub fn between(
         &self,

@@ -7,12 +7,12 @@ use Rattle.krb_ccache.specs.Config.{is_config}
 use Rattle.krb_ccache.specs.Store.{PlacedCredential}
 use Rattle.krb_audit.specs.declared.tickets.SelectedTickets.{SelectedTickets}
 use Rattle.krb_audit.specs.TicketText.{TicketText}
-use Rattle.krb_audit.specs.Asked.{asked_text, has_text}
+use Rattle.krb_audit.specs.Prepared.{selected_text, has_text}
 use Rattle.krb_audit.specs.Tickets.{has_ended_by, removed_ticket_line}
 
 -- the server's name as it is printed, and the end time, each if it is given
 abbrev pub ticket_text : {A : Type 0} → Option (Principal A) → Option ℕ → TicketText
-ticket_text server ended_by = record { server = asked_text server; ended_by = ended_by }
+ticket_text server ended_by = record { server = selected_text server; ended_by = ended_by }
 
 -- a credential is a ticket, and its server prints as that text, if there is one
 abbrev pub has_server : TicketText → CredParts → Bool

@@ -1,9 +1,9 @@
 use Rattle.std.proofs.Common.{◌++◌, ◌∷◌, [], sym, ap, subst, refl, ◌∙◌, arith, Bor}
 use Rattle.krb_keytab.specs.Find.{PlacedEntry, placed_entries}
 use Rattle.krb_audit.specs.declared.selection.Selection.{Selection}
-use Rattle.krb_audit.specs.Asked.{SelectsOf}
-use Rattle.krb_audit.proofs.Selecting.{stands, selects_next, number_fits}
-use Rattle.krb_audit.proofs.asked.select.Goals as goal
+use Rattle.krb_audit.specs.Prepared.{SelectsOf}
+use Rattle.krb_audit.proofs.Selecting.{next_selected, selects_next, number_fits}
+use Rattle.krb_audit.proofs.selected.select.Goals as goal
 
 pub overflow_add-number : goal.overflow_add-number
 overflow_add-number g c =
@@ -19,11 +19,11 @@ entries-preserved g c =
     let old = c.entries.selected in
     let x : PlacedEntry = (c.in-Some.place, c.in-Some.entry) in
     let l = c.entries.invariant.selects in
-    let at = stands s xs c.entries.place-iterator c.next.new.self c.entries.number x old l c.in-Some.ensures.steps in
+    let at = next_selected s xs c.entries.place-iterator c.next.new.self c.entries.number x old l c.in-Some.ensures.steps in
     let before = subst (λ (t : Selection g.row.B.Denot). SelectsOf t xs l.before old) (sym c.entries.invariant.selection) l.selects in
-    let after = subst (λ (t : Selection g.row.B.Denot). SelectsOf t xs (l.before ++ x ∷ []) c.consider.new.selected) c.entries.invariant.selection (c.in_ok-consider.ensures.selects xs l.before c.entries.invariant.asked at before) in
+    let after = subst (λ (t : Selection g.row.B.Denot). SelectsOf t xs (l.before ++ x ∷ []) c.consider.new.selected) c.entries.invariant.selection (c.in_ok-consider.ensures.selects xs l.before c.entries.invariant.prepared at before) in
     record {
-      asked = c.in_ok-consider.ensures.asked xs c.entries.invariant.asked;
+      prepared = c.in_ok-consider.ensures.prepared xs c.entries.invariant.prepared;
       selection = ap (λ (r : Bor (Selection g.row.B.Denot)). r.now) c.in_ok-consider.ensures.selection ∙ c.entries.invariant.selection;
       selects = selects_next s xs c.entries.place-iterator c.next.new.self c.entries.number _ x old c.consider.new.selected l c.in-Some.ensures.steps refl after;
     }

@@ -3,11 +3,11 @@
 ghost use Rattle.std.specs.Prelude.{◌≡◌, ℕ, ◌++◌, ◌∷◌, [], List, slice_get, IfOk, OnOk, Some};
 ghost use Rattle.krb_keytab.specs.Find.{PlacedEntry, placed_entries};
 ghost use Rattle.krb_text.specs.Found.{removed_line};
-ghost use Rattle.krb_audit.specs.Asked.{IsAsked, SelectsOf};
-ghost use Rattle.krb_audit.specs.Selection.{Selects, is_named, has_asked_enctype};
+ghost use Rattle.krb_audit.specs.Prepared.{IsPrepared, SelectsOf};
+ghost use Rattle.krb_audit.specs.Selection.{Selects, is_named, has_selected_enctype};
 
-use crate::asked_name::AskedName;
-use crate::asked_versions::AskedVersions;
+use crate::selected_name::SelectedName;
+use crate::selected_versions::SelectedVersions;
 use crate::selection::Selection;
 use krb_keytab::{EntryView, Keytab};
 use krb_text::append_placed;
@@ -38,32 +38,32 @@ impl<A: Allocator> Selected<A> {
     }
 }
 
-fn has_asked_enctype(asked: &[u16], enctype: u16) -> bool
-    ensures { result ≡ has_asked_enctype asked.now enctype }
+fn has_selected_enctype(prepared: &[u16], enctype: u16) -> bool
+    ensures { result ≡ has_selected_enctype prepared.now enctype }
 {
-    asked.is_empty() || asked.contains(&enctype)
+    prepared.is_empty() || prepared.contains(&enctype)
 }
 
 // A selection, prepared for the entries of a keytab.
 #[derive(Drop)]
-struct Asked<'s, A: Allocator, B: Allocator> {
+struct Prepared<'s, A: Allocator, B: Allocator> {
     selection: &'s Selection<B>,
-    name: AskedName<A>,
-    versions: AskedVersions<A>,
+    name: SelectedName<A>,
+    versions: SelectedVersions<A>,
 }
 
-impl<'s, A: Allocator + Copy, B: Allocator> Asked<'s, A, B> {
+impl<'s, A: Allocator + Copy, B: Allocator> Prepared<'s, A, B> {
     fn of(
         alloc: A,
         keytab: &Keytab<A>,
         selection: &'s Selection<B>,
-    ) -> Result<Asked<'s, A, B>, NoMemory>
+    ) -> Result<Prepared<'s, A, B>, NoMemory>
         ensures selection { IfOk result (λ a. a.selection.now ≡ selection.now) }
-        ensures asked { IfOk result (IsAsked (placed_entries keytab.now.state)) }
+        ensures prepared { IfOk result (IsPrepared (placed_entries keytab.now.state)) }
     {
-        let name = AskedName::of(alloc, &selection.name)?;
-        let versions = AskedVersions::of(alloc, keytab, selection.kvno)?;
-        Ok(Asked {
+        let name = SelectedName::of(alloc, &selection.name)?;
+        let versions = SelectedVersions::of(alloc, keytab, selection.kvno)?;
+        Ok(Prepared {
             selection,
             name,
             versions,
@@ -73,11 +73,11 @@ impl<'s, A: Allocator + Copy, B: Allocator> Asked<'s, A, B> {
     // Returns whether an entry has the selected name and enctype.
     fn names(&mut self, entry: &EntryView<'_>) -> Result<bool, NoMemory>
         ensures selection { self.new.selection ≡ self.old.selection }
-        ensures asked { (xs : List PlacedEntry) → IsAsked xs self.old → IsAsked xs self.new }
-        ensures named { (xs : List PlacedEntry) → IsAsked xs self.old
+        ensures prepared { (xs : List PlacedEntry) → IsPrepared xs self.old → IsPrepared xs self.new }
+        ensures named { (xs : List PlacedEntry) → IsPrepared xs self.old
             → IfOk result (λ b. b ≡ is_named self.old.selection.now entry.now) }
     {
-        if !has_asked_enctype(&self.selection.enctypes, entry.enctype()) {
+        if !has_selected_enctype(&self.selection.enctypes, entry.enctype()) {
             return Ok(false);
         }
         self.name.is_of(entry.principal())
@@ -92,8 +92,8 @@ impl<'s, A: Allocator + Copy, B: Allocator> Asked<'s, A, B> {
         selected: &mut Selected<A>,
     ) -> Result<(), NoMemory>
         ensures selection { self.new.selection ≡ self.old.selection }
-        ensures asked { (xs : List PlacedEntry) → IsAsked xs self.old → IsAsked xs self.new }
-        ensures selects { (xs some : List PlacedEntry) → IsAsked xs self.old
+        ensures prepared { (xs : List PlacedEntry) → IsPrepared xs self.old → IsPrepared xs self.new }
+        ensures selects { (xs some : List PlacedEntry) → IsPrepared xs self.old
             → slice_get xs number ≡ Some (place, entry.now)
             → SelectsOf self.old.selection.now xs some selected.old
             → OnOk result (SelectsOf self.old.selection.now xs
@@ -122,7 +122,7 @@ pub fn select<A: Allocator + Copy, B: Allocator>(
 ) -> Result<Selected<A>, NoMemory>
     ensures { IfOk result (Selects selection.now keytab.now.state) }
 {
-    let mut asked = Asked::of(alloc, keytab, selection)?;
+    let mut prepared = Prepared::of(alloc, keytab, selection)?;
     let mut selected = Selected {
         places: Vec::new(alloc),
         text: Vec::new(alloc),
@@ -132,7 +132,7 @@ pub fn select<A: Allocator + Copy, B: Allocator>(
     let _count = keytab.cell_count();
     let mut number = 0;
     'entries: for (place, entry) in keytab.entries() {
-        asked.consider(number, place, &entry, &mut selected)?;
+        prepared.consider(number, place, &entry, &mut selected)?;
         number += 1;
     }
     Ok(selected)

@@ -116,13 +116,13 @@ many_long p many =
 
 -- ---- the same name
 
-told_same : (p q : Parts) → have_same_name p q ≡ true → (p.realm ≡ q.realm) × (p.components ≡ q.components)
-told_same p q e =
+compared_same : (p q : Parts) → have_same_name p q ≡ true → (p.realm ≡ q.realm) × (p.components ≡ q.components)
+compared_same p q e =
     let both = and_both (bytes_eq p.realm q.realm) (pointwise bytes_eq p.components q.components) e in
     ((bytes_eq-Decides p.realm q.realm).0 both.0, (slice_eq-Decides bytes_eq-Decides p.components q.components (pointwise bytes_eq p.components q.components) refl).0 both.1)
 
-same_told : (p q : Parts) → p.realm ≡ q.realm → p.components ≡ q.components → have_same_name p q ≡ true
-same_told p q same_realm same_components =
+same_compared : (p q : Parts) → p.realm ≡ q.realm → p.components ≡ q.components → have_same_name p q ≡ true
+same_compared p q same_realm same_components =
     let realm : bytes_eq p.realm q.realm ≡ true = (bytes_eq-Decides p.realm q.realm).1 same_realm in
     let components : pointwise bytes_eq p.components q.components ≡ true = (slice_eq-Decides bytes_eq-Decides p.components q.components (pointwise bytes_eq p.components q.components) refl).1 same_components in
     rw (realm, components) refl
@@ -130,4 +130,4 @@ same_told p q same_realm same_components =
 -- a test whether realms and components are equal computes `have_same_name`
 pub same_name_is : (p q : Parts) (answer : Bool) → (answer ≡ true → (p.realm ≡ q.realm) × (p.components ≡ q.components)) → (p.realm ≡ q.realm → p.components ≡ q.components → answer ≡ true) → answer ≡ have_same_name p q
 same_name_is p q answer to from =
-    same_bool answer (have_same_name p q) (λ e. let both = to e in same_told p q both.0 both.1) (λ e. let both = told_same p q e in from both.0 both.1)
+    same_bool answer (have_same_name p q) (λ e. let both = to e in same_compared p q both.0 both.1) (λ e. let both = compared_same p q e in from both.0 both.1)

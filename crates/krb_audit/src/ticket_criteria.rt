@@ -1,10 +1,10 @@
 //! The criteria by which tickets are selected.
 
 ghost use Rattle.std.specs.Prelude.{◌≡◌, IfOk};
-ghost use Rattle.krb_audit.specs.AskedTickets.{has_server, ticket_text};
+ghost use Rattle.krb_audit.specs.TicketCriteria.{has_server, ticket_text};
 ghost use Rattle.krb_audit.specs.Tickets.{has_ended_by};
 
-use crate::asked_name::AskedName;
+use crate::selected_name::SelectedName;
 use krb_ccache::{CredView, is_config};
 use krb_wire::{NoMemory, Principal};
 use std::alloc::Allocator;
@@ -12,35 +12,35 @@ use std::marker::Model;
 
 /// Which tickets are selected: those that meet all criteria given.
 #[derive(Drop)]
-pub struct AskedTickets<A: Allocator> {
-    server: AskedName<A>,
+pub struct TicketCriteria<A: Allocator> {
+    server: SelectedName<A>,
     ended_by: Option<u32>,
 }
 
-impl<A: Allocator> Model for AskedTickets<A> {
+impl<A: Allocator> Model for TicketCriteria<A> {
     ghost use Rattle.std.specs.Prelude.{option_map};
     ghost use Rattle.std.specs.Vec.{vec_items};
     ghost use Rattle.krb_audit.specs.TicketText.{TicketText};
 
     ghost Value = { TicketText };
 
-    ghost view = { λ a. record { server = option_map vec_items a.server.asked; ended_by = a.ended_by } };
+    ghost view = { λ a. record { server = option_map vec_items a.server.text; ended_by = a.ended_by } };
 }
 
-impl<A: Allocator + Copy> AskedTickets<A> {
+impl<A: Allocator + Copy> TicketCriteria<A> {
     pub fn of<B: Allocator>(
         alloc: A,
         server: &Option<Principal<B>>,
         ended_by: Option<u32>,
-    ) -> Result<AskedTickets<A>, NoMemory>
-        ensures { IfOk result (λ asked. asked ≡ ticket_text server.now ended_by) }
+    ) -> Result<TicketCriteria<A>, NoMemory>
+        ensures { IfOk result (λ prepared. prepared ≡ ticket_text server.now ended_by) }
     {
-        let server = AskedName::of(alloc, server)?;
-        Ok(AskedTickets { server, ended_by })
+        let server = SelectedName::of(alloc, server)?;
+        Ok(TicketCriteria { server, ended_by })
     }
 }
 
-impl<A: Allocator> AskedTickets<A> {
+impl<A: Allocator> TicketCriteria<A> {
     /// Returns whether a credential is a ticket whose server prints as the selected name, if one is given.
     pub fn names(&mut self, credential: &CredView<'_>) -> Result<bool, NoMemory>
         ensures kept { self.new ≡ self.old }

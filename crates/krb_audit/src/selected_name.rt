@@ -4,15 +4,15 @@ ghost use Rattle.std.specs.Prelude.{◌≡◌, IfOk, option_map};
 ghost use Rattle.std.specs.Vec.{vec_items};
 ghost use Rattle.krb_wire.specs.Names.{name_text};
 ghost use Rattle.krb_wire.specs.Reading.{principal_parts};
-ghost use Rattle.krb_audit.specs.Asked.{asked_text, has_text};
+ghost use Rattle.krb_audit.specs.Prepared.{selected_text, has_text};
 
 use krb_wire::{NoMemory, Principal, PrincipalView, write_name};
 use std::alloc::Allocator;
 
 /// The selected name as it is printed, if one is given, and a buffer to print others.
 #[derive(Drop)]
-pub struct AskedName<A: Allocator> {
-    asked: Option<Vec<u8, A>>,
+pub struct SelectedName<A: Allocator> {
+    text: Option<Vec<u8, A>>,
     printed: Vec<u8, A>,
 }
 
@@ -28,32 +28,32 @@ fn text_of<A: Allocator, B: Allocator>(
     Ok(text)
 }
 
-impl<A: Allocator + Copy> AskedName<A> {
-    pub fn of<B: Allocator>(alloc: A, name: &Option<Principal<B>>) -> Result<AskedName<A>, NoMemory>
-        ensures { IfOk result (λ n. option_map vec_items n.asked ≡ asked_text name.now) }
+impl<A: Allocator + Copy> SelectedName<A> {
+    pub fn of<B: Allocator>(alloc: A, name: &Option<Principal<B>>) -> Result<SelectedName<A>, NoMemory>
+        ensures { IfOk result (λ n. option_map vec_items n.text ≡ selected_text name.now) }
     {
-        let asked = match name {
+        let text = match name {
             Some(name) => Some(text_of(alloc, name)?),
             None => None,
         };
-        Ok(AskedName {
-            asked,
+        Ok(SelectedName {
+            text,
             printed: Vec::new(alloc),
         })
     }
 }
 
-impl<A: Allocator> AskedName<A> {
+impl<A: Allocator> SelectedName<A> {
     /// Returns whether a name prints as the selected one. True if none is given.
     pub fn is_of(&mut self, name: &PrincipalView<'_>) -> Result<bool, NoMemory>
-        ensures kept { self.new.asked ≡ self.old.asked }
-        ensures is { IfOk result (λ b. b ≡ has_text (option_map vec_items self.old.asked) name.now) }
+        ensures kept { self.new.text ≡ self.old.text }
+        ensures is { IfOk result (λ b. b ≡ has_text (option_map vec_items self.old.text) name.now) }
     {
-        match &self.asked {
-            Some(asked) => {
+        match &self.text {
+            Some(text) => {
                 self.printed.clear();
                 write_name(name, &mut self.printed)?;
-                Ok(self.printed.as_slice() == asked.as_slice())
+                Ok(self.printed.as_slice() == text.as_slice())
             }
             None => Ok(true),
         }

@@ -1,12 +1,12 @@
 use Rattle.std.proofs.Common.{◌≡◌}
 use Rattle.krb_keytab.specs.Find.{placed_entries}
-use Rattle.krb_audit.specs.Asked.{IsAsked, SelectsUpTo}
-use Rattle.krb_audit.proofs.asked.select.Given as goal
+use Rattle.krb_audit.specs.Prepared.{IsPrepared, SelectsUpTo}
+use Rattle.krb_audit.proofs.selected.select.Given as goal
 
 -- the selected ones of the entries so far were added
 abbrev pub invariant-entries : goal.invariant-entries
 invariant-entries g l = record {
-  asked : IsAsked (placed_entries l.keytab.state) l.asked;
-  selection : l.asked.selection.now ≡ l.selection;
+  prepared : IsPrepared (placed_entries l.keytab.state) l.prepared;
+  selection : l.prepared.selection.now ≡ l.selection;
   selects : SelectsUpTo l.selection (placed_entries l.keytab.state) l.place-iterator l.number l.selected;
 }

@@ -2,7 +2,7 @@ use Rattle.std.proofs.Common.{◌∙◌, ap, arith, sym}
 use Rattle.krb_keytab.specs.declared.indexed.slot.Slot.{Slot}
 use Rattle.krb_keytab.specs.Slot.{is_free}
 use Rattle.krb_keytab.proofs.LiveLemmas.{live_after_all, live_elsewhere, live_free, live_number}
-use Rattle.krb_keytab.proofs.indexed.Indexed.live.Goals as goal
+use Rattle.krb_keytab.proofs.indexed.Indexed.live_number.Goals as goal
 
 pub returns-then-number-count-clause-none : goal.returns-then-number-count-clause-none
 returns-then-number-count-clause-none g c = live_after_all c.args.self.now.state c.args.place c.rank-number.result c.rank-number.ensures (omega arith)
