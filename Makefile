@@ -7,14 +7,18 @@
 # make test       proves every crate from nothing, runs all tests, those of the program that this built too, and tries
 #                 the wrong bodies; afterwards the other targets prove nothing again
 # make long-test  runs the long tests of the program, on random and damaged files
-# make install    puts the program into PREFIX/bin, the library and its header into PREFIX/lib and PREFIX/include, and
-#                 their manual pages and completions below PREFIX/share
+# make install    puts the program into PREFIX/bin, the library and its header into PREFIX/lib and PREFIX/include,
+#                 their manual pages and completions below PREFIX/share, and Python's module into PYTHONDIR
 # make install-program
 #                 puts the program alone there, with its manual page and completions
 # make dist       packs the static program and the library into DIST/krbfile-VERSION-linux-x86_64.tar.gz, where DIST is
 #                 this folder unless it is given: the same files give the same bytes
 
 PREFIX ?= /usr/local
+# Where python3 looks for modules below PREFIX, or would if it were installed there. Empty without a python3.
+PYTHONDIR ?= $(shell python3 -c 'import site, sys; lib = "$(PREFIX)/lib/"; \
+	own = lib + "python%d.%d/site-packages" % sys.version_info[:2]; \
+	print(next((path for path in site.getsitepackages() if path.startswith(lib)), own))')
 DIST = .
 PROGRAM = bin/krbfile
 BUILT = crates/krbfile/out/krbfile
@@ -29,8 +33,9 @@ VERSION := $(shell sed -n 's/^const VERSION: &str = "\([^ "]*\).*/\1/p' crates/k
 NAME = krbfile-$(VERSION)-linux-x86_64
 PACKED = $(DIST)/$(NAME).tar.gz
 PARTS = $(PACKED).parts
+MODULE = $(wildcard python/krbfile/*.py)
 PAGES = README.md docs/krbfile.1 docs/krbfile.3 completions/krbfile.bash completions/_krbfile completions/krbfile.fish \
-	c/krbfile.h c/krbfile.pc.in python/krbfile.py
+	c/krbfile.h c/krbfile.pc.in python/pyproject.toml $(MODULE)
 
 .PHONY: all try check static lib samples test long-test install-program install dist
 
@@ -124,11 +129,18 @@ define put_library
 	sed 's|@PREFIX@|$(2)|' c/krbfile.pc.in > $(1)/lib/pkgconfig/krbfile.pc
 endef
 
+# Puts Python's module below $(1).
+define put_module
+	mkdir -p $(1)/krbfile
+	install -m 644 $(MODULE) $(1)/krbfile
+endef
+
 install-program: all
 	$(call put_program,$(DESTDIR)$(PREFIX),$(PROGRAM))
 
 install: install-program lib
 	$(call put_library,$(DESTDIR)$(PREFIX),$(PREFIX))
+	$(if $(PYTHONDIR),$(call put_module,$(DESTDIR)$(PYTHONDIR)))
 
 dist: $(PACKED)
 
@@ -137,7 +149,8 @@ $(PACKED): $(STATIC) $(LIBRARY) $(SHARED) $(PAGES)
 	rm -rf $(PARTS)
 	$(call put_program,$(PARTS)/$(NAME),$(STATIC))
 	$(call put_library,$(PARTS)/$(NAME),$${pcfiledir}/../..)
-	install -D -m 644 python/krbfile.py $(PARTS)/$(NAME)/python/krbfile.py
+	$(call put_module,$(PARTS)/$(NAME)/python)
+	install -m 644 python/pyproject.toml $(PARTS)/$(NAME)/python/pyproject.toml
 	install -m 644 README.md $(PARTS)/$(NAME)/README.md
 	cd $(PARTS)/$(NAME) && find * -type f | LC_ALL=C sort | xargs sha256sum > ../SHA256SUMS
 	mv $(PARTS)/SHA256SUMS $(PARTS)/$(NAME)

@@ -14,9 +14,9 @@ _krbfile() {
     case $command in
         '') options="$commands --explain --version -V" ;;
         help) options=$commands ;;
-        klist) options='-c -f -C -k -t -K -e --v1-big --json' ;;
+        klist) options='-c -f -C -k -t -K -e -s --for --v1-big --json' ;;
         ktfind | ktedit | ktcheck | ktutil) options='--v1-big' ;;
-        ktremove) options='-n -p -k -e --v1-big' ;;
+        ktremove) options='-n -p -k --age -e --v1-big' ;;
         ccremove) options='-n -p --expired' ;;
     esac
     COMPREPLY=()

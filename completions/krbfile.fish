@@ -31,10 +31,13 @@ complete -c krbfile -n '__fish_seen_subcommand_from klist' -s t -d 'Show the tim
 complete -c krbfile -n '__fish_seen_subcommand_from klist' -s K -d 'Show the keys of entries'
 complete -c krbfile -n '__fish_seen_subcommand_from klist' -s e -d 'Show encryption types'
 complete -c krbfile -n '__fish_seen_subcommand_from klist' -l json -d 'Print all as one JSON object'
+complete -c krbfile -n '__fish_seen_subcommand_from klist' -s s -d 'Print nothing; status 0 if there is a ticket to go on with'
+complete -c krbfile -n '__fish_seen_subcommand_from klist' -l for -x -d 'With -s: seconds that the ticket is valid for'
 
 complete -c krbfile -n '__fish_seen_subcommand_from ktremove' -s n -d 'Save nothing'
 complete -c krbfile -n '__fish_seen_subcommand_from ktremove' -s p -x -d 'Entries of that principal'
 complete -c krbfile -n '__fish_seen_subcommand_from ktremove' -s k -x -a old -d 'Entries of that version'
+complete -c krbfile -n '__fish_seen_subcommand_from ktremove' -l age -x -d 'With -k old: replaced for so many seconds'
 complete -c krbfile -n '__fish_seen_subcommand_from ktremove' -s e -x -d 'Entries of that encryption type' \
     -a 'des3-cbc-sha1 aes128-cts-hmac-sha1-96 aes256-cts-hmac-sha1-96 aes128-cts-hmac-sha256-128
     aes256-cts-hmac-sha384-192 arcfour-hmac camellia128-cts-cmac camellia256-cts-cmac'

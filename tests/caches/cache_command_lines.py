@@ -32,7 +32,7 @@ REFUSED: list[str | Line] = [
     *(f"klist {options} {name}" for name in ("c", "k") for options in (
         "-c -k", "-k -c", "-ck", "-kc", "-t", "-K", "-et", "--v1-big", "-c -t", "-c -K", "-ctK", "-c --v1-big",
         "-efC --v1-big", "-k -f", "-f -k", "-kf", "-fk", "-k -C", "-kC", "-kefC", "-kt -e -C")),
-    *(f"klist -{letter} c" for letter in "sandlAiVxFE"),
+    *(f"klist -{letter} c" for letter in "andlAiVxFE"),
     "ccedit", "ccedit c c", "ccedit -c c", "ccedit --v1-big c", "ccedit --expired c", "ccedit --", "ccedi c",
     "CCEDIT c",
     ("klist", "-c", "c", ""), ("klist", "-c", b"\xff"), ("klist", b"\xff"), ("klist", b"-c\xff", "c"),

@@ -1,4 +1,5 @@
-"""Look-ups, checks and removals, compared with models of them. Names, versions and times are few, so many agree."""
+"""Look-ups, checks, removals and questions for valid tickets, compared with models of them. Names, versions and times
+are few, so many agree."""
 
 from collections.abc import Iterator
 from dataclasses import replace
@@ -7,8 +8,8 @@ from random import Random
 
 from chance.random_caches import filled_cache, random_credential, with_damage
 from chance.random_keytabs import Choices
-from makers.cache_images import CONFIG_FIRST, CONFIG_REALM, Credential, Name
-from models.cases import ccremove, ktcheck, ktfind, ktremove
+from makers.cache_images import CONFIG_FIRST, CONFIG_REALM, Credential, Name, cache
+from models.cases import ccremove, klist_silent, ktcheck, ktfind, ktremove
 from models.reading import name_text
 from models.removal_model import OLD, Selection
 from models.ticket_removal_model import Selection as TicketSelection
@@ -19,7 +20,7 @@ FOUND = Choices(names=((b"a", b"R"), (b"a", b"b", b"R"), (b"a/b", b"R"), (b"", b
                 versions=(0, 1, 2, 255, 256, 257, 2**32 - 1), enctypes=(0, 17, 18, 273))
 REMOVED = Choices(names=((b"a", b"R"), (b"a", b"b", b"R"), (b"a/b", b"R"), (b"", b"R"), (b"R",)),
                   versions=(0, 1, 127, 128, 240, 241, 255, 256, 2**32 - 1), enctypes=(0, 17, 18, 23),
-                  timestamps=(0, 1, 2, 2**32 - 1))
+                  timestamps=(0, 1, 2, 1_700_000_000, 2**32 - 1))
 CHECKED = Choices(REMOVED.names, REMOVED.versions[:5], enctypes=(17, 18, 23), timestamps=(0, 1, 2**32 - 1),
                   keys=(b"", b"x", b"y", b"y"))
 
@@ -31,6 +32,9 @@ SERVERS = [Name((b"krbtgt", b"R")), Name((b"host", b"a")), Name((b"host", b"a"),
 # Times that have passed, times that do not come during a test, and one between.
 TIMES = [0, 1, 1_700_000_000, 2**31 - 1, 2**31, 2**32 - 1]
 BETWEEN = 1_800_000_000
+
+# Ages that some of the entries have, and one that is above any clock.
+AGES = (0, 1, 1_000, 1_700_000_000, 2**32 - 1)
 
 
 def random_look_up(random: Random) -> Iterator[CaseAt]:
@@ -60,10 +64,11 @@ def kinds_of_check(case: Case) -> Iterator[str]:
 def random_selection(random: Random) -> Selection:
     """Returns random selectors, at least one."""
     while True:
-        name = name_text(random.choice(REMOVED.names)) if random.random() < 0.4 else None
+        names = random.choices(REMOVED.names, k=random.choice([0, 0, 0, 1, 1, 2]))
         kvno = random.choice([None, OLD, OLD, random.choice(REMOVED.versions)])
-        count = random.choice([0, 0, 1, 2])
-        selection = Selection(name, kvno, tuple(random.choice(REMOVED.enctypes) for _ in range(count)))
+        etypes = random.choices(REMOVED.enctypes, k=random.choice([0, 0, 1, 2]))
+        age = random.choice([None, *AGES]) if kvno == OLD else None
+        selection = Selection(tuple(map(name_text, names)), kvno, tuple(etypes), age)
         if selection.words():
             return selection
 
@@ -75,7 +80,7 @@ def random_removal(random: Random) -> Iterator[CaseAt]:
     for _ in range(2):
         case_at = partial(ktremove, image, selection=selection, v1_big=is_big, is_dry=is_dry)
         yield case_at
-        image = case_at(0).files_after["k"]
+        image = case_at(BETWEEN).files_after["k"]
 
 
 def random_ticket(random: Random) -> Credential:
@@ -102,6 +107,20 @@ def random_ticket_removal(random: Random) -> Iterator[CaseAt]:
         image = case_at(BETWEEN).files_after["c"]
 
 
+def random_question(random: Random) -> Iterator[CaseAt]:
+    """Yields a question whether a cache has a valid ticket, or one that is valid for a while."""
+    tickets = (random_ticket(random) for _ in range(random.randrange(9)))
+    made = cache(*tickets, default=Name(realm=random.choice((b"R", b"S"))), version=random.choice((3, 4)))
+    image = with_damage(random, made, 0.1)
+    for seconds in (None, random.choice(AGES)):
+        yield partial(klist_silent, image, seconds=seconds)
+
+
+def kinds_of_question(case: Case) -> Iterator[str]:
+    """Yields whether there is a valid ticket."""
+    yield "none" if case.wanted.status else "valid for a while" if "--for" in case.words else "valid"
+
+
 def kinds_of_removal(case: Case) -> Iterator[str]:
     """Yields the kind of the result."""
     if case.wanted.status:
@@ -119,4 +138,6 @@ TOPICS = (
           ("removed", "nothing to do", "refused 1", "refused 9", "dry"), usual=300),
     Topic("random removals of tickets", random_ticket_removal, kinds_of_removal,
           ("removed", "nothing to do", "refused 1", "refused 8", "refused 9", "dry", "not a cache"), usual=300),
+    Topic("random questions for tickets", random_question, kinds_of_question, ("none", "valid", "valid for a while"),
+          usual=200),
 )

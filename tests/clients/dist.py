@@ -22,6 +22,11 @@ VERSION = "crates/krbfile/src/command_lines.rt"
 CONFIG = "c/krbfile.pc.in"
 TOOLS = ("CC=false", "LD=false", "AR=false")
 
+# Python's module, and what builds it where pip installs it.
+MODULE = tuple(f"python/krbfile/{name}" for name in os.listdir(os.path.join(TOP, "python", "krbfile"))
+               if name.endswith(".py"))
+PROJECT = "python/pyproject.toml"
+
 # Each file in the archive, and the one of the repository that it is, unless `make dist` writes it.
 FILES = {
     "README.md": "README.md",
@@ -32,7 +37,7 @@ FILES = {
     "lib/libkrbfile.so": BUILT[2],
     "lib/libkrbfile.so.1": BUILT[2],
     "lib/pkgconfig/krbfile.pc": None,
-    "python/krbfile.py": "python/krbfile.py",
+    **{path: path for path in (*MODULE, PROJECT)},
     "share/bash-completion/completions/krbfile": "completions/krbfile.bash",
     "share/fish/vendor_completions.d/krbfile.fish": "completions/krbfile.fish",
     "share/man/man1/krbfile.1": "docs/krbfile.1",
@@ -41,7 +46,7 @@ FILES = {
 }
 LINK = "lib/libkrbfile.so"
 
-# What is installed of them, and what belongs to the program alone.
+# What is installed of them besides the module, and what belongs to the program alone.
 FOLDERS = ("bin/", "include/", "lib/", "share/")
 OF_PROGRAM = {path for path in FILES if path.startswith(("bin/", "share/")) and not path.endswith(".3")}
 
@@ -100,10 +105,13 @@ def faults_of_members(path: str, name: str) -> list[str]:
 
 
 def check_version(report: Report, folder: str, name: str) -> None:
-    """Checks that the program, pkg-config's file and the archive's name tell the same version."""
+    """Checks that the program, the module, pkg-config's file and the archive's name tell the same version."""
     version = run(os.path.join(folder, "bin", "krbfile"), ("--version",), folder).out.decode().split()[:2]
     wanted = name.split("-")[:2]
     report.check("the version of the archive", [] if version == wanted else [f"{version}, not {wanted}"])
+    with open(os.path.join(folder, PROJECT), encoding="ascii") as file:
+        of_module = re.findall(r'^(?:name|version) = "(.*)"$', file.read(), re.MULTILINE)
+    report.check("the version of the archive's module", [] if of_module == wanted else [f"{of_module}"])
     if shutil.which("pkg-config") is None:
         report.skip("the version of the archive's library", "pkg-config is not there")
         return
@@ -122,7 +130,7 @@ def check_library(report: Report, folder: str) -> None:
     env = {**os.environ, "LD_LIBRARY_PATH": os.path.join(folder, "lib"), "PYTHONDONTWRITEBYTECODE": "1",
            "PYTHONPATH": os.path.join(folder, "python")}
     script = "import sys, krbfile\nfor entry in krbfile.Keytab.open(sys.stdin.buffer.read()):\n" \
-             "    print(entry.kvno, entry.name.decode())"
+             "    print(entry.kvno, entry.principal)"
     wanted = Outcome(0, b"3 host/a@R\n3 b@R\n")
     report.compare("the archive's module", wanted, run(sys.executable, ("-c", script), folder, TWO, env=env))
     if shutil.which("cc") is None or shutil.which("pkg-config") is None:
@@ -144,7 +152,7 @@ def check_installed(report: Report, folder: str, top: str) -> None:
     got = run("sh", ("-c", lines.replace("/usr/local", place).replace("ldconfig", "true")), folder)
     report.compare("the archive is installed", Outcome(0), got)
     wanted = {path: data for path, data in files_in(top).items() if path.startswith(FOLDERS)}
-    is_whole = len(wanted) == len(FILES) - 3 and files_in(place) == wanted
+    is_whole = len(wanted) == len(FILES) - len(MODULE) - 3 and files_in(place) == wanted
     report.check("what is installed of the archive", [] if is_whole else [f"{sorted(files_in(place))}"])
 
 
@@ -208,12 +216,22 @@ def check_again(report: Report) -> None:
         report.check("make dist after a change of the program", [] if is_proved else [f"{got}"])
 
 
+def check_python_folder(report: Report) -> None:
+    """Checks that python3 finds what is installed below its own prefix."""
+    got = run("python3", ("-c", "import sys; print(*sys.path, sep='\\n'); print(sys.prefix)"), TOP)
+    *folders, prefix = got.out.decode().splitlines()
+    with repository() as top:
+        made = make(top, "--dry-run", "install", f"PREFIX={prefix}", *TOOLS)
+    found = re.findall(r"^mkdir -p (/.*)/krbfile$", made.out.decode(), re.MULTILINE)
+    report.check("python3 finds what is installed", [] if found and {*found} <= {*folders} else [f"{found}, {folders}"])
+
+
 def check_install(report: Report) -> None:
     """Checks what is installed where all is built."""
-    whole = {path for path in FILES if path.startswith(FOLDERS)}
+    whole = {path for path in FILES if path.startswith(FOLDERS)} | {*MODULE}
     with repository() as top:
         for target, wanted in (("install-program", OF_PROGRAM), ("install", whole)):
-            made = make(top, target, "DESTDIR=root", "PREFIX=/opt", *TOOLS)
+            made = make(top, target, "DESTDIR=root", "PREFIX=/opt", "PYTHONDIR=/opt/python", *TOOLS)
             found = files_in(os.path.join(top, "root", "opt"))
             faults = ([] if made.status == 0 else [f"{made}"]) + sorted(found.keys() ^ wanted)
             report.check(f"make {target}", faults)
@@ -228,6 +246,7 @@ def check(report: Report, _program: str) -> None:
         return
     check_again(report)
     check_install(report)
+    check_python_folder(report)
     if all(os.path.exists(os.path.join(TOP, name)) for name in BUILT):
         check_archive(report)
     else:

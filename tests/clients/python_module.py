@@ -1,15 +1,19 @@
 """Python's module over the C library: each of its calls, with the expected results written by hand."""
 
 import os
-import subprocess
 import sys
+from collections.abc import Iterable
 
+from clients import python_limits
 from makers.cache_images import Credential, Name, cache, config
 from makers.images import B, TWO, Entry, keytab
 from makers.usual_caches import PA_TYPE, TICKET
 from pages.readme import LIBRARY, surroundings
-from runs.harness import SECONDS, Outcome, Report
+from runs.harness import Outcome, Report, folder_of, run
 from runs.rows import text
+
+# A script's name, its text, its input, and the lines that it prints.
+Script = tuple[str, str, bytes, list[str]]
 
 KEYTABS = """
 from krbfile import Keytab, KrbfileError
@@ -17,13 +21,13 @@ import sys
 
 image = sys.stdin.buffer.read()
 with Keytab.open(image) as keytab:
-    print([(entry.place, entry.name, entry.kvno, entry.enctype) for entry in keytab])
+    print([(entry.place, entry.principal, entry.kvno, entry.enctype) for entry in keytab])
     host = keytab.find("host/a@R")
     print(host.realm, host.components, host.name_type, host.timestamp, host.key == bytes(range(16)))
     walk = iter(keytab)
     next(walk)
     keytab.remove_at(2)
-    print(keytab.add(b"c@R", 7, 17, bytes(16), 5), [entry.name for entry in walk])
+    print(keytab.add(b"c@R", 7, 17, bytes(16), 5), [entry.principal for entry in walk])
     print(keytab.rewrite([2, 53]), keytab.fault)
     for call in (lambda: keytab.find("c"), lambda: keytab.find("d@R"), lambda: keytab.remove_at(3)):
         try:
@@ -65,7 +69,7 @@ with Cache.open(sys.stdin.buffer.read()) as cache:
     print(cache.find("krbtgt/R@R") == first)
     other = replace(first, second_ticket=b"2", is_skey=True)
     place = cache.store(replace(other, server=b"host/a@R"))
-    print(place, replace(cache.find(b"host/a@R"), place=22, server=b"krbtgt/R@R") == other)
+    print(place, replace(cache.find(b"host/a@R"), place=22, server="krbtgt/R@R") == other)
     cache.set_config("pa_type", b"3", "krbtgt/R@R")
     cache.remove_at(first.place)
     print(cache.rewrite([first.place, place]), cache.fault)
@@ -84,7 +88,7 @@ from krbfile import Cache, Keytab, Ticket
 import copy, pickle, sys
 
 keytab, cache = Keytab.open(sys.stdin.buffer.read()), Cache.create("u@R")
-ticket = Ticket(0, b"u@R", b"a@R", 17, b"", 0, 0, 0, 0, 0, False, False, b"", b"")
+ticket = Ticket(0, "u@R", "a@R", 17, b"", 0, 0, 0, 0, 0, False, False, b"", b"")
 
 def add(kvno=1, enctype=17, key=b"", timestamp=0):
     keytab.add("a@R", kvno, enctype, key, timestamp)
@@ -192,11 +196,35 @@ print(wrong, changed.image == image)
 # A name's components as its entry has them: each byte, empty ones, none, and very many of them.
 COMPONENTS = """
 from krbfile import Keytab
-import sys
+import os, sys
 
 with Keytab.open(sys.stdin.buffer.read()) as keytab:
     for entry in keytab:
-        print(len(entry.components), b"|".join(entry.components[:8]).hex(), entry.realm)
+        parts = [os.fsencode(each) for each in entry.components]
+        print(len(parts), b"|".join(parts[:8]).hex(), entry.realm)
+"""
+
+# Names that are not UTF-8, as text and as bytes, in each call; and what is shown of what holds keys.
+TEXTS = """
+from dataclasses import replace
+from krbfile import Cache, Keytab
+import os
+
+odd, key = b"a\\xff/\\xc3\\xa9@R\\xfe", b"secretsecretsecr"
+with Keytab.create() as keytab, Cache.create(odd) as cache:
+    for name in (odd, os.fsdecode(odd)):
+        keytab.add(name, 1, 17, key)
+        entry = keytab.find(name)
+        print(ascii(entry.principal), ascii(entry.realm), ascii(entry.components))
+        print(os.fsencode(entry.principal) == odd, entry.key == key)
+        cache.set_config("k", b"value", name)
+        print(cache.config(b"k", name))
+    print(ascii(cache.principal), len(list(keytab)))
+    (setting,) = cache
+    cache.store(replace(setting, client=odd, server=odd, key=key, ticket=key, second_ticket=key))
+    ticket = cache.find(os.fsdecode(odd))
+    print(ascii(ticket.client), ticket.client == ticket.server, ticket.key == key)
+    print([what for what in (entry, ticket, keytab, cache) if "secret" in repr(what)])
 """
 
 
@@ -210,12 +238,11 @@ CACHE_AFTER = cache(Credential(server=Name((b"host", b"a")), is_skey=1, second_t
 NAMES = ((bytes(range(256)),), (b"a/b@c\\", b"", b"\0\b\n\t0bnt"), (b"",), (), (b"", b""),
          (b"",) * 65_535)
 
-# Each script, its input, and the lines that it prints.
-SCRIPTS = (
+SCRIPTS: tuple[Script, ...] = (
     ("keytabs", KEYTABS, TWO, [
-        "[(2, b'host/a@R', 3, 17), (53, b'b@R', 3, 17)]",
-        "b'R' (b'host', b'a') 1 1700000000 True",
-        "2 [b'b@R']",
+        "[(2, 'host/a@R', 3, 17), (53, 'b@R', 3, 17)]",
+        "R ('host', 'a') 1 1700000000 True",
+        "2 ['b@R']",
         "[2, 47] None",
         "21 no realm",
         "39 no entry of this name and encryption type",
@@ -227,7 +254,7 @@ SCRIPTS = (
         f"2 {KEYTAB_AFTER.hex()}",
     ]),
     ("caches", CACHES, cache(TICKET, PA_TYPE), [
-        "b'u@R' b'krbtgt/R@R' b'u@R' True 22 130",
+        "u@R krbtgt/R@R u@R True 22 130",
         "17 1700000000 0 1700036000 0",
         "0x40e00000",
         "True b'tkt' b'' False",
@@ -235,27 +262,35 @@ SCRIPTS = (
         "True",
         "266 True",
         "[22, 22] None",
-        f"[b'host/a@R'] {CACHE_AFTER.hex()}",
+        f"['host/a@R'] {CACHE_AFTER.hex()}",
         f"33 the file would be longer than its limit {cache(default=Name((b'a',))).hex()}",
     ]),
     # The number of calls of each kind, and what they raise.
+    ("names and keys", TEXTS, b"", [
+        *2 * [r"'a\udcff/\xe9@R\udcfe' 'R\udcfe' ('a\udcff', '\xe9')", "True True", "b'value'"],
+        r"'a\udcff/\xe9@R\udcfe' 2", r"'a\udcff/\xe9@R\udcfe' True True", "[]",
+    ]),
     ("what it refuses", REFUSED, TWO, [
         *3 * ["20 OverflowError"], *3 * ["20 TypeError"], *4 * ["7 TypeError"], *3 * ["10 TypeError"], "6 TypeError",
         "True", "True True b'k' True",
     ]),
     ("threads", THREADS, TWO, ["[] True"]),
     ("components", COMPONENTS, keytab(*(Entry(name, b"R/@") for name in NAMES)),
-     [f"{len(name)} {b'|'.join(name[:8]).hex()} b'R/@'" for name in NAMES]),
+     [f"{len(name)} {b'|'.join(name[:8]).hex()} R/@" for name in NAMES]),
 )
+
+
+def check_scripts(report: Report, scripts: Iterable[Script]) -> None:
+    """Runs each script, each in a folder of its own."""
+    for name, script, image, wanted in scripts:
+        with folder_of({}) as folder:
+            got = run(sys.executable, ("-c", script), folder, image, env=surroundings("/bin"))
+        report.compare(f"Python's module: {name}", Outcome(0, text(wanted)), got)
 
 
 def check(report: Report, _program: str) -> None:
     """Runs this topic if the library was built."""
-    if not os.path.exists(LIBRARY):
+    if os.path.exists(LIBRARY):
+        check_scripts(report, (*SCRIPTS, *python_limits.SCRIPTS))
+    else:
         report.skip("Python's module", "there is no C library: make lib builds it")
-        return
-    for name, script, image, wanted in SCRIPTS:
-        done = subprocess.run([sys.executable, "-c", script], input=image, capture_output=True,
-                              env=surroundings("/bin"), timeout=SECONDS, check=False)
-        got = Outcome(done.returncode, done.stdout, done.stderr)
-        report.compare(f"Python's module: {name}", Outcome(0, text(wanted)), got)

@@ -3,6 +3,8 @@
 The expected results are computed by hand: most of them repeat one part.
 """
 
+from dataclasses import replace
+
 from keytabs.file_names import LIMIT, TOO_LARGE, sized
 from makers.images import HOST, Entry, hole, keytab, record
 from models.check_model import mode_of_files
@@ -125,6 +127,35 @@ def many_long_names() -> Case:
     """Returns a removal from many names with a long prefix, none of which is old. This too takes more memory."""
     return over("as many names with a long prefix", "ktremove -k old k", keytab(
         *(Entry((b"x" * 200, b"%05d" % number), version32=None) for number in range(60_000))), [])
+
+
+def keys_of_one_name(count: int) -> list[Entry]:
+    """Returns entries of one name, version and enctype, each with a key of its own."""
+    return [replace(LEAST, key=b"%07d" % number) for number in range(count)]
+
+
+def copies() -> list[Case]:
+    """Returns copies between keytabs in which many entries meet many: each pair of them would take too long."""
+    count = 400_000
+    names = keytab(*(Entry((b"x" * 200, b"%05d" % number)) for number in range(60_000)))
+    keys, line = keys_of_one_name(count), b"kvno 0 etype 0 @\n"
+    one, size = replace(LEAST, key=b"another"), len(record(keys[0].spelled()))
+    many, places = keytab(*keys), range(2, 2 + count * size, size)
+    clashes = b"".join(b"clash %d 2 " % place + line for place in places)
+    replaced = b"".join(b"removed %d " % place + line for place in places) + b"copied 2 " + line
+
+    def copy(name: str, options: tuple[str, ...], source: bytes, target: bytes, wanted: Outcome,
+             after: bytes | None = None) -> Case:
+        return Case(f"ktcopy, {name}", ("ktcopy", *options, "k", "t"), wanted, {"k": source, "t": target},
+                    {"k": source, "t": after or target})
+
+    return [
+        copy("many names that are there", (), names, names, Outcome(0)),
+        copy("many keys of one name that are there", (), many, many, Outcome(0)),
+        copy("many keys of one name that clash", (), many, keytab(one), Outcome(1, clashes)),
+        copy("many keys of one name in place of which comes one", ("--replace",), keytab(one), many,
+             Outcome(0, replaced), keytab(one, *[size - 4] * (count - 1))),
+    ]
 
 
 def find(name: str, query: str, image: bytes, wanted: Outcome) -> Case:

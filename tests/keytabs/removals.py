@@ -1,6 +1,7 @@
 """Removals by `ktremove`. Places are counted by hand, or from the lengths of the records before."""
 
 import os
+from dataclasses import replace
 
 from keytabs import greatest
 from keytabs.file_names import LIMIT, TOO_LARGE
@@ -10,6 +11,10 @@ from runs.harness import Case, Outcome, Report, folder_of, message, run
 from runs.rows import BAD_LINE, over
 
 B3 = Entry((b"b",))
+
+# A time that does not come during a test, and an entry of version 5 that was made then.
+FUTURE = 2**32 - 1
+LATE = replace(FIVE, timestamp=FUTURE)
 
 # host/a@R at 2, 53 and 120, versions 3, 5 and 5 of enctypes 17, 18 and 17; b@R at 171.
 FOUR = keytab(HOST, AES256, FIVE, B3)
@@ -56,6 +61,12 @@ CASES = [
     remove("of two enctypes", FOUR, "-e 17 -e 18 -e 17", [X, X18, X5, Y], keytab(47, 63, 47, 41)),
     remove("of a version", FOUR, "-k 3", [X, Y], keytab(47, AES256, FIVE, 41)),
     remove("of a name", FOUR, "-p b@R", [Y], keytab(HOST, AES256, FIVE, 41)),
+    remove("of two names", FOUR, "-p b@R -e 17 -p host/a@R", [X, X5, Y], keytab(47, AES256, 47, 41)),
+    remove("of a name that is given twice", FOUR, "-p b@R -pb@R", [Y], keytab(HOST, AES256, FIVE, 41)),
+    remove("of two names, one of which is not there", FOUR, "-p b@R -p c@R", [Y], keytab(HOST, AES256, FIVE, 41)),
+    remove("old versions of two names", FOUR, "-p b@R -p host/a@R -k old", [X], keytab(47, AES256, FIVE, B3)),
+    remove("nothing is old of the one name that is there", FOUR, "-p c@R -k old -p b@R", []),
+    remove("two names that are not there", FOUR, "-p c@R -p d@R", NOT_FOUND),
     remove("by another text of the name", FOUR, r"-p \host/a@R -e 18", [X18], keytab(HOST, 63, FIVE, B3)),
     remove("nothing is old", keytab(HOST, B3), "-k old", []),
     remove("nothing is old of a name", FOUR, "-k old -p b@R", []),
@@ -90,6 +101,22 @@ CASES = [
     remove_old("the order of the file", [(3, 3), (200, 2), (250, 1)], [0, 1]),
     remove_old("a version twice", [(4, 1), (5, 1), (4, 9), (5, 9)], [0, 2]),
     remove_old("version 0", [(0, 1), (0, 2)], []),
+    # Old versions whose name has had its newest one for that long: all entries of that version, and no others.
+    *(remove(f"old for long: {words}", FOUR, words, [X], keytab(47, AES256, FIVE, B3))
+      for words in ("-k old --age 0", "-k old --age=1", "--age 0000086400 -kold", "-k old -p host/a@R --age 1")),
+    remove("old for long, a dry run", FOUR, "-n -k old --age 1", [X]),
+    remove("for longer than there are clocks", FOUR, "-k old --age 4294967295", []),
+    remove("old for long, none of a name that is not there", FOUR, "-p c@R -k old --age 1", NOT_FOUND),
+    remove("old for long, none of a name", FOUR, "-p b@R -k old --age 1", []),
+    remove("a new version", keytab(HOST, LATE), "-k old --age 0", []),
+    remove("a new version of a name", keytab(HOST, LATE), "-p host/a@R -k old --age 0", []),
+    remove("a new version of one enctype", keytab(HOST, AES256, LATE), "-k old --age 0", []),
+    remove("a new version of an enctype that is not selected", keytab(replace(HOST, enctype=18), AES256, LATE),
+           "-k old -e 18 --age 0", []),
+    remove("a new version of another name", keytab(HOST, FIVE, versioned(1, 1), versioned(2, FUTURE)),
+           "-k old --age 0", [X], keytab(47, FIVE, versioned(1, 1), versioned(2, FUTURE))),
+    remove("old versions of late times", keytab(replace(HOST, timestamp=FUTURE), FIVE), "-k old --age 0", [X],
+           keytab(47, FIVE)),
     # Names that print alike are the same, of whatever type.
     remove("no components and an empty one", BARE, "-p @R",
            ["removed 2 kvno 1 etype 17 @R", "removed 44 kvno 2 etype 17 @R"], keytab(38, 40, B3)),
@@ -115,10 +142,14 @@ CASES = [
     Case("a folder", ("ktremove", "-k", "old", "."), message(3, ".: cannot read"), {"k": TWO}),
     # Lines that are refused.
     *(Case(line, ("ktremove", *line.split()), BAD_LINE, {"k": FOUR})
-      for line in ("k", "-n k", "-p", "-p b@R", "-k old", "-e 17", "-p b@R -p b@R k", "-k 3 -k 3 k", "-k old -k old k",
+      for line in ("k", "-n k", "-p", "-p b@R", "-k old", "-e 17", "-p b@R -p b k", "-k 3 -k 3 k", "-k old -k old k",
                    "-k new k", "-k -1 k", "-k 4294967296 k", "-k Old k", "-k= k", "-e any k", "-e 65536 k",
                    "-e 17 -e any k", "-p b k", "-p b@R@R k", "-p b@R/ k", "-p b@R k more", "-p= k", "-k=3 k",
-                   "-nk=old k", "-e=17 k", "-x -k old k", "-k old -n=yes k", "--dry-run -k old k", "-K old k")),
+                   "-nk=old k", "-e=17 k", "-x -k old k", "-k old -n=yes k", "--dry-run -k old k", "-K old k",
+                   "--age 3 k", "-k 3 --age 3 k", "-p b@R --age 3 k", "-e 17 --age 3 k", "-k new --age 3 k",
+                   "-k old --age k", "-k old --age", "-k old --age 3 --age 3 k", "-k old --age x k",
+                   "-k old --age= k", "-k old --age -1 k", "-k old --age +1 k", "-k old --age 1d k",
+                   "-k old --age 4294967296 k", "-k old --age 00000000003 k", "-k old --ag 3 k", "-k old -age 3 k")),
     greatest.most_of_one_name, greatest.many_long_names,
 ]
 

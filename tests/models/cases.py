@@ -8,12 +8,14 @@ from functools import lru_cache, wraps
 
 from models import cache_reading, check_model, json_model, reading
 from models.cache_script_model import cache_edited
+from models.copy_model import Request, copied
 from models.ktutil_model import handled
 from models.reading import name_text
 from models.removal_model import Selection, removal
 from models.script_model import edited
 from models.ticket_removal_model import Selection as TicketSelection
 from models.ticket_removal_model import ticket_removal
+from models.valid_ticket_model import silent
 from runs.harness import Case, Outcome
 
 
@@ -65,6 +67,12 @@ def klist_cache(image: bytes, *, words: tuple[str, ...] = ("-c", "c")) -> Case:
     return listing(("klist", *words), image, cache_reading.answer(image, columns))
 
 
+def klist_silent(image: bytes, now: int, *, seconds: int | None = None) -> Case:
+    """Returns a question whether a cache has a valid ticket."""
+    words = ("klist", "-s", *([] if seconds is None else ["--for", str(seconds)]), "c")
+    return listing(words, image, silent(image, now, seconds or 0))
+
+
 @timeless
 def klist_cache_json(image: bytes, *, words: tuple[str, ...] = ("--json",)) -> Case:
     """Returns a listing of a cache as JSON."""
@@ -93,13 +101,22 @@ def ktedit(image: bytes | None, script: bytes, *, v1_big: bool = False, name: st
     return changing(name, ("ktedit", *big(v1_big), "k"), "k", (image, after), wanted, script)
 
 
-@timeless
-def ktremove(image: bytes, *, selection: Selection, v1_big: bool = False, is_dry: bool = False,
+def ktremove(image: bytes, now: int = 0, *, selection: Selection, v1_big: bool = False, is_dry: bool = False,
              name: str = "") -> Case:
     """Returns a removal of entries."""
-    wanted, after = removal(image, v1_big, selection)
+    wanted, after = removal(image, v1_big, selection, now)
     words = ("ktremove", *big(v1_big), *["-n"] * is_dry, *selection.words(), "k")
     return changing(name, words, "k", (image, image if is_dry else after), wanted)
+
+
+@timeless
+def ktcopy(source: bytes | None, target: bytes | None, *, request: Request, is_same: bool = False,
+           name: str = "") -> Case:
+    """Returns a copy from the keytab `k` to the keytab `t`, or to itself; None means no file."""
+    operands = ("k", "k" if is_same else "t")
+    files = {file: image for file, image in (("t", target), ("k", source)) if file in operands and image is not None}
+    wanted, after = copied(files, operands, request)
+    return Case(f"ktcopy {name}", ("ktcopy", *request.words(), *operands), wanted, files, after)
 
 
 def ktutil(given: bytes, now: int, *, files: dict[str, bytes], v1_big: bool = False, name: str = "") -> Case:

@@ -1,4 +1,4 @@
-"""The map has each crate in its place, and each link in a document leads to a file."""
+"""The map has each crate in its place, each link in a document leads to a file, and TRUST names what exists."""
 
 import glob
 import os
@@ -7,6 +7,7 @@ import re
 from runs.harness import TOP, Report
 
 MAP = os.path.join("docs", "DESIGN.md")
+TRUST = os.path.join("docs", "TRUST.md")
 
 
 def read(path: str) -> str:
@@ -34,18 +35,45 @@ def check_map(report: Report) -> None:
     report.check("the other crates of the map", missing)
 
 
+def anchors(path: str) -> set[str]:
+    """Returns the names by which links lead to the headings of a page."""
+    return {re.sub(r"[^\w -]", "", heading).lower().replace(" ", "-")
+            for heading in re.findall(r"^#+ (.*)$", read(path), re.MULTILINE)}
+
+
 def check_links(report: Report) -> None:
-    """Checks that the file of each link exists."""
+    """Checks that the file of each link exists, and each heading of its own page."""
     pages = [path for pattern in ("docs/*.md", "crates/*/CALLING.md")
              for path in sorted(glob.glob(pattern, root_dir=TOP))]
-    for path in ["README.md", *pages]:
+    for path in ["README.md", "bench/README.md", *pages]:
         links = re.findall(r"\]\(([\w./]+)\)", read(path))
         folder = os.path.join(TOP, os.path.dirname(path))
         wrong = [link for link in links if not os.path.exists(os.path.join(folder, link))]
+        wrong += sorted(set(re.findall(r"\]\(#([\w-]+)\)", read(path))) - anchors(path))
         report.check(f"the links of {path}", wrong)
 
 
+def cells_of_tables(text: str, column: int) -> str:
+    """Returns the cells of a column of all tables, each on a line."""
+    rows = re.findall(r"^\| (.*) \|$", text, re.MULTILINE)
+    return "\n".join(row.split(" | ")[column] for row in rows)
+
+
+def check_trust(report: Report) -> None:
+    """Checks that what carries a promise is named in the sources, and that each test exists."""
+    proved, _, tested = read(TRUST).partition("\n## What only tests show\n")
+    sources = "".join(read(path) for pattern in ("crates/*/src/**/*.rt", "crates/*/specs/**/*.antt")
+                      for path in glob.glob(pattern, root_dir=TOP, recursive=True))
+    names = re.findall(r"`(?:\w+::)?(\w*[A-Za-z])`", cells_of_tables(proved, -1))
+    report.check("the names in TRUST", sorted(set(names) - set(re.findall(r"\w+", sources))))
+    there = [os.path.basename(path) for top in ("tests", "crates/program_tests")
+             for path in glob.glob(f"{top}/**/*.*", root_dir=TOP, recursive=True)]
+    tests = re.findall(r"(\w+\.(?:py|rt|c))\b", cells_of_tables(tested, -1))
+    report.check("the tests in TRUST", sorted(set(tests) - set(there)))
+
+
 def check(report: Report, program: str) -> None:
-    """Reads the documents. The program is not run."""
+    """Reads the documents and the sources. The program is not run."""
     check_map(report)
     check_links(report)
+    check_trust(report)

@@ -1,4 +1,4 @@
-"""The manual pages' form, and the program's: its commands and options, its words and its examples."""
+"""The manual pages' form, and the program's: its commands, its options and its examples."""
 
 import re
 import shutil
@@ -9,9 +9,6 @@ from makers.samples import folder_of_samples
 from pages.documents import literals, read
 from pages.readme import check_session, parted
 from runs.harness import TOP, Report
-from runs.rows import made
-from words import explained
-from words import explained_caches
 from words.completions import offered
 
 PAGE = "docs/krbfile.1"
@@ -50,16 +47,6 @@ def check_options(report: Report, program: str) -> None:
         report.check(f"the options of krbfile {command} in the manual page", missing)
 
 
-def check_words(report: Report) -> None:
-    """Checks that the page has each word of the messages, on a line or in a column of its own."""
-    lines = read(PAGE).replace(".Ar NAME Ns .krbfile", "k.krbfile").splitlines()
-    lines = [re.sub(r"^\.Dl |^\.It .* Ta |[:;]$", "", line) for line in lines]
-    words = {re.sub(r"^line \d+: |^refused \d+: |^fault \d+: |^(?:weak|hidden|same|clash|old|mode): ", "", words)
-             for case in made([*explained.CASES, *explained_caches.CASES]) for _, words in case.output}
-    odd = {"", "no such file", "error 6"} | {word for word in words if word.startswith("k: fault")}
-    report.check("the words of messages in the manual page", sorted(words - odd - set(lines)))
-
-
 def examples() -> Iterator[tuple[str, bytes]]:
     """Yields the commands of the examples, each with its output."""
     for example in literals(PAGE):
@@ -78,5 +65,4 @@ def check(report: Report, program: str) -> None:
     check_form(report)
     check_commands(report)
     check_options(report, program)
-    check_words(report)
     check_examples(report, program)

@@ -70,6 +70,7 @@ WRONG_BODIES = {
     },
     "krb_audit": {
         "a-clash-is-not-wrong": "an entry whose key differs from one alike is not wrong",
+        "age-of-the-old-one": "the age that counts is that of the old entry, not of the newest",
         "expired-settings-are-asked-for": "the removal of what has expired takes configuration values too",
         "hidden-at-each": "each entry that ends MIT's reading is hidden, not the first alone",
         "keeps-the-last-alike": "an entry is compared with the last one alike, not the first",

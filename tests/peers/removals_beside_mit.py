@@ -40,7 +40,7 @@ def faults_of(program: str, realm: Realm, random: Random) -> list[str]:
     """Returns what differs from MIT's and the model's in a removal from a random keytab."""
     those = [random_entry(random) for _ in range(random.randrange(1, 9))]
     image, name = keytab(*those), b"/".join(random.choice(those).components) + b"@R"
-    wanted, after = removal(image, False, Selection(name, OLD))
+    wanted, after = removal(image, False, Selection((name,), OLD))
     theirs = removed_by_mit(realm, name, image)
     with folder_of({"k": image}) as folder:
         got = run(program, ("ktremove", "-p", name, "-k", OLD, "k"), folder)

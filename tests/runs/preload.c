@@ -163,6 +163,16 @@ int clock_gettime(clockid_t clock, struct timespec *time)
     return fail_clock ? -1 : 0;
 }
 
+/* MIT's programs read the clock by this call. */
+time_t time(time_t *seconds)
+{
+    struct timespec now;
+    time_t found = clock_gettime(CLOCK_REALTIME, &now) == 0 ? now.tv_sec : -1;
+    if (seconds)
+        *seconds = found;
+    return found;
+}
+
 /* Takes a number out of the environment; 0 where it is not there. */
 static uint64_t taken(const char *name)
 {

@@ -6,6 +6,7 @@ What each reports as saved is there afterwards, and readers meanwhile see a whol
 import os
 import tempfile
 import threading
+from functools import partial
 from random import Random
 
 from makers.images import Entry, keytab
@@ -19,6 +20,13 @@ from system.storm_kinds import KINDS, MANY, Kind, change, removes
 # The names by which the runs call the file, and the contents of the folder at the end.
 PATHS = ("k", "./k", "link")
 LEFT = {"k", "link"}
+
+
+def source_of(name: str, folder: str) -> str:
+    """Makes a keytab of one entry of that name in a folder, and returns its path."""
+    path = os.path.join(folder, name)
+    write(path, keytab(Entry((name.encode(),))))
+    return path
 
 
 class Storm:
@@ -38,11 +46,10 @@ class Storm:
             is_mits, is_killed = self.kind.with_mit and is_odd, self.kind.kills and is_odd
             command = self.kind.command(number)
             name = f"{'m' if is_mits else 'h' if removes(command) else 'a'}{number}"
-            words, text = change(command, name, self.random.choice(PATHS))
+            source = source_of(name, sources)
+            words, text = change(command, name, self.random.choice(PATHS), source)
             line = (self.program, *words)
             if is_mits:
-                source = os.path.join(sources, name)
-                write(source, keytab(Entry((name.encode(),))))
                 line, text = ("ktutil",), f"rkt {source}\nwkt k\n"
             self.runs.append(Run(name, line, text, removes(command), is_mits, is_killed))
         for each in self.runs:
@@ -89,11 +96,11 @@ class Storm:
             if is_bad:
                 self.found.append(f"{image[:40]}, {len(image)} bytes, was seen")
 
-    def judge_next(self, folder: str) -> None:
+    def judge_next(self, folder: str, sources: str) -> None:
         """Checks that stale files do not stop a later run, which also removes them."""
         command = self.kind.command(0)
         name = "last" if removes(command) else "new"
-        words, text = change(command, name)
+        words, text = change(command, name, source=source_of(name, sources))
         got = run(self.program, words, folder, text.encode())
         found = tree(folder)
         names = self.kind.names(found.get("k", b"")) or []
@@ -114,18 +121,18 @@ def storm(program: str, kind: Kind, seed: int) -> Storm:
         made.rage(folder)
         made.judge_file(folder)
         made.judge_looks()
-        made.judge_next(folder)
+        made.judge_next(folder, sources)
     return made
 
 
-def check_rounds(report: Report, program: str, seeds: range) -> None:
-    """Runs the storms of each kind from some seeds."""
+def check_kinds(kinds: tuple[Kind, ...], report: Report, program: str, seeds: range) -> None:
+    """Runs the storms of each of those kinds from some seeds."""
     has_mit = are_there(report, "changes beside MIT's ktutil")
-    for kind in KINDS:
+    for kind in kinds:
         if has_mit or not kind.with_mit:
             for seed in seeds:
                 report.check(f"{kind}, round {seed}", storm(program, kind, seed).found[:3])
 
 
-TOPIC = Rounds(check_rounds, usual=2, share=2_000)
+TOPIC = Rounds(partial(check_kinds, KINDS), usual=2, share=2_000)
 check, check_long = TOPIC.check, TOPIC.check_long

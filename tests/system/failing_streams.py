@@ -79,8 +79,8 @@ class Ends:
         words = self.run.case.words
         if words[0] == "ktutil":
             return [*self.talks("load")]
-        name = words[1] if words[0] in ("ktfind", "ktedit") else words[-1]
-        return [(message(3, f"{name}: cannot read"), self.run.case.files)]
+        names = words[-2:] if words[0] == "ktcopy" else [words[1] if words[0] in ("ktfind", "ktedit") else words[-1]]
+        return [(message(3, f"{name}: cannot read"), self.run.case.files) for name in names]
 
     @cached_property
     def of_saves(self) -> list[End]:
@@ -157,7 +157,7 @@ def settings_of(run: Modelled) -> tuple[str, ...]:
     """Returns what may fail in a run."""
     if run.case.words[0] in ("ktedit", "ktutil", "ccedit"):
         return OF_EDITOR
-    return OF_REMOVER if run.case.words[0] in ("ktremove", "ccremove") else OF_READER
+    return OF_REMOVER if run.case.words[0] in ("ktremove", "ktcopy", "ccremove") else OF_READER
 
 
 def check_few_bytes(report: Report, over: Preloaded, run: Modelled, most: int) -> None:

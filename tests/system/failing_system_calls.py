@@ -106,7 +106,7 @@ def runs() -> list[tuple[Modelled, list[Step]]]:
         (cases.ktcheck(TWO), [*load("k"), PRINT]),
         (cases.ktedit(TWO, b"start\ncut 2\n" + add, name="a keytab"), [READ, *change_k]),
         (cases.ktedit(None, add, name="no file"), [READ, *hold("k"), *load("k"), *save("k", is_new=True), PRINT]),
-        (cases.ktremove(TWO, selection=Selection(b"host/a@R"), name="a keytab"), change_k),
+        (cases.ktremove(TWO, selection=Selection((b"host/a@R",)), name="a keytab"), change_k),
         (cases.ccedit(USUAL, config, name="a cache"), [READ, *change_c]),
         (cases.ccremove(USUAL, NOW, selection=TicketSelection(b"krbtgt/R@R"), name="a cache"), change_c),
         (cases.ktutil(TALK, NOW, files={"j": TWO, "k": keytab(B)}, name="three files"), TALKED),

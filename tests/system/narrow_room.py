@@ -26,7 +26,7 @@ SPACE = 64 * 1024 * 1024
 LEAST_POWER, MOST_POWER = 22, 30
 
 # The commands that print nothing before their output is complete.
-GATHERING = ("ktcheck", "ktedit", "ktremove", "ccedit", "ccremove")
+GATHERING = ("ktcheck", "ktedit", "ktremove", "ktcopy", "ccedit", "ccremove")
 
 
 def is_early(case: Case, got: Outcome, after: dict[str, bytes]) -> bool:

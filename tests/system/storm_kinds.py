@@ -20,10 +20,12 @@ def removes(command: str) -> bool:
     return command.endswith("remove")
 
 
-def change(command: str, name: str, path: str = "k") -> tuple[tuple[str, ...], str]:
-    """Returns the words and the input of a run that adds or removes a name."""
+def change(command: str, name: str, path: str = "k", source: str = "") -> tuple[tuple[str, ...], str]:
+    """Returns the words and the input of a run that adds or removes a name. `source` is a keytab that has the name."""
     if removes(command):
         return (command, "-p", f"{name}@R", path), ""
+    if command == "ktcopy":
+        return ("ktcopy", source, path), ""
     if command == "ccedit":
         return ("ccedit", path), f"config {name} - v\n"
     if command == "ktedit":
@@ -95,6 +97,12 @@ class Kind:
 
 KTEDIT, KTUTIL, KTREMOVE = ("ktedit",), ("ktutil",), ("ktremove",)
 CCEDIT, CCREMOVE, BOTH = ("ccedit",), ("ccremove",), ("ccedit", "ccremove", "ccremove", "ccedit")
+
+KTCOPY, MIXED = ("ktcopy",), ("ktcopy", "ktedit", "ktremove", "ktcopy")
+
+# The kinds in which keytabs are copied into the file.
+COPIES = (Kind(KTCOPY), Kind(KTCOPY, over_none=True), Kind(MIXED), Kind(KTCOPY, kills=True),
+          Kind(KTCOPY, over_none=True, kills=True), Kind(KTCOPY, with_mit=True), Kind(MIXED, with_mit=True))
 
 KINDS = (Kind(KTEDIT), Kind(KTEDIT, over_none=True), Kind(KTUTIL), Kind(KTUTIL, over_none=True),
          Kind(KTEDIT, kills=True), Kind(KTEDIT, over_none=True, kills=True),

@@ -18,7 +18,7 @@ SCRIPTS = (b"", b"# none\n", WALK, b"resume 2\n", b"start\nfrob\n")
 # Runs of each command that lists, dry runs, and such scripts.
 CASES = (
     klist(TWO), klist_json(TWO), ktfind(TWO, name=(b"b", b"R")), ktcheck(TWO), klist_cache(USUAL),
-    klist_cache_json(USUAL), ktremove(TWO, selection=Selection(b"b@R"), is_dry=True, name="-n"),
+    klist_cache_json(USUAL), ktremove(TWO, selection=Selection((b"b@R",)), is_dry=True, name="-n"),
     Case("rkt", ("ktutil",), Outcome(0), {"k": TWO}, stdin=b"rkt k\ndelent 1\n"),
     *(ktedit(OLD, script, name=f"{script}") for script in SCRIPTS), *HOLDING_NOTHING,
 )

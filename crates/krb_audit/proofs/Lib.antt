@@ -3,6 +3,8 @@ pub mod FirstNumbers
 pub mod Keeping
 pub mod Knowing
 pub mod Selecting
+pub mod Passing
+pub mod YoungLemmas
 pub mod Octal
 pub mod CountsLemmas
 pub mod Numbers

@@ -1,70 +1,63 @@
 -- A selection, prepared for a pass over the entries of a keytab.
-use Rattle.std.specs.Prelude.{◌≡◌, ℕ, List, ◌++◌, length, Bool, true, ◌&&◌, filter, map, Option, None, Some, option_map}
+use Rattle.std.specs.Prelude.{◌≡◌, ℕ, List, ◌&&◌, filter, map}
 use Rattle.std.specs.List.{flat_map, list_any}
-use Rattle.std.specs.Str.{bytes_eq}
 use Rattle.std.specs.Vec.{vec_items}
-use Rattle.krb_wire.specs.declared.principal.Principal.{Principal}
-use Rattle.krb_wire.specs.Names.{name_text}
-use Rattle.krb_wire.specs.Reading.{principal_parts}
-use Rattle.krb_wire.specs.Spelling.{Parts}
 use Rattle.krb_keytab.specs.Find.{PlacedEntry}
 use Rattle.krb_text.specs.Found.{removed_line}
 use Rattle.krb_audit.specs.declared.selection.SelectedKvno.{SelectedKvno}
-use Rattle.krb_audit.specs.declared.selection.SelectedKvno.TheVariants.{Any, Exactly, Old}
+use Rattle.krb_audit.specs.declared.selection.SelectedKvno.TheVariants.{Any, Exactly, Newest, Old, OldFor}
 use Rattle.krb_audit.specs.declared.selection.Selection.{Selection}
 use Rattle.krb_audit.specs.declared.selected_versions.SelectedVersions.{SelectedVersions}
-use Rattle.krb_audit.specs.declared.selected_versions.SelectedVersions.TheVariants.{Each, This, OtherThan}
+use Rattle.krb_audit.specs.declared.selected_versions.SelectedVersions.TheVariants.{Each, This, NewestOf, OtherThan, Aged}
 use Rattle.krb_audit.specs.declared.selected.Selected.{Selected}
 use Rattle.krb_audit.specs.declared.selected.Prepared.{Prepared}
-use Rattle.krb_audit.specs.Selection.{is_named, has_selected_kvno}
+use Rattle.krb_audit.specs.Selection.{is_named, has_selected_kvno, texts_of}
 use Rattle.krb_audit.specs.Stamps.{AreKept}
-
--- ---- names
-
--- the selected name as it is printed, if one is given
-abbrev pub selected_text : {A : Type 0} → Option (Principal A) → Option (List ℕ)
-selected_text name = option_map (λ n. name_text (principal_parts n)) name
-
--- a name prints as that text, if there is one
-abbrev pub has_text : Option (List ℕ) → Parts → Bool
-has_text None p = true
-has_text (Some text) p = bytes_eq (name_text p) text
+use Rattle.krb_audit.specs.UpTo.{IsUpTo}
+use Rattle.krb_audit.specs.Young.{IsYoung}
 
 -- ---- versions
 
--- the `AskedKvno` that they were prepared from
+-- the `SelectedKvno` that they were prepared from
 abbrev pub kvno_of : {A : Type 0} → SelectedVersions A → SelectedKvno
 kvno_of Each = Any
 kvno_of (This version) = Exactly version
+kvno_of (NewestOf newest) = Newest
 kvno_of (OtherThan newest) = Old
+kvno_of (Aged young) = OldFor young.seconds
 
 -- what is kept to find the old entries matches the entries
-abbrev pub AreVersions : {A : Type 0} → List PlacedEntry → SelectedVersions A → Type 0
-AreVersions xs Each = Unit {0}
-AreVersions xs (This version) = Unit {0}
-AreVersions xs (OtherThan newest) = AreKept xs newest.firsts.items newest.stamps.items
+abbrev pub AreVersions : {A : Type 0} → List PlacedEntry → ℕ → SelectedVersions A → Type 0
+AreVersions xs now Each = Unit {0}
+AreVersions xs now (This version) = Unit {0}
+AreVersions xs now (NewestOf newest) = AreKept xs newest.firsts.items newest.stamps.items
+AreVersions xs now (OtherThan newest) = AreKept xs newest.firsts.items newest.stamps.items
+AreVersions xs now (Aged young) = IsYoung xs now young
 
 -- ---- both, and what was selected
 
--- a selection is prepared for the entries
-pub record IsPrepared {A B : Type 0} (xs : List PlacedEntry) (prepared : Prepared A B) : Type 0 where
-  pub name : option_map vec_items prepared.name.text ≡ selected_text prepared.selection.now.name
+-- a selection is prepared for the entries, at that time
+pub record IsPrepared {A B : Type 0} (xs : List PlacedEntry) (now : ℕ) (prepared : Prepared A B) : Type 0 where
+  pub names : map vec_items prepared.names.texts.items ≡ texts_of prepared.selection.now.names.items
   pub kvno : kvno_of prepared.versions ≡ prepared.selection.now.kvno
-  pub versions : AreVersions xs prepared.versions
+  pub versions : AreVersions xs now prepared.versions
 
 -- those of some of the entries that are selected; old is decided over all entries `xs`
-abbrev pub selected_among : {A : Type 0} → Selection A → List PlacedEntry → List PlacedEntry → List PlacedEntry
-selected_among s xs some = filter (λ x. is_named s x.1 && has_selected_kvno s.kvno xs x.1) some
+abbrev pub selected_among : {A : Type 0} → Selection A → ℕ → List PlacedEntry → List PlacedEntry → List PlacedEntry
+selected_among s now xs some = filter (λ x. is_named s x.1 && has_selected_kvno s.kvno now xs x.1) some
 
 -- the selected ones of some of the entries were added
-pub record SelectsOf {A B : Type 0} (s : Selection A) (xs some : List PlacedEntry) (selected : Selected B) : Type 0 where
-  pub places : selected.places.items ≡ map (λ x. x.0) (selected_among s xs some)
-  pub text : selected.text.items ≡ flat_map removed_line (selected_among s xs some)
+pub record SelectsOf {A B : Type 0} (s : Selection A) (now : ℕ) (xs some : List PlacedEntry) (selected : Selected B) : Type 0 where
+  pub places : selected.places.items ≡ map (λ x. x.0) (selected_among s now xs some)
+  pub text : selected.text.items ≡ flat_map removed_line (selected_among s now xs some)
   pub is_named : selected.is_named ≡ list_any (λ x. is_named s x.1) some
 
 -- the selected ones of the first entries were added, and the others are still to come
-pub record SelectsUpTo {A B : Type 0} (s : Selection A) (xs rest : List PlacedEntry) (number : ℕ) (selected : Selected B) : Type 0 where
-  pub before : List PlacedEntry
-  pub selects : SelectsOf s xs before selected
-  pub all : before ++ rest ≡ xs
-  pub numbered : number ≡ length before
+pub record SelectsUpTo {A B : Type 0} (s : Selection A) (now : ℕ) (xs rest : List PlacedEntry) (number : ℕ) (selected : Selected B) : Type 0 where
+  pub up_to : IsUpTo xs rest number
+  pub selects : SelectsOf s now xs up_to.before selected
+
+-- those of the first entries that are selected were added, and the others are still to come
+pub record ListsUpTo {A : Type 0} (s : Selection A) (now : ℕ) (xs rest : List PlacedEntry) (number : ℕ) (listed : List PlacedEntry) : Type 0 where
+  pub up_to : IsUpTo xs rest number
+  pub listed_are : listed ≡ selected_among s now xs up_to.before

@@ -16,7 +16,7 @@ use Rattle.krb_audit.specs.Findings.{Marked, marked}
 
 -- a word and the entry's place and tail, if it is reported
 abbrev pub line_if : Bool → List ℕ → PlacedEntry → List ℕ
-line_if is_told word x = if is_told then placed_line word x else []
+line_if is_reported word x = if is_reported then placed_line word x else []
 
 -- the word for an entry that has an earlier one's name, kvno and enctype
 abbrev pub alike_word : Bool → List ℕ

@@ -1,51 +1,74 @@
 -- Which entries of a keytab are selected.
-use Rattle.std.specs.Prelude.{◌≡◌, ℕ, List, [], ◌∷◌, Bool, true, ◌&&◌, ◌==◌, nat_eq, filter, map, Option, None, Some}
+use Rattle.std.specs.Prelude.{◌≡◌, ℕ, ◌+◌, List, [], ◌∷◌, Bool, true, not, ◌&&◌, ◌==◌, nat_eq, nat_lt, filter, map}
 use Rattle.std.specs.List.{flat_map, list_any}
 use Rattle.std.specs.Str.{bytes_eq}
 use Rattle.krb_wire.specs.declared.principal.Principal.{Principal}
 use Rattle.krb_wire.specs.Names.{name_text}
 use Rattle.krb_wire.specs.Reading.{principal_parts}
+use Rattle.krb_wire.specs.SameName.{have_same_name}
 use Rattle.krb_wire.specs.Spelling.{Parts}
 use Rattle.krb_keytab.specs.Entry.{EntryParts}
 use Rattle.krb_keytab.specs.Find.{PlacedEntry, placed_entries}
 use Rattle.krb_keytab.specs.Store.{KeytabState}
 use Rattle.krb_text.specs.Found.{removed_line}
 use Rattle.krb_audit.specs.declared.selection.SelectedKvno.{SelectedKvno}
-use Rattle.krb_audit.specs.declared.selection.SelectedKvno.TheVariants.{Any, Exactly, Old}
+use Rattle.krb_audit.specs.declared.selection.SelectedKvno.TheVariants.{Any, Exactly, Newest, Old, OldFor}
 use Rattle.krb_audit.specs.declared.selection.Selection.{Selection}
 use Rattle.krb_audit.specs.declared.selected.Selected.{Selected}
 use Rattle.krb_audit.specs.Newest.{is_old}
 
--- a name prints as the selected one, if one is given
-abbrev pub has_selected_name : {A : Type 0} → Option (Principal A) → Parts → Bool
-has_selected_name None p = true
-has_selected_name (Some name) p = bytes_eq (name_text p) (name_text (principal_parts name))
+-- names as they are printed
+abbrev pub texts_of : {A : Type 0} → List (Principal A) → List (List ℕ)
+texts_of names = map (λ name. name_text (principal_parts name)) names
+
+-- a name prints as one of those texts, if there are any
+abbrev pub has_text : List (List ℕ) → Parts → Bool
+has_text [] p = true
+has_text (text ∷ others) p = list_any (bytes_eq (name_text p)) (text ∷ others)
+
+-- a name prints as a selected one, if any are given
+abbrev pub has_selected_name : {A : Type 0} → List (Principal A) → Parts → Bool
+has_selected_name names p = has_text (texts_of names) p
 
 -- an enctype is one of the selected ones, if any are given
 abbrev pub has_selected_enctype : List ℕ → ℕ → Bool
 has_selected_enctype [] enctype = true
-has_selected_enctype (selected_in ∷ others) enctype = list_any (nat_eq enctype) (selected_in ∷ others)
+has_selected_enctype (first ∷ others) enctype = list_any (nat_eq enctype) (first ∷ others)
 
 -- an entry has the selected name and a selected enctype
 abbrev pub is_named : {A : Type 0} → Selection A → EntryParts → Bool
-is_named s e = has_selected_name s.name e.principal && has_selected_enctype s.enctypes.items e.enctype
+is_named s e = has_selected_name s.names.items e.principal && has_selected_enctype s.enctypes.items e.enctype
 
--- an entry of the entries `xs` has a selected kvno
-abbrev pub has_selected_kvno : SelectedKvno → List PlacedEntry → EntryParts → Bool
-has_selected_kvno Any xs e = true
-has_selected_kvno (Exactly version) xs e = e.version == version
-has_selected_kvno Old xs e = is_old xs e
+-- an entry is less than so many seconds old
+abbrev pub is_young : ℕ → ℕ → EntryParts → Bool
+is_young now seconds e = nat_lt now (e.timestamp + seconds)
 
--- those of the entries that are selected
-abbrev pub selected_of : {A : Type 0} → Selection A → List PlacedEntry → List PlacedEntry
-selected_of s xs = filter (λ x. is_named s x.1 && has_selected_kvno s.kvno xs x.1) xs
+-- an entry is of that name and its newest kvno, and less than so many seconds old
+abbrev pub is_young_of : ℕ → ℕ → List PlacedEntry → Parts → PlacedEntry → Bool
+is_young_of now seconds xs name x = have_same_name name x.1.principal && (is_young now seconds x.1 && not (is_old xs x.1))
+
+-- a name has such an entry
+abbrev pub has_young : ℕ → ℕ → List PlacedEntry → Parts → Bool
+has_young now seconds xs name = list_any (is_young_of now seconds xs name) xs
+
+-- an entry of the entries `xs` has a selected kvno at that time
+abbrev pub has_selected_kvno : SelectedKvno → ℕ → List PlacedEntry → EntryParts → Bool
+has_selected_kvno Any now xs e = true
+has_selected_kvno (Exactly version) now xs e = e.version == version
+has_selected_kvno Newest now xs e = not (is_old xs e)
+has_selected_kvno Old now xs e = is_old xs e
+has_selected_kvno (OldFor seconds) now xs e = is_old xs e && not (has_young now seconds xs e.principal)
+
+-- those of the entries that are selected at that time
+abbrev pub selected_of : {A : Type 0} → Selection A → ℕ → List PlacedEntry → List PlacedEntry
+selected_of s now xs = filter (λ x. is_named s x.1 && has_selected_kvno s.kvno now xs x.1) xs
 
 -- the entries of a keytab that are selected, in file order
-abbrev pub selected_in : {A : Type 0} → Selection A → KeytabState → List PlacedEntry
-selected_in s k = selected_of s (placed_entries k)
+abbrev pub selected_in : {A : Type 0} → Selection A → ℕ → KeytabState → List PlacedEntry
+selected_in s now k = selected_of s now (placed_entries k)
 
 -- the result is these entries: their places, their lines, and whether some entry has the name and enctype
-pub record Selects {A B : Type 0} (s : Selection A) (k : KeytabState) (selected : Selected B) : Type 0 where
-  pub places : selected.places.items ≡ map (λ x. x.0) (selected_in s k)
-  pub text : selected.text.items ≡ flat_map removed_line (selected_in s k)
+pub record Selects {A B : Type 0} (s : Selection A) (now : ℕ) (k : KeytabState) (selected : Selected B) : Type 0 where
+  pub places : selected.places.items ≡ map (λ x. x.0) (selected_in s now k)
+  pub text : selected.text.items ≡ flat_map removed_line (selected_in s now k)
   pub is_named : selected.is_named ≡ list_any (λ x. is_named s x.1) (placed_entries k)

@@ -7,16 +7,16 @@ use Rattle.krb_ccache.specs.Config.{is_config}
 use Rattle.krb_ccache.specs.Store.{PlacedCredential}
 use Rattle.krb_audit.specs.declared.tickets.SelectedTickets.{SelectedTickets}
 use Rattle.krb_audit.specs.TicketText.{TicketText}
-use Rattle.krb_audit.specs.Prepared.{selected_text, has_text}
+use Rattle.krb_audit.specs.Selection.{texts_of, has_text}
 use Rattle.krb_audit.specs.Tickets.{has_ended_by, removed_ticket_line}
 
--- the server's name as it is printed, and the end time, each if it is given
-abbrev pub ticket_text : {A : Type 0} → Option (Principal A) → Option ℕ → TicketText
-ticket_text server ended_by = record { server = selected_text server; ended_by = ended_by }
+-- the servers' names as they are printed, and the end time, if it is given
+abbrev pub ticket_text : {A : Type 0} → List (Principal A) → Option ℕ → TicketText
+ticket_text servers ended_by = record { servers = texts_of servers; ended_by = ended_by }
 
--- a credential is a ticket, and its server prints as that text, if there is one
+-- a credential is a ticket, and its server prints as one of those texts, if there are any
 abbrev pub has_server : TicketText → CredParts → Bool
-has_server t c = not (is_config c) && has_text t.server c.server
+has_server t c = not (is_config c) && has_text t.servers c.server
 
 -- the selected tickets among some credentials
 abbrev pub tickets_among : TicketText → List PlacedCredential → List PlacedCredential

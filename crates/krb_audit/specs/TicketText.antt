@@ -1,7 +1,7 @@
--- Which tickets are selected, by the text of a name.
+-- Which tickets are selected, by the texts of names.
 use Rattle.std.specs.Prelude.{ℕ, List, Option}
 
--- the text that the server's name prints as, and the second by which the ticket has ended, each if it is given
+-- the texts of which the server's name prints as one, if there are any, and the second by which the ticket has ended, if it is given
 pub record TicketText : Type 0 where
-  pub server : Option (List ℕ)
+  pub servers : List (List ℕ)
   pub ended_by : Option ℕ

@@ -2,10 +2,6 @@
 //! and selections of a cache's tickets.
 #![tactic(auto)]
 
-mod selected;
-mod selected_name;
-mod ticket_criteria;
-mod selected_versions;
 mod counts;
 mod finding_words;
 mod findings;
@@ -17,13 +13,18 @@ mod mit;
 mod mode;
 mod names;
 mod newest;
+mod selected;
+mod selected_names;
+mod selected_versions;
 mod selection;
 mod stamp;
+mod ticket_criteria;
 mod tickets;
+mod young;
 
-pub use selected::{Selected, select};
 pub use finding_words::FindingWords;
 pub use findings::{CheckUp, check_up};
 pub use laws::each_name_keeps_an_entry;
+pub use selected::{Selected, select, selected_entries};
 pub use selection::{SelectedKvno, Selection};
 pub use tickets::{SelectedTickets, select_tickets};

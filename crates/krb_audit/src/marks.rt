@@ -28,15 +28,15 @@ pub struct Marks {
 }
 
 fn append_line_if<A: Allocator>(
-    is_told: bool,
+    is_reported: bool,
     word: &[u8],
     place: u32,
     entry: &EntryView<'_>,
     out: &mut Vec<u8, A>,
 ) -> Result<(), NoMemory>
-    ensures { OnOk result (out.new.items ≡ out.old.items ++ line_if is_told word.now (place, entry.now)) }
+    ensures { OnOk result (out.new.items ≡ out.old.items ++ line_if is_reported word.now (place, entry.now)) }
 {
-    if !is_told {
+    if !is_reported {
         return Ok(());
     }
     append_placed(word, place, entry, out)

@@ -87,6 +87,13 @@ impl<A: Allocator> NewestVersions<A> {
         Ok(names.versions)
     }
 
+    /// Returns the number of entries.
+    pub fn count(&self) -> usize
+        ensures { result ≡ length self.now.firsts.items }
+    {
+        self.firsts.len()
+    }
+
     /// Returns the number of the first entry that has the name of entry `number`, or `None` if there is no such entry.
     pub fn first(&self, number: usize) -> Option<usize>
         ensures { (xs : List PlacedEntry) → AreKept xs self.now.firsts.items self.now.stamps.items

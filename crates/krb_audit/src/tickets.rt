@@ -32,7 +32,7 @@ pub struct SelectedTickets<A: Allocator> {
     pub places: Vec<u32, A>,
     /// A line for each that reports its removal.
     pub text: Vec<u8, A>,
-    /// True if some ticket's server prints as the given one, or if none is given and there is a ticket.
+    /// True if some ticket's server prints as a given one, or if none is given and there is a ticket.
     pub is_named: bool,
 }
 
@@ -51,44 +51,44 @@ impl<A: Allocator> SelectedTickets<A> {
     // Adds the next credential if it is a selected ticket.
     fn consider<B: Allocator>(
         &mut self,
-        prepared: &mut TicketCriteria<B>,
+        criteria: &mut TicketCriteria<B>,
         place: u32,
         credential: &CredView<'_>,
     ) -> Result<(), NoMemory>
-        ensures kept { prepared.new ≡ prepared.old }
+        ensures kept { criteria.new ≡ criteria.old }
         ensures selects { (rest all : List PlacedCredential)
-            → SelectsSoFar prepared.old ((place, credential.now) ∷ rest) all self.old
-            → OnOk result (SelectsSoFar prepared.old rest all self.new) }
+            → SelectsSoFar criteria.old ((place, credential.now) ∷ rest) all self.old
+            → OnOk result (SelectsSoFar criteria.old rest all self.new) }
     {
-        if !prepared.names(credential)? {
+        if !criteria.names(credential)? {
             return Ok(());
         }
         self.is_named = true;
-        if !prepared.has_ended(credential) {
+        if !criteria.has_ended(credential) {
             return Ok(());
         }
         self.add(place, credential)
     }
 }
 
-/// Returns the tickets of a cache whose server prints as `server`, if it is given, and whose end time is at or before
-/// `ended_by`, if it is given. Takes one pass.
+/// Returns the tickets of a cache whose server prints as one of `servers`, if any are given, and whose end time is at
+/// or before `ended_by`, if it is given. Takes one pass.
 pub fn select_tickets<A: Allocator + Copy, B: Allocator>(
     alloc: A,
     cache: &Ccache<A>,
-    server: &Option<Principal<B>>,
+    servers: &[Principal<B>],
     ended_by: Option<u32>,
 ) -> Result<SelectedTickets<A>, NoMemory>
-    ensures { IfOk result (SelectsTickets server.now ended_by cache.now.state) }
+    ensures { IfOk result (SelectsTickets servers.now ended_by cache.now.state) }
 {
-    let mut prepared = TicketCriteria::of(alloc, server, ended_by)?;
+    let mut criteria = TicketCriteria::of(alloc, servers, ended_by)?;
     let mut selected = SelectedTickets {
         places: Vec::new(alloc),
         text: Vec::new(alloc),
         is_named: false,
     };
     'credentials: for (place, credential) in cache.credentials() {
-        selected.consider(&mut prepared, place, &credential)?;
+        selected.consider(&mut criteria, place, &credential)?;
     }
     Ok(selected)
 }

@@ -117,7 +117,7 @@ given_next all news first start image put c cs ds at to g wide room wrote len =
     let within = g.within in
     let not_in : (p : ℕ) → is_place_from first all p ≡ true → at ≤ p → p < at + c.width → p ≡ at = λ p h le lt. not_within at c cs p (sym (g.left p le) ∙ h) lt in
     let goes : new_place first all start news at ≡ to = g.same at (omega arith) ∙ goes_here at (c ∷ cs) to ds in
-    let new_told : take 4 (drop at put) ≡ digits Big w32 (new_place first all start news at) =
+    let new_encoded : take 4 (drop at put) ≡ digits Big w32 (new_place first all start news at) =
     ap (λ (b : List ℕ). take 4 (drop at b)) wrote ∙ put_here image at to (omega (arith, room, wide)) ∙ ap (digits Big w32) (sym goes) in
     record {
       within = omega (arith, room, len);
@@ -131,7 +131,7 @@ given_next all news first start image put c cs ds at to g wide room wrote len =
       ];
       encoded = λ p h lt. elim (cases_lt p at) [
         | inl less ↦ ap (λ (b : List ℕ). take 4 (drop p b)) wrote ∙ put_before image (digits Big w32 to) at p within (g.before p h less) ∙ g.encoded p h less
-        | inr ge ↦ subst (λ (q : ℕ). take 4 (drop q put) ≡ digits Big w32 (new_place first all start news q)) (sym (not_in p h ge lt)) new_told
+        | inr ge ↦ subst (λ (q : ℕ). take 4 (drop q put) ≡ digits Big w32 (new_place first all start news q)) (sym (not_in p h ge lt)) new_encoded
       ];
     }
 

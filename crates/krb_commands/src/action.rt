@@ -1,34 +1,41 @@
 //! The commands, and the actions of their command lines.
 
 ghost use Rattle.std.specs.Prelude.{◌≡◌, IfErr, IfOk, None, OnOk};
-ghost use Rattle.krb_commands.specs.Actions.{Asks, line_mistake};
+ghost use Rattle.krb_commands.specs.Actions.{Asks, AsksKlist, klist_mistake, line_mistake, needs_clock, wants_plain};
 ghost use Rattle.krb_driver.specs.Mistakes.{IsRefusal, Reads};
 
+use krb_audit::SelectedKvno;
 use krb_driver::{CommandName, CommandWords, Matches, WordFault, v1_order};
 use krb_editors::{
-    CCEDIT, CCREMOVE, KTEDIT, KTREMOVE, RemoveOptions, TicketOptions, remove_options,
-    ticket_options,
+    CCEDIT, CCREMOVE, CopyOptions, KTCOPY, KTEDIT, KTREMOVE, RemoveOptions, TicketOptions,
+    copy_options, remove_options, ticket_options,
 };
 use krb_ktutil::KTUTIL;
-use krb_readers::{FindOptions, KLIST, KTCHECK, KTFIND, KlistOptions, find_options, klist_options};
+use krb_readers::{
+    FindOptions, KLIST, KTCHECK, KTFIND, KlistOptions, TicketCheck, find_options, klist_options,
+    ticket_check,
+};
 use krb_wire::Order;
 use std::alloc::Global;
 
 /// The commands, in the order in which help lists them.
 pub const COMMANDS: &[CommandWords] = &[
-    KLIST, KTEDIT, KTFIND, KTREMOVE, KTCHECK, CCEDIT, CCREMOVE, KTUTIL,
+    KLIST, KTEDIT, KTFIND, KTREMOVE, KTCOPY, KTCHECK, CCEDIT, CCREMOVE, KTUTIL,
 ];
 
 /// What a command line says to do. Commands over a file carry its name.
 #[derive(Drop)]
 pub enum Action<'a> {
     Klist(KlistOptions, &'a str),
+    CheckTicket(TicketCheck, &'a str),
     Ktfind(FindOptions<Global>, &'a str),
     /// With the byte order of version 1 keytabs.
     Ktedit(Order, &'a str),
     /// With the byte order of version 1 keytabs.
     Ktcheck(Order, &'a str),
     Ktremove(RemoveOptions<Global>, &'a str),
+    /// From the first keytab into the second.
+    Ktcopy(CopyOptions<Global>, &'a str, &'a str),
     Ccedit(&'a str),
     Ccremove(TicketOptions<Global>, &'a str),
     /// With the byte order of version 1 keytabs.
@@ -38,13 +45,37 @@ pub enum Action<'a> {
 }
 
 impl Action<'_> {
-    /// Returns whether it needs the current time: for entries that ktutil adds, or for tickets that have expired.
-    pub fn needs_clock(&self) -> bool {
+    /// Returns whether it needs the current time: for entries that ktutil adds, entries that have been old for some
+    /// time, or tickets that have expired or will.
+    pub fn needs_clock(&self) -> bool
+        ensures { result ≡ needs_clock self.now }
+    {
         match self {
-            Action::Ktutil(_) => true,
+            Action::CheckTicket(..) | Action::Ktutil(_) => true,
+            Action::Ktremove(options, _) => {
+                matches!(options.selection.kvno, SelectedKvno::OldFor(_))
+            }
             Action::Ccremove(options, _) => options.expired,
             _ => false,
         }
+    }
+
+    /// Returns whether it is for plain files alone, so that any other is to be refused before it is opened.
+    pub fn wants_plain(&self) -> bool
+        ensures { result ≡ wants_plain self.now }
+    {
+        matches!(self, Action::CheckTicket(..))
+    }
+}
+
+// Returns the action for the words of klist: with `-s` a check, otherwise a listing.
+fn parsed_klist<'a, M: Matches<'a>>(matches: &M, file: &'a str) -> Result<Action<'a>, WordFault<'a>>
+    ensures { Reads (klist_mistake (M.matched matches.now)) (AsksKlist (M.matched matches.now) file.now) result }
+{
+    if matches.flag("silent") {
+        Ok(Action::CheckTicket(ticket_check(matches)?, file))
+    } else {
+        Ok(Action::Klist(klist_options(matches)?, file))
     }
 }
 
@@ -58,10 +89,15 @@ fn parsed<'a, M: Matches<'a>>(
 {
     let file = matches.operand("FILE");
     match command {
-        CommandName::Klist => Ok(Action::Klist(klist_options(matches)?, file)),
+        CommandName::Klist => parsed_klist(matches, file),
         CommandName::Ktedit => Ok(Action::Ktedit(v1_order(matches), file)),
         CommandName::Ktfind => Ok(Action::Ktfind(find_options(alloc, matches)?, file)),
         CommandName::Ktremove => Ok(Action::Ktremove(remove_options(alloc, matches)?, file)),
+        CommandName::Ktcopy => Ok(Action::Ktcopy(
+            copy_options(alloc, matches)?,
+            matches.operand("FROM"),
+            matches.operand("TO"),
+        )),
         CommandName::Ktcheck => Ok(Action::Ktcheck(v1_order(matches), file)),
         CommandName::Ccedit => Ok(Action::Ccedit(file)),
         CommandName::Ccremove => Ok(Action::Ccremove(ticket_options(alloc, matches)?, file)),

@@ -10,8 +10,12 @@ pub use krb_driver::{
     WordFault,
 };
 pub use krb_editors::{
-    RemoveOptions, TicketOptions, run_ccedit, run_ccremove, run_ktedit, run_ktremove,
+    CopyOptions, RemoveOptions, TicketOptions, run_ccedit, run_ccremove, run_ktcopy, run_ktedit,
+    run_ktremove,
 };
 pub use krb_ktutil::{Ktutil, LineEnd, file_word, run_ktutil};
-pub use krb_readers::{FindOptions, KlistOptions, ListKind, run_klist, run_ktcheck, run_ktfind};
+pub use krb_readers::{
+    FindOptions, KlistOptions, ListKind, TicketCheck, run_klist, run_ktcheck, run_ktfind,
+    run_ticket_check,
+};
 pub use response::respond;

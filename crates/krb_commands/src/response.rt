@@ -6,10 +6,10 @@ ghost use Rattle.krb_driver.specs.Runs.{EndsRun};
 
 use crate::action::Action;
 use krb_driver::{ErrorOutput, Streams, Verdict, WordFault, report, report_word_fault, show};
-use krb_editors::{run_ccedit, run_ccremove, run_ktedit, run_ktremove};
+use krb_editors::{run_ccedit, run_ccremove, run_ktcopy, run_ktedit, run_ktremove};
 use krb_files::{Files, Watched};
 use krb_ktutil::run_ktutil;
-use krb_readers::{run_klist, run_ktcheck, run_ktfind};
+use krb_readers::{run_klist, run_ktcheck, run_ktfind, run_ticket_check};
 use std::alloc::Allocator;
 use std::io::{Read, Write};
 
@@ -23,7 +23,8 @@ fn show_help<W: Write, E: Write>(text: &str, out: &mut Watched<W>, err: &mut Err
 }
 
 /// Runs an action, or reports why the command line was not read, and returns the exit status. ktutil adds entries
-/// with the time `now`, in seconds, or 0 if the clock was not read. A failure of `err` changes nothing else.
+/// with the time `now`, in seconds, or 0 if the clock was not read. A failure of `err` changes nothing else. A check of
+/// tickets prints and reports nothing.
 pub fn respond<A: Allocator + Copy, F: Files, R: Read, W: Write, E: Write>(
     alloc: A,
     parsed: &Result<Action<'_>, WordFault<'_>>,
@@ -37,13 +38,17 @@ pub fn respond<A: Allocator + Copy, F: Files, R: Read, W: Write, E: Write>(
 {
     match parsed {
         Ok(Action::Klist(options, file)) => { run_klist(alloc, options, file, files, streams) }
+        Ok(Action::CheckTicket(check, file)) => run_ticket_check(alloc, *check, now, file, files),
         Ok(Action::Ktfind(options, file)) => { run_ktfind(alloc, options, file, files, streams) }
         Ok(Action::Ktedit(v1_order, file)) => { run_ktedit(alloc, *v1_order, file, files, streams) }
         Ok(Action::Ktcheck(v1_order, file)) => {
             run_ktcheck(alloc, *v1_order, file, files, streams)
         }
         Ok(Action::Ktremove(options, file)) => {
-            run_ktremove(alloc, options, file, files, streams)
+            run_ktremove(alloc, options, now, file, files, streams)
+        }
+        Ok(Action::Ktcopy(options, from, to)) => {
+            run_ktcopy(alloc, options, from, to, files, streams)
         }
         Ok(Action::Ktutil(v1_order)) => {
             run_ktutil(alloc, *v1_order, now.unwrap_or(0), files, streams)

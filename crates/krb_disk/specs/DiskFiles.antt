@@ -1,5 +1,5 @@
 -- What a load and a save of a file on disk may return.
-use Rattle.std.specs.Prelude.{◌≡◌, ◌==◌, ℕ, ◌≤◌, ◌%◌, bit_and, if◌then◌else◌, Bool, false, List, ◌∷◌, length, Option, None, Some, IsSome, Result, Ok, Err}
+use Rattle.std.specs.Prelude.{◌≡◌, ◌==◌, ℕ, ◌≤◌, ◌%◌, bit_and, if◌then◌else◌, Bool, false, List, ◌∷◌, length, Option, None, Some, IsSome, IsTrue, Result, Ok, Err}
 use Rattle.krb_files.specs.declared.cause.Cause.{Cause}
 use Rattle.krb_files.specs.declared.files.LoadFault.{LoadFault}
 use Rattle.krb_files.specs.declared.files.LoadFault.TheVariants as load
@@ -12,13 +12,14 @@ use Rattle.krb_disk.specs.declared.fault.ReadFault.{ReadFault}
 use Rattle.krb_disk.specs.declared.fault.ReadFault.TheVariants as read
 use Rattle.krb_disk.specs.declared.looks.Found.{Found}
 
--- what contracts see of the files on a disk: how many calls failed, the cause of the last failure, the names and bytes of the saves that made all their calls, the last first, the permission bits of the file loaded last, and whether one is held
+-- what contracts see of the files on a disk: how many calls failed, the cause of the last failure, the names and bytes of the saves that made all their calls, the last first, the permission bits of the file loaded last, whether one is held, and whether only plain files are loaded
 pub record Disk : Type 0 where
   pub failures : ℕ
   pub cause : Option Cause
   pub saved : List (List ℕ × List ℕ)
   pub mode : Option ℕ
   pub is_held : Bool
+  pub only_plain : Bool
 
 -- no file is held any more
 abbrev pub left : Disk → Disk
@@ -34,6 +35,7 @@ pub record Fails (old new : Disk) : Type 0 where
   pub has_cause : IsSome new.cause
   pub unsaved : new.saved ≡ old.saved
   pub held : new.is_held ≡ old.is_held
+  pub plain : new.only_plain ≡ old.only_plain
 
 -- a load that returns no bytes counts the failed call, if there was one, and changes nothing else
 abbrev pub CountsLoad : Disk → ReadFault → Disk → Type 0
@@ -45,9 +47,9 @@ abbrev pub CountsSave : Disk → DiskFault → Disk → Type 0
 CountsSave old (disk.Failed cause) new = Fails old new × (new.mode ≡ old.mode) × (old.failures ≤ new.failures)
 CountsSave old disk.NoMemory new = new ≡ old
 
--- a load from a disk returns at most `limit` bytes; if it returns none, no mode is known; if it does not fail, nothing but the mode changes
+-- a load from a disk returns at most `limit` bytes, of a plain file if only those are loaded; if it returns none, no mode is known; if it does not fail, nothing but the mode changes
 abbrev pub AnswersFromDisk : Disk → Disk → ℕ → Result (List ℕ) LoadFault → Type 0
-AnswersFromDisk old new limit (Ok bytes) = (length bytes ≤ limit) × (new ≡ record old { mode = new.mode })
+AnswersFromDisk old new limit (Ok bytes) = (length bytes ≤ limit) × (new ≡ record old { mode = new.mode }) × (IsTrue old.only_plain → IsSome new.mode)
 AnswersFromDisk old new limit (Err load.Failed) = Fails old new × (new.mode ≡ None)
 AnswersFromDisk old new limit (Err fault) = new ≡ record old { mode = None }
 

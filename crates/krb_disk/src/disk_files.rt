@@ -1,26 +1,29 @@
 //! Files on a disk, by name.
 
-ghost use Rattle.std.specs.Prelude.{◌≡◌, ◌≤◌, ◌<◌, true, false, [], ◌∷◌, None, is_some, OnOk, OnErr, IsSome};
+ghost use Rattle.std.specs.Prelude.{◌≡◌, ◌≤◌, ◌<◌, true, false, [], ◌∷◌, None, is_some, IfOk, OnOk, OnErr, IsSome, IsTrue, vec_len};
 ghost use Rattle.krb_disk.specs.DiskFiles.{Disk, Fails, CountsLoad, CountsSave, AnswersFromDisk, SavesToDisk, left};
 ghost use Rattle.krb_disk.specs.Faults.{load_fault, save_fault};
+ghost use Rattle.krb_disk.specs.Looks.{IsPlain};
 
 use crate::calls::Calls;
 use crate::fault::{DiskFault, ReadFault};
 use crate::held::Held;
 use crate::hold::Hold;
 use crate::lock::TakeLock;
+use crate::looks::Found;
 use crate::number::Numbered;
 use crate::owner::SetOwner;
-use crate::read::read_file;
+use crate::read::{read_file, read_plain};
 use krb_files::{Cause, Files, LoadFault, SaveFault};
 use std::alloc::Allocator;
 use std::marker::Model;
 use std::rt;
 
 /// The files on a disk. Contracts assume nothing of their contents; they see how many calls failed, the cause of the
-/// last failure, which saves made all their calls, the mode of the file loaded last, and whether one is held. A load
-/// reads the whole file. A save writes a new file and renames it over the old one: whatever fails, the file is the
-/// old or the new one. A held file is saved only if it is as it was when it was held or, later, loaded.
+/// last failure, which saves made all their calls, the mode of the file loaded last, whether one is held, and whether
+/// only plain files are loaded. A load reads the whole file. A save writes a new file and renames it over the old one:
+/// whatever fails, the file is the old or the new one. A held file is saved only if it is as it was when it was held
+/// or, later, loaded.
 #[derive(Drop)]
 pub struct DiskFiles<'a, R: rt::Files + Alloc> {
     calls: Calls<'a, R>,
@@ -29,6 +32,7 @@ pub struct DiskFiles<'a, R: rt::Files + Alloc> {
     /// The permission bits of the file loaded last, if it is a plain file.
     mode: Option<u32>,
     held: Option<Held<R>>,
+    only_plain: bool,
 }
 
 impl<'a, R: rt::Files + Alloc> Model for DiskFiles<'a, R> {
@@ -40,6 +44,7 @@ impl<'a, R: rt::Files + Alloc> Model for DiskFiles<'a, R> {
       saved = files.calls.saved.entries;
       mode = files.mode;
       is_held = is_some files.held;
+      only_plain = files.only_plain;
     } };
 
     // A counted failure has a cause.
@@ -49,7 +54,7 @@ impl<'a, R: rt::Files + Alloc> Model for DiskFiles<'a, R> {
 impl<'a, R: rt::Files + Alloc> DiskFiles<'a, R> {
     /// Returns the files that `rt` reaches, with no failed call yet.
     pub fn new(rt: &'a R) -> DiskFiles<'a, R>
-        ensures { result ≡ record { failures = 0; cause = None; saved = []; mode = None; is_held = false } }
+        ensures { result ≡ record { failures = 0; cause = None; saved = []; mode = None; is_held = false; only_plain = false } }
     {
         DiskFiles {
             calls: Calls::new(rt),
@@ -57,7 +62,16 @@ impl<'a, R: rt::Files + Alloc> DiskFiles<'a, R> {
             cause: None,
             mode: None,
             held: None,
+            only_plain: false,
         }
+    }
+
+    /// From now on loads refuse what is not a plain file, links followed, before they open it: to open a pipe may
+    /// block.
+    pub fn only_plain(&mut self)
+        ensures { self.new ≡ record self.old { only_plain = true } }
+    {
+        self.only_plain = true;
     }
 
     // Counts a failure, up to the greatest u64, and notes its cause.
@@ -96,6 +110,26 @@ where
             self.count_failure(cause);
         }
         fault.save_fault()
+    }
+
+    // Reads a file: through the hold, if one is held, unless only plain files are loaded.
+    fn read<A: Allocator>(
+        &mut self,
+        alloc: A,
+        name: &str,
+        limit: u32,
+    ) -> Result<(Found, Vec<u8, A>), ReadFault>
+        ensures within { IfOk result (λ read. vec_len read.1 ≤ limit) }
+        ensures plain { IsTrue self.old.only_plain → IfOk result (λ read. IsPlain read.0) }
+        ensures same { self.new ≡ self.old }
+    {
+        if self.only_plain {
+            return read_plain(self.calls.looks(), alloc, name, limit);
+        }
+        match &mut self.held {
+            Some(held) => held.load(&self.calls, alloc, name, limit),
+            None => read_file(self.calls.looks(), alloc, name, limit, 0),
+        }
     }
 
     fn save_held(&mut self, name: &str, bytes: &[u8]) -> Result<(), DiskFault>
@@ -154,11 +188,7 @@ where
         if self.failures == u64::MAX {
             return Err(LoadFault::Failed);
         }
-        let loaded = match &mut self.held {
-            Some(held) => held.load(&self.calls, alloc, name, limit),
-            None => read_file(self.calls.looks(), alloc, name, limit, 0),
-        };
-        match loaded {
+        match self.read(alloc, name, limit) {
             Ok((found, bytes)) => {
                 self.mode = found.permissions();
                 Ok(bytes)

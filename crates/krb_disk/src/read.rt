@@ -1,13 +1,14 @@
 //! Reads and compares files.
 
 ghost use Rattle.std.specs.Prelude.{◌≡◌, ◌≤◌, ◌++◌, IfOk, IfSome, IsTrue, vec_len};
+ghost use Rattle.krb_disk.specs.Looks.{IsPlain};
 
 use crate::fault::{DiskFault, ReadFault};
 use crate::looks::{Found, Looks};
 use crate::noted::Noted;
-use krb_files::{LoadFault, WatchedReader, load};
+use krb_files::{Cause, LoadFault, WatchedReader, load};
 use std::alloc::Allocator;
-use std::io::{self, Read};
+use std::io::{self, ErrorKind, Read};
 use std::rt;
 
 /// How many bytes are compared at once.
@@ -36,6 +37,35 @@ pub fn read_file<R: rt::Files, A: Allocator>(
             Err(ReadFault::from(file.into_reader().error()))
         }
     }
+}
+
+// Returns whether `path` leads to a plain file, links followed.
+fn is_plain<R: rt::Files>(looks: &Looks<'_, R>, path: &str) -> Result<bool, ReadFault> {
+    match looks.come_to(path) {
+        Ok(found) => Ok(found.is_file()),
+        Err(error) if error.kind() == ErrorKind::NotFound => Err(ReadFault::Missing),
+        Err(error) => Err(ReadFault::from(error)),
+    }
+}
+
+/// Like `read_file`, but refuses what is not a plain file. It is looked at before it is opened, since to open a pipe
+/// may block, and again afterwards.
+pub fn read_plain<R: rt::Files, A: Allocator>(
+    looks: &Looks<'_, R>,
+    alloc: A,
+    path: &str,
+    limit: u32,
+) -> Result<(Found, Vec<u8, A>), ReadFault>
+    ensures within { IfOk result (λ read. vec_len read.1 ≤ limit) }
+    ensures plain { IfOk result (λ read. IsPlain read.0) }
+{
+    if is_plain(looks, path)? {
+        let (found, bytes) = read_file(looks, alloc, path, limit, 0)?;
+        if found.is_file() {
+            return Ok((found, bytes));
+        }
+    }
+    Err(ReadFault::Disk(DiskFault::Failed(Cause::NotAPlainFile)))
 }
 
 // Returns what follows the prefix `front` in `bytes`, or `None` if `bytes` does not begin with it.

@@ -1,5 +1,6 @@
 -- What a command line matched, and what the words that commands share mean.
-use Rattle.std.specs.Prelude.{◌≡◌, List, ℕ, Bool, if◌then◌else◌, codes, Option, None, Some, Result, Ok, Err}
+use Rattle.std.specs.Prelude.{◌≡◌, List, ℕ, Bool, if◌then◌else◌, codes, is_none, map, option_and_then, slice_get, Option, None, Some, Result, Ok, Err}
+use Rattle.std.specs.List.{filter_map}
 use Rattle.krb_wire.specs.declared.format.Order.{Order}
 use Rattle.krb_wire.specs.declared.format.Order.TheVariants.{Big, Little}
 use Rattle.krb_wire.specs.declared.name_fault.NameFault.{NameFault}
@@ -7,7 +8,8 @@ use Rattle.krb_wire.specs.declared.principal.Principal.{Principal}
 use Rattle.krb_wire.specs.NameOf.{name_of}
 use Rattle.krb_wire.specs.Reading.{principal_parts}
 use Rattle.krb_wire.specs.Spelling.{Parts}
-use Rattle.krb_driver.specs.Mistakes.{MistakeParts, BadName}
+use Rattle.krb_text.specs.Numbers.{number_in}
+use Rattle.krb_driver.specs.Mistakes.{MistakeParts, BadName, NoSeconds}
 
 -- the flags, operands and option values of a command line, by the names of its command's words
 pub record Matched : Type 0 where
@@ -27,8 +29,19 @@ bad_parse word (Err fault) = Some (BadName word fault)
 abbrev pub bad_name : List ℕ → Option MistakeParts
 bad_name word = bad_parse word (name_of word None)
 
--- the name is the one that the word spells, or there is neither
-abbrev pub IsSpelledName : {A : Type 0} → Option (List ℕ) → Option (Principal A) → Type 0
-IsSpelledName None None = Unit {0}
-IsSpelledName (Some word) (Some name) = name_of word None ≡ Ok (principal_parts name)
-IsSpelledName word name = ⊥
+-- the mistake in the first of some words that is not a principal name
+abbrev pub bad_names : List (List ℕ) → Option MistakeParts
+bad_names words = slice_get (filter_map bad_name words) 0
+
+-- the names are those that the words spell
+abbrev pub AreSpelledNames : {A : Type 0} → List (List ℕ) → List (Principal A) → Type 0
+AreSpelledNames words names = map (λ word. name_of word None) words ≡ map (λ name. Ok (principal_parts name)) names
+
+-- the mistake in the first of some words that is not a number of seconds
+abbrev pub bad_seconds : Option (List ℕ) → Option MistakeParts
+bad_seconds None = None
+bad_seconds (Some word) = if is_none (number_in 32 word) then Some (NoSeconds word) else None
+
+-- the number of seconds is the one that the word spells, or there is neither
+abbrev pub AreSpelledSeconds : Option (List ℕ) → Option ℕ → Type 0
+AreSpelledSeconds word seconds = option_and_then (number_in 32) word ≡ seconds

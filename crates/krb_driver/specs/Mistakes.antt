@@ -31,8 +31,10 @@ pub data MistakeParts : Type 0 where
   Twice : List ℕ → MistakeParts
   DoNotGoTogether : List ℕ → List ℕ → MistakeParts
   ForKeytabs : List ℕ → MistakeParts
+  OnlyWith : List ℕ → List ℕ → MistakeParts
   NoVersion : List ℕ → MistakeParts
   NoEtype : List ℕ → MistakeParts
+  NoSeconds : List ℕ → MistakeParts
   BadName : List ℕ → NameFault → MistakeParts
   NothingSelects : List ℕ → MistakeParts
   LateExplain : MistakeParts
@@ -49,8 +51,10 @@ mistake_parts (mistake.NeedsValue option) = NeedsValue option.now
 mistake_parts (mistake.Twice option) = Twice option.now
 mistake_parts (mistake.DoNotGoTogether option other) = DoNotGoTogether option.now other.now
 mistake_parts (mistake.ForKeytabs option) = ForKeytabs option.now
+mistake_parts (mistake.OnlyWith option other) = OnlyWith option.now other.now
 mistake_parts (mistake.NoVersion word) = NoVersion word.now
 mistake_parts (mistake.NoEtype word) = NoEtype word.now
+mistake_parts (mistake.NoSeconds word) = NoSeconds word.now
 mistake_parts (mistake.BadName word fault) = BadName word.now fault
 mistake_parts (mistake.NothingSelects options) = NothingSelects options.now
 mistake_parts mistake.LateExplain = LateExplain
@@ -68,8 +72,10 @@ mistake_line (NeedsValue option) rest = shown_word option ++ (codes " needs a va
 mistake_line (Twice option) rest = shown_word option ++ (codes " is given twice" ++ rest)
 mistake_line (DoNotGoTogether option other) rest = shown_word option ++ (codes " does not go with " ++ (shown_word other ++ rest))
 mistake_line (ForKeytabs option) rest = shown_word option ++ (codes " is for keytabs; give -k" ++ rest)
+mistake_line (OnlyWith option other) rest = shown_word option ++ (codes " goes with " ++ (shown_word other ++ (codes " alone" ++ rest)))
 mistake_line (NoVersion word) rest = quoted word (codes "\" is no ") (codes "version" ++ rest)
 mistake_line (NoEtype word) rest = quoted word (codes "\" is no ") (codes "encryption type" ++ rest)
+mistake_line (NoSeconds word) rest = quoted word (codes "\" is no ") (codes "number of seconds" ++ rest)
 mistake_line (BadName word fault) rest = quoted word (codes "\" has ") (name_fault_phrase fault ++ rest)
 mistake_line (NothingSelects options) rest = codes "nothing selects; give " ++ (shown_word options ++ rest)
 mistake_line LateExplain rest = codes "--explain stands before the command" ++ rest

@@ -46,6 +46,10 @@ cache_refusal k = if is_read_only k.version then Some ReadOnly else (if is_some 
 unfoldable pub whole_in : Order → Answer → Result KeytabState RunError
 whole_in order answer = unless_refused Refused keytab_refusal (keytab_in order answer)
 
+-- the same, but a missing file gives an empty keytab
+unfoldable pub whole_or_empty : Order → Answer → Result KeytabState RunError
+whole_or_empty order answer = unless_refused Refused keytab_refusal (keytab_or_empty order answer)
+
 -- the cache of a file to change, which is not of version 3 and not damaged
 unfoldable pub writable_in : Answer → Result CacheState RunError
 writable_in answer = unless_refused Refused cache_refusal (cache_of answer)

@@ -1,5 +1,6 @@
 -- The errors that end a run: where they come from, their messages, and the exit status.
 use Rattle.std.specs.Prelude.{ℕ, List, [], Result, Ok, Err, codes}
+use Rattle.krb_walk.specs.declared.refusal.Code.TheVariants.{NotFound}
 use Rattle.krb_walk.specs.Numbers.{code_number}
 use Rattle.krb_keytab.specs.Open.{open_fault_number}
 use Rattle.krb_ccache.specs.Open.{open_fault_number as cache_fault_number}
@@ -76,6 +77,7 @@ error_message file (error.NotAKeytab why) = file_number_message file (codes "not
 error_message file (error.NotAKeytabToList why) = file_number_message file (codes "not a keytab (") (open_fault_number why.fault) (codes ")")
 error_message file (error.NotACache why) = file_number_message file (codes "not a cache (") (cache_fault_number why.fault) (codes ")")
 error_message file (error.Refused code) = file_number_message file (codes "refused ") (code_number code) []
+error_message file error.NothingToCopy = file_number_message file (codes "refused ") (code_number NotFound) []
 error_message file error.OutputNotWritten = message (codes "cannot write output")
 error_message file error.ClockNotRead = message (codes "cannot read the clock")
 error_message file error.NoMemory = message (codes "out of memory")

@@ -25,7 +25,7 @@ use Rattle.krb_driver.specs.declared.verdict.FileKind.{FileKind}
 use Rattle.krb_driver.specs.declared.verdict.FileKind.TheVariants.{Keytab, Cache}
 use Rattle.krb_driver.specs.declared.verdict.Findings.{Findings}
 use Rattle.krb_driver.specs.declared.verdict.Verdict.{Verdict}
-use Rattle.krb_driver.specs.declared.verdict.Verdict.TheVariants.{Well, Listed, Replied, Found, NothingToRemove}
+use Rattle.krb_driver.specs.declared.verdict.Verdict.TheVariants.{Well, Listed, Replied, Found, NothingToRemove, Clashed}
 use Rattle.krb_driver.specs.Messages.{words_line, phrase_line}
 use Rattle.krb_driver.specs.RunErrors.{Ending, ending_message}
 
@@ -147,6 +147,7 @@ error_words file line cause (error.NotAKeytab why) = phrase_line line (no_keytab
 error_words file line cause (error.NotAKeytabToList why) = phrase_line line (list_phrase why.fault why.is_cache)
 error_words file line cause (error.NotACache why) = phrase_line line (no_cache_phrase why.fault why.is_keytab)
 error_words file line cause (error.Refused code) = phrase_line line (keytab_phrase code)
+error_words file line cause error.NothingToCopy = phrase_line line (nothing_phrase Keytab)
 error_words file line cause error.OutputNotWritten = cause_words file line cause
 error_words file line cause error.ClockNotRead = phrase_line line (codes "the clock is before 1970 or after 2106, or failed")
 error_words file line cause error.NoMemory = []
@@ -155,6 +156,7 @@ error_words file line cause error.NoMemory = []
 abbrev pub verdict_words : List ℕ → Option ℕ → Verdict → List ℕ
 verdict_words file line Well = []
 verdict_words file line (NothingToRemove kind) = phrase_line line (nothing_phrase kind)
+verdict_words file line Clashed = phrase_line line (codes "clash: TO has another key for this name, version and type")
 verdict_words file line (Listed fault) = listed_words file fault
 verdict_words file line (Found findings) = found_words file findings
 verdict_words file line (Replied reported) = reported_words reported.kind reported.codes reported.faults

@@ -28,6 +28,8 @@ pub enum RunError {
     NotACache(NotCache),
     /// The file refused what the run was to do.
     Refused(Code),
+    /// No entry of the file is selected, so there is nothing to copy.
+    NothingToCopy,
     OutputNotWritten,
     /// The clock failed, or is before 1970 or after 2106.
     ClockNotRead,

@@ -12,14 +12,15 @@ mod verdict;
 
 pub use command::{Command, FileError, Made, Output, Show, hold_if, run};
 pub use command_line::matches::{
-    Matches, selected_name, first_value, spelled_name, times_given, v1_order,
+    Matches, first_value, spelled_name, spelled_names, spelled_seconds, times_given, v1_order,
 };
 pub use command_line::mistake::{BadLine, Mistake, WordFault};
 pub use command_line::words::{CommandName, CommandWords, DRY_RUN, V1_BIG, Word};
 pub use error::RunError;
 pub use loading::{NoKeytab, NotKeytab, load_keytab, load_or_new};
 pub use opening::{
-    give_cache, give_or_empty, open_cache, open_keytab, open_listed, open_whole, open_writable,
+    give_cache, give_or_empty, open_cache, open_keytab, open_listed, open_whole, open_whole_or_empty,
+    open_writable,
 };
 pub use reporting::error_output::ErrorOutput;
 pub use reporting::reported::replied_verdict;

@@ -4,7 +4,7 @@ ghost use Rattle.std.specs.Prelude.{◌≡◌, is_some};
 ghost use Rattle.krb_driver.specs.declared.error.RunError.TheVariants.{Refused};
 ghost use Rattle.krb_driver.specs.Commands.{GivesOf, Opens, opened};
 ghost use Rattle.krb_driver.specs.Loading.{cache_of};
-ghost use Rattle.krb_driver.specs.Opening.{cache_refusal, keytab_in, keytab_or_empty, keytab_refusal, listed_in, unless_refused, whole_in, writable_in};
+ghost use Rattle.krb_driver.specs.Opening.{cache_refusal, keytab_in, keytab_or_empty, keytab_refusal, listed_in, unless_refused, whole_in, whole_or_empty, writable_in};
 
 use crate::command::FileError;
 use crate::error::RunError;
@@ -146,6 +146,20 @@ pub fn open_whole<'a, A: Allocator, F: Files>(
     ensures { Opens F.Files files.old file.now (whole_in v1_order) (opened (λ k. k.state) result) files.new }
 {
     let given = give_keytab(alloc, v1_order, files, file);
+    whole(file, given)
+}
+
+/// Opens the keytab of a file to change it, or returns an empty one of version 2 if the file is missing. Refuses a
+/// damaged one.
+pub fn open_whole_or_empty<'a, A: Allocator + Copy, F: Files>(
+    alloc: A,
+    v1_order: Order,
+    files: &mut F,
+    file: &'a str,
+) -> Result<Keytab<A>, FileError<'a>>
+    ensures { Opens F.Files files.old file.now (whole_or_empty v1_order) (opened (λ k. k.state) result) files.new }
+{
+    let given = give_or_empty(alloc, v1_order, files, file);
     whole(file, given)
 }
 

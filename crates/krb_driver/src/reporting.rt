@@ -136,6 +136,9 @@ fn error_message(error: RunError, file: &[u8]) -> Message<'_>
             file_number_message(file, "not a cache (", why.fault.number(), ")")
         }
         RunError::Refused(code) => file_number_message(file, "refused ", code.number(), ""),
+        RunError::NothingToCopy => {
+            file_number_message(file, "refused ", Code::NotFound.number(), "")
+        }
         RunError::OutputNotWritten => message("cannot write output"),
         RunError::ClockNotRead => message("cannot read the clock"),
         RunError::NoMemory => message("out of memory"),

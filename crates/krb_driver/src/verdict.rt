@@ -33,6 +33,8 @@ pub enum Verdict {
     Found(Findings),
     /// No entry, or no ticket, is selected.
     NothingToRemove(FileKind),
+    /// An entry to copy has the name, kvno and enctype of one that is there, with another key.
+    Clashed,
 }
 
 impl Verdict {

@@ -1,2 +1,3 @@
 pub mod SessionReplies
 pub mod CacheEdits
+pub mod Copies

@@ -1,5 +1,5 @@
 -- What ccremove does.
-use Rattle.std.specs.Prelude.{◌≡◌, ℕ, Bool, not, List, [], ◌&&◌, ◌||◌, ◌==◌, nat_lt, map, length, slice_get, codes, is_none, if◌then◌else◌, Option, None, Some, option_and_then, Result, Ok, Err}
+use Rattle.std.specs.Prelude.{◌≡◌, ℕ, Bool, not, List, [], ◌&&◌, ◌||◌, ◌==◌, nat_lt, map, length, codes, if◌then◌else◌, Option, None, Some, Result, Ok, Err}
 use Rattle.std.specs.List.{flat_map, list_any}
 use Rattle.std.specs.Option.{option_or}
 use Rattle.krb_walk.specs.Events.{cut_store}
@@ -19,7 +19,7 @@ use Rattle.krb_driver.specs.declared.verdict.Verdict.TheVariants.{Well, NothingT
 use Rattle.krb_driver.specs.Commands.{RunsCommand, any}
 use Rattle.krb_driver.specs.Effects.{CommandPlan, Effect, Displays, opens, saves_unless, text}
 use Rattle.krb_driver.specs.ErrorOutput.{ErrorWatch}
-use Rattle.krb_driver.specs.Matches.{IsSpelledName, Matched, bad_name}
+use Rattle.krb_driver.specs.Matches.{AreSpelledNames, Matched, bad_names}
 use Rattle.krb_driver.specs.Mistakes.{MistakeParts, NothingSelects, Twice}
 use Rattle.krb_driver.specs.Opening.{writable_in}
 use Rattle.krb_editors.specs.Scripted.{EndsBefore}
@@ -38,7 +38,7 @@ cache_after k places = cut_store (without k places) (rewrite_result (without k p
 
 -- the verdict if no ticket is selected: no failure with `--expired`, if no server is given or it has tickets
 abbrev pub none_verdict : {A : Type 0} → TicketOptions A → Bool → Verdict
-none_verdict o named = if o.expired && (is_none o.server || named) then Well else NothingToRemove Cache
+none_verdict o named = if o.expired && ((length o.servers.items == 0) || named) then Well else NothingToRemove Cache
 
 -- the places of tickets
 abbrev pub places : List PlacedCredential → List ℕ
@@ -48,12 +48,12 @@ module _ {A : Type 0} (o : TicketOptions A) (file : List ℕ) where
   -- the tickets are removed, if there are any, and a line is printed for each
   abbrev pub removes : CacheState → List PlacedCredential → Effect
   removes k xs =
-      if length (places xs) == 0 then Displays file (text [] (none_verdict o (list_any (λ x. names_ticket o.server x.1) (placed_credentials k))))
+      if length (places xs) == 0 then Displays file (text [] (none_verdict o (list_any (λ x. names_ticket o.servers.items x.1) (placed_credentials k))))
       else saves_unless o.dry_run file (image_of (cache_after k (places xs))) (flat_map removed_ticket_line xs) Well
 
   -- the file is held, unless it is a dry run, and opened; the selected tickets of its cache are removed
   abbrev pub ccremove_plan : Option ℕ → CommandPlan
-  ccremove_plan ended = Holds (not o.dry_run) file (opens file writable_in (λ k. Ends (removes k (selected_tickets o.server ended k))))
+  ccremove_plan ended = Holds (not o.dry_run) file (opens file writable_in (λ k. Ends (removes k (selected_tickets o.servers.items ended k))))
 
 module _ {F A : Type 0} (trait : Ghosts F) (file : List ℕ) (o : TicketOptions A) (old new : F) (out out' : Watch) (err err' : ErrorWatch) (status : ℕ) where
   -- a run of ccremove, or the error if the clock was needed and not read
@@ -72,10 +72,10 @@ odd_tickets words =
 
 -- the first mistake of the words
 abbrev pub ticket_mistake : Matched → Option MistakeParts
-ticket_mistake words = option_or (odd_tickets words) (option_and_then bad_name (slice_get (words.values (codes "service")) 0))
+ticket_mistake words = option_or (odd_tickets words) (bad_names (words.values (codes "service")))
 
 -- each option is what its own word spells
 pub record SpellsTickets {A : Type 0} (words : Matched) (options : TicketOptions A) : Type 0 where
-  pub server : IsSpelledName (slice_get (words.values (codes "service")) 0) options.server
+  pub servers : AreSpelledNames (words.values (codes "service")) options.servers.items
   pub expired : options.expired ≡ words.flag (codes "expired")
   pub dry_run : options.dry_run ≡ words.flag (codes "dry-run")

@@ -2,6 +2,8 @@
 pub mod Sessions
 pub mod Scripted
 pub mod Ktedit
+pub mod Selecting
 pub mod Ktremove
+pub mod Ktcopy
 pub mod Ccedit
 pub mod Ccremove

@@ -2,18 +2,18 @@
 
 ghost use Rattle.std.specs.Prelude.{◌≡◌, IfOk, IsFalse, option_map};
 ghost use Rattle.krb_ccache.specs.Store.{image_of};
-ghost use Rattle.krb_audit.specs.Tickets.{selected_tickets};
+ghost use Rattle.krb_audit.specs.Tickets.{SelectsTickets, selected_tickets};
 ghost use Rattle.krb_editors.specs.Ccremove.{RunsCcremove, SpellsTickets, cache_after, ended_by, none_verdict, odd_tickets, removes, ticket_mistake};
 ghost use Rattle.krb_driver.specs.Commands.{text_effect};
 ghost use Rattle.krb_driver.specs.Effects.{IsMade};
 ghost use Rattle.krb_driver.specs.Mistakes.{Reads, mistake_parts};
 
-use krb_audit::select_tickets;
+use krb_audit::{SelectedTickets, select_tickets};
 use krb_ccache::Ccache;
 use krb_driver::{
     Command, CommandName, CommandWords, DRY_RUN, FileError, FileKind, Made, Matches, Mistake,
-    Output, RunError, Streams, Verdict, Word, WordFault, selected_name, first_value, hold_if,
-    open_writable, report, run, times_given,
+    Output, RunError, Streams, Verdict, Word, WordFault, hold_if, open_writable, report,
+    run, spelled_names, times_given,
 };
 use krb_files::Files;
 use krb_walk::Refusal;
@@ -44,8 +44,8 @@ pub const CCREMOVE: CommandWords = CommandWords {
 /// Which tickets ccremove removes: those that meet every condition given.
 #[derive(Drop)]
 pub struct TicketOptions<A: Allocator> {
-    /// Only those for this server, compared as it is printed.
-    pub server: Option<Principal<A>>,
+    /// Only those for one of these servers, compared as they are printed, if there are any.
+    pub servers: Vec<Principal<A>, A>,
     /// Only those that have ended.
     pub expired: bool,
     /// Print what would be removed, and save nothing.
@@ -77,7 +77,7 @@ pub fn ticket_options<'a, M: Matches<'a>>(
         return Err(WordFault::of(mistake));
     }
     Ok(TicketOptions {
-        server: selected_name(alloc, first_value(matches, "service"))?,
+        servers: spelled_names(alloc, matches.values("service"))?,
         expired: matches.flag("expired"),
         dry_run: matches.flag("dry-run"),
     })
@@ -121,11 +121,22 @@ fn cut<A: Allocator + Copy>(mut cache: Ccache<A>, places: &[u32]) -> Result<Vec<
 fn none_verdict<B: Allocator>(options: &TicketOptions<B>, is_named: bool) -> Verdict
     ensures { result ≡ none_verdict options.now is_named }
 {
-    if options.expired && (options.server.is_none() || is_named) {
+    if options.expired && (options.servers.is_empty() || is_named) {
         Verdict::Well
     } else {
         Verdict::NothingToRemove(FileKind::Cache)
     }
+}
+
+// Returns the selected tickets of a cache.
+fn select<A: Allocator + Copy, B: Allocator>(
+    alloc: A,
+    command: &RemoveTickets<'_, B>,
+    cache: &Ccache<A>,
+) -> Result<SelectedTickets<A>, NoMemory>
+    ensures { IfOk result (SelectsTickets command.now.options.now.servers.items command.now.ended_by cache.now.state) }
+{
+    select_tickets(alloc, cache, &command.options.servers, command.ended_by)
 }
 
 // Removes the selected tickets from a cache, or only lists them in a dry run.
@@ -135,11 +146,11 @@ fn remove<'a, A: Allocator + Copy, B: Allocator>(
     cache: Ccache<A>,
 ) -> Result<Made<A, Output<A>>, FileError<'a>>
     ensures { IsMade (removes command.now.options.now command.now.file.now cache.state
-        (selected_tickets command.now.options.now.server command.now.ended_by cache.state))
+        (selected_tickets command.now.options.now.servers.items command.now.ended_by cache.state))
         (text_effect command.now.file.now result) }
 {
     let options = command.options;
-    let selected = select_tickets(alloc, &cache, &options.server, command.ended_by)?;
+    let selected = select(alloc, command, &cache)?;
     if selected.places.is_empty() {
         return Ok(Made::Shows(Output {
             text: Vec::new(alloc),

@@ -1,24 +1,22 @@
 //! ktremove: removes entries from a keytab.
 
-ghost use Rattle.std.specs.Prelude.{◌≡◌, IfErr, IfOk, IsFalse, None, OnOk, Some, codes, find, is_none, map, option_map};
-ghost use Rattle.std.specs.List.{filter_map};
-ghost use Rattle.krb_text.specs.Etype.{etype_in};
+ghost use Rattle.std.specs.Prelude.{◌≡◌, IfErr, IfOk, IsFalse, None, OnOk, Some, option_map};
 ghost use Rattle.krb_audit.specs.Selection.{selected_in};
-ghost use Rattle.krb_driver.specs.Commands.{RunsCommand, always, any, text_effect};
+ghost use Rattle.krb_driver.specs.Commands.{text_effect};
 ghost use Rattle.krb_driver.specs.Effects.{IsMade};
-ghost use Rattle.krb_editors.specs.Ktremove.{IsSpelledKvno, SpellsRemoval, bad_etype, bad_kvno, ktremove_plan, kvno_in, none_verdict, odd_selection, remove_mistake, removes};
+ghost use Rattle.krb_editors.specs.Ktremove.{RunsKtremove, SpellsKvno, SpellsRemoval, kvno_mistake, needed_time, none_verdict, odd_selection, remove_mistake, removes, with_age};
 ghost use Rattle.krb_driver.specs.Mistakes.{Reads, mistake_parts};
 
+use crate::selecting::{bad_etype, etypes_of, kvno_by_word};
 use krb_audit::{SelectedKvno, Selection, select};
 use krb_driver::{
     Command, CommandName, CommandWords, DRY_RUN, FileError, FileKind, Made, Matches, Mistake,
-    Output, Streams, V1_BIG, Verdict, Word, WordFault, selected_name, first_value, hold_if,
-    open_whole, run, times_given, v1_order,
+    Output, RunError, Streams, V1_BIG, Verdict, Word, WordFault, first_value, hold_if, open_whole,
+    report, run, spelled_names, spelled_seconds, times_given, v1_order,
 };
 use krb_files::Files;
 use krb_keytab::Keytab;
-use krb_text::{etype_of, parse_u32};
-use krb_wire::{NoMemory, Order};
+use krb_wire::Order;
 use std::alloc::{Allocator, Global};
 use std::io::{Read, Write};
 
@@ -27,7 +25,8 @@ pub const KTREMOVE: CommandWords = CommandWords {
     command: CommandName::Ktremove,
     name: "ktremove",
     about: "Removes entries from a keytab",
-    usage: "krbfile ktremove [--v1-big] [-n] [-p NAME] [-k KVNO|old] [-e ETYPE].. FILE",
+    usage: "\
+krbfile ktremove [--v1-big] [-n] [-p NAME].. [-k KVNO|old [--age SECONDS]] [-e ETYPE].. FILE",
     after_help: None,
     words: &[
         DRY_RUN,
@@ -35,13 +34,18 @@ pub const KTREMOVE: CommandWords = CommandWords {
             "name",
             'p',
             "NAME",
-            "Entries of that principal, with its realm",
+            "Entries of that principal, with its realm; may be repeated",
         ),
         Word::Valued(
             "kvno",
             'k',
             "KVNO",
             "Entries of that version; old: those older than the newest",
+        ),
+        Word::LongValued(
+            "age",
+            "SECONDS",
+            "With -k old: where the newest version has been there so long",
         ),
         Word::Valued(
             "etype",
@@ -64,52 +68,19 @@ pub struct RemoveOptions<A: Allocator> {
     pub v1_order: Order,
 }
 
-// Parses a word as `old` or a kvno.
-fn kvno_of(word: &str) -> Option<SelectedKvno>
-    ensures { result ≡ kvno_in word.now }
-{
-    if word == "old" {
-        return Some(SelectedKvno::Old);
-    }
-    Some(SelectedKvno::Exactly(parse_u32(word.as_bytes())?))
-}
-
-// Returns the first word that is not an enctype.
-fn bad_word<'a>(words: &[&'a str]) -> Option<&'a str>
-    ensures { result ≡ find (λ word. is_none (etype_in word.now)) words.now }
-{
-    words
-        .iter()
-        .copied()
-        .find(|word| etype_of(word.as_bytes()).is_none())
-}
-
-// Like `bad_word`, by the texts of the words.
-#[tactic(auto, using(krb_driver::proofs::MatchLemmas::found_word))]
-fn first_bad<'a>(words: &[&'a str]) -> Option<&'a str>
-    ensures { option_map (λ word. word.now) result
-        ≡ find (λ word. is_none (etype_in word)) (map (λ word. word.now) words.now) }
-{
-    bad_word(words)
-}
-
-// Returns the mistake of the first word that is not an enctype, if there is one.
-fn bad_etype<'a, M: Matches<'a>>(matches: &M) -> Option<Mistake<'a>>
-    ensures { option_map mistake_parts result ≡ bad_etype ((M.matched matches.now).values (codes "etype")) }
-{
-    Some(Mistake::NoEtype(first_bad(matches.values("etype"))?))
-}
-
 // Returns the mistake that shows before any value is read: an option is given twice, or nothing selects.
 fn odd_selection<'a, M: Matches<'a>>(matches: &M) -> Option<Mistake<'a>>
     ensures { option_map mistake_parts result ≡ odd_selection (M.matched matches.now) }
 {
     let names = times_given(matches, "name");
     let kvnos = times_given(matches, "kvno");
-    if names > 1 {
-        Some(Mistake::Twice("-p"))
-    } else if kvnos > 1 {
+    let ages = times_given(matches, "age");
+    if kvnos > 1 {
         Some(Mistake::Twice("-k"))
+    } else if ages > 1 {
+        Some(Mistake::Twice("--age"))
+    } else if ages == 1 && first_value(matches, "kvno") != Some("old") {
+        Some(Mistake::OnlyWith("--age", "-k old"))
     } else if names == 0 && kvnos == 0 && times_given(matches, "etype") == 0 {
         Some(Mistake::NothingSelects("-p, -k or -e"))
     } else {
@@ -117,42 +88,29 @@ fn odd_selection<'a, M: Matches<'a>>(matches: &M) -> Option<Mistake<'a>>
     }
 }
 
-// Returns the kvnos that a word selects, or `Any` without a word.
-fn asked_kvno<'a>(word: Option<&'a str>) -> Result<SelectedKvno, Mistake<'a>>
-    ensures ok { IfOk result (IsSpelledKvno (option_map (λ word. word.now) word.entry)) }
-    ensures readable { OnOk result (bad_kvno (option_map (λ word. word.now) word.entry) ≡ None) }
-    ensures mistake { IfErr result (λ mistake. bad_kvno (option_map (λ word. word.now) word.entry) ≡ Some (mistake_parts mistake)) }
+// Returns the same kvnos, old ones only if they have been replaced for so many seconds.
+fn with_age(kvno: SelectedKvno, age: Option<u32>) -> SelectedKvno
+    ensures { result ≡ with_age age kvno }
 {
-    let Some(word) = word else {
-        return Ok(SelectedKvno::Any);
-    };
-    match kvno_of(word) {
-        Some(kvno) => Ok(kvno),
-        None => Err(Mistake::NoVersion(word)),
+    match (kvno, age) {
+        (SelectedKvno::Old, Some(seconds)) => SelectedKvno::OldFor(seconds),
+        _ => kvno,
     }
 }
 
-// Parses words as enctypes, and skips those that are none.
-fn read_etypes(alloc: Global, words: &[&str]) -> Result<Vec<u16>, NoMemory>
-    ensures { IfOk result (λ etypes. etypes.items ≡ filter_map (λ word. etype_in word.now) words.now) }
+// Returns the kvnos that `-k` and `--age` select.
+fn selected_kvno<'a, M: Matches<'a>>(matches: &M) -> Result<SelectedKvno, Mistake<'a>>
+    ensures ok { IfOk result (SpellsKvno (M.matched matches.now)) }
+    ensures readable { OnOk result (kvno_mistake (M.matched matches.now) ≡ None) }
+    ensures mistake { IfErr result (λ mistake. kvno_mistake (M.matched matches.now) ≡ Some (mistake_parts mistake)) }
 {
-    Ok(
-        words
-            .iter()
-            .filter_map(|word| etype_of(word.as_bytes()))
-            .collect(alloc)?,
-    )
+    let kvno = kvno_by_word(first_value(matches, "kvno"), "old", SelectedKvno::Old)?;
+    let age = spelled_seconds(first_value(matches, "age"))?;
+    Ok(with_age(kvno, age))
 }
 
-// Like `read_etypes`, by the texts of the words.
-#[tactic(auto, using(krb_driver::proofs::MatchLemmas::spelled_words))]
-fn etypes_of(alloc: Global, words: &[&str]) -> Result<Vec<u16>, NoMemory>
-    ensures { IfOk result (λ etypes. etypes.items ≡ filter_map etype_in (map (λ word. word.now) words.now)) }
-{
-    Ok(read_etypes(alloc, words)?)
-}
-
-/// Returns the options of ktremove. Refuses a line that selects nothing, `-p` or `-k` given twice, and a bad value.
+/// Returns the options of ktremove. Refuses a line that selects nothing, `-k` or `--age` given twice, `--age` without
+/// `-k old`, and a bad value.
 pub fn remove_options<'a, M: Matches<'a>>(
     alloc: Global,
     matches: &M,
@@ -162,20 +120,20 @@ pub fn remove_options<'a, M: Matches<'a>>(
     if let Some(mistake) = odd_selection(matches) {
         return Err(WordFault::of(mistake));
     }
-    let kvno = match asked_kvno(first_value(matches, "kvno")) {
+    let kvno = match selected_kvno(matches) {
         Ok(kvno) => kvno,
         Err(mistake) => return Err(WordFault::of(mistake)),
     };
     if let Some(mistake) = bad_etype(matches) {
         return Err(WordFault::of(mistake));
     }
-    let name = selected_name(alloc, first_value(matches, "name"))?;
+    let names = spelled_names(alloc, matches.values("name"))?;
     let Ok(enctypes) = etypes_of(alloc, matches.values("etype")) else {
         return Err(WordFault::NoMemory);
     };
     Ok(RemoveOptions {
         selection: Selection {
-            name,
+            names,
             kvno,
             enctypes,
         },
@@ -188,15 +146,31 @@ pub fn remove_options<'a, M: Matches<'a>>(
 #[derive(Clone, Copy)]
 struct RemoveEntries<'f, B: Allocator> {
     options: &'f RemoveOptions<B>,
+    time: u32,
     file: &'f str,
+}
+
+// Returns the time, if the selection needs it, and otherwise 0.
+fn needed_time(kvno: SelectedKvno, now: Option<u32>) -> Result<u32, RunError>
+    ensures { result ≡ needed_time kvno now }
+{
+    match (kvno, now) {
+        (SelectedKvno::OldFor(_), Some(now)) => Ok(now),
+        (SelectedKvno::OldFor(_), None) => Err(RunError::ClockNotRead),
+        _ => Ok(0),
+    }
 }
 
 // Returns the verdict if no entry is selected: no failure with `-k old`, if `-p` and `-e`, if given, match an entry.
 fn none_verdict<B: Allocator>(selection: &Selection<B>, is_named: bool) -> Verdict
     ensures { result ≡ none_verdict selection.now is_named }
 {
-    let is_any = selection.name.is_none() && selection.enctypes.is_empty();
-    if selection.kvno == SelectedKvno::Old && (is_any || is_named) {
+    let is_any = selection.names.is_empty() && selection.enctypes.is_empty();
+    let is_old = matches!(
+        selection.kvno,
+        SelectedKvno::Old | SelectedKvno::OldFor(_)
+    );
+    if is_old && (is_any || is_named) {
         Verdict::Well
     } else {
         Verdict::NothingToRemove(FileKind::Keytab)
@@ -209,11 +183,11 @@ fn remove<'a, A: Allocator + Copy, B: Allocator>(
     command: &RemoveEntries<'a, B>,
     mut keytab: Keytab<A>,
 ) -> Result<Made<A, Output<A>>, FileError<'a>>
-    ensures { IsMade (removes command.now.options.now command.now.file.now keytab.state (selected_in command.now.options.now.selection keytab.state))
+    ensures { IsMade (removes command.now.options.now command.now.file.now keytab.state (selected_in command.now.options.now.selection command.now.time keytab.state))
         (text_effect command.now.file.now result) }
 {
     let options = command.options;
-    let selected = select(alloc, &keytab, &options.selection)?;
+    let selected = select(alloc, &keytab, &options.selection, command.time)?;
     if selected.places.is_empty() {
         return Ok(Made::Shows(Output {
             text: Vec::new(alloc),
@@ -238,7 +212,7 @@ impl<'f, A: Allocator + Copy, B: Allocator> Command<A> for RemoveEntries<'f, B> 
 
     ghost file = { λ c. c.file.now };
 
-    ghost plan = { λ c mode. ktremove_plan c.options.now c.file.now };
+    ghost plan = { λ c mode. ktremove_plan c.options.now c.time c.file.now };
 
     fn file(&self) -> &str {
         self.file
@@ -256,18 +230,29 @@ impl<'f, A: Allocator + Copy, B: Allocator> Command<A> for RemoveEntries<'f, B> 
 }
 
 /// Removes the selected entries from the keytab `file`, prints a line for each entry, and returns the exit status.
-#[tactic(auto, unfolding(krb_driver::specs::Commands::always))]
+/// `now` is in seconds, or `None` if the clock was not read.
 pub fn run_ktremove<A: Allocator + Copy, B: Allocator, F: Files, R: Read, W: Write, E: Write>(
     alloc: A,
     options: &RemoveOptions<B>,
+    now: Option<u32>,
     file: &str,
     files: &mut F,
     streams: &mut Streams<R, W, E>,
 ) -> u8
     requires { IsFalse streams.old.out.failed }
-    ensures runs { RunsCommand F.Files (always (ktremove_plan options.now file.now)) any files.old files.new
-        streams.old.out streams.new.out streams.old.err streams.new.err result }
+    ensures runs { RunsKtremove F.Files file.now options.now files.old files.new
+        streams.old.out streams.new.out streams.old.err streams.new.err result (needed_time options.now.selection.kvno now) }
     ensures input { streams.new.input ≡ streams.old.input }
 {
-    run(alloc, &RemoveEntries { options, file }, files, streams)
+    match needed_time(options.selection.kvno, now) {
+        Ok(time) => {
+            let command = RemoveEntries {
+                options,
+                time,
+                file,
+            };
+            run(alloc, &command, files, streams)
+        }
+        Err(error) => report(Err(error), b"", None, None, &mut streams.err),
+    }
 }

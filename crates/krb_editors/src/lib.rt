@@ -1,14 +1,17 @@
-//! The commands that change a file: ktedit, ktremove, ccedit and ccremove.
+//! The commands that change a file: ktedit, ktremove, ktcopy, ccedit and ccremove.
 #![tactic(auto)]
 
 mod ccedit;
 mod ccremove;
 mod edited;
+mod ktcopy;
 mod ktedit;
 mod ktremove;
 mod scripted;
+mod selecting;
 
 pub use ccedit::{CCEDIT, run_ccedit};
 pub use ccremove::{CCREMOVE, TicketOptions, run_ccremove, ticket_options};
+pub use ktcopy::{CopyOptions, KTCOPY, copy_options, run_ktcopy};
 pub use ktedit::{KTEDIT, run_ktedit};
 pub use ktremove::{KTREMOVE, RemoveOptions, remove_options, run_ktremove};

@@ -17,7 +17,7 @@ use Rattle.krb_keytab.specs.declared.length.Length.TheVariants as says
 use Rattle.krb_keytab.specs.Entry.{entry_at}
 use Rattle.krb_keytab.specs.Length.{length_of, field_of, HasField}
 use Rattle.krb_keytab.specs.Cells.{Cell, Live, Free, End, Bare, Mark, Damaged, Contents, bytes_of, length_of_cell, length_field, cell, end_bytes, spelling, short_end, next_of_length, next_by, next, keytab_format, contents, IsCell, IsEnd, IsSound, IsSpelled, image}
-use Rattle.krb_keytab.proofs.LengthLemmas.{content_of, length_again, cell_has}
+use Rattle.krb_keytab.proofs.LengthLemmas.{means, length_again, cell_has}
 
 pub chosen : {A : Type 0} (b : Bool) (x y z : A) → cond b x y ≡ z → ((b ≡ true) × (x ≡ z)) ⊎ ((b ≡ false) × (y ≡ z))
 chosen true x y z e = inl (refl, e)
@@ -84,7 +84,7 @@ next_by_is f bytes s None fits whole got e = short_is f bytes s whole e
 next_by_is f bytes s (Some n) fits whole got e =
     let t = number_takes (order_of f) w32 (2 ^ 32) (wide32 (order_of f)) bytes n.0 n.1 fits got in
     let l = length_of n.0 in
-    let is = content_of n.0 l t.1 refl in
+    let is = means n.0 l t.1 refl in
     first_cell_is f bytes n.1 l s whole (subst (λ (m : ℕ). Takes bytes (digits (order_of f) w32 m) n.1) (sym is.field) t.0) is.has e
 
 -- what one read returns is what the bytes spell

@@ -1,5 +1,6 @@
 -- What klist does.
-use Rattle.std.specs.Prelude.{ℕ, List, Bool, true, if◌then◌else◌, codes, Option, None, Some}
+use Rattle.std.specs.Prelude.{ℕ, List, length, Bool, true, not, ◌&&◌, ◌==◌, nat_lt, if◌then◌else◌, codes, Option, None, Some}
+use Rattle.std.specs.Option.{option_or}
 use Rattle.krb_wire.specs.declared.format.Order.{Order}
 use Rattle.krb_walk.specs.Store.{fault_of}
 use Rattle.krb_keytab.specs.Store.{KeytabState, store_of}
@@ -11,15 +12,15 @@ use Rattle.krb_text.specs.declared.columns.KtColumns.{KtColumns}
 use Rattle.krb_text.specs.Listing.{list_text}
 use Rattle.krb_cache_text.specs.declared.columns.CcColumns.{CcColumns}
 use Rattle.krb_cache_text.specs.Listing.{cache_text}
-use Rattle.krb_readers.specs.declared.klist.KlistOptions.{KlistOptions}
-use Rattle.krb_readers.specs.declared.klist.ListKind.{ListKind}
-use Rattle.krb_readers.specs.declared.klist.ListKind.TheVariants.{Keytab, Cache}
+use Rattle.krb_readers.specs.declared.klist.words.KlistOptions.{KlistOptions}
+use Rattle.krb_readers.specs.declared.klist.words.ListKind.{ListKind}
+use Rattle.krb_readers.specs.declared.klist.words.ListKind.TheVariants.{Keytab, Cache}
 use Rattle.krb_readers.specs.declared.klist.Listing.{Listing}
 use Rattle.krb_readers.specs.declared.klist.Listing.TheVariants as listing
 use Rattle.krb_driver.specs.Effects.{CommandPlan, Displays, Page, opens}
 use Rattle.krb_driver.specs.Loading.{cache_of}
 use Rattle.krb_driver.specs.Matches.{Matched, v1_order}
-use Rattle.krb_driver.specs.Mistakes.{MistakeParts, DoNotGoTogether, ForKeytabs}
+use Rattle.krb_driver.specs.Mistakes.{MistakeParts, DoNotGoTogether, ForKeytabs, OnlyWith, Twice}
 use Rattle.krb_driver.specs.Opening.{listed_in}
 use Rattle.krb_driver.specs.Verdicts.{listing_verdict}
 
@@ -73,6 +74,17 @@ odd_with_cache words =
 -- the first option that is for the other kind of file, if there is one
 abbrev pub odd_option : Matched → Option MistakeParts
 odd_option words = if words.flag (codes "keytab") then odd_with_keytab words else odd_with_cache words
+
+-- `--for` is given twice, or without `-s`
+abbrev pub odd_seconds : Matched → Option MistakeParts
+odd_seconds words =
+    if nat_lt 1 (length (words.values (codes "for"))) then Some (Twice (codes "--for"))
+    else (if (length (words.values (codes "for")) == 1) && not (words.flag (codes "silent")) then Some (OnlyWith (codes "--for") (codes "-s"))
+    else None)
+
+-- the first mistake in the words of a listing
+abbrev pub list_mistake : Matched → Option MistakeParts
+list_mistake words = option_or (odd_seconds words) (odd_option words)
 
 -- the kind of file, a cache unless `-k` is given, and the columns, each selected by its own option
 abbrev pub list_kind : Matched → ListKind

@@ -38,7 +38,12 @@ fn found_verdict(findings: Findings) -> Verdict
     ensures { result ≡ found_verdict findings }
 {
     let words_found = findings.words;
-    let is_printed = words_found.weak || words_found.hidden || words_found.same || words_found.clash || words_found.old || words_found.mode;
+    let is_printed = words_found.weak
+        || words_found.hidden
+        || words_found.same
+        || words_found.clash
+        || words_found.old
+        || words_found.mode;
     if is_printed || findings.fault.is_some() {
         Verdict::Found(findings)
     } else {

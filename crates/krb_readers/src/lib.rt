@@ -5,6 +5,8 @@ mod klist;
 mod ktcheck;
 mod ktfind;
 
-pub use klist::{KLIST, KlistOptions, ListKind, klist_options, run_klist};
+pub use klist::run_klist;
+pub use klist::ticket_check::{TicketCheck, run_ticket_check, ticket_check};
+pub use klist::words::{KLIST, KlistOptions, ListKind, klist_options};
 pub use ktcheck::{KTCHECK, run_ktcheck};
 pub use ktfind::{FindOptions, KTFIND, find_options, run_ktfind};

@@ -8,10 +8,6 @@ fn is_option(word: &str) -> bool {
     word.len() > 1 && word.starts_with('-')
 }
 
-fn has_long(options: &[Arg<'_>], name: &str) -> bool {
-    options.iter().any(|option| option.get_long() == Some(name))
-}
-
 /// Returns whether an option has that letter.
 pub fn has_letter(options: &[Arg<'_>], letter: char) -> bool {
     options
@@ -46,11 +42,30 @@ fn wants_next<'a>(options: &[Arg<'_>], word: &'a str) -> Result<bool, Mistake<'a
     }
 }
 
+// Returns whether the option of that long name takes a value, or `None` if there is none.
+fn takes_long_value(options: &[Arg<'_>], name: &str) -> Option<bool> {
+    let option = options
+        .iter()
+        .find(|option| option.get_long() == Some(name))?;
+    Some(option.get_action() == ArgAction::Append)
+}
+
+// Returns whether a long option, without its `--`, needs the next word as a value, or `None` if it is unknown. A flag
+// with a value is unknown too.
+fn wants_long(options: &[Arg<'_>], word: &str) -> Option<bool> {
+    match word.split_once("=") {
+        Some((name, _)) => match takes_long_value(options, name) {
+            Some(true) => Some(false),
+            _ => None,
+        },
+        None => takes_long_value(options, word),
+    }
+}
+
 // Returns whether an option or a bundle of options needs the next word as a value, or else the mistake in it.
 fn wants_value<'a>(options: &[Arg<'_>], word: &'a str) -> Result<bool, Mistake<'a>> {
     match word.strip_prefix("--") {
-        Some(name) if has_long(options, name) => Ok(false),
-        Some(_) => Err(Mistake::UnknownOption(word)),
+        Some(name) => wants_long(options, name).ok_or(Mistake::UnknownOption(word)),
         None => wants_next(options, word),
     }
 }

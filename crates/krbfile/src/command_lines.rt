@@ -22,6 +22,11 @@ fn arg_of<'a>(alloc: Global, word: Word) -> Arg<'a> {
             .action(ArgAction::Append)
             .value_name(value)
             .help(help),
+        Word::LongValued(name, value, help) => Arg::new(alloc, name)
+            .long(name)
+            .action(ArgAction::Append)
+            .value_name(value)
+            .help(help),
         Word::Operand(name, help) => Arg::new(alloc, name).required(true).help(help),
     }
 }

@@ -11,12 +11,17 @@ mod words;
 use krb_commands::{ErrorOutput, Streams};
 use krb_disk::DiskFiles;
 use krb_files::{Watched, WatchedReader};
-use run::{asks_to_explain, run};
+use run::{parsed, asks_to_explain, run, wants_plain, words_of};
 use std::io::IsTerminal;
 use std::process::ExitCode;
 
 fn main(rt: HostRuntime) -> ExitCode {
+    let mut words = words_of(&rt);
+    let parsed = parsed(rt.alloc(), &mut words);
     let mut files = DiskFiles::new(&rt);
+    if wants_plain(&parsed) {
+        files.only_plain();
+    }
     let err = rt.stderr();
     let explains = asks_to_explain(&rt) || err.is_terminal();
     let mut streams = Streams {
@@ -27,5 +32,5 @@ fn main(rt: HostRuntime) -> ExitCode {
             explains,
         },
     };
-    ExitCode::from(run(&rt, &mut files, &mut streams))
+    ExitCode::from(run(&rt, &parsed, &mut files, &mut streams))
 }

@@ -1,8 +1,6 @@
-//! Runs the command line and returns the exit status.
+//! The command line, and its run.
 
-ghost use Rattle.std.specs.Prelude.{ℕ, Option, Result, IsFalse};
-ghost use Rattle.krb_commands.specs.declared.action.Action.{Action};
-ghost use Rattle.krb_driver.specs.declared.command_line.mistake.WordFault.{WordFault};
+ghost use Rattle.std.specs.Prelude.{ℕ, Option, IsFalse};
 ghost use Rattle.krb_commands.specs.Actions.{EndsParsed};
 
 use crate::clock::seconds_now;
@@ -20,8 +18,8 @@ pub fn asks_to_explain<R: rt::Env>(rt: &R) -> bool {
     matches!(rt.arg(1, &mut word), Ok(9)) && word == *b"--explain"
 }
 
-// Returns the words of the command line. If one is not UTF-8, the line is bad.
-fn words_of<R: rt::Env + AllocGlobal>(rt: &R) -> Result<Vec<String>, WordFault<'static>> {
+/// Returns the words of the command line. If one is not UTF-8, the line is bad.
+pub fn words_of<R: rt::Env + AllocGlobal>(rt: &R) -> Result<Vec<String>, WordFault<'static>> {
     match env::args(rt) {
         Ok(words) => Ok(words.collect(rt.alloc())?),
         Err(error) if error.kind() == io::ErrorKind::OutOfMemory => Err(WordFault::NoMemory),
@@ -29,8 +27,8 @@ fn words_of<R: rt::Env + AllocGlobal>(rt: &R) -> Result<Vec<String>, WordFault<'
     }
 }
 
-// Returns the action that the words of the command line request.
-fn asked<'a>(
+/// Returns the action that the words of the command line request.
+pub fn parsed<'a>(
     alloc: Global,
     words: &'a mut Result<Vec<String>, WordFault<'static>>,
 ) -> Result<Action<'a>, WordFault<'a>> {
@@ -40,26 +38,32 @@ fn asked<'a>(
     }
 }
 
-/// Runs the command line and returns the exit status. The clock is read at most once, and only if the run needs it.
-/// The action runs in memory that is cleared before it is freed.
-pub fn run<H: rt::Env + rt::Clock + AllocGlobal, F: Files, R: Read, W: Write, E: Write>(
+/// Returns whether the files are to be told to refuse what is not a plain file.
+pub fn wants_plain(parsed: &Result<Action<'_>, WordFault<'_>>) -> bool {
+    match parsed {
+        Ok(action) => action.wants_plain(),
+        Err(_) => false,
+    }
+}
+
+/// Runs an action, or reports why the command line was not read, and returns the exit status. The clock is read at
+/// most once, and only if the run needs it. The action runs in memory that is cleared before it is freed.
+pub fn run<H: rt::Clock + AllocGlobal, F: Files, R: Read, W: Write, E: Write>(
     rt: &H,
+    parsed: &Result<Action<'_>, WordFault<'_>>,
     files: &mut F,
     streams: &mut Streams<R, W, E>,
 ) -> u8
     requires { IsFalse streams.old.out.failed }
 
     // The action, or the mistake in the line, and the clock decide the run.
-    ensures { (asked : Result Action WordFault) × (now : Option ℕ)
-        × EndsParsed F.Files now streams.old.input streams.new.input files.old files.new
-        streams.old.out streams.new.out streams.old.err streams.new.err result asked }
+    ensures { (now : Option ℕ) × EndsParsed F.Files now streams.old.input streams.new.input files.old files.new
+        streams.old.out streams.new.out streams.old.err streams.new.err result parsed.now }
 {
-    let mut words = words_of(rt);
     let alloc = Wiping::new(rt.alloc());
-    let asked = asked(rt.alloc(), &mut words);
-    let now = match &asked {
+    let now = match parsed {
         Ok(action) if action.needs_clock() => seconds_now(rt),
         _ => None,
     };
-    respond(alloc, &asked, files, now, streams)
+    respond(alloc, parsed, files, now, streams)
 }

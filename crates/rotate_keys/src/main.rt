@@ -54,8 +54,8 @@ fn main(rt: HostRuntime) -> anyhow::Result<()> {
     let mut files = DiskFiles::new(&rt);
     files.hold(file.as_str());
     let mut keytab = keytab_of(alloc, &mut files, file.as_str())?;
-    let asked = [name.as_str(), key.as_str(), seconds.as_str()];
-    let (next, last) = next_key(alloc, &keytab, asked)?;
+    let texts = [name.as_str(), key.as_str(), seconds.as_str()];
+    let (next, last) = next_key(alloc, &keytab, texts)?;
     rotate(alloc, &mut keytab, &next, last)?;
     files.save(file.as_str(), keytab.image())?;
     print_versions(&rt, &keytab)

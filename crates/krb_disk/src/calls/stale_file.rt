@@ -2,7 +2,7 @@
 
 ghost use Rattle.std.specs.Prelude.{◌≡◌, true, IfOk};
 
-use super::{Calls, is_at_path, describe};
+use super::{Calls, describe, is_at_path};
 use crate::lock::TakeLock;
 use crate::looks::users::Users;
 use std::fs::{self, OpenOptions};

@@ -1,13 +1,14 @@
 //! A command line after it was matched against its command's words.
 
-ghost use Rattle.std.specs.Prelude.{◌≡◌, None, Ok, length, option_and_then, option_map, slice_get};
+ghost use Rattle.std.specs.Prelude.{◌≡◌, IfErr, IfOk, None, Ok, OnOk, Some, length, map, option_map, slice_get};
 ghost use Rattle.krb_wire.specs.NameOf.{name_of};
 ghost use Rattle.krb_wire.specs.Reading.{principal_parts};
-ghost use Rattle.krb_driver.specs.Matches.{IsSpelledName, bad_name, v1_order};
-ghost use Rattle.krb_driver.specs.Mistakes.{Reads};
+ghost use Rattle.krb_driver.specs.Matches.{AreSpelledNames, AreSpelledSeconds, bad_name, bad_names, bad_seconds, v1_order};
+ghost use Rattle.krb_driver.specs.Mistakes.{Reads, mistake_parts};
 
 use crate::command_line::mistake::{Mistake, WordFault};
-use krb_wire::{NameFault, Order, Principal, parse_name};
+use krb_text::parse_u32;
+use krb_wire::{NameFault, NoMemory, Order, Principal, parse_name};
 use std::alloc::Global;
 
 /// The flags, operands and option values of a command line, by the names of its command's words.
@@ -68,16 +69,70 @@ pub fn spelled_name<'a>(alloc: Global, word: &'a str) -> Result<Principal<Global
     }
 }
 
-/// Parses a word, if there is one, as a principal name with a realm.
-pub fn selected_name<'a>(
-    alloc: Global,
-    word: Option<&'a str>,
-) -> Result<Option<Principal<Global>>, WordFault<'a>>
-    ensures { Reads (option_and_then bad_name (option_map (λ word. word.now) word.entry))
-        (IsSpelledName (option_map (λ word. word.now) word.entry)) result }
+// Returns the mistake in a word that is not a principal name.
+fn bad_name<'a>(alloc: Global, word: &'a str) -> Option<Mistake<'a>>
+    ensures { option_map mistake_parts result ≡ bad_name word.now }
 {
-    match word {
-        Some(word) => Ok(Some(spelled_name(alloc, word)?)),
-        None => Ok(None),
+    match spelled_name(alloc, word) {
+        Err(WordFault::BadLine(line)) => Some(line.mistake),
+        _ => None,
+    }
+}
+
+// Returns the mistake in the first word that is not a principal name.
+fn bad_names<'a>(alloc: Global, words: &[&'a str]) -> Option<Mistake<'a>>
+    ensures { option_map mistake_parts result ≡ bad_names (map (λ word. word.now) words.now) }
+{
+    'words: for word in words {
+        if let Some(mistake) = bad_name(alloc, *word) {
+            return Some(mistake);
+        }
+    }
+    None
+}
+
+// Parses words as principal names.
+fn names_of(alloc: Global, words: &[&str]) -> Result<Vec<Principal<Global>, Global>, NoMemory>
+    ensures { IfOk result (λ names. AreSpelledNames (map (λ word. word.now) words.now) names.items) }
+{
+    let mut names = Vec::new(alloc);
+    'words: for word in words {
+        let Ok(name) = spelled_name(alloc, *word) else {
+            return Err(NoMemory);
+        };
+        names.push(name)?;
+    }
+    Ok(names)
+}
+
+/// Parses words as principal names with a realm.
+pub fn spelled_names<'a>(
+    alloc: Global,
+    words: &[&'a str],
+) -> Result<Vec<Principal<Global>, Global>, WordFault<'a>>
+    ensures { Reads (bad_names (map (λ word. word.now) words.now))
+        (λ names. AreSpelledNames (map (λ word. word.now) words.now) names.items) result }
+{
+    if let Some(mistake) = bad_names(alloc, words) {
+        return Err(WordFault::of(mistake));
+    }
+    match names_of(alloc, words) {
+        Ok(names) => Ok(names),
+        Err(NoMemory) => Err(WordFault::NoMemory),
+    }
+}
+
+/// Parses a word, if there is one, as a number of seconds.
+pub fn spelled_seconds<'a>(word: Option<&'a str>) -> Result<Option<u32>, Mistake<'a>>
+    ensures ok { IfOk result (AreSpelledSeconds (option_map (λ word. word.now) word.entry)) }
+    ensures readable { OnOk result (bad_seconds (option_map (λ word. word.now) word.entry) ≡ None) }
+    ensures mistake { IfErr result (λ mistake. bad_seconds (option_map (λ word. word.now) word.entry) ≡ Some (mistake_parts mistake)) }
+{
+    let Some(word) = word else {
+        return Ok(None);
+    };
+    match parse_u32(word.as_bytes()) {
+        Some(seconds) => Ok(Some(seconds)),
+        None => Err(Mistake::NoSeconds(word)),
     }
 }

@@ -21,8 +21,11 @@ pub enum Mistake<'a> {
     Twice(&'a str),
     DoNotGoTogether(&'a str, &'a str),
     ForKeytabs(&'a str),
+    /// An option that goes with another one only.
+    OnlyWith(&'a str, &'a str),
     NoVersion(&'a str),
     NoEtype(&'a str),
+    NoSeconds(&'a str),
     BadName(&'a str, NameFault),
     /// None of these options is given.
     NothingSelects(&'a str),

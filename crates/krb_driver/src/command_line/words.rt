@@ -6,6 +6,7 @@ pub enum Word {
     Flag(&'static str, char, &'static str),
     LongFlag(&'static str, &'static str),
     Valued(&'static str, char, &'static str, &'static str),
+    LongValued(&'static str, &'static str, &'static str),
     Operand(&'static str, &'static str),
 }
 
@@ -16,6 +17,7 @@ pub enum CommandName {
     Ktedit,
     Ktfind,
     Ktremove,
+    Ktcopy,
     Ktcheck,
     Ccedit,
     Ccremove,

@@ -83,6 +83,20 @@ fn apart<'a>(option: &'a str, other: &'a str) -> Line<'a>
     ]
 }
 
+// An option that goes with another one only.
+fn only_with<'a>(option: &'a str, other: &'a str) -> Line<'a>
+    ensures { (rest : List ℕ) → pieces_before result rest
+        ≡ mistake_head ++ (shown_word option.now ++ (codes " goes with " ++ (shown_word other.now ++ (codes " alone" ++ rest)))) }
+{
+    [
+        HEAD,
+        MessagePiece::Word(option),
+        MessagePiece::Text(" goes with "),
+        MessagePiece::Word(other),
+        MessagePiece::Text(" alone"),
+    ]
+}
+
 // Returns the message for a mistake.
 fn mistake_pieces(mistake: Mistake<'_>) -> Line<'_>
     ensures { (rest : List ℕ) → pieces_before result rest
@@ -99,8 +113,10 @@ fn mistake_pieces(mistake: Mistake<'_>) -> Line<'_>
         Mistake::Twice(option) => after(option, " is given twice"),
         Mistake::DoNotGoTogether(option, other) => apart(option, other),
         Mistake::ForKeytabs(option) => after(option, " is for keytabs; give -k"),
+        Mistake::OnlyWith(option, other) => only_with(option, other),
         Mistake::NoVersion(kvno) => quoted(kvno, "\" is no ", "version"),
         Mistake::NoEtype(etype) => quoted(etype, "\" is no ", "encryption type"),
+        Mistake::NoSeconds(word) => quoted(word, "\" is no ", "number of seconds"),
         Mistake::BadName(name, fault) => quoted(name, "\" has ", fault.phrase()),
         Mistake::NothingSelects(options) => before("nothing selects; give ", options),
         Mistake::LateExplain => alone("--explain stands before the command"),

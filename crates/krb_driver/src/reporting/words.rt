@@ -209,6 +209,7 @@ fn error_words(
         RunError::LineRefused { code, .. } | RunError::Refused(code) => {
             phrase(line, keytab_phrase(code))
         }
+        RunError::NothingToCopy => phrase(line, nothing_phrase(FileKind::Keytab)),
         RunError::NoSuchFile => missing_words(line),
         RunError::InputNotRead
         | RunError::FileNotRead
@@ -230,6 +231,10 @@ fn verdict_words(verdict: Verdict, file: &[u8], line: Option<u64>) -> Explanatio
     match verdict {
         Verdict::Well => no_words(),
         Verdict::NothingToRemove(kind) => phrase(line, nothing_phrase(kind)),
+        Verdict::Clashed => phrase(
+            line,
+            "clash: TO has another key for this name, version and type",
+        ),
         Verdict::Listed(fault) => listed_words(file, fault),
         Verdict::Replied(_) | Verdict::Found(_) => unreachable!(),
     }

@@ -150,7 +150,7 @@ fn look_up(alloc: Global) -> Result<FindOptions<Global>, Fail> {
 fn removal(alloc: Global, dry_run: bool) -> Result<RemoveOptions<Global>, Fail> {
     Ok(RemoveOptions {
         selection: Selection {
-            name: Some(name(alloc, b"host/a@R")?),
+            names: vec![in alloc; name(alloc, b"host/a@R")?]?,
             kvno: SelectedKvno::Exactly(3),
             enctypes: vec![in alloc; 17]?,
         },
@@ -161,7 +161,7 @@ fn removal(alloc: Global, dry_run: bool) -> Result<RemoveOptions<Global>, Fail> 
 
 fn tickets(alloc: Global, dry_run: bool) -> Result<TicketOptions<Global>, Fail> {
     Ok(TicketOptions {
-        server: Some(name(alloc, b"krbtgt/R@R")?),
+        servers: vec![in alloc; name(alloc, b"krbtgt/R@R")?]?,
         expired: false,
         dry_run,
     })

@@ -117,7 +117,7 @@ impl Seek for Reached<'_> {
 
 impl OpenFile for Reached<'_> {
     fn metadata(&self) -> io::Result<Metadata> {
-        self.disk.note("tell", "")?;
+        self.disk.note("stat", "")?;
         Ok(Metadata::of_file(0))
     }
 

@@ -9,8 +9,8 @@ use std::alloc::Global;
 use std::process::Abort;
 
 /// The calls that hold `k`, a plain file, up to the readings of the list of locks.
-pub const HOLD: &str = "look k\nmake k.krbfile\nlock\ntell\nlook k.krbfile\ndouble\n\
-open /proc/self/fdinfo/7\ntell\nread\nlook k\n";
+pub const HOLD: &str = "look k\nmake k.krbfile\nlock\nstat\nlook k.krbfile\ndouble\n\
+open /proc/self/fdinfo/7\nstat\nread\nlook k\n";
 
 /// Five readings of the list of locks, which is empty.
 pub const LOCKS: &str = "open /proc/locks\nread\nopen /proc/locks\nread\nopen /proc/locks\nread\n\
@@ -21,17 +21,17 @@ pub const WRITES: &str = "write\n";
 
 pub const OWNS: &str = "own\n";
 
-pub const KEEPS: &str = "tell\nkeep mode\nsync\n";
+pub const KEEPS: &str = "stat\nkeep mode\nsync\n";
 
-pub const LOOK: &str = "tell\nlook k.krbfile\nlook k\n";
+pub const LOOK: &str = "stat\nlook k.krbfile\nlook k\n";
 
 pub const RENAME: &str = "rename k.krbfile\nopen .\nsync\n";
 
 /// The calls that release a held file.
-pub const LEAVE: &str = "tell\nlook k.krbfile\nremove k.krbfile\n";
+pub const LEAVE: &str = "stat\nlook k.krbfile\nremove k.krbfile\n";
 
 /// The calls that load `k`, if it is not empty.
-pub const LOAD: &str = "open k\ntell\nread\nread\n";
+pub const LOAD: &str = "open k\nstat\nread\nread\n";
 
 /// Files on such a disk. The functions below have no contracts, which keeps the proofs of tests short.
 pub type Noted<'a, 'd> = DiskFiles<'a, (Reached<'d>, Global)>;

@@ -123,7 +123,7 @@ const BACK: &[u8] = b"\0\0\0\x01\x65\x53\xf1\0\x03\0\x11\0\0\0\0\0\x03";
 
 /// Looking up each component from the first would pass 2,147,385,345 components.
 #[test]
-fn the_most_components_are_written_anew_in_one_pass(rt: HostRuntime) -> Result<(), Fail> {
+fn the_most_components_are_rewritten_in_one_pass(rt: HostRuntime) -> Result<(), Fail> {
     let components = Vec::from_elem(rt.alloc(), 0, 131_070)?;
     let pieces = [HEAD, FRONT, components.as_slice(), BACK];
     let mut keytab = keytab_of(rt.alloc(), &pieces)?;

@@ -43,7 +43,7 @@ fn is_kept(below: &Refusing<Global>, heap: &Refusing<&Refusing<Global>>, plan: &
 
 /// Refused requests are counted too, and do not reach the allocator below.
 #[test]
-fn requests_are_refused_as_told(rt: HostRuntime) -> Result<(), Fail> {
+fn requests_are_refused_as_set(rt: HostRuntime) -> Result<(), Fail> {
     let below = Refusing::new(rt.alloc());
     let heap = Refusing::new(&below);
     let mut are_kept = true;

@@ -19,8 +19,8 @@ fn letter<I>(event: &Event<I>) -> u8 {
 }
 
 // Returns the letter of a line of a cache's script.
-fn cache_letter<A: Allocator>(asked: &CacheLine<A>) -> u8 {
-    match asked {
+fn cache_letter<A: Allocator>(request: &CacheLine<A>) -> u8 {
+    match request {
         Request::Event(event) => letter(event),
         Request::Setting(_) => b'v',
     }
@@ -40,8 +40,8 @@ pub fn keytab_script<A: Allocator + Copy>(alloc: A, out: &mut Vec<u8, A>) -> Opt
 pub fn cache_script<A: Allocator + Copy>(alloc: A, out: &mut Vec<u8, A>) -> Option<()> {
     let text = b"start\nconfig k b@R v\nconfig k - v\ncut 40\n";
     let lines: Vec<CacheLine<A>, A> = parse_script(alloc, text).ok()?;
-    for asked in lines.iter() {
-        out.push(cache_letter(asked)).ok()?;
+    for request in lines.iter() {
+        out.push(cache_letter(request)).ok()?;
     }
     Some(())
 }

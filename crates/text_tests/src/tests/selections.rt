@@ -5,22 +5,22 @@ use krb_audit::{SelectedKvno, Selection, check_up, select, select_tickets};
 use krb_wire::parse_name;
 use std::alloc::Allocator;
 
-/// Writes the lines of the old entries of a name with a selected enctype.
+/// Writes the lines of the entries of a name with a selected enctype that were old at a late time.
 pub fn entries<A: Allocator + Copy>(alloc: A, out: &mut Vec<u8, A>) -> Option<()> {
     let selection = Selection {
-        name: Some(parse_name(alloc, b"host/a@R", None).ok()?),
-        kvno: SelectedKvno::Old,
+        names: vec![in alloc; parse_name(alloc, b"host/a@R", None).ok()?].ok()?,
+        kvno: SelectedKvno::OldFor(1),
         enctypes: Vec::from_slice(alloc, &[17]).ok()?,
     };
-    let selected = select(alloc, &keytab_of(alloc, KEYTAB)?, &selection).ok()?;
+    let selected = select(alloc, &keytab_of(alloc, KEYTAB)?, &selection, u32::MAX).ok()?;
     out.extend_from_slice(&selected.text).ok()
 }
 
 /// Writes the lines of the tickets for a server that have ended at their last second.
 pub fn tickets<A: Allocator + Copy>(alloc: A, out: &mut Vec<u8, A>) -> Option<()> {
-    let server = Some(parse_name(alloc, b"krbtgt/R@R", None).ok()?);
+    let servers = vec![in alloc; parse_name(alloc, b"krbtgt/R@R", None).ok()?].ok()?;
     let cache = cache_of(alloc)?;
-    let selected = select_tickets(alloc, &cache, &server, Some(1_700_036_000)).ok()?;
+    let selected = select_tickets(alloc, &cache, &servers, Some(1_700_036_000)).ok()?;
     out.extend_from_slice(&selected.text).ok()
 }
 

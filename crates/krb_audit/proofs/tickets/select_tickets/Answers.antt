@@ -12,8 +12,8 @@ credentials-preserved g c =
     let x : PlacedCredential = (c.in-Some.place, c.in-Some.credential) in
     let old = c.credentials.selected in
     let h = c.credentials.invariant in
-    let next = subst (λ (xs : List PlacedCredential). SelectsSoFar c.credentials.prepared xs all old) c.in-Some.ensures.steps (subst (λ (t : TicketText). SelectsSoFar t c.credentials.place-iterator all old) (sym h.prepared) h.selects) in
+    let next = subst (λ (xs : List PlacedCredential). SelectsSoFar c.credentials.criteria xs all old) c.in-Some.ensures.steps (subst (λ (t : TicketText). SelectsSoFar t c.credentials.place-iterator all old) (sym h.criteria) h.selects) in
     record {
-      prepared = c.in_ok-consider.ensures.kept ∙ h.prepared;
-      selects = subst (λ (t : TicketText). SelectsSoFar t rest all c.consider.new.self) h.prepared (c.in_ok-consider.ensures.selects rest all next);
+      criteria = c.in_ok-consider.ensures.kept ∙ h.criteria;
+      selects = subst (λ (t : TicketText). SelectsSoFar t rest all c.consider.new.self) h.criteria (c.in_ok-consider.ensures.selects rest all next);
     }

@@ -10,12 +10,12 @@ no_mistake a b c d p q r s = rw (← p, q, ← r, s) refl
 
 pub returns : goal.returns
 returns g c =
-    let name = rw c.first_value-2.ensures at c.in_ok-name.ensures in (
-      no_mistake _ _ _ _ c.in_default.ensures (rw c.first_value.ensures at c.in-Ok.ensures.readable) c.in_default-bad_etype.ensures name.0,
+    let names = rw c.values.ensures at c.in_ok-names.ensures in (
+      no_mistake _ _ _ _ c.in_default.ensures c.in-Ok.ensures.readable c.in_default-bad_etype.ensures names.0,
       record {
-        name = name.1;
-        kvno = rw c.first_value.ensures at c.in-Ok.ensures.ok;
-        enctypes = rw c.values.ensures at c.in-Ok-etypes_of.ensures;
+        names = names.1;
+        kvno = c.in-Ok.ensures.ok;
+        enctypes = rw c.values-2.ensures at c.in-Ok-etypes_of.ensures;
         dry_run = c.flag.ensures;
         v1_order = c.v1_order.ensures;
       },

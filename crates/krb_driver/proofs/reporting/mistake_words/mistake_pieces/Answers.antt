@@ -8,3 +8,6 @@ returns-in-ForKeytabs c = λ rest. rw c.in-ForKeytabs.is (c.after-in-ForKeytabs.
 
 pub returns-in-BadName : goal.returns-in-BadName
 returns-in-BadName c = λ rest. rw (c.in-BadName.is, ← c.phrase.ensures) (c.quoted-in-BadName.ensures rest)
+
+pub returns-in-OnlyWith : goal.returns-in-OnlyWith
+returns-in-OnlyWith c = λ rest. rw c.in-OnlyWith.is (c.only_with.ensures rest)

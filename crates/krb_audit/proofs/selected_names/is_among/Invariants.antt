@@ -1,0 +1,9 @@
+use Rattle.std.proofs.Common.{◌≡◌, drop, map}
+use Rattle.std.specs.List.{list_any}
+use Rattle.std.specs.Str.{bytes_eq}
+use Rattle.std.specs.Vec.{vec_items}
+use Rattle.krb_audit.proofs.selected_names.is_among.Given as goal
+
+-- no text so far is the same
+abbrev pub invariant-texts : goal.invariant-texts
+invariant-texts g l = list_any (bytes_eq l.text) (map vec_items (drop l.other-index l.texts)) ≡ list_any (bytes_eq l.text) (map vec_items l.texts)

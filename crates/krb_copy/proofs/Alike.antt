@@ -1,0 +1,25 @@
+-- Twins are alike in the same way in both directions and over three entries.
+use Rattle.std.proofs.Common.{Bool, true, false, refl, ◌≡◌}
+use Rattle.std.specs.Prelude.{◌&&◌}
+use Rattle.std.specs.Cmp.{IsEquivalence}
+use Rattle.std.proofs.lemmas.Cmp.{nat_eq_equiv, on_equiv, and_equiv, nat_list_eq_equiv, lists_equiv}
+use Rattle.krb_wire.specs.Spelling.{Parts}
+use Rattle.krb_wire.specs.SameName.{have_same_name}
+use Rattle.krb_keytab.specs.Entry.{EntryParts}
+use Rattle.krb_copy.specs.Twins.{are_twins, are_same}
+
+names_equiv : IsEquivalence have_same_name
+names_equiv = and_equiv (on_equiv (λ (p : Parts). p.realm) nat_list_eq_equiv) (on_equiv (λ (p : Parts). p.components) (lists_equiv nat_list_eq_equiv))
+
+pub twins_equiv : IsEquivalence are_twins
+twins_equiv = and_equiv (on_equiv (λ (x : EntryParts). x.principal) names_equiv) (and_equiv (on_equiv (λ (x : EntryParts). x.version) nat_eq_equiv) (on_equiv (λ (x : EntryParts). x.enctype) nat_eq_equiv))
+
+pub same_equiv : IsEquivalence are_same
+same_equiv = and_equiv twins_equiv (on_equiv (λ (x : EntryParts). x.key) nat_list_eq_equiv)
+
+first_holds : (a b : Bool) → (a && b) ≡ true → a ≡ true
+first_holds true b e = refl
+first_holds false b e = e
+
+pub same_are_twins : (x y : EntryParts) → are_same x y ≡ true → are_twins x y ≡ true
+same_are_twins x y e = first_holds (are_twins x y) _ e

@@ -1,0 +1,142 @@
+-- Entries are twins iff their keys in a map compare equal.
+use Rattle.std.proofs.Common.{◌≡◌, ℕ, ◌<◌, Bool, true, false, cond, List, [], ◌∷◌, ◌++◌, length, Some, None, Ok, refl, sym, ap, ◌∙◌, arith}
+use Rattle.std.specs.Prelude.{◌&&◌, ◌==◌, unwrap_or, map, Result, nat_lt}
+use Rattle.std.specs.List.{join_with_byte}
+use Rattle.std.specs.declared.cmp.Ordering.{Ordering}
+use Rattle.std.specs.declared.cmp.Ordering.TheVariants.{Less, Equal, Greater}
+use Rattle.std.specs.Ordering.{nat_cmp, ordering_then, is_eq}
+use Rattle.std.specs.Cmp.Lexicographic.{slice_cmp}
+use Rattle.std.specs.Str.{bytes_eq}
+use Rattle.std.specs.BTreeMap.{get, get_by, Updates}
+use Rattle.std.proofs.lemmas.Map.Text.{is_eq-slice_cmp}
+use Rattle.std.proofs.lemmas.Slice.Eq.{bytes_eq-Decides}
+use Rattle.krb_wire.specs.Spelling.{Parts}
+use Rattle.krb_wire.specs.Names.{name_text, joined_components}
+use Rattle.krb_wire.specs.NameOf.{name_of}
+use Rattle.krb_wire.specs.Quote.{quote}
+use Rattle.krb_wire.specs.SameName.{have_same_name}
+use Rattle.krb_wire.proofs.NamesCompared.{same_name_is, and_both, both_and}
+use Rattle.krb_wire.proofs.RoundTrip.{name_of-name_text}
+use Rattle.krb_keytab.specs.Entry.{EntryParts}
+use Rattle.krb_copy.specs.Twins.{are_twins, are_same}
+use Rattle.krb_copy.specs.declared.numbers.Numbers.{Numbers}
+use Rattle.krb_copy.specs.Numbers.{ClassKey, IsClassKey, SameKey, class_cmp, same_cmp, first_twin, first_same, AreNumbered}
+use Rattle.krb_copy.proofs.Alike.{twins_equiv, same_equiv}
+use Rattle.krb_copy.proofs.Positions.{number_here, number_after}
+
+-- ---- names as text
+
+-- realm and components are those of the other name
+abbrev SameParts : Parts → Parts → Type 0
+SameParts p q = (p.realm ≡ q.realm) × (p.components ≡ q.components)
+
+ok_is : {X E : Type 0} (x y : X) (r : Result X E) → r ≡ Ok x → r ≡ Ok y → x ≡ y
+ok_is x y r e f = cc
+
+by_text : (p q : Parts) → 0 < length p.components → 0 < length q.components → name_text p ≡ name_text q → SameParts p q
+by_text p q some others e =
+    let same = ok_is (record p { name_type = 1 }) (record q { name_type = 1 }) (name_of (name_text p) None) (name_of-name_text p None some) (ap (λ (t : List ℕ). name_of t None) e ∙ name_of-name_text q None others) in
+    (ap (λ (x : Parts). x.realm) same, ap (λ (x : Parts). x.components) same)
+
+-- a name without components has the text of one with an empty component
+one_empty : (p : Parts) → p.components ≡ [] → name_text (record p { components = [] ∷ [] }) ≡ name_text p
+unfolding joined_components quote
+one_empty p e = ap (λ (cs : List (List ℕ)). join_with_byte 47 (map quote cs) ++ 64 ∷ quote p.realm) (sym e)
+
+by_counted : (p q : Parts) (a b : List (List ℕ)) → p.components ≡ a → q.components ≡ b → length a ≡ length b → name_text p ≡ name_text q → SameParts p q
+by_counted p q [] [] ep eq n e =
+    ((by_text (record p { components = [] ∷ [] }) (record q { components = [] ∷ [] }) (omega arith) (omega arith) (one_empty p ep ∙ e ∙ sym (one_empty q eq))).0, ep ∙ sym eq)
+by_counted p q [] (b ∷ bs) ep eq n e = absurd (omega (arith, n))
+by_counted p q (a ∷ as') [] ep eq n e = absurd (omega (arith, n))
+by_counted p q (a ∷ as') (b ∷ bs) ep eq n e =
+    let lp = ap length ep in
+    let lq = ap length eq in
+    by_text p q (omega (arith, lp)) (omega (arith, lq)) e
+
+-- ---- comparisons
+
+then_is : (a b : Ordering) → is_eq (ordering_then a b) ≡ (is_eq a && is_eq b)
+then_is Less b = refl
+then_is Equal b = refl
+then_is Greater b = refl
+
+by_tests : (a b : Bool) → (a ≡ true → b ≡ false) → is_eq (cond a Less (cond b Equal Greater)) ≡ b
+by_tests true true h = sym (h refl)
+by_tests true false h = refl
+by_tests false true h = refl
+by_tests false false h = refl
+
+less_differs : (m n : ℕ) → nat_lt m n ≡ true → (m == n) ≡ false
+less_differs m n lt = grind arith
+
+nat_is : (m n : ℕ) → is_eq (nat_cmp m n) ≡ (m == n)
+nat_is m n = by_tests (nat_lt m n) (m == n) (λ lt. less_differs m n lt)
+
+same_number : (m n : ℕ) → (m == n) ≡ true → m ≡ n
+same_number m n e = grind arith
+
+number_same : (m n : ℕ) → m ≡ n → (m == n) ≡ true
+number_same m n e = grind arith
+
+-- the counts of components and the texts are equal iff the names are the same
+names_agree : (p q : Parts) → (length p.components == length q.components && bytes_eq (name_text p) (name_text q)) ≡ have_same_name p q
+names_agree p q = same_name_is p q (length p.components == length q.components && bytes_eq (name_text p) (name_text q))
+    (λ e. let both = and_both (length p.components == length q.components) (bytes_eq (name_text p) (name_text q)) e in
+    by_counted p q p.components q.components refl refl (same_number _ _ both.0) ((bytes_eq-Decides (name_text p) (name_text q)).0 both.1))
+    (λ realm components. both_and _ _ (number_same _ _ (ap length components))
+    ((bytes_eq-Decides (name_text p) (name_text q)).1 (ap (λ (r : List ℕ). name_text (record p { realm = r })) realm ∙ ap (λ (cs : List (List ℕ)). name_text (record q { components = cs })) components)))
+
+regroup : (v e n t : Bool) → (((v && e) && n) && t) ≡ ((n && t) && (v && e))
+regroup true true true true = refl
+regroup true true true false = refl
+regroup true true false t = refl
+regroup true false true true = refl
+regroup true false true false = refl
+regroup true false false t = refl
+regroup false e true true = refl
+regroup false e true false = refl
+regroup false e false t = refl
+
+-- entries are twins iff their keys compare equal
+pub classes_agree : {A : Type 0} (x y : EntryParts) (k l : ClassKey A) → IsClassKey x k → IsClassKey y l → is_eq (class_cmp k l) ≡ are_twins x y
+classes_agree x y k l of_x of_y =
+    then_is _ (slice_cmp nat_cmp k.3.items l.3.items)
+    ∙ ap (λ (b : Bool). b && is_eq (slice_cmp nat_cmp k.3.items l.3.items)) (then_is _ (nat_cmp k.2 l.2) ∙ ap (λ (b : Bool). b && is_eq (nat_cmp k.2 l.2)) (then_is (nat_cmp k.0 l.0) (nat_cmp k.1 l.1)))
+    ∙ ap (λ (b : Bool). ((is_eq (nat_cmp k.0 l.0) && is_eq (nat_cmp k.1 l.1)) && is_eq (nat_cmp k.2 l.2)) && b) (is_eq-slice_cmp k.3.items l.3.items)
+    ∙ ap (λ (b : Bool). ((b && is_eq (nat_cmp k.1 l.1)) && is_eq (nat_cmp k.2 l.2)) && bytes_eq k.3.items l.3.items) (nat_is k.0 l.0)
+    ∙ ap (λ (b : Bool). (((k.0 == l.0) && b) && is_eq (nat_cmp k.2 l.2)) && bytes_eq k.3.items l.3.items) (nat_is k.1 l.1)
+    ∙ ap (λ (b : Bool). (((k.0 == l.0) && (k.1 == l.1)) && b) && bytes_eq k.3.items l.3.items) (nat_is k.2 l.2)
+    ∙ rw (of_x.version, of_x.enctype, of_x.count, of_x.name, of_y.version, of_y.enctype, of_y.count, of_y.name)
+    (regroup (x.version == y.version) (x.enctype == y.enctype) (length x.principal.components == length y.principal.components) (bytes_eq (name_text x.principal) (name_text y.principal))
+    ∙ ap (λ (b : Bool). b && (x.version == y.version && x.enctype == y.enctype)) (names_agree x.principal y.principal))
+
+-- the same with the bytes of the key
+pub keys_agree : {A : Type 0} (x y : EntryParts) (k l : SameKey A) → IsClassKey x k.0 → IsClassKey y l.0 → k.1.now ≡ x.key → l.1.now ≡ y.key → is_eq (same_cmp k l) ≡ are_same x y
+keys_agree x y k l of_x of_y key other =
+    then_is (class_cmp k.0 l.0) (slice_cmp nat_cmp k.1.now l.1.now)
+    ∙ ap (λ (b : Bool). b && is_eq (slice_cmp nat_cmp k.1.now l.1.now)) (classes_agree x y k.0 l.0 of_x of_y)
+    ∙ ap (λ (b : Bool). are_twins x y && b) (is_eq-slice_cmp k.1.now l.1.now ∙ ap (λ (b : List ℕ). bytes_eq b l.1.now) key ∙ ap (bytes_eq x.key) other)
+
+-- ---- one more entry
+
+-- its number in a map of classes
+pub class_here : {A : Type 0} (xs : List EntryParts) (x : EntryParts) (n : Numbers A) (k : ClassKey A) (next class : ℕ) → AreNumbered xs n → IsClassKey x k → next ≡ length xs → class ≡ unwrap_or (get class_cmp n.classes k) next
+    → Some class ≡ first_twin x (xs ++ x ∷ [])
+class_here xs x n k next class known is next_is class_is = number_here are_twins twins_equiv xs x (get class_cmp n.classes k) next class (known.classes x k is) next_is class_is
+
+-- its number in a map of keys
+pub key_here : {A : Type 0} (xs : List EntryParts) (x : EntryParts) (n : Numbers A) (k : SameKey A) (next key : ℕ) → AreNumbered xs n → IsClassKey x k.0 → k.1.now ≡ x.key → next ≡ length xs → key ≡ unwrap_or (get same_cmp n.keys k) next
+    → Some key ≡ first_same x (xs ++ x ∷ [])
+key_here xs x n k next key known is key_of next_is key_is = number_here are_same same_equiv xs x (get same_cmp n.keys k) next key (known.keys x k is key_of) next_is key_is
+
+-- the maps have the numbers of one more entry
+pub one_more : {A : Type 0} (xs : List EntryParts) (x : EntryParts) (n new : Numbers A) (k : ClassKey A) (l : SameKey A) (next class key : ℕ) → AreNumbered xs n → IsClassKey x k → IsClassKey x l.0 → l.1.now ≡ x.key → next ≡ length xs
+    → class ≡ unwrap_or (get class_cmp n.classes k) next → Updates class_cmp n.classes new.classes k (Some class)
+    → key ≡ unwrap_or (get same_cmp n.keys l) next → Updates same_cmp n.keys new.keys l (Some key)
+    → AreNumbered (xs ++ x ∷ []) new
+one_more xs x n new k l next class key known of_class of_key key_of next_is class_is classes key_is keys = record {
+  classes = λ y q is. number_after are_twins twins_equiv xs x y (get class_cmp n.classes k) (get_by (class_cmp q) n.classes) (get_by (class_cmp q) new.classes) next class (is_eq (class_cmp k q))
+      (known.classes x k of_class) next_is class_is (classes_agree x y k q of_class is) (known.classes y q is) (classes.0 q);
+  keys = λ y q is of_y. number_after are_same same_equiv xs x y (get same_cmp n.keys l) (get_by (same_cmp q) n.keys) (get_by (same_cmp q) new.keys) next key (is_eq (same_cmp l q))
+      (known.keys x l of_key key_of) next_is key_is (keys_agree x y l q of_key is key_of of_y) (known.keys y q is of_y) (keys.0 q);
+}

@@ -1,0 +1,55 @@
+-- What a run has made, by its definition.
+use Rattle.std.specs.Prelude.{◌≡◌, ℕ, List, Bool, true, false, Result, Ok, Err, IsOk}
+use Rattle.krb_walk.specs.declared.refusal.Code.{Code}
+use Rattle.krb_walk.specs.declared.refusal.Refusal.{Refusal}
+use Rattle.krb_walk.specs.declared.refusal.Refusal.TheVariants.{Code as ByCode, NoMemory}
+use Rattle.krb_keytab.specs.Entry.{EntryParts}
+use Rattle.krb_keytab.specs.Find.{PlacedEntry}
+use Rattle.krb_keytab.specs.Store.{KeytabState}
+use Rattle.krb_copy.specs.Copying.{Run, has_lines}
+use Rattle.krb_copy.specs.Classes.{Follows}
+use Rattle.krb_copy.specs.declared.copy.Copying.{Copying}
+
+-- the lines, those of the clashes, and, if there are none of these, the keytab are those of the run
+pub record IsMade (due : Result Run Code) (text clashes : List ℕ) (keytab : KeytabState) : Type 0 where
+  pub run : Run
+  pub is_due : due ≡ Ok run
+  pub text_is : text ≡ run.text
+  pub clashes_are : clashes ≡ run.clashes
+  pub keytab_is : has_lines run.clashes ≡ false → keytab ≡ run.keytab
+
+-- the run is refused with this code, or memory ran out
+abbrev pub IsRefusedBy : {X : Type 0} → Result X Code → Refusal → Type 0
+IsRefusedBy due (ByCode code) = due ≡ Err code
+IsRefusedBy due NoMemory = Unit {0}
+
+-- ---- for private contracts
+
+-- a run of the code is at that run of the definition
+pub record IsRun {A : Type 0} (all : List EntryParts) (xs : List PlacedEntry) (run : Run) (copying : Copying A) : Type 0 where
+  pub keytab : copying.making.keytab.state ≡ run.keytab
+  pub text : copying.making.text.items ≡ run.text
+  pub clashes : copying.making.clashes.items ≡ run.clashes
+  pub classes : Follows all xs run.before run.held copying.classes
+
+-- an addition is refused and adds no line, or memory ran out
+abbrev pub IsRefusal : {X : Type 0} → Result X Code → List ℕ → List ℕ → Refusal → Type 0
+IsRefusal due old new (ByCode code) = (due ≡ Err code) × (new ≡ old)
+IsRefusal due old new NoMemory = Unit {0}
+
+-- the run after the next entry, or why its addition is refused
+abbrev pub Meets : {A : Type 0} → List EntryParts → List PlacedEntry → Run → Result Run Code → Result (Unit {0}) Refusal → Copying A → Type 0
+Meets all xs run due (Ok done) new = (next : Run) × (due ≡ Ok next) × IsRun all xs next new
+Meets all xs run due (Err (ByCode code)) new = (due ≡ Err code) × (new.making.text.items ≡ run.text) × (new.making.clashes.items ≡ run.clashes)
+Meets all xs run due (Err NoMemory) new = Unit {0}
+
+-- the run has come to its end, or is refused
+abbrev pub Ends : {A : Type 0} → Result Run Code → Result (Unit {0}) Refusal → Copying A → Type 0
+Ends due (Ok done) new = IsMade due new.making.text.items new.making.clashes.items new.making.keytab.state
+Ends due (Err refusal) new = IsRefusedBy due refusal
+
+-- a refusal by a code only ends the run if an entry has clashed; else it is the run's
+abbrev pub EndsBy : Bool → Refusal → Result (Unit {0}) Refusal → Type 0
+EndsBy true (ByCode code) result = IsOk result
+EndsBy false (ByCode code) result = result ≡ Err (ByCode code)
+EndsBy clashed NoMemory result = result ≡ Err NoMemory

@@ -1,0 +1,27 @@
+use Rattle.std.proofs.Common.{ap, sym, ◌∙◌}
+use Rattle.std.proofs.lemmas.Result.{err_from_is_err_and}
+use Rattle.krb_audit.specs.Selection.{selected_in}
+use Rattle.krb_driver.specs.declared.error.RunError.{RunError}
+use Rattle.krb_driver.specs.Effects.{Fails}
+use Rattle.krb_editors.proofs.Copies.{makes-none, makes-some, makes-spent}
+use Rattle.krb_editors.proofs.ktcopy.copy_from.Goals as goal
+
+-- memory ran out
+pub returns-in_err-entries : goal.returns-in_err-entries
+returns-in_err-entries g c =
+    let p = err_from_is_err_and c.from_residual.result c.from_residual.ensures.1 in
+    rw p.1 (makes-spent g.F.Files c.args.files.now _ _ (p.0.file.now, ap (λ (t : RunError). Fails p.0.file.now t) p.2))
+
+-- what is asked for is not there
+pub returns-then-finds_none : goal.returns-then-finds_none
+returns-then-finds_none g c =
+    let o = c.args.command.now.options.now in
+    let xs = selected_in o.selection 0 c.args.from.now.state in
+    makes-none g.F.Files c.args.files.now o c.args.command.now.from.now c.args.command.now.to.now xs c.deref.result.now (c.deref.ensures.value ∙ c.in_ok-entries.ensures) (sym c.finds_none.ensures ∙ c.if-finds_none.true)
+
+pub returns : goal.returns
+returns g c =
+    let o = c.args.command.now.options.now in
+    let xs = selected_in o.selection 0 c.args.from.now.state in
+    makes-some g.F.Files c.args.files.now o c.args.command.now.from.now c.args.command.now.to.now xs c.deref.result.now (c.deref.ensures.value ∙ c.in_ok-entries.ensures) _ c.copy_to.new.files (sym c.finds_none.ensures ∙ c.if-finds_none.false)
+    (rw (c.deref-2.ensures.value ∙ sym c.deref.ensures.value) at c.copy_to.ensures)

@@ -1,0 +1,76 @@
+-- What ktcopy does.
+use Rattle.std.specs.Prelude.{◌≡◌, ℕ, Bool, true, false, not, List, ◌&&◌, ◌||◌, nat_lt, length, ◌==◌, if◌then◌else◌, codes, Option, None, Some, slice_get, Result, Ok, Err}
+use Rattle.std.specs.List.{filter_map}
+use Rattle.std.specs.Option.{option_or}
+use Rattle.krb_walk.specs.declared.refusal.Code.{Code}
+use Rattle.krb_keytab.specs.Find.{PlacedEntry}
+use Rattle.krb_keytab.specs.Store.{image_of}
+use Rattle.krb_files.specs.Plan.{Ends, Holds}
+use Rattle.krb_text.specs.Etype.{etype_in}
+use Rattle.krb_copy.specs.Copying.{Run, copy_run, has_lines}
+use Rattle.krb_audit.specs.declared.selection.SelectedKvno.{SelectedKvno}
+use Rattle.krb_audit.specs.declared.selection.SelectedKvno.TheVariants.{Any, Newest}
+use Rattle.krb_audit.specs.declared.selection.Selection.{Selection}
+use Rattle.krb_audit.specs.Selection.{selected_in}
+use Rattle.krb_driver.specs.declared.error.RunError.TheVariants.{NothingToCopy, Refused}
+use Rattle.krb_driver.specs.declared.verdict.Verdict.TheVariants.{Clashed, Well}
+use Rattle.krb_driver.specs.Effects.{CommandPlan, Effect, Displays, Fails, opens, saves_unless, text}
+use Rattle.krb_driver.specs.Matches.{AreSpelledNames, Matched, bad_names, v1_order}
+use Rattle.krb_driver.specs.Mistakes.{MistakeParts, Twice}
+use Rattle.krb_driver.specs.Opening.{whole_in, whole_or_empty}
+use Rattle.krb_editors.specs.declared.ktcopy.CopyOptions.{CopyOptions}
+use Rattle.krb_editors.specs.Selecting.{IsSpelledKvno, asks_for_any, bad_etype, bad_kvno}
+
+-- any kvno is selected
+abbrev pub is_any_kvno : SelectedKvno → Bool
+is_any_kvno Any = true
+is_any_kvno kvno = false
+
+-- a name, a kvno or an enctype is given
+abbrev pub asks_for_some : {A : Type 0} → Selection A → Bool
+asks_for_some s = not (asks_for_any s) || not (is_any_kvno s.kvno)
+
+-- entries are asked for, and there are none
+abbrev pub finds_none : {A : Type 0} → Selection A → List PlacedEntry → Bool
+finds_none s xs = (length xs == 0) && asks_for_some s
+
+-- the lines of a run are printed, and its keytab is saved if something was copied; after a clash nothing is saved, and only a dry run prints more than the clashes
+abbrev pub copied_effect : Bool → List ℕ → Result Run Code → Effect
+copied_effect dry_run to (Err code) = Fails to (Refused code)
+copied_effect dry_run to (Ok run) =
+    if has_lines run.clashes then Displays to (text (if dry_run then run.text else run.clashes) Clashed)
+    else (if has_lines run.text then saves_unless dry_run to (image_of run.keytab) run.text Well else Displays to (text run.text Well))
+
+-- TO is held, unless it is a dry run, and opened; the entries are copied into its keytab
+abbrev pub copies_to : {A : Type 0} → CopyOptions A → List ℕ → List PlacedEntry → CommandPlan
+copies_to o to xs = Holds (not o.dry_run) to (opens to (whole_or_empty o.v1_order) (λ k. Ends (copied_effect o.dry_run to (copy_run o.replace xs k))))
+
+-- the same, unless entries are asked for and there are none
+abbrev pub copies_from : {A : Type 0} → CopyOptions A → List ℕ → List ℕ → List PlacedEntry → CommandPlan
+copies_from o from to xs = if finds_none o.selection xs then Ends (Fails from NothingToCopy) else copies_to o to xs
+
+-- FROM is opened, and the selected entries of its keytab are copied
+abbrev pub ktcopy_plan : {A : Type 0} → CopyOptions A → List ℕ → List ℕ → CommandPlan
+ktcopy_plan o from to = opens from (whole_in o.v1_order) (λ k. copies_from o from to (selected_in o.selection 0 k))
+
+-- ---- what the words ask for
+
+-- the mistake that shows before any value is read: `-k` is given twice
+abbrev pub odd_copy : Matched → Option MistakeParts
+odd_copy words = if nat_lt 1 (length (words.values (codes "kvno"))) then Some (Twice (codes "-k")) else None
+
+-- the first mistake of the words
+abbrev pub copy_mistake : Matched → Option MistakeParts
+copy_mistake words =
+    option_or (odd_copy words)
+    (option_or (bad_kvno (codes "new") Newest (slice_get (words.values (codes "kvno")) 0))
+    (option_or (bad_etype (words.values (codes "etype"))) (bad_names (words.values (codes "name")))))
+
+-- each option is what its own word spells
+pub record SpellsCopy {A : Type 0} (words : Matched) (options : CopyOptions A) : Type 0 where
+  pub names : AreSpelledNames (words.values (codes "name")) options.selection.names.items
+  pub kvno : IsSpelledKvno (codes "new") Newest (slice_get (words.values (codes "kvno")) 0) options.selection.kvno
+  pub enctypes : options.selection.enctypes.items ≡ filter_map etype_in (words.values (codes "etype"))
+  pub replace : options.replace ≡ words.flag (codes "replace")
+  pub dry_run : options.dry_run ≡ words.flag (codes "dry-run")
+  pub v1_order : options.v1_order ≡ v1_order words

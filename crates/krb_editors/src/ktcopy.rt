@@ -1,0 +1,279 @@
+//! ktcopy: copies entries from one keytab into another.
+
+ghost use Rattle.std.specs.Prelude.{◌≡◌, IsFalse, None, Ok, if◌then◌else◌, option_map};
+ghost use Rattle.krb_copy.specs.Copying.{Run, copy_run};
+ghost use Rattle.krb_copy.specs.Made.{IsMade as IsRunOf};
+ghost use Rattle.krb_audit.specs.Selection.{selected_in};
+ghost use Rattle.krb_driver.specs.Commands.{Makes, RunsCommand, always, any, text_effect};
+ghost use Rattle.krb_driver.specs.Effects.{IsMade};
+ghost use Rattle.krb_driver.specs.Mistakes.{Reads, mistake_parts};
+ghost use Rattle.krb_driver.specs.declared.verdict.Verdict.TheVariants.{Clashed};
+ghost use Rattle.krb_editors.specs.Ktcopy.{SpellsCopy, asks_for_some, copied_effect, copies_from, copies_to, copy_mistake, finds_none, ktcopy_plan, odd_copy};
+
+use crate::selecting::{bad_etype, etypes_of, kvno_by_word};
+use krb_audit::{SelectedKvno, Selection, selected_entries};
+use krb_copy::{Copied, copy_into};
+use krb_driver::{
+    Command, CommandName, CommandWords, FileError, Made, Matches, Mistake, Output, RunError, Streams,
+    V1_BIG, Verdict, Word, WordFault, first_value, hold_if, open_whole, open_whole_or_empty, run,
+    spelled_names, times_given, v1_order,
+};
+use krb_files::Files;
+use krb_keytab::{EntryView, Keytab};
+use krb_walk::Refusal;
+use krb_wire::{NoMemory, Order};
+use std::alloc::{Allocator, Global};
+use std::io::{Read, Write};
+
+/// The words of ktcopy.
+pub const KTCOPY: CommandWords = CommandWords {
+    command: CommandName::Ktcopy,
+    name: "ktcopy",
+    about: "Copies entries from one keytab into another",
+    usage: "\
+krbfile ktcopy [--v1-big] [-n] [--replace] [-p NAME].. [-k KVNO|new] [-e ETYPE].. FROM TO",
+    after_help: None,
+    words: &[
+        Word::Flag(
+            "dry-run",
+            'n',
+            "Tell what would be copied, and save nothing",
+        ),
+        Word::LongFlag("replace", "Replace entries that have another key"),
+        Word::Valued(
+            "name",
+            'p',
+            "NAME",
+            "Entries of that principal, with its realm; may be repeated",
+        ),
+        Word::Valued(
+            "kvno",
+            'k',
+            "KVNO",
+            "Entries of that version; new: those of the newest",
+        ),
+        Word::Valued(
+            "etype",
+            'e',
+            "ETYPE",
+            "Entries of that encryption type, by name or number; may be repeated",
+        ),
+        V1_BIG,
+        Word::Operand("FROM", "The file to copy from"),
+        Word::Operand("TO", "The file to copy to; it is made if it is missing"),
+    ],
+};
+
+/// Which entries ktcopy copies.
+#[derive(Drop)]
+pub struct CopyOptions<A: Allocator> {
+    pub selection: Selection<A>,
+    /// Replace entries that have another key.
+    pub replace: bool,
+    /// Print what would be copied, and save nothing.
+    pub dry_run: bool,
+    /// The byte order of version 1 keytabs.
+    pub v1_order: Order,
+}
+
+// Returns the mistake that shows before any value is read: `-k` is given twice.
+fn odd_copy<'a, M: Matches<'a>>(matches: &M) -> Option<Mistake<'a>>
+    ensures { option_map mistake_parts result ≡ odd_copy (M.matched matches.now) }
+{
+    if times_given(matches, "kvno") > 1 {
+        return Some(Mistake::Twice("-k"));
+    }
+    None
+}
+
+/// Returns the options of ktcopy. Refuses `-k` given twice, and a bad value.
+pub fn copy_options<'a, M: Matches<'a>>(
+    alloc: Global,
+    matches: &M,
+) -> Result<CopyOptions<Global>, WordFault<'a>>
+    ensures { Reads (copy_mistake (M.matched matches.now)) (SpellsCopy (M.matched matches.now)) result }
+{
+    if let Some(mistake) = odd_copy(matches) {
+        return Err(WordFault::of(mistake));
+    }
+    let kvno = match kvno_by_word(first_value(matches, "kvno"), "new", SelectedKvno::Newest) {
+        Ok(kvno) => kvno,
+        Err(mistake) => return Err(WordFault::of(mistake)),
+    };
+    if let Some(mistake) = bad_etype(matches) {
+        return Err(WordFault::of(mistake));
+    }
+    let names = spelled_names(alloc, matches.values("name"))?;
+    let Ok(enctypes) = etypes_of(alloc, matches.values("etype")) else {
+        return Err(WordFault::NoMemory);
+    };
+    Ok(CopyOptions {
+        selection: Selection {
+            names,
+            kvno,
+            enctypes,
+        },
+        replace: matches.flag("replace"),
+        dry_run: matches.flag("dry-run"),
+        v1_order: v1_order(matches),
+    })
+}
+
+/// The command ktcopy.
+#[derive(Clone, Copy)]
+struct CopyEntries<'f, B: Allocator> {
+    options: &'f CopyOptions<B>,
+    from: &'f str,
+    to: &'f str,
+}
+
+// Returns whether a name, a kvno or an enctype is given.
+fn asks_for_some<B: Allocator>(selection: &Selection<B>) -> bool
+    ensures { result ≡ asks_for_some selection.now }
+{
+    let is_any = selection.names.is_empty() && selection.enctypes.is_empty();
+    !is_any || selection.kvno != SelectedKvno::Any
+}
+
+// Returns whether entries are asked for and there are none.
+fn finds_none<B: Allocator>(selection: &Selection<B>, entries: &[(u32, EntryView<'_>)]) -> bool
+    ensures { result ≡ finds_none selection.now entries.now }
+{
+    entries.is_empty() && asks_for_some(selection)
+}
+
+// Returns what to print if an entry clashed: all lines in a dry run, and otherwise those of the clashes.
+fn clashed<A: Allocator>(dry_run: bool, text: Vec<u8, A>, clashes: Vec<u8, A>) -> Output<A>
+    ensures text { result.text.items ≡ (if dry_run then text.items else clashes.items) }
+    ensures verdict { result.verdict ≡ Clashed }
+{
+    Output {
+        text: if dry_run { text } else { clashes },
+        verdict: Verdict::Clashed,
+    }
+}
+
+// Returns what to print and save of what was copied.
+fn made<'a, A: Allocator + Copy, B: Allocator>(
+    command: &CopyEntries<'a, B>,
+    copied: Copied<A>,
+) -> Result<Made<A, Output<A>>, FileError<'a>>
+    ensures { (run : Run) → IsRunOf (Ok run) copied.text.items copied.clashes.items copied.keytab.state
+        → text_effect command.now.to.now result ≡ copied_effect command.now.options.now.dry_run command.now.to.now (Ok run) }
+{
+    let dry_run = command.options.dry_run;
+    let Copied {
+        text,
+        clashes,
+        keytab,
+    } = copied;
+    if !clashes.is_empty() {
+        return Ok(Made::Shows(clashed(dry_run, text, clashes)));
+    }
+    let output = Output {
+        text,
+        verdict: Verdict::Well,
+    };
+    if dry_run || output.text.is_empty() {
+        return Ok(Made::Shows(output));
+    }
+    Ok(Made::Saves(keytab.into_image(), output))
+}
+
+// Copies the selected entries, which have their places in FROM, into the keytab TO.
+fn copy<'a, A: Allocator + Copy, B: Allocator>(
+    alloc: A,
+    command: &CopyEntries<'a, B>,
+    entries: &[(u32, EntryView<'_>)],
+    to: Keytab<A>,
+) -> Result<Made<A, Output<A>>, FileError<'a>>
+    ensures { IsMade (copied_effect command.now.options.now.dry_run command.now.to.now
+        (copy_run command.now.options.now.replace entries.now to.state)) (text_effect command.now.to.now result) }
+{
+    match copy_into(alloc, entries, to, command.options.replace) {
+        Ok(copied) => made(command, copied),
+        Err(Refusal::Code(code)) => Err(FileError {
+            file: command.to,
+            error: RunError::Refused(code),
+        }),
+        Err(Refusal::NoMemory) => Err(FileError::from(NoMemory)),
+    }
+}
+
+// Opens TO, and copies the selected entries into it.
+fn copy_to<'a, A: Allocator + Copy, B: Allocator, F: Files>(
+    alloc: A,
+    command: &CopyEntries<'a, B>,
+    entries: &[(u32, EntryView<'_>)],
+    files: &mut F,
+) -> Result<Made<A, Output<A>>, FileError<'a>>
+    ensures { Makes F.Files files.old (copies_to command.now.options.now command.now.to.now entries.now)
+        (text_effect command.now.to.now result) files.new }
+{
+    hold_if(!command.options.dry_run, files, command.to);
+    let to = open_whole_or_empty(alloc, command.options.v1_order, files, command.to)?;
+    copy(alloc, command, entries, to)
+}
+
+// Copies the selected entries of the keytab FROM.
+fn copy_from<'a, A: Allocator + Copy, B: Allocator, F: Files>(
+    alloc: A,
+    command: &CopyEntries<'a, B>,
+    from: &Keytab<A>,
+    files: &mut F,
+) -> Result<Made<A, Output<A>>, FileError<'a>>
+    ensures { Makes F.Files files.old (copies_from command.now.options.now command.now.from.now command.now.to.now
+        (selected_in command.now.options.now.selection 0 from.now.state)) (text_effect command.now.to.now result) files.new }
+{
+    let selection = &command.options.selection;
+    let entries = selected_entries(alloc, from, selection)?;
+    if finds_none(selection, &entries) {
+        return Err(FileError {
+            file: command.from,
+            error: RunError::NothingToCopy,
+        });
+    }
+    copy_to(alloc, command, &entries, files)
+}
+
+impl<'f, A: Allocator + Copy, B: Allocator> Command<A> for CopyEntries<'f, B> {
+    ghost use Rattle.krb_editors.specs.Ktcopy.{ktcopy_plan};
+
+    type Shown = Output<A>;
+
+    ghost file = { λ c. c.to.now };
+
+    ghost plan = { λ c mode. ktcopy_plan c.options.now c.from.now c.to.now };
+
+    fn file(&self) -> &str {
+        self.to
+    }
+
+    fn make<F: Files>(
+        &self,
+        alloc: A,
+        files: &mut F,
+    ) -> Result<Made<A, Self::Shown>, FileError<'_>> {
+        let from = open_whole(alloc, self.options.v1_order, files, self.from)?;
+        copy_from(alloc, self, &from, files)
+    }
+}
+
+/// Copies the selected entries of the keytab `from` into the keytab `to`, prints a line for each that is removed, copied
+/// or clashes, and returns the exit status.
+#[tactic(auto, unfolding(krb_driver::specs::Commands::always))]
+pub fn run_ktcopy<A: Allocator + Copy, B: Allocator, F: Files, R: Read, W: Write, E: Write>(
+    alloc: A,
+    options: &CopyOptions<B>,
+    from: &str,
+    to: &str,
+    files: &mut F,
+    streams: &mut Streams<R, W, E>,
+) -> u8
+    requires { IsFalse streams.old.out.failed }
+    ensures runs { RunsCommand F.Files (always (ktcopy_plan options.now from.now to.now)) any files.old files.new
+        streams.old.out streams.new.out streams.old.err streams.new.err result }
+    ensures input { streams.new.input ≡ streams.old.input }
+{
+    run(alloc, &CopyEntries { options, from, to }, files, streams)
+}

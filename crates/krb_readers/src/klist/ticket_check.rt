@@ -1,0 +1,102 @@
+//! klist -s: checks that a cache has a ticket to go on with, and prints nothing.
+
+ghost use Rattle.std.specs.Prelude.{◌≡◌, option_map};
+ghost use Rattle.krb_ccache.specs.Store.{open_result};
+ghost use Rattle.krb_files.specs.Loading.{most_bytes};
+ghost use Rattle.krb_readers.specs.TicketCheck.{RunsTicketCheck, check_mistake, check_of, odd_check, odd_with_silent, opened_status};
+ghost use Rattle.krb_driver.specs.Mistakes.{Reads, mistake_parts};
+
+use crate::klist::seen_tickets::has_ticket;
+use crate::klist::words::{odd_seconds, odd_with_cache};
+use krb_ccache::Ccache;
+use krb_driver::{Matches, Mistake, WordFault, first_value, spelled_seconds};
+use krb_files::{Files, LoadFault};
+use krb_wire::{Limits, USUAL_LIMIT};
+use std::alloc::Allocator;
+
+/// What `klist -s` asks of a cache.
+#[derive(Clone, Copy)]
+pub struct TicketCheck {
+    /// A ticket is valid for so many seconds more.
+    pub seconds: u32,
+}
+
+// Returns the mistake of an option that does not go with `-s`, if one is given.
+fn odd_with_silent<'a, M: Matches<'a>>(matches: &M) -> Option<Mistake<'a>>
+    ensures { option_map mistake_parts result ≡ odd_with_silent (M.matched matches.now) }
+{
+    if matches.flag("keytab") {
+        Some(Mistake::DoNotGoTogether("-s", "-k"))
+    } else if matches.flag("json") {
+        Some(Mistake::DoNotGoTogether("-s", "--json"))
+    } else if matches.flag("etypes") {
+        Some(Mistake::DoNotGoTogether("-s", "-e"))
+    } else if matches.flag("flags") {
+        Some(Mistake::DoNotGoTogether("-s", "-f"))
+    } else if matches.flag("configs") {
+        Some(Mistake::DoNotGoTogether("-s", "-C"))
+    } else {
+        None
+    }
+}
+
+// Returns the first mistake that shows before SECONDS are read.
+fn odd_check<'a, M: Matches<'a>>(matches: &M) -> Option<Mistake<'a>>
+    ensures { option_map mistake_parts result ≡ odd_check (M.matched matches.now) }
+{
+    if let Some(mistake) = odd_seconds(matches) {
+        return Some(mistake);
+    }
+    if let Some(mistake) = odd_with_silent(matches) {
+        return Some(mistake);
+    }
+    odd_with_cache(matches)
+}
+
+/// Returns what `klist -s` asks for. Refuses options that do not go together, and SECONDS that are no number.
+pub fn ticket_check<'a, M: Matches<'a>>(matches: &M) -> Result<TicketCheck, WordFault<'a>>
+    ensures { Reads (check_mistake (M.matched matches.now)) (λ check. check ≡ check_of (M.matched matches.now)) result }
+{
+    if let Some(mistake) = odd_check(matches) {
+        return Err(WordFault::of(mistake));
+    }
+    match spelled_seconds(first_value(matches, "for")) {
+        Ok(seconds) => Ok(TicketCheck {
+            seconds: seconds.unwrap_or(0),
+        }),
+        Err(mistake) => Err(WordFault::of(mistake)),
+    }
+}
+
+// Returns the status for an image: 0 if it is a cache with a ticket that ends after that second, and otherwise 1.
+fn image_status<A: Allocator>(image: Vec<u8, A>, time: u64) -> u8
+    ensures { result ≡ opened_status time (open_result most_bytes image.items) }
+{
+    match Ccache::open(image, Limits::usual()) {
+        Ok(cache) => { if has_ticket(&cache, time) { 0 } else { 1 } }
+        Err(_) => 1,
+    }
+}
+
+/// Checks that the cache `file` has a ticket that is valid for some seconds more, and returns the exit status. `now` is
+/// in seconds, or `None` if the clock was not read. Takes no memory but for the image.
+pub fn run_ticket_check<A: Allocator, F: Files>(
+    alloc: A,
+    check: TicketCheck,
+    now: Option<u32>,
+    file: &str,
+    files: &mut F,
+) -> u8
+    ensures { RunsTicketCheck F.Files file.now files.old files.new result check now }
+{
+    let Some(now) = now else {
+        return 3;
+    };
+    let time = u64::from(now) + u64::from(check.seconds);
+    match files.load(alloc, file, USUAL_LIMIT) {
+        Ok(image) => image_status(image, time),
+        Err(LoadFault::NoMemory) => 4,
+        Err(LoadFault::Failed) => 3,
+        Err(LoadFault::Missing | LoadFault::TooLarge) => 1,
+    }
+}

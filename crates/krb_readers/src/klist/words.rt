@@ -1,0 +1,161 @@
+//! The words of klist, and its options.
+
+ghost use Rattle.std.specs.Prelude.{◌≡◌, option_map};
+ghost use Rattle.krb_readers.specs.Klist.{list_kind, list_mistake, list_options, odd_option, odd_seconds, odd_with_cache, odd_with_keytab};
+ghost use Rattle.krb_driver.specs.Mistakes.{Reads, mistake_parts};
+
+use krb_cache_text::CcColumns;
+use krb_driver::{
+    CommandName, CommandWords, Matches, Mistake, V1_BIG, Word, WordFault, times_given, v1_order,
+};
+use krb_text::KtColumns;
+use krb_wire::Order;
+
+/// The words of klist.
+pub const KLIST: CommandWords = CommandWords {
+    command: CommandName::Klist,
+    name: "klist",
+    about: "Lists a keytab or a credential cache",
+    usage: "\
+krbfile klist [-c] [-e] [-f] [-C] [--json] FILE
+       krbfile klist -k [-t] [-K] [-e] [--v1-big] [--json] FILE
+       krbfile klist -s [--for SECONDS] [-c] FILE",
+    after_help: None,
+    words: &[
+        Word::Flag("cache", 'c', "List a credential cache (the default)"),
+        Word::Flag("flags", 'f', "Show the flags of tickets"),
+        Word::Flag("configs", 'C', "Show configuration entries"),
+        Word::Flag("keytab", 'k', "List a keytab"),
+        Word::Flag("times", 't', "Show the times of entries"),
+        Word::Flag("keys", 'K', "Show the keys of entries"),
+        Word::Flag("etypes", 'e', "Show encryption types"),
+        V1_BIG,
+        Word::LongFlag("json", "Print all as one JSON object; keys only with -K"),
+        Word::Flag(
+            "silent",
+            's',
+            "Print nothing; status 0 if there is a ticket to go on with",
+        ),
+        Word::LongValued(
+            "for",
+            "SECONDS",
+            "With -s: the ticket is valid for so many seconds more",
+        ),
+        Word::Operand("FILE", "The file to list"),
+    ],
+};
+
+/// The kind of file that klist lists, and the columns that it shows.
+#[derive(Clone, Copy)]
+pub enum ListKind {
+    Keytab(KtColumns),
+    Cache(CcColumns),
+}
+
+/// The options of klist.
+#[derive(Clone, Copy)]
+pub struct KlistOptions {
+    pub kind: ListKind,
+    /// The byte order of version 1 keytabs.
+    pub v1_order: Order,
+    /// Print all as one JSON object, whatever the columns; the keys of a keytab only with their column.
+    pub json: bool,
+}
+
+// Returns the mistake of an option that does not go with `-k`, if one is given.
+fn odd_with_keytab<'a, M: Matches<'a>>(matches: &M) -> Option<Mistake<'a>>
+    ensures { option_map mistake_parts result ≡ odd_with_keytab (M.matched matches.now) }
+{
+    if matches.flag("cache") {
+        Some(Mistake::DoNotGoTogether("-c", "-k"))
+    } else if matches.flag("flags") {
+        Some(Mistake::DoNotGoTogether("-f", "-k"))
+    } else if matches.flag("configs") {
+        Some(Mistake::DoNotGoTogether("-C", "-k"))
+    } else {
+        None
+    }
+}
+
+/// Returns the mistake of an option that goes only with `-k`, if one is given.
+pub fn odd_with_cache<'a, M: Matches<'a>>(matches: &M) -> Option<Mistake<'a>>
+    ensures { option_map mistake_parts result ≡ odd_with_cache (M.matched matches.now) }
+{
+    if matches.flag("times") {
+        Some(Mistake::ForKeytabs("-t"))
+    } else if matches.flag("keys") {
+        Some(Mistake::ForKeytabs("-K"))
+    } else if matches.flag("v1-big") {
+        Some(Mistake::ForKeytabs("--v1-big"))
+    } else {
+        None
+    }
+}
+
+/// Returns the mistake of `--for` if it is given twice, or without `-s`.
+pub fn odd_seconds<'a, M: Matches<'a>>(matches: &M) -> Option<Mistake<'a>>
+    ensures { option_map mistake_parts result ≡ odd_seconds (M.matched matches.now) }
+{
+    let times = times_given(matches, "for");
+    if times > 1 {
+        Some(Mistake::Twice("--for"))
+    } else if times == 1 && !matches.flag("silent") {
+        Some(Mistake::OnlyWith("--for", "-s"))
+    } else {
+        None
+    }
+}
+
+// Returns the first option that is for the other kind of file.
+fn odd_option<'a, M: Matches<'a>>(matches: &M) -> Option<Mistake<'a>>
+    ensures { option_map mistake_parts result ≡ odd_option (M.matched matches.now) }
+{
+    if matches.flag("keytab") {
+        odd_with_keytab(matches)
+    } else {
+        odd_with_cache(matches)
+    }
+}
+
+// Returns the kind of file, a cache unless `-k` is given, and the columns, each selected by its own option.
+fn list_kind<'a, M: Matches<'a>>(matches: &M) -> ListKind
+    ensures { result ≡ list_kind (M.matched matches.now) }
+{
+    if matches.flag("keytab") {
+        ListKind::Keytab(KtColumns {
+            times: matches.flag("times"),
+            etypes: matches.flag("etypes"),
+            keys: matches.flag("keys"),
+        })
+    } else {
+        ListKind::Cache(CcColumns {
+            flags: matches.flag("flags"),
+            etypes: matches.flag("etypes"),
+            configs: matches.flag("configs"),
+        })
+    }
+}
+
+// Returns the first mistake in the words of a listing.
+fn list_mistake<'a, M: Matches<'a>>(matches: &M) -> Option<Mistake<'a>>
+    ensures { option_map mistake_parts result ≡ list_mistake (M.matched matches.now) }
+{
+    match odd_seconds(matches) {
+        Some(mistake) => Some(mistake),
+        None => odd_option(matches),
+    }
+}
+
+/// Returns the options of a listing. Refuses options that do not go together.
+pub fn klist_options<'a, M: Matches<'a>>(matches: &M) -> Result<KlistOptions, WordFault<'a>>
+    ensures { Reads (list_mistake (M.matched matches.now)) (λ options. options ≡ list_options (M.matched matches.now)) result }
+{
+    if let Some(mistake) = list_mistake(matches) {
+        return Err(WordFault::of(mistake));
+    }
+    Ok(KlistOptions {
+        kind: list_kind(matches),
+        v1_order: v1_order(matches),
+        json: matches.flag("json"),
+    })
+}

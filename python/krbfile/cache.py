@@ -1,0 +1,109 @@
+"""Credential caches."""
+from __future__ import annotations
+
+from collections.abc import Iterator
+from ctypes import byref, c_uint16, c_uint32
+from dataclasses import dataclass, field
+
+from krbfile.library import (
+    NOT_FOUND, NUMBERS, KrbfileError, Name, Numbers, TicketRecord, check, exports, named, number, sized,
+)
+from krbfile.reading import AnyPath, load
+from krbfile.store import Store
+
+
+@dataclass(frozen=True)
+class Ticket:
+    """A ticket or a configuration entry, and its place. Times are seconds since 1970."""
+
+    place: int
+    client: str
+    server: str
+    enctype: int
+    key: bytes = field(repr=False)
+    authtime: int
+    starttime: int
+    endtime: int
+    renew_till: int
+    flags: int
+    is_skey: bool
+    is_config: bool
+    ticket: bytes = field(repr=False)
+    second_ticket: bytes = field(repr=False)
+
+
+class Cache(Store):
+    """A credential cache. Iterating over it yields its tickets and configuration entries."""
+
+    _kind = "cc"
+
+    @classmethod
+    def create(cls, principal: Name, limit: int = 0) -> Cache:
+        """Returns an empty cache with a default principal."""
+        cache = cls()
+        words = (*named(principal), number(c_uint32, limit))
+        check(exports.krbf_cc_create(*words, byref(cache._handle)))
+        return cache
+
+    @classmethod
+    def open(cls, image: bytes, *, limit: int = 0) -> Cache:
+        """Returns the cache of an image."""
+        cache = cls()
+        words = (*sized(image), number(c_uint32, limit))
+        check(exports.krbf_cc_open(*words, byref(cache._handle)))
+        return cache
+
+    @classmethod
+    def load(cls, path: AnyPath, *, limit: int = 0) -> Cache:
+        """Returns the cache of a file."""
+        return cls.open(load(path, limit), limit=limit)
+
+    @property
+    def principal(self) -> str:
+        """The default principal."""
+        return self._text("principal")
+
+    def _read(self, ticket: TicketRecord) -> Ticket:
+        place = c_uint32(ticket.place)
+        numbers = {name: getattr(ticket, name) for name in NUMBERS if name != "is_skey"}
+        return Ticket(
+            place=ticket.place, client=self._text("client", place),
+            server=self._text("server", place), key=ticket.key.read(),
+            is_skey=bool(ticket.is_skey), is_config=bool(ticket.is_config),
+            ticket=ticket.ticket.read(), second_ticket=ticket.second_ticket.read(), **numbers,
+        )
+
+    def __iter__(self) -> Iterator[Ticket]:
+        cursor = c_uint32()
+        self._do("first", byref(cursor))
+        return self._walk(cursor, TicketRecord())
+
+    def find(self, server: Name) -> Ticket:
+        """Returns the first ticket for a server."""
+        return self._shown(TicketRecord(), "find", *named(server))
+
+    def store(self, ticket: Ticket) -> int:
+        """Stores a ticket, ignoring its `place`, and returns the place where it is stored."""
+        widths = {"enctype": c_uint16}
+        numbers = Numbers(*(number(widths.get(name, c_uint32), getattr(ticket, name)).value
+                            for name in NUMBERS))
+        place = c_uint32()
+        names = (*named(ticket.client), *named(ticket.server))
+        parts = (*sized(ticket.key), *sized(ticket.ticket), *sized(ticket.second_ticket))
+        self._change("store", *names, *parts, byref(numbers), byref(place))
+        return place.value
+
+    def config(self, key: Name, principal: Name = b"") -> bytes | None:
+        """Returns the value of a key, for a principal or the whole cache, or None if not set."""
+        try:
+            return self._bytes("config", *named(key), *named(principal))
+        except KrbfileError as error:
+            if error.status == NOT_FOUND:
+                return None
+            raise
+
+    def set_config(self, key: Name, value: bytes, principal: Name = b"") -> int:
+        """Sets a value and returns the place of its entry."""
+        place = c_uint32()
+        self._change("set_config", *named(key), *named(principal), *sized(value), byref(place))
+        return place.value

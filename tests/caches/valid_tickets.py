@@ -1,0 +1,177 @@
+"""`klist -s`: whether a cache has a ticket to go on with, which the status alone says."""
+
+import os
+from collections.abc import Callable
+from dataclasses import replace
+
+from caches.cache_files import sized
+from caches.cache_listings import of_host
+from keytabs.file_names import LIMIT, NOBODY
+from makers.cache_images import Credential, Name, cache, config, header_field, offset
+from makers.images import TWO
+from makers.usual_caches import OFFSET, PA_TYPE, TICKET, USUAL, VERSION_3, config_ticket
+from runs.harness import Case, Outcome, Report, differences, folder_of, run
+from runs.rows import BAD_LINE, Line, check_rows, shown, words_of
+from runs.terminal import runs_with_words
+from system.pipe_files import fed
+
+# A time that does not come during a test; the usual ticket ended before.
+FUTURE = 2**32 - 1
+
+VALID, NONE, UNREAD = Outcome(0), Outcome(1), Outcome(3)
+
+# A ticket-granting ticket of the default principal's realm, R, and a ticket for host/a@R: over, and not yet.
+OVER, TGT = TICKET, replace(TICKET, endtime=FUTURE)
+HOST_OVER, HOST = of_host(), of_host(endtime=FUTURE)
+
+
+def ask(name: str, image: bytes, wanted: Outcome, options: str = "-s") -> Case:
+    """Returns a run over the cache `c`."""
+    return Case(f"{name}: {options}", ("klist", *words_of(options), "c"), wanted, {"c": image})
+
+
+def service(*components: bytes, realm: bytes = b"R", **more) -> Credential:
+    """Returns a ticket for a server, not over yet."""
+    return replace(TGT, server=Name(components, realm), **more)
+
+
+# The tickets of a cache, and whether one is to go on with.
+TICKETS: list[tuple[str, tuple[Credential | bytes, ...], Outcome]] = [
+    ("none", (), NONE),
+    ("a ticket-granting ticket", (TGT,), VALID),
+    ("one that is over", (OVER,), NONE),
+    ("two, one of which is over", (OVER, TGT), VALID),
+    ("two, the other of which is over", (TGT, OVER), VALID),
+    ("another ticket alone", (HOST,), VALID),
+    ("another ticket that is over", (HOST_OVER,), NONE),
+    ("another ticket beside one that is over", (HOST_OVER, HOST), VALID),
+    # One of the default principal's realm decides, wherever it stands.
+    ("one that is over, and another ticket", (OVER, HOST), NONE),
+    ("another ticket, and one that is over", (HOST, OVER), NONE),
+    ("one that is left, and another that is over", (HOST_OVER, TGT), VALID),
+    # Only of its own realm, by its name: two components in that case, of any type, for any client.
+    *((f"krbtgt of {b'/'.join(parts).decode()}@{realm.decode()}", (OVER, service(*parts, realm=realm)), NONE)
+      for parts, realm in (((b"krbtgt", b"S"), b"R"), ((b"krbtgt", b"R"), b"S"), ((b"krbtgt",), b"R"),
+                           ((b"krbtgt", b"R", b""), b"R"), ((b"KRBTGT", b"R"), b"R"), ((b"krbtgt", b"r"), b"R"),
+                           ((b"krbtgt/R",), b"R"), ((), b"R"))),
+    ("one of another realm alone", (service(b"krbtgt", b"S"),), VALID),
+    ("one of another realm, over, and another ticket", (service(b"krbtgt", b"S", endtime=1), HOST), VALID),
+    ("one of another name type", (replace(OVER, server=Name((b"krbtgt", b"R"), name_type=99)), HOST), NONE),
+    ("one of another client", (replace(TGT, client=Name((b"v",), b"S")),), VALID),
+    ("one of another client that is over", (replace(OVER, client=Name((b"v",), b"S")), HOST), NONE),
+    # Its flags, its start and its kind of key say nothing.
+    ("one that begins later, of no flags", (replace(TGT, starttime=FUTURE, flags=0, is_skey=1),), VALID),
+    ("one that could be renewed", (replace(OVER, renew_till=FUTURE),), NONE),
+    ("one that ends at 0", (replace(TGT, endtime=0), HOST), NONE),
+    # Removed ones do not count, and configuration entries neither: those of two or three components.
+    ("a removed one", (TGT.removed(),), NONE),
+    ("a removed one, and another ticket", (OVER.removed(), HOST), VALID),
+    ("configuration entries", (replace(PA_TYPE, endtime=FUTURE), config_ticket(b"k", endtime=FUTURE)), NONE),
+    ("configuration entries, and one that is over", (PA_TYPE, OVER, config(b"k", b"v")), NONE),
+    *((f"a name of a configuration entry and {len(after)} more", (config_ticket(*after, endtime=FUTURE),), wanted)
+      for after, wanted in (((), VALID), ((b"k", b"p"), NONE), ((b"k", b"p", b"q"), VALID))),
+    # What follows a fault is not read, what stands before it is.
+    ("a damaged tail", (TGT, b"\0"), VALID),
+    ("a ticket, and a part of one", (HOST, TGT.spelled()[:-1]), VALID),
+    ("one that is over, and a damaged tail", (OVER, b"\0"), NONE),
+    ("a part of one", (TGT.spelled()[:-1],), NONE),
+    ("a fault before it", (b"\xff" * 9, TGT), NONE),
+]
+
+# Files that are no caches, and those that are read whatever their header has.
+FILES: list[tuple[str, bytes, Outcome]] = [
+    ("no bytes", b"", NONE),
+    ("a keytab", TWO, NONE),
+    *((f"version {version}", bytes([5, version]) + VERSION_3[2:], NONE) for version in (1, 2, 5)),
+    ("a cut header", b"\x05\x04\0", NONE),
+    ("a damaged header", cache(TGT, fields=b"\0\x01\0"), NONE),
+    ("no default principal", b"\x05\x04\0\0", NONE),
+    ("version 3", cache(replace(TGT, second_enctype=23), version=3), VALID),
+    ("version 3, over", VERSION_3, NONE),
+    ("a usual one, over", USUAL, NONE),
+    ("a default principal of another realm", cache(OVER, HOST, default=Name((b"u",), b"S")), VALID),
+    ("its ticket is over", cache(service(b"krbtgt", b"S", realm=b"S", endtime=1), TGT, default=Name(realm=b"S")), NONE),
+    ("an offset", cache(TGT, fields=offset(2**31 - 1, 0)), VALID),
+    ("a header of an unknown tag, and two offsets", cache(TGT, fields=header_field(9, b"x") + OFFSET * 2), VALID),
+]
+
+# Words that mean the same: whether a ticket is left in this many seconds.
+LASTING = ["-s", "-c -s", "-sc", "-s -s", "-s --for 0", "-s --for=0", "--for 0 -s", "-s --for 0000000003",
+           "-s --for=86400 -c"]
+# After these seconds none is left: the clock and they come to more than the greatest time, or to more than 32 bits.
+TOO_LONG = ["-s --for 4294967295", "--for=4294967295 -s", "-s --for 3000000000"]
+
+REFUSED: list[str | Line] = [
+    "klist -s", "klist -s -c", "klist -s c c", "klist -s -k c", "klist -sk c", "klist -k -s c", "klist -s --json c",
+    "klist --json c -s", "klist -se c", "klist -s -f c", "klist -C -s c", "klist -st c", "klist -sK c",
+    "klist -s --v1-big c", "klist -s=yes c", "klist --for 3 c", "klist -c --for=3 c", "klist -k --for 3 c",
+    "klist --json --for 3 c", "klist -s --for 3 --for 3 c", "klist -s --for=3 --for 4 c", "klist -s --for c",
+    "klist -s c --for", "klist -s --for 3", "klist -s --for x c", "klist -s --for= c", "klist -s --for -1 c",
+    "klist -s --for +1 c", "klist -s --for 1.5 c", "klist -s --for 1h c", "klist -s --for 0x3 c",
+    "klist -s --for 4294967296 c", "klist -s --for 00000000003 c", "klist -s --fo 3 c", "klist -s -for 3 c",
+    ("klist", "-s", "--for", "", "c"), ("klist", "-s", "--for", " 3", "c"), ("klist", "-s", b"\xff"),
+    ("klist", "-s", "c", ""),
+]
+
+CASES = [
+    *(ask(name, cache(*those), wanted) for name, those, wanted in TICKETS),
+    *(ask(name, image, wanted) for name, image, wanted in FILES),
+    *(ask("for a while", cache(TGT), VALID, options) for options in LASTING),
+    *(ask("for too long", cache(TGT), NONE, options) for options in TOO_LONG),
+    ask("a ticket that ends too soon", cache(HOST, replace(OVER, endtime=2**31)), NONE, "-s --for 2147483648"),
+    *(Case(shown(line), words_of(line), BAD_LINE, {"c": cache(TGT)}) for line in REFUSED),
+]
+
+
+def symlink(target: str) -> Callable[[str], None]:
+    """Returns a function that makes a link."""
+    return lambda path: os.symlink(target, path)
+
+
+# What stands under a name, beside a cache `c`, and the outcome.
+PLACES: dict[str, tuple[Callable[[str], object] | None, Outcome]] = {
+    "no": (None, NONE), "no/c": (None, NONE), "c/x": (None, UNREAD), "folder": (os.mkdir, UNREAD),
+    "link": (symlink("c"), VALID), "nowhere": (symlink("no"), NONE), "itself": (symlink("itself"), UNREAD),
+    "device": (symlink("/dev/null"), UNREAD), "way": (symlink("folder"), UNREAD), "x" * 256: (None, UNREAD),
+}
+
+
+def check_silence(report: Report, program: str) -> None:
+    """Checks that nothing is printed where messages are explained either."""
+    with folder_of({"c": cache(TGT), "d": cache(OVER), "k": TWO}) as folder:
+        for file, wanted in (("c", VALID), ("d", NONE), ("k", NONE), ("no", NONE), (".", UNREAD)):
+            for way, got in runs_with_words(program, ("klist", "-s", file), folder):
+                report.compare(f"{file}, {way}", wanted, got)
+
+
+def check_places(report: Report, program: str) -> None:
+    """Checks names that lead to no plain file, a pipe among them, which is not opened."""
+    with folder_of({"c": cache(TGT)}) as folder:
+        for name, (make, wanted) in PLACES.items():
+            if make:
+                make(os.path.join(folder, name))
+        for name, (_, wanted) in PLACES.items():
+            report.compare(f"a name: {name[:20]}", wanted, run(program, ("klist", "-s", name), folder))
+        with fed(os.path.join(folder, "pipe")) as opened:
+            faults = differences(UNREAD, run(program, ("klist", "-s", "pipe"), folder))
+            report.check("a pipe", faults + (["it was opened"] if opened else []))
+
+
+def check_unreadable(report: Report, program: str) -> None:
+    """Checks a cache that may not be read. Root can read every file, so root has another user run the program."""
+    options = {"user": NOBODY, "group": NOBODY, "extra_groups": []} if os.geteuid() == 0 else {}
+    with folder_of({"c": cache(TGT)}) as folder:
+        os.chmod(folder, 0o755)
+        os.chmod(os.path.join(folder, "c"), 0)
+        try:
+            report.compare("an unreadable cache", UNREAD, run(program, ("klist", "-s", "c"), folder, **options))
+        except PermissionError:
+            report.skip("an unreadable cache", "none but root may start the program")
+
+
+def check(report: Report, program: str) -> None:
+    """Checks large files, and those that are not in a table."""
+    check_rows(report, program, [ask("a large file", sized(LIMIT + 1), NONE),
+                                 ask("the greatest file", cache(TGT, bytes(LIMIT - len(cache(TGT)))), VALID)])
+    for each in (check_silence, check_places, check_unreadable):
+        each(report, program)

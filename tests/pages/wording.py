@@ -1,0 +1,106 @@
+"""The phrases of the manual page, of FORMATS, of the definitions and of Python's module are those of the table."""
+
+import glob
+import os
+import re
+
+from pages.documents import read
+from runs.harness import TOP, Report
+from words import phrases
+from words.mistakes import MISTAKES
+
+PAGE = "docs/krbfile.1"
+FORMATS = "docs/FORMATS.md"
+CAUSES = "python/krbfile/causes.py"
+
+
+def numbered(table: phrases.Numbered) -> set[tuple[int, str]]:
+    """Returns the numbers with their phrases, whichever command has them."""
+    return {(number, phrase) for (number, _), phrase in table.items()}
+
+
+# The lists of the manual page, each after these lines, and what they have.
+LISTS = {
+    "Codes that follow\n.Ql refused :": numbered(phrases.CODES),
+    "Faults of files:": set(phrases.FAULTS.items()),
+    "Files that are no keytabs:": set(phrases.NOT_KEYTABS),
+    "Files that are no caches:": set(phrases.NOT_CACHES),
+    "Faults of lines:": numbered(phrases.LINES),
+}
+
+
+def list_after(heading: str) -> set[tuple[int, str]]:
+    """Returns the numbers and phrases of a list of the manual page."""
+    rows = read(PAGE).partition(f"\n{heading}\n")[2].partition("\n.El\n")[0]
+    return {(int(number), phrase) for number, phrase in re.findall(r"^\.It \(?(\d+)\b.* Ta (.*)$", rows, re.MULTILINE)}
+
+
+def causes() -> set[str]:
+    """Returns the causes that the manual page lists, without its markup."""
+    shown = read(PAGE).partition("\nWhat could not be read or written:\n")[2].partition("\n.Ed\n")[0]
+    lines = shown.replace(" Ns ", "").replace(".Ar ", "").splitlines()[1:]
+    return {re.sub(r"^\.No (\w+) Ar (\w+)", lambda it: f"{it[1]} {it[2].upper()}", line) for line in lines}
+
+
+def findings() -> set[tuple[str, str]]:
+    """Returns the words of the manual page's findings, each with the line after it."""
+    return set(re.findall(r"^\.It Ic (\w+) .*\n(.*):$", read(PAGE), re.MULTILINE))
+
+
+def check_manual(report: Report) -> None:
+    """Compares the lists of the manual page."""
+    for heading, wanted in LISTS.items():
+        report.check(f"the manual page: {heading.splitlines()[0]}", sorted(map(str, wanted ^ list_after(heading))))
+    report.check("the manual page: causes", sorted(causes() ^ set(phrases.CAUSES.values())))
+    report.check("the manual page: findings", sorted(map(str, findings() ^ set(phrases.FINDINGS.items()))))
+    alone = [line.rstrip(";") for line in read(PAGE).splitlines()]
+    missing = {phrases.LARGE, phrases.CLOCK}.difference(alone)
+    report.check("the manual page: other phrases", sorted(missing))
+
+
+def check_formats(report: Report) -> None:
+    """Compares the library's phrases in FORMATS, and its list of mistakes."""
+    codes = read(FORMATS).partition("\n## Codes\n")[2].partition("\n## ")[0]
+    rows = re.findall(r"^\| (\d+) \|.*\| ([^|]+) \|$", codes, re.MULTILINE)
+    found = {int(number): phrase for number, phrase in rows}
+    report.check(f"the codes of {FORMATS}", [] if found == phrases.LIBRARY_CODES else [f"{found}"])
+    missing = [each for each in phrases.MISTAKES if f"`{each}`" not in read(FORMATS)]
+    report.check(f"the mistakes of {FORMATS}", missing)
+
+
+def check_mistakes(report: Report) -> None:
+    """Checks that the lines of the mistakes have each, and no other."""
+    patterns = {each: re.sub("WORD|OPTION", "(?s:.*)", re.escape(each)) for each in phrases.MISTAKES}
+    of_operands = patterns["no FILE"].replace("FILE", "(?:FILE|KVNO|ETYPE|NAME)")
+    found = {each: [mistake for mistake in [*MISTAKES, "an argument is not UTF-8"] if re.fullmatch(pattern, mistake)]
+             for each, pattern in (patterns | {"no FILE": of_operands}).items()}
+    report.check("each mistake has a line", [each for each, lines in found.items() if not lines])
+    others = set(MISTAKES) - {mistake for lines in found.values() for mistake in lines}
+    report.check("the lines have no other mistake", sorted(others))
+
+
+def check_definitions(report: Report) -> None:
+    """Checks that what the contracts' definitions have as phrases is in the table."""
+    texts = "".join(map(read, sorted(glob.glob("crates/*/specs/*.antt", root_dir=TOP))))
+    defined = set(re.findall(r'^\w+_phrase .*= codes "(.*)"$', texts, re.MULTILINE))
+    files = {"no such file", "file too large", "cannot read", "cannot write", "out of memory"}
+    in_library = {*phrases.LIBRARY_CODES.values(), phrases.TOO_LONG, phrases.LIBRARY_IN_THE_WAY, "error "}
+    listed = {phrase for wanted in LISTS.values() for _, phrase in wanted}
+    others = {*phrases.NAMES.values(), *phrases.CAUSES.values()} - {"NAME.krbfile is in the way", "error NUMBER"}
+    report.check("the phrases of the definitions", sorted(defined ^ (files | in_library | listed | others)))
+
+
+def check_python(report: Report) -> None:
+    """Checks that the causes of Python's module are in the table."""
+    causes = re.findall(r'^(?:    errno\.\w+: |[A-Z_]+ = .*?)"(.*?)"', read(CAUSES), re.MULTILINE)
+    wrong = set(causes) - {*phrases.CAUSES.values(), phrases.LIBRARY_IN_THE_WAY}
+    report.check("the causes of Python's module", sorted(wrong) if causes else ["there are none"])
+
+
+def check(report: Report, program: str) -> None:
+    """Reads the pages, the definitions and the module. The program is not run."""
+    check_manual(report)
+    check_formats(report)
+    check_mistakes(report)
+    check_definitions(report)
+    check_python(report)

@@ -1,0 +1,151 @@
+"""`klist -s` of MIT's and ours over one cache and at one time: they agree, but for the differences named here."""
+
+import subprocess
+import sys
+from collections.abc import Iterator
+from dataclasses import replace
+from random import Random
+
+from chance.random_caches import random_credential
+from makers.cache_images import CONFIG_FIRST, CONFIG_REALM, Credential, Name, cache, config, header_field, number
+from makers.usual_caches import TICKET, config_ticket
+from models.cache_reading import read_cache
+from models.valid_ticket_model import silent
+from peers.beside_mit import SURROUNDINGS, are_there
+from peers.corpus import files
+from runs.harness import SECONDS, Outcome, Report, folder_of
+from runs.preload import Line, Preloaded, preloaded
+from runs.random_runs import ONE_IN
+
+# The end of the usual ticket, and another.
+END, LATER = TICKET.endtime, TICKET.endtime + 1_000
+
+# The servers of the random caches, two of which are a ticket-granting ticket of some realm.
+SERVERS = (Name((b"krbtgt", b"R")), Name((b"krbtgt", b"S")), Name((b"krbtgt", b"R"), b"S"), Name((b"host", b"a")),
+           Name((CONFIG_FIRST, b"k"), CONFIG_REALM), Name((CONFIG_FIRST, b"k", b"p"), CONFIG_REALM))
+
+RANDOM_CACHES = 120
+
+
+def version_1() -> bytes:
+    """Returns a cache of version 1, in the byte order of this machine, with the usual ticket."""
+
+    def words(*values: int) -> bytes:
+        return b"".join(number(value, 4, sys.byteorder) for value in values)
+
+    def data(*parts: bytes) -> bytes:
+        return b"".join(words(len(part)) + part for part in parts)
+
+    user, krbtgt = words(2) + data(b"R", b"u"), words(3) + data(b"R", b"krbtgt", b"R")
+    times = words(TICKET.authtime, TICKET.starttime, END, 0) + b"\0" + words(TICKET.flags, 0, 0)
+    return b"\x05\x01" + user * 2 + krbtgt + number(17, 2, sys.byteorder) + data(TICKET.key) + times + data(b"t", b"")
+
+
+# Caches of which MIT's klist thinks otherwise until their end: whether it finds a ticket to go on with, and ours does.
+# It reads versions 1 and 2, refuses an offset that has not eight bytes, takes any number of components after the
+# first for those of a configuration entry, and a length that is greater than the file for damage of all of it.
+DIFFERENT: dict[str, tuple[bytes, bool, bool]] = {
+    "version 1": (version_1(), True, False),
+    "version 2": (dict(files("ccache"))["kinit-v2"], True, False),
+    "a header with a short offset": (cache(TICKET, fields=header_field(1, b"abc")), False, True),
+    "a header with a long offset": (cache(TICKET, fields=header_field(1, bytes(9))), False, True),
+    "a configuration entry of one component": (cache(config_ticket()), False, True),
+    "one of four components": (cache(config_ticket(b"k", b"p", b"q")), False, True),
+    "a length above that of the file": (cache(TICKET, bytes(8) + b"\0\1\0\0"), False, True),
+}
+
+# Caches that are the same to both: the order of tickets, and which of them decide.
+SAME: dict[str, tuple[Credential | bytes, ...]] = {
+    "none": (),
+    "one": (TICKET,),
+    "two": (TICKET, replace(TICKET, endtime=LATER)),
+    "another beside it": (replace(TICKET, server=SERVERS[3], endtime=LATER), TICKET),
+    "one of another realm": (replace(TICKET, server=SERVERS[1]),),
+    "one of another realm beside it": (TICKET, replace(TICKET, server=SERVERS[2], endtime=LATER)),
+    "three components": (TICKET, replace(TICKET, server=Name((b"krbtgt", b"R", b"R")), endtime=LATER)),
+    "a removed one": (TICKET.removed(), replace(TICKET, server=SERVERS[3])),
+    "configuration entries": (config(b"k", b"v"), config_ticket(b"k"), config_ticket(b"k", b"p")),
+    "a zero behind it": (TICKET, b"\0"),
+    "many components behind it": (TICKET, b"\xff" * 9),
+}
+
+
+def times_of(image: bytes) -> Iterator[int]:
+    """Yields the times around each end of a ticket in a cache, and around the usual one's."""
+    read = read_cache(image)
+    ends = set() if isinstance(read, int) else {one.endtime for _, one in read.cells}
+    for end in sorted({END, *ends}):
+        yield from (time for time in (end - 1, end, end + 1) if 0 < time < 2**32)
+
+
+def by_mit(under: Preloaded, folder: str, now: int) -> Outcome:
+    """Returns the outcome of MIT's klist at a time."""
+    env = SURROUNDINGS | {"LD_PRELOAD": under.library, "CLOCK": str(now)}
+    done = subprocess.run(["klist", "-s", "c"], cwd=folder, env=env, capture_output=True, timeout=SECONDS, check=False)
+    return Outcome(done.returncode, done.stdout, done.stderr)
+
+
+def faults_of(under: Preloaded, image: bytes, times: Iterator[int] | tuple[int, ...], ahead: int = 0) -> list[str]:
+    """Returns where the programs differ at some times; ours may be asked that many seconds ahead."""
+    found = []
+    with folder_of({"c": image}) as folder:
+        for now in times:
+            theirs = by_mit(under, folder, now)
+            words = ("klist", "-s", *(["--for", str(ahead)] if ahead else []), "c")
+            ours = under.run_in(folder, Line(words), CLOCK=now - ahead).outcome
+            if not ours == theirs == silent(image, now):
+                found.append(f"at {now} ours is {ours}, MIT's {theirs}, the cache {image[:2000].hex()}")
+    return found
+
+
+def check_different(report: Report, under: Preloaded) -> None:
+    """Checks each known difference, and that it ends with the ticket."""
+    for name, (image, is_theirs, is_ours) in DIFFERENT.items():
+        with folder_of({"c": image}) as folder:
+            found = []
+            for now, is_left in ((1_700_000_000, True), (2**32 - 1, False)):
+                theirs, ours = by_mit(under, folder, now), under.run_in(folder, Line(("klist", "-s", "c")), CLOCK=now)
+                wanted = [Outcome(0 if is_left and is_valid else 1) for is_valid in (is_theirs, is_ours)]
+                got = [theirs, ours.outcome]
+                found += [] if got == wanted else [f"at {now} {got}, not {wanted}"]
+        report.check(f"MIT's klist -s is otherwise: {name}", found)
+
+
+def check_same(report: Report, under: Preloaded) -> None:
+    """Checks the files of other programs and those made here."""
+    made = [(name, cache(*those, version=version)) for name, those in SAME.items() for version in (3, 4)]
+    cut = [(f"{name}, cut short", image[:-1]) for name, image in made]
+    for name, image in (*files("ccache"), *made, *cut):
+        if image not in (image for image, _, _ in DIFFERENT.values()):
+            report.check(f"MIT's klist -s and ours: {name}", faults_of(under, image, times_of(image))[:1])
+    image = cache(TICKET)
+    report.check("MIT's klist -s and ours with --for", faults_of(under, image, times_of(image), 86_400))
+
+
+def random_ticket(random: Random) -> Credential:
+    """Returns a ticket for one of the servers, with one of two ends."""
+    ticket = replace(random_credential(random), server=random.choice(SERVERS), endtime=random.choice((END, LATER)))
+    return ticket.removed() if random.random() < 0.2 else ticket
+
+
+def check_random(report: Report, under: Preloaded, count: int) -> None:
+    """Checks random caches of a few tickets, some of them cut short."""
+    wrong = []
+    for seed in range(count):
+        random = Random(seed)
+        tickets = (random_ticket(random) for _ in range(random.randrange(6)))
+        image = cache(*tickets, version=random.choice((3, 4)))
+        image = image[: random.randrange(len(image))] if random.random() < 0.2 else image
+        wrong += faults_of(under, image, (END - 1, END, LATER - 1, LATER))
+    report.check("MIT's klist -s and ours: random caches", wrong[:3])
+
+
+def check(report: Report, program: str) -> None:
+    """Runs this topic if MIT's klist is installed."""
+    if not are_there(report, "valid tickets beside MIT's klist", ("klist",)):
+        return
+    with preloaded(report, program, "valid tickets beside MIT's klist", {}) as under:
+        if under:
+            check_different(report, under)
+            check_same(report, under)
+            check_random(report, under, RANDOM_CACHES if report.is_proved else RANDOM_CACHES // ONE_IN)

@@ -1,0 +1,142 @@
+"""What numbers, findings, failed calls and bad command lines are explained by: the table that all tests compare with.
+
+A phrase is in lower case, without a full stop, and has at most 72 characters.
+"""
+
+# After `refused`: by the number, and by the command whose phrase differs.
+CODES = {
+    (1, ""): "the file is damaged; klist tells where",
+    (2, ""): "a name or a key is too long for a keytab",
+    (3, ""): "the file would be longer than 16,777,216 bytes",
+    (4, ""): "no record, hole or end stands at this place",
+    (4, "ccedit"): "no credential or end stands at this place",
+    (5, ""): "no entry stands at this place",
+    (5, "ccedit"): "no ticket or configuration entry stands at this place",
+    (6, ""): "no such walk",
+    (7, ""): "there are 1,024 walks already",
+    (8, ""): "a cache of version 3 is changed only by a rewrite",
+    (9, ""): "no entry of this name and encryption type",
+    (9, "ktremove"): "no entry has what was asked for",
+    (9, "ccremove"): "no ticket has what was asked for",
+    (10, ""): "this name and encryption type have no such version",
+}
+
+# The same in the library, where it differs from the first of a number; the program never prints the last.
+LIBRARY_CODES = {
+    3: "the file would be longer than its limit",
+    4: "this is no place of the file",
+    5: "nothing to remove stands at this place",
+    11: "the credential bears the mark of a removed one",
+}
+
+# Faults of files.
+FAULTS = {
+    1: "the file ends within a length",
+    2: "a record or a hole is longer than the rest of the file",
+    3: "a record holds no entry",
+    4: "no whole credential follows; cut off, or being written",
+}
+
+# Why a file is not a keytab, and why it is not a cache: each with its number.
+SHORT = (1, "it has fewer than two bytes")
+LISTED_AS_KEYTAB = (2, "it begins as a credential cache; list it without -k")
+BEGINS_AS_CACHE = (2, "it begins as a credential cache")
+BEGINS_AS_NO_KEYTAB = (2, "it does not begin as a keytab of version 1 or 2")
+BEGINS_AS_KEYTAB = (2, "it begins as a keytab, or as a cache of version 1 or 2 (not read)")
+BEGINS_AS_NO_CACHE = (2, "it does not begin as a cache of version 3 or 4")
+BAD_HEADER = (4, "its header is damaged")
+BAD_DEFAULT = (5, "it has no default principal")
+NOT_KEYTABS = (SHORT, LISTED_AS_KEYTAB, BEGINS_AS_CACHE, BEGINS_AS_NO_KEYTAB)
+NOT_CACHES = (SHORT, BEGINS_AS_KEYTAB, BEGINS_AS_NO_CACHE, BAD_HEADER, BAD_DEFAULT)
+
+# The library's refusal of an image that is too long: the program says `file too large`.
+TOO_LONG = "it is longer than the limit"
+
+# Faults of lines: of scripts, and of ktutil where its phrase differs.
+LINES = {
+    (1, ""): "unknown first word",
+    (1, "ktutil"): "unknown command",
+    (2, ""): "words are missing or left over",
+    (2, "ktutil"): "words are wrong, missing, repeated or left over",
+    (3, ""): "a number is not from 0 to 4294967295",
+    (4, ""): "unknown encryption type",
+    (5, ""): "the key is not hexadecimal, or not as long as its type's",
+    (5, "ktutil"): "the key is not hexadecimal, not as long as its type's, or empty",
+    (6, ""): "not a principal name with its realm",
+    (7, "ktutil"): "the list has no such slot",
+    (8, "ktutil"): "the file's name is not UTF-8",
+}
+
+# Why a text is not a name.
+NAMES = {1: "no realm", 2: "a backslash at the end", 3: "a second @", 4: "a / in the realm"}
+
+# Why a call failed: the system's errors by their names, and what krbfile itself finds.
+CAUSES = {
+    "EACCES": "permission denied",
+    "ENOENT": "no such directory",
+    "ENOTDIR": "not a directory",
+    "EISDIR": "is a directory",
+    "no plain file": "not a plain file",
+    "ELOOP": "too many links",
+    "bad link": "a link that cannot be followed",
+    "no name": "the file has no name any more",
+    "ENOSPC": "no space left",
+    "EDQUOT": "quota exceeded",
+    "EROFS": "read-only file system",
+    "EBUSY": "a mount point cannot be replaced",
+    "ENAMETOOLONG": "the name is too long",
+    "EFBIG": "file too large for the file system",
+    "EIO": "input/output error",
+    "EINTR": "interrupted",
+    "EPIPE": "broken pipe",
+    "in use": "in use by another program",
+    "changed": "changed by another program; nothing was saved",
+    "name of saves": "a name that ends in .krbfile is kept for saves",
+    "in the way": "NAME.krbfile is in the way",
+    "owner": "the owner cannot be kept",
+    "ENOLCK": "no lock can be had",
+    "other": "error NUMBER",
+}
+
+# The library's phrase for what is in the way, as it has no name.
+LIBRARY_IN_THE_WAY = "the name of its new file is taken"
+
+# Findings of ktcheck, in the order in which they are explained.
+FINDINGS = {
+    "weak": "an encryption type that MIT calls weak or deprecated",
+    "hidden": "MIT's programs see no entry from this one on",
+    "same": "this key stands there twice",
+    "clash": "two keys for one name, version and type",
+    "old": "a newer version of this name stands there",
+    "mode": "users other than the owner may read or change this file",
+}
+
+LARGE = "it has more than 16,777,216 bytes"
+CLOCK = "the clock is before 1970 or after 2106, or failed"
+
+# What is wrong with a command line; what changes is in capitals.
+MISTAKES = (
+    "no command", "unknown command WORD", "unknown option WORD", "no FILE", "left over: WORD", "OPTION needs a value",
+    "OPTION is given twice", "OPTION does not go with OPTION", "OPTION goes with OPTION alone",
+    "OPTION is for keytabs; give -k", '"WORD" is no version', '"WORD" is no encryption type',
+    '"WORD" is no number of seconds', *(f'"WORD" has {fault}' for fault in NAMES.values()),
+    "nothing selects; give -p, -k or -e", "nothing selects; give -p or --expired",
+    "--explain stands before the command", "an argument is not UTF-8",
+)
+
+Numbered = dict[tuple[int, str], str]
+
+
+def phrase_of(phrases: Numbered, number: int, command: str = "") -> str:
+    """Returns the phrase of a number, as a command has it."""
+    return phrases.get((number, command)) or phrases[number, ""]
+
+
+def code(number: int, command: str = "") -> str:
+    """Returns what a refusal means."""
+    return phrase_of(CODES, number, command)
+
+
+def line_fault(number: int, command: str = "") -> str:
+    """Returns what is wrong with a line of a script, or of ktutil."""
+    return phrase_of(LINES, number, command)
