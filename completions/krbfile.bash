@@ -1,7 +1,7 @@
 # Completion of krbfile's command lines for bash.
 
 _krbfile() {
-    local commands='klist ktfind ktedit ktremove ktcheck ktutil ccedit ccremove help'
+    local commands='klist ktfind ktedit ktremove ktcopy ktcheck ktutil ccedit ccremove help'
     local etypes='des3-cbc-sha1 aes128-cts-hmac-sha1-96 aes256-cts-hmac-sha1-96
         aes128-cts-hmac-sha256-128 aes256-cts-hmac-sha384-192 arcfour-hmac
         camellia128-cts-cmac camellia256-cts-cmac'
@@ -17,6 +17,7 @@ _krbfile() {
         klist) options='-c -f -C -k -t -K -e -s --for --v1-big --json' ;;
         ktfind | ktedit | ktcheck | ktutil) options='--v1-big' ;;
         ktremove) options='-n -p -k --age -e --v1-big' ;;
+        ktcopy) options='-n --replace -p -k -e --v1-big' ;;
         ccremove) options='-n -p --expired' ;;
     esac
     COMPREPLY=()
@@ -24,7 +25,9 @@ _krbfile() {
         COMPREPLY=($(compgen -W "$options --help -h" -- "$word"))
     elif [[ $command == ktremove && ${COMP_WORDS[COMP_CWORD - 1]} == -k ]]; then
         COMPREPLY=($(compgen -W old -- "$word"))
-    elif [[ $command == ktremove && ${COMP_WORDS[COMP_CWORD - 1]} == -e ]]; then
+    elif [[ $command == ktcopy && ${COMP_WORDS[COMP_CWORD - 1]} == -k ]]; then
+        COMPREPLY=($(compgen -W new -- "$word"))
+    elif [[ $command == @(ktremove|ktcopy) && ${COMP_WORDS[COMP_CWORD - 1]} == -e ]]; then
         COMPREPLY=($(compgen -W "$etypes" -- "$word"))
     elif [[ $command == ktfind ]] && ((operands == 2)); then
         COMPREPLY=($(compgen -W "$etypes" -- "$word"))

@@ -16,6 +16,7 @@ for at in __fish_use_subcommand '__fish_seen_subcommand_from help'
     complete -c krbfile -n $at -a ktfind -d 'Find an entry in a keytab'
     complete -c krbfile -n $at -a ktedit -d 'Edit a keytab by a script'
     complete -c krbfile -n $at -a ktremove -d 'Remove entries from a keytab'
+    complete -c krbfile -n $at -a ktcopy -d 'Copy entries from one keytab into another'
     complete -c krbfile -n $at -a ktcheck -d 'Tell what is wrong with a keytab'
     complete -c krbfile -n $at -a ktutil -d 'Edit a list of entries by commands'
     complete -c krbfile -n $at -a ccedit -d 'Edit a credential cache by a script'
@@ -38,7 +39,11 @@ complete -c krbfile -n '__fish_seen_subcommand_from ktremove' -s n -d 'Save noth
 complete -c krbfile -n '__fish_seen_subcommand_from ktremove' -s p -x -d 'Entries of that principal'
 complete -c krbfile -n '__fish_seen_subcommand_from ktremove' -s k -x -a old -d 'Entries of that version'
 complete -c krbfile -n '__fish_seen_subcommand_from ktremove' -l age -x -d 'With -k old: replaced for so many seconds'
-complete -c krbfile -n '__fish_seen_subcommand_from ktremove' -s e -x -d 'Entries of that encryption type' \
+complete -c krbfile -n '__fish_seen_subcommand_from ktcopy' -s n -d 'Save nothing'
+complete -c krbfile -n '__fish_seen_subcommand_from ktcopy' -l replace -d 'Replace entries that have another key'
+complete -c krbfile -n '__fish_seen_subcommand_from ktcopy' -s p -x -d 'Entries of that principal'
+complete -c krbfile -n '__fish_seen_subcommand_from ktcopy' -s k -x -a new -d 'Entries of that version'
+complete -c krbfile -n '__fish_seen_subcommand_from ktremove ktcopy' -s e -x -d 'Entries of that encryption type' \
     -a 'des3-cbc-sha1 aes128-cts-hmac-sha1-96 aes256-cts-hmac-sha1-96 aes128-cts-hmac-sha256-128
     aes256-cts-hmac-sha384-192 arcfour-hmac camellia128-cts-cmac camellia256-cts-cmac'
 
@@ -46,8 +51,8 @@ complete -c krbfile -n '__fish_seen_subcommand_from ccremove' -s n -d 'Save noth
 complete -c krbfile -n '__fish_seen_subcommand_from ccremove' -s p -x -d 'Tickets for that service'
 complete -c krbfile -n '__fish_seen_subcommand_from ccremove' -l expired -d 'Tickets that have expired'
 
-complete -c krbfile -n '__fish_seen_subcommand_from klist ktfind ktedit ktremove ktcheck ktutil' -l v1-big -d 'Version 1 files are big-endian'
-complete -c krbfile -n '__fish_seen_subcommand_from klist ktfind ktedit ktremove ktcheck ccedit ccremove' -F
+complete -c krbfile -n '__fish_seen_subcommand_from klist ktfind ktedit ktremove ktcopy ktcheck ktutil' -l v1-big -d 'Version 1 files are big-endian'
+complete -c krbfile -n '__fish_seen_subcommand_from klist ktfind ktedit ktremove ktcopy ktcheck ccedit ccremove' -F
 
 complete -c krbfile -n __krbfile_wants_etype -a 'des3-cbc-sha1 aes128-cts-hmac-sha1-96
     aes256-cts-hmac-sha1-96 aes128-cts-hmac-sha256-128 aes256-cts-hmac-sha384-192 arcfour-hmac

@@ -9,13 +9,6 @@ from types import ModuleType
 
 from runs.random_runs import Topic
 
-# The topics of what the program does not have yet: `klist -s`, and ktcopy.
-NOT_YET = {
-    "random_questions_for_tickets", "silent_failures", "valid_tickets", "valid_tickets_beside_mit",
-    "copies", "copies_at_once", "copies_beside_mit", "copies_on_disk", "copy_words", "failing_copies",
-    "random_copies", "random_copies_into_held_keytabs",
-}
-
 FOLDER = os.path.dirname(os.path.abspath(__file__))
 
 
@@ -35,4 +28,4 @@ def topics(*those: str) -> dict[str, ModuleType | Topic]:
     for module in list(found.values()):
         found |= {topic.name: topic for topic in getattr(module, "TOPICS", ())}
     return {name: topic for name, topic in found.items()
-            if name not in NOT_YET and any(hasattr(topic, each) for each in those)}
+            if any(hasattr(topic, each) for each in those)}

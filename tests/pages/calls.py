@@ -9,7 +9,7 @@ from pages.documents import read
 from runs.harness import TOP, Report
 
 LIBRARY = ("krb_wire", "krb_walk", "krb_cells", "krb_keytab", "krb_ccache",
-           "krb_files", "krb_text", "krb_cache_text", "krb_json", "krb_audit", "krb_commands", "wiping")
+           "krb_files", "krb_text", "krb_cache_text", "krb_json", "krb_audit", "krb_copy", "krb_commands", "wiping")
 
 # The crates whose calls another re-exports, and those whose calls are on the page of another.
 PARTS = {"krb_commands": ("krb_driver", "krb_readers", "krb_editors", "krb_ktutil")}

@@ -15,7 +15,7 @@ PAGE = "docs/krbfile.1"
 PAGES = (PAGE, "docs/krbfile.3")
 
 # The commands that a program may have.
-COMMANDS = ("klist", "ktfind", "ktedit", "ktremove", "ktcheck", "ktutil", "ccedit", "ccremove")
+COMMANDS = ("klist", "ktfind", "ktedit", "ktremove", "ktcopy", "ktcheck", "ktutil", "ccedit", "ccremove")
 
 
 def check_form(report: Report) -> None:

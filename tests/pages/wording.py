@@ -68,10 +68,16 @@ def check_formats(report: Report) -> None:
     report.check(f"the mistakes of {FORMATS}", missing)
 
 
+def check_clash(report: Report) -> None:
+    """Checks that the manual page and FORMATS have the phrase of ktcopy's clashes."""
+    missing = [page for page in (PAGE, FORMATS) if f"clash: {phrases.CLASH}" not in read(page)]
+    report.check("the phrase of a clash", missing)
+
+
 def check_mistakes(report: Report) -> None:
     """Checks that the lines of the mistakes have each, and no other."""
     patterns = {each: re.sub("WORD|OPTION", "(?s:.*)", re.escape(each)) for each in phrases.MISTAKES}
-    of_operands = patterns["no FILE"].replace("FILE", "(?:FILE|KVNO|ETYPE|NAME)")
+    of_operands = patterns["no FILE"].replace("FILE", "(?:FILE|FROM|TO|KVNO|ETYPE|NAME)")
     found = {each: [mistake for mistake in [*MISTAKES, "an argument is not UTF-8"] if re.fullmatch(pattern, mistake)]
              for each, pattern in (patterns | {"no FILE": of_operands}).items()}
     report.check("each mistake has a line", [each for each, lines in found.items() if not lines])
@@ -101,6 +107,7 @@ def check(report: Report, program: str) -> None:
     """Reads the pages, the definitions and the module. The program is not run."""
     check_manual(report)
     check_formats(report)
+    check_clash(report)
     check_mistakes(report)
     check_definitions(report)
     check_python(report)

@@ -101,15 +101,28 @@ WRONG_BODIES = {
         "saves-other-bytes": "other bytes are saved",
         "saves-under-another-name": "the file is saved under another name",
     },
+    "krb_copy": {
+        "clash-by-order-of-addition": "the line of a clash has the place of the twin that was added last",
+        "ends-well-at-a-refusal": "a refused addition ends a run without a clash",
+        "removes-what-was-met": "an entry is replaced though one asked for before has its key",
+        "replace-removes-its-own": "an entry that the run added is replaced",
+        "replaces-unasked": "entries are replaced without the option",
+        "same-by-name": "an entry with another key counts as being there",
+    },
     "krb_driver": {
         "holds-no-file": "a command does not hold the file that it may change",
         "saves-the-text": "what is printed is saved in the file's place",
+    },
+    "krb_readers": {
+        "a-service-ticket-is-enough": "another ticket is enough beside a ticket-granting ticket that has ended",
     },
     "krb_editors": {
         "a-dry-run-holds": "a dry run of ktremove holds the file",
         "a-refused-value-removes-the-old-one": "a configuration value that is refused removes the old one",
         "all-have-expired-without-a-clock": "every ticket has expired where the clock cannot be read",
         "an-input-that-was-read-is-told-as-failed": "an empty input is reported as one that cannot be read",
+        "copies-past-a-clash": "what did not clash is saved though an entry clashed",
+        "new-over-TO": "the newest entries are those of the keytab that is copied to",
         "removed-keys-stay-in-the-file": "the removed tickets stay in the file that is saved",
     },
     "krb_ktutil": {

@@ -65,8 +65,8 @@ NO_TALKS: list[str | Line] = ["ktutil k", "ktutil -k", "ktutil --v1-big=yes", ("
 # Lines that print help, and words that it has.
 OF_KLIST = (b"krbfile klist", b"-k", b"-t", b"-K", b"-e", b"--v1-big", b"FILE", b"--help")
 HELP = [
-    (["--help", "-h", "help"], (b"krbfile", b"klist", b"ktfind", b"ktedit", b"ktremove", b"ktcheck", b"ktutil",
-                                b"ccedit", b"ccremove", b"--help", b"--version")),
+    (["--help", "-h", "help"], (b"krbfile", b"klist", b"ktfind", b"ktedit", b"ktremove", b"ktcopy", b"ktcheck",
+                                b"ktutil", b"ccedit", b"ccremove", b"--help", b"--version")),
     (["help klist", "klist --help", "klist -h", "klist -k --help", "klist -k k --help", "klist -ktKe --help"],
      OF_KLIST),
     (["help ktfind", "ktfind --help", "ktfind -h", "ktfind k --help", "ktfind k 0 0 b@R --help"],

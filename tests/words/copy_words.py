@@ -1,33 +1,15 @@
-"""The words of `ktcopy`: its messages and its clashes explained, its bad command lines, and its help."""
+"""The words of `ktcopy`: its messages and its clashes explained, and its help."""
 
 from keytabs.copies import LONG, OTHER, X, Y
 from keytabs.file_names import LIMIT
 from makers.images import B, TWO, keytab, old, record
 from runs.harness import Outcome
-from runs.rows import Help, Line, printed, shown, words_of
+from runs.rows import Help, printed, words_of
 from words.explained import Explained, in_the_way
-from words.phrases import BEGINS_AS_CACHE, BEGINS_AS_NO_KEYTAB, CAUSES, LARGE, SHORT, code
+from words.phrases import BEGINS_AS_CACHE, BEGINS_AS_NO_KEYTAB, CAUSES, CLASH, LARGE, SHORT, code
 
 # The explanation of all clashes of a run.
-CLASH = ("", "clash: TO has another key for this name, version and type")
-
-# What is wrong, and lines with that mistake.
-MISTAKES: dict[str, list[str | Line]] = {
-    "no FROM": ["ktcopy", "ktcopy -n -p b@R", "ktcopy --"],
-    "no TO": ["ktcopy k", "ktcopy --replace k", "ktcopy -k new k"],
-    "left over: u": ["ktcopy k t u", "ktcopy k -n t u"],
-    "unknown option -x": ["ktcopy -x k t", "ktcopy -nx k t"],
-    "unknown option --replace=yes": ["ktcopy --replace=yes k t"],
-    "-k is given twice": ["ktcopy -k new -k new k t", "ktcopy -k 3 -knew k t"],
-    "-k needs a value": ["ktcopy k t -k"],
-    "-p needs a value": ["ktcopy k t -p", "ktcopy -p b@R -p"],
-    '"old" is no version': ["ktcopy -k old k t"],
-    '"=3" is no version': ["ktcopy -k=3 k t"],
-    '"any" is no encryption type': ["ktcopy -e 17 -e any k t"],
-    '"b" has no realm': ["ktcopy -p b k t", "ktcopy -p b@R -p b k t"],
-    '"b@R@S" has a second @': ["ktcopy -p b@R@S k t"],
-    "--explain stands before the command": ["ktcopy --explain k t"],
-}
+CLASHES = ("", f"clash: {CLASH}")
 
 # Words of the command's help.
 HELP = (b"krbfile ktcopy", b"-n", b"--replace", b"-p <NAME>", b"-k <KVNO>", b"-e <ETYPE>", b"--v1-big", b"FROM", b"TO",
@@ -42,12 +24,6 @@ def copy(name: str, options: str, source: bytes | None, target: bytes | None, *o
                      out=out.out, **more)
 
 
-def mistake(line: str | Line, phrase: str) -> Explained:
-    """Returns a bad command line, and what is wrong with it."""
-    output = ("bad command line", f"{phrase}; see krbfile ktcopy --help")
-    return Explained(shown(line), words_of(line), (output,), {"k": TWO, "t": TWO}, status=2, out=b"")
-
-
 def no_keytab(name: str, why: tuple[int, str]) -> tuple[str, str]:
     """Returns the message about a file that is not a keytab."""
     return f"{name}: not a keytab ({why[0]})", why[1]
@@ -55,7 +31,7 @@ def no_keytab(name: str, why: tuple[int, str]) -> tuple[str, str]:
 
 def refused(name: str, number: int) -> tuple[str, str]:
     """Returns the message about a keytab that is refused."""
-    return f"{name}: refused {number}", code(number, "ktremove")
+    return f"{name}: refused {number}", code(number, "ktcopy")
 
 
 def unsaved(name: str, cause: str, **more) -> Explained:
@@ -86,14 +62,12 @@ CASES = [
     unsaved("t.krbfile", "name of saves"),
     unsaved("k", "in the way", setting=in_the_way),
     # Clashes are explained once.
-    copy("a clash", "", TWO, keytab(OTHER), CLASH, out=printed(f"clash 53 2 {Y}", status=1)),
-    copy("two clashes", "", keytab(B, OTHER, OTHER), None, CLASH,
+    copy("a clash", "", TWO, keytab(OTHER), CLASHES, out=printed(f"clash 53 2 {Y}", status=1)),
+    copy("two clashes", "", keytab(B, OTHER, OTHER), None, CLASHES,
          out=printed(f"clash 47 2 {Y}", f"clash 92 2 {Y}", status=1)),
-    copy("a clash, a dry run", "-n", TWO, keytab(OTHER), CLASH,
+    copy("a clash, a dry run", "-n", TWO, keytab(OTHER), CLASHES,
          out=printed(f"copied 47 {X}", f"clash 53 2 {Y}", status=1)),
     copy("a dry run", "-n --replace -p b@R", TWO, keytab(OTHER), out=printed(f"removed 2 {Y}", f"copied 2 {Y}")),
     copy("nothing to do", "", TWO, TWO, out=Outcome(0)),
-    *(mistake(line, phrase) for phrase, lines in MISTAKES.items() for line in lines),
     *(Help(line, HELP) for line in ("ktcopy --help", "help ktcopy", "ktcopy -h", "ktcopy k t -h")),
-    *(Help(line, (b"ktcopy",)) for line in ("--help", "help")),
 ]

@@ -17,6 +17,7 @@ CODES = {
     (8, ""): "a cache of version 3 is changed only by a rewrite",
     (9, ""): "no entry of this name and encryption type",
     (9, "ktremove"): "no entry has what was asked for",
+    (9, "ktcopy"): "no entry has what was asked for",
     (9, "ccremove"): "no ticket has what was asked for",
     (10, ""): "this name and encryption type have no such version",
 }
@@ -110,6 +111,9 @@ FINDINGS = {
     "old": "a newer version of this name stands there",
     "mode": "users other than the owner may read or change this file",
 }
+
+# A clash of ktcopy.
+CLASH = "TO has another key for this name, version and type"
 
 LARGE = "it has more than 16,777,216 bytes"
 CLOCK = "the clock is before 1970 or after 2106, or failed"

@@ -35,8 +35,12 @@ impl<A: Allocator + Copy> SelectedVersions<A> {
         match kvno {
             SelectedKvno::Any => Ok(SelectedVersions::Each),
             SelectedKvno::Exactly(version) => Ok(SelectedVersions::This(version)),
-            SelectedKvno::Newest => Ok(SelectedVersions::NewestOf(NewestVersions::of(alloc, keytab)?)),
-            SelectedKvno::Old => Ok(SelectedVersions::OtherThan(NewestVersions::of(alloc, keytab)?)),
+            SelectedKvno::Newest => Ok(SelectedVersions::NewestOf(NewestVersions::of(
+                alloc, keytab,
+            )?)),
+            SelectedKvno::Old => Ok(SelectedVersions::OtherThan(NewestVersions::of(
+                alloc, keytab,
+            )?)),
             SelectedKvno::OldFor(seconds) => {
                 Ok(SelectedVersions::Aged(Young::of(alloc, keytab, now, seconds)?))
             }

@@ -94,12 +94,7 @@ impl<A: Allocator> Young<A> {
     }
 
     /// Finds the names of `keytab` that have such an entry.
-    pub fn of(
-        alloc: A,
-        keytab: &Keytab<A>,
-        now: u32,
-        seconds: u32,
-    ) -> Result<Young<A>, NoMemory>
+    pub fn of(alloc: A, keytab: &Keytab<A>, now: u32, seconds: u32) -> Result<Young<A>, NoMemory>
     where
         A: Copy,
         ensures young { IfOk result (IsYoung (placed_entries keytab.now.state) now) }

@@ -1,9 +1,9 @@
 //! Credential caches for C.
 
-mod new_credential;
 mod calls;
 mod changes;
 mod looks;
+mod new_credential;
 mod numbers;
 mod opening;
 mod ticket;

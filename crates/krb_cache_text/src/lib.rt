@@ -1,18 +1,18 @@
 //! Credential caches as text.
 #![tactic(auto)]
 
-mod request;
 mod columns;
 mod credential;
 mod escape;
 mod line;
 mod listing;
 mod record;
+mod request;
 mod setting;
 
-pub use request::Request;
 pub use columns::CcColumns;
 pub use line::CacheLine;
 pub use listing::list_cache;
 pub use record::CcFormat;
+pub use request::Request;
 pub use setting::OwnedSetting;

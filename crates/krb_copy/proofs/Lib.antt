@@ -5,3 +5,8 @@ pub mod ListPlaces
 pub mod Meeting
 pub mod MetAfter
 pub mod Runs
+pub mod Elsewhere
+pub mod LawLemmas
+pub mod LawRuns
+pub mod Gone
+pub mod LawHistories

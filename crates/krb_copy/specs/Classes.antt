@@ -48,11 +48,12 @@ kept_of New = Kept
 kept_of Kept = Kept
 kept_of (Copied key place) = Copied key place
 
--- the step of an entry, if the run copied none of its twins, by whether one of them stays, whether it is there itself, and their places
+-- the step of an entry that is not there, if the run copied none of its twins, by whether one of them stays, and their places
 abbrev pub step_at : Bool → Bool → List ℕ → Step
 step_at replace stays [] = Copy []
 step_at replace stays (p ∷ ps) = if replace && not stays then Copy (p ∷ ps) else Clash p
 
+-- the same for any entry, by whether it is there
 abbrev pub found_step : Bool → Bool → Bool → List ℕ → Step
 found_step replace stays is_there places = if is_there then There else step_at replace stays places
 

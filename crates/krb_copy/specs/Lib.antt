@@ -1,5 +1,6 @@
 pub mod Twins
 pub mod Copying
+pub mod Laws
 -- For private contracts alone.
 pub mod Numbers
 pub mod Classes

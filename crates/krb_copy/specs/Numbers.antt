@@ -28,10 +28,11 @@ pub record IsClassKey {A : Type 0} (x : EntryParts) (k : ClassKey A) : Type 0 wh
 abbrev pub class_cmp : {A : Type 0} → ClassKey A → ClassKey A → Ordering
 class_cmp k l = ordering_then (ordering_then (ordering_then (nat_cmp k.0 l.0) (nat_cmp k.1 l.1)) (nat_cmp k.2 l.2)) (slice_cmp nat_cmp k.3.items l.3.items)
 
--- what twins with the same key have in common, and its order
+-- what twins with the same key have in common
 abbrev pub SameKey : Type 0 → Type 0
 SameKey A = ClassKey A × Bor (List ℕ)
 
+-- their order
 abbrev pub same_cmp : {A : Type 0} → SameKey A → SameKey A → Ordering
 same_cmp k l = ordering_then (class_cmp k.0 l.0) (slice_cmp nat_cmp k.1.now l.1.now)
 

@@ -56,6 +56,7 @@ impl Met {
     }
 }
 
+// Sets what the run has met of a class.
 fn replace_at(met: &mut [Met], class: usize, new: Met)
     ensures count { length met.new ≡ length met.old }
     ensures new { class < length met.old → (c : ℕ) → get_or met.new c New
@@ -71,6 +72,17 @@ fn none_met<A: Allocator>(alloc: A, count: usize) -> Result<Vec<Met, A>, NoMemor
     ensures { IfOk result (λ met. met.items ≡ replicate count New) }
 {
     Ok(vec![in alloc; Met::New; count]?)
+}
+
+// Returns what becomes of an entry with this number, if a twin with that key was copied to that place.
+fn step_copied<'a>(number: Number, key: usize, place: u32) -> Step<'a>
+    ensures { seen_step result ≡ (if key == number.key then due.There else due.Clash place) }
+{
+    if key == number.key {
+        Step::There
+    } else {
+        Step::Clash(place)
+    }
 }
 
 impl<A: Allocator> Classes<A> {
@@ -138,8 +150,7 @@ impl<A: Allocator> Classes<A> {
         match self.met(number.class) {
             Met::New => self.step_found(number, false),
             Met::Kept => self.step_found(number, true),
-            Met::Copied(key, _) if key == number.key => Step::There,
-            Met::Copied(_, place) => Step::Clash(place),
+            Met::Copied(key, place) => step_copied(number, key, place),
         }
     }
 

@@ -3,8 +3,10 @@
 
 mod classes;
 mod copy;
+mod laws;
 mod lists;
 mod making;
 mod numbers;
 
 pub use copy::{Copied, copy_into};
+pub use laws::{entries_asked_for_are_there, others_stay, runs_are_histories};

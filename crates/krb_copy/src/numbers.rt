@@ -17,9 +17,11 @@ pub struct Number {
     pub key: usize,
 }
 
-// What twins have in common: a version, an enctype, the number of a name's components, and the name as text.
+// A version, an enctype, the number of a name's components, and the name as text: names of different counts may print
+// alike.
 type ClassKey<A> = (u32, u16, usize, Vec<u8, A>);
 
+// Returns what the twins of an entry have in common.
 fn class_key<A: Allocator>(alloc: A, entry: &EntryView<'_>) -> Result<ClassKey<A>, NoMemory>
     ensures { IfOk result (IsClassKey entry.now) }
 {

@@ -55,6 +55,11 @@ abbrev pub keytab_or_new : Order → Result (List ℕ) LoadFault → Result Keyt
 keytab_or_new order (Err load.Missing) = Ok (empty V2 most_bytes)
 keytab_or_new order answer = keytab_of order answer
 
+-- the same for a file of no bytes too
+abbrev pub keytab_or_fresh : Order → Result (List ℕ) LoadFault → Result KeytabState NoKeytab
+keytab_or_fresh order (Ok []) = Ok (empty V2 most_bytes)
+keytab_or_fresh order answer = keytab_or_new order answer
+
 -- the cache that a load gives, or why there is none
 abbrev pub cache_of : Result (List ℕ) LoadFault → Result CacheState RunError
 cache_of (Ok image) = result_map_err (not_cache image) (cache_result most_bytes image)

@@ -10,7 +10,7 @@ use Rattle.krb_ccache.specs.Store.{CacheState, store_of as cache_store}
 use Rattle.krb_files.specs.Loading.{Answer}
 use Rattle.krb_driver.specs.declared.error.RunError.{RunError}
 use Rattle.krb_driver.specs.declared.error.RunError.TheVariants.{Refused}
-use Rattle.krb_driver.specs.Loading.{cache_of, keytab_of, keytab_or_new, result_map_err}
+use Rattle.krb_driver.specs.Loading.{cache_of, keytab_of, keytab_or_fresh, keytab_or_new, result_map_err}
 use Rattle.krb_driver.specs.RunErrors.{list_error, no_keytab_error}
 
 -- the keytab of a file
@@ -24,6 +24,10 @@ listed_in order answer = result_map_err list_error (keytab_of order answer)
 -- the same, but a missing file gives an empty keytab
 abbrev pub keytab_or_empty : Order → Answer → Result KeytabState RunError
 keytab_or_empty order answer = result_map_err no_keytab_error (keytab_or_new order answer)
+
+-- the same for a file of no bytes too
+abbrev pub fresh_in : Order → Answer → Result KeytabState RunError
+fresh_in order answer = result_map_err no_keytab_error (keytab_or_fresh order answer)
 
 -- what was opened, or its refusal if there is one
 abbrev pub or_refused : {K E : Type 0} → (Code → E) → K → Option Code → Result K E
@@ -46,9 +50,9 @@ cache_refusal k = if is_read_only k.version then Some ReadOnly else (if is_some 
 unfoldable pub whole_in : Order → Answer → Result KeytabState RunError
 whole_in order answer = unless_refused Refused keytab_refusal (keytab_in order answer)
 
--- the same, but a missing file gives an empty keytab
+-- the same, but a missing file, or one of no bytes, gives an empty keytab
 unfoldable pub whole_or_empty : Order → Answer → Result KeytabState RunError
-whole_or_empty order answer = unless_refused Refused keytab_refusal (keytab_or_empty order answer)
+whole_or_empty order answer = unless_refused Refused keytab_refusal (fresh_in order answer)
 
 -- the cache of a file to change, which is not of version 3 and not damaged
 unfoldable pub writable_in : Answer → Result CacheState RunError

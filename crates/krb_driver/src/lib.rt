@@ -19,8 +19,8 @@ pub use command_line::words::{CommandName, CommandWords, DRY_RUN, V1_BIG, Word};
 pub use error::RunError;
 pub use loading::{NoKeytab, NotKeytab, load_keytab, load_or_new};
 pub use opening::{
-    give_cache, give_or_empty, open_cache, open_keytab, open_listed, open_whole, open_whole_or_empty,
-    open_writable,
+    give_cache, give_or_empty, open_cache, open_keytab, open_listed, open_whole,
+    open_whole_or_empty, open_writable,
 };
 pub use reporting::error_output::ErrorOutput;
 pub use reporting::reported::replied_verdict;

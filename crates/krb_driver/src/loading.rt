@@ -1,10 +1,13 @@
 //! Loads the keytab or the cache of a file.
 
-ghost use Rattle.std.specs.Prelude.{◌≡◌, Err};
+ghost use Rattle.std.specs.Prelude.{◌≡◌, ◌⊎◌, Err, Ok};
+ghost use Rattle.krb_files.specs.declared.files.LoadFault.TheVariants as load;
+ghost use Rattle.krb_keytab.specs.Store.{empty};
+ghost use Rattle.krb_wire.specs.declared.format.KtFormat.TheVariants.{V2};
 ghost use Rattle.krb_keytab.specs.Store.{open_result};
 ghost use Rattle.krb_driver.specs.declared.loading.NoKeytab.TheVariants.{Load};
 ghost use Rattle.krb_files.specs.Loading.{most_bytes};
-ghost use Rattle.krb_driver.specs.Loading.{Gives, GivesOrRunsOut, begins_as_cache, begins_as_keytab, cache_of, keytab_of, keytab_or_new, not_keytab, result_map, result_map_err};
+ghost use Rattle.krb_driver.specs.Loading.{Gives, GivesOrRunsOut, begins_as_cache, begins_as_keytab, cache_of, keytab_of, keytab_or_fresh, keytab_or_new, not_keytab, result_map, result_map_err};
 
 use crate::error::RunError;
 use krb_ccache::{CcOpenFault, Ccache};
@@ -83,6 +86,16 @@ pub fn load_keytab<A: Allocator, F: Files>(
     open(v1_order, image)
 }
 
+// Returns an empty keytab of version 2.
+fn new_keytab<A: Allocator + Copy>(alloc: A) -> Result<Keytab<A>, NoKeytab>
+    ensures { (result_map (λ k. k.state) result ≡ Ok (empty V2 most_bytes)) ⊎ (result_map (λ k. k.state) result ≡ Err (Load load.NoMemory)) }
+{
+    match Keytab::create(alloc, KtFormat::V2, Limits::usual()) {
+        Ok(keytab) => Ok(keytab),
+        Err(_) => Err(NoKeytab::Load(LoadFault::NoMemory)),
+    }
+}
+
 /// Loads the keytab of a file, or returns an empty one of version 2 if the file is missing.
 pub fn load_or_new<A: Allocator + Copy, F: Files>(
     alloc: A,
@@ -94,13 +107,30 @@ pub fn load_or_new<A: Allocator + Copy, F: Files>(
         (keytab_or_new v1_order) (result_map (λ k. k.state) result) files.new }
 {
     match load_keytab(alloc, v1_order, files, name) {
-        Err(NoKeytab::Load(LoadFault::Missing)) => {
-            match Keytab::create(alloc, KtFormat::V2, Limits::usual()) {
-                Ok(keytab) => Ok(keytab),
-                Err(_) => Err(NoKeytab::Load(LoadFault::NoMemory)),
-            }
-        }
+        Err(NoKeytab::Load(LoadFault::Missing)) => new_keytab(alloc),
         given => given,
+    }
+}
+
+/// Loads the keytab of a file, or returns an empty one of version 2 if the file is missing or has no bytes.
+pub fn load_or_fresh<A: Allocator + Copy, F: Files>(
+    alloc: A,
+    v1_order: Order,
+    files: &mut F,
+    name: &str,
+) -> Result<Keytab<A>, NoKeytab>
+    ensures { GivesOrRunsOut F.Files files.old name.now
+        (keytab_or_fresh v1_order) (result_map (λ k. k.state) result) files.new }
+{
+    match files.load(alloc, name, USUAL_LIMIT) {
+        Ok(image) => {
+            if image.is_empty() {
+                return new_keytab(alloc);
+            }
+            open(v1_order, image)
+        }
+        Err(LoadFault::Missing) => new_keytab(alloc),
+        Err(fault) => Err(NoKeytab::Load(fault)),
     }
 }
 

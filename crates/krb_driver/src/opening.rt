@@ -4,11 +4,11 @@ ghost use Rattle.std.specs.Prelude.{◌≡◌, is_some};
 ghost use Rattle.krb_driver.specs.declared.error.RunError.TheVariants.{Refused};
 ghost use Rattle.krb_driver.specs.Commands.{GivesOf, Opens, opened};
 ghost use Rattle.krb_driver.specs.Loading.{cache_of};
-ghost use Rattle.krb_driver.specs.Opening.{cache_refusal, keytab_in, keytab_or_empty, keytab_refusal, listed_in, unless_refused, whole_in, whole_or_empty, writable_in};
+ghost use Rattle.krb_driver.specs.Opening.{cache_refusal, fresh_in, keytab_in, keytab_or_empty, keytab_refusal, listed_in, unless_refused, whole_in, whole_or_empty, writable_in};
 
 use crate::command::FileError;
 use crate::error::RunError;
-use crate::loading::{load_cache, load_keytab, load_or_new};
+use crate::loading::{load_cache, load_keytab, load_or_fresh, load_or_new};
 use krb_ccache::{Ccache, Version};
 use krb_files::Files;
 use krb_keytab::Keytab;
@@ -149,8 +149,26 @@ pub fn open_whole<'a, A: Allocator, F: Files>(
     whole(file, given)
 }
 
-/// Opens the keytab of a file to change it, or returns an empty one of version 2 if the file is missing. Refuses a
-/// damaged one.
+// Loads the keytab of a file, or returns an empty one of version 2 if the file is missing or has no bytes.
+fn give_or_fresh<'a, A: Allocator + Copy, F: Files>(
+    alloc: A,
+    v1_order: Order,
+    files: &mut F,
+    file: &'a str,
+) -> Result<Keytab<A>, FileError<'a>>
+    ensures { GivesOf F.Files files.old file.now (fresh_in v1_order) (opened (λ k. k.state) result) files.new }
+{
+    match load_or_fresh(alloc, v1_order, files, file) {
+        Ok(keytab) => Ok(keytab),
+        Err(why) => Err(FileError {
+            file,
+            error: RunError::from(why),
+        }),
+    }
+}
+
+/// Opens the keytab of a file to change it, or returns an empty one of version 2 if the file is missing or has no bytes.
+/// Refuses a damaged one.
 pub fn open_whole_or_empty<'a, A: Allocator + Copy, F: Files>(
     alloc: A,
     v1_order: Order,
@@ -159,7 +177,7 @@ pub fn open_whole_or_empty<'a, A: Allocator + Copy, F: Files>(
 ) -> Result<Keytab<A>, FileError<'a>>
     ensures { Opens F.Files files.old file.now (whole_or_empty v1_order) (opened (λ k. k.state) result) files.new }
 {
-    let given = give_or_empty(alloc, v1_order, files, file);
+    let given = give_or_fresh(alloc, v1_order, files, file);
     whole(file, given)
 }
 

@@ -17,7 +17,7 @@ ghost use Rattle.krb_editors.specs.Sessions.{left, new_session};
 
 use crate::edited::{may_change, replied};
 use crate::scripted::read_script;
-use krb_cache_text::{Request, CacheLine, CcFormat};
+use krb_cache_text::{CacheLine, CcFormat, Request};
 use krb_ccache::{Ccache, Cred, Setting};
 use krb_driver::{
     Command, CommandName, CommandWords, FileError, FileKind, Made, Output, Streams, Word,

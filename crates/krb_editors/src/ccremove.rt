@@ -12,8 +12,8 @@ use krb_audit::{SelectedTickets, select_tickets};
 use krb_ccache::Ccache;
 use krb_driver::{
     Command, CommandName, CommandWords, DRY_RUN, FileError, FileKind, Made, Matches, Mistake,
-    Output, RunError, Streams, Verdict, Word, WordFault, hold_if, open_writable, report,
-    run, spelled_names, times_given,
+    Output, RunError, Streams, Verdict, Word, WordFault, hold_if, open_writable, report, run,
+    spelled_names, times_given,
 };
 use krb_files::Files;
 use krb_walk::Refusal;

@@ -14,9 +14,9 @@ use crate::selecting::{bad_etype, etypes_of, kvno_by_word};
 use krb_audit::{SelectedKvno, Selection, selected_entries};
 use krb_copy::{Copied, copy_into};
 use krb_driver::{
-    Command, CommandName, CommandWords, FileError, Made, Matches, Mistake, Output, RunError, Streams,
-    V1_BIG, Verdict, Word, WordFault, first_value, hold_if, open_whole, open_whole_or_empty, run,
-    spelled_names, times_given, v1_order,
+    Command, CommandName, CommandWords, FileError, Made, Matches, Mistake, Output, RunError,
+    Streams, V1_BIG, Verdict, Word, WordFault, first_value, hold_if, open_whole,
+    open_whole_or_empty, run, spelled_names, times_given, v1_order,
 };
 use krb_files::Files;
 use krb_keytab::{EntryView, Keytab};

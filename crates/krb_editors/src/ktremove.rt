@@ -166,10 +166,7 @@ fn none_verdict<B: Allocator>(selection: &Selection<B>, is_named: bool) -> Verdi
     ensures { result ≡ none_verdict selection.now is_named }
 {
     let is_any = selection.names.is_empty() && selection.enctypes.is_empty();
-    let is_old = matches!(
-        selection.kvno,
-        SelectedKvno::Old | SelectedKvno::OldFor(_)
-    );
+    let is_old = matches!(selection.kvno, SelectedKvno::Old | SelectedKvno::OldFor(_));
     if is_old && (is_any || is_named) {
         Verdict::Well
     } else {

@@ -11,7 +11,7 @@ mod words;
 use krb_commands::{ErrorOutput, Streams};
 use krb_disk::DiskFiles;
 use krb_files::{Watched, WatchedReader};
-use run::{parsed, asks_to_explain, run, wants_plain, words_of};
+use run::{asks_to_explain, parsed, run, wants_plain, words_of};
 use std::io::IsTerminal;
 use std::process::ExitCode;
 

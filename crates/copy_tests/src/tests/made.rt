@@ -60,7 +60,7 @@ pub fn run<A: Allocator + Copy>(
     Ok(copy_into(alloc, &asked, to, replace))
 }
 
-/// What a run has to come to: lines, whether an entry clashes, and the pieces of the image.
+/// What a run has to come to: lines, whether the last of them is that of a clash, and the pieces of the image.
 #[derive(Clone, Copy)]
 pub struct Due<'a> {
     pub text: &'a [u8],
@@ -82,7 +82,11 @@ pub fn check<A: Allocator + Copy>(
         return Err(Fail::from("refused"));
     };
     is(copied.text.as_slice() == due.text, "other lines")?;
-    is(copied.has_clash == due.has_clash, "another end")?;
+    is(copied.clashes.is_empty() != due.has_clash, "another end")?;
+    is(
+        due.text.ends_with(&copied.clashes),
+        "other lines of clashes",
+    )?;
     let image = joined(alloc, due.image)?;
     is(copied.keytab.image() == image.as_slice(), "another image")
 }

@@ -142,7 +142,7 @@ fn a_refused_addition_ends_the_run(rt: HostRuntime) -> Result<(), Fail> {
     };
     let due = b"clash 2 2 kvno 3 etype 17 b@R\n".as_slice();
     is(
-        copied.has_clash && copied.text.as_slice() == due,
+        !copied.clashes.is_empty() && copied.text.as_slice() == due,
         "other lines",
     )
 }

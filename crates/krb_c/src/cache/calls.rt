@@ -21,9 +21,9 @@ ghost use Rattle.krb_c.specs.Cursors.{with_cursors};
 ghost use Rattle.krb_c.specs.CacheStore.{Stores, new_credential_of};
 
 use crate::bytes::{KrbfBytes, bytes_of};
-use crate::cache::new_credential::NewCredential;
 use crate::cache::changes::store;
-use crate::cache::looks::{config, find, look_at, copy_client, copy_server};
+use crate::cache::looks::{config, copy_client, copy_server, find, look_at};
+use crate::cache::new_credential::NewCredential;
 use crate::cache::numbers::KrbfNumbers;
 use crate::cache::ticket::KrbfTicket;
 use crate::handle::{KrbfCcache, with_held};

@@ -6,8 +6,8 @@ ghost use Rattle.krb_c.specs.CacheStore.{Stores};
 ghost use Rattle.krb_c.specs.Status.{Adds};
 
 use crate::cache::HeldCache;
-use crate::cache::new_credential::NewCredential;
 use crate::cache::looks::some_text;
+use crate::cache::new_credential::NewCredential;
 use crate::heap::{Heap, copied};
 use crate::status::{DONE, NO_MEMORY, of_refusal};
 use crate::text::read_name;
@@ -17,7 +17,12 @@ use std::alloc::Global;
 
 /// Stores a credential of these parts, and reports its place.
 #[tactic(auto, using(crate::proofs::NameLemmas::unread))]
-pub fn store(alloc: Global, held: &mut HeldCache, new_credential: &NewCredential<'_>, place: &mut u32) -> u32
+pub fn store(
+    alloc: Global,
+    held: &mut HeldCache,
+    new_credential: &NewCredential<'_>,
+    place: &mut u32,
+) -> u32
     ensures { Stores new_credential.now held.old.state result place.old place.new held.new.state }
 {
     let client = match read_name(alloc, new_credential.client) {

@@ -16,7 +16,7 @@ use crate::cache::HeldCache;
 use crate::cache::ticket::{KrbfTicket, shown};
 use crate::heap::Heap;
 use crate::status::{DONE, of_code};
-use crate::text::{read_name, copy_name};
+use crate::text::{copy_name, read_name};
 use krb_ccache::{Ccache, CredView, is_config};
 use krb_walk::Code;
 use krb_wire::{Principal, same_name};

@@ -22,7 +22,7 @@ use crate::bytes::{KrbfBytes, bytes_of};
 use crate::handle::{KrbfKeytab, with_held};
 use crate::keytab::changes::{Numbers, add};
 use crate::keytab::entry::KrbfEntry;
-use crate::keytab::looks::{find, look_at, show_component, copy_name_at};
+use crate::keytab::looks::{copy_name_at, find, look_at, show_component};
 use crate::status::{DONE, kind_of};
 use std::alloc::Global;
 

@@ -13,7 +13,7 @@ use crate::bytes::{KrbfBytes, bytes_of};
 use crate::keytab::HeldKeytab;
 use crate::keytab::entry::{KrbfEntry, shown};
 use crate::status::{DONE, of_code};
-use crate::text::{read_name, copy_name};
+use crate::text::{copy_name, read_name};
 use krb_walk::Code;
 use krb_wire::Name;
 use std::alloc::Global;

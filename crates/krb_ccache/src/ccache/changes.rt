@@ -17,7 +17,7 @@ use crate::credential::Cred;
 use crate::mark::mark_in_image;
 use crate::offset::Offset;
 use crate::open::{Layout, Places};
-use crate::preamble::{header_len, preamble_len, new_header_has_its_offset, write_preamble};
+use crate::preamble::{header_len, new_header_has_its_offset, preamble_len, write_preamble};
 use crate::version::Version;
 use krb_walk::{Code, Refusal};
 use krb_wire::{Limits, Name};

@@ -4,7 +4,8 @@ use super::images::{ADDED, CACHE, CACHE_EDITED, CACHE_REWRITTEN, EDITED, IMAGE, 
 use krb_audit::{SelectedKvno, Selection};
 use krb_cache_text::CcColumns;
 use krb_commands::{
-    Action, FindOptions, KlistOptions, ListKind, RemoveOptions, TicketOptions, WordFault,
+    Action, CopyOptions, FindOptions, KlistOptions, ListKind, RemoveOptions, TicketCheck,
+    TicketOptions, WordFault,
 };
 use krb_text::KtColumns;
 use krb_wire::{Order, Principal, parse_name};
@@ -21,6 +22,10 @@ pub enum ActionKind {
     Ktedit,
     /// A removal of the entry of `host/a@R`, or a dry run of it.
     Ktremove(bool),
+    /// A copy of the entry of `host/a@R` from `k` into `n`, or a dry run of it.
+    Ktcopy(bool),
+    /// Whether there is a ticket that is valid.
+    CheckTicket,
     Ccedit,
     /// A removal of the tickets for `krbtgt/R@R`, or a dry run of it.
     Ccremove(bool),
@@ -48,7 +53,7 @@ const COMMAND: Command = Command {
     left: IMAGE,
 };
 
-pub const COMMANDS: [Command; 8] = [
+pub const COMMANDS: [Command; 10] = [
     Command {
         action: ActionKind::Klist,
         text: "Keytab name: FILE:k\nKVNO Principal\n---- ---------\n   3 host/a@R\n   3 b@R\n",
@@ -82,6 +87,17 @@ rewritten 92\nwalk 0 gave 47 next 92 kvno 3 etype 17 b@R\nwalk 0 end 92\n",
         action: ActionKind::Ktremove(false),
         text: "removed 2 kvno 3 etype 17 host/a@R\n",
         left: REMOVED,
+        ..COMMAND
+    },
+    Command {
+        action: ActionKind::Ktcopy(false),
+        text: "copied 2 kvno 3 etype 17 host/a@R\n",
+        name: "n",
+        left: ADDED,
+        ..COMMAND
+    },
+    Command {
+        action: ActionKind::CheckTicket,
         ..COMMAND
     },
     // Removes the ticket and replaces the value, while a walk has its cursor before both.
@@ -159,6 +175,20 @@ fn removal(alloc: Global, dry_run: bool) -> Result<RemoveOptions<Global>, Fail> 
     })
 }
 
+/// Returns the options of a copy of the newest entries of `host/a@R`.
+fn copy(alloc: Global, dry_run: bool) -> Result<CopyOptions<Global>, Fail> {
+    Ok(CopyOptions {
+        selection: Selection {
+            names: vec![in alloc; name(alloc, b"host/a@R")?]?,
+            kvno: SelectedKvno::Newest,
+            enctypes: Vec::new(alloc),
+        },
+        replace: true,
+        dry_run,
+        v1_order: Order::Little,
+    })
+}
+
 fn tickets(alloc: Global, dry_run: bool) -> Result<TicketOptions<Global>, Fail> {
     Ok(TicketOptions {
         servers: vec![in alloc; name(alloc, b"krbtgt/R@R")?]?,
@@ -178,8 +208,19 @@ impl ActionKind {
     /// Returns the name of its file.
     pub fn file(self) -> &'static str {
         match self {
-            ActionKind::KlistCache | ActionKind::Ccedit | ActionKind::Ccremove(_) => "c",
+            ActionKind::KlistCache
+            | ActionKind::CheckTicket
+            | ActionKind::Ccedit
+            | ActionKind::Ccremove(_) => "c",
             _ => "k",
+        }
+    }
+
+    /// Returns what it reports if memory runs out: a check of tickets reports nothing.
+    pub fn out_of_memory(self) -> &'static str {
+        match self {
+            ActionKind::CheckTicket => "",
+            _ => "krbfile: out of memory\n",
         }
     }
 
@@ -190,12 +231,17 @@ impl ActionKind {
         file: &'a str,
     ) -> Result<Result<Action<'a>, WordFault<'static>>, Fail> {
         Ok(Ok(match self {
-            ActionKind::Klist => Action::Klist(listing(ListKind::Keytab(KtColumns::default())), file),
+            ActionKind::Klist => Action::Klist(
+                listing(ListKind::Keytab(KtColumns::default())),
+                file,
+            ),
             ActionKind::KlistCache => Action::Klist(listing(ListKind::Cache(ALL)), file),
             ActionKind::Ktfind => Action::Ktfind(look_up(alloc)?, file),
             ActionKind::Ktcheck => Action::Ktcheck(Order::Little, file),
             ActionKind::Ktedit => Action::Ktedit(Order::Little, file),
             ActionKind::Ktremove(dry_run) => Action::Ktremove(removal(alloc, dry_run)?, file),
+            ActionKind::Ktcopy(dry_run) => Action::Ktcopy(copy(alloc, dry_run)?, file, "n"),
+            ActionKind::CheckTicket => Action::CheckTicket(TicketCheck { seconds: 0 }, file),
             ActionKind::Ccedit => Action::Ccedit(file),
             ActionKind::Ccremove(dry_run) => Action::Ccremove(tickets(alloc, dry_run)?, file),
             ActionKind::Ktutil => Action::Ktutil(Order::Little),

@@ -51,7 +51,12 @@ fn a_file_that_changes(rt: HostRuntime) {
 }
 
 /// Runs a command over a disk on which `k` has those bytes, and returns the disk.
-fn run_on(alloc: Global, action: ActionKind, bytes: &'static [u8], input: &str) -> Result<Disk, Fail> {
+fn run_on(
+    alloc: Global,
+    action: ActionKind,
+    bytes: &'static [u8],
+    input: &str,
+) -> Result<Disk, Fail> {
     let disk = Disk::new(alloc, WHOLE.having(bytes));
     let action = action.of(alloc, "k")?;
     let reached = (disk.reached(), alloc);
@@ -94,7 +99,12 @@ fn what_is_changed_is_held(rt: HostRuntime) -> Result<(), Fail> {
         (ActionKind::Ccedit, CACHE, "cut 22\n", CHANGES),
         (ActionKind::Ccremove(true), CACHE, "", LOOKS),
         (ActionKind::Ccremove(false), CACHE, "", CHANGES),
-        (ActionKind::Ktutil, IMAGE, "rkt k\nwkt k\n", READS_AND_CHANGES),
+        (
+            ActionKind::Ktutil,
+            IMAGE,
+            "rkt k\nwkt k\n",
+            READS_AND_CHANGES,
+        ),
     ] {
         let disk = run_on(rt.alloc(), action, bytes, input)?;
         is(&rt, &disk.was_called(calls), &true, input);

@@ -53,7 +53,7 @@ fn is_due(command: &Command, (status, out, err, left): Ending<'_>, is_refused: b
     let text = command.text.as_bytes();
     if is_refused && status == 4 {
         return text.starts_with(out)
-            && err == b"krbfile: out of memory\n".as_slice()
+            && err == command.action.out_of_memory().as_bytes()
             && left == file_before(command.name);
     }
     status == u8::from(command.message != "")
@@ -87,7 +87,7 @@ fn requests_of<R: Abort + AllocGlobal>(rt: &R, command: &Command) -> Result<u64,
 fn each_growth_refused(rt: HostRuntime) -> Result<(), Fail> {
     for command in &COMMANDS {
         let requests = requests_of(&rt, command)?;
-        is(&rt, &(requests >= 2), &true, command.text);
+        is(&rt, &(requests >= 1), &true, command.text);
     }
     Ok(())
 }

@@ -4,7 +4,9 @@ use super::made::{indexed_of, keytab_of};
 use super::records::{B, B_BYTES, C_AND_ZEROS, HEAD, HOST, HOST_BYTES, UNTYPED_BYTES, VERSION_1};
 use super::turns::ExpectedReply::{Ended, Gave, Gone, Placed as PlacedAt, Rewritten, Started};
 use super::turns::Turn::{Cut, Rewrite, Start, Step};
-use super::turns::{PUT_B, PUT_C, PUT_HOST, Row, ExpectedReply, Turn, are_replies, events_of, reply_of};
+use super::turns::{
+    ExpectedReply, PUT_B, PUT_C, PUT_HOST, Row, Turn, are_replies, events_of, reply_of,
+};
 use super::{are, is};
 use krb_walk::{Event, Placed, Reply, Session};
 use refusing::{Refusing, refuse_each};
@@ -152,7 +154,10 @@ fn apply<P: Placed + Drop, A: Allocator + Copy>(
         }
         Err(_) => {
             let reply = session.apply(event)?;
-            is(reply_of(&reply) == *expected, "another reply after a refusal")?;
+            is(
+                reply_of(&reply) == *expected,
+                "another reply after a refusal",
+            )?;
             Ok(true)
         }
     }

@@ -1,6 +1,6 @@
 //! Calls that parse scripts, with a letter for each line. Each returns `None` if an allocation fails.
 
-use krb_cache_text::{Request, CacheLine};
+use krb_cache_text::{CacheLine, Request};
 use krb_keytab::NewEntry;
 use krb_text::parse_script;
 use krb_walk::Event;

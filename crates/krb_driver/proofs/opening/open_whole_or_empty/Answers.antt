@@ -1,4 +1,4 @@
-use Rattle.krb_driver.specs.Opening.{keytab_or_empty, keytab_refusal, whole_or_empty}
+use Rattle.krb_driver.specs.Opening.{fresh_in, keytab_refusal, whole_or_empty}
 use Rattle.krb_driver.proofs.Making.{gives-unless, opens-by}
 use Rattle.krb_driver.proofs.opening.open_whole_or_empty.Goals as goal
 
@@ -7,4 +7,4 @@ unfolding whole_or_empty
 returns g c =
     let order = c.args.v1_order in
     let file = c.args.file.now in
-    rw c.whole.ensures (opens-by g.F.Files c.args.files.now file (whole_or_empty order) _ c.give_or_empty-given.new.files (gives-unless g.F.Files c.args.files.now file (keytab_or_empty order) keytab_refusal _ c.give_or_empty-given.new.files c.give_or_empty-given.ensures))
+    rw c.whole.ensures (opens-by g.F.Files c.args.files.now file (whole_or_empty order) _ c.give_or_fresh-given.new.files (gives-unless g.F.Files c.args.files.now file (fresh_in order) keytab_refusal _ c.give_or_fresh-given.new.files c.give_or_fresh-given.ensures))

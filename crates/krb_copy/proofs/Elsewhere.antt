@@ -1,0 +1,185 @@
+-- A change of one cell leaves the entries of all others.
+use Rattle.std.proofs.Common.{◌≡◌, ℕ, ◌+◌, ◌<◌, ◌≤◌, Bool, true, false, cond, List, [], ◌∷◌, ◌++◌, Option, Some, None, Result, Ok, Err, refl, sym, ap, subst, ◌∙◌, inl, inr, arith}
+use Rattle.std.specs.Prelude.{map, ◌==◌, ◌||◌, option_map}
+use Rattle.std.specs.List.{AllByRecursion, filter_map, cons_option, list_any, find}
+use Rattle.std.proofs.lemmas.List.{append-nil}
+use Rattle.std.proofs.lemmas.Bool.{ne_eqb}
+use Rattle.krb_wire.specs.declared.format.KtFormat.{KtFormat}
+use Rattle.krb_wire.specs.Reading.{◌>>=◌}
+use Rattle.krb_wire.proofs.Fields.{bind_some, some_is}
+use Rattle.krb_walk.specs.declared.refusal.Code.{Code}
+use Rattle.krb_walk.specs.Events.{cut_store}
+use Rattle.krb_walk.specs.Store.{Cell, Store, Standing, Record, standing, end_from, record_of, record_of_some, bytes_of_some, live_bytes}
+use Rattle.krb_walk.specs.Changes.{OneCell, Fills, Appends}
+use Rattle.krb_walk.proofs.Stops.{bytes_from}
+use Rattle.krb_walk.proofs.Splits.{bytes_ahead, bytes_here}
+use Rattle.krb_walk.proofs.Cells.{find_head, find_tail}
+use Rattle.krb_keytab.specs.Entry.{EntryParts, entry_at}
+use Rattle.krb_keytab.specs.Find.{PlacedEntry, placed_entries}
+use Rattle.krb_keytab.specs.Store.{KeytabState, store_of, store_cell, entry_at_place}
+use Rattle.krb_keytab.specs.Changes.{cut_result, put_result, without}
+use Rattle.krb_keytab.proofs.Cuts.{store_sound}
+use Rattle.krb_keytab.proofs.AfterChanges.{cut_gives, put_gives}
+use Rattle.krb_keytab.proofs.StoreChanges.{removal_cuts, addition_puts}
+
+-- ---- cells
+
+same_head : (b : Bool) (x : Standing) (o o' : Option Standing) → bytes_of_some (record_of_some o) ≡ bytes_of_some (record_of_some o') → bytes_of_some (record_of_some (cond b (Some x) o)) ≡ bytes_of_some (record_of_some (cond b (Some x) o'))
+same_head true x o o' e = refl
+same_head false x o o' e = e
+
+one_elsewhere : (at q w : ℕ) (live live' : Option (List ℕ)) (before after : List Cell) → (q ≡ end_from at before → ⊥) → bytes_from at (before ++ record { width = w; live = live } ∷ after) q ≡ bytes_from at (before ++ record { width = w; live = live' } ∷ after) q
+one_elsewhere at q w live live' [] after other =
+    let e : (at == q) ≡ false = ne_eqb at q (λ s. other (sym s)) in
+    rw e refl
+one_elsewhere at q w live live' (c ∷ before) after other = same_head (at == q) (record { place = at; cell = c }) _ _ (one_elsewhere (at + c.width) q w live live' before after other)
+
+pub appended_elsewhere : (at q : ℕ) (c : Cell) (cells : List Cell) → (q ≡ end_from at cells → ⊥) → bytes_from at (cells ++ c ∷ []) q ≡ bytes_from at cells q
+appended_elsewhere at q c [] other =
+    let e : (at == q) ≡ false = ne_eqb at q (λ s. other (sym s)) in
+    rw e refl
+appended_elsewhere at q c (d ∷ cells) other = same_head (at == q) (record { place = at; cell = d }) _ _ (appended_elsewhere (at + d.width) q c cells other)
+
+front_sound : (before after : List Cell) → AllByRecursion (λ c. 0 < c.width) (before ++ after) → AllByRecursion (λ c. 0 < c.width) before
+front_sound [] after s = tt
+front_sound (c ∷ before) after s = (s.0, front_sound before after s.1)
+
+none_at_end : (at : ℕ) (cells : List Cell) → AllByRecursion (λ c. 0 < c.width) cells → bytes_from at cells (end_from at cells) ≡ None
+none_at_end at cells sound = ap (λ (cs : List Cell). bytes_from at cs (end_from at cells)) (sym (append-nil cells)) ∙ bytes_ahead at (end_from at cells) cells [] sound (omega arith)
+
+-- ---- one cell becomes another of its width
+
+pub elsewhere : (old new : Store) (p q w : ℕ) (was is : Option (List ℕ)) → OneCell old new p (record { width = w; live = was }) (record { width = w; live = is }) → (q ≡ p → ⊥) → live_bytes new q ≡ live_bytes old q
+elsewhere old new p q w was is one other =
+    ap (λ (at : ℕ). bytes_from at new.cells q) one.first ∙ ap (λ (cs : List Cell). bytes_from old.first cs q) one.new_cells
+    ∙ one_elsewhere old.first q w is was one.before one.after (λ s. other (s ∙ sym one.place))
+    ∙ sym (ap (λ (cs : List Cell). bytes_from old.first cs q) one.old_cells)
+
+no_none : {X : Type 0} (x : X) (o : Option X) → o ≡ Some x → o ≡ None → ⊥
+no_none x o s n = let clash : Some x ≡ None = sym s ∙ n in cc
+
+fills_elsewhere : (old new : Store) (p q : ℕ) (b : List ℕ) → AllByRecursion (λ c. 0 < c.width) old.cells → Fills old new p → live_bytes old q ≡ Some b → live_bytes new q ≡ Some b
+fills_elsewhere old new p q b sound f held =
+    let one = f.cell in
+    let front = front_sound one.before (record { width = f.width; live = None } ∷ one.after) (subst (λ (cs : List Cell). AllByRecursion (λ c. 0 < c.width) cs) one.old_cells sound) in
+    let hole : live_bytes old p ≡ None = ap (λ (cs : List Cell). bytes_from old.first cs p) one.old_cells ∙ ap (bytes_from old.first (one.before ++ record { width = f.width; live = None } ∷ one.after)) one.place ∙ bytes_here old.first f.width None one.before one.after front in
+    elsewhere old new p q f.width None (Some f.bytes) one (λ s. no_none b (live_bytes old q) held (ap (live_bytes old) s ∙ hole)) ∙ held
+
+appends_elsewhere : (old new : Store) (p q : ℕ) (b : List ℕ) → AllByRecursion (λ c. 0 < c.width) old.cells → Appends old new p → live_bytes old q ≡ Some b → live_bytes new q ≡ Some b
+appends_elsewhere old new p q b sound a held =
+    ap (λ (at : ℕ). bytes_from at new.cells q) a.first ∙ ap (λ (cs : List Cell). bytes_from old.first cs q) a.cells
+    ∙ appended_elsewhere old.first q (record { width = a.width; live = Some a.bytes }) old.cells (λ s. no_none b (live_bytes old q) held (ap (live_bytes old) s ∙ none_at_end old.first old.cells sound)) ∙ held
+
+-- ---- a keytab
+
+-- an entry that is read in one store is read in another with the same bytes
+same_entry : (k new : KeytabState) (q : ℕ) (e : EntryParts) → new.format ≡ k.format → ((b : List ℕ) → live_bytes (store_of k) q ≡ Some b → live_bytes (store_of new) q ≡ Some b) → entry_at_place k q ≡ Some e → entry_at_place new q ≡ Some e
+same_entry k new q e format bytes held =
+    let b = bind_some (live_bytes (store_of k) q) (entry_at k.format) e held in
+    ap (λ (o : Option (List ℕ)). o >>= entry_at new.format) (bytes b.0 b.1) ∙ ap (λ (f : KtFormat). entry_at f b.0) format ∙ b.2
+
+cut_by : (k : KeytabState) (p q : ℕ) (e : EntryParts) (given : Result KeytabState Code) → cut_result k p ≡ given → (q ≡ p → ⊥) → entry_at_place k q ≡ Some e → entry_at_place (cut_store k given) q ≡ Some e
+cut_by k p q e (Ok new) cut other held =
+    let f = (removal_cuts k new p (Ok tt) cut).how in
+    same_entry k new q e (sym (ap (λ (x : KeytabState). x.format) (cut_gives k p new cut).gives)) (λ b at. elsewhere (store_of k) (store_of new) p q f.width (Some f.bytes) None f.cell other ∙ at) held
+cut_by k p q e (Err code) cut other held = held
+
+-- an entry stays while records at other places are removed
+pub without_elsewhere : (k : KeytabState) (places : List ℕ) (q : ℕ) (e : EntryParts) → AllByRecursion (λ p. q ≡ p → ⊥) places → entry_at_place k q ≡ Some e → entry_at_place (without k places) q ≡ Some e
+without_elsewhere k [] q e others held = held
+without_elsewhere k (p ∷ ps) q e others held = without_elsewhere (cut_store k (cut_result k p)) ps q e others.1 (cut_by k p q e (cut_result k p) refl others.0 held)
+
+pub put_format : (k : KeytabState) (x : EntryParts) (given : ℕ × KeytabState) → put_result k x ≡ Ok given → given.1.format ≡ k.format
+put_format k x given put =
+    elim (put_gives k x given put).how [
+      | inl h ↦ sym (ap (λ (y : ℕ × KeytabState). y.1.format) h.gives)
+      | inr last ↦ sym (ap (λ (y : ℕ × KeytabState). y.1.format) last)
+    ]
+
+-- an entry stays when another is added
+pub put_elsewhere : (k : KeytabState) (x : EntryParts) (given : ℕ × KeytabState) (q : ℕ) (e : EntryParts) → put_result k x ≡ Ok given → entry_at_place k q ≡ Some e → entry_at_place given.1 q ≡ Some e
+put_elsewhere k x given q e put held =
+    let sound = store_sound k.contents.cells in
+    same_entry k given.1 q e (put_format k x given put)
+    (λ b at. elim (addition_puts k given.1 x (Ok given.0) put).how [
+      | inl fills ↦ fills_elsewhere (store_of k) (store_of given.1) given.0 q b sound fills at
+      | inr appends ↦ appends_elsewhere (store_of k) (store_of given.1) given.0 q b sound appends at
+    ]) held
+
+-- ---- the entries of a keytab, and their places
+
+pub all_mapped : {X : Type 0} (P Q : X → Type 0) (xs : List X) → ((x : X) → P x → Q x) → AllByRecursion P xs → AllByRecursion Q xs
+all_mapped P Q [] f a = tt
+all_mapped P Q (x ∷ xs) f a = (f x a.0, all_mapped P Q xs f a.1)
+
+-- the entries of cells from a place on
+abbrev entries_from : KtFormat → ℕ → List Cell → List PlacedEntry
+entries_from f at cells = filter_map (λ (r : Record). option_map (λ (e : EntryParts). (r.place, e)) (entry_at f r.bytes)) (filter_map record_of (standing at cells))
+
+-- an entry is read at its place, at or after another
+abbrev IsReadFrom : KtFormat → ℕ → List Cell → PlacedEntry → Type 0
+IsReadFrom f at cells y = (at ≤ y.0) × ((bytes_from at cells y.0 >>= entry_at f) ≡ Some y.1)
+
+later_read : (f : KtFormat) (at w : ℕ) (live : Option (List ℕ)) (cells : List Cell) (y : PlacedEntry) → 0 < w → IsReadFrom f (at + w) cells y → IsReadFrom f at (record { width = w; live = live } ∷ cells) y
+later_read f at w live cells y some r =
+    let le = r.0 in
+    (omega (arith, le), ap (λ (o : Option (List ℕ)). o >>= entry_at f) (ap bytes_of_some (find_tail at w y.0 live cells (omega (arith, le, some)))) ∙ r.1)
+
+first_read : (f : KtFormat) (at w : ℕ) (bytes : List ℕ) (cells : List Cell) (o : Option EntryParts) → entry_at f bytes ≡ o → AllByRecursion (IsReadFrom f at (record { width = w; live = Some bytes } ∷ cells)) (entries_from f (at + w) cells)
+    → AllByRecursion (IsReadFrom f at (record { width = w; live = Some bytes } ∷ cells)) (cons_option (option_map (λ (e : EntryParts). (at, e)) o) (entries_from f (at + w) cells))
+first_read f at w bytes cells None e rest = rest
+first_read f at w bytes cells (Some x) e rest =
+    ((omega arith, ap (λ (o : Option (List ℕ)). o >>= entry_at f) (ap bytes_of_some (find_head at w (Some bytes) cells)) ∙ e), rest)
+
+read_by : (f : KtFormat) (at w : ℕ) (live : Option (List ℕ)) (cells : List Cell) → 0 < w → AllByRecursion (IsReadFrom f (at + w) cells) (entries_from f (at + w) cells) → AllByRecursion (IsReadFrom f at (record { width = w; live = live } ∷ cells)) (entries_from f at (record { width = w; live = live } ∷ cells))
+read_by f at w None cells some rest = all_mapped (IsReadFrom f (at + w) cells) _ (entries_from f (at + w) cells) (λ y r. later_read f at w None cells y some r) rest
+read_by f at w (Some bytes) cells some rest =
+    first_read f at w bytes cells (entry_at f bytes) refl (all_mapped (IsReadFrom f (at + w) cells) _ (entries_from f (at + w) cells) (λ y r. later_read f at w (Some bytes) cells y some r) rest)
+
+all_read : (f : KtFormat) (at : ℕ) (cells : List Cell) → AllByRecursion (λ c. 0 < c.width) cells → AllByRecursion (IsReadFrom f at cells) (entries_from f at cells)
+all_read f at [] sound = tt
+all_read f at (c ∷ cells) sound = read_by f at c.width c.live cells sound.0 (all_read f (at + c.width) cells sound.1)
+
+-- each entry of a keytab is read at its place
+pub entries_read : (k : KeytabState) → AllByRecursion (λ y. entry_at_place k y.0 ≡ Some y.1) (placed_entries k)
+entries_read k = all_mapped (IsReadFrom k.format 2 (map store_cell k.contents.cells)) _ (placed_entries k) (λ y r. r.1) (all_read k.format 2 (map store_cell k.contents.cells) (store_sound k.contents.cells))
+
+-- ---- an entry that is read is one of the entries
+
+or_true : (a b : Bool) → b ≡ true → (a || b) ≡ true
+or_true true b e = refl
+or_true false b e = e
+
+-- the cell at a place, of cells behind one
+abbrev find_at : ℕ → ℕ → ℕ → List Cell → Option Standing
+find_at at w q cells = find (λ x. x.place == q) (standing (at + w) cells)
+
+any_first : (at q : ℕ) (o : Option EntryParts) (e : EntryParts) (p : PlacedEntry → Bool) (others : List PlacedEntry) → at ≡ q → o ≡ Some e → p (q, e) ≡ true → list_any p (cons_option (option_map (λ (x : EntryParts). (at, x)) o) others) ≡ true
+any_first at q None e p others here is holds = absurd cc
+any_first at q (Some x) e p others here is holds =
+    let same = some_is x e is in
+    let both : ◌≡◌ {A = PlacedEntry} (at, x) (q, e) = λ i. (here i, same i) in
+    ap (λ (b : Bool). b || list_any p others) (ap p both ∙ holds)
+
+any_later : (at : ℕ) (o : Option EntryParts) (p : PlacedEntry → Bool) (others : List PlacedEntry) → list_any p others ≡ true → list_any p (cons_option (option_map (λ (x : EntryParts). (at, x)) o) others) ≡ true
+any_later at None p others later = later
+any_later at (Some x) p others later = or_true (p (at, x)) (list_any p others) later
+
+test_same : (m n : ℕ) → (m == n) ≡ true → m ≡ n
+test_same m n e = grind arith
+
+any_by : (f : KtFormat) (at w q : ℕ) (live : Option (List ℕ)) (cells : List Cell) (e : EntryParts) (p : PlacedEntry → Bool) (b : Bool) → (at == q) ≡ b → p (q, e) ≡ true
+    → (bytes_of_some (record_of_some (cond b (Some (record { place = at; cell = record { width = w; live = live } })) (find_at at w q cells))) >>= entry_at f) ≡ Some e
+    → ((bytes_from (at + w) cells q >>= entry_at f) ≡ Some e → list_any p (entries_from f (at + w) cells) ≡ true) → list_any p (entries_from f at (record { width = w; live = live } ∷ cells)) ≡ true
+any_by f at w q None cells e p true here holds read ih = absurd cc
+any_by f at w q (Some bytes) cells e p true here holds read ih = any_first at q (entry_at f bytes) e p (entries_from f (at + w) cells) (test_same at q here) read holds
+any_by f at w q None cells e p false here holds read ih = ih read
+any_by f at w q (Some bytes) cells e p false here holds read ih = any_later at (entry_at f bytes) p (entries_from f (at + w) cells) (ih read)
+
+any_read : (f : KtFormat) (at q : ℕ) (cells : List Cell) (e : EntryParts) (p : PlacedEntry → Bool) → p (q, e) ≡ true → (bytes_from at cells q >>= entry_at f) ≡ Some e → list_any p (entries_from f at cells) ≡ true
+any_read f at q [] e p holds read = absurd cc
+any_read f at q (c ∷ cells) e p holds read = any_by f at c.width q c.live cells e p (at == q) refl holds read (any_read f (at + c.width) q cells e p holds)
+
+-- if an entry is read at a place, one of the entries has what holds of it
+pub any_entry : (k : KeytabState) (q : ℕ) (e : EntryParts) (p : PlacedEntry → Bool) → p (q, e) ≡ true → entry_at_place k q ≡ Some e → list_any p (placed_entries k) ≡ true
+any_entry k q e p holds read = any_read k.format 2 q (map store_cell k.contents.cells) e p holds read

@@ -1,0 +1,121 @@
+-- A run is a history of removals and additions, and without replacing of additions alone.
+use Rattle.std.proofs.Common.{◌≡◌, ℕ, Bool, true, false, cond, List, [], ◌∷◌, ◌++◌, Some, Result, Ok, Err, refl, sym, ap, subst, ◌∙◌}
+use Rattle.std.specs.Prelude.{map}
+use Rattle.std.specs.List.{AllByRecursion, list_any}
+use Rattle.std.specs.Str.{bytes_eq}
+use Rattle.krb_walk.specs.declared.event.Event.{Event}
+use Rattle.krb_walk.specs.declared.event.Event.TheVariants.{Put, Cut}
+use Rattle.krb_walk.specs.declared.refusal.Code.{Code}
+use Rattle.krb_walk.specs.Events.{SessionState, after, put_store}
+use Rattle.krb_walk.specs.History.{state_after}
+use Rattle.krb_keytab.specs.Entry.{EntryParts}
+use Rattle.krb_keytab.specs.Find.{PlacedEntry}
+use Rattle.krb_keytab.specs.Placed.{keytab_rules}
+use Rattle.krb_keytab.specs.Store.{KeytabState, entry_at_place}
+use Rattle.krb_keytab.specs.Changes.{put_result, without}
+use Rattle.krb_keytab.proofs.StoreChanges.{cuts_ran}
+use Rattle.krb_copy.specs.Copying.{Held, Run, Step, There, Clash, Copy, twins, step_among, step_of, run_added, run_after, go_on, run_over, run_start, copy_run, has_lines}
+use Rattle.krb_copy.specs.Laws.{AllStay, AreHistories, IsChange}
+use Rattle.krb_copy.proofs.Elsewhere.{put_elsewhere}
+use Rattle.krb_copy.proofs.LawLemmas.{all_append}
+use Rattle.krb_copy.proofs.LawRuns.{ok_is, ended}
+
+-- ---- histories
+
+-- a session over a keytab, without walks
+abbrev session : KeytabState → SessionState KeytabState
+session k = record { store = k; cursors = [] }
+
+-- a keytab comes of another by removals and additions
+record Comes (k new : KeytabState) : Type 0 where
+  events : List (Event EntryParts)
+  changes : AllByRecursion IsChange events
+  state : state_after keytab_rules (session k) events ≡ session new
+
+after-append : (s : SessionState KeytabState) (es fs : List (Event EntryParts)) → state_after keytab_rules s (es ++ fs) ≡ state_after keytab_rules (state_after keytab_rules s es) fs
+after-append s [] fs = refl
+after-append s (e ∷ es) fs = after-append (after keytab_rules s e) es fs
+
+comes_then : (k mid new : KeytabState) → Comes k mid → Comes mid new → Comes k new
+comes_then k mid new a b = record {
+  events = a.events ++ b.events;
+  changes = all_append IsChange a.events b.events a.changes b.changes;
+  state = after-append (session k) a.events b.events ∙ ap (λ (s : SessionState KeytabState). state_after keytab_rules s b.events) a.state ∙ b.state;
+}
+
+cuts_change : (places : List ℕ) → AllByRecursion IsChange (map Cut places)
+cuts_change [] = tt
+cuts_change (p ∷ ps) = (tt, cuts_change ps)
+
+removals : (k : KeytabState) (places : List ℕ) → Comes k (without k places)
+removals k places = record { events = map Cut places; changes = cuts_change places; state = sym (cuts_ran k places).state }
+
+addition : (k : KeytabState) (x : EntryParts) (given : ℕ × KeytabState) → put_result k x ≡ Ok given → Comes k given.1
+addition k x given put = record { events = Put x ∷ []; changes = (tt, tt); state = ap (λ (r : Result (ℕ × KeytabState) Code). session (put_store k r)) put }
+
+same : (k : KeytabState) → Comes k k
+same k = record { events = []; changes = tt; state = refl }
+
+added_comes : (run next : Run) (x : EntryParts) (places : List ℕ) (r : Result (ℕ × KeytabState) Code) → put_result (without run.keytab places) x ≡ r → run_added run x places r ≡ Ok next → Comes run.keytab next.keytab
+added_comes run next x places (Err code) put e = absurd cc
+added_comes run next x places (Ok given) put e =
+    subst (λ (n : Run). Comes run.keytab n.keytab) (ok_is _ next (run_added run x places (Ok given)) refl e)
+    (comes_then run.keytab (without run.keytab places) given.1 (removals run.keytab places) (addition (without run.keytab places) x given put))
+
+step_comes : (run next : Run) (x : PlacedEntry) (s : Step) → run_after run x s ≡ Ok next → Comes run.keytab next.keytab
+step_comes run next x There e = subst (λ (n : Run). Comes run.keytab n.keytab) (ok_is _ next (run_after run x There) refl e) (same run.keytab)
+step_comes run next x (Clash twin) e = subst (λ (n : Run). Comes run.keytab n.keytab) (ok_is _ next (run_after run x (Clash twin)) refl e) (same run.keytab)
+step_comes run next x (Copy places) e = added_comes run next x.1 places (put_result (without run.keytab places) x.1) refl e
+
+comes_by : (replace : Bool) (x : PlacedEntry) (xs : List PlacedEntry) (run final : Run) (r : Result Run Code) → run_after run x (step_of replace run.before run.held x.1) ≡ r → go_on (run_over replace xs) run r ≡ Ok final
+    → ((next : Run) → run_over replace xs next ≡ Ok final → Comes next.keytab final.keytab) → Comes run.keytab final.keytab
+comes_by replace x xs run final (Ok next) step e ih = comes_then run.keytab next.keytab final.keytab (step_comes run next x (step_of replace run.before run.held x.1) step) (ih next e)
+comes_by replace x xs run final (Err code) step e ih = subst (λ (n : Run). Comes run.keytab n.keytab) (ended (has_lines run.clashes) run final code refl e).0 (same run.keytab)
+
+comes_over : (replace : Bool) (asked : List PlacedEntry) (run final : Run) → run_over replace asked run ≡ Ok final → Comes run.keytab final.keytab
+comes_over replace [] run final e = subst (λ (n : Run). Comes run.keytab n.keytab) (ok_is run final (Ok run) refl e) (same run.keytab)
+comes_over replace (x ∷ xs) run final e = comes_by replace x xs run final (run_after run x (step_of replace run.before run.held x.1)) refl e (λ next f. comes_over replace xs next final f)
+
+pub are_histories : AreHistories
+unfolding copy_run
+are_histories replace asked k run e =
+    let c = comes_over replace asked (run_start k) run e in
+    (c.events, c.changes, ap (λ (s : SessionState KeytabState). s.store) c.state)
+
+-- ---- without replacing
+
+among_none : (before : List EntryParts) (ts : List Held) (places : List ℕ) → step_among false before ts ≡ Copy places → places ≡ []
+among_none before [] places e = cc
+among_none before (t ∷ ts) places e = absurd cc
+
+copy_none : (b : Bool) (before : List EntryParts) (ts : List Held) (places : List ℕ) → cond b There (step_among false before ts) ≡ Copy places → places ≡ []
+copy_none true before ts places e = absurd cc
+copy_none false before ts places e = among_none before ts places e
+
+-- an entry stays where it is from one run to another
+abbrev Stays : Run → Run → Type 0
+Stays run next = (q : ℕ) (e : EntryParts) → entry_at_place run.keytab q ≡ Some e → entry_at_place next.keytab q ≡ Some e
+
+added_stays : (run next : Run) (x : EntryParts) (places : List ℕ) (r : Result (ℕ × KeytabState) Code) → places ≡ [] → put_result (without run.keytab places) x ≡ r → run_added run x places r ≡ Ok next → Stays run next
+added_stays run next x places (Err code) none put e = absurd cc
+added_stays run next x places (Ok given) none put e = subst (Stays run) (ok_is _ next (run_added run x places (Ok given)) refl e)
+    (λ q f read. put_elsewhere (without run.keytab places) x given q f put (ap (λ (ps : List ℕ). entry_at_place (without run.keytab ps) q) none ∙ read))
+
+step_stays : (run next : Run) (x : PlacedEntry) (s : Step) → step_of false run.before run.held x.1 ≡ s → run_after run x s ≡ Ok next → Stays run next
+step_stays run next x There step e = subst (Stays run) (ok_is _ next (run_after run x There) refl e) (λ q f read. read)
+step_stays run next x (Clash twin) step e = subst (Stays run) (ok_is _ next (run_after run x (Clash twin)) refl e) (λ q f read. read)
+step_stays run next x (Copy places) step e =
+    added_stays run next x.1 places (put_result (without run.keytab places) x.1) (copy_none (list_any (λ h. bytes_eq x.1.key h.entry.key) (twins x.1 run.held)) run.before (twins x.1 run.held) places step) refl e
+
+stays_by : (x : PlacedEntry) (xs : List PlacedEntry) (run final : Run) (r : Result Run Code) → run_after run x (step_of false run.before run.held x.1) ≡ r → go_on (run_over false xs) run r ≡ Ok final
+    → ((next : Run) → run_over false xs next ≡ Ok final → Stays next final) → Stays run final
+stays_by x xs run final (Ok next) step e ih = λ q f read. ih next e q f (step_stays run next x (step_of false run.before run.held x.1) refl step q f read)
+stays_by x xs run final (Err code) step e ih = subst (Stays run) (ended (has_lines run.clashes) run final code refl e).0 (λ q f read. read)
+
+stays_over : (asked : List PlacedEntry) (run final : Run) → run_over false asked run ≡ Ok final → Stays run final
+stays_over [] run final e = subst (Stays run) (ok_is run final (Ok run) refl e) (λ q f read. read)
+stays_over (x ∷ xs) run final e = stays_by x xs run final (run_after run x (step_of false run.before run.held x.1)) refl e (λ next f. stays_over xs next final f)
+
+pub all_stay : AllStay
+unfolding copy_run
+all_stay asked k run e place f read = stays_over asked (run_start k) run e place f read

@@ -1,0 +1,9 @@
+use Rattle.krb_copy.proofs.LawHistories.{all_stay}
+use Rattle.krb_copy.proofs.LawRuns.{others_stay}
+use Rattle.krb_copy.proofs.laws.others_stay.Goals as goal
+
+pub returns-clause-others : goal.returns-clause-others
+returns-clause-others c = others_stay
+
+pub returns-clause-all : goal.returns-clause-all
+returns-clause-all c = all_stay

@@ -1,0 +1,63 @@
+-- Laws of the definitions.
+use Rattle.std.specs.Prelude.{◌≡◌, ℕ, List, [], Bool, false, true, ◌==◌, Some, Ok}
+use Rattle.std.specs.List.{AllByRecursion, list_any}
+use Rattle.krb_walk.specs.declared.event.Event.{Event}
+use Rattle.krb_walk.specs.declared.event.Event.TheVariants.{Put, Cut}
+use Rattle.krb_walk.specs.History.{state_after}
+use Rattle.krb_keytab.specs.Entry.{EntryParts}
+use Rattle.krb_keytab.specs.Find.{PlacedEntry}
+use Rattle.krb_keytab.specs.Form.{IsEntry}
+use Rattle.krb_keytab.specs.Placed.{keytab_rules}
+use Rattle.krb_keytab.specs.Store.{KeytabState, entry_at_place}
+use Rattle.krb_copy.specs.Twins.{are_twins, are_same}
+use Rattle.krb_copy.specs.Copying.{Held, Run, copy_run, has_lines}
+
+-- the keytab has an entry with name, version, enctype and key of this one
+abbrev pub Has : KeytabState → EntryParts → Type 0
+Has k x = (place : ℕ) × (e : EntryParts) × (entry_at_place k place ≡ Some e) × (are_same x e ≡ true)
+
+-- each number of these entries fits its type
+abbrev pub AreEntries : List PlacedEntry → Type 0
+AreEntries asked = AllByRecursion (λ x. IsEntry x.1) asked
+
+-- after a run in which none clashes, the keytab has each entry asked for
+abbrev pub HasEachAsked : Type 0
+HasEachAsked = (replace : Bool) (asked : List PlacedEntry) (k : KeytabState) (run : Run) → AreEntries asked → copy_run replace asked k ≡ Ok run → (has_lines run.clashes) ≡ false → AllByRecursion (λ x. Has run.keytab x.1) asked
+
+-- a run of the same entries after it tells nothing and changes nothing
+abbrev pub SecondDoesNothing : Type 0
+SecondDoesNothing = (replace again : Bool) (asked : List PlacedEntry) (k : KeytabState) (run : Run) → AreEntries asked → copy_run replace asked k ≡ Ok run → (has_lines run.clashes) ≡ false
+    → (second : Run) × (copy_run again asked run.keytab ≡ Ok second) × (second.keytab ≡ run.keytab) × (second.text ≡ []) × ((has_lines second.clashes) ≡ false)
+
+-- an entry that is a twin of none of those asked for stays where it is
+abbrev pub OthersStay : Type 0
+OthersStay = (replace : Bool) (asked : List PlacedEntry) (k : KeytabState) (run : Run) → AreEntries asked → copy_run replace asked k ≡ Ok run
+    → (place : ℕ) (e : EntryParts) → entry_at_place k place ≡ Some e → AllByRecursion (λ x. are_twins x.1 e ≡ false) asked → entry_at_place run.keytab place ≡ Some e
+
+-- a run that tells nothing has changed nothing
+abbrev pub ChangesAreTold : Type 0
+ChangesAreTold = (replace : Bool) (asked : List PlacedEntry) (k : KeytabState) (run : Run) → copy_run replace asked k ≡ Ok run → run.text ≡ [] → run.keytab ≡ k
+
+-- without replacing, each entry stays where it is
+abbrev pub AllStay : Type 0
+AllStay = (asked : List PlacedEntry) (k : KeytabState) (run : Run) → copy_run false asked k ≡ Ok run → (place : ℕ) (e : EntryParts) → entry_at_place k place ≡ Some e → entry_at_place run.keytab place ≡ Some e
+
+-- an event is a removal or an addition
+abbrev pub IsChange : Event EntryParts → Type 0
+IsChange (Cut place) = Unit {0}
+IsChange (Put e) = Unit {0}
+IsChange other = ⊥
+
+-- a run is a history of removals and additions
+abbrev pub AreHistories : Type 0
+AreHistories = (replace : Bool) (asked : List PlacedEntry) (k : KeytabState) (run : Run) → copy_run replace asked k ≡ Ok run
+    → (events : List (Event EntryParts)) × AllByRecursion IsChange events × ((state_after keytab_rules (record { store = k; cursors = [] }) events).store ≡ run.keytab)
+
+-- an entry that a run has is in the keytab, at its place
+abbrev pub IsInPlace : KeytabState → Held → Type 0
+IsInPlace k h = (e : EntryParts) × (entry_at_place k h.place ≡ Some e) × (are_same h.entry e ≡ true)
+
+-- the entries that a run goes by are those of its keytab: each is there, and there is no other
+abbrev pub GoesByItsEntries : Type 0
+GoesByItsEntries = (replace : Bool) (asked : List PlacedEntry) (k : KeytabState) (run : Run) → AreEntries asked → copy_run replace asked k ≡ Ok run
+    → AllByRecursion (IsInPlace run.keytab) run.held × ((place : ℕ) (e : EntryParts) → entry_at_place run.keytab place ≡ Some e → list_any (λ h. h.place == place) run.held ≡ true)

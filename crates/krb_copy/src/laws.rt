@@ -1,0 +1,24 @@
+//! Laws of the definitions that the contracts cite.
+
+ghost use Rattle.krb_copy.specs.Laws.{AllStay, AreHistories, ChangesAreTold, GoesByItsEntries, HasEachAsked, OthersStay, SecondDoesNothing};
+
+/// After a run in which no entry clashes, the keytab has each entry asked for, with its key, and a second run does
+/// nothing.
+pub fn entries_asked_for_are_there()
+    ensures there { HasEachAsked }
+    ensures second { SecondDoesNothing }
+{}
+
+/// An entry stays where it is if none asked for has its name, kvno and enctype, and in any case if none is replaced.
+pub fn others_stay()
+    ensures others { OthersStay }
+    ensures all { AllStay }
+{}
+
+/// A run is a history of removals and additions, and goes by the entries that its keytab has by then. One that tells
+/// nothing has changed nothing.
+pub fn runs_are_histories()
+    ensures history { AreHistories }
+    ensures entries { GoesByItsEntries }
+    ensures told { ChangesAreTold }
+{}
