@@ -106,7 +106,6 @@ WRONG_BODIES = {
         "ends-well-at-a-refusal": "a refused addition ends a run without a clash",
         "removes-what-was-met": "an entry is replaced though one asked for before has its key",
         "replace-removes-its-own": "an entry that the run added is replaced",
-        "replaces-unasked": "entries are replaced without the option",
         "same-by-name": "an entry with another key counts as being there",
     },
     "krb_driver": {

@@ -32,7 +32,13 @@ pub const KTCOPY: CommandWords = CommandWords {
     about: "Copies entries from one keytab into another",
     usage: "\
 krbfile ktcopy [--v1-big] [-n] [--replace] [-p NAME].. [-k KVNO|new] [-e ETYPE].. FROM TO",
-    after_help: None,
+    after_help: Some(
+        "\
+Examples:
+  krbfile ktcopy new.keytab /etc/krb5.keytab                Bring new keys into the keytab in use
+  krbfile ktcopy -p HTTP/www@R /etc/krb5.keytab www.keytab  Hand a service its keys
+  krbfile ktcopy -n a.keytab b.keytab                       Which keys of a.keytab b.keytab lacks",
+    ),
     words: &[
         Word::Flag(
             "dry-run",

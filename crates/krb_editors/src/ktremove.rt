@@ -27,7 +27,12 @@ pub const KTREMOVE: CommandWords = CommandWords {
     about: "Removes entries from a keytab",
     usage: "\
 krbfile ktremove [--v1-big] [-n] [-p NAME].. [-k KVNO|old [--age SECONDS]] [-e ETYPE].. FILE",
-    after_help: None,
+    after_help: Some(
+        "\
+Examples:
+  krbfile ktremove -k old --age 86400 /etc/krb5.keytab  Remove keys that were replaced a day ago
+  krbfile ktremove -n -e 23 /etc/krb5.keytab            Which keys of a weak type are there",
+    ),
     words: &[
         DRY_RUN,
         Word::Valued(

@@ -20,7 +20,12 @@ pub const KLIST: CommandWords = CommandWords {
 krbfile klist [-c] [-e] [-f] [-C] [--json] FILE
        krbfile klist -k [-t] [-K] [-e] [--v1-big] [--json] FILE
        krbfile klist -s [--for SECONDS] [-c] FILE",
-    after_help: None,
+    after_help: Some(
+        "\
+Examples:
+  krbfile klist -k -e /etc/krb5.keytab      The entries of a keytab, with encryption types
+  krbfile klist -s FILE || kinit            Log in unless there is a ticket to go on with",
+    ),
     words: &[
         Word::Flag("cache", 'c', "List a credential cache (the default)"),
         Word::Flag("flags", 'f', "Show the flags of tickets"),
