@@ -63,9 +63,9 @@ def lock(new: NewFile) -> bool:
         raise
 
 
-def stands(new: NewFile) -> bool:
+def is_at_path(new: NewFile) -> bool:
     """Whether the new file is still at its path."""
-    return looks.stands_at(new.path, new.number)
+    return looks.is_at_path(new.path, new.number)
 
 
 def double(new: NewFile) -> None:
@@ -199,7 +199,7 @@ def lock_stale_file(number: int) -> bool:
 
 def is_abandoned(path: bytes, number: int, owner: int | None) -> bool:
     """Whether a killed run left the open file, which is locked."""
-    return looks.may_be_left(os.fstat(number), owner) and looks.stands_at(path, number)
+    return looks.may_be_left(os.fstat(number), owner) and looks.is_at_path(path, number)
 
 
 def remove_stale_file(path: bytes) -> None:

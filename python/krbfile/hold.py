@@ -25,7 +25,7 @@ def lock_old(path: bytes, deadline: Deadline) -> FileIO | None:
     """Locks the file at a path, if there is one, after waiting for any other program that has it locked. Returns it
     open."""
     while see_plain(path) and (file := looks.open_file(path)):
-        if calls.lock_old(file) and looks.stands_at(path, file.fileno()):
+        if calls.lock_old(file) and looks.is_at_path(path, file.fileno()):
             return file
         file.close()
         deadline.pause()
@@ -35,7 +35,7 @@ def lock_old(path: bytes, deadline: Deadline) -> FileIO | None:
 def is_ready(new: NewFile, path: bytes, snapshot: Snapshot, deadline: Deadline) -> bool:
     """Whether no program has locked the old file to change it. Fails unless the new file is still ours and the old one
     is as it was loaded."""
-    if not (calls.stands(new) and calls.compare(path, snapshot)):
+    if not (calls.is_at_path(new) and calls.compare(path, snapshot)):
         raise Refusal(*CHANGED)
     return snapshot is None or calls.is_quiet(new, snapshot[0], deadline)
 

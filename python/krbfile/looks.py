@@ -39,7 +39,7 @@ def is_unchanged(old: Found, new: Found) -> bool:
     return is_same_file(old, new) and all(getattr(old, name) == getattr(new, name) for name in kept)
 
 
-def stands_at(path: bytes, number: int) -> bool:
+def is_at_path(path: bytes, number: int) -> bool:
     """Whether a path still names the open file with that descriptor."""
     opened, named = os.fstat(number), look(path)
     return named is not None and is_same_file(named, opened)

@@ -17,13 +17,13 @@ SUFFIX = b".krbfile"
 def remove_own(new: NewFile) -> None:
     """Removes our new file, unless its path no longer names it."""
     with suppress(OSError):
-        if calls.stands(new):
+        if calls.is_at_path(new):
             calls.remove(new)
 
 
 def lock_new(new: NewFile) -> bool:
     """Locks a file that was just created and duplicates its descriptor. Returns whether it is held then."""
-    if not (calls.lock(new) and calls.stands(new)):
+    if not (calls.lock(new) and calls.is_at_path(new)):
         return False
     calls.double(new)
     return True

@@ -25,12 +25,12 @@ def seen(image, **limit):
         found.append(error.status)
     return found, keytab.fault
 
-def told(lengths, made):
+def print_answers(lengths, made):
     for answer, group in groupby(lengths, lambda length: seen(made(length))):
         print(next(group), answer)
 
-told(range(len(image) + 1), lambda length: image[:length])
-told(range(1, len(host) + 1), lambda length: image[:2] + length.to_bytes(4, "big") + host[:length])
+print_answers(range(len(image) + 1), lambda length: image[:length])
+print_answers(range(1, len(host) + 1), lambda length: image[:2] + length.to_bytes(4, "big") + host[:length])
 for at in (6, 8, 31):
     print(at, seen(image[:at] + bytes([255] * 2) + image[at + 2:]))
 print(seen(bytes([5])), seen(bytes([5, 3])), seen(bytes([4, 2])), seen(bytes([5, 2, 0]), limit=2))

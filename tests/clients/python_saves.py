@@ -39,10 +39,10 @@ PYTHONS = (sys.executable, "/usr/bin/python3")
 # The calls of a save over a file beside which a killed run has left its new file, in order; and those that release a
 # file that is not saved.
 STALE = ["make", "open_stale_file", "lock_stale_file", "is_abandoned", "remove_stale_file"]
-HOLD = ["make", "lock", "stands", "double", "find_mount", "is_quiet", "lock_old"]
+HOLD = ["make", "lock", "is_at_path", "double", "find_mount", "is_quiet", "lock_old"]
 LOAD = ["load"]
-SAVE = ["write", "own", "permit", "sync", "stands", "compare", "is_quiet", "rename", "sync_folder"]
-LEAVE = ["stands", "remove"]
+SAVE = ["write", "own", "permit", "sync", "is_at_path", "compare", "is_quiet", "rename", "sync_folder"]
+LEAVE = ["is_at_path", "remove"]
 
 # The mode of a file that is saved. Until it is set only the owner may read the new one.
 MODE = 0o640

@@ -23,7 +23,7 @@ pub known_after : (s : Store) (c p n : ℕ) → IsSound s → Live p n ≡ stop_
 known_after s c p n sound is =
     let live = stops_live s c p n sound is in
     record {
-      is_live = some_is _ live.bytes live.is_live;
+      is_live = some_is _ live.bytes live.is_there;
       place = ap (λ r. is_place s (stop_cursor (end_of s) r)) (sym live.next) ∙ stop_place s c;
     }
 

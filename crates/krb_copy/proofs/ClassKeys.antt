@@ -1,5 +1,5 @@
 -- Entries are twins iff their keys in a map compare equal.
-use Rattle.std.proofs.Common.{◌≡◌, ℕ, ◌<◌, Bool, true, false, cond, List, [], ◌∷◌, ◌++◌, length, Some, None, Ok, refl, sym, ap, ◌∙◌, arith}
+use Rattle.std.proofs.Common.{◌≡◌, ℕ, ◌+◌, ◌*◌, ◌<◌, Bool, true, false, cond, List, [], ◌∷◌, ◌++◌, length, Some, None, Ok, refl, sym, ap, ◌∙◌, arith}
 use Rattle.std.specs.Prelude.{◌&&◌, ◌==◌, unwrap_or, map, Result, nat_lt}
 use Rattle.std.specs.List.{join_with_byte}
 use Rattle.std.specs.declared.cmp.Ordering.{Ordering}
@@ -18,6 +18,7 @@ use Rattle.krb_wire.specs.SameName.{have_same_name}
 use Rattle.krb_wire.proofs.NamesCompared.{same_name_is, and_both, both_and}
 use Rattle.krb_wire.proofs.RoundTrip.{name_of-name_text}
 use Rattle.krb_keytab.specs.Entry.{EntryParts}
+use Rattle.krb_audit.specs.Hash.{hash_of}
 use Rattle.krb_copy.specs.Twins.{are_twins, are_same}
 use Rattle.krb_copy.specs.declared.numbers.Numbers.{Numbers}
 use Rattle.krb_copy.specs.Numbers.{ClassKey, IsClassKey, SameKey, class_cmp, same_cmp, first_twin, first_same, AreNumbered}
@@ -86,16 +87,34 @@ names_agree p q = same_name_is p q (length p.components == length q.components &
     (λ realm components. both_and _ _ (number_same _ _ (ap length components))
     ((bytes_eq-Decides (name_text p) (name_text q)).1 (ap (λ (r : List ℕ). name_text (record p { realm = r })) realm ∙ ap (λ (cs : List (List ℕ)). name_text (record q { components = cs })) components)))
 
-regroup : (v e n t : Bool) → (((v && e) && n) && t) ≡ ((n && t) && (v && e))
-regroup true true true true = refl
-regroup true true true false = refl
-regroup true true false t = refl
-regroup true false true true = refl
-regroup true false true false = refl
-regroup true false false t = refl
-regroup false e true true = refl
-regroup false e true false = refl
-regroup false e false t = refl
+regroup : (k n t : Bool) → ((k && n) && t) ≡ ((n && t) && k)
+regroup true true true = refl
+regroup true true false = refl
+regroup true false t = refl
+regroup false true true = refl
+regroup false true false = refl
+regroup false false t = refl
+
+and_false : (b : Bool) → (b && false) ≡ false
+and_false true = refl
+and_false false = refl
+
+-- equal texts have equal hashes
+drop_hash : (h k n t : Bool) → (t ≡ true → h ≡ true) → (((h && k) && n) && t) ≡ ((k && n) && t)
+drop_hash h k n true same = ap (λ (b : Bool). ((b && k) && n) && true) (same refl)
+drop_hash h k n false same = and_false ((h && k) && n) ∙ sym (and_false (k && n))
+
+both_by : (a b c : Bool) → (a ≡ true → (b ≡ true) × (c ≡ true)) → (b ≡ true → c ≡ true → a ≡ true) → a ≡ (b && c)
+both_by true b c down up = sym (both_and b c (down refl).0 (down refl).1)
+both_by false true true down up = up refl refl
+both_by false true false down up = refl
+both_by false false c down up = refl
+
+-- a version and an enctype of 16 bits are equal iff they are as one number
+kinds_agree : (v e w f : ℕ) → e < 65536 → f < 65536 → (v * 65536 + e == w * 65536 + f) ≡ (v == w && e == f)
+kinds_agree v e w f small other = both_by (v * 65536 + e == w * 65536 + f) (v == w) (e == f)
+    (λ same. let is = same_number (v * 65536 + e) (w * 65536 + f) same in (number_same v w (omega (arith, is, small, other)), number_same e f (omega (arith, is, small, other))))
+    (λ versions enctypes. let vs = same_number v w versions in let es = same_number e f enctypes in number_same _ _ (omega (arith, vs, es)))
 
 -- entries are twins iff their keys compare equal
 pub classes_agree : {A : Type 0} (x y : EntryParts) (k l : ClassKey A) → IsClassKey x k → IsClassKey y l → is_eq (class_cmp k l) ≡ are_twins x y
@@ -106,9 +125,12 @@ classes_agree x y k l of_x of_y =
     ∙ ap (λ (b : Bool). ((b && is_eq (nat_cmp k.1 l.1)) && is_eq (nat_cmp k.2 l.2)) && bytes_eq k.3.items l.3.items) (nat_is k.0 l.0)
     ∙ ap (λ (b : Bool). (((k.0 == l.0) && b) && is_eq (nat_cmp k.2 l.2)) && bytes_eq k.3.items l.3.items) (nat_is k.1 l.1)
     ∙ ap (λ (b : Bool). (((k.0 == l.0) && (k.1 == l.1)) && b) && bytes_eq k.3.items l.3.items) (nat_is k.2 l.2)
-    ∙ rw (of_x.version, of_x.enctype, of_x.count, of_x.name, of_y.version, of_y.enctype, of_y.count, of_y.name)
-    (regroup (x.version == y.version) (x.enctype == y.enctype) (length x.principal.components == length y.principal.components) (bytes_eq (name_text x.principal) (name_text y.principal))
-    ∙ ap (λ (b : Bool). b && (x.version == y.version && x.enctype == y.enctype)) (names_agree x.principal y.principal))
+    ∙ rw (of_x.hash, of_x.kind, of_x.count, of_x.name, of_y.hash, of_y.kind, of_y.count, of_y.name)
+    (drop_hash (hash_of (name_text x.principal) == hash_of (name_text y.principal)) (x.version * 65536 + x.enctype == y.version * 65536 + y.enctype) (length x.principal.components == length y.principal.components) (bytes_eq (name_text x.principal) (name_text y.principal))
+    (λ same. number_same _ _ (ap hash_of ((bytes_eq-Decides (name_text x.principal) (name_text y.principal)).0 same)))
+    ∙ regroup (x.version * 65536 + x.enctype == y.version * 65536 + y.enctype) (length x.principal.components == length y.principal.components) (bytes_eq (name_text x.principal) (name_text y.principal))
+    ∙ ap (λ (b : Bool). b && (x.version * 65536 + x.enctype == y.version * 65536 + y.enctype)) (names_agree x.principal y.principal)
+    ∙ ap (λ (b : Bool). have_same_name x.principal y.principal && b) (kinds_agree x.version x.enctype y.version y.enctype of_x.small of_y.small))
 
 -- the same with the bytes of the key
 pub keys_agree : {A : Type 0} (x y : EntryParts) (k l : SameKey A) → IsClassKey x k.0 → IsClassKey y l.0 → k.1.now ≡ x.key → l.1.now ≡ y.key → is_eq (same_cmp k l) ≡ are_same x y

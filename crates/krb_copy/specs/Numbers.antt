@@ -1,5 +1,5 @@
 -- Numbers of entries: that of the first twin, and that of the first twin with the same key.
-use Rattle.std.specs.Prelude.{◌≡◌, ℕ, List, length, Option, Some}
+use Rattle.std.specs.Prelude.{◌≡◌, ℕ, ◌+◌, ◌*◌, ◌<◌, List, length, Option, Some}
 use denote.Ref.{Bor}
 use Rattle.std.specs.Prelude.{Vec}
 use Rattle.std.specs.declared.cmp.Ordering.{Ordering}
@@ -9,18 +9,20 @@ use Rattle.std.specs.BTreeMap.{get_by}
 use Rattle.std.specs.List.{position_from}
 use Rattle.krb_wire.specs.Names.{name_text}
 use Rattle.krb_keytab.specs.Entry.{EntryParts}
+use Rattle.krb_audit.specs.Hash.{hash_of}
 use Rattle.krb_copy.specs.Twins.{are_twins, are_same}
 use Rattle.krb_copy.specs.declared.numbers.Number.{Number}
 use Rattle.krb_copy.specs.declared.numbers.Numbers.{Numbers}
 
--- what twins have in common: a version, an enctype, the number of a name's components, and the name as text
+-- what twins have in common: a hash of the name's text, a version and an enctype of 16 bits as one number, the number of the name's components, and the text
 abbrev pub ClassKey : Type 0 → Type 0
 ClassKey A = ℕ × ℕ × ℕ × Vec ℕ A
 
 -- that of an entry
 pub record IsClassKey {A : Type 0} (x : EntryParts) (k : ClassKey A) : Type 0 where
-  pub version : k.0 ≡ x.version
-  pub enctype : k.1 ≡ x.enctype
+  pub hash : k.0 ≡ hash_of (name_text x.principal)
+  pub kind : k.1 ≡ x.version * 65536 + x.enctype
+  pub small : x.enctype < 65536
   pub count : k.2 ≡ length x.principal.components
   pub name : k.3.items ≡ name_text x.principal
 

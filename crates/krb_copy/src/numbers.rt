@@ -5,6 +5,7 @@ ghost use Rattle.std.specs.BTreeMap.{get, Updates};
 ghost use Rattle.krb_keytab.specs.Entry.{EntryParts};
 ghost use Rattle.krb_copy.specs.Numbers.{AreNumbered, IsClassKey, numbers_in, shown};
 
+use krb_audit::hash_of;
 use krb_keytab::EntryView;
 use krb_wire::{Name, NoMemory, write_name};
 use std::alloc::Allocator;
@@ -17,9 +18,9 @@ pub struct Number {
     pub key: usize,
 }
 
-// A version, an enctype, the number of a name's components, and the name as text: names of different counts may print
-// alike.
-type ClassKey<A> = (u32, u16, usize, Vec<u8, A>);
+// A hash of the name's text, which is cheap to compare, a version and an enctype as one number, the number of the name's
+// components, and the text: names of different counts may print alike.
+type ClassKey<A> = (u64, u64, usize, Vec<u8, A>);
 
 // Returns what the twins of an entry have in common.
 fn class_key<A: Allocator>(alloc: A, entry: &EntryView<'_>) -> Result<ClassKey<A>, NoMemory>
@@ -28,7 +29,8 @@ fn class_key<A: Allocator>(alloc: A, entry: &EntryView<'_>) -> Result<ClassKey<A
     let mut name = Vec::new(alloc);
     write_name(entry.principal(), &mut name)?;
     let count = entry.principal().count();
-    Ok((entry.kvno(), entry.enctype(), count, name))
+    let kind = u64::from(entry.kvno()) * 65_536 + u64::from(entry.enctype());
+    Ok((hash_of(&name), kind, count, name))
 }
 
 // Returns the number of a key. A new key gets the number `next`.
