@@ -7,8 +7,10 @@ use std::alloc::Allocator;
 
 /// Writes the lines of the entries of a name with a selected enctype that were old at a late time.
 pub fn entries<A: Allocator + Copy>(alloc: A, out: &mut Vec<u8, A>) -> Option<()> {
+    let mut names = Vec::new(alloc);
+    names.push(parse_name(alloc, b"host/a@R", None).ok()?).ok()?;
     let selection = Selection {
-        names: vec![in alloc; parse_name(alloc, b"host/a@R", None).ok()?].ok()?,
+        names,
         kvno: SelectedKvno::OldFor(1),
         enctypes: Vec::from_slice(alloc, &[17]).ok()?,
     };
@@ -18,7 +20,10 @@ pub fn entries<A: Allocator + Copy>(alloc: A, out: &mut Vec<u8, A>) -> Option<()
 
 /// Writes the lines of the tickets for a server that have ended at their last second.
 pub fn tickets<A: Allocator + Copy>(alloc: A, out: &mut Vec<u8, A>) -> Option<()> {
-    let servers = vec![in alloc; parse_name(alloc, b"krbtgt/R@R", None).ok()?].ok()?;
+    let mut servers = Vec::new(alloc);
+    servers
+        .push(parse_name(alloc, b"krbtgt/R@R", None).ok()?)
+        .ok()?;
     let cache = cache_of(alloc)?;
     let selected = select_tickets(alloc, &cache, &servers, Some(1_700_036_000)).ok()?;
     out.extend_from_slice(&selected.text).ok()
