@@ -6,18 +6,23 @@ mod clock;
 mod command_lines;
 mod equals;
 mod run;
+mod silent;
 mod words;
 
 use krb_commands::{ErrorOutput, Streams};
 use krb_disk::DiskFiles;
 use krb_files::{Watched, WatchedReader};
-use run::{asks_to_explain, parsed, run, wants_plain, words_of};
+use run::{asks_to_explain, is_out_of_memory, parsed, run, wants_plain, words_of};
+use silent::asks_for_silence;
 use std::io::IsTerminal;
 use std::process::ExitCode;
 
 fn main(rt: HostRuntime) -> ExitCode {
     let mut words = words_of(&rt);
     let parsed = parsed(rt.alloc(), &mut words);
+    if is_out_of_memory(&parsed) && asks_for_silence(&rt) {
+        return ExitCode::from(4);
+    }
     let mut files = DiskFiles::new(&rt);
     if wants_plain(&parsed) {
         files.only_plain();

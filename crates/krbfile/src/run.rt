@@ -38,6 +38,11 @@ pub fn parsed<'a>(
     }
 }
 
+/// Returns whether memory ran out for the words of the command line.
+pub fn is_out_of_memory(parsed: &Result<Action<'_>, WordFault<'_>>) -> bool {
+    matches!(parsed, Err(WordFault::NoMemory))
+}
+
 /// Returns whether the files are to be told to refuse what is not a plain file.
 pub fn wants_plain(parsed: &Result<Action<'_>, WordFault<'_>>) -> bool {
     match parsed {
