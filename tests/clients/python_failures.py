@@ -1,6 +1,7 @@
 """Saves by Python's module that are refused, that fail, or that wait: scripts, and what they print."""
 
 from makers.images import TWO
+from words.phrases import CAUSES, LIBRARY_IN_THE_WAY
 
 # Saves that are refused, in the words of the program, and what they leave.
 REFUSALS = """
@@ -77,17 +78,17 @@ for line in %r:
 """
 
 FAILED = {
-    "open": {"EACCES": "permission denied", "EPERM": "permission denied", "ENOENT": "no such directory",
-             "ENOTDIR": "not a directory", "EISDIR": "is a directory", "EROFS": "read-only file system",
-             "ENAMETOOLONG": "the name is too long"},
-    "lstat": {"EACCES": "permission denied", "ELOOP": "too many links", "ENOMEM": "error 12"},
-    "flock": {"ENOLCK": "no lock can be had", "EOPNOTSUPP": None, "ENOSYS": None},
-    "write": {"EINTR": "interrupted", "EFBIG": "file too large for the file system", "ENOSPC": "no space left",
-              "EPIPE": "broken pipe", "EDQUOT": "quota exceeded", "EIO": "input/output error", "EPROTO": "error 71"},
-    "fchown": {"EPERM": None, "EINVAL": None, "ENOSYS": None, "EOPNOTSUPP": None, "EIO": "the owner cannot be kept"},
-    "fchmod": {"EIO": "input/output error"},
+    "open": {"EACCES": CAUSES["EACCES"], "EPERM": CAUSES["EACCES"], "ENOENT": CAUSES["ENOENT"],
+             "ENOTDIR": CAUSES["ENOTDIR"], "EISDIR": CAUSES["EISDIR"], "EROFS": CAUSES["EROFS"],
+             "ENAMETOOLONG": CAUSES["ENAMETOOLONG"]},
+    "lstat": {"EACCES": CAUSES["EACCES"], "ELOOP": CAUSES["ELOOP"], "ENOMEM": "error 12"},
+    "flock": {"ENOLCK": CAUSES["ENOLCK"], "EOPNOTSUPP": None, "ENOSYS": None},
+    "write": {"EINTR": CAUSES["EINTR"], "EFBIG": CAUSES["EFBIG"], "ENOSPC": CAUSES["ENOSPC"],
+              "EPIPE": CAUSES["EPIPE"], "EDQUOT": CAUSES["EDQUOT"], "EIO": CAUSES["EIO"], "EPROTO": "error 71"},
+    "fchown": {"EPERM": None, "EINVAL": None, "ENOSYS": None, "EOPNOTSUPP": None, "EIO": CAUSES["owner"]},
+    "fchmod": {"EIO": CAUSES["EIO"]},
     "fsync": {"EBUSY": "error 16"},
-    "rename": {"EBUSY": "a mount point cannot be replaced", "EIO": "input/output error"},
+    "rename": {"EBUSY": CAUSES["EBUSY"], "EIO": CAUSES["EIO"]},
 }
 
 # Locks that stay: of MIT's kind, and of a whole file. Each save is refused after some ten seconds.
@@ -165,14 +166,14 @@ LOCK_LINES = {
 
 SCRIPTS = (
     ("saves that are refused", REFUSALS, TWO, [
-        "OSError True cannot write: a link that cannot be followed",
-        *2 * ["OSError True cannot write: a name that ends in .krbfile is kept for saves"],
-        "FileExistsError True cannot write: the name of its new file is taken",
-        *2 * ["FileNotFoundError True cannot write: no such directory"],
-        "OSError True cannot write: the name is too long",
+        f"OSError True cannot write: {CAUSES['bad link']}",
+        *2 * [f"OSError True cannot write: {CAUSES['name of saves']}"],
+        f"FileExistsError True cannot write: {LIBRARY_IN_THE_WAY}",
+        *2 * [f"FileNotFoundError True cannot write: {CAUSES['ENOENT']}"],
+        f"OSError True cannot write: {CAUSES['ENAMETOOLONG']}",
         "OSError True cannot read: too many links",
-        "OSError True cannot write: the file has no name any more",
-        *3 * ["OSError True cannot write: changed by another program; nothing was saved"],
+        f"OSError True cannot write: {CAUSES['no name']}",
+        *3 * [f"OSError True cannot write: {CAUSES['changed']}"],
         "['link', 'odd', 'taken.krbfile']",
     ]),
     ("calls that fail", FAILURES % [" ".join((name, *numbers)) for name, numbers in FAILED.items()], TWO, [
@@ -184,7 +185,7 @@ SCRIPTS = (
         *2 * [f"{[unknown for _, unknown in LOCK_LINES.values()]} False"],
     ]),
     ("locks that stay", WAITS, TWO, [
-        *(f"{name} cannot write: in use by another program True True" for name in "abc"),
+        *(f"{name} cannot write: {CAUSES['in use']} True True" for name in "abc"),
         "['a', 'b', 'c', 'c.krbfile']",
     ]),
 )

@@ -3,6 +3,7 @@
 from makers.cache_images import cache
 from makers.images import B, TWO, keytab
 from makers.usual_caches import PA_TYPE, TICKET
+from words.phrases import CAUSES, LARGE
 
 # What is read, and what is refused, in the words of the program.
 LOADS = """
@@ -137,7 +138,7 @@ with Cache.load("c") as cache:
 """
 
 NO_FILE = "no such file"
-LARGE = "OSError 'k' file too large: it has more than 97 bytes"
+TOO_MANY = "OSError 'k' file too large: it has more than 97 bytes"
 
 SCRIPTS = (
     ("files that are read", LOADS, TWO, [
@@ -145,14 +146,14 @@ SCRIPTS = (
         r"True b'\x05\x02'",
         *3 * [f"FileNotFoundError 'none' {NO_FILE}"],
         f"FileNotFoundError '' {NO_FILE}",
-        *4 * [LARGE],
+        *4 * [TOO_MANY],
         "IsADirectoryError b'folder' cannot read: is a directory",
         "IsADirectoryError 'folder' cannot read: is a directory",
-        "NotADirectoryError 'k/none' cannot read: not a directory",
+        f"NotADirectoryError 'k/none' cannot read: {CAUSES['ENOTDIR']}",
         *2 * ["OSError 'circle' cannot read: too many links"],
         *2 * ["11"],
         *2 * ["12"],
-        "file too large: it has more than 16,777,216 bytes",
+        f"file too large: {LARGE}",
         "['circle', 'folder', 'k', 'large', 'short']",
     ]),
     ("blocks that save nothing", BLOCKS, TWO, [

@@ -11,6 +11,7 @@ from makers.usual_caches import PA_TYPE, TICKET
 from pages.readme import LIBRARY, surroundings
 from runs.harness import Outcome, Report, folder_of, run
 from runs.rows import text
+from words.phrases import LIBRARY_CODES, SHORT, code
 
 # A script's name, its text, its input, and the lines that it prints.
 Script = tuple[str, str, bytes, list[str]]
@@ -245,10 +246,10 @@ SCRIPTS: tuple[Script, ...] = (
         "2 ['b@R']",
         "[2, 47] None",
         "21 no realm",
-        "39 no entry of this name and encryption type",
-        "35 nothing to remove stands at this place",
+        f"39 {code(9)}",
+        f"35 {LIBRARY_CODES[5]}",
         "it is closed",
-        "11 it has fewer than two bytes",
+        f"11 {SHORT[1]}",
         "2",
         "31 (2, 53) True",
         f"2 {KEYTAB_AFTER.hex()}",
@@ -263,7 +264,7 @@ SCRIPTS: tuple[Script, ...] = (
         "266 True",
         "[22, 22] None",
         f"['host/a@R'] {CACHE_AFTER.hex()}",
-        f"33 the file would be longer than its limit {cache(default=Name((b'a',))).hex()}",
+        f"33 {LIBRARY_CODES[3]} {cache(default=Name((b'a',))).hex()}",
     ]),
     # The number of calls of each kind, and what they raise.
     ("names and keys", TEXTS, b"", [

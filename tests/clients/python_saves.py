@@ -29,6 +29,7 @@ from system.saving import (
     NEW, OLD, SAVED, SCRIPT, UNSAVED, Place, as_another, as_user, edit, owned, tree, tree_faults, write,
 )
 from system.storm_kinds import BOTH, KTEDIT, Kind
+from words.phrases import CAUSES
 
 PROGRAM = os.path.join(TOP, "tests", "clients", "python_program.py")
 SCRIPTS = (*python_failures.SCRIPTS, *python_files.SCRIPTS)
@@ -213,7 +214,7 @@ def check_names(report: Report, python: str) -> None:
 
 def check_pipes(report: Report, python: str) -> None:
     """Checks that a pipe is not opened to be changed, and that the cause is given in words."""
-    wanted = Outcome(3, err=b"krbfile: k: cannot read\nkrbfile: not a plain file\n")
+    wanted = Outcome(3, err=f"krbfile: k: cannot read\nkrbfile: {CAUSES['no plain file']}\n".encode())
     for command in ("ktedit", "ccedit"):
         with folder_of({}) as folder:
             with fed(os.path.join(folder, "k")) as opened:

@@ -12,6 +12,7 @@ from runs.harness import Outcome, Report, differences, message
 from runs.preload import Line, Preloaded, preloaded
 from runs.rows import text
 from runs.terminal import EXPLAIN
+from words.phrases import CLOCK
 
 LINE = Line(("ktutil",), text([ADDENT, KEY, "l -t"]))
 
@@ -30,7 +31,7 @@ UNREAD = ({"CLOCK": 2**32}, {"CLOCK": 2**64 - 1}, {"FAIL_CLOCK": 1})
 # The messages about them.
 NO_CLOCK = message(3, "cannot read the clock")
 EXPLAINED = Outcome(3, err=NO_CLOCK.err
-                    + b"krbfile: the clock is before 1970 or after 2106, or failed\n")
+                    + f"krbfile: {CLOCK}\n".encode())
 
 # A ticket ends at each of these seconds; the first one that is left at a time is that of its index.
 ENDS = (0, 1, 1_700_000_000, 2**31, 2**32 - 2, 2**32 - 1)

@@ -14,6 +14,7 @@ from runs.terminal import EXPLAIN
 from system.pipe_files import fed
 from system.saving import GROUP, USER, Owned, owned, tree, tree_faults, write
 from system.waits import AT_ONCE
+from words.phrases import CAUSES
 
 COPY = ("ktcopy", "k", "t")
 COPIED = printed("copied 2 kvno 3 etype 17 host/a@R", "copied 53 kvno 3 etype 17 b@R")
@@ -110,7 +111,7 @@ def check_pipes(report: Report, program: str) -> None:
         with subprocess.Popen(["sh", "-c", pieces], cwd=folder):
             got = run(program, COPY, folder)
         report.compare("a pipe to copy from, in pieces", message(1, "k: refused 1"), got)
-    for options, wanted in (((), Outcome(3, err=b"krbfile: t: cannot read\nkrbfile: not a plain file\n")),
+    for options, wanted in (((), Outcome(3, err=f"krbfile: t: cannot read\nkrbfile: {CAUSES['no plain file']}\n".encode())),
                             (("-n",), COPIED)):
         with folder_of({"k": TWO}) as folder, fed(os.path.join(folder, "t")) as opened:
             got = run(program, (EXPLAIN, "ktcopy", *options, "k", "t"), folder)

@@ -12,6 +12,7 @@ from makers.images import TWO, Entry, keytab
 from runs.harness import SECONDS, Case, Outcome, Report, folder_of, message, run
 from runs.limits import limit
 from runs.terminal import EXPLAIN
+from words.phrases import code
 
 FAILED = message(3, "cannot write output")
 
@@ -28,8 +29,7 @@ FAULTY = lines("faults between lists", ["frob", "rkt k", "delent 9", "l", "rkt n
 # Messages with their explanations.
 EXPLAINED = [
     Case("a look-up that finds nothing", (EXPLAIN, "ktfind", "k", "0", "0", "c@R"),
-         Outcome(1, err=b"krbfile: k: refused 9\n"
-                 b"krbfile: no entry of this name and encryption type\n"), {"k": TWO}),
+         Outcome(1, err=f"krbfile: k: refused 9\nkrbfile: {code(9)}\n".encode()), {"k": TWO}),
     Case("a bad command line", (EXPLAIN, "frob"),
          Outcome(2, err=b"krbfile: bad command line\n"
                  b"krbfile: unknown command frob; see krbfile --help\n")),

@@ -8,6 +8,7 @@ from contextlib import contextmanager, suppress
 from runs.harness import Outcome, Report, differences, folder_of, run
 from runs.terminal import EXPLAIN
 from system.saving import OLD, SCRIPT, tree_faults
+from words.phrases import CAUSES
 
 ADDENT = b"addent -key -p a@R -k 1 -e 17\n000102030405060708090a0b0c0d0e0f\n"
 
@@ -45,7 +46,7 @@ def fed(path: str) -> Iterator[list[bool]]:
 def check(report: Report, program: str) -> None:
     """Runs this topic."""
     for words, stdin, name, place in RUNS:
-        output = f"krbfile: {name}: cannot read\nkrbfile: {place}not a plain file\n"
+        output = f"krbfile: {name}: cannot read\nkrbfile: {place}{CAUSES['no plain file']}\n"
         with folder_of({}) as folder:
             os.symlink("k", os.path.join(folder, "link"))
             with fed(os.path.join(folder, "k")) as opened:
