@@ -1,5 +1,5 @@
 -- What is found about the entries of a keytab.
-use Rattle.std.specs.Prelude.{ℕ, List, [], ◌∷◌, ◌++◌, length, find, Bool, not, ◌&&◌, ◌||◌, ◌==◌, nat_lt, option_map}
+use Rattle.std.specs.Prelude.{ℕ, List, [], ◌∷◌, ◌++◌, length, find, Bool, not, ◌&&◌, ◌||◌, ◌==◌, nat_le, nat_lt, if◌then◌else◌, Option, None, Some, option_map, option_and_then}
 use Rattle.std.specs.List.{list_any}
 use Rattle.std.specs.Str.{bytes_eq}
 use Rattle.krb_wire.specs.SameName.{have_same_name}
@@ -20,6 +20,22 @@ abbrev pub ends_mit : EntryParts → Bool
 ends_mit e =
     is_out (length e.principal.components)
     || (is_out (length e.principal.realm) || (list_any (λ c. is_out (length c)) e.principal.components || is_out (length e.key)))
+
+-- the place of the first of some entries before which they stop
+abbrev pub first_hidden : List PlacedEntry → Option ℕ
+first_hidden xs = option_map (λ x. x.0) (find (λ x. ends_mit x.1) xs)
+
+-- the place from which on they see no entry of a keytab
+abbrev pub hidden_from : KeytabState → Option ℕ
+hidden_from k = first_hidden (placed_entries k)
+
+-- that place, if one of these is not before it
+abbrev pub hidden_at : List ℕ → ℕ → Option ℕ
+hidden_at places from = if list_any (λ p. nat_le from p) places then Some from else None
+
+-- the place from which on they see no entry, if one of the entries that were added, at these places, is among those
+abbrev pub hides_added : KeytabState → List ℕ → Option ℕ
+hides_added k added = option_and_then (hidden_at added) (hidden_from k)
 
 -- the second entry has the name, the kvno and the enctype of the first
 abbrev pub is_alike : PlacedEntry → PlacedEntry → Bool

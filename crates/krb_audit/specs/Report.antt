@@ -1,5 +1,5 @@
 -- The lines that report findings, and the words that they begin with.
-use Rattle.std.specs.Prelude.{ℕ, zero, suc, ◌+◌, ◌/◌, ◌%◌, bit_and, List, [], ◌∷◌, ◌++◌, length, filter, sum_by, codes, decimal, Bool, true, false, not, ◌||◌, ◌==◌, if◌then◌else◌, Option, None, Some, is_some}
+use Rattle.std.specs.Prelude.{ℕ, zero, suc, ◌+◌, ◌/◌, ◌%◌, bit_and, List, [], ◌∷◌, ◌++◌, length, filter, sum_by, codes, decimal, Bool, true, false, not, ◌&&◌, ◌||◌, ◌==◌, if◌then◌else◌, Option, None, Some}
 use Rattle.std.specs.List.{flat_map, list_any}
 use Rattle.krb_walk.specs.Store.{fault_of}
 use Rattle.krb_keytab.specs.Cells.{Cell, Live, Free, size}
@@ -111,13 +111,39 @@ with_marks t m = record t {
 abbrev pub words_found : Option ℕ → KeytabState → FindingWords
 words_found mode k = record (words_of (marked k)) { mode = has_mode is_open mode }
 
--- one of the words reports something wrong with an entry
-abbrev pub has_wrong_words : FindingWords → Bool
-has_wrong_words t = t.weak || (t.hidden || (t.same || t.clash))
+-- those that report something wrong with an entry
+abbrev pub wrong_of : FindingWords → FindingWords
+wrong_of t = record t { old = false; mode = false }
 
--- a line reports something wrong
-abbrev pub is_wrong : Option ℕ → KeytabState → Bool
-is_wrong mode k = has_wrong_words (words_of (marked k)) || (is_some (fault_of (store_of k)) || has_mode is_open_to_all mode)
+-- which words report something wrong: a mode does only if others may read or write
+abbrev pub wrong_words : Option ℕ → KeytabState → FindingWords
+wrong_words mode k = record (wrong_of (words_of (marked k))) { mode = has_mode is_open_to_all mode }
+
+-- there is a word
+abbrev pub has_words : FindingWords → Bool
+has_words t = t.weak || (t.hidden || (t.same || (t.clash || (t.old || t.mode))))
+
+-- words without others
+abbrev pub without : FindingWords → FindingWords → FindingWords
+without t u = record {
+  weak = t.weak && not u.weak;
+  hidden = t.hidden && not u.hidden;
+  same = t.same && not u.same;
+  clash = t.clash && not u.clash;
+  old = t.old && not u.old;
+  mode = t.mode && not u.mode;
+}
+
+-- words and others
+abbrev pub joined : FindingWords → FindingWords → FindingWords
+joined t u = record {
+  weak = t.weak || u.weak;
+  hidden = t.hidden || u.hidden;
+  same = t.same || u.same;
+  clash = t.clash || u.clash;
+  old = t.old || u.old;
+  mode = t.mode || u.mode;
+}
 
 -- ---- all of it
 

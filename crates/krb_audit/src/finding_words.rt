@@ -1,7 +1,7 @@
 //! The words of findings.
 
 ghost use Rattle.std.specs.Prelude.{◌≡◌, []};
-ghost use Rattle.krb_audit.specs.Report.{is_clash, is_same, words_of, has_wrong_words, with_marks};
+ghost use Rattle.krb_audit.specs.Report.{is_clash, is_same, has_words, joined, with_marks, without, words_of, wrong_of};
 
 use crate::marks::{Alike, Marks};
 
@@ -29,8 +29,8 @@ fn is_clash(alike: Option<Alike>) -> bool
 }
 
 impl FindingWords {
-    /// Returns a `FindingWords` with no words.
-    pub(crate) fn none() -> FindingWords
+    /// Returns no words.
+    pub fn none() -> FindingWords
         ensures { result ≡ words_of [] }
     {
         FindingWords {
@@ -43,11 +43,22 @@ impl FindingWords {
         }
     }
 
-    /// Returns these words, and `mode` if the mode is reported.
+    /// Returns these words, and `mode` if that holds of the mode.
     pub(crate) fn with_mode(self, mode: bool) -> FindingWords
         ensures { result ≡ record self { mode = mode } }
     {
         FindingWords { mode, ..self }
+    }
+
+    /// Returns those of these words that report something wrong with an entry.
+    pub(crate) fn wrong(self) -> FindingWords
+        ensures { result ≡ wrong_of self }
+    {
+        FindingWords {
+            old: false,
+            mode: false,
+            ..self
+        }
     }
 
     /// Returns these words and those of one more entry.
@@ -64,10 +75,38 @@ impl FindingWords {
         }
     }
 
-    /// Returns whether some entry has something wrong.
-    pub(crate) fn is_wrong(self) -> bool
-        ensures { result ≡ has_wrong_words self }
+    /// Returns whether there is a word.
+    pub fn has_some(self) -> bool
+        ensures { result ≡ has_words self }
     {
-        self.weak || self.hidden || self.same || self.clash
+        self.weak || self.hidden || self.same || self.clash || self.old || self.mode
+    }
+
+    /// Returns these words without the others.
+    pub fn without(self, others: FindingWords) -> FindingWords
+        ensures { result ≡ without self others }
+    {
+        FindingWords {
+            weak: self.weak && !others.weak,
+            hidden: self.hidden && !others.hidden,
+            same: self.same && !others.same,
+            clash: self.clash && !others.clash,
+            old: self.old && !others.old,
+            mode: self.mode && !others.mode,
+        }
+    }
+
+    /// Returns these words and the others.
+    pub fn and(self, others: FindingWords) -> FindingWords
+        ensures { result ≡ joined self others }
+    {
+        FindingWords {
+            weak: self.weak || others.weak,
+            hidden: self.hidden || others.hidden,
+            same: self.same || others.same,
+            clash: self.clash || others.clash,
+            old: self.old || others.old,
+            mode: self.mode || others.mode,
+        }
     }
 }

@@ -6,7 +6,7 @@ ghost use Rattle.krb_keytab.specs.Find.{PlacedEntry, placed_entries};
 ghost use Rattle.krb_keytab.specs.Store.{KeytabState};
 ghost use Rattle.krb_audit.specs.Before.{IsBefore};
 ghost use Rattle.krb_audit.specs.Findings.{marked, marks_of};
-ghost use Rattle.krb_audit.specs.Report.{is_wrong, mark_lines, report, words_found, words_of};
+ghost use Rattle.krb_audit.specs.Report.{mark_lines, report, words_found, words_of, wrong_words};
 
 use crate::counts::append_counts;
 use crate::finding_words::FindingWords;
@@ -27,8 +27,8 @@ pub struct CheckUp<A: Allocator> {
     pub text: Vec<u8, A>,
     /// Which words the lines begin with.
     pub words_found: FindingWords,
-    /// True if one of them reports something wrong.
-    pub is_wrong: bool,
+    /// Those that report something wrong: not `old`, and `mode` only if others may read or write.
+    pub wrong_words: FindingWords,
 }
 
 /// What is known before an entry is checked.
@@ -126,17 +126,16 @@ pub fn check_up<A: Allocator + Copy, B: Allocator>(
 ) -> Result<CheckUp<A>, NoMemory>
     ensures text { IfOk result (λ found. found.text.items ≡ report mode keytab.now.state) }
     ensures words_found { IfOk result (λ found. found.words_found ≡ words_found mode keytab.now.state) }
-    ensures wrong { IfOk result (λ found. found.is_wrong ≡ is_wrong mode keytab.now.state) }
+    ensures wrong { IfOk result (λ found. found.wrong_words ≡ wrong_words mode keytab.now.state) }
 {
     let mut text = Vec::new(alloc);
     append_mode(mode, &mut text)?;
     let (entries, count) = append_marks(alloc, keytab, &mut text)?;
-    let fault = keytab.fault();
-    append_fault_line(fault, &mut text)?;
+    append_fault_line(keytab.fault(), &mut text)?;
     append_counts(count, keytab, &mut text)?;
     Ok(CheckUp {
         text,
         words_found: entries.with_mode(is_open_file(mode)),
-        is_wrong: entries.is_wrong() || fault.is_some() || is_open_to_all(mode),
+        wrong_words: entries.wrong().with_mode(is_open_to_all(mode)),
     })
 }

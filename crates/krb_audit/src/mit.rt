@@ -1,10 +1,10 @@
 //! Where MIT's programs stop reading a keytab.
 
-ghost use Rattle.std.specs.Prelude.{◌≡◌, length, List, ℕ};
+ghost use Rattle.std.specs.Prelude.{◌≡◌, length, List, nat_le, ℕ};
 ghost use Rattle.std.specs.List.{list_any};
-ghost use Rattle.krb_audit.specs.Findings.{ends_mit, is_out};
+ghost use Rattle.krb_audit.specs.Findings.{ends_mit, hidden_from, hides_added, is_out};
 
-use krb_keytab::EntryView;
+use krb_keytab::{EntryView, Keytab};
 use krb_wire::{Components, Name};
 use std::alloc::Allocator;
 
@@ -38,4 +38,31 @@ pub fn ends_mit(entry: &EntryView<'_>) -> bool
         || is_out(name.realm().len())
         || has_such(name.components())
         || is_out(entry.key().len())
+}
+
+// Returns the place of the first entry before which MIT's programs silently stop: they see none from there on.
+fn hidden_from<A: Allocator>(keytab: &Keytab<A>) -> Option<u32>
+    ensures { result ≡ hidden_from keytab.now.state }
+{
+    'entries: for (place, entry) in keytab.entries() {
+        if ends_mit(&entry) {
+            return Some(place);
+        }
+    }
+    None
+}
+
+// Returns whether one of the places is not before that one.
+fn reach(places: &[u32], from: u32) -> bool
+    ensures { result ≡ list_any (λ p. nat_le from p) places.now }
+{
+    places.iter().any(|place| from <= *place)
+}
+
+/// Returns that place if one of the entries that were added, at these places, is not before it.
+pub fn hides_added<A: Allocator>(keytab: &Keytab<A>, added: &[u32]) -> Option<u32>
+    ensures { result ≡ hides_added keytab.now.state added.now }
+{
+    let from = hidden_from(keytab)?;
+    if reach(added, from) { Some(from) } else { None }
 }

@@ -11,10 +11,10 @@ use Rattle.krb_driver.specs.declared.error.RunError.TheVariants as error
 use Rattle.krb_files.specs.Loading.{Answer, SavesFile, TurnsHold}
 use Rattle.krb_driver.specs.ErrorOutput.{ErrorWatch}
 use Rattle.krb_driver.specs.Runs.{Run, Shows, Reports, ends_by}
-use Rattle.krb_driver.specs.RunErrors.{Ending}
+use Rattle.krb_driver.specs.RunErrors.{Ending, ending_status}
 use Rattle.krb_driver.specs.declared.verdict.Verdict.{Verdict}
 use Rattle.krb_files.specs.Plan.{follow}
-use Rattle.krb_driver.specs.Commands.{Does, Keeps, RunsCommand, Settles, ShowsEnd, ShowsPage, Takes}
+use Rattle.krb_driver.specs.Commands.{Does, EndsCommand, Keeps, RunsCommand, Settles, ShowsEnd, ShowsPage, Takes}
 use Rattle.krb_driver.specs.Effects.{CommandPlan, Displays, Effect, Fails, Page, Saves, about, faults, files_after, saved_end, settled, text}
 use Rattle.krb_files.proofs.PlanLaws.{comes, count-more, count-trans, loaded-lasts, same-trans, with_bytes-set}
 
@@ -134,4 +134,13 @@ runs-shown trait plan Fairly old done new out out' err err' status end ending d 
   honest = λ h. keeps-left trait (plan (trait.mode d.between)) old done new end left (does-keeps trait plan Fairly old done end d h);
   spared = λ spent h. same-trans (trait.file old) (trait.file done) (trait.file new) (does-spared trait plan Fairly old done end d h out out' ending spent shows) left.same;
   quiet = λ spent. quiet-end out out' ending spent end shows;
+}
+
+-- the same, with how it ended
+pub ends-shown : {F : Type 0} (trait : Ghosts F) (plan : Option ℕ → CommandPlan) (Fairly : List Answer → Type 0) (old done new : F) (out out' : Watch) (err err' : ErrorWatch) (status : ℕ) (end : Effect) (ending : Ending)
+    → Does trait plan Fairly old done end → TurnsHold trait false done new → ShowsEnd out out' ending end → Reports (about end) None ending err err' status → EndsCommand trait plan Fairly old new out out' err err' ending
+unfolding runs-shown
+ends-shown trait plan Fairly old done new out out' err err' status end ending d left shows reported = record {
+  runs = runs-shown trait plan Fairly old done new out out' err err' (ending_status ending) end ending d left shows (record { reports = reported.reports; status_is = refl });
+  ending_is = refl;
 }

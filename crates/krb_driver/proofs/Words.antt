@@ -1,6 +1,6 @@
 -- Pieces and the text after them, messages without words, and the verdict of a run that printed replies.
 use Rattle.std.proofs.Common.{◌≡◌, ℕ, Bool, false, List, [], ◌∷◌, ◌++◌, refl, sym, ap, subst, ◌∙◌, append_assoc}
-use Rattle.std.specs.Prelude.{if◌then◌else◌, codes, Option}
+use Rattle.std.specs.Prelude.{if◌then◌else◌, codes, Option, None}
 use Rattle.std.specs.List.{list_any}
 use Rattle.krb_walk.specs.declared.fault.FaultKind.{FaultKind}
 use Rattle.krb_walk.specs.declared.refusal.Code.{Code}
@@ -26,9 +26,9 @@ pieces_text-append (p ∷ ps) rest = append_assoc (piece_text p) (pieces_text ps
 -- a verdict is that of the replies if it reports what they report
 pub replied_verdict-by : {R : Type 0} (kind : FileKind) (content_of : R → ReplyContent) (replies : List R) (b : Bool) (codes : List (Option Code)) (faults : List (Option FaultKind))
     → b ≡ list_any (λ r. is_failure (content_of r)) replies → codes ≡ reported_codes content_of replies → faults ≡ reported_faults content_of replies
-    → (if b then Replied (record { kind = kind; codes = codes; faults = faults }) else Well) ≡ replied_verdict kind content_of replies
+    → (if b then Replied (record { kind = kind; codes = codes; faults = faults; hidden_from = None }) else Well) ≡ replied_verdict kind content_of replies
 replied_verdict-by kind content_of replies b codes faults reported codes_are faults_are =
-    let ends : Bool → List (Option Code) → List (Option FaultKind) → Verdict = λ b codes faults. if b then Replied (record { kind = kind; codes = codes; faults = faults }) else Well in
+    let ends : Bool → List (Option Code) → List (Option FaultKind) → Verdict = λ b codes faults. if b then Replied (record { kind = kind; codes = codes; faults = faults; hidden_from = None }) else Well in
     ap (λ (d : Bool). ends d codes faults) reported ∙ ap (λ (cs : List (Option Code)). ends (list_any (λ r. is_failure (content_of r)) replies) cs faults) codes_are
     ∙ ap (λ (ks : List (Option FaultKind)). ends (list_any (λ r. is_failure (content_of r)) replies) (reported_codes content_of replies) ks) faults_are
 

@@ -1,5 +1,5 @@
 -- What a run of a command does.
-use Rattle.std.specs.Prelude.{◌≡◌, ◌⊎◌, ℕ, Bool, false, List, [], ◌∷◌, Option, None, IsTrue, Result, Ok, Err}
+use Rattle.std.specs.Prelude.{◌≡◌, ◌⊎◌, ℕ, Bool, true, false, List, [], ◌∷◌, Option, None, IsTrue, Result, Ok, Err}
 use Rattle.krb_files.specs.declared.files.Files.{Ghosts}
 use Rattle.krb_files.specs.declared.files.LoadFault.TheVariants as load
 use Rattle.krb_files.specs.declared.files.SaveFault.{SaveFault}
@@ -14,18 +14,19 @@ use Rattle.krb_driver.specs.declared.command.Output.{Output}
 use Rattle.krb_driver.specs.declared.command.Ready.{Ready}
 use Rattle.krb_driver.specs.declared.command.Ready.TheVariants as ready
 use Rattle.krb_driver.specs.declared.error.RunError.{RunError}
+use Rattle.krb_driver.specs.declared.file_name.FileName.{FileName}
 use Rattle.krb_driver.specs.declared.error.RunError.TheVariants as error
 use Rattle.krb_driver.specs.Effects.{CommandPlan, Effect, Fails, Displays, Saves, IsFailure, IsSpent, Page, about, faults, files_after, opens, saved_end, settled, text}
 use Rattle.krb_driver.specs.ErrorOutput.{ErrorWatch}
 use Rattle.krb_driver.specs.Runs.{Run, Shows, BreaksOff, Reports, ends_by}
-use Rattle.krb_driver.specs.RunErrors.{Ending}
+use Rattle.krb_driver.specs.RunErrors.{Ending, ending_status, error_of_name}
 
 -- ---- what is made of the files
 
 -- what a file gave, or the error with that file's name
-abbrev pub of_file : {X : Type 0} → List ℕ → Result X RunError → Result X (List ℕ × RunError)
+abbrev pub of_file : {X : Type 0} → FileName → Result X RunError → Result X (List ℕ × RunError)
 of_file file (Ok x) = Ok x
-of_file file (Err why) = Err (file, why)
+of_file file (Err why) = Err (file.name.now, error_of_name file.source why)
 
 -- `Fair` holds of what was opened, if something was
 abbrev pub FairOver : {X E : Type 0} → (X → Type 0) → Result X E → Type 0
@@ -39,12 +40,19 @@ fair_first gives Fair (answer ∷ answers) = FairOver Fair (gives answer)
 
 module _ {F : Type 0} (trait : Ghosts F) (old : F) where
   -- a file was loaded and gave this, or memory ran out
-  pub record GivesOf {X : Type 0} (file : List ℕ) (gives : Answer → Result X RunError) (given : Result X (List ℕ × RunError)) (new : F) : Type 0 where
+  pub record GivesLoaded {X : Type 0} (file : FileName) (gives : Answer → Result X RunError) (given : Result X (List ℕ × RunError)) (new : F) : Type 0 where
     pub answer : Answer
-    pub loads : LoadsFile trait old file answer new
-    pub given_is : (given ≡ Err (file, error.NoMemory)) ⊎ (given ≡ of_file file (gives answer))
+    pub loads : LoadsFile trait old file.name.now answer new
+    pub given_is : (given ≡ Err (file.name.now, error.NoMemory)) ⊎ (given ≡ of_file file (gives answer))
     pub failed : gives (Err load.Failed) ≡ Err error.FileNotRead
     pub spent : gives (Err load.NoMemory) ≡ Err error.NoMemory
+    pub read : file.is_other_type ≡ false
+
+  -- the same; or nothing was loaded, as the name is of another type
+  abbrev pub GivesOf : {X : Type 0} → FileName → (Answer → Result X RunError) → Result X (List ℕ × RunError) → F → Type 0
+  GivesOf file gives given new =
+      GivesLoaded file gives given new
+      ⊎ ((file.is_other_type ≡ true) × (new ≡ old) × (given ≡ Err (file.name.now, error.OtherType file.source)))
 
   -- the files of a plan were loaded, and this is its effect by the results of the loads; or memory ran out
   pub record Makes (plan : CommandPlan) (effect : Effect) (new : F) : Type 0 where
@@ -59,7 +67,7 @@ module _ {F : Type 0} (trait : Ghosts F) (old : F) where
 
 module _ {F : Type 0} (trait : Ghosts F) (old : F) where
   -- a file was opened: what `then_` makes of it is what the plan that opens it makes; an error ends the plan
-  abbrev pub Opens : {X : Type 0} → List ℕ → (Answer → Result X RunError) → Result X (List ℕ × RunError) → F → Type 0
+  abbrev pub Opens : {X : Type 0} → FileName → (Answer → Result X RunError) → Result X (List ℕ × RunError) → F → Type 0
   Opens {X = X} file gives (Ok x) new = (then_ : X → CommandPlan) (effect : Effect) (end : F) → Makes trait new (then_ x) effect end → Makes trait old (opens file gives then_) effect end
   Opens {X = X} file gives (Err met) new = (then_ : X → CommandPlan) → Makes trait old (opens file gives then_) (Fails met.0 met.1) new
 
@@ -120,6 +128,11 @@ pub record RunsCommand {F : Type 0} (trait : Ghosts F) (plan : Option ℕ → Co
   -- if memory runs out
   pub spared : ending ≡ Err error.NoMemory → trait.is_honest old → SameFiles (trait.file old) (trait.file new)
   pub quiet : ending ≡ Err error.NoMemory → Shows (ends_by error.NoMemory) out out' ending ⊎ Takes end
+
+-- the same for a run that ended so
+pub record EndsCommand {F : Type 0} (trait : Ghosts F) (plan : Option ℕ → CommandPlan) (Fairly : List Answer → Type 0) (old new : F) (out out' : Watch) (err err' : ErrorWatch) (ending : Ending) : Type 0 where
+  pub runs : RunsCommand trait plan Fairly old new out out' err err' (ending_status ending)
+  pub ending_is : runs.ending ≡ ending
 
 -- that plan, whatever the mode of the file is
 unfoldable pub always : CommandPlan → Option ℕ → CommandPlan

@@ -1,13 +1,14 @@
 -- The effect of a command, and its plan over files.
-use Rattle.std.specs.Prelude.{◌≡◌, ◌⊎◌, ℕ, Bool, true, false, List, Result, Ok, Err}
+use Rattle.std.specs.Prelude.{◌≡◌, ◌⊎◌, ℕ, Bool, true, false, not, ◌&&◌, if◌then◌else◌, List, Result, Ok, Err}
 use Rattle.krb_files.specs.declared.files.SaveFault.{SaveFault}
 use Rattle.krb_files.specs.Files.{FileMap}
 use Rattle.krb_files.specs.Loading.{Answer}
-use Rattle.krb_files.specs.Plan.{Plan, Ends, Loads, Faults, with_bytes}
+use Rattle.krb_files.specs.Plan.{Plan, Ends, Holds, Loads, Faults, with_bytes}
 use Rattle.krb_driver.specs.declared.error.RunError.{RunError}
 use Rattle.krb_driver.specs.declared.error.RunError.TheVariants as error
 use Rattle.krb_driver.specs.declared.verdict.Verdict.{Verdict}
-use Rattle.krb_driver.specs.RunErrors.{save_error}
+use Rattle.krb_driver.specs.declared.file_name.FileName.{FileName}
+use Rattle.krb_driver.specs.RunErrors.{error_of_name, save_error}
 
 -- what is printed, how the run then ends, and whether printing it takes memory
 pub record Page : Type 0 where
@@ -39,13 +40,23 @@ abbrev pub CommandPlan : Type 0
 CommandPlan = Plan Effect
 
 -- a command goes on with what a file gave, or an error with that file ends it
-abbrev pub goes_on : {X : Type 0} → List ℕ → Result X RunError → (X → CommandPlan) → CommandPlan
+abbrev pub goes_on : {X : Type 0} → FileName → Result X RunError → (X → CommandPlan) → CommandPlan
 goes_on file (Ok x) then_ = then_ x
-goes_on file (Err why) then_ = Ends (Fails file why)
+goes_on file (Err why) then_ = Ends (Fails file.name.now (error_of_name file.source why))
 
--- a file is loaded and opened, and the command goes on with what it gave
-abbrev pub opens : {X : Type 0} → List ℕ → (Answer → Result X RunError) → (X → CommandPlan) → CommandPlan
-opens file gives then_ = Loads file (λ answer. goes_on file (gives answer) then_)
+-- a file is loaded and opened, and the command goes on with what it gave; if its name is of another type, there is none
+abbrev pub opens : {X : Type 0} → FileName → (Answer → Result X RunError) → (X → CommandPlan) → CommandPlan
+opens file gives then_ =
+    if file.is_other_type then Ends (Fails file.name.now (error.OtherType file.source))
+    else Loads file.name.now (λ answer. goes_on file (gives answer) then_)
+
+-- whether a file is held that is to be held: not if its name is of another type
+abbrev pub can_hold : Bool → FileName → Bool
+can_hold held file = held && not file.is_other_type
+
+-- a file is held, if `held`, before the rest of a plan
+abbrev pub holds : Bool → FileName → CommandPlan → CommandPlan
+holds held file plan = Holds (can_hold held file) file.name.now plan
 
 -- bytes are saved and then a text is printed; in a dry run only the text is printed
 abbrev pub saves_unless : Bool → List ℕ → List ℕ → List ℕ → Verdict → Effect

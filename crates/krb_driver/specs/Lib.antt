@@ -1,4 +1,5 @@
 -- What the contracts of this crate say.
+pub mod FileNames
 pub mod Messages
 pub mod PieceTexts
 pub mod Verdicts

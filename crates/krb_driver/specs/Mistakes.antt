@@ -35,10 +35,12 @@ pub data MistakeParts : Type 0 where
   NoVersion : List ℕ → MistakeParts
   NoEtype : List ℕ → MistakeParts
   NoSeconds : List ℕ → MistakeParts
+  NoFinding : List ℕ → MistakeParts
   BadName : List ℕ → NameFault → MistakeParts
   NothingSelects : List ℕ → MistakeParts
   LateExplain : MistakeParts
   NotText : MistakeParts
+  VariableNotText : List ℕ → MistakeParts
 
 abbrev pub mistake_parts : Mistake → MistakeParts
 mistake_parts mistake.NoCommand = NoCommand
@@ -55,10 +57,12 @@ mistake_parts (mistake.OnlyWith option other) = OnlyWith option.now other.now
 mistake_parts (mistake.NoVersion word) = NoVersion word.now
 mistake_parts (mistake.NoEtype word) = NoEtype word.now
 mistake_parts (mistake.NoSeconds word) = NoSeconds word.now
+mistake_parts (mistake.NoFinding word) = NoFinding word.now
 mistake_parts (mistake.BadName word fault) = BadName word.now fault
 mistake_parts (mistake.NothingSelects options) = NothingSelects options.now
 mistake_parts mistake.LateExplain = LateExplain
 mistake_parts mistake.NotText = NotText
+mistake_parts (mistake.VariableNotText name) = VariableNotText name.now
 
 -- the phrase of a mistake, and the rest of its line
 abbrev pub mistake_line : MistakeParts → List ℕ → List ℕ
@@ -76,10 +80,12 @@ mistake_line (OnlyWith option other) rest = shown_word option ++ (codes " goes w
 mistake_line (NoVersion word) rest = quoted word (codes "\" is no ") (codes "version" ++ rest)
 mistake_line (NoEtype word) rest = quoted word (codes "\" is no ") (codes "encryption type" ++ rest)
 mistake_line (NoSeconds word) rest = quoted word (codes "\" is no ") (codes "number of seconds" ++ rest)
+mistake_line (NoFinding word) rest = quoted word (codes "\" is no ") (codes "finding" ++ rest)
 mistake_line (BadName word fault) rest = quoted word (codes "\" has ") (name_fault_phrase fault ++ rest)
 mistake_line (NothingSelects options) rest = codes "nothing selects; give " ++ (shown_word options ++ rest)
 mistake_line LateExplain rest = codes "--explain stands before the command" ++ rest
 mistake_line NotText rest = codes "an argument is not UTF-8" ++ rest
+mistake_line (VariableNotText name) rest = shown_word name ++ (codes " is not UTF-8" ++ rest)
 
 -- the reference to the help: krbfile's, or a command's
 abbrev pub help_of : Option (List ℕ) → List ℕ

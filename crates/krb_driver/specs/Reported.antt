@@ -46,4 +46,4 @@ module _ {R : Type 0} (content_of : R → ReplyContent) (replies : List R) where
 
 -- the verdict of a run that printed these replies about a file of that kind
 abbrev pub replied_verdict : {R : Type 0} → FileKind → (R → ReplyContent) → List R → Verdict
-replied_verdict kind content_of replies = if list_any (λ r. is_failure (content_of r)) replies then Replied (record { kind = kind; codes = reported_codes content_of replies; faults = reported_faults content_of replies }) else Well
+replied_verdict kind content_of replies = if list_any (λ r. is_failure (content_of r)) replies then Replied (record { kind = kind; codes = reported_codes content_of replies; faults = reported_faults content_of replies; hidden_from = None }) else Well

@@ -13,6 +13,8 @@ use Rattle.krb_files.specs.declared.output.OutFault.TheVariants as out
 use Rattle.krb_text.specs.declared.script.ScriptRefusal.{ScriptRefusal}
 use Rattle.krb_text.specs.declared.script.ScriptRefusal.TheVariants as refusal
 use Rattle.krb_text.specs.LineFault.{line_fault_number}
+use Rattle.krb_driver.specs.declared.file_name.NameSource.{NameSource}
+use Rattle.krb_driver.specs.declared.file_name.NameSource.TheVariants.{Word}
 use Rattle.krb_driver.specs.declared.loading.NoKeytab.{NoKeytab}
 use Rattle.krb_driver.specs.declared.loading.NoKeytab.TheVariants.{Load, Open}
 use Rattle.krb_driver.specs.declared.error.RunError.{RunError}
@@ -36,7 +38,7 @@ script_error refusal.NoMemory = error.NoMemory
 
 -- the error for a file that was not loaded
 abbrev pub load_error : LoadFault → RunError
-load_error load.Missing = error.NoSuchFile
+load_error load.Missing = error.NoSuchFile Word
 load_error load.TooLarge = error.FileTooLarge
 load_error load.Failed = error.FileNotRead
 load_error load.NoMemory = error.NoMemory
@@ -50,6 +52,11 @@ no_keytab_error (Open why) = error.NotAKeytab why
 abbrev pub list_error : NoKeytab → RunError
 list_error (Load fault) = load_error fault
 list_error (Open why) = error.NotAKeytabToList why
+
+-- the error for a file whose name comes from there
+abbrev pub error_of_name : NameSource → RunError → RunError
+error_of_name source (error.NoSuchFile other) = error.NoSuchFile source
+error_of_name source error = error
 
 -- the error for a file that was not saved
 abbrev pub save_error : SaveFault → RunError
@@ -69,7 +76,9 @@ error_message file error.InputTooLarge = message (codes "input too large")
 error_message file error.InputNotRead = message (codes "cannot read input")
 error_message file (error.FaultyLine line fault) = line_message line (codes "fault ") (line_fault_number fault)
 error_message file (error.LineRefused line code) = line_message line (codes "refused ") (code_number code)
-error_message file error.NoSuchFile = file_message file (codes "no such file")
+error_message file (error.NoSuchFile source) = file_message file (codes "no such file")
+error_message file (error.OtherType source) = file_message file (codes "no such file")
+error_message file error.TypedName = file_message file (codes "cannot write")
 error_message file error.FileTooLarge = file_message file (codes "file too large")
 error_message file error.FileNotRead = file_message file (codes "cannot read")
 error_message file error.FileNotWritten = file_message file (codes "cannot write")
@@ -88,6 +97,7 @@ error_status error.NoMemory = 4
 error_status error.InputNotRead = 3
 error_status error.FileNotRead = 3
 error_status error.FileNotWritten = 3
+error_status error.TypedName = 3
 error_status error.OutputNotWritten = 3
 error_status error.ClockNotRead = 3
 error_status other = 1

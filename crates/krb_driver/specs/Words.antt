@@ -1,5 +1,5 @@
 -- The words that explain what ended a run.
-use Rattle.std.specs.Prelude.{ℕ, List, [], ◌++◌, Bool, true, false, if◌then◌else◌, Option, None, Some, Ok, Err, codes, decimal, unsigned_abs}
+use Rattle.std.specs.Prelude.{ℕ, List, [], ◌++◌, Bool, true, false, if◌then◌else◌, Option, None, Some, is_some, unwrap_or, Ok, Err, codes, decimal, unsigned_abs}
 use Rattle.krb_walk.specs.declared.refusal.Code.{Code}
 use Rattle.krb_walk.specs.declared.refusal.Code.TheVariants.{Full, NotAPlace, NotLive}
 use Rattle.std.specs.List.{flat_map}
@@ -20,12 +20,16 @@ use Rattle.krb_text.specs.declared.line_fault.LineFault.{LineFault}
 use Rattle.krb_text.specs.LineFault.{line_phrase, ktutil_phrase}
 use Rattle.krb_audit.specs.declared.finding_words.FindingWords.{FindingWords}
 use Rattle.krb_driver.specs.declared.error.RunError.{RunError}
+use Rattle.krb_driver.specs.declared.file_name.NameSource.{NameSource}
+use Rattle.krb_driver.specs.declared.file_name.NameSource.TheVariants.{Word, CacheVariable, KeytabVariable, Default}
 use Rattle.krb_driver.specs.declared.error.RunError.TheVariants as error
 use Rattle.krb_driver.specs.declared.verdict.FileKind.{FileKind}
 use Rattle.krb_driver.specs.declared.verdict.FileKind.TheVariants.{Keytab, Cache}
+use Rattle.krb_driver.specs.declared.reporting.reported.Reported.{Reported}
 use Rattle.krb_driver.specs.declared.verdict.Findings.{Findings}
 use Rattle.krb_driver.specs.declared.verdict.Verdict.{Verdict}
-use Rattle.krb_driver.specs.declared.verdict.Verdict.TheVariants.{Well, Listed, Replied, Found, NothingToRemove, Clashed}
+use Rattle.krb_driver.specs.declared.verdict.Verdict.TheVariants.{Well, HiddenFrom, Listed, Replied, Found, NothingToRemove, Clashed}
+use Rattle.krb_driver.specs.FileNames.{type_of, untyped}
 use Rattle.krb_driver.specs.Messages.{words_line, phrase_line}
 use Rattle.krb_driver.specs.RunErrors.{Ending, ending_message}
 
@@ -70,7 +74,7 @@ list_phrase fault is_cache = no_keytab_phrase fault is_cache
 
 -- why an image is not a cache, by whether it begins as a keytab
 abbrev pub no_cache_phrase : CcOpenFault → Bool → List ℕ
-no_cache_phrase cc.BadVersion true = codes "it begins as a keytab, or as a cache of version 1 or 2 (not read)"
+no_cache_phrase cc.BadVersion true = codes "a keytab (list it with -k), or a cache of version 1 or 2 (not read)"
 no_cache_phrase fault is_keytab = cc_phrase fault
 
 -- what is wrong with a line of a script, or of ktutil if a line number is given
@@ -80,10 +84,30 @@ line_fault_phrase (Some line) fault = ktutil_phrase fault
 
 -- ---- words
 
--- the words for a missing file: only ktutil has some
-abbrev pub missing_words : Option ℕ → List ℕ
-missing_words None = []
-missing_words (Some line) = phrase_line (Some line) (codes "no such file")
+-- the words that tell where a file's name comes from, if no word of a line gave it
+abbrev pub source_words : NameSource → List ℕ
+source_words Word = []
+source_words CacheVariable = codes "krbfile: KRB5CCNAME names it\n"
+source_words KeytabVariable = codes "krbfile: KRB5_KTNAME names it\n"
+source_words Default = codes "krbfile: the default name (krb5.conf is not read); give FILE\n"
+
+-- the words for a missing file: ktutil says it once more, and a run tells where a name comes from that it was not given
+abbrev pub missing_words : Option ℕ → NameSource → List ℕ
+missing_words None source = source_words source
+missing_words (Some line) source = phrase_line (Some line) (codes "no such file")
+
+-- the type that a name begins with
+abbrev pub type_in : List ℕ → List ℕ
+type_in name = unwrap_or (type_of name) []
+
+-- the words for a name of a type that is not read
+abbrev pub type_words : Option ℕ → List ℕ → List ℕ
+type_words line name = words_line line (codes "only files are read, and this is " ++ (type_in name ++ codes "\n"))
+
+-- the words for a name that begins with a type where a file is to be written
+abbrev pub typed_words : Option ℕ → List ℕ → List ℕ
+typed_words line name =
+    if is_some (untyped Keytab name) then words_line line (codes "leave out " ++ (type_in name ++ codes "\n")) else type_words line name
 
 -- the words for the cause of a failed call, if it is known
 abbrev pub cause_words : List ℕ → Option ℕ → Option Cause → List ℕ
@@ -106,9 +130,19 @@ abbrev pub fault_words : Option FaultKind → List ℕ
 fault_words None = []
 fault_words (Some kind) = codes "krbfile: fault " ++ (decimal (fault_number kind) ++ (codes ": " ++ (fault_phrase kind ++ codes "\n")))
 
--- the lines for what replies report: refusals first, each once
-abbrev pub reported_words : FileKind → List (Option Code) → List (Option FaultKind) → List ℕ
-reported_words kind refusals faults = flat_map (code_words kind) refusals ++ flat_map fault_words faults
+-- the words for an entry that was added and that MIT's programs do not see, as they see none from a place on
+abbrev pub hidden_words : List ℕ → Option ℕ → ℕ → List ℕ
+hidden_words file None place = codes "krbfile: " ++ (file ++ (codes ": MIT's programs see no entry from " ++ (decimal place ++ codes " on\n")))
+hidden_words file (Some line) place = codes "krbfile: line " ++ (decimal line ++ (codes ": MIT's programs see no entry from " ++ (decimal place ++ codes " on\n")))
+
+-- the same, if there is such an entry
+abbrev pub hidden_words_of : List ℕ → Option ℕ → List ℕ
+hidden_words_of file None = []
+hidden_words_of file (Some place) = hidden_words file None place
+
+-- the lines for what replies report: refusals first, each once, and at the end what is hidden
+abbrev pub reported_words : List ℕ → Reported → List ℕ
+reported_words file r = flat_map (code_words r.kind) r.codes ++ (flat_map fault_words r.faults ++ hidden_words_of file r.hidden_from)
 
 -- a line if its word was printed, else nothing
 abbrev pub line_if : Bool → List ℕ → List ℕ
@@ -139,7 +173,9 @@ error_words file line cause error.InputTooLarge = phrase_line line too_large
 error_words file line cause error.InputNotRead = cause_words file line cause
 error_words file line cause (error.FaultyLine number fault) = phrase_line line (line_fault_phrase line fault)
 error_words file line cause (error.LineRefused number code) = phrase_line line (keytab_phrase code)
-error_words file line cause error.NoSuchFile = missing_words line
+error_words file line cause (error.NoSuchFile source) = missing_words line source
+error_words file line cause (error.OtherType source) = type_words line file ++ source_words source
+error_words file line cause error.TypedName = typed_words line file
 error_words file line cause error.FileTooLarge = phrase_line line too_large
 error_words file line cause error.FileNotRead = cause_words file line cause
 error_words file line cause error.FileNotWritten = cause_words file line cause
@@ -155,11 +191,12 @@ error_words file line cause error.NoMemory = []
 -- the words that explain the verdict of a run over that file
 abbrev pub verdict_words : List ℕ → Option ℕ → Verdict → List ℕ
 verdict_words file line Well = []
+verdict_words file line (HiddenFrom place) = hidden_words file line place
 verdict_words file line (NothingToRemove kind) = phrase_line line (nothing_phrase kind)
 verdict_words file line Clashed = phrase_line line (codes "clash: TO has another key for this name, version and type")
 verdict_words file line (Listed fault) = listed_words file fault
 verdict_words file line (Found findings) = found_words file findings
-verdict_words file line (Replied reported) = reported_words reported.kind reported.codes reported.faults
+verdict_words file line (Replied reported) = reported_words file reported
 
 -- the words that explain the end of a run
 abbrev pub ending_words : List ℕ → Option ℕ → Option Cause → Ending → List ℕ

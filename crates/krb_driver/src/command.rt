@@ -2,10 +2,12 @@
 
 ghost use Rattle.std.specs.Prelude.{◌≡◌, ℕ, List, IsFalse};
 ghost use Rattle.krb_files.specs.Plan.{HeldIf};
-ghost use Rattle.krb_driver.specs.Commands.{Does, HoldsIf, RunsCommand, ShowsEnd, output_page, made_effect, ready_end};
-ghost use Rattle.krb_driver.specs.Effects.{Page, about};
+ghost use Rattle.krb_driver.specs.Commands.{Does, EndsCommand, HoldsIf, RunsCommand, ShowsEnd, output_page, made_effect, ready_end};
+ghost use Rattle.krb_driver.specs.Effects.{Page, about, can_hold};
+ghost use Rattle.krb_driver.specs.RunErrors.{ending_status};
 
 use crate::error::RunError;
+use crate::file_name::FileName;
 use crate::reporting::{cause_of, report, show};
 use crate::streams::Streams;
 use crate::verdict::Verdict;
@@ -19,6 +21,21 @@ use std::io::{Read, Write};
 pub struct FileError<'a> {
     pub file: &'a str,
     pub error: RunError,
+}
+
+impl<'a> FileError<'a> {
+    ghost use Rattle.krb_driver.specs.RunErrors.{error_of_name};
+
+    /// Returns the error of the file of that name.
+    pub fn of(file: FileName<'a>, error: RunError) -> FileError<'a>
+        ensures file { result.file.now ≡ file.entry.name.now }
+        ensures error { result.error ≡ error_of_name file.entry.source error }
+    {
+        FileError {
+            file: file.name,
+            error: error.of_name(file.source),
+        }
+    }
 }
 
 impl<'a> From<NoMemory> for FileError<'a> {
@@ -121,14 +138,14 @@ pub trait Command<A: Allocator + Copy> {
             (made_effect Self.Shown.page (file self.now) result) files.new };
 }
 
-/// Holds the file of that name if `held`.
+/// Holds the file of that name if `held`, unless the name is of another type.
 #[tactic(auto, using(crate::proofs::Making::makes_holds))]
-pub fn hold_if<F: Files>(held: bool, files: &mut F, file: &str)
-    ensures held { HeldIf F.Files held files.old files.new }
-    ensures plans { HoldsIf F.Files files.old held file.now files.new }
+pub fn hold_if<F: Files>(held: bool, files: &mut F, file: FileName<'_>)
+    ensures held { HeldIf F.Files (can_hold held file.entry) files.old files.new }
+    ensures plans { HoldsIf F.Files files.old (can_hold held file.entry) file.entry.name.now files.new }
 {
-    if held {
-        files.hold(file);
+    if held && !file.is_other_type {
+        files.hold(file.name);
     }
 }
 
@@ -187,8 +204,40 @@ fn show_ready<A: Allocator + Copy, S: Show<A>, W: Write>(
     }
 }
 
-/// Runs a command and returns its exit status. Releases the files before it prints anything, as the reader of the
-/// output may be slow. Reports errors on the error output; a failure to write there changes nothing else.
+/// Runs a command, and returns how it ended. Releases the files before it prints anything, as the reader of the output
+/// may be slow. Reports errors on the error output; a failure to write there changes nothing else.
+pub fn run_to_end<A: Allocator + Copy, C: Command<A>, F: Files, R: Read, W: Write, E: Write>(
+    alloc: A,
+    command: &C,
+    files: &mut F,
+    streams: &mut Streams<R, W, E>,
+) -> Result<Verdict, RunError>
+    requires { IsFalse streams.old.out.failed }
+    ensures runs { EndsCommand F.Files (C.plan command.now) (C.fairly command.now) files.old files.new
+        streams.old.out streams.new.out streams.old.err streams.new.err result }
+    ensures input { streams.new.input ≡ streams.old.input }
+{
+    let ready = settle(alloc, command, files);
+    files.release();
+    let file = command.file();
+    let named = about(&ready, file);
+    let ending = show_ready(alloc, file, ready, &mut streams.out);
+    let cause = cause_of(&ending, files, &streams.out);
+    let _status = report(ending, named.as_bytes(), None, cause, &mut streams.err);
+    ending
+}
+
+// Returns the exit status of a run.
+fn status_of(ending: Result<Verdict, RunError>) -> u8
+    ensures { result ≡ ending_status ending }
+{
+    match ending {
+        Ok(verdict) => verdict.status(),
+        Err(error) => error.status(),
+    }
+}
+
+/// Runs a command like `run_to_end`, and returns its exit status.
 pub fn run<A: Allocator + Copy, C: Command<A>, F: Files, R: Read, W: Write, E: Write>(
     alloc: A,
     command: &C,
@@ -200,11 +249,5 @@ pub fn run<A: Allocator + Copy, C: Command<A>, F: Files, R: Read, W: Write, E: W
         streams.old.out streams.new.out streams.old.err streams.new.err result }
     ensures input { streams.new.input ≡ streams.old.input }
 {
-    let ready = settle(alloc, command, files);
-    files.release();
-    let file = command.file();
-    let named = about(&ready, file);
-    let ending = show_ready(alloc, file, ready, &mut streams.out);
-    let cause = cause_of(&ending, files, &streams.out);
-    report(ending, named.as_bytes(), None, cause, &mut streams.err)
+    status_of(run_to_end(alloc, command, files, streams))
 }

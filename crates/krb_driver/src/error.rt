@@ -2,8 +2,9 @@
 
 ghost use Rattle.std.specs.Prelude.{◌≡◌};
 ghost use Rattle.krb_driver.specs.declared.error.RunError.TheVariants as error;
-ghost use Rattle.krb_driver.specs.RunErrors.{input_error, list_error, load_error, no_keytab_error, output_error, save_error, script_error, error_status};
+ghost use Rattle.krb_driver.specs.RunErrors.{error_of_name, error_status, input_error, list_error, load_error, no_keytab_error, output_error, save_error, script_error};
 
+use crate::file_name::NameSource;
 use crate::loading::{NoKeytab, NotCache, NotKeytab};
 use krb_files::{LoadFault, OutFault, SaveFault};
 use krb_text::{LineFault, ScriptRefusal};
@@ -18,7 +19,11 @@ pub enum RunError {
     FaultyLine { line: u64, fault: LineFault },
     /// A keytab refused what a line read from it or added to it.
     LineRefused { line: u64, code: Code },
-    NoSuchFile,
+    NoSuchFile(NameSource),
+    /// There is no such file, as its name is of a type that is not read.
+    OtherType(NameSource),
+    /// Nothing is written under a name that begins with a type.
+    TypedName,
     FileTooLarge,
     FileNotRead,
     FileNotWritten,
@@ -47,6 +52,7 @@ impl RunError {
             RunError::InputNotRead
             | RunError::FileNotRead
             | RunError::FileNotWritten
+            | RunError::TypedName
             | RunError::OutputNotWritten
             | RunError::ClockNotRead => 3,
             _ => 1,
@@ -60,6 +66,16 @@ impl RunError {
         match why {
             NoKeytab::Load(fault) => RunError::from(fault),
             NoKeytab::Open(why) => RunError::NotAKeytabToList(why),
+        }
+    }
+
+    /// Returns the error for a file whose name comes from there.
+    pub fn of_name(self, source: NameSource) -> RunError
+        ensures { result ≡ error_of_name source self }
+    {
+        match self {
+            RunError::NoSuchFile(_) => RunError::NoSuchFile(source),
+            error => error,
         }
     }
 
@@ -91,7 +107,7 @@ impl From<LoadFault> for RunError {
 
     fn from(fault: LoadFault) -> RunError {
         match fault {
-            LoadFault::Missing => RunError::NoSuchFile,
+            LoadFault::Missing => RunError::NoSuchFile(NameSource::Word),
             LoadFault::TooLarge => RunError::FileTooLarge,
             LoadFault::Failed => RunError::FileNotRead,
             LoadFault::NoMemory => RunError::NoMemory,

@@ -4,19 +4,21 @@
 mod command;
 mod command_line;
 mod error;
+mod file_name;
 mod loading;
 mod opening;
 mod reporting;
 mod streams;
 mod verdict;
 
-pub use command::{Command, FileError, Made, Output, Show, hold_if, run};
+pub use command::{Command, FileError, Made, Output, Show, hold_if, run, run_to_end};
 pub use command_line::matches::{
     Matches, first_value, spelled_name, spelled_names, spelled_seconds, times_given, v1_order,
 };
 pub use command_line::mistake::{BadLine, Mistake, WordFault};
 pub use command_line::words::{CommandName, CommandWords, DRY_RUN, V1_BIG, Word};
 pub use error::RunError;
+pub use file_name::{FileName, NameSource, type_of};
 pub use loading::{NoKeytab, NotKeytab, load_keytab, load_or_new};
 pub use opening::{
     give_cache, give_or_empty, open_cache, open_keytab, open_listed, open_whole,

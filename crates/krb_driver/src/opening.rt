@@ -1,13 +1,14 @@
 //! Opens the keytab or the cache of a file for a command. Each error names the file.
 
 ghost use Rattle.std.specs.Prelude.{◌≡◌, is_some};
-ghost use Rattle.krb_driver.specs.declared.error.RunError.TheVariants.{Refused};
+ghost use Rattle.krb_driver.specs.declared.error.RunError.TheVariants.{OtherType, Refused};
 ghost use Rattle.krb_driver.specs.Commands.{GivesOf, Opens, opened};
 ghost use Rattle.krb_driver.specs.Loading.{cache_of};
 ghost use Rattle.krb_driver.specs.Opening.{cache_refusal, fresh_in, keytab_in, keytab_or_empty, keytab_refusal, listed_in, unless_refused, whole_in, whole_or_empty, writable_in};
 
 use crate::command::FileError;
 use crate::error::RunError;
+use crate::file_name::FileName;
 use crate::loading::{load_cache, load_keytab, load_or_fresh, load_or_new};
 use krb_ccache::{Ccache, Version};
 use krb_files::Files;
@@ -16,21 +17,32 @@ use krb_walk::Code;
 use krb_wire::Order;
 use std::alloc::Allocator;
 
+// Returns the error for a name of another type.
+fn other_type(file: FileName<'_>) -> FileError<'_>
+    ensures file { result.file.now ≡ file.entry.name.now }
+    ensures error { result.error ≡ OtherType file.entry.source }
+{
+    FileError {
+        file: file.name,
+        error: RunError::OtherType(file.source),
+    }
+}
+
 // Loads the keytab of a file.
 fn give_keytab<'a, A: Allocator, F: Files>(
     alloc: A,
     v1_order: Order,
     files: &mut F,
-    file: &'a str,
+    file: FileName<'a>,
 ) -> Result<Keytab<A>, FileError<'a>>
-    ensures { GivesOf F.Files files.old file.now (keytab_in v1_order) (opened (λ k. k.state) result) files.new }
+    ensures { GivesOf F.Files files.old file.entry (keytab_in v1_order) (opened (λ k. k.state) result) files.new }
 {
-    match load_keytab(alloc, v1_order, files, file) {
+    if file.is_other_type {
+        return Err(other_type(file));
+    }
+    match load_keytab(alloc, v1_order, files, file.name) {
         Ok(keytab) => Ok(keytab),
-        Err(why) => Err(FileError {
-            file,
-            error: RunError::from(why),
-        }),
+        Err(why) => Err(FileError::of(file, RunError::from(why))),
     }
 }
 
@@ -39,9 +51,9 @@ pub fn open_keytab<'a, A: Allocator, F: Files>(
     alloc: A,
     v1_order: Order,
     files: &mut F,
-    file: &'a str,
+    file: FileName<'a>,
 ) -> Result<Keytab<A>, FileError<'a>>
-    ensures { Opens F.Files files.old file.now (keytab_in v1_order) (opened (λ k. k.state) result) files.new }
+    ensures { Opens F.Files files.old file.entry (keytab_in v1_order) (opened (λ k. k.state) result) files.new }
 {
     give_keytab(alloc, v1_order, files, file)
 }
@@ -51,16 +63,16 @@ fn give_listed<'a, A: Allocator, F: Files>(
     alloc: A,
     v1_order: Order,
     files: &mut F,
-    file: &'a str,
+    file: FileName<'a>,
 ) -> Result<Keytab<A>, FileError<'a>>
-    ensures { GivesOf F.Files files.old file.now (listed_in v1_order) (opened (λ k. k.state) result) files.new }
+    ensures { GivesOf F.Files files.old file.entry (listed_in v1_order) (opened (λ k. k.state) result) files.new }
 {
-    match load_keytab(alloc, v1_order, files, file) {
+    if file.is_other_type {
+        return Err(other_type(file));
+    }
+    match load_keytab(alloc, v1_order, files, file.name) {
         Ok(keytab) => Ok(keytab),
-        Err(why) => Err(FileError {
-            file,
-            error: RunError::of_listed(why),
-        }),
+        Err(why) => Err(FileError::of(file, RunError::of_listed(why))),
     }
 }
 
@@ -69,9 +81,9 @@ pub fn open_listed<'a, A: Allocator, F: Files>(
     alloc: A,
     v1_order: Order,
     files: &mut F,
-    file: &'a str,
+    file: FileName<'a>,
 ) -> Result<Keytab<A>, FileError<'a>>
-    ensures { Opens F.Files files.old file.now (listed_in v1_order) (opened (λ k. k.state) result) files.new }
+    ensures { Opens F.Files files.old file.entry (listed_in v1_order) (opened (λ k. k.state) result) files.new }
 {
     give_listed(alloc, v1_order, files, file)
 }
@@ -81,16 +93,16 @@ pub fn give_or_empty<'a, A: Allocator + Copy, F: Files>(
     alloc: A,
     v1_order: Order,
     files: &mut F,
-    file: &'a str,
+    file: FileName<'a>,
 ) -> Result<Keytab<A>, FileError<'a>>
-    ensures { GivesOf F.Files files.old file.now (keytab_or_empty v1_order) (opened (λ k. k.state) result) files.new }
+    ensures { GivesOf F.Files files.old file.entry (keytab_or_empty v1_order) (opened (λ k. k.state) result) files.new }
 {
-    match load_or_new(alloc, v1_order, files, file) {
+    if file.is_other_type {
+        return Err(other_type(file));
+    }
+    match load_or_new(alloc, v1_order, files, file.name) {
         Ok(keytab) => Ok(keytab),
-        Err(why) => Err(FileError {
-            file,
-            error: RunError::from(why),
-        }),
+        Err(why) => Err(FileError::of(file, RunError::from(why))),
     }
 }
 
@@ -98,13 +110,16 @@ pub fn give_or_empty<'a, A: Allocator + Copy, F: Files>(
 pub fn give_cache<'a, A: Allocator, F: Files>(
     alloc: A,
     files: &mut F,
-    file: &'a str,
+    file: FileName<'a>,
 ) -> Result<Ccache<A>, FileError<'a>>
-    ensures { GivesOf F.Files files.old file.now cache_of (opened (λ k. k.state) result) files.new }
+    ensures { GivesOf F.Files files.old file.entry cache_of (opened (λ k. k.state) result) files.new }
 {
-    match load_cache(alloc, files, file) {
+    if file.is_other_type {
+        return Err(other_type(file));
+    }
+    match load_cache(alloc, files, file.name) {
         Ok(cache) => Ok(cache),
-        Err(error) => Err(FileError { file, error }),
+        Err(error) => Err(FileError::of(file, error)),
     }
 }
 
@@ -112,24 +127,24 @@ pub fn give_cache<'a, A: Allocator, F: Files>(
 pub fn open_cache<'a, A: Allocator, F: Files>(
     alloc: A,
     files: &mut F,
-    file: &'a str,
+    file: FileName<'a>,
 ) -> Result<Ccache<A>, FileError<'a>>
-    ensures { Opens F.Files files.old file.now cache_of (opened (λ k. k.state) result) files.new }
+    ensures { Opens F.Files files.old file.entry cache_of (opened (λ k. k.state) result) files.new }
 {
     give_cache(alloc, files, file)
 }
 
 // Refuses a damaged keytab.
 fn whole<'a, A: Allocator>(
-    file: &'a str,
+    file: FileName<'a>,
     given: Result<Keytab<A>, FileError<'a>>,
 ) -> Result<Keytab<A>, FileError<'a>>
     ensures { opened (λ k. k.state) result
-        ≡ unless_refused (λ code. (file.now, Refused code)) keytab_refusal (opened (λ k. k.state) given.entry) }
+        ≡ unless_refused (λ code. (file.entry.name.now, Refused code)) keytab_refusal (opened (λ k. k.state) given.entry) }
 {
     match given {
         Ok(keytab) if keytab.fault().is_some() => Err(FileError {
-            file,
+            file: file.name,
             error: RunError::Refused(Code::Damaged),
         }),
         given => given,
@@ -141,9 +156,9 @@ pub fn open_whole<'a, A: Allocator, F: Files>(
     alloc: A,
     v1_order: Order,
     files: &mut F,
-    file: &'a str,
+    file: FileName<'a>,
 ) -> Result<Keytab<A>, FileError<'a>>
-    ensures { Opens F.Files files.old file.now (whole_in v1_order) (opened (λ k. k.state) result) files.new }
+    ensures { Opens F.Files files.old file.entry (whole_in v1_order) (opened (λ k. k.state) result) files.new }
 {
     let given = give_keytab(alloc, v1_order, files, file);
     whole(file, given)
@@ -154,16 +169,16 @@ fn give_or_fresh<'a, A: Allocator + Copy, F: Files>(
     alloc: A,
     v1_order: Order,
     files: &mut F,
-    file: &'a str,
+    file: FileName<'a>,
 ) -> Result<Keytab<A>, FileError<'a>>
-    ensures { GivesOf F.Files files.old file.now (fresh_in v1_order) (opened (λ k. k.state) result) files.new }
+    ensures { GivesOf F.Files files.old file.entry (fresh_in v1_order) (opened (λ k. k.state) result) files.new }
 {
-    match load_or_fresh(alloc, v1_order, files, file) {
+    if file.is_other_type {
+        return Err(other_type(file));
+    }
+    match load_or_fresh(alloc, v1_order, files, file.name) {
         Ok(keytab) => Ok(keytab),
-        Err(why) => Err(FileError {
-            file,
-            error: RunError::from(why),
-        }),
+        Err(why) => Err(FileError::of(file, RunError::from(why))),
     }
 }
 
@@ -173,9 +188,9 @@ pub fn open_whole_or_empty<'a, A: Allocator + Copy, F: Files>(
     alloc: A,
     v1_order: Order,
     files: &mut F,
-    file: &'a str,
+    file: FileName<'a>,
 ) -> Result<Keytab<A>, FileError<'a>>
-    ensures { Opens F.Files files.old file.now (whole_or_empty v1_order) (opened (λ k. k.state) result) files.new }
+    ensures { Opens F.Files files.old file.entry (whole_or_empty v1_order) (opened (λ k. k.state) result) files.new }
 {
     let given = give_or_fresh(alloc, v1_order, files, file);
     whole(file, given)
@@ -183,11 +198,11 @@ pub fn open_whole_or_empty<'a, A: Allocator + Copy, F: Files>(
 
 // Refuses a cache of version 3, which is read-only, and a damaged one.
 fn writable<'a, A: Allocator>(
-    file: &'a str,
+    file: FileName<'a>,
     given: Result<Ccache<A>, FileError<'a>>,
 ) -> Result<Ccache<A>, FileError<'a>>
     ensures { opened (λ k. k.state) result
-        ≡ unless_refused (λ code. (file.now, Refused code)) cache_refusal (opened (λ k. k.state) given.entry) }
+        ≡ unless_refused (λ code. (file.entry.name.now, Refused code)) cache_refusal (opened (λ k. k.state) given.entry) }
 {
     let cache = given?;
     let code = if cache.version() == Version::V3 {
@@ -198,7 +213,7 @@ fn writable<'a, A: Allocator>(
         return Ok(cache);
     };
     Err(FileError {
-        file,
+        file: file.name,
         error: RunError::Refused(code),
     })
 }
@@ -207,9 +222,9 @@ fn writable<'a, A: Allocator>(
 pub fn open_writable<'a, A: Allocator, F: Files>(
     alloc: A,
     files: &mut F,
-    file: &'a str,
+    file: FileName<'a>,
 ) -> Result<Ccache<A>, FileError<'a>>
-    ensures { Opens F.Files files.old file.now writable_in (opened (λ k. k.state) result) files.new }
+    ensures { Opens F.Files files.old file.entry writable_in (opened (λ k. k.state) result) files.new }
 {
     let given = give_cache(alloc, files, file);
     writable(file, given)

@@ -126,10 +126,10 @@ fn error_message(error: RunError, file: &[u8]) -> Message<'_>
         RunError::InputNotRead => message("cannot read input"),
         RunError::FaultyLine { line, fault } => line_message(line, "fault ", fault.number()),
         RunError::LineRefused { line, code } => line_message(line, "refused ", code.number()),
-        RunError::NoSuchFile => file_message(file, "no such file"),
+        RunError::NoSuchFile(_) | RunError::OtherType(_) => file_message(file, "no such file"),
         RunError::FileTooLarge => file_message(file, "file too large"),
         RunError::FileNotRead => file_message(file, "cannot read"),
-        RunError::FileNotWritten => file_message(file, "cannot write"),
+        RunError::FileNotWritten | RunError::TypedName => file_message(file, "cannot write"),
         RunError::NotAKeytab(why) => not_keytab_message(file, why),
         RunError::NotAKeytabToList(why) => not_keytab_message(file, why),
         RunError::NotACache(why) => {
@@ -196,7 +196,7 @@ fn report_end<E: Write>(
         return;
     }
     match ending {
-        Ok(Verdict::Replied(reported)) => report_replies(&mut err.to, &reported),
+        Ok(Verdict::Replied(reported)) => report_replies(&mut err.to, &reported, file),
         Ok(Verdict::Found(findings)) => report_findings(&mut err.to, &findings, file),
         _ => write_pieces(
             &mut err.to,

@@ -1,7 +1,7 @@
 //! The verdict of a run that did its work.
 
 ghost use Rattle.std.specs.Prelude.{◌≡◌};
-ghost use Rattle.krb_driver.specs.Verdicts.{verdict_status};
+ghost use Rattle.krb_driver.specs.Verdicts.{hiding, verdict_status};
 
 use crate::reporting::reported::Reported;
 use krb_walk::Fault;
@@ -13,7 +13,7 @@ pub enum FileKind {
     Cache,
 }
 
-/// What was found about a keytab: which words were printed, the fault, and whether something is wrong.
+/// What was found about a keytab: which words are to be explained, the fault, and whether something is wrong.
 #[derive(Clone, Copy)]
 pub struct Findings {
     pub words: krb_audit::FindingWords,
@@ -25,6 +25,8 @@ pub struct Findings {
 #[derive(Clone, Copy)]
 pub enum Verdict {
     Well,
+    /// An entry that was added is not seen by MIT's programs: they see none from this place on.
+    HiddenFrom(u32),
     /// The listing reports it.
     Listed(Fault),
     /// The replies report it.
@@ -38,12 +40,27 @@ pub enum Verdict {
 }
 
 impl Verdict {
+    /// Returns the verdict of the same run if it added an entry that MIT's programs do not see, as they see none from
+    /// `place` on.
+    pub fn hiding(self, place: Option<u32>) -> Verdict
+        ensures { result ≡ hiding place self }
+    {
+        match (self, place) {
+            (Verdict::Well, Some(place)) => Verdict::HiddenFrom(place),
+            (Verdict::Replied(reported), hidden_from) => Verdict::Replied(Reported {
+                hidden_from,
+                ..reported
+            }),
+            (verdict, _) => verdict,
+        }
+    }
+
     /// Returns the exit status of the run.
     pub fn status(self) -> u8
         ensures { result ≡ verdict_status self }
     {
         match self {
-            Verdict::Well => 0,
+            Verdict::Well | Verdict::HiddenFrom(_) => 0,
             Verdict::Found(findings) => u8::from(findings.is_wrong),
             _ => 1,
         }

@@ -26,7 +26,7 @@ pub trait Matches<'a> {
     fn operand(&self, name: &str) -> &'a str
         ensures { result.now ≡ (matched self.now).operand name.now };
 
-    /// Returns the values given to that option, in order.
+    /// Returns the values given to that option, or for that operand, in order.
     fn values(&self, name: &str) -> &[&'a str]
         ensures { map (λ word. word.now) result.now ≡ (matched self.now).values name.now };
 }
@@ -39,7 +39,7 @@ pub fn times_given<'a, M: Matches<'a>>(matches: &M, name: &str) -> usize
     matches.values(name).len()
 }
 
-/// Returns the first value of an option.
+/// Returns the first value of an option or an operand.
 #[tactic(auto, using(crate::proofs::MatchLemmas::first_word))]
 pub fn first_value<'a, M: Matches<'a>>(matches: &M, name: &str) -> Option<&'a str>
     ensures { option_map (λ word. word.now) result ≡ slice_get ((M.matched matches.now).values name.now) 0 }

@@ -26,11 +26,14 @@ pub enum Mistake<'a> {
     NoVersion(&'a str),
     NoEtype(&'a str),
     NoSeconds(&'a str),
+    NoFinding(&'a str),
     BadName(&'a str, NameFault),
     /// None of these options is given.
     NothingSelects(&'a str),
     LateExplain,
     NotText,
+    /// A variable of the environment.
+    VariableNotText(&'a str),
 }
 
 /// A mistake, and the command whose help says more, if there is one.

@@ -117,10 +117,12 @@ fn mistake_pieces(mistake: Mistake<'_>) -> Line<'_>
         Mistake::NoVersion(kvno) => quoted(kvno, "\" is no ", "version"),
         Mistake::NoEtype(etype) => quoted(etype, "\" is no ", "encryption type"),
         Mistake::NoSeconds(word) => quoted(word, "\" is no ", "number of seconds"),
+        Mistake::NoFinding(word) => quoted(word, "\" is no ", "finding"),
         Mistake::BadName(name, fault) => quoted(name, "\" has ", fault.phrase()),
         Mistake::NothingSelects(options) => before("nothing selects; give ", options),
         Mistake::LateExplain => alone("--explain stands before the command"),
         Mistake::NotText => alone("an argument is not UTF-8"),
+        Mistake::VariableNotText(name) => after(name, " is not UTF-8"),
     }
 }
 

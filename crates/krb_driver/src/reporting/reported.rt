@@ -9,13 +9,14 @@ use crate::verdict::{FileKind, Verdict};
 use krb_walk::{Code, FaultKind, Reply};
 use std::alloc::Allocator;
 
-/// The codes and the faults that replies report, each at its place in the order of their numbers, and the kind of
-/// file that they are about.
+/// The codes and the faults that replies report, each at its place in the order of their numbers, the kind of file
+/// that they are about, and the place from which MIT's programs see none of its entries, if one of these was added.
 #[derive(Clone, Copy)]
 pub struct Reported {
     pub kind: FileKind,
     pub codes: [Option<Code>; 11],
     pub faults: [Option<FaultKind>; 4],
+    pub hidden_from: Option<u32>,
 }
 
 // Returns whether a reply is a refusal or a fault.
@@ -126,6 +127,7 @@ pub fn replied_verdict<A: Allocator>(kind: FileKind, replies: &[Reply<A>]) -> Ve
             kind,
             codes: reported_codes(replies),
             faults: reported_faults(replies),
+            hidden_from: None,
         })
     } else {
         Verdict::Well

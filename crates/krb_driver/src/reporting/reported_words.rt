@@ -5,11 +5,11 @@ ghost use Rattle.std.specs.List.{flat_map};
 ghost use Rattle.krb_driver.specs.PieceTexts.{pieces_text};
 ghost use Rattle.krb_driver.specs.Runs.{Writes};
 ghost use Rattle.krb_driver.specs.Underway.{Adds};
-ghost use Rattle.krb_driver.specs.Words.{code_words, fault_words, reported_words};
+ghost use Rattle.krb_driver.specs.Words.{code_words, fault_words, hidden_words_of, reported_words};
 
 use crate::reporting::piece::MessagePiece;
 use crate::reporting::reported::Reported;
-use crate::reporting::words::refusal_phrase;
+use crate::reporting::words::{hidden_words, refusal_phrase};
 use crate::reporting::writing::{Gathered, add_pieces, send};
 use crate::verdict::FileKind;
 use arrayvec::ArrayVec;
@@ -75,12 +75,28 @@ fn add_faults<E: Write>(faults: &[Option<FaultKind>], gathered: &mut Gathered, e
     }
 }
 
-/// Explains what replies report, each number once, in one write. Ignores a failure.
-pub fn report_replies<E: Write>(err: &mut Watched<E>, reported: &Reported)
-    ensures { Writes err.old err.new (reported_words reported.now.kind reported.now.codes reported.now.faults) }
+// Adds the words for what is hidden, if something is.
+fn add_hidden<E: Write>(
+    file: &[u8],
+    hidden_from: Option<u32>,
+    gathered: &mut Gathered,
+    err: &mut Watched<E>,
+)
+    ensures { Adds err.old gathered.old.items err.new gathered.new.items (hidden_words_of file.now hidden_from) }
+{
+    match hidden_from {
+        Some(place) => add_pieces(&hidden_words(file, None, place), gathered, err),
+        None => add_pieces(&NO_LINE, gathered, err),
+    }
+}
+
+/// Explains what replies about a file report, each number once, in one write. Ignores a failure.
+pub fn report_replies<E: Write>(err: &mut Watched<E>, reported: &Reported, file: &[u8])
+    ensures { Writes err.old err.new (reported_words file.now reported.now) }
 {
     let mut gathered = ArrayVec::new();
     add_codes(reported.kind, &reported.codes, &mut gathered, err);
     add_faults(&reported.faults, &mut gathered, err);
+    add_hidden(file, reported.hidden_from, &mut gathered, err);
     send(&gathered, err);
 }

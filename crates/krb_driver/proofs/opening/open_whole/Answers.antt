@@ -6,5 +6,5 @@ pub returns : goal.returns
 unfolding whole_in
 returns g c =
     let order = c.args.v1_order in
-    let file = c.args.file.now in
+    let file = c.args.file in
     rw c.whole.ensures (opens-by g.F.Files c.args.files.now file (whole_in order) _ c.give_keytab-given.new.files (gives-unless g.F.Files c.args.files.now file (keytab_in order) keytab_refusal _ c.give_keytab-given.new.files c.give_keytab-given.ensures))

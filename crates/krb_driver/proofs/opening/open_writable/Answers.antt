@@ -6,5 +6,5 @@ use Rattle.krb_driver.proofs.opening.open_writable.Goals as goal
 pub returns : goal.returns
 unfolding writable_in
 returns g c =
-    let file = c.args.file.now in
+    let file = c.args.file in
     rw c.writable.ensures (opens-by g.F.Files c.args.files.now file writable_in _ c.give_cache-given.new.files (gives-unless g.F.Files c.args.files.now file cache_of cache_refusal _ c.give_cache-given.new.files c.give_cache-given.ensures))

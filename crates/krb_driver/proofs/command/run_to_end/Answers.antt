@@ -1,8 +1,8 @@
 use Rattle.std.proofs.Common.{◌∙◌, false}
 use Rattle.krb_files.specs.Loading.{TurnsHold}
 use Rattle.krb_driver.specs.Commands.{ready_end}
-use Rattle.krb_driver.proofs.Running.{runs-shown}
-use Rattle.krb_driver.proofs.command.run.Goals as goal
+use Rattle.krb_driver.proofs.Running.{ends-shown}
+use Rattle.krb_driver.proofs.command.run_to_end.Goals as goal
 
 pub returns-clause-runs : goal.returns-clause-runs
 returns-clause-runs g c =
@@ -16,6 +16,6 @@ returns-clause-runs g c =
       count = c.release.ensures.count;
       mode = c.release.ensures.mode;
     } in
-    runs-shown g.F.Files plan (g.C.Command.fairly c.args.command.now) c.args.files.now c.settle-ready.new.files c.release.new.self c.args.streams.now.out c.show_ready-ending.new.out c.args.streams.now.err c.report.new.err c.report.result end c.show_ready-ending.result
+    ends-shown g.F.Files plan (g.C.Command.fairly c.args.command.now) c.args.files.now c.settle-ready.new.files c.release.new.self c.args.streams.now.out c.show_ready-ending.new.out c.args.streams.now.err c.report-status.new.err c.report-status.result end c.show_ready-ending.result
     (rw c.file-file.ensures c.settle-ready.ensures) left c.show_ready-ending.ensures
-    (rw (c.as_bytes.ensures.value ∙ c.about-named.ensures page) at c.report.ensures.reports)
+    (rw (c.as_bytes.ensures.value ∙ c.about-named.ensures page) at c.report-status.ensures.reports)

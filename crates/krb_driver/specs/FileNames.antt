@@ -1,0 +1,55 @@
+-- The names of files, and their types.
+use Rattle.std.specs.Prelude.{◌≡◌, ℕ, ◌+◌, List, [], ◌∷◌, length, take, codes, Bool, not, ◌&&◌, ◌||◌, ◌==◌, nat_le, nat_lt, if◌then◌else◌, Option, None, Some, is_none, is_some, option_and_then, unwrap_or}
+use Rattle.std.specs.List.{list_any, position_from}
+use Rattle.std.specs.Option.{option_or}
+use Rattle.krb_driver.specs.declared.file_name.FileName.{FileName}
+use Rattle.krb_driver.specs.declared.file_name.NameSource.{NameSource}
+use Rattle.krb_driver.specs.declared.verdict.FileKind.{FileKind}
+use Rattle.krb_driver.specs.declared.verdict.FileKind.TheVariants.{Keytab, Cache}
+
+-- a byte is not an ASCII letter
+abbrev pub is_no_letter : ℕ → Bool
+is_no_letter b = not ((nat_le 65 b && nat_le b 90) || (nat_le 97 b && nat_le b 122))
+
+abbrev pub is_colon : ℕ → Bool
+is_colon b = b == 58
+
+-- what comes before a colon is a type: two or more letters
+abbrev pub is_type : List ℕ → Bool
+is_type head = nat_lt 1 (length head) && not (list_any is_no_letter head)
+
+-- the bytes up to a colon there, if those before it are a type
+abbrev pub type_before : List ℕ → ℕ → Option (List ℕ)
+type_before word at = if is_type (take at word) then Some (take (at + 1) word) else None
+
+-- the type that a word begins with, with its colon
+abbrev pub type_of : List ℕ → Option (List ℕ)
+type_of word = option_and_then (type_before word) (position_from is_colon 0 word)
+
+abbrev pub has_type : List ℕ → Bool
+has_type word = is_some (type_of word)
+
+-- a word without a prefix, if it begins with that
+abbrev pub stripped : List ℕ → List ℕ → Option (List ℕ)
+stripped [] word = Some word
+stripped (p ∷ ps) [] = None
+stripped (p ∷ ps) (b ∷ bs) = if b == p then stripped ps bs else None
+
+-- a word without the type of files that are read, if it begins with that
+abbrev pub untyped : FileKind → List ℕ → Option (List ℕ)
+untyped Keytab word = option_or (stripped (codes "FILE:") word) (stripped (codes "WRFILE:") word)
+untyped Cache word = stripped (codes "FILE:") word
+
+-- the name of the file that a word names; or, of a type that is not read, the word
+abbrev pub bare_name : FileKind → List ℕ → List ℕ
+bare_name kind word = unwrap_or (untyped kind word) word
+
+-- a word begins with a type that is not read
+abbrev pub is_other_type : FileKind → List ℕ → Bool
+is_other_type kind word = is_none (untyped kind word) && has_type word
+
+-- a file name is the one that a word of a command line gives
+pub record IsNamed (kind : FileKind) (word : List ℕ) (source : NameSource) (file : FileName) : Type 0 where
+  pub name : file.name.now ≡ bare_name kind word
+  pub other : file.is_other_type ≡ is_other_type kind word
+  pub from : file.source ≡ source

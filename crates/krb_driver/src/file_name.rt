@@ -1,0 +1,111 @@
+//! The names of files: an operand may begin with a type, as in `FILE:/etc/krb5.keytab`.
+
+ghost use Rattle.std.specs.Prelude.{◌≡◌, ◌<◌, IfSome, length, option_copied, option_map};
+ghost use Rattle.std.specs.List.{list_any, position_from};
+ghost use Rattle.krb_driver.specs.FileNames.{IsNamed, has_type, is_colon, is_no_letter, is_type, stripped, type_of, untyped};
+
+use crate::verdict::FileKind;
+
+/// Where the name of a file comes from.
+#[derive(Clone, Copy, Debug, PartialEq, Eq)]
+pub enum NameSource {
+    /// A word of the command line, or of a line of ktutil.
+    Word,
+    /// KRB5CCNAME in the environment.
+    CacheVariable,
+    /// KRB5_KTNAME in the environment.
+    KeytabVariable,
+    /// The default name.
+    Default,
+}
+
+/// The name of a file without its type; or, of a type that is not read, the whole word, such as `KCM:0`.
+#[derive(Clone, Copy)]
+pub struct FileName<'a> {
+    pub name: &'a str,
+    pub is_other_type: bool,
+    pub source: NameSource,
+}
+
+fn is_no_letter(byte: u8) -> bool
+    ensures { result ≡ is_no_letter byte }
+{
+    !matches!(byte, b'A'..=b'Z' | b'a'..=b'z')
+}
+
+// Returns whether some byte is not a letter.
+fn has_other(head: &[u8]) -> bool
+    ensures { result ≡ list_any is_no_letter head.now }
+{
+    head.iter().any(|byte| is_no_letter(*byte))
+}
+
+// Returns whether what comes before a colon is a type: two or more letters.
+fn is_type(head: &[u8]) -> bool
+    ensures { result ≡ is_type head.now }
+{
+    head.len() > 1 && !has_other(head)
+}
+
+// Returns where the first colon is.
+fn first_colon(word: &[u8]) -> Option<usize>
+    ensures is { result ≡ position_from is_colon 0 word.now }
+    ensures within { IfSome result (λ at. at < length word.now) }
+{
+    word.iter().position(|byte| *byte == b':')
+}
+
+/// Returns the type that a word begins with, with its colon.
+pub fn type_of(word: &[u8]) -> Option<&[u8]>
+    ensures { option_copied result ≡ type_of word.now }
+{
+    let at = first_colon(word)?;
+    if is_type(&word[..at]) {
+        Some(&word[..at + 1])
+    } else {
+        None
+    }
+}
+
+fn has_type(word: &[u8]) -> bool
+    ensures { result ≡ has_type word.now }
+{
+    type_of(word).is_some()
+}
+
+// Returns a word without that prefix, if it begins with it.
+fn stripped<'a>(word: &'a str, prefix: &str) -> Option<&'a str>
+    ensures { option_map (λ rest. rest.now) result ≡ stripped prefix.now word.now }
+{
+    word.strip_prefix(prefix)
+}
+
+// Returns a word without the type of files that are read, if it begins with that.
+fn untyped(kind: FileKind, word: &str) -> Option<&str>
+    ensures { option_map (λ rest. rest.now) result ≡ untyped kind word.now }
+{
+    match (stripped(word, "FILE:"), kind) {
+        (None, FileKind::Keytab) => stripped(word, "WRFILE:"),
+        (name, _) => name,
+    }
+}
+
+impl<'a> FileName<'a> {
+    /// Returns the name that a word gives: without `FILE:`, of a keytab also without `WRFILE:`.
+    pub fn of(kind: FileKind, word: &'a str, source: NameSource) -> FileName<'a>
+        ensures { IsNamed kind word.now source result }
+    {
+        match untyped(kind, word) {
+            Some(name) => FileName {
+                name,
+                is_other_type: false,
+                source,
+            },
+            None => FileName {
+                name: word,
+                is_other_type: has_type(word.as_bytes()),
+                source,
+            },
+        }
+    }
+}
