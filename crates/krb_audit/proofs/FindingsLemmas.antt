@@ -51,19 +51,19 @@ join_marks t x m ms = λ i. record {
 -- ---- the listing
 
 -- some entries are listed, and others are still to come
-pub record IsListedUpTo {A : Type 0} (k : KeytabState) (rest : List PlacedEntry) (b : Before A) (words : FindingWords) (start out : List ℕ) : Type 0 where
+pub record IsListedUpTo {A : Type 0} (label : List ℕ) (k : KeytabState) (rest : List PlacedEntry) (b : Before A) (words : FindingWords) (start out : List ℕ) : Type 0 where
   pub before : List PlacedEntry
   pub all : placed_entries k ≡ before ++ rest
   pub known : IsBefore k before b
-  pub text : out ++ flat_map mark_lines (marked_after k before rest) ≡ start ++ flat_map mark_lines (marked k)
+  pub text : out ++ flat_map (mark_lines label) (marked_after k before rest) ≡ start ++ flat_map (mark_lines label) (marked k)
   pub words_found : joined words (words_of (marked_after k before rest)) ≡ words_of (marked k)
 
-pub none_listed : {A : Type 0} (k : KeytabState) (rest : List PlacedEntry) (b : Before A) (t : FindingWords) (start : List ℕ) → rest ≡ placed_entries k → IsBefore k [] b → t ≡ words_of [] → IsListedUpTo k rest b t start start
-none_listed k rest b t start is known none = record {
+pub none_listed : {A : Type 0} (label : List ℕ) (k : KeytabState) (rest : List PlacedEntry) (b : Before A) (t : FindingWords) (start : List ℕ) → rest ≡ placed_entries k → IsBefore k [] b → t ≡ words_of [] → IsListedUpTo label k rest b t start start
+none_listed label k rest b t start is known none = record {
   before = [];
   all = sym is;
   known = known;
-  text = ap (λ xs. start ++ flat_map mark_lines (marked_after k [] xs)) is;
+  text = ap (λ xs. start ++ flat_map (mark_lines label) (marked_after k [] xs)) is;
   words_found = ap (λ u. joined u (words_of (marked_after k [] rest))) none ∙ ap (λ xs. words_of (marked_after k [] xs)) is;
 }
 
@@ -71,17 +71,17 @@ none_listed k rest b t start is known none = record {
 abbrev pub Gives : {A : Type 0} → KeytabState → PlacedEntry → Before A → Marks → Before A → Type 0
 Gives k x b m c = (before rest : List PlacedEntry) → IsBefore k before b → placed_entries k ≡ before ++ x ∷ rest → (m ≡ marks_of k before x) × IsBefore k (before ++ x ∷ []) c
 
-pub one_listed : {A : Type 0} (k : KeytabState) (x : PlacedEntry) (rest : List PlacedEntry) (b c : Before A) (m : Marks) (t u : FindingWords) (start text new : List ℕ) → IsListedUpTo k (x ∷ rest) b t start text
-    → Gives k x b m c → u ≡ with_marks t m → new ≡ text ++ mark_lines (x, m) → IsListedUpTo k rest c u start new
-one_listed k x rest b c m t u start text new h gives words_found lines =
+pub one_listed : {A : Type 0} (label : List ℕ) (k : KeytabState) (x : PlacedEntry) (rest : List PlacedEntry) (b c : Before A) (m : Marks) (t u : FindingWords) (start text new : List ℕ) → IsListedUpTo label k (x ∷ rest) b t start text
+    → Gives k x b m c → u ≡ with_marks t m → new ≡ text ++ mark_lines label (x, m) → IsListedUpTo label k rest c u start new
+one_listed label k x rest b c m t u start text new h gives words_found lines =
     let given = gives h.before rest h.known h.all in
     let after = marked_after k (h.before ++ x ∷ []) rest in
     record {
       before = h.before ++ x ∷ [];
       all = h.all ∙ sym (append_assoc h.before (x ∷ []) rest);
       known = given.1;
-      text = ap (λ (s : List ℕ). s ++ flat_map mark_lines after) lines ∙ append_assoc text (mark_lines (x, m)) (flat_map mark_lines after)
-          ∙ ap (λ (n : Marks). text ++ (mark_lines (x, n) ++ flat_map mark_lines after)) given.0 ∙ h.text;
+      text = ap (λ (s : List ℕ). s ++ flat_map (mark_lines label) after) lines ∙ append_assoc text (mark_lines label (x, m)) (flat_map (mark_lines label) after)
+          ∙ ap (λ (n : Marks). text ++ (mark_lines label (x, n) ++ flat_map (mark_lines label) after)) given.0 ∙ h.text;
       words_found = ap (λ (v : FindingWords). joined v (words_of after)) words_found ∙ join_marks t x m after ∙ ap (λ (n : Marks). joined t (words_of ((x, n) ∷ after))) given.0 ∙ h.words_found;
     }
 

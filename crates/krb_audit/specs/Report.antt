@@ -1,6 +1,7 @@
 -- The lines that report findings, and the words that they begin with.
 use Rattle.std.specs.Prelude.{ℕ, zero, suc, ◌+◌, ◌/◌, ◌%◌, bit_and, List, [], ◌∷◌, ◌++◌, length, filter, sum_by, codes, decimal, Bool, true, false, not, ◌&&◌, ◌||◌, ◌==◌, if◌then◌else◌, Option, None, Some}
 use Rattle.std.specs.List.{flat_map, list_any}
+use Rattle.krb_walk.specs.declared.fault.Fault.{Fault}
 use Rattle.krb_walk.specs.Store.{fault_of}
 use Rattle.krb_keytab.specs.Cells.{Cell, Live, Free, size}
 use Rattle.krb_keytab.specs.Find.{PlacedEntry, placed_entries}
@@ -14,24 +15,24 @@ use Rattle.krb_audit.specs.Findings.{Marked, marked}
 
 -- ---- lines of entries
 
--- a word and the entry's place and tail, if it is reported
-abbrev pub line_if : Bool → List ℕ → PlacedEntry → List ℕ
-line_if is_reported word x = if is_reported then placed_line word x else []
+-- after a label a word and the entry's place and tail, if it is reported
+abbrev pub line_if : List ℕ → Bool → List ℕ → PlacedEntry → List ℕ
+line_if label is_reported word x = if is_reported then label ++ placed_line word x else []
 
 -- the word for an entry that has an earlier one's name, kvno and enctype
 abbrev pub alike_word : Bool → List ℕ
 alike_word has_same_key = if has_same_key then codes "same " else codes "clash "
 
 -- the line of such an entry, with the place of the first
-abbrev pub alike_line : Option Alike → PlacedEntry → List ℕ
-alike_line None x = []
-alike_line (Some a) x = alike_word a.has_same_key ++ (decimal x.0 ++ placed_line (codes " ") (a.place, x.1))
+abbrev pub alike_line : List ℕ → Option Alike → PlacedEntry → List ℕ
+alike_line label None x = []
+alike_line label (Some a) x = label ++ (alike_word a.has_same_key ++ (decimal x.0 ++ placed_line (codes " ") (a.place, x.1)))
 
--- the lines of what is found about an entry
-abbrev pub mark_lines : Marked → List ℕ
-mark_lines m =
-    line_if m.1.weak (codes "weak ") m.0
-    ++ (line_if m.1.hidden (codes "hidden ") m.0 ++ (alike_line m.1.alike m.0 ++ line_if m.1.old (codes "old ") m.0))
+-- the lines of what is found about an entry, each after a label
+abbrev pub mark_lines : List ℕ → Marked → List ℕ
+mark_lines label m =
+    line_if label m.1.weak (codes "weak ") m.0
+    ++ (line_if label m.1.hidden (codes "hidden ") m.0 ++ (alike_line label m.1.alike m.0 ++ line_if label m.1.old (codes "old ") m.0))
 
 -- ---- the mode, and the count
 
@@ -54,9 +55,14 @@ has_mode holds None = false
 has_mode holds (Some mode) = holds mode
 
 -- the line of a mode, which has its twelve low bits, if group or others may read or write
-abbrev pub mode_line : Option ℕ → List ℕ
-mode_line None = []
-mode_line (Some mode) = if is_open mode then codes "mode " ++ (octal 4 (mode % 0o10000) ++ codes "\n") else []
+abbrev pub mode_line : List ℕ → Option ℕ → List ℕ
+mode_line label None = []
+mode_line label (Some mode) = if is_open mode then label ++ (codes "mode " ++ (octal 4 (mode % 0o10000) ++ codes "\n")) else []
+
+-- the line of a fault, if there is one
+abbrev pub labelled_fault : List ℕ → Option Fault → List ℕ
+labelled_fault label None = []
+labelled_fault label (Some fault) = label ++ fault_line (Some fault)
 
 -- a cell is a hole
 abbrev pub is_hole : Cell → Bool
@@ -68,11 +74,11 @@ abbrev pub holes : List Cell → List Cell
 holes cells = filter is_hole cells
 
 -- the number of entries, the total size of the holes, and the number of holes
-abbrev pub count_line : KeytabState → List ℕ
-count_line k =
-    codes "entries " ++ (decimal (length (placed_entries k))
+abbrev pub count_line : List ℕ → KeytabState → List ℕ
+count_line label k =
+    label ++ (codes "entries " ++ (decimal (length (placed_entries k))
     ++ (codes " free " ++ (decimal (sum_by size (holes k.contents.cells))
-    ++ (codes " holes " ++ (decimal (length (holes k.contents.cells)) ++ codes "\n")))))
+    ++ (codes " holes " ++ (decimal (length (holes k.contents.cells)) ++ codes "\n"))))))
 
 -- ---- which words are reported
 
@@ -147,7 +153,7 @@ joined t u = record {
 
 -- ---- all of it
 
--- the report on a keytab, whose file has this mode if it is a plain file
-abbrev pub report : Option ℕ → KeytabState → List ℕ
-report mode k =
-    mode_line mode ++ (flat_map mark_lines (marked k) ++ (fault_line (fault_of (store_of k)) ++ count_line k))
+-- the report on a keytab, whose file has this mode if it is a plain file; each line begins with a label
+abbrev pub report : List ℕ → Option ℕ → KeytabState → List ℕ
+report label mode k =
+    mode_line label mode ++ (flat_map (mark_lines label) (marked k) ++ (labelled_fault label (fault_of (store_of k)) ++ count_line label k))

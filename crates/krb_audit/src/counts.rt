@@ -6,7 +6,7 @@ ghost use Rattle.krb_keytab.specs.Find.{placed_entries};
 ghost use Rattle.krb_audit.specs.Report.{count_line, holes};
 
 use krb_keytab::{Keytab, KtCell};
-use krb_text::{append_byte, append_labelled};
+use krb_text::{append, append_byte, append_labelled};
 use krb_wire::NoMemory;
 use std::alloc::Allocator;
 
@@ -33,16 +33,18 @@ fn count_holes<A: Allocator>(keytab: &Keytab<A>) -> Holes
     holes
 }
 
-/// Appends the line with the number of entries, the total size of the holes, and their number.
+/// Appends after a label the line with the number of entries, the total size of the holes, and their number.
 pub fn append_counts<A: Allocator, B: Allocator>(
+    label: &[u8],
     entries: u32,
     keytab: &Keytab<B>,
     out: &mut Vec<u8, A>,
 ) -> Result<(), NoMemory>
     requires { entries ≡ length (placed_entries keytab.now.state) }
-    ensures { OnOk result (out.new.items ≡ out.old.items ++ count_line keytab.now.state) }
+    ensures { OnOk result (out.new.items ≡ out.old.items ++ count_line label.now keytab.now.state) }
 {
     let holes = count_holes(keytab);
+    append(label, out)?;
     append_labelled(b"entries ", entries, out)?;
     append_labelled(b" free ", holes.size, out)?;
     append_labelled(b" holes ", holes.count, out)?;

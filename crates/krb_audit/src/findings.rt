@@ -6,7 +6,7 @@ ghost use Rattle.krb_keytab.specs.Find.{PlacedEntry, placed_entries};
 ghost use Rattle.krb_keytab.specs.Store.{KeytabState};
 ghost use Rattle.krb_audit.specs.Before.{IsBefore};
 ghost use Rattle.krb_audit.specs.Findings.{marked, marks_of};
-ghost use Rattle.krb_audit.specs.Report.{mark_lines, report, words_found, words_of, wrong_words};
+ghost use Rattle.krb_audit.specs.Report.{labelled_fault, mark_lines, report, words_found, words_of, wrong_words};
 
 use crate::counts::append_counts;
 use crate::finding_words::FindingWords;
@@ -16,7 +16,8 @@ use crate::mit::ends_mit;
 use crate::mode::{append_mode, is_open_file, is_open_to_all};
 use crate::newest::NewestVersions;
 use krb_keytab::{EntryView, Keytab};
-use krb_text::{append_fault_line, is_weak};
+use krb_text::{append, append_fault_line, is_weak};
+use krb_walk::Fault;
 use krb_wire::NoMemory;
 use std::alloc::Allocator;
 
@@ -97,13 +98,14 @@ impl<'a, A: Allocator + Copy> Before<'a, A> {
     }
 }
 
-// Appends the lines of all entries. Returns which words they begin with, and the number of entries.
+// Appends the lines of all entries, each after a label. Returns which words they begin with, and the number of entries.
 fn append_marks<A: Allocator + Copy, B: Allocator>(
     alloc: A,
+    label: &[u8],
     keytab: &Keytab<B>,
     out: &mut Vec<u8, A>,
 ) -> Result<(FindingWords, u32), NoMemory>
-    ensures text { OnOk result (out.new.items ≡ out.old.items ++ flat_map mark_lines (marked keytab.now.state)) }
+    ensures text { OnOk result (out.new.items ≡ out.old.items ++ flat_map (mark_lines label.now) (marked keytab.now.state)) }
     ensures words_found { IfOk result (λ listed. listed.0 ≡ words_of (marked keytab.now.state)) }
     ensures count { IfOk result (λ listed. listed.1 ≡ length (placed_entries keytab.now.state)) }
 {
@@ -112,27 +114,44 @@ fn append_marks<A: Allocator + Copy, B: Allocator>(
     let mut words_found = FindingWords::none();
     'entries: for (place, entry) in keytab.entries() {
         let marks = before.marks(place, &entry)?;
-        marks.append_lines(place, &entry, out)?;
+        marks.append_lines(label, place, &entry, out)?;
         words_found = words_found.with(marks);
     }
     Ok((words_found, before.count))
 }
 
-/// Checks a keytab and, if it is given, the `mode` of its plain file. Takes time n log n in the bytes of the keytab.
+// Appends the line of the fault after a label, if there is one.
+fn append_fault<A: Allocator>(
+    label: &[u8],
+    fault: Option<Fault>,
+    out: &mut Vec<u8, A>,
+) -> Result<(), NoMemory>
+    ensures { OnOk result (out.new.items ≡ out.old.items ++ labelled_fault label.now fault) }
+{
+    if fault.is_none() {
+        return Ok(());
+    }
+    append(label, out)?;
+    append_fault_line(fault, out)
+}
+
+/// Checks a keytab and, if it is given, the `mode` of its plain file. Each line of the text begins with the label. Takes
+/// time n log n in the bytes of the keytab.
 pub fn check_up<A: Allocator + Copy, B: Allocator>(
     alloc: A,
+    label: &[u8],
     mode: Option<u32>,
     keytab: &Keytab<B>,
 ) -> Result<CheckUp<A>, NoMemory>
-    ensures text { IfOk result (λ found. found.text.items ≡ report mode keytab.now.state) }
+    ensures text { IfOk result (λ found. found.text.items ≡ report label.now mode keytab.now.state) }
     ensures words_found { IfOk result (λ found. found.words_found ≡ words_found mode keytab.now.state) }
     ensures wrong { IfOk result (λ found. found.wrong_words ≡ wrong_words mode keytab.now.state) }
 {
     let mut text = Vec::new(alloc);
-    append_mode(mode, &mut text)?;
-    let (entries, count) = append_marks(alloc, keytab, &mut text)?;
-    append_fault_line(keytab.fault(), &mut text)?;
-    append_counts(count, keytab, &mut text)?;
+    append_mode(label, mode, &mut text)?;
+    let (entries, count) = append_marks(alloc, label, keytab, &mut text)?;
+    append_fault(label, keytab.fault(), &mut text)?;
+    append_counts(label, count, keytab, &mut text)?;
     Ok(CheckUp {
         text,
         words_found: entries.with_mode(is_open_file(mode)),

@@ -49,12 +49,17 @@ fn append_octal<A: Allocator>(
     append_byte(b'0' + (number % 8) as u8, out)
 }
 
-/// Appends the line of the mode, if it is reported.
-pub fn append_mode<A: Allocator>(mode: Option<u32>, out: &mut Vec<u8, A>) -> Result<(), NoMemory>
-    ensures { OnOk result (out.new.items ≡ out.old.items ++ mode_line mode) }
+/// Appends the line of the mode after a label, if it is reported.
+pub fn append_mode<A: Allocator>(
+    label: &[u8],
+    mode: Option<u32>,
+    out: &mut Vec<u8, A>,
+) -> Result<(), NoMemory>
+    ensures { OnOk result (out.new.items ≡ out.old.items ++ mode_line label.now mode) }
 {
     match mode {
         Some(mode) if is_open(mode) => {
+            append(label, out)?;
             append(b"mode ", out)?;
             append_octal(4, mode % 0o10000, out)?;
             append_byte(b'\n', out)

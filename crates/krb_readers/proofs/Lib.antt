@@ -1,1 +1,2 @@
 pub mod Listed
+mod Checking

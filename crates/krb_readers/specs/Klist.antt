@@ -17,6 +17,7 @@ use Rattle.krb_readers.specs.declared.klist.words.ListKind.{ListKind}
 use Rattle.krb_readers.specs.declared.klist.words.ListKind.TheVariants.{Keytab, Cache}
 use Rattle.krb_readers.specs.declared.klist.Listing.{Listing}
 use Rattle.krb_readers.specs.declared.klist.Listing.TheVariants as listing
+use Rattle.krb_driver.specs.declared.file_name.FileName.{FileName}
 use Rattle.krb_driver.specs.Effects.{CommandPlan, Displays, Page, opens}
 use Rattle.krb_driver.specs.Loading.{cache_of}
 use Rattle.krb_driver.specs.Matches.{Matched, v1_order}
@@ -46,11 +47,11 @@ listing_page (listing.Keytab l) file = keytab_page l.json l.columns file l.keyta
 listing_page (listing.Cache l) file = cache_page l.json l.columns file l.cache.state
 
 -- the file is opened as that kind and printed
-abbrev pub listing_plan : ListKind → Bool → Order → List ℕ → CommandPlan
-listing_plan (Keytab columns) json order file = opens file (listed_in order) (λ k. Ends (Displays file (keytab_page json columns file k)))
-listing_plan (Cache columns) json order file = opens file cache_of (λ k. Ends (Displays file (cache_page json columns file k)))
+abbrev pub listing_plan : ListKind → Bool → Order → FileName → CommandPlan
+listing_plan (Keytab columns) json order file = opens file (listed_in order) (λ k. Ends (Displays file.name.now (keytab_page json columns file.name.now k)))
+listing_plan (Cache columns) json order file = opens file cache_of (λ k. Ends (Displays file.name.now (cache_page json columns file.name.now k)))
 
-abbrev pub klist_plan : KlistOptions → List ℕ → CommandPlan
+abbrev pub klist_plan : KlistOptions → FileName → CommandPlan
 klist_plan o file = listing_plan o.kind o.json o.v1_order file
 
 -- ---- what the words ask for

@@ -1,29 +1,102 @@
 -- What ktcheck does.
-use Rattle.std.specs.Prelude.{ℕ, List, Bool, ◌||◌, is_some, if◌then◌else◌, Option}
-use Rattle.krb_wire.specs.declared.format.Order.{Order}
+use Rattle.std.specs.Prelude.{◌≡◌, ◌⊎◌, ℕ, max, List, [], ◌∷◌, ◌++◌, length, codes, Bool, true, false, not, ◌&&◌, ◌||◌, nat_lt, IsTrue, IsFalse, if◌then◌else◌, Option, is_none, is_some, Ok, Err}
 use Rattle.krb_walk.specs.Store.{fault_of}
 use Rattle.krb_keytab.specs.Store.{KeytabState, store_of}
+use Rattle.krb_files.specs.declared.files.Files.{Ghosts}
+use Rattle.krb_files.specs.Bytes.{Watch}
 use Rattle.krb_files.specs.Plan.{Ends}
 use Rattle.krb_audit.specs.declared.finding_words.FindingWords.{FindingWords}
-use Rattle.krb_audit.specs.Report.{is_wrong, report, words_found}
+use Rattle.krb_audit.specs.Report.{has_words, joined, report, without, words_found, words_of, wrong_words}
+use Rattle.krb_driver.specs.declared.error.RunError.TheVariants as error
+use Rattle.krb_driver.specs.declared.file_name.FileName.{FileName}
 use Rattle.krb_driver.specs.declared.verdict.Findings.{Findings}
 use Rattle.krb_driver.specs.declared.verdict.Verdict.{Verdict}
 use Rattle.krb_driver.specs.declared.verdict.Verdict.TheVariants.{Well, Found}
+use Rattle.krb_driver.specs.Commands.{EndsCommand, any}
 use Rattle.krb_driver.specs.Effects.{CommandPlan, Displays, Page, opens, text}
+use Rattle.krb_driver.specs.ErrorOutput.{ErrorWatch}
 use Rattle.krb_driver.specs.Opening.{keytab_in}
+use Rattle.krb_driver.specs.RunErrors.{Ending, ending_status}
+use Rattle.krb_readers.specs.declared.ktcheck.words.CheckOptions.{CheckOptions}
 
--- some word was printed
-abbrev pub has_words : FindingWords → Bool
-has_words t = t.weak || (t.hidden || (t.same || (t.clash || (t.old || t.mode))))
+-- ---- a file
 
--- the verdict of a run that printed findings: `Well` if no word and no fault was printed
-abbrev pub found_verdict : Findings → Verdict
-found_verdict findings = if has_words findings.words || is_some findings.fault then Found findings else Well
+-- nothing is found about a keytab in a plain file with this mode
+abbrev pub is_well : Option ℕ → KeytabState → Bool
+is_well mode k = not (has_words (words_found mode k) || is_some (fault_of (store_of k)))
 
--- what is found about a keytab in a plain file with this mode
-abbrev pub findings : Option ℕ → KeytabState → Page
-findings mode k = text (report mode k) (found_verdict (record { words = words_found mode k; fault = fault_of (store_of k); is_wrong = is_wrong mode k }))
+-- what is printed of it, each line after a label: with `-q` nothing if nothing is found
+abbrev pub printed : CheckOptions → List ℕ → Option ℕ → KeytabState → List ℕ
+printed o label mode k = if o.quiet && is_well mode k then [] else report label mode k
 
--- the file is opened, and what is found about its keytab is printed
-abbrev pub ktcheck_plan : Order → List ℕ → Option ℕ → CommandPlan
-ktcheck_plan order file mode = opens file (keytab_in order) (λ k. Ends (Displays file (findings mode k)))
+-- what is found: the words to explain are those that were not explained before, and what is allowed is not wrong
+abbrev pub findings_of : CheckOptions → FindingWords → Option ℕ → KeytabState → Findings
+findings_of o explained mode k = record {
+  words = without (words_found mode k) explained;
+  fault = fault_of (store_of k);
+  is_wrong = has_words (without (wrong_words mode k) o.allowed) || is_some (fault_of (store_of k));
+}
+
+-- the verdict: `Well` if nothing is found
+abbrev pub found_verdict : CheckOptions → FindingWords → Option ℕ → KeytabState → Verdict
+found_verdict o explained mode k = if is_well mode k then Well else Found (findings_of o explained mode k)
+
+-- what a file shows
+abbrev pub page_of : CheckOptions → List ℕ → FindingWords → Option ℕ → KeytabState → Page
+page_of o label explained mode k = text (printed o label mode k) (found_verdict o explained mode k)
+
+-- the label of a file's lines: its name, if there are several files
+abbrev pub label_of : Bool → List ℕ → List ℕ
+label_of is_named name = if is_named then name ++ codes ": " else []
+
+-- a file is opened, and what is found about its keytab is printed
+abbrev pub plan_of : CheckOptions → Bool → FindingWords → FileName → Option ℕ → CommandPlan
+plan_of o is_named explained file mode =
+    opens file (keytab_in o.v1_order) (λ k. Ends (Displays file.name.now (page_of o (label_of is_named file.name.now) explained mode k)))
+
+-- ---- several files
+
+-- a run between two files: the files, the outputs, the findings that were explained, and the greatest status so far
+pub record Round (F : Type 0) : Type 0 where
+  pub files : F
+  pub out : Watch
+  pub err : ErrorWatch
+  pub explained : FindingWords
+  pub status : ℕ
+
+-- the findings that the end of a file's check explains
+abbrev pub explained_by : Ending → FindingWords
+explained_by (Ok (Found findings)) = findings.words
+explained_by ending = words_of []
+
+-- memory ran out
+abbrev pub is_spent : Ending → Bool
+is_spent (Err error.NoMemory) = true
+is_spent ending = false
+
+module _ {F : Type 0} (trait : Ghosts F) (o : CheckOptions) (is_named : Bool) where
+  -- a file was checked, and this is how that ended
+  pub record ChecksFile (file : FileName) (old new : Round F) (ending : Ending) : Type 0 where
+    pub runs : EndsCommand trait (plan_of o is_named old.explained file) any old.files new.files old.out new.out old.err new.err ending
+    pub explained : new.explained ≡ joined old.explained (explained_by ending)
+    pub worst : new.status ≡ max old.status (ending_status ending)
+
+  -- no file comes after one if memory ran out, or the output failed
+  abbrev pub is_last : Ending → Round F → Bool
+  is_last ending round = is_spent ending || round.out.failed
+
+  -- files were checked one after the other, up to the last
+  abbrev pub ChecksOver : List FileName → Round F → Round F → Type 0
+  ChecksOver [] old new = new ≡ old
+  ChecksOver (file ∷ files) old new =
+      (between : Round F) × (ending : Ending) × ChecksFile file old between ending
+      × ((IsTrue (is_last ending between) × (new ≡ between)) ⊎ (IsFalse (is_last ending between) × ChecksOver files between new))
+
+-- a run before its first file
+abbrev pub first_round : {F : Type 0} → F → Watch → ErrorWatch → Round F
+first_round files out err = record { files = files; out = out; err = err; explained = words_of []; status = 0 }
+
+-- a run over files: it ends with the greatest status
+pub record ChecksAll {F : Type 0} (trait : Ghosts F) (o : CheckOptions) (names : List FileName) (old new : F) (out out' : Watch) (err err' : ErrorWatch) (status : ℕ) : Type 0 where
+  pub explained : FindingWords
+  pub over : ChecksOver trait o (nat_lt 1 (length names)) names (first_round old out err) (record { files = new; out = out'; err = err'; explained = explained; status = status })

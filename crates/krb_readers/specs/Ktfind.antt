@@ -12,6 +12,7 @@ use Rattle.krb_text.specs.Numbers.{number_in}
 use Rattle.krb_readers.specs.declared.ktfind.FindOptions.{FindOptions}
 use Rattle.krb_driver.specs.declared.error.RunError.TheVariants.{Refused}
 use Rattle.krb_driver.specs.declared.verdict.Verdict.TheVariants.{Well}
+use Rattle.krb_driver.specs.declared.file_name.FileName.{FileName}
 use Rattle.krb_driver.specs.Effects.{CommandPlan, Effect, Fails, Displays, opens, text}
 use Rattle.krb_driver.specs.Matches.{Matched, bad_name, v1_order}
 use Rattle.krb_driver.specs.Mistakes.{MistakeParts, NoEtype, NoVersion}
@@ -27,8 +28,8 @@ abbrev pub finds : {A : Type 0} → FindOptions A → List ℕ → KeytabState �
 finds o file k = found file (find_result k (principal_parts o.name) o.kvno o.enctype)
 
 -- the file is opened, and an entry is looked up in its keytab
-abbrev pub ktfind_plan : {A : Type 0} → FindOptions A → List ℕ → CommandPlan
-ktfind_plan o file = opens file (keytab_in o.v1_order) (λ k. Ends (finds o file k))
+abbrev pub ktfind_plan : {A : Type 0} → FindOptions A → FileName → CommandPlan
+ktfind_plan o file = opens file (keytab_in o.v1_order) (λ k. Ends (finds o file.name.now k))
 
 -- ---- what the words ask for
 

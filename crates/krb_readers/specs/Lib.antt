@@ -2,6 +2,7 @@
 pub mod Klist
 pub mod TicketCheck
 pub mod Ktfind
+pub mod CheckWords
 pub mod Ktcheck
 -- For private contracts only.
 pub mod SeenTickets

@@ -1,5 +1,5 @@
 -- What `klist -s` does: whether a cache has a ticket to go on with.
-use Rattle.std.specs.Prelude.{◌≡◌, ℕ, ◌+◌, List, [], ◌∷◌, codes, slice_get, Bool, not, ◌&&◌, nat_lt, if◌then◌else◌, unwrap_or, Option, None, Some, option_and_then, Result, Ok, Err}
+use Rattle.std.specs.Prelude.{◌≡◌, ◌⊎◌, ℕ, ◌+◌, List, [], ◌∷◌, codes, slice_get, Bool, true, false, not, ◌&&◌, nat_lt, if◌then◌else◌, unwrap_or, Option, None, Some, option_and_then, Result, Ok, Err}
 use Rattle.std.specs.List.{list_any}
 use Rattle.std.specs.Option.{option_or}
 use Rattle.krb_wire.specs.SameName.{have_same_name}
@@ -12,6 +12,7 @@ use Rattle.krb_files.specs.declared.files.LoadFault.TheVariants as load
 use Rattle.krb_files.specs.Loading.{Answer, LoadsFile, most_bytes}
 use Rattle.krb_text.specs.Numbers.{number_in}
 use Rattle.krb_readers.specs.declared.klist.ticket_check.TicketCheck.{TicketCheck}
+use Rattle.krb_driver.specs.declared.file_name.FileName.{FileName}
 use Rattle.krb_driver.specs.Matches.{Matched, bad_seconds}
 use Rattle.krb_driver.specs.Mistakes.{MistakeParts, DoNotGoTogether}
 use Rattle.krb_readers.specs.Klist.{odd_seconds, odd_with_cache}
@@ -53,17 +54,21 @@ check_status time (Err load.NoMemory) = 4
 check_status time (Err load.Failed) = 3
 check_status time (Err fault) = 1
 
-module _ {F : Type 0} (trait : Ghosts F) (file : List ℕ) (old new : F) (status : ℕ) where
+module _ {F : Type 0} (trait : Ghosts F) (file : FileName) (old new : F) (status : ℕ) where
   -- the file was loaded, and the status is that for the result of the load
   pub record LoadsAndChecks (time : ℕ) : Type 0 where
     pub answer : Answer
-    pub loads : LoadsFile trait old file answer new
+    pub loads : LoadsFile trait old file.name.now answer new
     pub status_is : status ≡ check_status time answer
+
+  -- a file of another type is not loaded
+  abbrev pub ChecksNothing : Type 0
+  ChecksNothing = (file.is_other_type ≡ true) × (new ≡ old) × (status ≡ 1)
 
   -- a run with the seconds of the clock; if it was not read, nothing is loaded
   abbrev pub RunsTicketCheck : TicketCheck → Option ℕ → Type 0
   RunsTicketCheck check None = (new ≡ old) × (status ≡ 3)
-  RunsTicketCheck check (Some now) = LoadsAndChecks (now + check.seconds)
+  RunsTicketCheck check (Some now) = ChecksNothing ⊎ ((file.is_other_type ≡ false) × LoadsAndChecks (now + check.seconds))
 
 -- ---- what the words ask for
 

@@ -15,7 +15,8 @@ use crate::klist::words::{KlistOptions, ListKind};
 use krb_cache_text::{CcColumns, list_cache};
 use krb_ccache::Ccache;
 use krb_driver::{
-    Command, FileError, Made, RunError, Show, Streams, Verdict, open_cache, open_listed, run,
+    Command, FileError, FileName, Made, RunError, Show, Streams, Verdict, open_cache, open_listed,
+    run,
 };
 use krb_files::{Files, OutFault, Watched};
 use krb_json::{cache_json, keytab_json};
@@ -29,7 +30,7 @@ use std::io::{Read, Write};
 #[derive(Clone, Copy)]
 struct ListFile<'f> {
     options: &'f KlistOptions,
-    file: &'f str,
+    file: FileName<'f>,
 }
 
 /// A keytab that was opened, and what to show of it.
@@ -126,8 +127,8 @@ fn shown<'a, A: Allocator>(
     command: &ListFile<'a>,
     listing: Listing<A>,
 ) -> Result<Made<A, Listing<A>>, FileError<'a>>
-    ensures { IsMade (Displays command.now.file.now (listing_page listing command.now.file.now))
-        (made_effect listing_page command.now.file.now result) }
+    ensures { IsMade (Displays command.now.file.name.now (listing_page listing command.now.file.name.now))
+        (made_effect listing_page command.now.file.name.now result) }
 {
     Ok(Made::Shows(listing))
 }
@@ -137,12 +138,12 @@ impl<'f, A: Allocator + Copy> Command<A> for ListFile<'f> {
 
     type Shown = Listing<A>;
 
-    ghost file = { λ c. c.file.now };
+    ghost file = { λ c. c.file.name.now };
 
-    ghost plan = { λ c mode. klist_plan c.options.now c.file.now };
+    ghost plan = { λ c mode. klist_plan c.options.now c.file };
 
     fn file(&self) -> &str {
-        self.file
+        self.file.name
     }
 
     fn make<F: Files>(
@@ -178,12 +179,12 @@ impl<'f, A: Allocator + Copy> Command<A> for ListFile<'f> {
 pub fn run_klist<A: Allocator + Copy, F: Files, R: Read, W: Write, E: Write>(
     alloc: A,
     options: &KlistOptions,
-    file: &str,
+    file: FileName<'_>,
     files: &mut F,
     streams: &mut Streams<R, W, E>,
 ) -> u8
     requires { IsFalse streams.old.out.failed }
-    ensures runs { RunsCommand F.Files (always (klist_plan options.now file.now)) any files.old files.new
+    ensures runs { RunsCommand F.Files (always (klist_plan options.now file.entry)) any files.old files.new
         streams.old.out streams.new.out streams.old.err streams.new.err result }
     ensures input { streams.new.input ≡ streams.old.input }
 {

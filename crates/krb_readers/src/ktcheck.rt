@@ -1,89 +1,127 @@
-//! ktcheck: reports what an administrator should know about a keytab.
+//! ktcheck: reports what an administrator should know about keytabs.
 
-ghost use Rattle.std.specs.Prelude.{◌≡◌, IsFalse};
-ghost use Rattle.krb_driver.specs.Commands.{RunsCommand, any, text_effect};
+pub(crate) mod words;
+
+ghost use Rattle.std.specs.Prelude.{◌≡◌, ◌||◌, ℕ, Option, List, max, is_some, IfOk, IsFalse};
+ghost use Rattle.krb_walk.specs.Store.{fault_of};
+ghost use Rattle.krb_keytab.specs.Store.{KeytabState, store_of};
+ghost use Rattle.krb_audit.specs.Report.{joined, report, words_found, wrong_words};
+ghost use Rattle.krb_driver.specs.Commands.{output_page, text_effect};
 ghost use Rattle.krb_driver.specs.Effects.{Displays, IsMade};
-ghost use Rattle.krb_readers.specs.Ktcheck.{findings, found_verdict, ktcheck_plan};
+ghost use Rattle.krb_driver.specs.RunErrors.{ending_status};
+ghost use Rattle.krb_readers.specs.Ktcheck.{ChecksAll, explained_by, found_verdict, is_spent, is_well, label_of, page_of};
 
-use krb_audit::check_up;
+use crate::ktcheck::words::CheckOptions;
+use krb_audit::{CheckUp, FindingWords, check_up};
 use krb_driver::{
-    Command, CommandName, CommandWords, FileError, Findings, Made, Output, Streams, V1_BIG,
-    Verdict, Word, open_keytab, run,
+    Command, FileError, FileName, Findings, Made, Output, RunError, Streams, Verdict, open_keytab,
+    run_to_end,
 };
 use krb_files::Files;
 use krb_keytab::Keytab;
-use krb_wire::Order;
+use krb_walk::Fault;
+use krb_wire::NoMemory;
 use std::alloc::Allocator;
 use std::io::{Read, Write};
 
-/// The words of ktcheck.
-pub const KTCHECK: CommandWords = CommandWords {
-    command: CommandName::Ktcheck,
-    name: "ktcheck",
-    about: "Tells what is wrong with a keytab",
-    usage: "krbfile ktcheck [--v1-big] FILE",
-    after_help: None,
-    words: &[V1_BIG, Word::Operand("FILE", "The file to check")],
-};
-
-/// The command ktcheck.
+/// The command ktcheck, for one file.
 #[derive(Clone, Copy)]
-struct CheckKeytab<'f> {
-    v1_order: Order,
-    file: &'f str,
+struct CheckFile<'f> {
+    options: &'f CheckOptions,
+    file: FileName<'f>,
+    /// Whether each line begins with the file's name.
+    is_named: bool,
+    /// The findings that were explained before.
+    explained: FindingWords,
 }
 
-// Returns the verdict of a run that printed findings: `Well` if no word and no fault was printed.
-fn found_verdict(findings: Findings) -> Verdict
-    ensures { result ≡ found_verdict findings }
+// Returns whether nothing was found.
+fn is_well(words: FindingWords, fault: Option<Fault>) -> bool
+    ensures { (mode : Option ℕ) (k : KeytabState) → words ≡ words_found mode k → fault ≡ fault_of (store_of k)
+        → result ≡ is_well mode k }
 {
-    let words_found = findings.words;
-    let is_printed = words_found.weak
-        || words_found.hidden
-        || words_found.same
-        || words_found.clash
-        || words_found.old
-        || words_found.mode;
-    if is_printed || findings.fault.is_some() {
-        Verdict::Found(findings)
-    } else {
-        Verdict::Well
+    !(words.has_some() || fault.is_some())
+}
+
+// Returns what is found, and whether something is wrong.
+fn verdict_of<A: Allocator>(
+    options: &CheckOptions,
+    explained: FindingWords,
+    found: &CheckUp<A>,
+    fault: Option<Fault>,
+) -> Verdict
+    ensures { (mode : Option ℕ) (k : KeytabState) → found.now.words_found ≡ words_found mode k
+        → found.now.wrong_words ≡ wrong_words mode k → fault ≡ fault_of (store_of k)
+        → result ≡ found_verdict options.now explained mode k }
+{
+    if is_well(found.words_found, fault) {
+        return Verdict::Well;
     }
+    let wrong = found.wrong_words.without(options.allowed);
+    Verdict::Found(Findings {
+        words: found.words_found.without(explained),
+        fault,
+        is_wrong: wrong.has_some() || fault.is_some(),
+    })
+}
+
+// Returns what a file's check prints.
+fn output_of<'a, A: Allocator>(
+    command: &CheckFile<'a>,
+    found: CheckUp<A>,
+    fault: Option<Fault>,
+) -> Output<A>
+    ensures { (mode : Option ℕ) (k : KeytabState) (label : List ℕ) → found.words_found ≡ words_found mode k
+        → found.wrong_words ≡ wrong_words mode k → found.text.items ≡ report label mode k → fault ≡ fault_of (store_of k)
+        → output_page result ≡ page_of command.now.options.now label command.now.explained mode k }
+{
+    let verdict = verdict_of(command.options, command.explained, &found, fault);
+    let mut text = found.text;
+    if command.options.quiet && is_well(found.words_found, fault) {
+        text.clear();
+    }
+    Output { text, verdict }
+}
+
+// Returns what the lines of a file begin with.
+fn label_of<A: Allocator>(alloc: A, command: &CheckFile<'_>) -> Result<Vec<u8, A>, NoMemory>
+    ensures { IfOk result (λ label. label.items ≡ label_of command.now.is_named command.now.file.name.now) }
+{
+    let mut label = Vec::new(alloc);
+    if command.is_named {
+        label.extend_from_slice(command.file.name.as_bytes())?;
+        label.extend_from_slice(b": ")?;
+    }
+    Ok(label)
 }
 
 // Checks the keytab that was loaded.
 fn check<'a, A: Allocator + Copy, F: Files>(
     alloc: A,
-    command: &CheckKeytab<'a>,
+    command: &CheckFile<'a>,
     files: &F,
     keytab: &Keytab<A>,
 ) -> Result<Made<A, Output<A>>, FileError<'a>>
-    ensures { IsMade (Displays command.now.file.now (findings (F.Files.mode files.now) keytab.now.state))
-        (text_effect command.now.file.now result) }
+    ensures { IsMade (Displays command.now.file.name.now (page_of command.now.options.now
+        (label_of command.now.is_named command.now.file.name.now) command.now.explained (F.Files.mode files.now) keytab.now.state))
+        (text_effect command.now.file.name.now result) }
 {
-    let found = check_up(alloc, files.mode(), keytab)?;
-    let verdict = found_verdict(Findings {
-        words: found.words_found,
-        fault: keytab.fault(),
-        is_wrong: found.is_wrong,
-    });
-    Ok(Made::Shows(Output {
-        text: found.text,
-        verdict,
-    }))
+    let label = label_of(alloc, command)?;
+    let found = check_up(alloc, &label, files.mode(), keytab)?;
+    Ok(Made::Shows(output_of(command, found, keytab.fault())))
 }
 
-impl<'f, A: Allocator + Copy> Command<A> for CheckKeytab<'f> {
-    ghost use Rattle.krb_readers.specs.Ktcheck.{ktcheck_plan};
+impl<'f, A: Allocator + Copy> Command<A> for CheckFile<'f> {
+    ghost use Rattle.krb_readers.specs.Ktcheck.{plan_of};
 
     type Shown = Output<A>;
 
-    ghost file = { λ c. c.file.now };
+    ghost file = { λ c. c.file.name.now };
 
-    ghost plan = { λ c. ktcheck_plan c.v1_order c.file.now };
+    ghost plan = { λ c. plan_of c.options.now c.is_named c.explained c.file };
 
     fn file(&self) -> &str {
-        self.file
+        self.file.name
     }
 
     fn make<F: Files>(
@@ -91,23 +129,89 @@ impl<'f, A: Allocator + Copy> Command<A> for CheckKeytab<'f> {
         alloc: A,
         files: &mut F,
     ) -> Result<Made<A, Self::Shown>, FileError<'_>> {
-        let keytab = open_keytab(alloc, self.v1_order, files, self.file)?;
+        let keytab = open_keytab(alloc, self.options.v1_order, files, self.file)?;
         check(alloc, self, files, &keytab)
     }
 }
 
-/// Prints what an administrator should know about the keytab `file`, and returns the exit status.
+// What a run knows between two files.
+#[derive(Clone, Copy)]
+struct SoFar {
+    explained: FindingWords,
+    status: u8,
+}
+
+// Returns the findings that the end of a file's check explains.
+fn explained_by(ending: Result<Verdict, RunError>) -> FindingWords
+    ensures { result ≡ explained_by ending }
+{
+    match ending {
+        Ok(Verdict::Found(findings)) => findings.words,
+        _ => FindingWords::none(),
+    }
+}
+
+fn status_of(ending: Result<Verdict, RunError>) -> u8
+    ensures { result ≡ ending_status ending }
+{
+    match ending {
+        Ok(verdict) => verdict.status(),
+        Err(error) => error.status(),
+    }
+}
+
+// Returns whether no file comes after one that ended so: memory ran out, or the output failed.
+fn is_last(ending: Result<Verdict, RunError>, has_out_failed: bool) -> bool
+    ensures { result ≡ (is_spent ending || has_out_failed) }
+{
+    matches!(ending, Err(RunError::NoMemory)) || has_out_failed
+}
+
+impl SoFar {
+    // Returns what is known after a file.
+    fn after(self, ending: Result<Verdict, RunError>) -> SoFar
+        ensures explained { result.explained ≡ joined self.explained (explained_by ending) }
+        ensures status { result.status ≡ max self.status (ending_status ending) }
+    {
+        SoFar {
+            explained: self.explained.and(explained_by(ending)),
+            status: self.status.max(status_of(ending)),
+        }
+    }
+}
+
+/// Prints what an administrator should know about keytabs, a file after the other, and returns the greatest status. With
+/// several files each line begins with the name of its file. Words explain each finding once, at the first file that has
+/// it. Ends early if memory runs out or the output fails.
 pub fn run_ktcheck<A: Allocator + Copy, F: Files, R: Read, W: Write, E: Write>(
     alloc: A,
-    v1_order: Order,
-    file: &str,
+    options: &CheckOptions,
+    names: &[FileName<'_>],
     files: &mut F,
     streams: &mut Streams<R, W, E>,
 ) -> u8
     requires { IsFalse streams.old.out.failed }
-    ensures runs { RunsCommand F.Files (ktcheck_plan v1_order file.now) any files.old files.new
+    ensures checks { ChecksAll F.Files options.now names.now files.old files.new
         streams.old.out streams.new.out streams.old.err streams.new.err result }
     ensures input { streams.new.input ≡ streams.old.input }
 {
-    run(alloc, &CheckKeytab { v1_order, file }, files, streams)
+    let is_named = names.len() > 1;
+    let mut so_far = SoFar {
+        explained: FindingWords::none(),
+        status: 0,
+    };
+    'names: for file in names {
+        let command = CheckFile {
+            options,
+            file: *file,
+            is_named,
+            explained: so_far.explained,
+        };
+        let ending = run_to_end(alloc, &command, files, streams);
+        so_far = so_far.after(ending);
+        if is_last(ending, streams.out.has_failed()) {
+            return so_far.status;
+        }
+    }
+    so_far.status
 }

@@ -7,8 +7,8 @@ ghost use Rattle.krb_readers.specs.Ktfind.{SpellsEntry, find_mistake, finds, ktf
 ghost use Rattle.krb_driver.specs.Mistakes.{Reads};
 
 use krb_driver::{
-    Command, CommandName, CommandWords, FileError, Made, Matches, Mistake, Output, RunError,
-    Streams, V1_BIG, Verdict, Word, WordFault, open_keytab, run, spelled_name, v1_order,
+    Command, CommandName, CommandWords, FileError, FileName, Made, Matches, Mistake, Output,
+    RunError, Streams, V1_BIG, Verdict, Word, WordFault, open_keytab, run, spelled_name, v1_order,
 };
 use krb_files::Files;
 use krb_keytab::Keytab;
@@ -72,7 +72,7 @@ pub fn find_options<'a, M: Matches<'a>>(
 #[derive(Clone, Copy)]
 struct FindEntry<'f, B: Allocator> {
     options: &'f FindOptions<B>,
-    file: &'f str,
+    file: FileName<'f>,
 }
 
 // Looks up the entry and returns its line.
@@ -81,8 +81,8 @@ fn find<'a, A: Allocator, B: Allocator>(
     command: &FindEntry<'a, B>,
     keytab: &Keytab<A>,
 ) -> Result<Made<A, Output<A>>, FileError<'a>>
-    ensures { IsMade (finds command.now.options.now command.now.file.now keytab.now.state)
-        (text_effect command.now.file.now result) }
+    ensures { IsMade (finds command.now.options.now command.now.file.name.now keytab.now.state)
+        (text_effect command.now.file.name.now result) }
 {
     let options = command.options;
     match keytab.find(&options.name, options.kvno, options.enctype) {
@@ -91,7 +91,7 @@ fn find<'a, A: Allocator, B: Allocator>(
             verdict: Verdict::Well,
         })),
         Err(code) => Err(FileError {
-            file: command.file,
+            file: command.file.name,
             error: RunError::Refused(code),
         }),
     }
@@ -102,12 +102,12 @@ impl<'f, A: Allocator + Copy, B: Allocator> Command<A> for FindEntry<'f, B> {
 
     type Shown = Output<A>;
 
-    ghost file = { λ c. c.file.now };
+    ghost file = { λ c. c.file.name.now };
 
-    ghost plan = { λ c mode. ktfind_plan c.options.now c.file.now };
+    ghost plan = { λ c mode. ktfind_plan c.options.now c.file };
 
     fn file(&self) -> &str {
-        self.file
+        self.file.name
     }
 
     fn make<F: Files>(
@@ -125,12 +125,12 @@ impl<'f, A: Allocator + Copy, B: Allocator> Command<A> for FindEntry<'f, B> {
 pub fn run_ktfind<A: Allocator + Copy, B: Allocator, F: Files, R: Read, W: Write, E: Write>(
     alloc: A,
     options: &FindOptions<B>,
-    file: &str,
+    file: FileName<'_>,
     files: &mut F,
     streams: &mut Streams<R, W, E>,
 ) -> u8
     requires { IsFalse streams.old.out.failed }
-    ensures runs { RunsCommand F.Files (always (ktfind_plan options.now file.now)) any files.old files.new
+    ensures runs { RunsCommand F.Files (always (ktfind_plan options.now file.entry)) any files.old files.new
         streams.old.out streams.new.out streams.old.err streams.new.err result }
     ensures input { streams.new.input ≡ streams.old.input }
 {

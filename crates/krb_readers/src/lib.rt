@@ -8,5 +8,6 @@ mod ktfind;
 pub use klist::run_klist;
 pub use klist::ticket_check::{TicketCheck, run_ticket_check, ticket_check};
 pub use klist::words::{KLIST, KlistOptions, ListKind, klist_options};
-pub use ktcheck::{KTCHECK, run_ktcheck};
+pub use ktcheck::run_ktcheck;
+pub use ktcheck::words::{CheckOptions, KTCHECK, check_options};
 pub use ktfind::{FindOptions, KTFIND, find_options, run_ktfind};

@@ -9,7 +9,7 @@ ghost use Rattle.krb_driver.specs.Mistakes.{Reads, mistake_parts};
 use crate::klist::seen_tickets::has_ticket;
 use crate::klist::words::{odd_seconds, odd_with_cache};
 use krb_ccache::Ccache;
-use krb_driver::{Matches, Mistake, WordFault, first_value, spelled_seconds};
+use krb_driver::{FileName, Matches, Mistake, WordFault, first_value, spelled_seconds};
 use krb_files::{Files, LoadFault};
 use krb_wire::{Limits, USUAL_LIMIT};
 use std::alloc::Allocator;
@@ -78,22 +78,25 @@ fn image_status<A: Allocator>(image: Vec<u8, A>, time: u64) -> u8
     }
 }
 
-/// Checks that the cache `file` has a ticket that is valid for some seconds more, and returns the exit status. `now` is
-/// in seconds, or `None` if the clock was not read. Takes no memory but for the image.
+/// Checks that the cache `file` has a ticket that is valid for some seconds more, and returns the exit status: 1 for a
+/// name of another type. `now` is in seconds, or `None` if the clock was not read. Takes no memory but for the image.
 pub fn run_ticket_check<A: Allocator, F: Files>(
     alloc: A,
     check: TicketCheck,
     now: Option<u32>,
-    file: &str,
+    file: FileName<'_>,
     files: &mut F,
 ) -> u8
-    ensures { RunsTicketCheck F.Files file.now files.old files.new result check now }
+    ensures { RunsTicketCheck F.Files file.entry files.old files.new result check now }
 {
     let Some(now) = now else {
         return 3;
     };
+    if file.is_other_type {
+        return 1;
+    }
     let time = u64::from(now) + u64::from(check.seconds);
-    match files.load(alloc, file, USUAL_LIMIT) {
+    match files.load(alloc, file.name, USUAL_LIMIT) {
         Ok(image) => image_status(image, time),
         Err(LoadFault::NoMemory) => 4,
         Err(LoadFault::Failed) => 3,

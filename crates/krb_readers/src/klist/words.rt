@@ -17,14 +17,16 @@ pub const KLIST: CommandWords = CommandWords {
     name: "klist",
     about: "Lists a keytab or a credential cache",
     usage: "\
-krbfile klist [-c] [-e] [-f] [-C] [--json] FILE
-       krbfile klist -k [-t] [-K] [-e] [--v1-big] [--json] FILE
-       krbfile klist -s [--for SECONDS] [-c] FILE",
+krbfile klist [-c] [-e] [-f] [-C] [--json] [FILE]
+       krbfile klist -k [-t] [-K] [-e] [--v1-big] [--json] [FILE]
+       krbfile klist -s [--for SECONDS] [-c] [FILE]",
     after_help: Some(
         "\
+Without FILE it lists the cache that KRB5CCNAME names, else /tmp/krb5cc_UID; with -k
+the keytab that KRB5_KTNAME names, else /etc/krb5.keytab.
 Examples:
-  krbfile klist -k -e /etc/krb5.keytab      The entries of a keytab, with encryption types
-  krbfile klist -s FILE || kinit            Log in unless there is a ticket to go on with",
+  krbfile klist -k -e             The entries of the default keytab, with encryption types
+  krbfile klist -s || kinit       Log in unless there is a ticket to go on with",
     ),
     words: &[
         Word::Flag("cache", 'c', "List a credential cache (the default)"),
@@ -46,7 +48,7 @@ Examples:
             "SECONDS",
             "With -s: the ticket is valid for so many seconds more",
         ),
-        Word::Operand("FILE", "The file to list"),
+        Word::OptionalOperand("FILE", "The file to list"),
     ],
 };
 

@@ -31,6 +31,6 @@ pub fn tickets<A: Allocator + Copy>(alloc: A, out: &mut Vec<u8, A>) -> Option<()
 
 /// Writes the findings in a keytab that others may read.
 pub fn findings<A: Allocator + Copy>(alloc: A, out: &mut Vec<u8, A>) -> Option<()> {
-    let found = check_up(alloc, Some(0o644), &keytab_of(alloc, BAD_KEYTAB)?).ok()?;
+    let found = check_up(alloc, b"", Some(0o644), &keytab_of(alloc, BAD_KEYTAB)?).ok()?;
     out.extend_from_slice(&found.text).ok()
 }
