@@ -1,5 +1,5 @@
 -- The action of a command line, and what it does.
-use Rattle.std.specs.Prelude.{unwrap_or, ◌≡◌, ℕ, List, [], codes, Bool, true, false, IsTrue, IsFalse, if◌then◌else◌, Option, None, Result, Ok, Err, string_bytes}
+use Rattle.std.specs.Prelude.{unwrap_or, ◌≡◌, ℕ, List, [], ◌∷◌, codes, map, slice_get, Bool, true, false, IsTrue, IsFalse, if◌then◌else◌, Option, None, Some, Result, Ok, Err, string_bytes}
 use Rattle.krb_files.specs.declared.files.Files.{Ghosts}
 use Rattle.krb_files.specs.Bytes.{Watch}
 use Rattle.krb_files.specs.Reader.{Source}
@@ -8,16 +8,27 @@ use Rattle.krb_audit.specs.declared.selection.SelectedKvno.TheVariants.{OldFor}
 use Rattle.krb_commands.specs.declared.action.Action.{Action}
 use Rattle.krb_commands.specs.declared.action.Action.TheVariants.{CheckTicket, Ccedit, Ccremove, Klist, Ktcheck, Ktcopy, Ktedit, Ktfind, Ktremove, Ktutil, Help}
 use Rattle.krb_driver.specs.declared.command_line.mistake.WordFault.{WordFault}
+use Rattle.krb_driver.specs.declared.command_line.mistake.WordFault.TheVariants as word
 use Rattle.krb_driver.specs.declared.command_line.words.CommandName.{CommandName}
 use Rattle.krb_driver.specs.declared.command_line.words.CommandName.TheVariants as name
+use Rattle.krb_driver.specs.declared.file_name.FileName.{FileName}
+use Rattle.krb_driver.specs.declared.file_name.NameSource.{NameSource}
+use Rattle.krb_driver.specs.declared.file_name.NameSource.TheVariants.{Word}
+use Rattle.krb_driver.specs.declared.verdict.FileKind.{FileKind}
+use Rattle.krb_driver.specs.declared.verdict.FileKind.TheVariants.{Keytab, Cache}
 use Rattle.krb_driver.specs.declared.verdict.Verdict.TheVariants.{Well}
+use Rattle.krb_driver.specs.FileNames.{IsNamed, bare_name, is_other_type}
 use Rattle.krb_editors.specs.Ccedit.{ccedit_fairly, ccedit_plan}
 use Rattle.krb_editors.specs.Ccremove.{RunsCcremove, SpellsTickets, ended_by, ticket_mistake}
 use Rattle.krb_driver.specs.Commands.{RunsCommand, always, any}
 use Rattle.krb_driver.specs.ErrorOutput.{ErrorWatch}
-use Rattle.krb_readers.specs.Klist.{klist_plan, list_mistake, list_options}
+use Rattle.krb_readers.specs.Klist.{file_kind, klist_plan, list_mistake, list_options}
 use Rattle.krb_readers.specs.TicketCheck.{RunsTicketCheck, check_mistake, check_of}
-use Rattle.krb_readers.specs.Ktcheck.{ktcheck_plan}
+use Rattle.krb_readers.specs.declared.klist.ticket_check.TicketCheck.{TicketCheck}
+use Rattle.krb_readers.specs.declared.klist.words.KlistOptions.{KlistOptions}
+use Rattle.krb_readers.specs.declared.ktcheck.words.CheckOptions.{CheckOptions}
+use Rattle.krb_readers.specs.CheckWords.{bad_findings, check_options}
+use Rattle.krb_readers.specs.Ktcheck.{ChecksAll}
 use Rattle.krb_editors.specs.Ktedit.{ktedit_fairly, ktedit_plan}
 use Rattle.krb_readers.specs.Ktfind.{SpellsEntry, find_mistake, ktfind_plan}
 use Rattle.krb_editors.specs.Ktcopy.{SpellsCopy, copy_mistake, ktcopy_plan}
@@ -30,22 +41,52 @@ use Rattle.krb_editors.specs.Scripted.{RunsScript}
 use Rattle.krb_text.specs.Script.{event_in}
 use Rattle.krb_cache_text.specs.Script.{cache_line_in}
 
+-- a file is the one that a word names; no file if there is no word
+abbrev pub NamesFile : FileKind → Option (List ℕ) → Option FileName → Type 0
+NamesFile kind (Some word) (Some file) = IsNamed kind word Word file
+NamesFile kind None file = file ≡ None
+NamesFile kind (Some word) None = ⊥
+
+-- the parts of a file name, and those of the one that a word gives
+abbrev pub parts_of : FileName → List ℕ × Bool × NameSource
+parts_of file = (file.name.now, file.is_other_type, file.source)
+
+abbrev pub keytab_parts : List ℕ → List ℕ × Bool × NameSource
+keytab_parts word = (bare_name Keytab word, is_other_type Keytab word, Word)
+
+-- keytabs are those that words name
+abbrev pub AreNamed : List (List ℕ) → List FileName → Type 0
+AreNamed words names = map parts_of names ≡ map keytab_parts words
+
+-- the word of FILE, if it is given
+abbrev pub word_of_file : Matched → Option (List ℕ)
+word_of_file words = slice_get (words.values (codes "FILE")) 0
+
 -- the action is the one that the words of klist ask for: with `-s` a check, otherwise a listing
-abbrev pub AsksKlist : Matched → List ℕ → Action → Type 0
-AsksKlist words name (CheckTicket check file) = IsTrue (words.flag (codes "silent")) × (check ≡ check_of words) × (file.now ≡ name)
-AsksKlist words name (Klist options file) = IsFalse (words.flag (codes "silent")) × (options ≡ list_options words) × (file.now ≡ name)
-AsksKlist words name action = ⊥
+abbrev pub AsksKlist : Matched → Action → Type 0
+AsksKlist words (CheckTicket check file) = IsTrue (words.flag (codes "silent")) × (check ≡ check_of words) × NamesFile Cache (word_of_file words) file
+AsksKlist words (Klist options file) = IsFalse (words.flag (codes "silent")) × (options ≡ list_options words) × NamesFile (file_kind options.kind) (word_of_file words) file
+AsksKlist words action = ⊥
+
+-- the action is the one that the words of ktcheck ask for
+abbrev pub AsksKtcheck : Matched → Action → Type 0
+AsksKtcheck words (Ktcheck options names) = (options ≡ check_options words) × AreNamed (words.values (codes "FILE")) names.items
+AsksKtcheck words action = ⊥
+
+-- a file is the keytab, or the cache, that the word of FILE names
+abbrev pub IsFile : FileKind → Matched → FileName → Type 0
+IsFile kind words file = IsNamed kind (words.operand (codes "FILE")) Word file
 
 -- the action is the one that the words of the command ask for
 abbrev pub Asks : CommandName → Matched → Action → Type 0
-Asks name.Klist words action = AsksKlist words (words.operand (codes "FILE")) action
-Asks name.Ktedit words (Ktedit order file) = (order ≡ v1_order words) × (file.now ≡ words.operand (codes "FILE"))
-Asks name.Ktfind words (Ktfind options file) = SpellsEntry words options × (file.now ≡ words.operand (codes "FILE"))
-Asks name.Ktremove words (Ktremove options file) = SpellsRemoval words options × (file.now ≡ words.operand (codes "FILE"))
-Asks name.Ktcopy words (Ktcopy options from to) = SpellsCopy words options × (from.now ≡ words.operand (codes "FROM")) × (to.now ≡ words.operand (codes "TO"))
-Asks name.Ktcheck words (Ktcheck order file) = (order ≡ v1_order words) × (file.now ≡ words.operand (codes "FILE"))
-Asks name.Ccedit words (Ccedit file) = file.now ≡ words.operand (codes "FILE")
-Asks name.Ccremove words (Ccremove options file) = SpellsTickets words options × (file.now ≡ words.operand (codes "FILE"))
+Asks name.Klist words action = AsksKlist words action
+Asks name.Ktedit words (Ktedit order file) = (order ≡ v1_order words) × IsFile Keytab words file
+Asks name.Ktfind words (Ktfind options file) = SpellsEntry words options × IsFile Keytab words file
+Asks name.Ktremove words (Ktremove options file) = SpellsRemoval words options × IsFile Keytab words file
+Asks name.Ktcopy words (Ktcopy options from to) = SpellsCopy words options × IsNamed Keytab (words.operand (codes "FROM")) Word from × IsNamed Keytab (words.operand (codes "TO")) Word to
+Asks name.Ktcheck words action = AsksKtcheck words action
+Asks name.Ccedit words (Ccedit file) = IsFile Cache words file
+Asks name.Ccremove words (Ccremove options file) = SpellsTickets words options × IsFile Cache words file
 Asks name.Ktutil words (Ktutil order) = order ≡ v1_order words
 Asks command words action = ⊥
 
@@ -59,6 +100,7 @@ line_mistake name.Klist words = klist_mistake words
 line_mistake name.Ktfind words = find_mistake words
 line_mistake name.Ktremove words = remove_mistake words
 line_mistake name.Ktcopy words = copy_mistake words
+line_mistake name.Ktcheck words = bad_findings (words.values (codes "allow"))
 line_mistake name.Ccremove words = ticket_mistake words
 line_mistake command words = None
 
@@ -84,21 +126,16 @@ wants_plain action = false
 abbrev pub help_run : List ℕ → Run
 help_run text = record { out = text; ending = Ok Well }
 
-module _ {F : Type 0} (trait : Ghosts F) (now : Option ℕ) (input input' : Source) (old new : F) (out out' : Watch) (err err' : ErrorWatch) (status : ℕ) where
-  -- what an action does over the files, and over what the standard input gives
-  abbrev pub EndsAction : Action → Type 0
-  EndsAction (Klist options file) = RunsCommand trait (always (klist_plan options file.now)) any old new out out' err err' status
-  EndsAction (CheckTicket check file) = RunsTicketCheck trait file.now old new status check now × (out' ≡ out) × (err' ≡ err) × (input' ≡ input)
-  EndsAction (Ktfind options file) = RunsCommand trait (always (ktfind_plan options file.now)) any old new out out' err err' status
-  EndsAction (Ktedit order file) = RunsScript trait old new out out' err err' status (ktedit_plan order file.now) (ktedit_fairly order) event_in input input'
-  EndsAction (Ktcheck order file) = RunsCommand trait (ktcheck_plan order file.now) any old new out out' err err' status
-  EndsAction (Ktremove options file) = RunsKtremove trait file.now options old new out out' err err' status (needed_time options.selection.kvno now)
-  EndsAction (Ktcopy options from to) = RunsCommand trait (always (ktcopy_plan options from.now to.now)) any old new out out' err err' status
-  EndsAction (Ktutil order) = RunsKtutil trait order (unwrap_or now 0) input input' old new out out' err err' status
-  EndsAction (Ccedit file) = RunsScript trait old new out out' err err' status (ccedit_plan file.now) ccedit_fairly cache_line_in input input'
-  EndsAction (Ccremove options file) = RunsCcremove trait file.now options old new out out' err err' status (ended_by options now)
-  EndsAction (Help text) = (new ≡ old) × EndsRun [] None (help_run (string_bytes text)) out out' err err' status
+-- the name of a file that a command line leaves out, or why there is none
+abbrev pub DefaultName : Type 0
+DefaultName = Result FileName WordFault
 
+-- a file, or else the default
+abbrev pub file_or : Option FileName → DefaultName → DefaultName
+file_or (Some file) default = Ok file
+file_or None default = default
+
+module _ {F : Type 0} (trait : Ghosts F) (now : Option ℕ) (default : DefaultName) (input input' : Source) (old new : F) (out out' : Watch) (err err' : ErrorWatch) (status : ℕ) where
   -- it is reported why the command line was not read, and nothing else is done
   pub record EndsByWords (fault : WordFault) : Type 0 where
     pub files : new ≡ old
@@ -106,6 +143,41 @@ module _ {F : Type 0} (trait : Ghosts F) (now : Option ℕ) (input input' : Sour
     pub writes : Writes err.to err'.to (word_text err.explains fault)
     pub still : err'.explains ≡ err.explains
     pub status_is : status ≡ word_status fault
+
+  -- a file is listed
+  abbrev pub Lists : KlistOptions → DefaultName → Type 0
+  Lists options (Ok file) = RunsCommand trait (always (klist_plan options file)) any old new out out' err err' status
+  Lists options (Err fault) = EndsByWords fault
+
+  -- the tickets of a file are checked, which prints nothing; without memory for its name neither
+  abbrev pub ChecksTickets : TicketCheck → DefaultName → Type 0
+  ChecksTickets check (Ok file) = RunsTicketCheck trait file old new status check now × (out' ≡ out) × (err' ≡ err) × (input' ≡ input)
+  ChecksTickets check (Err word.NoMemory) = (new ≡ old) × (out' ≡ out) × (err' ≡ err) × (input' ≡ input) × (status ≡ 4)
+  ChecksTickets check (Err fault) = EndsByWords fault
+
+  -- the default keytab is checked
+  abbrev pub ChecksDefault : CheckOptions → DefaultName → Type 0
+  ChecksDefault options (Ok file) = ChecksAll trait options (file ∷ []) old new out out' err err' status
+  ChecksDefault options (Err fault) = EndsByWords fault
+
+  -- keytabs are checked: the default one if none is named
+  abbrev pub ChecksKeytabs : CheckOptions → List FileName → Type 0
+  ChecksKeytabs options [] = ChecksDefault options default
+  ChecksKeytabs options (file ∷ files) = ChecksAll trait options (file ∷ files) old new out out' err err' status
+
+  -- what an action does over the files, and over what the standard input gives
+  abbrev pub EndsAction : Action → Type 0
+  EndsAction (Klist options file) = Lists options (file_or file default)
+  EndsAction (CheckTicket check file) = ChecksTickets check (file_or file default)
+  EndsAction (Ktfind options file) = RunsCommand trait (always (ktfind_plan options file)) any old new out out' err err' status
+  EndsAction (Ktedit order file) = RunsScript trait old new out out' err err' status (ktedit_plan order file) (ktedit_fairly order) event_in input input'
+  EndsAction (Ktcheck options names) = ChecksKeytabs options names.items
+  EndsAction (Ktremove options file) = RunsKtremove trait file options old new out out' err err' status (needed_time options.selection.kvno now)
+  EndsAction (Ktcopy options from to) = RunsCommand trait (always (ktcopy_plan options from to)) any old new out out' err err' status
+  EndsAction (Ktutil order) = RunsKtutil trait order (unwrap_or now 0) input input' old new out out' err err' status
+  EndsAction (Ccedit file) = RunsScript trait old new out out' err err' status (ccedit_plan file) ccedit_fairly cache_line_in input input'
+  EndsAction (Ccremove options file) = RunsCcremove trait file options old new out out' err err' status (ended_by options now)
+  EndsAction (Help text) = (new ≡ old) × EndsRun [] None (help_run (string_bytes text)) out out' err err' status
 
   -- the action was run, or it was reported why there is none
   abbrev pub EndsParsed : Result Action WordFault → Type 0

@@ -1,43 +1,48 @@
 //! The commands, and the actions of their command lines.
 
-ghost use Rattle.std.specs.Prelude.{◌≡◌, IfErr, IfOk, None, OnOk};
-ghost use Rattle.krb_commands.specs.Actions.{Asks, AsksKlist, klist_mistake, line_mistake, needs_clock, wants_plain};
+ghost use Rattle.std.specs.Prelude.{◌≡◌, codes, map, slice_get, IfErr, IfOk, None, OnOk};
+ghost use Rattle.krb_commands.specs.Actions.{AreNamed, Asks, AsksKlist, AsksKtcheck, NamesFile, klist_mistake, line_mistake, needs_clock, wants_plain};
+ghost use Rattle.krb_driver.specs.FileNames.{IsNamed};
+ghost use Rattle.krb_driver.specs.declared.file_name.NameSource.TheVariants.{Word};
+ghost use Rattle.krb_readers.specs.CheckWords.{bad_findings};
 ghost use Rattle.krb_driver.specs.Mistakes.{IsRefusal, Reads};
 
 use krb_audit::SelectedKvno;
-use krb_driver::{CommandName, CommandWords, Matches, WordFault, v1_order};
+use krb_driver::{
+    CommandName, CommandWords, FileKind, FileName, Matches, NameSource, WordFault, first_value,
+    v1_order,
+};
 use krb_editors::{
     CCEDIT, CCREMOVE, CopyOptions, KTCOPY, KTEDIT, KTREMOVE, RemoveOptions, TicketOptions,
     copy_options, remove_options, ticket_options,
 };
 use krb_ktutil::KTUTIL;
 use krb_readers::{
-    FindOptions, KLIST, KTCHECK, KTFIND, KlistOptions, TicketCheck, find_options, klist_options,
-    ticket_check,
+    CheckOptions, FindOptions, KLIST, KTCHECK, KTFIND, KlistOptions, ListKind, TicketCheck,
+    check_options, find_options, klist_options, ticket_check,
 };
 use krb_wire::Order;
-use std::alloc::Global;
+use std::alloc::{AllocError, Global};
 
 /// The commands, in the order in which help lists them.
 pub const COMMANDS: &[CommandWords] = &[
     KLIST, KTEDIT, KTFIND, KTREMOVE, KTCOPY, KTCHECK, CCEDIT, CCREMOVE, KTUTIL,
 ];
 
-/// What a command line says to do. Commands over a file carry its name.
+/// What a command line says to do. Commands over a file carry its name, or none if the line leaves it out.
 #[derive(Drop)]
 pub enum Action<'a> {
-    Klist(KlistOptions, &'a str),
-    CheckTicket(TicketCheck, &'a str),
-    Ktfind(FindOptions<Global>, &'a str),
+    Klist(KlistOptions, Option<FileName<'a>>),
+    CheckTicket(TicketCheck, Option<FileName<'a>>),
+    Ktfind(FindOptions<Global>, FileName<'a>),
     /// With the byte order of version 1 keytabs.
-    Ktedit(Order, &'a str),
-    /// With the byte order of version 1 keytabs.
-    Ktcheck(Order, &'a str),
-    Ktremove(RemoveOptions<Global>, &'a str),
+    Ktedit(Order, FileName<'a>),
+    Ktcheck(CheckOptions, Vec<FileName<'a>>),
+    Ktremove(RemoveOptions<Global>, FileName<'a>),
     /// From the first keytab into the second.
-    Ktcopy(CopyOptions<Global>, &'a str, &'a str),
-    Ccedit(&'a str),
-    Ccremove(TicketOptions<Global>, &'a str),
+    Ktcopy(CopyOptions<Global>, FileName<'a>, FileName<'a>),
+    Ccedit(FileName<'a>),
+    Ccremove(TicketOptions<Global>, FileName<'a>),
     /// With the byte order of version 1 keytabs.
     Ktutil(Order),
     /// Prints that help text.
@@ -60,6 +65,16 @@ impl Action<'_> {
         }
     }
 
+    /// Returns the kind of the file that the line leaves out, if it does, and the name of the command.
+    pub fn left_out(&self) -> Option<(FileKind, &'static str)> {
+        match self {
+            Action::Klist(options, None) => Some((options.kind.file_kind(), KLIST.name)),
+            Action::CheckTicket(_, None) => Some((FileKind::Cache, KLIST.name)),
+            Action::Ktcheck(_, names) if names.is_empty() => Some((FileKind::Keytab, KTCHECK.name)),
+            _ => None,
+        }
+    }
+
     /// Returns whether it is for plain files alone, so that any other is to be refused before it is opened.
     pub fn wants_plain(&self) -> bool
         ensures { result ≡ wants_plain self.now }
@@ -68,15 +83,58 @@ impl Action<'_> {
     }
 }
 
+// Returns the file that a word names, if one does.
+fn file_named<'a, M: Matches<'a>>(matches: &M, kind: FileKind) -> Option<FileName<'a>>
+    ensures { NamesFile kind (slice_get ((M.matched matches.now).values (codes "FILE")) 0) result }
+{
+    match first_value(matches, "FILE") {
+        Some(word) => Some(FileName::of(kind, word, NameSource::Word)),
+        None => None,
+    }
+}
+
+// Returns the file that the word of an operand names.
+fn file_of<'a, M: Matches<'a>>(matches: &M, kind: FileKind, operand: &str) -> FileName<'a>
+    ensures { IsNamed kind ((M.matched matches.now).operand operand.now) Word result }
+{
+    FileName::of(kind, matches.operand(operand), NameSource::Word)
+}
+
+// Returns the keytabs that words name.
+fn keytabs_of<'a>(alloc: Global, words: &[&'a str]) -> Result<Vec<FileName<'a>>, AllocError>
+    ensures { IfOk result (λ names. AreNamed (map (λ word. word.now) words.now) names.items) }
+{
+    let mut names = Vec::new(alloc);
+    'words: for word in words {
+        names.push(FileName::of(FileKind::Keytab, *word, NameSource::Word))?;
+    }
+    Ok(names)
+}
+
 // Returns the action for the words of klist: with `-s` a check, otherwise a listing.
-fn parsed_klist<'a, M: Matches<'a>>(matches: &M, file: &'a str) -> Result<Action<'a>, WordFault<'a>>
-    ensures { Reads (klist_mistake (M.matched matches.now)) (AsksKlist (M.matched matches.now) file.now) result }
+fn parsed_klist<'a, M: Matches<'a>>(matches: &M) -> Result<Action<'a>, WordFault<'a>>
+    ensures { Reads (klist_mistake (M.matched matches.now)) (AsksKlist (M.matched matches.now)) result }
 {
     if matches.flag("silent") {
-        Ok(Action::CheckTicket(ticket_check(matches)?, file))
+        let check = ticket_check(matches)?;
+        Ok(Action::CheckTicket(check, file_named(matches, FileKind::Cache)))
     } else {
-        Ok(Action::Klist(klist_options(matches)?, file))
+        let options = klist_options(matches)?;
+        let kind = options.kind.file_kind();
+        Ok(Action::Klist(options, file_named(matches, kind)))
     }
+}
+
+// Returns the action for the words of ktcheck.
+fn parsed_ktcheck<'a, M: Matches<'a>>(
+    alloc: Global,
+    matches: &M,
+) -> Result<Action<'a>, WordFault<'a>>
+    ensures { Reads (bad_findings ((M.matched matches.now).values (codes "allow"))) (AsksKtcheck (M.matched matches.now)) result }
+{
+    let options = check_options(matches)?;
+    let names = keytabs_of(alloc, matches.values("FILE"))?;
+    Ok(Action::Ktcheck(options, names))
 }
 
 // Returns the action for the words of a command.
@@ -87,20 +145,21 @@ fn parsed<'a, M: Matches<'a>>(
 ) -> Result<Action<'a>, WordFault<'a>>
     ensures { Reads (line_mistake command (M.matched matches.now)) (Asks command (M.matched matches.now)) result }
 {
-    let file = matches.operand("FILE");
+    let keytab = file_of(matches, FileKind::Keytab, "FILE");
+    let cache = file_of(matches, FileKind::Cache, "FILE");
     match command {
-        CommandName::Klist => parsed_klist(matches, file),
-        CommandName::Ktedit => Ok(Action::Ktedit(v1_order(matches), file)),
-        CommandName::Ktfind => Ok(Action::Ktfind(find_options(alloc, matches)?, file)),
-        CommandName::Ktremove => Ok(Action::Ktremove(remove_options(alloc, matches)?, file)),
+        CommandName::Klist => parsed_klist(matches),
+        CommandName::Ktedit => Ok(Action::Ktedit(v1_order(matches), keytab)),
+        CommandName::Ktfind => Ok(Action::Ktfind(find_options(alloc, matches)?, keytab)),
+        CommandName::Ktremove => Ok(Action::Ktremove(remove_options(alloc, matches)?, keytab)),
         CommandName::Ktcopy => Ok(Action::Ktcopy(
             copy_options(alloc, matches)?,
-            matches.operand("FROM"),
-            matches.operand("TO"),
+            file_of(matches, FileKind::Keytab, "FROM"),
+            file_of(matches, FileKind::Keytab, "TO"),
         )),
-        CommandName::Ktcheck => Ok(Action::Ktcheck(v1_order(matches), file)),
-        CommandName::Ccedit => Ok(Action::Ccedit(file)),
-        CommandName::Ccremove => Ok(Action::Ccremove(ticket_options(alloc, matches)?, file)),
+        CommandName::Ktcheck => parsed_ktcheck(alloc, matches),
+        CommandName::Ccedit => Ok(Action::Ccedit(cache)),
+        CommandName::Ccremove => Ok(Action::Ccremove(ticket_options(alloc, matches)?, cache)),
         CommandName::Ktutil => Ok(Action::Ktutil(v1_order(matches))),
     }
 }

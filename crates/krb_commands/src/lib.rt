@@ -6,8 +6,8 @@ mod response;
 
 pub use action::{Action, COMMANDS, action_of};
 pub use krb_driver::{
-    BadLine, CommandName, CommandWords, ErrorOutput, Matches, Mistake, NotKeytab, Streams, Word,
-    WordFault,
+    BadLine, CommandName, CommandWords, ErrorOutput, FileKind, FileName, Matches, Mistake,
+    NameSource, NotKeytab, Streams, Word, WordFault,
 };
 pub use krb_editors::{
     CopyOptions, RemoveOptions, TicketOptions, run_ccedit, run_ccremove, run_ktcopy, run_ktedit,
@@ -15,7 +15,7 @@ pub use krb_editors::{
 };
 pub use krb_ktutil::{Ktutil, LineEnd, file_word, run_ktutil};
 pub use krb_readers::{
-    FindOptions, KlistOptions, ListKind, TicketCheck, run_klist, run_ktcheck, run_ktfind,
+    CheckOptions, FindOptions, KlistOptions, ListKind, TicketCheck, run_klist, run_ktcheck, run_ktfind,
     run_ticket_check,
 };
-pub use response::respond;
+pub use response::{DefaultName, respond};

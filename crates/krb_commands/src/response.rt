@@ -1,17 +1,93 @@
 //! Runs the action of a command line.
 
-ghost use Rattle.std.specs.Prelude.{[], None, IsFalse};
-ghost use Rattle.krb_commands.specs.Actions.{EndsParsed, help_run};
+ghost use Rattle.std.specs.Prelude.{◌≡◌, ℕ, Option, [], None, IsFalse, map};
+ghost use Rattle.krb_commands.specs.Actions.{ChecksKeytabs, ChecksTickets, EndsParsed, Lists, file_or, help_run};
 ghost use Rattle.krb_driver.specs.Runs.{EndsRun};
 
 use crate::action::Action;
-use krb_driver::{ErrorOutput, Streams, Verdict, WordFault, report, report_word_fault, show};
+use krb_driver::{
+    ErrorOutput, FileName, Streams, Verdict, WordFault, report, report_word_fault, show,
+};
 use krb_editors::{run_ccedit, run_ccremove, run_ktcopy, run_ktedit, run_ktremove};
 use krb_files::{Files, Watched};
 use krb_ktutil::run_ktutil;
-use krb_readers::{run_klist, run_ktcheck, run_ktfind, run_ticket_check};
+use krb_readers::{
+    CheckOptions, KlistOptions, TicketCheck, run_klist, run_ktcheck, run_ktfind, run_ticket_check,
+};
 use std::alloc::Allocator;
 use std::io::{Read, Write};
+
+/// The name of a file that a command line leaves out, or why there is none.
+pub type DefaultName<'a> = Result<FileName<'a>, WordFault<'a>>;
+
+// Returns a file, or else the default.
+fn file_or<'a>(file: Option<FileName<'a>>, default: DefaultName<'a>) -> DefaultName<'a>
+    ensures { result ≡ file_or file.entry default.entry }
+{
+    match file {
+        Some(file) => Ok(file),
+        None => default,
+    }
+}
+
+// Lists a file.
+fn list<A: Allocator + Copy, F: Files, R: Read, W: Write, E: Write>(
+    alloc: A,
+    options: &KlistOptions,
+    file: DefaultName<'_>,
+    files: &mut F,
+    streams: &mut Streams<R, W, E>,
+) -> u8
+    requires { IsFalse streams.old.out.failed }
+    ensures { Lists F.Files files.old files.new streams.old.out streams.new.out streams.old.err streams.new.err result
+        options.now file.entry }
+{
+    match file {
+        Ok(file) => run_klist(alloc, options, file, files, streams),
+        Err(fault) => report_word_fault(fault, &mut streams.err),
+    }
+}
+
+// Checks the tickets of a file. Prints nothing but a bad command line.
+fn check_tickets<A: Allocator + Copy, F: Files, R: Read, W: Write, E: Write>(
+    alloc: A,
+    check: TicketCheck,
+    now: Option<u32>,
+    file: DefaultName<'_>,
+    files: &mut F,
+    streams: &mut Streams<R, W, E>,
+) -> u8
+    ensures { ChecksTickets F.Files now streams.old.input streams.new.input files.old files.new
+        streams.old.out streams.new.out streams.old.err streams.new.err result check file.entry }
+{
+    match file {
+        Ok(file) => run_ticket_check(alloc, check, now, file, files),
+        Err(WordFault::NoMemory) => 4,
+        Err(fault) => report_word_fault(fault, &mut streams.err),
+    }
+}
+
+// Checks keytabs: the default one if none is named.
+fn check_keytabs<A: Allocator + Copy, F: Files, R: Read, W: Write, E: Write>(
+    alloc: A,
+    options: &CheckOptions,
+    names: &[FileName<'_>],
+    default: DefaultName<'_>,
+    files: &mut F,
+    streams: &mut Streams<R, W, E>,
+) -> u8
+    requires { IsFalse streams.old.out.failed }
+    ensures { ChecksKeytabs F.Files default.entry files.old files.new
+        streams.old.out streams.new.out streams.old.err streams.new.err result options.now names.now }
+{
+    if !names.is_empty() {
+        return run_ktcheck(alloc, options, names, files, streams);
+    }
+    match default {
+        Ok(file) => run_ktcheck(alloc, options, &[file], files, streams),
+        Err(fault) => report_word_fault(fault, &mut streams.err),
+    }
+}
 
 // Prints a help text.
 fn show_help<W: Write, E: Write>(text: &str, out: &mut Watched<W>, err: &mut ErrorOutput<E>) -> u8
@@ -22,40 +98,45 @@ fn show_help<W: Write, E: Write>(text: &str, out: &mut Watched<W>, err: &mut Err
     report(ending, b"", None, out.cause(), err)
 }
 
-/// Runs an action, or reports why the command line was not read, and returns the exit status. ktutil adds entries
-/// with the time `now`, in seconds, or 0 if the clock was not read. A failure of `err` changes nothing else. A check of
-/// tickets prints and reports nothing.
+/// Runs an action, or reports why the command line was not read, and returns the exit status. `default` is the name of
+/// the file if the line leaves it out. ktutil adds entries with the time `now`, in seconds, or 0 if the clock was not
+/// read. A failure of `err` changes nothing else. A check of tickets prints and reports nothing.
 pub fn respond<A: Allocator + Copy, F: Files, R: Read, W: Write, E: Write>(
     alloc: A,
     parsed: &Result<Action<'_>, WordFault<'_>>,
     files: &mut F,
     now: Option<u32>,
+    default: DefaultName<'_>,
     streams: &mut Streams<R, W, E>,
 ) -> u8
     requires { IsFalse streams.old.out.failed }
-    ensures { EndsParsed F.Files now streams.old.input streams.new.input files.old files.new
+    ensures { EndsParsed F.Files now default.entry streams.old.input streams.new.input files.old files.new
         streams.old.out streams.new.out streams.old.err streams.new.err result parsed.now }
 {
     match parsed {
-        Ok(Action::Klist(options, file)) => { run_klist(alloc, options, file, files, streams) }
-        Ok(Action::CheckTicket(check, file)) => run_ticket_check(alloc, *check, now, file, files),
-        Ok(Action::Ktfind(options, file)) => { run_ktfind(alloc, options, file, files, streams) }
-        Ok(Action::Ktedit(v1_order, file)) => { run_ktedit(alloc, *v1_order, file, files, streams) }
-        Ok(Action::Ktcheck(v1_order, file)) => {
-            run_ktcheck(alloc, *v1_order, file, files, streams)
+        Ok(Action::Klist(options, file)) => {
+            list(alloc, options, file_or(*file, default), files, streams)
+        }
+        Ok(Action::CheckTicket(check, file)) => {
+            check_tickets(alloc, *check, now, file_or(*file, default), files, streams)
+        }
+        Ok(Action::Ktfind(options, file)) => run_ktfind(alloc, options, *file, files, streams),
+        Ok(Action::Ktedit(v1_order, file)) => run_ktedit(alloc, *v1_order, *file, files, streams),
+        Ok(Action::Ktcheck(options, names)) => {
+            check_keytabs(alloc, options, names, default, files, streams)
         }
         Ok(Action::Ktremove(options, file)) => {
-            run_ktremove(alloc, options, now, file, files, streams)
+            run_ktremove(alloc, options, now, *file, files, streams)
         }
         Ok(Action::Ktcopy(options, from, to)) => {
-            run_ktcopy(alloc, options, from, to, files, streams)
+            run_ktcopy(alloc, options, *from, *to, files, streams)
         }
         Ok(Action::Ktutil(v1_order)) => {
             run_ktutil(alloc, *v1_order, now.unwrap_or(0), files, streams)
         }
-        Ok(Action::Ccedit(file)) => run_ccedit(alloc, file, files, streams),
+        Ok(Action::Ccedit(file)) => run_ccedit(alloc, *file, files, streams),
         Ok(Action::Ccremove(options, file)) => {
-            run_ccremove(alloc, options, now, file, files, streams)
+            run_ccremove(alloc, options, now, *file, files, streams)
         }
         Ok(Action::Help(text)) => show_help(text.as_str(), &mut streams.out, &mut streams.err),
         Err(fault) => report_word_fault(*fault, &mut streams.err),

@@ -18,6 +18,8 @@ use Rattle.krb_readers.specs.declared.klist.words.ListKind.TheVariants.{Keytab, 
 use Rattle.krb_readers.specs.declared.klist.Listing.{Listing}
 use Rattle.krb_readers.specs.declared.klist.Listing.TheVariants as listing
 use Rattle.krb_driver.specs.declared.file_name.FileName.{FileName}
+use Rattle.krb_driver.specs.declared.verdict.FileKind.{FileKind}
+use Rattle.krb_driver.specs.declared.verdict.FileKind.TheVariants as file
 use Rattle.krb_driver.specs.Effects.{CommandPlan, Displays, Page, opens}
 use Rattle.krb_driver.specs.Loading.{cache_of}
 use Rattle.krb_driver.specs.Matches.{Matched, v1_order}
@@ -93,6 +95,11 @@ list_kind words =
     if words.flag (codes "keytab")
     then Keytab (record { times = words.flag (codes "times"); etypes = words.flag (codes "etypes"); keys = words.flag (codes "keys") })
     else Cache (record { flags = words.flag (codes "flags"); etypes = words.flag (codes "etypes"); configs = words.flag (codes "configs") })
+
+-- the kind of file that is listed
+abbrev pub file_kind : ListKind → FileKind
+file_kind (Keytab columns) = file.Keytab
+file_kind (Cache columns) = file.Cache
 
 -- the options of a listing
 abbrev pub list_options : Matched → KlistOptions

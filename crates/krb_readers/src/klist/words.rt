@@ -6,7 +6,7 @@ ghost use Rattle.krb_driver.specs.Mistakes.{Reads, mistake_parts};
 
 use krb_cache_text::CcColumns;
 use krb_driver::{
-    CommandName, CommandWords, Matches, Mistake, V1_BIG, Word, WordFault, times_given, v1_order,
+    CommandName, CommandWords, FileKind, Matches, Mistake, V1_BIG, Word, WordFault, times_given, v1_order,
 };
 use krb_text::KtColumns;
 use krb_wire::Order;
@@ -57,6 +57,20 @@ Examples:
 pub enum ListKind {
     Keytab(KtColumns),
     Cache(CcColumns),
+}
+
+impl ListKind {
+    ghost use Rattle.krb_readers.specs.Klist.{file_kind};
+
+    /// Returns the kind of file.
+    pub fn file_kind(self) -> FileKind
+        ensures { result ≡ file_kind self }
+    {
+        match self {
+            ListKind::Keytab(_) => FileKind::Keytab,
+            ListKind::Cache(_) => FileKind::Cache,
+        }
+    }
 }
 
 /// The options of klist.
