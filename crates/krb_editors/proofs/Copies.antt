@@ -1,10 +1,11 @@
 -- Copying from a keytab.
-use Rattle.std.proofs.Common.{◌≡◌, Bool, true, false, List, [], ℕ, inl, inr, refl, sym, ap, subst, ◌∙◌, cond}
+use Rattle.std.proofs.Common.{◌≡◌, Bool, true, false, List, [], inl, inr, refl, sym, ap, subst, ◌∙◌, cond}
 use Rattle.krb_keytab.specs.Find.{PlacedEntry}
 use Rattle.krb_files.specs.declared.files.Files.{Ghosts}
 use Rattle.krb_files.specs.Plan.{Ends}
 use Rattle.krb_files.proofs.PlanLaws.{loaded-none}
 use Rattle.krb_driver.specs.declared.error.RunError.TheVariants.{NothingToCopy}
+use Rattle.krb_driver.specs.declared.file_name.FileName.{FileName}
 use Rattle.krb_driver.specs.Commands.{Makes}
 use Rattle.krb_driver.specs.Effects.{CommandPlan, Effect, Fails, IsSpent, faults}
 use Rattle.krb_driver.proofs.Making.{makes-end}
@@ -15,15 +16,15 @@ use Rattle.krb_editors.specs.Ktcopy.{copies_from, copies_to, finds_none}
 pub makes-spent : {F : Type 0} (trait : Ghosts F) (old : F) (plan : CommandPlan) (effect : Effect) → IsSpent effect → Makes trait old plan effect old
 makes-spent trait old plan effect spent = record { answers = []; loads = loaded-none trait faults plan old; made = inl spent }
 
-module _ {F A : Type 0} (trait : Ghosts F) (old : F) (o : CopyOptions A) (from to : List ℕ) (xs ys : List PlacedEntry) (ys_are : ys ≡ xs) where
+module _ {F A : Type 0} (trait : Ghosts F) (old : F) (o : CopyOptions A) (from to : FileName) (xs ys : List PlacedEntry) (ys_are : ys ≡ xs) where
   -- what is asked for is not there
-  pub makes-none : finds_none o.selection ys ≡ true → Makes trait old (copies_from o from to xs) (Fails from NothingToCopy) old
+  pub makes-none : finds_none o.selection ys ≡ true → Makes trait old (copies_from o from to xs) (Fails from.name.now NothingToCopy) old
   makes-none none =
-      subst (λ (b : Bool). Makes trait old (cond b (Ends (Fails from NothingToCopy)) (copies_to o to xs)) (Fails from NothingToCopy) old) (sym (ap (finds_none o.selection) (sym ys_are) ∙ none))
-      (makes-end trait old (Fails from NothingToCopy) (Fails from NothingToCopy) (inr refl))
+      subst (λ (b : Bool). Makes trait old (cond b (Ends (Fails from.name.now NothingToCopy)) (copies_to o to xs)) (Fails from.name.now NothingToCopy) old) (sym (ap (finds_none o.selection) (sym ys_are) ∙ none))
+      (makes-end trait old (Fails from.name.now NothingToCopy) (Fails from.name.now NothingToCopy) (inr refl))
 
   -- it is there
   pub makes-some : (effect : Effect) (new : F) → finds_none o.selection ys ≡ false → Makes trait old (copies_to o to ys) effect new → Makes trait old (copies_from o from to xs) effect new
   makes-some effect new some made =
-      subst (λ (b : Bool). Makes trait old (cond b (Ends (Fails from NothingToCopy)) (copies_to o to xs)) effect new) (sym (ap (finds_none o.selection) (sym ys_are) ∙ some))
+      subst (λ (b : Bool). Makes trait old (cond b (Ends (Fails from.name.now NothingToCopy)) (copies_to o to xs)) effect new) (sym (ap (finds_none o.selection) (sym ys_are) ∙ some))
       (subst (λ (zs : List PlacedEntry). Makes trait old (copies_to o to zs) effect new) ys_are made)

@@ -188,7 +188,7 @@ same_map f g each (x ∷ xs) = ap (λ y. y ∷ map f xs) (each x) ∙ ap (λ ys.
 -- the verdict of a run that printed replies depends only on what the replies say
 pub replied_contents : {A : Type 0} (kind : FileKind) (f : A → ReplyContent) (rs : List A) → replied_verdict kind f rs ≡ replied_verdict kind (λ reply. reply) (map f rs)
 replied_contents kind f rs =
-    let ends : Bool → List (Option Code) → List (Option FaultKind) → Verdict = λ b codes faults. if b then Replied (record { kind = kind; codes = codes; faults = faults }) else Well in
+    let ends : Bool → List (Option Code) → List (Option FaultKind) → Verdict = λ b codes faults. if b then Replied (record { kind = kind; codes = codes; faults = faults; hidden_from = None }) else Well in
     let code_is : (c : Code) → reported_code f rs c ≡ reported_code (λ reply. reply) (map f rs) c = λ c. ap (λ (b : Bool). if b then Some c else None) (any_content f (reports_code c) rs) in
     let fault_is : (k : FaultKind) → reported_fault f rs k ≡ reported_fault (λ reply. reply) (map f rs) k = λ k. ap (λ (b : Bool). if b then Some k else None) (any_content f (reports_fault k) rs) in
     ap (λ (b : Bool). ends b (reported_codes f rs) (reported_faults f rs)) (any_content f is_failure rs)

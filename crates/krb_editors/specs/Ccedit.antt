@@ -11,13 +11,14 @@ use Rattle.krb_ccache.specs.SetConfig.{setting_events}
 use Rattle.krb_ccache.specs.Open.{InMemory}
 use Rattle.krb_ccache.specs.Store.{CacheState, image_of}
 use Rattle.krb_files.specs.Loading.{Answer}
-use Rattle.krb_files.specs.Plan.{Ends, Holds}
+use Rattle.krb_files.specs.Plan.{Ends}
 use Rattle.krb_cache_text.specs.declared.request.Request.TheVariants as request
 use Rattle.krb_cache_text.specs.Reply.{cache_reply_text}
 use Rattle.krb_cache_text.specs.Script.{CacheLineParts}
+use Rattle.krb_driver.specs.declared.file_name.FileName.{FileName}
 use Rattle.krb_driver.specs.declared.verdict.FileKind.TheVariants.{Cache}
 use Rattle.krb_driver.specs.Commands.{fair_first}
-use Rattle.krb_driver.specs.Effects.{CommandPlan, Effect, opens}
+use Rattle.krb_driver.specs.Effects.{CommandPlan, Effect, holds, opens}
 use Rattle.krb_driver.specs.Loading.{cache_of}
 use Rattle.krb_editors.specs.Sessions as session
 use Rattle.krb_editors.specs.Sessions.{may_change}
@@ -59,8 +60,8 @@ abbrev pub RunsFairly : List CacheLineParts → CacheState → Type 0
 RunsFairly lines cache = session.RunsFairly cache_rules cache (cache_events lines cache)
 
 -- the file is held if a line may change it, and opened; the lines are run in a session over its cache
-abbrev pub ccedit_plan : List ℕ → List CacheLineParts → CommandPlan
-ccedit_plan file lines = Holds (list_any line_may_change lines) file (opens file cache_of (λ k. Ends (edits lines file k)))
+abbrev pub ccedit_plan : FileName → List CacheLineParts → CommandPlan
+ccedit_plan file lines = holds (list_any line_may_change lines) file (opens file cache_of (λ k. Ends (edits lines file.name.now k)))
 
 -- the same holds of the cache that the file gave
 abbrev pub ccedit_fairly : List CacheLineParts → List Answer → Type 0

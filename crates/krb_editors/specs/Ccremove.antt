@@ -8,16 +8,17 @@ use Rattle.krb_ccache.specs.Rewrite.{rewrite_result}
 use Rattle.krb_ccache.specs.Store.{CacheState, PlacedCredential, image_of, placed_credentials}
 use Rattle.krb_files.specs.declared.files.Files.{Ghosts}
 use Rattle.krb_files.specs.Bytes.{Watch}
-use Rattle.krb_files.specs.Plan.{Ends, Holds}
+use Rattle.krb_files.specs.Plan.{Ends}
 use Rattle.krb_audit.specs.Tickets.{selected_tickets, names_ticket, removed_ticket_line}
 use Rattle.krb_editors.specs.declared.ccremove.TicketOptions.{TicketOptions}
 use Rattle.krb_driver.specs.declared.error.RunError.{RunError}
 use Rattle.krb_driver.specs.declared.error.RunError.TheVariants.{ClockNotRead}
+use Rattle.krb_driver.specs.declared.file_name.FileName.{FileName}
 use Rattle.krb_driver.specs.declared.verdict.FileKind.TheVariants.{Cache}
 use Rattle.krb_driver.specs.declared.verdict.Verdict.{Verdict}
 use Rattle.krb_driver.specs.declared.verdict.Verdict.TheVariants.{Well, NothingToRemove}
 use Rattle.krb_driver.specs.Commands.{RunsCommand, any}
-use Rattle.krb_driver.specs.Effects.{CommandPlan, Effect, Displays, opens, saves_unless, text}
+use Rattle.krb_driver.specs.Effects.{CommandPlan, Effect, Displays, holds, opens, saves_unless, text}
 use Rattle.krb_driver.specs.ErrorOutput.{ErrorWatch}
 use Rattle.krb_driver.specs.Matches.{AreSpelledNames, Matched, bad_names}
 use Rattle.krb_driver.specs.Mistakes.{MistakeParts, NothingSelects, Twice}
@@ -44,18 +45,17 @@ none_verdict o named = if o.expired && ((length o.servers.items == 0) || named) 
 abbrev pub places : List PlacedCredential → List ℕ
 places xs = map (λ x. x.0) xs
 
-module _ {A : Type 0} (o : TicketOptions A) (file : List ℕ) where
-  -- the tickets are removed, if there are any, and a line is printed for each
-  abbrev pub removes : CacheState → List PlacedCredential → Effect
-  removes k xs =
-      if length (places xs) == 0 then Displays file (text [] (none_verdict o (list_any (λ x. names_ticket o.servers.items x.1) (placed_credentials k))))
-      else saves_unless o.dry_run file (image_of (cache_after k (places xs))) (flat_map removed_ticket_line xs) Well
+-- the tickets are removed, if there are any, and a line is printed for each
+abbrev pub removes : {A : Type 0} → TicketOptions A → List ℕ → CacheState → List PlacedCredential → Effect
+removes o file k xs =
+    if length (places xs) == 0 then Displays file (text [] (none_verdict o (list_any (λ x. names_ticket o.servers.items x.1) (placed_credentials k))))
+    else saves_unless o.dry_run file (image_of (cache_after k (places xs))) (flat_map removed_ticket_line xs) Well
 
-  -- the file is held, unless it is a dry run, and opened; the selected tickets of its cache are removed
-  abbrev pub ccremove_plan : Option ℕ → CommandPlan
-  ccremove_plan ended = Holds (not o.dry_run) file (opens file writable_in (λ k. Ends (removes k (selected_tickets o.servers.items ended k))))
+-- the file is held, unless it is a dry run, and opened; the selected tickets of its cache are removed
+abbrev pub ccremove_plan : {A : Type 0} → TicketOptions A → FileName → Option ℕ → CommandPlan
+ccremove_plan o file ended = holds (not o.dry_run) file (opens file writable_in (λ k. Ends (removes o file.name.now k (selected_tickets o.servers.items ended k))))
 
-module _ {F A : Type 0} (trait : Ghosts F) (file : List ℕ) (o : TicketOptions A) (old new : F) (out out' : Watch) (err err' : ErrorWatch) (status : ℕ) where
+module _ {F A : Type 0} (trait : Ghosts F) (file : FileName) (o : TicketOptions A) (old new : F) (out out' : Watch) (err err' : ErrorWatch) (status : ℕ) where
   -- a run of ccremove, or the error if the clock was needed and not read
   abbrev pub RunsCcremove : Result (Option ℕ) RunError → Type 0
   RunsCcremove (Ok ended) = RunsCommand trait (λ mode. ccremove_plan o file ended) any old new out out' err err' status

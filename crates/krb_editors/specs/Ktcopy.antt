@@ -5,7 +5,7 @@ use Rattle.std.specs.Option.{option_or}
 use Rattle.krb_walk.specs.declared.refusal.Code.{Code}
 use Rattle.krb_keytab.specs.Find.{PlacedEntry}
 use Rattle.krb_keytab.specs.Store.{image_of}
-use Rattle.krb_files.specs.Plan.{Ends, Holds}
+use Rattle.krb_files.specs.Plan.{Ends}
 use Rattle.krb_text.specs.Etype.{etype_in}
 use Rattle.krb_copy.specs.Copying.{Run, copy_run, has_lines}
 use Rattle.krb_audit.specs.declared.selection.SelectedKvno.{SelectedKvno}
@@ -13,8 +13,9 @@ use Rattle.krb_audit.specs.declared.selection.SelectedKvno.TheVariants.{Any, New
 use Rattle.krb_audit.specs.declared.selection.Selection.{Selection}
 use Rattle.krb_audit.specs.Selection.{selected_in}
 use Rattle.krb_driver.specs.declared.error.RunError.TheVariants.{NothingToCopy, Refused}
+use Rattle.krb_driver.specs.declared.file_name.FileName.{FileName}
 use Rattle.krb_driver.specs.declared.verdict.Verdict.TheVariants.{Clashed, Well}
-use Rattle.krb_driver.specs.Effects.{CommandPlan, Effect, Displays, Fails, opens, saves_unless, text}
+use Rattle.krb_driver.specs.Effects.{CommandPlan, Effect, Displays, Fails, holds, opens, saves_unless, text}
 use Rattle.krb_driver.specs.Matches.{AreSpelledNames, Matched, bad_names, v1_order}
 use Rattle.krb_driver.specs.Mistakes.{MistakeParts, Twice}
 use Rattle.krb_driver.specs.Opening.{whole_in, whole_or_empty}
@@ -42,15 +43,15 @@ copied_effect dry_run to (Ok run) =
     else (if has_lines run.text then saves_unless dry_run to (image_of run.keytab) run.text Well else Displays to (text run.text Well))
 
 -- TO is held, unless it is a dry run, and opened; the entries are copied into its keytab
-abbrev pub copies_to : {A : Type 0} → CopyOptions A → List ℕ → List PlacedEntry → CommandPlan
-copies_to o to xs = Holds (not o.dry_run) to (opens to (whole_or_empty o.v1_order) (λ k. Ends (copied_effect o.dry_run to (copy_run o.replace xs k))))
+abbrev pub copies_to : {A : Type 0} → CopyOptions A → FileName → List PlacedEntry → CommandPlan
+copies_to o to xs = holds (not o.dry_run) to (opens to (whole_or_empty o.v1_order) (λ k. Ends (copied_effect o.dry_run to.name.now (copy_run o.replace xs k))))
 
 -- the same, unless entries are asked for and there are none
-abbrev pub copies_from : {A : Type 0} → CopyOptions A → List ℕ → List ℕ → List PlacedEntry → CommandPlan
-copies_from o from to xs = if finds_none o.selection xs then Ends (Fails from NothingToCopy) else copies_to o to xs
+abbrev pub copies_from : {A : Type 0} → CopyOptions A → FileName → FileName → List PlacedEntry → CommandPlan
+copies_from o from to xs = if finds_none o.selection xs then Ends (Fails from.name.now NothingToCopy) else copies_to o to xs
 
 -- FROM is opened, and the selected entries of its keytab are copied
-abbrev pub ktcopy_plan : {A : Type 0} → CopyOptions A → List ℕ → List ℕ → CommandPlan
+abbrev pub ktcopy_plan : {A : Type 0} → CopyOptions A → FileName → FileName → CommandPlan
 ktcopy_plan o from to = opens from (whole_in o.v1_order) (λ k. copies_from o from to (selected_in o.selection 0 k))
 
 -- ---- what the words ask for

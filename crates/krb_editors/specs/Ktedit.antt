@@ -7,11 +7,12 @@ use Rattle.krb_keytab.specs.Entry.{EntryParts}
 use Rattle.krb_keytab.specs.Placed.{keytab_rules}
 use Rattle.krb_keytab.specs.Store.{KeytabState, image_of}
 use Rattle.krb_files.specs.Loading.{Answer}
-use Rattle.krb_files.specs.Plan.{Ends, Holds}
+use Rattle.krb_files.specs.Plan.{Ends}
 use Rattle.krb_text.specs.Reply.{reply_text}
+use Rattle.krb_driver.specs.declared.file_name.FileName.{FileName}
 use Rattle.krb_driver.specs.declared.verdict.FileKind.TheVariants.{Keytab}
 use Rattle.krb_driver.specs.Commands.{fair_first}
-use Rattle.krb_driver.specs.Effects.{CommandPlan, Effect, opens}
+use Rattle.krb_driver.specs.Effects.{CommandPlan, Effect, holds, opens}
 use Rattle.krb_driver.specs.Opening.{keytab_or_empty}
 use Rattle.krb_editors.specs.Sessions as session
 use Rattle.krb_editors.specs.Sessions.{may_change}
@@ -25,8 +26,8 @@ abbrev pub RunsFairly : List (Event EntryParts) → KeytabState → Type 0
 RunsFairly events keytab = session.RunsFairly keytab_rules keytab events
 
 -- the file is held if an event may change it, and opened; the events are run in a session over its keytab
-abbrev pub ktedit_plan : Order → List ℕ → List (Event EntryParts) → CommandPlan
-ktedit_plan order file events = Holds (list_any may_change events) file (opens file (keytab_or_empty order) (λ k. Ends (edits events file k)))
+abbrev pub ktedit_plan : Order → FileName → List (Event EntryParts) → CommandPlan
+ktedit_plan order file events = holds (list_any may_change events) file (opens file (keytab_or_empty order) (λ k. Ends (edits events file.name.now k)))
 
 -- the same holds of the keytab that the file gave
 abbrev pub ktedit_fairly : Order → List (Event EntryParts) → List Answer → Type 0

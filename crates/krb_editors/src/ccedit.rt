@@ -20,7 +20,7 @@ use crate::scripted::read_script;
 use krb_cache_text::{CacheLine, CcFormat, Request};
 use krb_ccache::{Ccache, Cred, Setting};
 use krb_driver::{
-    Command, CommandName, CommandWords, FileError, FileKind, Made, Output, Streams, Word,
+    Command, CommandName, CommandWords, FileError, FileKind, FileName, Made, Output, Streams, Word,
     give_cache, hold_if, report, run,
 };
 use krb_files::Files;
@@ -51,7 +51,7 @@ Lines of the script, of which empty ones and those that begin with # ask for not
 /// The command ccedit.
 #[derive(Drop)]
 struct EditCache<'f, A: Allocator> {
-    file: &'f str,
+    file: FileName<'f>,
     lines: Vec<CacheLine<A>, A>,
 }
 
@@ -178,15 +178,15 @@ impl<'f, A: Allocator + Copy> Command<A> for EditCache<'f, A> {
 
     type Shown = Output<A>;
 
-    ghost file = { λ c. c.file.now };
+    ghost file = { λ c. c.file.name.now };
 
-    ghost plan = { λ c mode. ccedit_plan c.file.now c.lines.items };
+    ghost plan = { λ c mode. ccedit_plan c.file c.lines.items };
 
     // Every walk is given what is due to it.
     ghost fairly = { λ c. ccedit_fairly c.lines.items };
 
     fn file(&self) -> &str {
-        self.file
+        self.file.name
     }
 
     fn make<F: Files>(
@@ -204,13 +204,13 @@ impl<'f, A: Allocator + Copy> Command<A> for EditCache<'f, A> {
 /// prints the replies, and returns the exit status.
 pub fn run_ccedit<A: Allocator + Copy, F: Files, R: Read, W: Write, E: Write>(
     alloc: A,
-    file: &str,
+    file: FileName<'_>,
     files: &mut F,
     streams: &mut Streams<R, W, E>,
 ) -> u8
     requires { IsFalse streams.old.out.failed }
     ensures { RunsScript F.Files files.old files.new streams.old.out streams.new.out streams.old.err streams.new.err result
-        (ccedit_plan file.now) ccedit_fairly cache_line_in streams.old.input streams.new.input }
+        (ccedit_plan file.entry) ccedit_fairly cache_line_in streams.old.input streams.new.input }
 {
     match read_script(alloc, &mut streams.input) {
         Ok(lines) => run(alloc, &EditCache { file, lines }, files, streams),

@@ -11,9 +11,9 @@ ghost use Rattle.krb_driver.specs.Mistakes.{Reads, mistake_parts};
 use krb_audit::{SelectedTickets, select_tickets};
 use krb_ccache::Ccache;
 use krb_driver::{
-    Command, CommandName, CommandWords, DRY_RUN, FileError, FileKind, Made, Matches, Mistake,
-    Output, RunError, Streams, Verdict, Word, WordFault, hold_if, open_writable, report, run,
-    spelled_names, times_given,
+    Command, CommandName, CommandWords, DRY_RUN, FileError, FileKind, FileName, Made, Matches,
+    Mistake, Output, RunError, Streams, Verdict, Word, WordFault, hold_if, open_writable, report,
+    run, spelled_names, times_given,
 };
 use krb_files::Files;
 use krb_walk::Refusal;
@@ -88,7 +88,7 @@ pub fn ticket_options<'a, M: Matches<'a>>(
 struct RemoveTickets<'f, B: Allocator> {
     options: &'f TicketOptions<B>,
     ended_by: Option<u32>,
-    file: &'f str,
+    file: FileName<'f>,
 }
 
 // Returns the time at or before which the selected tickets end, if only expired ones are selected.
@@ -145,9 +145,9 @@ fn remove<'a, A: Allocator + Copy, B: Allocator>(
     command: &RemoveTickets<'a, B>,
     cache: Ccache<A>,
 ) -> Result<Made<A, Output<A>>, FileError<'a>>
-    ensures { IsMade (removes command.now.options.now command.now.file.now cache.state
+    ensures { IsMade (removes command.now.options.now command.now.file.name.now cache.state
         (selected_tickets command.now.options.now.servers.items command.now.ended_by cache.state))
-        (text_effect command.now.file.now result) }
+        (text_effect command.now.file.name.now result) }
 {
     let options = command.options;
     let selected = select(alloc, command, &cache)?;
@@ -173,12 +173,12 @@ impl<'f, A: Allocator + Copy, B: Allocator> Command<A> for RemoveTickets<'f, B> 
 
     type Shown = Output<A>;
 
-    ghost file = { λ c. c.file.now };
+    ghost file = { λ c. c.file.name.now };
 
-    ghost plan = { λ c mode. ccremove_plan c.options.now c.file.now c.ended_by };
+    ghost plan = { λ c mode. ccremove_plan c.options.now c.file c.ended_by };
 
     fn file(&self) -> &str {
-        self.file
+        self.file.name
     }
 
     fn make<F: Files>(
@@ -198,12 +198,12 @@ pub fn run_ccremove<A: Allocator + Copy, B: Allocator, F: Files, R: Read, W: Wri
     alloc: A,
     options: &TicketOptions<B>,
     now: Option<u32>,
-    file: &str,
+    file: FileName<'_>,
     files: &mut F,
     streams: &mut Streams<R, W, E>,
 ) -> u8
     requires { IsFalse streams.old.out.failed }
-    ensures runs { RunsCcremove F.Files file.now options.now files.old files.new
+    ensures runs { RunsCcremove F.Files file.entry options.now files.old files.new
         streams.old.out streams.new.out streams.old.err streams.new.err result (ended_by options.now now) }
     ensures input { streams.new.input ≡ streams.old.input }
 {

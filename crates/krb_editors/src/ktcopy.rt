@@ -14,8 +14,8 @@ use crate::selecting::{bad_etype, etypes_of, kvno_by_word};
 use krb_audit::{SelectedKvno, Selection, selected_entries};
 use krb_copy::{Copied, copy_into};
 use krb_driver::{
-    Command, CommandName, CommandWords, FileError, Made, Matches, Mistake, Output, RunError,
-    Streams, V1_BIG, Verdict, Word, WordFault, first_value, hold_if, open_whole,
+    Command, CommandName, CommandWords, FileError, FileName, Made, Matches, Mistake, Output,
+    RunError, Streams, V1_BIG, Verdict, Word, WordFault, first_value, hold_if, open_whole,
     open_whole_or_empty, run, spelled_names, times_given, v1_order,
 };
 use krb_files::Files;
@@ -129,8 +129,8 @@ pub fn copy_options<'a, M: Matches<'a>>(
 #[derive(Clone, Copy)]
 struct CopyEntries<'f, B: Allocator> {
     options: &'f CopyOptions<B>,
-    from: &'f str,
-    to: &'f str,
+    from: FileName<'f>,
+    to: FileName<'f>,
 }
 
 // Returns whether a name, a kvno or an enctype is given.
@@ -165,7 +165,7 @@ fn made<'a, A: Allocator + Copy, B: Allocator>(
     copied: Copied<A>,
 ) -> Result<Made<A, Output<A>>, FileError<'a>>
     ensures { (run : Run) → IsRunOf (Ok run) copied.text.items copied.clashes.items copied.keytab.state
-        → text_effect command.now.to.now result ≡ copied_effect command.now.options.now.dry_run command.now.to.now (Ok run) }
+        → text_effect command.now.to.name.now result ≡ copied_effect command.now.options.now.dry_run command.now.to.name.now (Ok run) }
 {
     let dry_run = command.options.dry_run;
     let Copied {
@@ -193,13 +193,13 @@ fn copy<'a, A: Allocator + Copy, B: Allocator>(
     entries: &[(u32, EntryView<'_>)],
     to: Keytab<A>,
 ) -> Result<Made<A, Output<A>>, FileError<'a>>
-    ensures { IsMade (copied_effect command.now.options.now.dry_run command.now.to.now
-        (copy_run command.now.options.now.replace entries.now to.state)) (text_effect command.now.to.now result) }
+    ensures { IsMade (copied_effect command.now.options.now.dry_run command.now.to.name.now
+        (copy_run command.now.options.now.replace entries.now to.state)) (text_effect command.now.to.name.now result) }
 {
     match copy_into(alloc, entries, to, command.options.replace) {
         Ok(copied) => made(command, copied),
         Err(Refusal::Code(code)) => Err(FileError {
-            file: command.to,
+            file: command.to.name,
             error: RunError::Refused(code),
         }),
         Err(Refusal::NoMemory) => Err(FileError::from(NoMemory)),
@@ -213,8 +213,8 @@ fn copy_to<'a, A: Allocator + Copy, B: Allocator, F: Files>(
     entries: &[(u32, EntryView<'_>)],
     files: &mut F,
 ) -> Result<Made<A, Output<A>>, FileError<'a>>
-    ensures { Makes F.Files files.old (copies_to command.now.options.now command.now.to.now entries.now)
-        (text_effect command.now.to.now result) files.new }
+    ensures { Makes F.Files files.old (copies_to command.now.options.now command.now.to entries.now)
+        (text_effect command.now.to.name.now result) files.new }
 {
     hold_if(!command.options.dry_run, files, command.to);
     let to = open_whole_or_empty(alloc, command.options.v1_order, files, command.to)?;
@@ -228,14 +228,14 @@ fn copy_from<'a, A: Allocator + Copy, B: Allocator, F: Files>(
     from: &Keytab<A>,
     files: &mut F,
 ) -> Result<Made<A, Output<A>>, FileError<'a>>
-    ensures { Makes F.Files files.old (copies_from command.now.options.now command.now.from.now command.now.to.now
-        (selected_in command.now.options.now.selection 0 from.now.state)) (text_effect command.now.to.now result) files.new }
+    ensures { Makes F.Files files.old (copies_from command.now.options.now command.now.from command.now.to
+        (selected_in command.now.options.now.selection 0 from.now.state)) (text_effect command.now.to.name.now result) files.new }
 {
     let selection = &command.options.selection;
     let entries = selected_entries(alloc, from, selection)?;
     if finds_none(selection, &entries) {
         return Err(FileError {
-            file: command.from,
+            file: command.from.name,
             error: RunError::NothingToCopy,
         });
     }
@@ -247,12 +247,12 @@ impl<'f, A: Allocator + Copy, B: Allocator> Command<A> for CopyEntries<'f, B> {
 
     type Shown = Output<A>;
 
-    ghost file = { λ c. c.to.now };
+    ghost file = { λ c. c.to.name.now };
 
-    ghost plan = { λ c mode. ktcopy_plan c.options.now c.from.now c.to.now };
+    ghost plan = { λ c mode. ktcopy_plan c.options.now c.from c.to };
 
     fn file(&self) -> &str {
-        self.to
+        self.to.name
     }
 
     fn make<F: Files>(
@@ -271,13 +271,13 @@ impl<'f, A: Allocator + Copy, B: Allocator> Command<A> for CopyEntries<'f, B> {
 pub fn run_ktcopy<A: Allocator + Copy, B: Allocator, F: Files, R: Read, W: Write, E: Write>(
     alloc: A,
     options: &CopyOptions<B>,
-    from: &str,
-    to: &str,
+    from: FileName<'_>,
+    to: FileName<'_>,
     files: &mut F,
     streams: &mut Streams<R, W, E>,
 ) -> u8
     requires { IsFalse streams.old.out.failed }
-    ensures runs { RunsCommand F.Files (always (ktcopy_plan options.now from.now to.now)) any files.old files.new
+    ensures runs { RunsCommand F.Files (always (ktcopy_plan options.now from.entry to.entry)) any files.old files.new
         streams.old.out streams.new.out streams.old.err streams.new.err result }
     ensures input { streams.new.input ≡ streams.old.input }
 {

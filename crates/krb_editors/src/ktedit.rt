@@ -9,8 +9,8 @@ ghost use Rattle.krb_editors.specs.Scripted.{RunsScript};
 use crate::edited::{may_any_change, replied};
 use crate::scripted::read_script;
 use krb_driver::{
-    Command, CommandName, CommandWords, FileError, FileKind, Made, Output, Streams, V1_BIG, Word,
-    give_or_empty, hold_if, report, run,
+    Command, CommandName, CommandWords, FileError, FileKind, FileName, Made, Output, Streams,
+    V1_BIG, Word, give_or_empty, hold_if, report, run,
 };
 use krb_files::Files;
 use krb_keytab::{Indexed, Keytab, NewEntry};
@@ -45,7 +45,7 @@ Lines of the script, of which empty ones and those that begin with # ask for not
 #[derive(Drop)]
 struct EditKeytab<'f, A: Allocator> {
     v1_order: Order,
-    file: &'f str,
+    file: FileName<'f>,
     events: Vec<Event<NewEntry<A>>, A>,
 }
 
@@ -74,15 +74,15 @@ impl<'f, A: Allocator + Copy> Command<A> for EditKeytab<'f, A> {
 
     type Shown = Output<A>;
 
-    ghost file = { λ c. c.file.now };
+    ghost file = { λ c. c.file.name.now };
 
-    ghost plan = { λ c mode. ktedit_plan c.v1_order c.file.now c.events.items };
+    ghost plan = { λ c mode. ktedit_plan c.v1_order c.file c.events.items };
 
     // Every walk is given what is due to it.
     ghost fairly = { λ c. ktedit_fairly c.v1_order c.events.items };
 
     fn file(&self) -> &str {
-        self.file
+        self.file.name
     }
 
     fn make<F: Files>(
@@ -101,13 +101,13 @@ impl<'f, A: Allocator + Copy> Command<A> for EditKeytab<'f, A> {
 pub fn run_ktedit<A: Allocator + Copy, F: Files, R: Read, W: Write, E: Write>(
     alloc: A,
     v1_order: Order,
-    file: &str,
+    file: FileName<'_>,
     files: &mut F,
     streams: &mut Streams<R, W, E>,
 ) -> u8
     requires { IsFalse streams.old.out.failed }
     ensures { RunsScript F.Files files.old files.new streams.old.out streams.new.out streams.old.err streams.new.err result
-        (ktedit_plan v1_order file.now) (ktedit_fairly v1_order) event_in streams.old.input streams.new.input }
+        (ktedit_plan v1_order file.entry) (ktedit_fairly v1_order) event_in streams.old.input streams.new.input }
 {
     match read_script(alloc, &mut streams.input) {
         Ok(events) => {

@@ -10,9 +10,9 @@ ghost use Rattle.krb_driver.specs.Mistakes.{Reads, mistake_parts};
 use crate::selecting::{bad_etype, etypes_of, kvno_by_word};
 use krb_audit::{SelectedKvno, Selection, select};
 use krb_driver::{
-    Command, CommandName, CommandWords, DRY_RUN, FileError, FileKind, Made, Matches, Mistake,
-    Output, RunError, Streams, V1_BIG, Verdict, Word, WordFault, first_value, hold_if, open_whole,
-    report, run, spelled_names, spelled_seconds, times_given, v1_order,
+    Command, CommandName, CommandWords, DRY_RUN, FileError, FileKind, FileName, Made, Matches,
+    Mistake, Output, RunError, Streams, V1_BIG, Verdict, Word, WordFault, first_value, hold_if,
+    open_whole, report, run, spelled_names, spelled_seconds, times_given, v1_order,
 };
 use krb_files::Files;
 use krb_keytab::Keytab;
@@ -152,7 +152,7 @@ pub fn remove_options<'a, M: Matches<'a>>(
 struct RemoveEntries<'f, B: Allocator> {
     options: &'f RemoveOptions<B>,
     time: u32,
-    file: &'f str,
+    file: FileName<'f>,
 }
 
 // Returns the time, if the selection needs it, and otherwise 0.
@@ -185,8 +185,8 @@ fn remove<'a, A: Allocator + Copy, B: Allocator>(
     command: &RemoveEntries<'a, B>,
     mut keytab: Keytab<A>,
 ) -> Result<Made<A, Output<A>>, FileError<'a>>
-    ensures { IsMade (removes command.now.options.now command.now.file.now keytab.state (selected_in command.now.options.now.selection command.now.time keytab.state))
-        (text_effect command.now.file.now result) }
+    ensures { IsMade (removes command.now.options.now command.now.file.name.now keytab.state (selected_in command.now.options.now.selection command.now.time keytab.state))
+        (text_effect command.now.file.name.now result) }
 {
     let options = command.options;
     let selected = select(alloc, &keytab, &options.selection, command.time)?;
@@ -212,12 +212,12 @@ impl<'f, A: Allocator + Copy, B: Allocator> Command<A> for RemoveEntries<'f, B> 
 
     type Shown = Output<A>;
 
-    ghost file = { λ c. c.file.now };
+    ghost file = { λ c. c.file.name.now };
 
-    ghost plan = { λ c mode. ktremove_plan c.options.now c.time c.file.now };
+    ghost plan = { λ c mode. ktremove_plan c.options.now c.time c.file };
 
     fn file(&self) -> &str {
-        self.file
+        self.file.name
     }
 
     fn make<F: Files>(
@@ -237,12 +237,12 @@ pub fn run_ktremove<A: Allocator + Copy, B: Allocator, F: Files, R: Read, W: Wri
     alloc: A,
     options: &RemoveOptions<B>,
     now: Option<u32>,
-    file: &str,
+    file: FileName<'_>,
     files: &mut F,
     streams: &mut Streams<R, W, E>,
 ) -> u8
     requires { IsFalse streams.old.out.failed }
-    ensures runs { RunsKtremove F.Files file.now options.now files.old files.new
+    ensures runs { RunsKtremove F.Files file.entry options.now files.old files.new
         streams.old.out streams.new.out streams.old.err streams.new.err result (needed_time options.now.selection.kvno now) }
     ensures input { streams.new.input ≡ streams.old.input }
 {

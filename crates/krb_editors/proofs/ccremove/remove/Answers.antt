@@ -23,5 +23,5 @@ pub returns : goal.returns
 returns g c =
     let o = c.args.command.now.options.now in
     let selected = c.in_ok-selected.ensures in
-    inr (removed o c.args.command.now.file.now c.args.cache.state (selected_tickets o.servers.items c.args.command.now.ended_by c.args.cache.state) c.in_ok-selected.selected.places.items c.in_ok-image.image.items c.in_ok-selected.selected.text.items _
-    selected.places selected.text (c.in_ok-image.ensures ∙ ap (λ (p : List ℕ). image_of (cache_after c.args.cache.state p)) c.deref.ensures.value) (search rules) (sym (ap (λ (b : Bool). saves_unless b c.args.command.now.file.now c.in_ok-image.image.items c.in_ok-selected.selected.text.items Well) c.if-options.false)))
+    inr (removed o c.args.command.now.file.name.now c.args.cache.state (selected_tickets o.servers.items c.args.command.now.ended_by c.args.cache.state) c.in_ok-selected.selected.places.items c.in_ok-image.image.items c.in_ok-selected.selected.text.items _
+    selected.places selected.text (c.in_ok-image.ensures ∙ ap (λ (p : List ℕ). image_of (cache_after c.args.cache.state p)) c.deref.ensures.value) (search rules) (sym (ap (λ (b : Bool). saves_unless b c.args.command.now.file.name.now c.in_ok-image.image.items c.in_ok-selected.selected.text.items Well) c.if-options.false)))

@@ -17,11 +17,11 @@ pub returns-then-finds_none : goal.returns-then-finds_none
 returns-then-finds_none g c =
     let o = c.args.command.now.options.now in
     let xs = selected_in o.selection 0 c.args.from.now.state in
-    makes-none g.F.Files c.args.files.now o c.args.command.now.from.now c.args.command.now.to.now xs c.deref.result.now (c.deref.ensures.value ∙ c.in_ok-entries.ensures) (sym c.finds_none.ensures ∙ c.if-finds_none.true)
+    makes-none g.F.Files c.args.files.now o c.args.command.now.from c.args.command.now.to xs c.deref.result.now (c.deref.ensures.value ∙ c.in_ok-entries.ensures) (sym c.finds_none.ensures ∙ c.if-finds_none.true)
 
 pub returns : goal.returns
 returns g c =
     let o = c.args.command.now.options.now in
     let xs = selected_in o.selection 0 c.args.from.now.state in
-    makes-some g.F.Files c.args.files.now o c.args.command.now.from.now c.args.command.now.to.now xs c.deref.result.now (c.deref.ensures.value ∙ c.in_ok-entries.ensures) _ c.copy_to.new.files (sym c.finds_none.ensures ∙ c.if-finds_none.false)
+    makes-some g.F.Files c.args.files.now o c.args.command.now.from c.args.command.now.to xs c.deref.result.now (c.deref.ensures.value ∙ c.in_ok-entries.ensures) _ c.copy_to.new.files (sym c.finds_none.ensures ∙ c.if-finds_none.false)
     (rw (c.deref-2.ensures.value ∙ sym c.deref.ensures.value) at c.copy_to.ensures)

@@ -7,7 +7,7 @@ use Rattle.krb_editors.specs.Ccedit.{RunsFairly, edits, line_may_change}
 use Rattle.krb_driver.specs.Loading.{cache_of}
 use Rattle.krb_driver.specs.declared.error.RunError.{RunError}
 use Rattle.krb_driver.specs.Commands.{fair_first}
-use Rattle.krb_driver.specs.Effects.{Fails, IsSpent, opens}
+use Rattle.krb_driver.specs.Effects.{Fails, IsSpent, can_hold, opens}
 use Rattle.krb_files.specs.Plan.{Ends}
 use Rattle.krb_driver.proofs.Making.{fairly-failed, fairly-holds, makes-fairly}
 use Rattle.krb_editors.proofs.ccedit.EditCacheCommand.make.Goals as goal
@@ -16,26 +16,26 @@ use Rattle.krb_editors.proofs.ccedit.EditCacheCommand.make.Goals as goal
 pub returns-in_err-cache : goal.returns-in_err-cache
 returns-in_err-cache g c =
     let p = err_from_is_err_and c.from_residual.result c.from_residual.ensures.1 in
-    let file = c.args.self.now.file.now in
+    let file = c.args.self.now.file in
     let lines = c.args.self.now.lines.items in
     let met = c.in_err-cache.field-0.0 in
-    rw (p.1 ∙ ap Err p.2) (fairly-holds g.F.Files c.args.files.now c.hold_if.new.files c.give_cache.new.files (list_any line_may_change lines) file (opens file cache_of (λ (k : CacheState). Ends (edits lines file k))) (fair_first cache_of (RunsFairly lines)) _ (rw (c.may_any_change.ensures, c.deref.ensures.value) at c.hold_if.ensures.held)
-    (fairly-failed g.F.Files c.hold_if.new.files file cache_of (λ (k : CacheState). Ends (edits lines file k)) (RunsFairly lines) met.file.now met.error c.give_cache.new.files c.in_err-cache.ensures))
+    rw (p.1 ∙ ap Err p.2) (fairly-holds g.F.Files c.args.files.now c.hold_if.new.files c.give_cache.new.files (can_hold (list_any line_may_change lines) file) file.name.now (opens file cache_of (λ (k : CacheState). Ends (edits lines file.name.now k))) (fair_first cache_of (RunsFairly lines)) _ (rw (c.may_any_change.ensures, c.deref.ensures.value) at c.hold_if.ensures.held)
+    (fairly-failed g.F.Files c.hold_if.new.files file cache_of (λ (k : CacheState). Ends (edits lines file.name.now k)) (RunsFairly lines) met.file.now met.error c.give_cache.new.files c.in_err-cache.ensures))
 
 -- memory ran out
 pub returns-in_err-edit : goal.returns-in_err-edit
 returns-in_err-edit g c =
     let p = err_from_is_err_and c.from_residual-in_err-edit.result c.from_residual-in_err-edit.ensures.1 in
-    let file = c.args.self.now.file.now in
+    let file = c.args.self.now.file in
     let lines = c.args.self.now.lines.items in
     let spent : IsSpent (Fails p.0.file.now p.0.error) = (p.0.file.now, ap (λ (t : RunError). Fails p.0.file.now t) p.2) in
-    rw p.1 (fairly-holds g.F.Files c.args.files.now c.hold_if.new.files c.give_cache.new.files (list_any line_may_change lines) file (opens file cache_of (λ (k : CacheState). Ends (edits lines file k))) (fair_first cache_of (RunsFairly lines)) _ (rw (c.may_any_change.ensures, c.deref.ensures.value) at c.hold_if.ensures.held)
-    (makes-fairly g.F.Files c.hold_if.new.files file cache_of (λ (k : CacheState). edits lines file k) (RunsFairly lines) c.in_ok-cache.cache.state _ c.give_cache.new.files c.in_ok-cache.ensures (inl spent) (inl spent)))
+    rw p.1 (fairly-holds g.F.Files c.args.files.now c.hold_if.new.files c.give_cache.new.files (can_hold (list_any line_may_change lines) file) file.name.now (opens file cache_of (λ (k : CacheState). Ends (edits lines file.name.now k))) (fair_first cache_of (RunsFairly lines)) _ (rw (c.may_any_change.ensures, c.deref.ensures.value) at c.hold_if.ensures.held)
+    (makes-fairly g.F.Files c.hold_if.new.files file cache_of (λ (k : CacheState). edits lines file.name.now k) (RunsFairly lines) c.in_ok-cache.cache.state _ c.give_cache.new.files c.in_ok-cache.ensures (inl spent) (inl spent)))
 
 pub returns : goal.returns
 returns g c =
-    let file = c.args.self.now.file.now in
+    let file = c.args.self.now.file in
     let lines = c.args.self.now.lines.items in
-    fairly-holds g.F.Files c.args.files.now c.hold_if.new.files c.give_cache.new.files (list_any line_may_change lines) file (opens file cache_of (λ (k : CacheState). Ends (edits lines file k))) (fair_first cache_of (RunsFairly lines)) _ (rw (c.may_any_change.ensures, c.deref.ensures.value) at c.hold_if.ensures.held)
-    (makes-fairly g.F.Files c.hold_if.new.files file cache_of (λ (k : CacheState). edits lines file k) (RunsFairly lines) c.in_ok-cache.cache.state _ c.give_cache.new.files c.in_ok-cache.ensures
-    (inr ((rw c.deref-2.ensures.value at c.in_ok-edit.ensures.made) file)) (inr (rw c.deref-2.ensures.value at c.in_ok-edit.ensures.fair)))
+    fairly-holds g.F.Files c.args.files.now c.hold_if.new.files c.give_cache.new.files (can_hold (list_any line_may_change lines) file) file.name.now (opens file cache_of (λ (k : CacheState). Ends (edits lines file.name.now k))) (fair_first cache_of (RunsFairly lines)) _ (rw (c.may_any_change.ensures, c.deref.ensures.value) at c.hold_if.ensures.held)
+    (makes-fairly g.F.Files c.hold_if.new.files file cache_of (λ (k : CacheState). edits lines file.name.now k) (RunsFairly lines) c.in_ok-cache.cache.state _ c.give_cache.new.files c.in_ok-cache.ensures
+    (inr ((rw c.deref-2.ensures.value at c.in_ok-edit.ensures.made) file.name.now)) (inr (rw c.deref-2.ensures.value at c.in_ok-edit.ensures.fair)))

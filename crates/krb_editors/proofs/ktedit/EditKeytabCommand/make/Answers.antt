@@ -8,7 +8,7 @@ use Rattle.krb_driver.specs.Opening.{keytab_or_empty}
 use Rattle.krb_editors.specs.Sessions.{may_change}
 use Rattle.krb_driver.specs.declared.error.RunError.{RunError}
 use Rattle.krb_driver.specs.Commands.{fair_first}
-use Rattle.krb_driver.specs.Effects.{Fails, IsSpent, opens}
+use Rattle.krb_driver.specs.Effects.{Fails, IsSpent, can_hold, opens}
 use Rattle.krb_files.specs.Plan.{Ends}
 use Rattle.krb_driver.proofs.Making.{fairly-failed, fairly-holds, makes-fairly}
 use Rattle.krb_editors.proofs.ktedit.EditKeytabCommand.make.Goals as goal
@@ -17,26 +17,26 @@ use Rattle.krb_editors.proofs.ktedit.EditKeytabCommand.make.Goals as goal
 pub returns-in_err-keytab : goal.returns-in_err-keytab
 returns-in_err-keytab g c =
     let p = err_from_is_err_and c.from_residual.result c.from_residual.ensures.1 in
-    let file = c.args.self.now.file.now in
+    let file = c.args.self.now.file in
     let events = c.args.self.now.events.items in
     let met = c.in_err-keytab.field-0.0 in
-    rw (p.1 ∙ ap Err p.2) (fairly-holds g.F.Files c.args.files.now c.hold_if.new.files c.give_or_empty.new.files (list_any may_change events) file (opens file (keytab_or_empty c.args.self.now.v1_order) (λ (k : KeytabState). Ends (edits events file k))) (fair_first (keytab_or_empty c.args.self.now.v1_order) (RunsFairly events)) _ (rw (c.may_any_change.ensures, c.deref.ensures.value) at c.hold_if.ensures.held)
-    (fairly-failed g.F.Files c.hold_if.new.files file (keytab_or_empty c.args.self.now.v1_order) (λ (k : KeytabState). Ends (edits events file k)) (RunsFairly events) met.file.now met.error c.give_or_empty.new.files c.in_err-keytab.ensures))
+    rw (p.1 ∙ ap Err p.2) (fairly-holds g.F.Files c.args.files.now c.hold_if.new.files c.give_or_empty.new.files (can_hold (list_any may_change events) file) file.name.now (opens file (keytab_or_empty c.args.self.now.v1_order) (λ (k : KeytabState). Ends (edits events file.name.now k))) (fair_first (keytab_or_empty c.args.self.now.v1_order) (RunsFairly events)) _ (rw (c.may_any_change.ensures, c.deref.ensures.value) at c.hold_if.ensures.held)
+    (fairly-failed g.F.Files c.hold_if.new.files file (keytab_or_empty c.args.self.now.v1_order) (λ (k : KeytabState). Ends (edits events file.name.now k)) (RunsFairly events) met.file.now met.error c.give_or_empty.new.files c.in_err-keytab.ensures))
 
 -- memory ran out
 pub returns-in_err-edit : goal.returns-in_err-edit
 returns-in_err-edit g c =
     let p = err_from_is_err_and c.from_residual-in_err-edit.result c.from_residual-in_err-edit.ensures.1 in
-    let file = c.args.self.now.file.now in
+    let file = c.args.self.now.file in
     let events = c.args.self.now.events.items in
     let spent : IsSpent (Fails p.0.file.now p.0.error) = (p.0.file.now, ap (λ (t : RunError). Fails p.0.file.now t) p.2) in
-    rw p.1 (fairly-holds g.F.Files c.args.files.now c.hold_if.new.files c.give_or_empty.new.files (list_any may_change events) file (opens file (keytab_or_empty c.args.self.now.v1_order) (λ (k : KeytabState). Ends (edits events file k))) (fair_first (keytab_or_empty c.args.self.now.v1_order) (RunsFairly events)) _ (rw (c.may_any_change.ensures, c.deref.ensures.value) at c.hold_if.ensures.held)
-    (makes-fairly g.F.Files c.hold_if.new.files file (keytab_or_empty c.args.self.now.v1_order) (λ (k : KeytabState). edits events file k) (RunsFairly events) c.in_ok-keytab.keytab.state _ c.give_or_empty.new.files c.in_ok-keytab.ensures (inl spent) (inl spent)))
+    rw p.1 (fairly-holds g.F.Files c.args.files.now c.hold_if.new.files c.give_or_empty.new.files (can_hold (list_any may_change events) file) file.name.now (opens file (keytab_or_empty c.args.self.now.v1_order) (λ (k : KeytabState). Ends (edits events file.name.now k))) (fair_first (keytab_or_empty c.args.self.now.v1_order) (RunsFairly events)) _ (rw (c.may_any_change.ensures, c.deref.ensures.value) at c.hold_if.ensures.held)
+    (makes-fairly g.F.Files c.hold_if.new.files file (keytab_or_empty c.args.self.now.v1_order) (λ (k : KeytabState). edits events file.name.now k) (RunsFairly events) c.in_ok-keytab.keytab.state _ c.give_or_empty.new.files c.in_ok-keytab.ensures (inl spent) (inl spent)))
 
 pub returns : goal.returns
 returns g c =
-    let file = c.args.self.now.file.now in
+    let file = c.args.self.now.file in
     let events = c.args.self.now.events.items in
-    fairly-holds g.F.Files c.args.files.now c.hold_if.new.files c.give_or_empty.new.files (list_any may_change events) file (opens file (keytab_or_empty c.args.self.now.v1_order) (λ (k : KeytabState). Ends (edits events file k))) (fair_first (keytab_or_empty c.args.self.now.v1_order) (RunsFairly events)) _ (rw (c.may_any_change.ensures, c.deref.ensures.value) at c.hold_if.ensures.held)
-    (makes-fairly g.F.Files c.hold_if.new.files file (keytab_or_empty c.args.self.now.v1_order) (λ (k : KeytabState). edits events file k) (RunsFairly events) c.in_ok-keytab.keytab.state _ c.give_or_empty.new.files c.in_ok-keytab.ensures
-    (inr ((rw c.deref-2.ensures.value at c.in_ok-edit.ensures.made) file)) (inr (rw c.deref-2.ensures.value at c.in_ok-edit.ensures.fair)))
+    fairly-holds g.F.Files c.args.files.now c.hold_if.new.files c.give_or_empty.new.files (can_hold (list_any may_change events) file) file.name.now (opens file (keytab_or_empty c.args.self.now.v1_order) (λ (k : KeytabState). Ends (edits events file.name.now k))) (fair_first (keytab_or_empty c.args.self.now.v1_order) (RunsFairly events)) _ (rw (c.may_any_change.ensures, c.deref.ensures.value) at c.hold_if.ensures.held)
+    (makes-fairly g.F.Files c.hold_if.new.files file (keytab_or_empty c.args.self.now.v1_order) (λ (k : KeytabState). edits events file.name.now k) (RunsFairly events) c.in_ok-keytab.keytab.state _ c.give_or_empty.new.files c.in_ok-keytab.ensures
+    (inr ((rw c.deref-2.ensures.value at c.in_ok-edit.ensures.made) file.name.now)) (inr (rw c.deref-2.ensures.value at c.in_ok-edit.ensures.fair)))
