@@ -20,11 +20,13 @@ use Rattle.krb_ktutil.specs.declared.ktutil.line_end.LineEnd.{LineEnd}
 use Rattle.krb_ktutil.specs.declared.ktutil.line_end.LineEnd.TheVariants as end
 use Rattle.krb_driver.specs.declared.loading.NoKeytab.{NoKeytab}
 use Rattle.krb_driver.specs.declared.loading.NoKeytab.TheVariants.{Load, Open}
+use Rattle.krb_driver.specs.declared.verdict.FileKind.TheVariants.{Keytab}
+use Rattle.krb_driver.specs.FileNames.{has_type, is_other_type}
 use Rattle.krb_driver.specs.Loading.{keytab_of, keytab_or_new}
 use Rattle.krb_ktutil.specs.KtutilCommand.{Awaited, Command, Skip, ListSlots, ReadFile, WriteFile, AwaitKey, DeleteSlot, ClearList, Quit, command_of}
-use Rattle.krb_ktutil.specs.KtutilPlan.{KtutilState, Outcome, LineEffect, ComesTo, Saves, LinePlan, kept, line_faults, no_keytab_end, save_end, with_entries, with_added, saved_as, stays, written_to, key_line, with_key, command_plan, plan_by, plan_of}
+use Rattle.krb_ktutil.specs.KtutilPlan.{KtutilState, Outcome, LineEffect, ComesTo, Saves, LinePlan, Added, kept, line_faults, no_keytab_end, none_added, save_end, saved_end, with_entries, with_added, saved_as, stays, written_to, key_line, with_key, command_plan, plan_by, plan_of}
 use Rattle.krb_ktutil.specs.KtutilFiles.{Shows, RunsOut, Settles, Handles}
-use Rattle.krb_ktutil.specs.KtutilHonest.{ShowsDue, FailsBy, FailsCall, HandlesHonestly, Spares, ReportsMemory, line_files}
+use Rattle.krb_ktutil.specs.KtutilHonest.{ShowsDue, FailsBy, FailsCall, HandlesHonestly, Spares, ReportsMemory, is_done, line_files}
 
 -- ---- plans of lines
 
@@ -37,7 +39,7 @@ pub record IsCareful (s : KtutilState) (due : Outcome) : Type 0 where
 -- each outcome that a plan comes to without a save is careful
 abbrev Careful : KtutilState → LineEffect → Type 0
 Careful s (ComesTo takes due) = IsCareful s due
-Careful s (Saves name bytes) = Unit {0}
+Careful s (Saves name bytes hidden) = Unit {0}
 
 abbrev AllCareful : KtutilState → LinePlan → Type 0
 AllCareful s (Ends effect) = Careful s effect
@@ -51,10 +53,16 @@ no_keytab-reported (Load load.Failed) = tt
 no_keytab-reported (Load load.NoMemory) = tt
 no_keytab-reported (Open fault) = tt
 
-save-reported : (answer : Result (Unit {0}) SaveFault) → ReportsMemory (save_end answer)
-save-reported (Ok done) = tt
-save-reported (Err save.Failed) = tt
-save-reported (Err save.NoMemory) = tt
+save-reported : (hidden : Option ℕ) (answer : Result (Unit {0}) SaveFault) → ReportsMemory (save_end hidden answer)
+save-reported None (Ok done) = tt
+save-reported (Some place) (Ok done) = tt
+save-reported hidden (Err save.Failed) = tt
+save-reported hidden (Err save.NoMemory) = tt
+
+-- a line that saved its file is done
+saved-done : (hidden : Option ℕ) → is_done (saved_end hidden) ≡ true
+saved-done None = refl
+saved-done (Some place) = refl
 
 module _ (s : KtutilState) where
   kept-careful : (ending : LineEnd) → ReportsMemory ending → IsCareful s (kept s ending)
@@ -71,20 +79,24 @@ module _ (s : KtutilState) where
   entries-careful (Ok k) = either-careful (is_some (fault_of (store_of k))) _ _ (kept-careful (end.Refused code.Damaged) tt) (done-careful _ [])
   entries-careful (Err why) = kept-careful (no_keytab_end why) (no_keytab-reported why)
 
-  saved-careful : (name : List ℕ) (added : Result KeytabState Code) → Careful s (saved_as s name added)
-  saved-careful name (Ok k) = tt
+  saved-careful : (name : List ℕ) (added : Result Added Code) → Careful s (saved_as s name added)
+  saved-careful name (Ok x) = tt
   saved-careful name (Err refused) = kept-careful (end.Refused refused) tt
 
   written-careful : (name : List ℕ) (given : Result KeytabState NoKeytab) → Careful s (written_to s name given)
-  written-careful name (Ok k) = saved-careful name (with_added s.entries (Ok k))
+  written-careful name (Ok k) = saved-careful name (with_added s.entries (Ok (none_added k)))
   written-careful name (Err why) = kept-careful (no_keytab_end why) (no_keytab-reported why)
+
+  either-all : (b : Bool) (p q : LinePlan) → AllCareful s p → AllCareful s q → AllCareful s (cond b p q)
+  either-all true p q first second = first
+  either-all false p q first second = second
 
   command-careful : (command : Result Command LineFault) → AllCareful s (command_plan s command)
   command-careful (Err fault) = kept-careful (end.Fault fault) tt
   command-careful (Ok Skip) = done-careful s []
   command-careful (Ok (ListSlots columns)) = done-careful s _
-  command-careful (Ok (ReadFile name)) = λ answer. entries-careful (keytab_of s.order answer)
-  command-careful (Ok (WriteFile name)) = λ answer. written-careful name (keytab_or_new s.order answer)
+  command-careful (Ok (ReadFile word)) = either-all (is_other_type Keytab word) _ _ (kept-careful end.OtherType tt) (λ answer. entries-careful (keytab_of s.order answer))
+  command-careful (Ok (WriteFile word)) = either-all (has_type word) _ _ (kept-careful end.TypedName tt) (λ answer. written-careful word (keytab_or_new s.order answer))
   command-careful (Ok (AwaitKey awaited)) = done-careful _ []
   command-careful (Ok (DeleteSlot slot)) = done-careful _ []
   command-careful (Ok ClearList) = done-careful _ []
@@ -124,11 +136,11 @@ module _ {F : Type 0} (trait : Ghosts F) (old new : KtutilState) (out out' : Lis
 
   settles-careful : (effect : LineEffect) (files files' : F) → Careful old effect → Settles trait old new out out' ending effect files files' → ShowsCareful
   settles-careful (ComesTo takes due) files files' careful settles = (due, careful, settles.1)
-  settles-careful (Saves name bytes) files files' careful settles = (kept old (save_end settles.0), kept-careful old (save_end settles.0) (save-reported settles.0), settles.1.1)
+  settles-careful (Saves name bytes hidden) files files' careful settles = (kept old (save_end hidden settles.0), kept-careful old (save_end hidden settles.0) (save-reported hidden settles.0), settles.1.1)
 
   settles-lasts : (effect : LineEffect) (files files' : F) → Settles trait old new out out' ending effect files files' → Lasts trait files files'
   settles-lasts (ComesTo takes due) files files' settles = subst (λ (x : F). Lasts trait files x) (sym settles.0) (λ h. h, omega arith)
-  settles-lasts (Saves name bytes) files files' settles = (settles.1.0.honest, settles.1.0.count)
+  settles-lasts (Saves name bytes hidden) files files' settles = (settles.1.0.honest, settles.1.0.count)
 
   fails-call : (files files' : F) (fault : LineEnd) → SameFiles (trait.file files) (trait.file files') → Shows new out out' ending (kept old fault) → FailsBy trait files files' fault → FailsCall trait files files' old new out out' ending
   fails-call files files' fault same shows why = record {
@@ -138,26 +150,26 @@ module _ {F : Type 0} (trait : Ghosts F) (old new : KtutilState) (out out' : Lis
     same_files = same;
   }
 
-  due-spared : (effect : LineEffect) (files files' : F) → ShowsDue trait effect files files' old new out out' ending → ending ≢ end.Done → SameFiles (trait.file files) (trait.file files')
+  due-spared : (effect : LineEffect) (files files' : F) → ShowsDue trait effect files files' old new out out' ending → is_done ending ≡ false → SameFiles (trait.file files) (trait.file files')
   due-spared (ComesTo takes due) files files' shows differ = shows.files_are
-  due-spared (Saves name bytes) files files' shows differ = absurd (differ shows.shows.ending_is)
+  due-spared (Saves name bytes hidden) files files' shows differ = absurd (true≢false (sym (saved-done hidden) ∙ sym (ap is_done shows.shows.ending_is) ∙ differ))
 
   module _ (files between files' : F) (same : SameFiles (trait.file files) (trait.file between)) (le : trait.failure_count files ≤ trait.failure_count between) (h : trait.is_honest between) where
     same-then : files' ≡ between → SameFiles (trait.file files) (trait.file files')
     same-then is = subst (λ (x : F). SameFiles (trait.file files) (trait.file x)) (sym is) same
 
-    saved-comes : (name bytes : List ℕ) (answer : Result (Unit {0}) SaveFault) → SavesFile trait between name bytes answer files' → Shows new out out' ending (kept old (save_end answer))
-        → ShowsDue trait (Saves name bytes) files files' old new out out' ending ⊎ FailsCall trait files files' old new out out' ending
-    saved-comes name bytes (Ok done) saves shows = inl (record { shows = shows; files_are = with_bytes-set (trait.file files) (trait.file between) (trait.file files') name bytes same (saves.sets h) })
-    saved-comes name bytes (Err save.Failed) saves shows =
+    saved-comes : (name bytes : List ℕ) (hidden : Option ℕ) (answer : Result (Unit {0}) SaveFault) → SavesFile trait between name bytes answer files' → Shows new out out' ending (kept old (save_end hidden answer))
+        → ShowsDue trait (Saves name bytes hidden) files files' old new out out' ending ⊎ FailsCall trait files files' old new out out' ending
+    saved-comes name bytes hidden (Ok done) saves shows = inl (record { shows = shows; files_are = with_bytes-set (trait.file files) (trait.file between) (trait.file files') name bytes same (saves.sets h) })
+    saved-comes name bytes hidden (Err save.Failed) saves shows =
         let counted = count-trans (trait.failure_count files) (trait.failure_count between) (trait.failure_count files') le saves.count (saves.failed refl) in
         inr (fails-call files files' (end.Save save.Failed) (same-trans (trait.file files) (trait.file between) (trait.file files') same (saves.same h)) shows (inl (counted, inr refl)))
-    saved-comes name bytes (Err save.NoMemory) saves shows =
+    saved-comes name bytes hidden (Err save.NoMemory) saves shows =
         inr (fails-call files files' end.NoMemory (same-trans (trait.file files) (trait.file between) (trait.file files') same (saves.same h)) shows (inr refl))
 
     settles-comes : (effect : LineEffect) → Settles trait old new out out' ending effect between files' → ShowsDue trait effect files files' old new out out' ending ⊎ FailsCall trait files files' old new out out' ending
     settles-comes (ComesTo takes due) settles = inl (record { shows = settles.1; files_are = same-then settles.0 })
-    settles-comes (Saves name bytes) settles = saved-comes name bytes settles.0 settles.1.0 settles.1.1
+    settles-comes (Saves name bytes hidden) settles = saved-comes name bytes hidden settles.0 settles.1.0 settles.1.1
 
     -- a line that ended with its loads
     stays-fails : (fault : LineEnd) → FailsBy trait files between fault → Settles trait old new out out' ending (stays old fault) between files' → FailsCall trait files files' old new out out' ending

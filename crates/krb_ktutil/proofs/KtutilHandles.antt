@@ -15,9 +15,11 @@ use Rattle.krb_text.specs.declared.line_fault.LineFault.{LineFault}
 use Rattle.krb_ktutil.specs.declared.ktutil.line_end.LineEnd.{LineEnd}
 use Rattle.krb_ktutil.specs.declared.ktutil.line_end.LineEnd.TheVariants as end
 use Rattle.krb_driver.specs.declared.loading.NoKeytab.{NoKeytab}
+use Rattle.krb_audit.specs.Findings.{hides_added}
+use Rattle.krb_walk.specs.declared.refusal.Code.{Code}
 use Rattle.krb_driver.specs.Loading.{keytab_of, keytab_or_new, Gives, GivesOrRunsOut}
-use Rattle.krb_ktutil.specs.KtutilCommand.{Awaited, AwaitKey, ReadFile, after}
-use Rattle.krb_ktutil.specs.KtutilPlan.{KtutilState, Outcome, LineEffect, ComesTo, Saves, LinePlan, command_plan, kept, line_faults, save_end, saved_as, stays, with_added, with_entries, writing_plan, written_to}
+use Rattle.krb_ktutil.specs.KtutilCommand.{Awaited, AwaitKey, after}
+use Rattle.krb_ktutil.specs.KtutilPlan.{KtutilState, Outcome, LineEffect, ComesTo, Saves, LinePlan, Added, command_plan, kept, line_faults, none_added, reading_plan, save_end, saved_as, stays, with_added, with_entries, writing_plan, written_to}
 use Rattle.krb_ktutil.specs.KtutilFiles.{Shows, EndsAt, Finishes, Settles, GoesOn, Handles}
 
 -- memory ran out for an entry that would have awaited its key
@@ -45,7 +47,7 @@ module _ {F : Type 0} (trait : Ghosts F) where
   handles_end (Ends (ComesTo takes due)) files old new out out' ending (inr out_of) =
       let spent : Shows new out out' ending (kept old end.NoMemory) = record { state_is = out_of.1.state_is; appended = out_of.1.same ∙ sym (append-nil out); ending_is = out_of.1.ending_is } in
       record { answers = []; between = files; loads = (refl, refl); effect = stays old end.NoMemory; made = inr (out_of.0, refl); done = files; settles = (refl, spent); leaves = refl }
-  handles_end (Ends (Saves name bytes)) files old new out out' ending e = absurd e
+  handles_end (Ends (Saves name bytes hidden)) files old new out out' ending e = absurd e
   handles_end (Holds held name plan) files old new out out' ending e = absurd e
   handles_end (Loads name then_) files old new out out' ending e = absurd e
 
@@ -57,7 +59,7 @@ module _ {F : Type 0} (trait : Ghosts F) where
 
   settles_quiet : (effect : LineEffect) (files files' : F) (old new : KtutilState) (ending : LineEnd) → Settles trait old new [] [] ending effect files files' → (out : List ℕ) → Settles trait old new out out ending effect files files'
   settles_quiet (ComesTo takes due) files files' old new ending settles out = (settles.0, shows_quiet settles.1 out)
-  settles_quiet (Saves name bytes) files files' old new ending settles out = (settles.0, (settles.1.0, shows_quiet settles.1.1 out))
+  settles_quiet (Saves name bytes hidden) files files' old new ending settles out = (settles.0, (settles.1.0, shows_quiet settles.1.1 out))
 
   -- a plan that prints nothing
   pub handles_quiet : {plan : LinePlan} {files files' : F} {old new : KtutilState} {ending : LineEnd} → Handles trait plan files files' old new [] [] ending → (out : List ℕ) → Handles trait plan files files' old new out out ending
@@ -84,12 +86,12 @@ module _ {F : Type 0} (trait : Ghosts F) where
   goes_finished : (effect : LineEffect) (files : F) (old new : KtutilState) (ending : LineEnd) → Finishes (Ends effect) old new ending → GoesOn trait old new ending effect files files
   goes_finished (ComesTo takes due) files old new ending (inl shows) = inl (refl, shows)
   goes_finished (ComesTo takes due) files old new ending (inr out_of) = inr (refl, record { state_is = out_of.1.state_is; appended = out_of.1.same; ending_is = out_of.1.ending_is })
-  goes_finished (Saves name bytes) files old new ending e = absurd e
+  goes_finished (Saves name bytes hidden) files old new ending e = absurd e
 
   -- a load whose keytab was read
   pub handles_read : (s new : KtutilState) (name : List ℕ) (files between : F) (given : Result KeytabState NoKeytab) (ending : LineEnd)
       → (order : Order) → order ≡ s.order → Gives trait files name (keytab_of order) given between → Finishes (Ends (with_entries s given)) s new ending
-      → Handles trait (command_plan s (Ok (ReadFile name))) files between s new [] [] ending
+      → Handles trait (reading_plan s name) files between s new [] [] ending
   handles_read s new name files between given ending order same_order gives finishes =
       let is = subst (λ (o : Order). keytab_of o gives.answer ≡ given) same_order gives.gives in
       handles_loaded s new name (λ answer. with_entries s (keytab_of s.order answer)) refl refl gives.answer files between between ending gives.loads
@@ -120,9 +122,13 @@ module _ {F : Type 0} (trait : Ghosts F) where
         | inr none ↦ elim (subst Goes none goes) [ inl settles ↦ inr settles | inr settles ↦ inr settles ]
       ])
 
-  -- entries were added to a keytab, and it was saved, or the save failed
-  pub goes_saved : (s : KtutilState) (entries : List EntryParts) → s.entries ≡ entries → (name : List ℕ) (k k' : KeytabState) (files files' : F) (answer : Result (Unit {0}) SaveFault) (ending : LineEnd)
-      → with_added entries (Ok k) ≡ Ok k' → SavesFile trait files name (image_of k') answer files' → ending ≡ save_end answer → GoesOn trait s s ending (written_to s name (Ok k)) files files'
-  goes_saved s entries same name k k' files files' answer ending added saves ends =
-      subst (λ (e : LineEffect). GoesOn trait s s ending e files files') (sym (ap (λ (es : List EntryParts). saved_as s name (with_added es (Ok k))) same ∙ ap (saved_as s name) added))
-      (inl (answer, (saves, record { state_is = refl; appended = refl; ending_is = ends })))
+  -- a keytab to which entries were added was saved, or the save failed
+  pub goes_saved : (s : KtutilState) (name : List ℕ) (x : Added) (files files' : F) (answer : Result (Unit {0}) SaveFault) (ending : LineEnd)
+      → SavesFile trait files name (image_of x.keytab) answer files' → ending ≡ save_end (hides_added x.keytab x.places) answer → GoesOn trait s s ending (saved_as s name (Ok x)) files files'
+  goes_saved s name x files files' answer ending saves ends = inl (answer, (saves, record { state_is = refl; appended = refl; ending_is = ends }))
+
+  -- entries were added to a keytab, and what is due was done with it
+  pub goes_added : (s : KtutilState) (entries : List EntryParts) → s.entries ≡ entries → (name : List ℕ) (k : KeytabState) (added : Result Added Code) (files files' : F) (ending : LineEnd)
+      → with_added entries (Ok (none_added k)) ≡ added → GoesOn trait s s ending (saved_as s name added) files files' → GoesOn trait s s ending (written_to s name (Ok k)) files files'
+  goes_added s entries same name k added files files' ending is goes =
+      subst (λ (e : LineEffect). GoesOn trait s s ending e files files') (sym (ap (λ (es : List EntryParts). saved_as s name (with_added es (Ok (none_added k)))) same ∙ ap (saved_as s name) is)) goes

@@ -18,7 +18,8 @@ use Rattle.krb_files.specs.declared.files.LoadFault.TheVariants as load
 use Rattle.krb_files.specs.declared.files.LoadFault.{LoadFault}
 use Rattle.krb_driver.specs.declared.error.RunError.TheVariants.{NoMemory}
 use Rattle.krb_ktutil.specs.InputLines.{lines_of}
-use Rattle.krb_ktutil.specs.KtutilTalk.{Talk, ending_of, line_run, named_in, goes_on, AreFirst, Continues, Stops, TalksOver}
+use Rattle.krb_ktutil.specs.KtutilCommand.{named_in}
+use Rattle.krb_ktutil.specs.KtutilTalk.{Talk, ending_of, line_run, goes_on, AreFirst, Continues, Stops, TalksOver}
 use Rattle.krb_ktutil.specs.KtutilDue.{TalkDue, quiet_run, last_due, due_after, talk_due, GivesLines, LeavesDueUnlessFailed, TalksHonestly}
 use Rattle.krb_driver.specs.Runs.{Run, ReportsEnd, EndsRun, ends_by}
 use Rattle.krb_driver.specs.RunErrors.{Ending, ending_status, input_error, error_status}

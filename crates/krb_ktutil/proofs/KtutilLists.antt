@@ -13,7 +13,7 @@ use Rattle.krb_walk.specs.declared.refusal.Code.{Code}
 use Rattle.krb_walk.specs.declared.refusal.Refusal.{Refusal}
 use Rattle.krb_walk.specs.declared.refusal.Refusal.TheVariants.{Code as ByCode, NoMemory}
 use Rattle.krb_driver.specs.Loading.{result_map}
-use Rattle.krb_ktutil.specs.KtutilPlan.{with_added}
+use Rattle.krb_ktutil.specs.KtutilPlan.{Added, more_added, with_added}
 use Rattle.krb_ktutil.specs.KtutilFiles.{RefusesAdded}
 
 -- placed entries without their places
@@ -38,7 +38,7 @@ with_added-err [] refused = refl
 with_added-err (e ∷ es) refused = refl
 
 -- the refusal of the first entry is that of all entries
-pub refuses_added : (e : EntryParts) (es : List EntryParts) (k k' : KeytabState) (r : Refusal) (all : Result KeytabState Code) → PutGives (put_result k e) k (Err r) k' → with_added (e ∷ es) (Ok k) ≡ all → RefusesAdded all r
-refuses_added e es k k' (ByCode refused) all gives is =
-    sym is ∙ ap (λ (put : Result (ℕ × KeytabState) Code). with_added es (result_map (λ added. added.1) put)) gives.0 ∙ with_added-err es refused
-refuses_added e es k k' NoMemory all gives is = tt
+pub refuses_added : (e : EntryParts) (es : List EntryParts) (x : Added) (k' : KeytabState) (r : Refusal) (all : Result Added Code) → PutGives (put_result x.keytab e) x.keytab (Err r) k' → with_added (e ∷ es) (Ok x) ≡ all → RefusesAdded all r
+refuses_added e es x k' (ByCode refused) all gives is =
+    sym is ∙ ap (λ (put : Result (ℕ × KeytabState) Code). with_added es (result_map (more_added x) put)) gives.0 ∙ with_added-err es refused
+refuses_added e es x k' NoMemory all gives is = tt

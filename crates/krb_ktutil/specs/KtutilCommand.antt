@@ -9,6 +9,8 @@ use Rattle.krb_text.specs.declared.line_fault.LineFault.TheVariants.{UnknownWord
 use Rattle.krb_ktutil.specs.declared.ktutil.verb.Verb.{Verb}
 use Rattle.krb_ktutil.specs.declared.ktutil.verb.Verb.TheVariants as verb
 use Rattle.krb_text.specs.Word.{number_word, etype_word, name_word}
+use Rattle.krb_driver.specs.declared.verdict.FileKind.TheVariants.{Keytab}
+use Rattle.krb_driver.specs.FileNames.{bare_name}
 use Rattle.krb_ktutil.specs.KtutilWords.{words}
 
 -- an entry whose key and time are still to come
@@ -82,7 +84,7 @@ columns_in columns (option ∷ options) = with_column columns option >>= λ more
 abbrev pub listing : List (List ℕ) → Result Command LineFault
 listing words = after (λ columns. Ok (ListSlots columns)) (ok_or (columns_in plain_columns words) WordCount)
 
--- a file's name, in UTF-8
+-- a file's name, with its type if it has one, in UTF-8
 abbrev pub file_word : List ℕ → Result (List ℕ) LineFault
 file_word word = if is_utf8 word then Ok word else Err BadFileName
 
@@ -185,3 +187,20 @@ command_in count (word ∷ words) = command_by count (verb_of word) words
 -- the command of a line, over `count` slots
 abbrev pub command_of : List ℕ → ℕ → Result Command LineFault
 command_of line count = command_in count (words line)
+
+-- ---- the file that a line may name, as messages show it
+
+-- a command on a word: only the name of a file to write keeps its type
+abbrev pub named_by : Option Verb → List ℕ → List ℕ
+named_by (Some verb.Write) word = word
+named_by verb word = bare_name Keytab word
+
+-- the words of a line
+abbrev pub named_among : List (List ℕ) → List ℕ
+named_among [] = []
+named_among (command ∷ []) = []
+named_among (command ∷ word ∷ others) = named_by (verb_of command) word
+
+-- a line
+abbrev pub named_in : List ℕ → List ℕ
+named_in line = named_among (words line)

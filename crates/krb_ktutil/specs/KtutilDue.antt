@@ -9,7 +9,8 @@ use Rattle.krb_ktutil.specs.KtutilPlan.{KtutilState, plan_of}
 use Rattle.krb_files.specs.Plan.{follow}
 use Rattle.krb_ktutil.specs.KtutilHonest.{line_outcome, line_files}
 use Rattle.krb_ktutil.specs.InputLines.{lines_of}
-use Rattle.krb_ktutil.specs.KtutilTalk.{Talk, line_run, named_in, goes_on, AreFirst}
+use Rattle.krb_ktutil.specs.KtutilCommand.{named_in}
+use Rattle.krb_ktutil.specs.KtutilTalk.{Talk, line_run, goes_on, AreFirst}
 use Rattle.krb_driver.specs.Runs.{Run, ReportsEnd, ends_by}
 use Rattle.krb_driver.specs.declared.verdict.Verdict.TheVariants.{Well}
 use Rattle.krb_driver.specs.RunErrors.{Ending, ending_status, input_error}

@@ -3,14 +3,13 @@ use Rattle.std.specs.Prelude.{◌≡◌, ◌⊎◌, ℕ, IsTrue, List, [], ◌++
 use Rattle.krb_walk.specs.declared.refusal.Code.{Code}
 use Rattle.krb_walk.specs.declared.refusal.Refusal.{Refusal}
 use Rattle.krb_walk.specs.declared.refusal.Refusal.TheVariants.{Code as ByCode, NoMemory}
-use Rattle.krb_keytab.specs.Store.{KeytabState}
 use Rattle.krb_files.specs.declared.files.SaveFault.{SaveFault}
 use Rattle.krb_files.specs.declared.files.Files.{Ghosts}
 use Rattle.krb_files.specs.Loading.{Answer, SavesFile}
 use Rattle.krb_files.specs.Plan.{Ends, Leaves, Loaded, by}
 use Rattle.krb_ktutil.specs.declared.ktutil.line_end.LineEnd.{LineEnd}
 use Rattle.krb_ktutil.specs.declared.ktutil.line_end.LineEnd.TheVariants as end
-use Rattle.krb_ktutil.specs.KtutilPlan.{KtutilState, Outcome, LineEffect, ComesTo, Saves, LinePlan, kept, line_faults, save_end, stays, takes_memory}
+use Rattle.krb_ktutil.specs.KtutilPlan.{KtutilState, Outcome, LineEffect, ComesTo, Saves, LinePlan, Added, kept, line_faults, save_end, stays, takes_memory}
 
 -- the state, the text that was appended and the end are those of an outcome
 pub record Shows (state : KtutilState) (out out' : List ℕ) (ending : LineEnd) (due : Outcome) : Type 0 where
@@ -25,7 +24,7 @@ pub record RunsOut (old new : KtutilState) (out out' : List ℕ) (ending : LineE
   pub ending_is : ending ≡ end.NoMemory
 
 -- an addition was refused with this code, or memory ran out
-abbrev pub RefusesAdded : Result KeytabState Code → Refusal → Type 0
+abbrev pub RefusesAdded : Result Added Code → Refusal → Type 0
 RefusesAdded added (ByCode refused) = added ≡ Err refused
 RefusesAdded added NoMemory = Unit {0}
 
@@ -42,8 +41,8 @@ module _ {F : Type 0} (trait : Ghosts F) where
   -- the effect of a line was done: its bytes, if any, were saved, or the save failed, and its outcome was shown
   abbrev pub Settles : KtutilState → KtutilState → List ℕ → List ℕ → LineEnd → LineEffect → F → F → Type 0
   Settles old new out out' ending (ComesTo takes due) files files' = (files' ≡ files) × Shows new out out' ending due
-  Settles old new out out' ending (Saves name bytes) files files' =
-      (answer : Result (Unit {0}) SaveFault) × (SavesFile trait files name bytes answer files' × Shows new out out' ending (kept old (save_end answer)))
+  Settles old new out out' ending (Saves name bytes hidden) files files' =
+      (answer : Result (Unit {0}) SaveFault) × (SavesFile trait files name bytes answer files' × Shows new out out' ending (kept old (save_end hidden answer)))
 
   -- the same for an effect that prints nothing; or memory ran out before it was done
   abbrev pub GoesOn : KtutilState → KtutilState → LineEnd → LineEffect → F → F → Type 0

@@ -1,5 +1,5 @@
 -- What is due after a line of ktutil if the files are honest, and what a line that fails leaves unchanged.
-use Rattle.std.specs.Prelude.{◌≡◌, ◌≢◌, ◌⊎◌, ℕ, List}
+use Rattle.std.specs.Prelude.{◌≡◌, ◌≢◌, ◌⊎◌, ℕ, Bool, true, false, IsFalse, List}
 use Rattle.krb_files.specs.declared.files.LoadFault.TheVariants as load
 use Rattle.krb_files.specs.declared.files.SaveFault.TheVariants as save
 use Rattle.krb_files.specs.declared.files.Files.{Ghosts}
@@ -7,17 +7,23 @@ use Rattle.krb_files.specs.Files.{FileMap, SameFiles, CountsFailure}
 use Rattle.krb_files.specs.Plan.{follow, with_bytes}
 use Rattle.krb_ktutil.specs.declared.ktutil.line_end.LineEnd.{LineEnd}
 use Rattle.krb_ktutil.specs.declared.ktutil.line_end.LineEnd.TheVariants as end
-use Rattle.krb_ktutil.specs.KtutilPlan.{KtutilState, Outcome, LineEffect, ComesTo, Saves, LinePlan, kept}
+use Rattle.krb_ktutil.specs.KtutilPlan.{KtutilState, Outcome, LineEffect, ComesTo, Saves, LinePlan, kept, saved_end}
 use Rattle.krb_ktutil.specs.KtutilFiles.{Shows}
 
 -- the outcome of a line if no call fails, and the files after it
 abbrev pub line_outcome : KtutilState → LineEffect → Outcome
 line_outcome s (ComesTo takes due) = due
-line_outcome s (Saves name bytes) = kept s end.Done
+line_outcome s (Saves name bytes hidden) = kept s (saved_end hidden)
 
 abbrev pub line_files : FileMap → LineEffect → FileMap
 line_files files (ComesTo takes due) = files
-line_files files (Saves name bytes) = with_bytes files name bytes
+line_files files (Saves name bytes hidden) = with_bytes files name bytes
+
+-- a line is done
+abbrev pub is_done : LineEnd → Bool
+is_done end.Done = true
+is_done (end.HiddenFrom place) = true
+is_done ending = false
 
 -- if an allocation fails, in a file call too, the line ends with `NoMemory` and not with an error of the file
 abbrev pub ReportsMemory : LineEnd → Type 0
@@ -49,7 +55,7 @@ module _ {F : Type 0} (trait : Ghosts F) where
     pub honest : trait.is_honest files'
     pub comes : ShowsDue (follow (trait.file files) plan) files files' old new out out' ending ⊎ FailsCall files files' old new out out' ending
 
-  -- a line that is not done left the entries unchanged, and the files too if they are honest
+  -- a line that does not end with `Done` left the entries unchanged, and one that is not done the files too if they are honest
   pub record Spares (files files' : F) (old new : KtutilState) (ending : LineEnd) : Type 0 where
     pub entries : ending ≢ end.Done → new.entries ≡ old.entries
-    pub files_are : trait.is_honest files → ending ≢ end.Done → SameFiles (trait.file files) (trait.file files')
+    pub files_are : trait.is_honest files → IsFalse (is_done ending) → SameFiles (trait.file files) (trait.file files')

@@ -18,6 +18,9 @@ use Rattle.krb_ktutil.specs.declared.ktutil.line_end.LineEnd.TheVariants as end
 use Rattle.krb_driver.specs.declared.loading.NoKeytab.{NoKeytab}
 use Rattle.krb_driver.specs.declared.loading.NoKeytab.TheVariants.{Load, Open}
 use Rattle.krb_driver.specs.Loading.{keytab_of, keytab_or_new, result_map}
+use Rattle.krb_driver.specs.declared.verdict.FileKind.TheVariants.{Keytab}
+use Rattle.krb_driver.specs.FileNames.{bare_name, has_type, is_other_type}
+use Rattle.krb_audit.specs.Findings.{hides_added}
 use Rattle.krb_text.specs.Slots.{slot_text}
 use Rattle.krb_text.specs.Word.{key_word}
 use Rattle.krb_ktutil.specs.KtutilWords.{is_word, trimmed}
@@ -35,10 +38,10 @@ pub record Outcome : Type 0 where
   pub text : List ℕ
   pub ending : LineEnd
 
--- the effect of a line: an outcome, and whether it takes memory; or bytes to save under a name, where the state stays
+-- the effect of a line: an outcome, and whether it takes memory; or bytes to save under a name, where the state stays, and the place from which on MIT's programs see no entry, if one that was added is among those
 pub data LineEffect : Type 0 where
   ComesTo : Bool → Outcome → LineEffect
-  Saves : List ℕ → List ℕ → LineEffect
+  Saves : List ℕ → List ℕ → Option ℕ → LineEffect
 
 -- all that a line does
 abbrev pub LinePlan : Type 0
@@ -74,11 +77,16 @@ no_keytab_end (Load load.Failed) = end.Load load.Failed
 no_keytab_end (Load load.NoMemory) = end.NoMemory
 no_keytab_end (Open why) = end.NotAKeytab why
 
--- how a line ends after the save of its file
-abbrev pub save_end : Result (Unit {0}) SaveFault → LineEnd
-save_end (Ok done) = end.Done
-save_end (Err save.Failed) = end.Save save.Failed
-save_end (Err save.NoMemory) = end.NoMemory
+-- how a line ends that saved its file: it tells the place from which on MIT's programs see no entry, if there is one
+abbrev pub saved_end : Option ℕ → LineEnd
+saved_end None = end.Done
+saved_end (Some place) = end.HiddenFrom place
+
+-- how a line ends after the save of its file; a failed save tells nothing of that place
+abbrev pub save_end : Option ℕ → Result (Unit {0}) SaveFault → LineEnd
+save_end hidden (Ok done) = saved_end hidden
+save_end hidden (Err save.Failed) = end.Save save.Failed
+save_end hidden (Err save.NoMemory) = end.NoMemory
 
 -- the entries of a keytab are appended to the list; a damaged one is refused
 abbrev pub with_entries : KtutilState → Result KeytabState NoKeytab → LineEffect
@@ -87,20 +95,33 @@ with_entries s (Ok k) =
     if is_some (fault_of (store_of k)) then stays s (end.Refused code.Damaged)
     else grows_to (record s { entries = s.entries ++ entries k })
 
--- a keytab with these entries added one after the other, or the first refusal
-abbrev pub with_added : List EntryParts → Result KeytabState Code → Result KeytabState Code
-with_added [] k = k
-with_added (e ∷ es) (Ok k) = with_added es (result_map (λ added. added.1) (put_result k e))
+-- a keytab, and the places at which entries were added to it
+pub record Added : Type 0 where
+  pub keytab : KeytabState
+  pub places : List ℕ
+
+-- a keytab before the first addition
+abbrev pub none_added : KeytabState → Added
+none_added k = record { keytab = k; places = [] }
+
+-- one more entry was added: at this place, which gave this keytab
+abbrev pub more_added : Added → ℕ × KeytabState → Added
+more_added x given = record { keytab = given.1; places = x.places ++ given.0 ∷ [] }
+
+-- a keytab with these entries added too, one after the other, or the first refusal
+abbrev pub with_added : List EntryParts → Result Added Code → Result Added Code
+with_added [] x = x
+with_added (e ∷ es) (Ok x) = with_added es (result_map (more_added x) (put_result x.keytab e))
 with_added (e ∷ es) (Err refused) = Err refused
 
 -- the keytab is saved under the name, or the line ends with the refusal
-abbrev pub saved_as : KtutilState → List ℕ → Result KeytabState Code → LineEffect
-saved_as s name (Ok k) = Saves name (image_of k)
+abbrev pub saved_as : KtutilState → List ℕ → Result Added Code → LineEffect
+saved_as s name (Ok x) = Saves name (image_of x.keytab) (hides_added x.keytab x.places)
 saved_as s name (Err refused) = stays s (end.Refused refused)
 
 -- the entries of the list are added to a keytab, and the keytab is saved
 abbrev pub written_to : KtutilState → List ℕ → Result KeytabState NoKeytab → LineEffect
-written_to s name (Ok k) = saved_as s name (with_added s.entries (Ok k))
+written_to s name (Ok k) = saved_as s name (with_added s.entries (Ok (none_added k)))
 written_to s name (Err why) = stays s (no_keytab_end why)
 
 -- ---- a key
@@ -120,17 +141,23 @@ with_key s x now (Err fault) = stays (record s { awaited = None }) (end.Fault fa
 
 -- ---- a line
 
+-- the entries of a file are appended to the list
+abbrev pub reading_plan : KtutilState → List ℕ → LinePlan
+reading_plan s name = Loads name (λ answer. Ends (with_entries s (keytab_of s.order answer)))
+
 -- the list is added to the keytab of a file
 abbrev pub writing_plan : KtutilState → List ℕ → LinePlan
 writing_plan s name = Loads name (λ answer. Ends (written_to s name (keytab_or_new s.order answer)))
 
--- the plan of a command, or of a faulty line
+-- the plan of a command, or of a faulty line: a name of another type than `FILE:` or `WRFILE:` is not read, and nothing is written under a name that begins with a type
 abbrev pub command_plan : KtutilState → Result Command LineFault → LinePlan
 command_plan s (Err fault) = Ends (stays s (end.Fault fault))
 command_plan s (Ok Skip) = Ends (becomes s)
 command_plan s (Ok (ListSlots columns)) = Ends (ComesTo true (record { state = s; text = slot_text columns s.entries; ending = end.Done }))
-command_plan s (Ok (ReadFile name)) = Loads name (λ answer. Ends (with_entries s (keytab_of s.order answer)))
-command_plan s (Ok (WriteFile name)) = Holds true name (writing_plan s name)
+command_plan s (Ok (ReadFile word)) =
+    if is_other_type Keytab word then Ends (stays s end.OtherType) else reading_plan s (bare_name Keytab word)
+command_plan s (Ok (WriteFile word)) =
+    if has_type word then Ends (stays s end.TypedName) else Holds true word (writing_plan s word)
 command_plan s (Ok (AwaitKey awaited)) = Ends (grows_to (record s { awaited = Some awaited }))
 command_plan s (Ok (DeleteSlot slot)) = Ends (becomes (record s { entries = remove s.entries (slot - 1) }))
 command_plan s (Ok ClearList) = Ends (becomes (record s { entries = [] }))

@@ -9,10 +9,11 @@ use Rattle.krb_files.specs.Bytes.{Watch}
 use Rattle.krb_files.specs.Reader.{Source, is_failed}
 use Rattle.krb_ktutil.specs.declared.ktutil.line_end.LineEnd.{LineEnd}
 use Rattle.krb_ktutil.specs.declared.ktutil.line_end.LineEnd.TheVariants as end
-use Rattle.krb_driver.specs.declared.verdict.Verdict.TheVariants.{Well}
+use Rattle.krb_driver.specs.declared.file_name.NameSource.TheVariants.{Word}
+use Rattle.krb_driver.specs.declared.verdict.Verdict.TheVariants.{Well, HiddenFrom}
 use Rattle.krb_driver.specs.declared.error.RunError.TheVariants as error
 use Rattle.krb_driver.specs.ErrorOutput.{ErrorWatch}
-use Rattle.krb_ktutil.specs.KtutilWords.{words, second}
+use Rattle.krb_ktutil.specs.KtutilCommand.{named_in}
 use Rattle.krb_ktutil.specs.KtutilPlan.{KtutilState, plan_of}
 use Rattle.krb_ktutil.specs.KtutilFiles.{Handles}
 use Rattle.krb_ktutil.specs.InputLines.{CutsOff, lines_of}
@@ -23,10 +24,13 @@ use Rattle.krb_driver.specs.RunErrors.{Ending, input_error, load_error, save_err
 -- the ending of a line of that number
 abbrev pub ending_of : ℕ → LineEnd → Ending
 ending_of number end.Done = Ok Well
+ending_of number (end.HiddenFrom place) = Ok (HiddenFrom place)
 ending_of number end.Quit = Ok Well
 ending_of number (end.Fault fault) = Err (error.FaultyLine number fault)
 ending_of number (end.Refused code) = Err (error.LineRefused number code)
 ending_of number (end.NotAKeytab why) = Err (error.NotAKeytab why)
+ending_of number end.OtherType = Err (error.OtherType Word)
+ending_of number end.TypedName = Err error.TypedName
 ending_of number (end.Load fault) = Err (load_error fault)
 ending_of number (end.Save fault) = Err (save_error fault)
 ending_of number end.NoMemory = Err error.NoMemory
@@ -34,10 +38,6 @@ ending_of number end.NoMemory = Err error.NoMemory
 -- what a line prints, and its ending
 abbrev pub line_run : ℕ → LineEnd → List ℕ → Run
 line_run number ending text = record { out = text; ending = ending_of number ending }
-
--- the file that a line may name
-abbrev pub named_in : List ℕ → List ℕ
-named_in line = second (words line)
 
 -- another line may come after one that ended so
 abbrev pub goes_on : LineEnd → Bool

@@ -31,12 +31,6 @@ is_word (b ∷ bs) = true
 abbrev pub words : List ℕ → List (List ℕ)
 words line = filter is_word (parts line)
 
--- the second of some words, or nothing
-abbrev pub second : List (List ℕ) → List ℕ
-second [] = []
-second (first ∷ []) = []
-second (first ∷ word ∷ others) = word
-
 -- a text without its leading blanks
 abbrev pub unindented : List ℕ → List ℕ
 unindented [] = []

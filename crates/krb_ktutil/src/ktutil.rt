@@ -9,6 +9,7 @@ mod command;
 mod entries;
 mod key;
 mod line_end;
+mod named;
 mod options;
 mod state;
 mod verb;
@@ -16,16 +17,16 @@ mod words;
 
 use crate::input_lines::InputLines;
 use krb_driver::{
-    CommandName, CommandWords, ErrorOutput, RunError, Streams, V1_BIG, Verdict, cause_of, report,
-    show,
+    CommandName, CommandWords, ErrorOutput, NameSource, RunError, Streams, V1_BIG, Verdict,
+    cause_of, report, show,
 };
 use krb_files::{Files, Watched};
 use krb_wire::Order;
 pub use line_end::LineEnd;
+pub use named::file_word;
 pub use state::Ktutil;
 use std::alloc::Allocator;
 use std::io::{Read, Write};
-pub use words::file_word;
 
 /// The words of ktutil.
 pub const KTUTIL: CommandWords = CommandWords {
@@ -73,12 +74,15 @@ fn ending_of(number: u64, ending: LineEnd) -> Result<Verdict, RunError>
 {
     match ending {
         LineEnd::Done | LineEnd::Quit => Ok(Verdict::Well),
+        LineEnd::HiddenFrom(place) => Ok(Verdict::HiddenFrom(place)),
         LineEnd::Fault(fault) => Err(RunError::FaultyLine {
             line: number,
             fault,
         }),
         LineEnd::Refused(code) => Err(RunError::LineRefused { line: number, code }),
         LineEnd::NotAKeytab(why) => Err(RunError::NotAKeytab(why)),
+        LineEnd::OtherType => Err(RunError::OtherType(NameSource::Word)),
+        LineEnd::TypedName => Err(RunError::TypedName),
         LineEnd::Load(fault) => Err(RunError::from(fault)),
         LineEnd::Save(fault) => Err(RunError::from(fault)),
         LineEnd::NoMemory => Err(RunError::NoMemory),

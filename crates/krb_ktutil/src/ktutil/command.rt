@@ -37,7 +37,7 @@ fn utf8(word: &[u8]) -> Result<&str, LineFault>
     }
 }
 
-/// Parses the only word as the name of a file.
+/// Parses the only word as the name of a file, with its type if it has one.
 pub fn file_name(rest: &[u8]) -> Result<&str, LineFault>
     ensures { result_map (λ name. name.now) result ≡ after file_word (only (words rest.now)) }
 {

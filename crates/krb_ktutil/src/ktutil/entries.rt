@@ -1,8 +1,8 @@
 //! Copies entries from a keytab to the list, and from the list to a keytab.
 
-ghost use Rattle.std.specs.Prelude.{◌≡◌, Ok, IfOk, OnOk, IfErr};
+ghost use Rattle.std.specs.Prelude.{◌≡◌, Ok, IfOk, IfErr};
 ghost use Rattle.krb_keytab.specs.Store.{entries};
-ghost use Rattle.krb_ktutil.specs.KtutilPlan.{with_added};
+ghost use Rattle.krb_ktutil.specs.KtutilPlan.{none_added, with_added};
 ghost use Rattle.krb_ktutil.specs.KtutilFiles.{RefusesAdded};
 
 use krb_keytab::{Indexed, Keytab, NewEntry};
@@ -24,16 +24,20 @@ pub fn copy_entries<A: Allocator + Copy, B: Allocator>(
     Ok(copies)
 }
 
-/// Adds entries to a keytab in order, up to the first that is refused.
+/// Adds entries to a keytab in order, up to the first that is refused, and returns their places.
 pub fn add_all<A: Allocator, B: Allocator>(
+    alloc: B,
     keytab: &mut Indexed<B>,
     entries: &[NewEntry<A>],
-) -> Result<(), Refusal>
-    ensures ok { OnOk result (with_added entries.now (Ok keytab.old.state) ≡ Ok keytab.new.state) }
-    ensures err { IfErr result (RefusesAdded (with_added entries.now (Ok keytab.old.state))) }
+) -> Result<Vec<u32, B>, Refusal>
+    ensures ok { IfOk result (λ places. with_added entries.now (Ok (none_added keytab.old.state))
+        ≡ Ok (record { keytab = keytab.new.state; places = places.items })) }
+    ensures err { IfErr result (RefusesAdded (with_added entries.now (Ok (none_added keytab.old.state)))) }
 {
+    let mut places = Vec::new(alloc);
     'entries: for entry in entries {
-        keytab.add(entry)?;
+        let place = keytab.add(entry)?;
+        places.push(place)?;
     }
-    Ok(())
+    Ok(places)
 }

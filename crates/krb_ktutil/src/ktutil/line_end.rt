@@ -1,7 +1,7 @@
 //! How a line of ktutil ends.
 
 ghost use Rattle.std.specs.Prelude.{◌≡◌};
-ghost use Rattle.krb_ktutil.specs.KtutilPlan.{no_keytab_end, save_end};
+ghost use Rattle.krb_ktutil.specs.KtutilPlan.{no_keytab_end, save_end, saved_end};
 
 use krb_driver::{NoKeytab, NotKeytab};
 use krb_files::{LoadFault, SaveFault};
@@ -12,11 +12,17 @@ use krb_walk::Code;
 #[derive(Clone, Copy, PartialEq, Eq)]
 pub enum LineEnd {
     Done,
+    /// Done, but an entry that was added is not seen by MIT's programs: they see none from this place on.
+    HiddenFrom(u32),
     Quit,
     Fault(LineFault),
     /// A keytab refused what was read from it or added to it.
     Refused(Code),
     NotAKeytab(NotKeytab),
+    /// There is no such file, as its name is of a type that is not read.
+    OtherType,
+    /// Nothing is written under a name that begins with a type.
+    TypedName,
     Load(LoadFault),
     Save(SaveFault),
     NoMemory,
@@ -34,12 +40,22 @@ impl From<NoKeytab> for LineEnd {
     }
 }
 
-/// Returns how a line ends after the save of its file.
-pub fn save_end(saved: Result<(), SaveFault>) -> LineEnd
-    ensures { result ≡ save_end saved }
+// Returns how a line ends that saved its file, after which MIT's programs do not see an entry that was added, or see all.
+fn saved_end(hidden_from: Option<u32>) -> LineEnd
+    ensures { result ≡ saved_end hidden_from }
+{
+    match hidden_from {
+        None => LineEnd::Done,
+        Some(place) => LineEnd::HiddenFrom(place),
+    }
+}
+
+/// Returns how a line ends after the save of its file. A failed save tells nothing of what MIT's programs see.
+pub fn save_end(hidden_from: Option<u32>, saved: Result<(), SaveFault>) -> LineEnd
+    ensures { result ≡ save_end hidden_from saved }
 {
     match saved {
-        Ok(()) => LineEnd::Done,
+        Ok(()) => saved_end(hidden_from),
         Err(SaveFault::NoMemory) => LineEnd::NoMemory,
         Err(SaveFault::Failed) => LineEnd::Save(SaveFault::Failed),
     }

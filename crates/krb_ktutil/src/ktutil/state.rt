@@ -196,11 +196,11 @@ impl<A: Allocator + Copy> Ktutil<A> {
         match verb {
             Verb::List => self.list(rest, out),
             Verb::Read => match file_name(rest) {
-                Ok(name) => self.read(files, name),
+                Ok(word) => self.read(files, word),
                 Err(fault) => LineEnd::Fault(fault),
             },
             Verb::Write => match file_name(rest) {
-                Ok(name) => self.write(files, name),
+                Ok(word) => self.write(files, word),
                 Err(fault) => LineEnd::Fault(fault),
             },
             Verb::Add => self.add(rest),

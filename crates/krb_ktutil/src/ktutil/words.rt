@@ -1,7 +1,7 @@
 //! The words of a line. Runs of spaces and tabs separate them; a backslash keeps the byte after it in its word.
 
 ghost use Rattle.std.specs.Prelude.{◌≡◌, ◌==◌, ◌&&◌, not, ◌<◌, ◌≤◌, ◌∷◌, [], length, MatchOption};
-ghost use Rattle.krb_ktutil.specs.KtutilWords.{is_blank, unindented, trimmed, word_size, words, second};
+ghost use Rattle.krb_ktutil.specs.KtutilWords.{is_blank, unindented, trimmed, word_size, words};
 
 fn is_blank(byte: u8) -> bool
     ensures { result ≡ is_blank byte }
@@ -79,17 +79,4 @@ pub fn trimmed(text: &[u8]) -> &[u8]
         rest = before;
     }
     rest
-}
-
-/// Returns the second word of a line, or an empty one. If a line names a file, this is its name.
-pub fn file_word(line: &[u8]) -> &[u8]
-    ensures { result.now ≡ second (words line.now) }
-{
-    let Some((_, after)) = next_word(line) else {
-        return &[];
-    };
-    match next_word(after) {
-        Some((word, _)) => word,
-        None => &[],
-    }
 }

@@ -1,15 +1,16 @@
-use Rattle.std.proofs.Common.{ap, refl, inl}
-use Rattle.std.specs.Prelude.{Ok, Err}
-use Rattle.krb_ktutil.specs.KtutilPlan.{KtutilState}
-use Rattle.krb_ktutil.proofs.KtutilHandles.{handles_read}
+use Rattle.std.proofs.Common.{◌≡◌, true, false, sym, ◌∙◌}
+use Rattle.krb_driver.specs.FileNames.{is_other_type}
+use Rattle.krb_driver.specs.declared.verdict.FileKind.TheVariants.{Keytab}
+use Rattle.krb_ktutil.proofs.KtutilHandles.{handles_stays}
 use Rattle.krb_ktutil.proofs.ktutil.state.Ktutil.read.Goals as goal
 
-pub returns-in-Ok : goal.returns-in-Ok
-returns-in-Ok g c =
-    handles_read g.F.Files c.args.self.now c.take_entries.new.self c.args.name.now c.args.files.now c.load_keytab.new.files (Ok c.in-Ok.keytab.state) c.take_entries.result
-    c.self.inside.v1_order (ap (λ (s : KtutilState). s.order) c.self.view_is) c.in-Ok.ensures c.take_entries.ensures
+-- the type of the word is not read
+pub returns-then-file : goal.returns-then-file
+returns-then-file g c =
+    let other : is_other_type Keytab c.args.word.now ≡ true = sym c.of-file.ensures.other ∙ c.if-file.true in
+    rw other (handles_stays g.F.Files)
 
-pub returns-in-Err : goal.returns-in-Err
-returns-in-Err g c =
-    handles_read g.F.Files c.args.self.now c.args.self.now c.args.name.now c.args.files.now c.load_keytab.new.files (Err c.in-Err.why) c.from.result
-    c.self.inside.v1_order (ap (λ (s : KtutilState). s.order) c.self.view_is) c.in-Err.ensures (inl (record { state_is = refl; appended = refl; ending_is = c.from.ensures }))
+pub returns : goal.returns
+returns g c =
+    let read : is_other_type Keytab c.args.word.now ≡ false = sym c.of-file.ensures.other ∙ c.if-file.false in
+    rw (read, ← c.of-file.ensures.name) c.read_file.ensures

@@ -15,7 +15,7 @@ returns-in-List g c =
 pub returns-in-Ok : goal.returns-in-Ok
 returns-in-Ok g c =
     let is : c.args.verb ≡ verb.Read = c.in-Read.is in
-    let named : after file_word (only (words c.args.rest.now)) ≡ Ok c.in-Ok.name.now = sym c.in-Ok.ensures in
+    let named : after file_word (only (words c.args.rest.now)) ≡ Ok c.in-Ok.word.now = sym c.in-Ok.ensures in
     rw (is, named) (handles_quiet g.F.Files c.read.ensures c.args.out.now.items)
 
 pub returns-in-Err : goal.returns-in-Err
@@ -27,7 +27,7 @@ returns-in-Err g c =
 pub returns-in-Ok-file_name : goal.returns-in-Ok-file_name
 returns-in-Ok-file_name g c =
     let is : c.args.verb ≡ verb.Write = c.in-Write.is in
-    let named : after file_word (only (words c.args.rest.now)) ≡ Ok c.in-Ok-file_name.name.now = sym c.in-Ok-file_name.ensures in
+    let named : after file_word (only (words c.args.rest.now)) ≡ Ok c.in-Ok-file_name.word.now = sym c.in-Ok-file_name.ensures in
     rw (is, named) (handles_quiet g.F.Files c.write.ensures c.args.out.now.items)
 
 pub returns-in-Err-file_name : goal.returns-in-Err-file_name
