@@ -16,9 +16,10 @@ use Rattle.krb_ktutil.specs.declared.ktutil.line_end.LineEnd.{LineEnd}
 use Rattle.krb_ktutil.specs.declared.ktutil.line_end.LineEnd.TheVariants as end
 use Rattle.krb_driver.specs.declared.loading.NoKeytab.{NoKeytab}
 use Rattle.krb_audit.specs.Findings.{hides_added}
+use Rattle.krb_driver.specs.FileNames.{has_type}
 use Rattle.krb_walk.specs.declared.refusal.Code.{Code}
 use Rattle.krb_driver.specs.Loading.{keytab_of, keytab_or_new, Gives, GivesOrRunsOut}
-use Rattle.krb_ktutil.specs.KtutilCommand.{Awaited, AwaitKey, after}
+use Rattle.krb_ktutil.specs.KtutilCommand.{Awaited, AwaitKey, WriteFile, after}
 use Rattle.krb_ktutil.specs.KtutilPlan.{KtutilState, Outcome, LineEffect, ComesTo, Saves, LinePlan, Added, command_plan, kept, line_faults, none_added, reading_plan, save_end, saved_as, stays, with_added, with_entries, writing_plan, written_to}
 use Rattle.krb_ktutil.specs.KtutilFiles.{Shows, EndsAt, Finishes, Settles, GoesOn, Handles}
 
@@ -56,6 +57,10 @@ module _ {F : Type 0} (trait : Ghosts F) where
   handles_stays {s = s} {ending = ending} {files = files} {out = out} =
       let shows : Shows s out out ending (kept s ending) = record { state_is = refl; appended = sym (append-nil out); ending_is = refl } in
       record { answers = []; between = files; loads = (refl, refl); effect = stays s ending; made = inl refl; done = files; settles = (refl, shows); leaves = refl }
+
+  -- nothing is written under a name that begins with a type
+  pub handles_typed : (s : KtutilState) (word : List ℕ) (files : F) → has_type word ≡ true → Handles trait (command_plan s (Ok (WriteFile word))) files files s s [] [] end.TypedName
+  handles_typed s word files typed = rw typed handles_stays
 
   settles_quiet : (effect : LineEffect) (files files' : F) (old new : KtutilState) (ending : LineEnd) → Settles trait old new [] [] ending effect files files' → (out : List ℕ) → Settles trait old new out out ending effect files files'
   settles_quiet (ComesTo takes due) files files' old new ending settles out = (settles.0, shows_quiet settles.1 out)

@@ -122,6 +122,7 @@ impl<A: Allocator + Copy> Ktutil<A> {
     }
 
     // Adds the list to the file that a word names, unless the word begins with a type.
+    #[tactic(auto, using(crate::proofs::KtutilHandles::handles_typed))]
     pub(crate) fn write<F: Files>(&self, files: &mut F, word: &str) -> LineEnd
         ensures { Handles F.Files (command_plan self.now (Ok (WriteFile word.now)))
             files.old files.new self.now self.now [] [] result }

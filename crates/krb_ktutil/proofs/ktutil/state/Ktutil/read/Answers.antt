@@ -1,16 +1,11 @@
-use Rattle.std.proofs.Common.{◌≡◌, true, false, sym, ◌∙◌}
+use Rattle.std.proofs.Common.{◌≡◌, true, sym, ◌∙◌}
 use Rattle.krb_driver.specs.FileNames.{is_other_type}
 use Rattle.krb_driver.specs.declared.verdict.FileKind.TheVariants.{Keytab}
 use Rattle.krb_ktutil.proofs.KtutilHandles.{handles_stays}
 use Rattle.krb_ktutil.proofs.ktutil.state.Ktutil.read.Goals as goal
 
--- the type of the word is not read
+-- the word's type is not read
 pub returns-then-file : goal.returns-then-file
 returns-then-file g c =
     let other : is_other_type Keytab c.args.word.now ≡ true = sym c.of-file.ensures.other ∙ c.if-file.true in
     rw other (handles_stays g.F.Files)
-
-pub returns : goal.returns
-returns g c =
-    let read : is_other_type Keytab c.args.word.now ≡ false = sym c.of-file.ensures.other ∙ c.if-file.false in
-    rw (read, ← c.of-file.ensures.name) c.read_file.ensures
