@@ -1,4 +1,3 @@
-use Rattle.std.proofs.Common.{ap}
 use Rattle.krb_keytab.specs.Store.{image_of}
 use Rattle.krb_files.specs.Loading.{SavesFile}
 use Rattle.krb_ktutil.proofs.KtutilHandles.{goes_saved}

@@ -1,4 +1,3 @@
-use Rattle.std.proofs.Common.{sym}
 use Rattle.std.specs.Prelude.{Ok}
 use Rattle.krb_ktutil.specs.KtutilPlan.{Added}
 use Rattle.krb_ktutil.proofs.KtutilHandles.{goes_added}
