@@ -188,19 +188,19 @@ command_in count (word ∷ words) = command_by count (verb_of word) words
 abbrev pub command_of : List ℕ → ℕ → Result Command LineFault
 command_of line count = command_in count (words line)
 
--- ---- the file that a line may name, as messages show it
+-- ---- the name that messages show
 
--- a command on a word: only the name of a file to write keeps its type
+-- the file that a command names by a word: without the type of files that are read, unless it is to be written
 abbrev pub named_by : Option Verb → List ℕ → List ℕ
 named_by (Some verb.Write) word = word
 named_by verb word = bare_name Keytab word
 
--- the words of a line
+-- the file that words may name: the second one
 abbrev pub named_among : List (List ℕ) → List ℕ
 named_among [] = []
 named_among (command ∷ []) = []
 named_among (command ∷ word ∷ others) = named_by (verb_of command) word
 
--- a line
+-- the file that a line may name
 abbrev pub named_in : List ℕ → List ℕ
 named_in line = named_among (words line)

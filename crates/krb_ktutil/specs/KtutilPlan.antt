@@ -38,7 +38,7 @@ pub record Outcome : Type 0 where
   pub text : List ℕ
   pub ending : LineEnd
 
--- the effect of a line: an outcome, and whether it takes memory; or bytes to save under a name, where the state stays, and the place from which on MIT's programs see no entry, if one that was added is among those
+-- the effect of a line: an outcome, and whether it takes memory; or bytes to save under a name, where the state stays, and the place from which on MIT's programs see no entry, if they do not see one that was added
 pub data LineEffect : Type 0 where
   ComesTo : Bool → Outcome → LineEffect
   Saves : List ℕ → List ℕ → Option ℕ → LineEffect
@@ -77,12 +77,12 @@ no_keytab_end (Load load.Failed) = end.Load load.Failed
 no_keytab_end (Load load.NoMemory) = end.NoMemory
 no_keytab_end (Open why) = end.NotAKeytab why
 
--- how a line ends that saved its file: it tells the place from which on MIT's programs see no entry, if there is one
+-- how a line ends after its file was saved: it tells the place from which on MIT's programs see no entry, if there is one
 abbrev pub saved_end : Option ℕ → LineEnd
 saved_end None = end.Done
 saved_end (Some place) = end.HiddenFrom place
 
--- how a line ends after the save of its file; a failed save tells nothing of that place
+-- how a line ends after the save of its file: if the save failed, it does not tell that place
 abbrev pub save_end : Option ℕ → Result (Unit {0}) SaveFault → LineEnd
 save_end hidden (Ok done) = saved_end hidden
 save_end hidden (Err save.Failed) = end.Save save.Failed
@@ -104,11 +104,11 @@ pub record Added : Type 0 where
 abbrev pub none_added : KeytabState → Added
 none_added k = record { keytab = k; places = [] }
 
--- one more entry was added: at this place, which gave this keytab
+-- the same after one more addition, which gave a place and a keytab
 abbrev pub more_added : Added → ℕ × KeytabState → Added
 more_added x given = record { keytab = given.1; places = x.places ++ given.0 ∷ [] }
 
--- a keytab with these entries added too, one after the other, or the first refusal
+-- a keytab with these entries added one after the other, or the first refusal
 abbrev pub with_added : List EntryParts → Result Added Code → Result Added Code
 with_added [] x = x
 with_added (e ∷ es) (Ok x) = with_added es (result_map (more_added x) (put_result x.keytab e))
@@ -149,7 +149,7 @@ reading_plan s name = Loads name (λ answer. Ends (with_entries s (keytab_of s.o
 abbrev pub writing_plan : KtutilState → List ℕ → LinePlan
 writing_plan s name = Loads name (λ answer. Ends (written_to s name (keytab_or_new s.order answer)))
 
--- the plan of a command, or of a faulty line: a name of another type than `FILE:` or `WRFILE:` is not read, and nothing is written under a name that begins with a type
+-- the plan of a command, or of a faulty line: only a file is read, named with its type or without it, and nothing is written under a name that begins with a type
 abbrev pub command_plan : KtutilState → Result Command LineFault → LinePlan
 command_plan s (Err fault) = Ends (stays s (end.Fault fault))
 command_plan s (Ok Skip) = Ends (becomes s)

@@ -12,7 +12,7 @@ use krb_walk::Code;
 #[derive(Clone, Copy, PartialEq, Eq)]
 pub enum LineEnd {
     Done,
-    /// Done, but an entry that was added is not seen by MIT's programs: they see none from this place on.
+    /// Done, but MIT's programs do not see an entry that was added: they see none from this place on.
     HiddenFrom(u32),
     Quit,
     Fault(LineFault),
@@ -40,7 +40,7 @@ impl From<NoKeytab> for LineEnd {
     }
 }
 
-// Returns how a line ends that saved its file, after which MIT's programs do not see an entry that was added, or see all.
+// Returns how a line ends after its file was saved. MIT's programs see no entry from that place on, if one is given.
 fn saved_end(hidden_from: Option<u32>) -> LineEnd
     ensures { result ≡ saved_end hidden_from }
 {
@@ -50,7 +50,7 @@ fn saved_end(hidden_from: Option<u32>) -> LineEnd
     }
 }
 
-/// Returns how a line ends after the save of its file. A failed save tells nothing of what MIT's programs see.
+/// Returns how a line ends after the save of its file. If the save failed, nothing is said of what MIT's programs see.
 pub fn save_end(hidden_from: Option<u32>, saved: Result<(), SaveFault>) -> LineEnd
     ensures { result ≡ save_end hidden_from saved }
 {

@@ -19,7 +19,7 @@ fn bare_name(word: &[u8]) -> &[u8]
     }
 }
 
-// Returns the file that a command on a word names.
+// Returns the file that a command names by a word.
 fn named_by<'a>(command: &[u8], word: &'a [u8]) -> &'a [u8]
     ensures { result.now ≡ named_by (verb_of command.now) word.now }
 {
@@ -29,7 +29,8 @@ fn named_by<'a>(command: &[u8], word: &'a [u8]) -> &'a [u8]
     }
 }
 
-/// Returns the file that a line may name: its second word, or nothing. Only the name of a file to write keeps its type.
+/// Returns the file that a line may name: its second word, or nothing. `FILE:` and `WRFILE:` are taken off, unless the
+/// file is to be written.
 pub fn file_word(line: &[u8]) -> &[u8]
     ensures { result.now ≡ named_in line.now }
 {
