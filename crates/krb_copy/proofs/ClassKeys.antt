@@ -1,13 +1,12 @@
 -- Entries are twins iff their keys in a map compare equal.
-use Rattle.std.proofs.Common.{◌≡◌, ℕ, ◌+◌, ◌*◌, ◌<◌, Bool, true, false, cond, List, [], ◌∷◌, ◌++◌, length, Some, None, Ok, refl, sym, ap, ◌∙◌, arith}
-use Rattle.std.specs.Prelude.{◌&&◌, ◌==◌, unwrap_or, map, Result, nat_lt}
+use Rattle.std.proofs.Common.{◌≡◌, ℕ, ◌+◌, ◌*◌, ◌<◌, Bool, true, false, cond, List, [], ◌∷◌, ◌++◌, length, None, Ok, refl, sym, ap, ◌∙◌, arith}
+use Rattle.std.specs.Prelude.{◌&&◌, ◌==◌, map, Result, nat_lt}
 use Rattle.std.specs.List.{join_with_byte}
 use Rattle.std.specs.declared.cmp.Ordering.{Ordering}
 use Rattle.std.specs.declared.cmp.Ordering.TheVariants.{Less, Equal, Greater}
 use Rattle.std.specs.Ordering.{nat_cmp, ordering_then, is_eq}
 use Rattle.std.specs.Cmp.Lexicographic.{slice_cmp}
 use Rattle.std.specs.Str.{bytes_eq}
-use Rattle.std.specs.BTreeMap.{get, get_by, Updates}
 use Rattle.std.proofs.lemmas.Map.Text.{is_eq-slice_cmp}
 use Rattle.std.proofs.lemmas.Slice.Eq.{bytes_eq-Decides}
 use Rattle.krb_wire.specs.Spelling.{Parts}
@@ -19,11 +18,8 @@ use Rattle.krb_wire.proofs.NamesCompared.{same_name_is, and_both, both_and}
 use Rattle.krb_wire.proofs.RoundTrip.{name_of-name_text}
 use Rattle.krb_keytab.specs.Entry.{EntryParts}
 use Rattle.krb_audit.specs.Hash.{hash_of}
-use Rattle.krb_copy.specs.Twins.{are_twins, are_same}
-use Rattle.krb_copy.specs.declared.numbers.Numbers.{Numbers}
-use Rattle.krb_copy.specs.Numbers.{ClassKey, IsClassKey, SameKey, class_cmp, same_cmp, first_twin, first_same, AreNumbered}
-use Rattle.krb_copy.proofs.Alike.{twins_equiv, same_equiv}
-use Rattle.krb_copy.proofs.Positions.{number_here, number_after}
+use Rattle.krb_copy.specs.Twins.{are_twins}
+use Rattle.krb_copy.specs.Numbers.{ClassKey, IsClassKey, KeyIn, class_cmp, key_cmp}
 
 -- ---- names as text
 
@@ -117,14 +113,14 @@ kinds_agree v e w f small other = both_by (v * 65536 + e == w * 65536 + f) (v ==
     (λ versions enctypes. let vs = same_number v w versions in let es = same_number e f enctypes in number_same _ _ (omega (arith, vs, es)))
 
 -- entries are twins iff their keys compare equal
-pub classes_agree : {A : Type 0} (x y : EntryParts) (k l : ClassKey A) → IsClassKey x k → IsClassKey y l → is_eq (class_cmp k l) ≡ are_twins x y
+pub classes_agree : (x y : EntryParts) (k l : ClassKey) → IsClassKey x k → IsClassKey y l → is_eq (class_cmp k l) ≡ are_twins x y
 classes_agree x y k l of_x of_y =
-    then_is _ (slice_cmp nat_cmp k.3.items l.3.items)
-    ∙ ap (λ (b : Bool). b && is_eq (slice_cmp nat_cmp k.3.items l.3.items)) (then_is _ (nat_cmp k.2 l.2) ∙ ap (λ (b : Bool). b && is_eq (nat_cmp k.2 l.2)) (then_is (nat_cmp k.0 l.0) (nat_cmp k.1 l.1)))
-    ∙ ap (λ (b : Bool). ((is_eq (nat_cmp k.0 l.0) && is_eq (nat_cmp k.1 l.1)) && is_eq (nat_cmp k.2 l.2)) && b) (is_eq-slice_cmp k.3.items l.3.items)
-    ∙ ap (λ (b : Bool). ((b && is_eq (nat_cmp k.1 l.1)) && is_eq (nat_cmp k.2 l.2)) && bytes_eq k.3.items l.3.items) (nat_is k.0 l.0)
-    ∙ ap (λ (b : Bool). (((k.0 == l.0) && b) && is_eq (nat_cmp k.2 l.2)) && bytes_eq k.3.items l.3.items) (nat_is k.1 l.1)
-    ∙ ap (λ (b : Bool). (((k.0 == l.0) && (k.1 == l.1)) && b) && bytes_eq k.3.items l.3.items) (nat_is k.2 l.2)
+    then_is _ (slice_cmp nat_cmp k.3.now l.3.now)
+    ∙ ap (λ (b : Bool). b && is_eq (slice_cmp nat_cmp k.3.now l.3.now)) (then_is _ (nat_cmp k.2 l.2) ∙ ap (λ (b : Bool). b && is_eq (nat_cmp k.2 l.2)) (then_is (nat_cmp k.0 l.0) (nat_cmp k.1 l.1)))
+    ∙ ap (λ (b : Bool). ((is_eq (nat_cmp k.0 l.0) && is_eq (nat_cmp k.1 l.1)) && is_eq (nat_cmp k.2 l.2)) && b) (is_eq-slice_cmp k.3.now l.3.now)
+    ∙ ap (λ (b : Bool). ((b && is_eq (nat_cmp k.1 l.1)) && is_eq (nat_cmp k.2 l.2)) && bytes_eq k.3.now l.3.now) (nat_is k.0 l.0)
+    ∙ ap (λ (b : Bool). (((k.0 == l.0) && b) && is_eq (nat_cmp k.2 l.2)) && bytes_eq k.3.now l.3.now) (nat_is k.1 l.1)
+    ∙ ap (λ (b : Bool). (((k.0 == l.0) && (k.1 == l.1)) && b) && bytes_eq k.3.now l.3.now) (nat_is k.2 l.2)
     ∙ rw (of_x.hash, of_x.kind, of_x.count, of_x.name, of_y.hash, of_y.kind, of_y.count, of_y.name)
     (drop_hash (hash_of (name_text x.principal) == hash_of (name_text y.principal)) (x.version * 65536 + x.enctype == y.version * 65536 + y.enctype) (length x.principal.components == length y.principal.components) (bytes_eq (name_text x.principal) (name_text y.principal))
     (λ same. number_same _ _ (ap hash_of ((bytes_eq-Decides (name_text x.principal) (name_text y.principal)).0 same)))
@@ -132,33 +128,9 @@ classes_agree x y k l of_x of_y =
     ∙ ap (λ (b : Bool). b && (x.version * 65536 + x.enctype == y.version * 65536 + y.enctype)) (names_agree x.principal y.principal)
     ∙ ap (λ (b : Bool). have_same_name x.principal y.principal && b) (kinds_agree x.version x.enctype y.version y.enctype of_x.small of_y.small))
 
--- the same with the bytes of the key
-pub keys_agree : {A : Type 0} (x y : EntryParts) (k l : SameKey A) → IsClassKey x k.0 → IsClassKey y l.0 → k.1.now ≡ x.key → l.1.now ≡ y.key → is_eq (same_cmp k l) ≡ are_same x y
-keys_agree x y k l of_x of_y key other =
-    then_is (class_cmp k.0 l.0) (slice_cmp nat_cmp k.1.now l.1.now)
-    ∙ ap (λ (b : Bool). b && is_eq (slice_cmp nat_cmp k.1.now l.1.now)) (classes_agree x y k.0 l.0 of_x of_y)
-    ∙ ap (λ (b : Bool). are_twins x y && b) (is_eq-slice_cmp k.1.now l.1.now ∙ ap (λ (b : List ℕ). bytes_eq b l.1.now) key ∙ ap (bytes_eq x.key) other)
-
--- ---- one more entry
-
--- its number in a map of classes
-pub class_here : {A : Type 0} (xs : List EntryParts) (x : EntryParts) (n : Numbers A) (k : ClassKey A) (next class : ℕ) → AreNumbered xs n → IsClassKey x k → next ≡ length xs → class ≡ unwrap_or (get class_cmp n.classes k) next
-    → Some class ≡ first_twin x (xs ++ x ∷ [])
-class_here xs x n k next class known is next_is class_is = number_here are_twins twins_equiv xs x (get class_cmp n.classes k) next class (known.classes x k is) next_is class_is
-
--- its number in a map of keys
-pub key_here : {A : Type 0} (xs : List EntryParts) (x : EntryParts) (n : Numbers A) (k : SameKey A) (next key : ℕ) → AreNumbered xs n → IsClassKey x k.0 → k.1.now ≡ x.key → next ≡ length xs → key ≡ unwrap_or (get same_cmp n.keys k) next
-    → Some key ≡ first_same x (xs ++ x ∷ [])
-key_here xs x n k next key known is key_of next_is key_is = number_here are_same same_equiv xs x (get same_cmp n.keys k) next key (known.keys x k is key_of) next_is key_is
-
--- the maps have the numbers of one more entry
-pub one_more : {A : Type 0} (xs : List EntryParts) (x : EntryParts) (n new : Numbers A) (k : ClassKey A) (l : SameKey A) (next class key : ℕ) → AreNumbered xs n → IsClassKey x k → IsClassKey x l.0 → l.1.now ≡ x.key → next ≡ length xs
-    → class ≡ unwrap_or (get class_cmp n.classes k) next → Updates class_cmp n.classes new.classes k (Some class)
-    → key ≡ unwrap_or (get same_cmp n.keys l) next → Updates same_cmp n.keys new.keys l (Some key)
-    → AreNumbered (xs ++ x ∷ []) new
-one_more xs x n new k l next class key known of_class of_key key_of next_is class_is classes key_is keys = record {
-  classes = λ y q is. number_after are_twins twins_equiv xs x y (get class_cmp n.classes k) (get_by (class_cmp q) n.classes) (get_by (class_cmp q) new.classes) next class (is_eq (class_cmp k q))
-      (known.classes x k of_class) next_is class_is (classes_agree x y k q of_class is) (known.classes y q is) (classes.0 q);
-  keys = λ y q is of_y. number_after are_same same_equiv xs x y (get same_cmp n.keys l) (get_by (same_cmp q) n.keys) (get_by (same_cmp q) new.keys) next key (is_eq (same_cmp l q))
-      (known.keys x l of_key key_of) next_is key_is (keys_agree x y l q of_key is key_of of_y) (known.keys y q is of_y) (keys.0 q);
-}
+-- keys compare equal iff their classes have the same number and they have the same bytes
+pub keys_agree : (k l : KeyIn) → is_eq (key_cmp k l) ≡ ((k.0 == l.0) && bytes_eq k.1.now l.1.now)
+keys_agree k l =
+    then_is (nat_cmp k.0 l.0) (slice_cmp nat_cmp k.1.now l.1.now)
+    ∙ ap (λ (b : Bool). b && is_eq (slice_cmp nat_cmp k.1.now l.1.now)) (nat_is k.0 l.0)
+    ∙ ap (λ (b : Bool). (k.0 == l.0) && b) (is_eq-slice_cmp k.1.now l.1.now)

@@ -1,6 +1,8 @@
 pub mod Alike
 pub mod Positions
 pub mod ClassKeys
+pub mod KeyNumbers
+pub mod Named
 pub mod ListPlaces
 pub mod Meeting
 pub mod MetAfter

@@ -1,5 +1,5 @@
 -- What is known of the twins of each entry during a run.
-use Rattle.std.specs.Prelude.{◌≡◌, ℕ, List, [], ◌∷◌, ◌++◌, length, map, filter, Bool, true, false, get_or, Some, Vec, ◌&&◌, not, if◌then◌else◌}
+use Rattle.std.specs.Prelude.{◌≡◌, ℕ, List, [], ◌∷◌, ◌++◌, length, map, filter, Bool, true, false, get_or, Some, ◌&&◌, not, if◌then◌else◌}
 use Rattle.std.specs.List.{list_any}
 use Rattle.krb_keytab.specs.Entry.{EntryParts}
 use Rattle.krb_keytab.specs.Find.{PlacedEntry}
@@ -9,6 +9,8 @@ use Rattle.krb_copy.specs.Numbers.{first_twin, first_same}
 use Rattle.krb_copy.specs.declared.classes.Classes.{Classes}
 use Rattle.krb_copy.specs.declared.classes.Step.{Step as StepOf}
 use Rattle.krb_copy.specs.declared.classes.Step.TheVariants as step
+use Rattle.krb_copy.specs.declared.lists.Places.{Places}
+use Rattle.krb_copy.specs.declared.lists.Places.TheVariants.{None, One, More}
 use Rattle.krb_copy.specs.declared.classes.Met.{Met}
 use Rattle.krb_copy.specs.declared.classes.Met.TheVariants.{New, Kept, Copied}
 
@@ -16,12 +18,18 @@ use Rattle.krb_copy.specs.declared.classes.Met.TheVariants.{New, Kept, Copied}
 abbrev pub found_twins : EntryParts → List PlacedEntry → List PlacedEntry
 found_twins x xs = filter (λ y. are_twins x y.1) xs
 
+-- the places of a class
+abbrev pub places_in : {A : Type 0} → Places A → List ℕ
+places_in None = []
+places_in (One place) = place ∷ []
+places_in (More places) = places.items
+
 -- the places of class c
-abbrev pub list_at : {A : Type 0} → List (Vec ℕ A) → ℕ → List ℕ
-list_at lists c = get_or (map (λ v. v.items) lists) c []
+abbrev pub list_at : {A : Type 0} → List (Places A) → ℕ → List ℕ
+list_at lists c = get_or (map places_in lists) c []
 
 -- each class of entries has the places of its entries in the keytab
-abbrev pub ArePlaces : {A : Type 0} → List EntryParts → List PlacedEntry → List (Vec ℕ A) → Type 0
+abbrev pub ArePlaces : {A : Type 0} → List EntryParts → List PlacedEntry → List (Places A) → Type 0
 ArePlaces all xs lists = (x : EntryParts) (c : ℕ) → first_twin x all ≡ Some c → list_at lists c ≡ map (λ y. y.0) (found_twins x xs)
 
 -- the keytab has the twins of an entry that it had before the run, and whether one of them stays is known

@@ -85,7 +85,7 @@ fn step_copied<'a>(number: Number, key: usize, place: u32) -> Step<'a>
     }
 }
 
-impl<A: Allocator> Classes<A> {
+impl<A: Allocator + Copy> Classes<A> {
     /// Returns the classes before a run, with the places of the keytab's entries, for `count` entries in all.
     pub fn new(
         alloc: A,
@@ -110,7 +110,7 @@ impl<A: Allocator> Classes<A> {
         ensures { result.now ≡ list_at self.now.lists.items class }
     {
         match self.lists.get(class) {
-            Some(places) => places,
+            Some(places) => places.as_slice(),
             None => &[],
         }
     }

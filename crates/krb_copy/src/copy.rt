@@ -11,6 +11,7 @@ ghost use Rattle.krb_copy.specs.Numbers.{numbers_in, shown};
 use crate::classes::{Classes, Step};
 use crate::lists::{numbers_of, places_of};
 use crate::making::Making;
+use crate::names::Names;
 use crate::numbers::{Number, Numbers};
 use krb_keytab::{EntryView, Indexed, Keytab};
 use krb_walk::Refusal;
@@ -112,9 +113,11 @@ fn prepare<'a, A: Allocator + Copy>(
     ensures numbers { IfOk result (λ x. map shown x.1.items
         ≡ map (λ y. numbers_in (all_of (placed_entries to.now.state) asked.now) y.1) asked.now) }
 {
-    let mut numbers = Numbers::new(alloc);
-    let lists = places_of(alloc, to, &mut numbers)?;
-    let of_asked = numbers_of(alloc, asked, &mut numbers, lists.len())?;
+    let names = Names::of(alloc, to, asked)?;
+    let left = names.left();
+    let mut numbers = Numbers::new(alloc, left);
+    let lists = places_of(alloc, &*to, &mut numbers)?;
+    let of_asked = numbers_of(alloc, &*asked, &mut numbers, lists.len())?;
     let count = lists.len() + of_asked.len();
     let classes = Classes::new(alloc, lists, count, replace)?;
     Ok((classes, of_asked))

@@ -6,6 +6,7 @@ mod copy;
 mod laws;
 mod lists;
 mod making;
+mod names;
 mod numbers;
 
 pub use copy::{Copied, copy_into};
