@@ -135,7 +135,7 @@ abbrev pub file_or : Option FileName → DefaultName → DefaultName
 file_or (Some file) default = Ok file
 file_or None default = default
 
-module _ {F : Type 0} (trait : Ghosts F) (now : Option ℕ) (default : DefaultName) (input input' : Source) (old new : F) (out out' : Watch) (err err' : ErrorWatch) (status : ℕ) where
+module _ {F : Type 0} (trait : Ghosts F) (old new : F) (out out' : Watch) (err err' : ErrorWatch) (status : ℕ) where
   -- it is reported why the command line was not read, and nothing else is done
   pub record EndsByWords (fault : WordFault) : Type 0 where
     pub files : new ≡ old
@@ -150,10 +150,10 @@ module _ {F : Type 0} (trait : Ghosts F) (now : Option ℕ) (default : DefaultNa
   Lists options (Err fault) = EndsByWords fault
 
   -- the tickets of a file are checked, which prints nothing; without memory for its name neither
-  abbrev pub ChecksTickets : TicketCheck → DefaultName → Type 0
-  ChecksTickets check (Ok file) = RunsTicketCheck trait file old new status check now × (out' ≡ out) × (err' ≡ err) × (input' ≡ input)
-  ChecksTickets check (Err word.NoMemory) = (new ≡ old) × (out' ≡ out) × (err' ≡ err) × (input' ≡ input) × (status ≡ 4)
-  ChecksTickets check (Err fault) = EndsByWords fault
+  abbrev pub ChecksTickets : TicketCheck → Option ℕ → DefaultName → Type 0
+  ChecksTickets check now (Ok file) = RunsTicketCheck trait file old new status check now × (out' ≡ out) × (err' ≡ err)
+  ChecksTickets check now (Err word.NoMemory) = (new ≡ old) × (out' ≡ out) × (err' ≡ err) × (status ≡ 4)
+  ChecksTickets check now (Err fault) = EndsByWords fault
 
   -- the default keytab is checked
   abbrev pub ChecksDefault : CheckOptions → DefaultName → Type 0
@@ -161,17 +161,18 @@ module _ {F : Type 0} (trait : Ghosts F) (now : Option ℕ) (default : DefaultNa
   ChecksDefault options (Err fault) = EndsByWords fault
 
   -- keytabs are checked: the default one if none is named
-  abbrev pub ChecksKeytabs : CheckOptions → List FileName → Type 0
-  ChecksKeytabs options [] = ChecksDefault options default
-  ChecksKeytabs options (file ∷ files) = ChecksAll trait options (file ∷ files) old new out out' err err' status
+  abbrev pub ChecksKeytabs : CheckOptions → DefaultName → List FileName → Type 0
+  ChecksKeytabs options default [] = ChecksDefault options default
+  ChecksKeytabs options default (file ∷ files) = ChecksAll trait options (file ∷ files) old new out out' err err' status
 
+module _ {F : Type 0} (trait : Ghosts F) (now : Option ℕ) (default : DefaultName) (input input' : Source) (old new : F) (out out' : Watch) (err err' : ErrorWatch) (status : ℕ) where
   -- what an action does over the files, and over what the standard input gives
   abbrev pub EndsAction : Action → Type 0
-  EndsAction (Klist options file) = Lists options (file_or file default)
-  EndsAction (CheckTicket check file) = ChecksTickets check (file_or file default)
+  EndsAction (Klist options file) = Lists trait old new out out' err err' status options (file_or file default)
+  EndsAction (CheckTicket check file) = ChecksTickets trait old new out out' err err' status check now (file_or file default) × (input' ≡ input)
   EndsAction (Ktfind options file) = RunsCommand trait (always (ktfind_plan options file)) any old new out out' err err' status
   EndsAction (Ktedit order file) = RunsScript trait old new out out' err err' status (ktedit_plan order file) (ktedit_fairly order) event_in input input'
-  EndsAction (Ktcheck options names) = ChecksKeytabs options names.items
+  EndsAction (Ktcheck options names) = ChecksKeytabs trait old new out out' err err' status options default names.items
   EndsAction (Ktremove options file) = RunsKtremove trait file options old new out out' err err' status (needed_time options.selection.kvno now)
   EndsAction (Ktcopy options from to) = RunsCommand trait (always (ktcopy_plan options from to)) any old new out out' err err' status
   EndsAction (Ktutil order) = RunsKtutil trait order (unwrap_or now 0) input input' old new out out' err err' status
@@ -182,4 +183,4 @@ module _ {F : Type 0} (trait : Ghosts F) (now : Option ℕ) (default : DefaultNa
   -- the action was run, or it was reported why there is none
   abbrev pub EndsParsed : Result Action WordFault → Type 0
   EndsParsed (Ok action) = EndsAction action
-  EndsParsed (Err fault) = EndsByWords fault
+  EndsParsed (Err fault) = EndsByWords trait old new out out' err err' status fault

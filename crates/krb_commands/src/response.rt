@@ -57,8 +57,9 @@ fn check_tickets<A: Allocator + Copy, F: Files, R: Read, W: Write, E: Write>(
     files: &mut F,
     streams: &mut Streams<R, W, E>,
 ) -> u8
-    ensures { ChecksTickets F.Files now streams.old.input streams.new.input files.old files.new
-        streams.old.out streams.new.out streams.old.err streams.new.err result check file.entry }
+    ensures checks { ChecksTickets F.Files files.old files.new
+        streams.old.out streams.new.out streams.old.err streams.new.err result check now file.entry }
+    ensures input { streams.new.input ≡ streams.old.input }
 {
     match file {
         Ok(file) => run_ticket_check(alloc, check, now, file, files),
@@ -77,8 +78,8 @@ fn check_keytabs<A: Allocator + Copy, F: Files, R: Read, W: Write, E: Write>(
     streams: &mut Streams<R, W, E>,
 ) -> u8
     requires { IsFalse streams.old.out.failed }
-    ensures { ChecksKeytabs F.Files default.entry files.old files.new
-        streams.old.out streams.new.out streams.old.err streams.new.err result options.now names.now }
+    ensures { ChecksKeytabs F.Files files.old files.new
+        streams.old.out streams.new.out streams.old.err streams.new.err result options.now default.entry names.now }
 {
     if !names.is_empty() {
         return run_ktcheck(alloc, options, names, files, streams);
