@@ -70,10 +70,25 @@ fn wants_value<'a>(options: &[Arg<'_>], word: &'a str) -> Result<bool, Mistake<'
     }
 }
 
+// Returns whether a command takes one more operand after that many.
+fn takes_operand(options: &[Arg<'_>], count: usize) -> bool {
+    let mut operands = options.iter().filter(|arg| arg.is_positional()).skip(count);
+    let takes_many = options.iter().any(|arg| arg.is_positional()
+        && arg.get_action() == ArgAction::Append);
+    takes_many || operands.next().is_some()
+}
+
+// Returns the first operand that is required after that many.
+fn missing_operand<'a>(options: &[Arg<'a>], count: usize) -> Option<&'a str> {
+    let mut operands = options.iter().filter(|arg| arg.is_positional()).skip(count);
+    let missing = operands.find(|arg| arg.is_required_set())?;
+    Some(missing.get_id())
+}
+
 // Returns the first mistake in the words after a command: one that it does not accept, or else what is missing.
 fn mistake_behind<'a>(command: &Command<'a>, words: &'a [String]) -> Mistake<'a> {
     let options = command.get_arguments();
-    let mut operands = options.iter().filter(|arg| arg.is_positional());
+    let mut operands = 0;
     let mut takes_options = true;
     let mut waiting = None;
     let mut last = "";
@@ -94,13 +109,15 @@ fn mistake_behind<'a>(command: &Command<'a>, words: &'a [String]) -> Mistake<'a>
                 Ok(false) => {}
                 Err(mistake) => return mistake,
             }
-        } else if operands.next().is_none() {
+        } else if takes_operand(options, operands) {
+            operands += 1;
+        } else {
             return Mistake::LeftOver(last);
         }
     }
-    match (waiting, operands.next()) {
+    match (waiting, missing_operand(options, operands)) {
         (Some(option), _) => Mistake::NeedsValue(option),
-        (None, Some(operand)) => Mistake::Missing(operand.get_id()),
+        (None, Some(operand)) => Mistake::Missing(operand),
         (None, None) => Mistake::LeftOver(last),
     }
 }

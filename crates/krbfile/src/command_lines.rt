@@ -28,6 +28,11 @@ fn arg_of<'a>(alloc: Global, word: Word) -> Arg<'a> {
             .value_name(value)
             .help(help),
         Word::Operand(name, help) => Arg::new(alloc, name).required(true).help(help),
+        Word::OptionalOperand(name, help) => Arg::new(alloc, name).help(help),
+        Word::Operands(name, help) => Arg::new(alloc, name)
+            .num_args(1..)
+            .action(ArgAction::Append)
+            .help(help),
     }
 }
 

@@ -4,6 +4,7 @@
 mod bad_line;
 mod clock;
 mod command_lines;
+mod default_name;
 mod equals;
 mod run;
 mod silent;

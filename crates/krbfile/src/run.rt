@@ -1,9 +1,10 @@
 //! The command line, and its run.
 
 ghost use Rattle.std.specs.Prelude.{ℕ, Option, IsFalse};
-ghost use Rattle.krb_commands.specs.Actions.{EndsParsed};
+ghost use Rattle.krb_commands.specs.Actions.{DefaultName, EndsParsed};
 
 use crate::clock::seconds_now;
+use crate::default_name::{FoundName, found_name};
 use crate::words::parse_words;
 use krb_commands::{Action, Mistake, Streams, WordFault, respond};
 use krb_files::Files;
@@ -51,9 +52,24 @@ pub fn wants_plain(parsed: &Result<Action<'_>, WordFault<'_>>) -> bool {
     }
 }
 
+// Returns the name of the file if the line leaves it out.
+fn name_left_out<H: rt::Env + rt::Files + AllocGlobal>(
+    rt: &H,
+    parsed: &Result<Action<'_>, WordFault<'_>>,
+) -> FoundName {
+    match parsed {
+        Ok(action) => match action.left_out() {
+            Some((kind, command)) => found_name(rt, kind, command),
+            None => FoundName::none(),
+        },
+        Err(_) => FoundName::none(),
+    }
+}
+
 /// Runs an action, or reports why the command line was not read, and returns the exit status. The clock is read at
-/// most once, and only if the run needs it. The action runs in memory that is cleared before it is freed.
-pub fn run<H: rt::Clock + AllocGlobal, F: Files, R: Read, W: Write, E: Write>(
+/// most once, and only if the run needs it; the environment only if the line leaves out the file. The action runs in
+/// memory that is cleared before it is freed.
+pub fn run<H: rt::Clock + rt::Env + rt::Files + AllocGlobal, F: Files, R: Read, W: Write, E: Write>(
     rt: &H,
     parsed: &Result<Action<'_>, WordFault<'_>>,
     files: &mut F,
@@ -61,8 +77,8 @@ pub fn run<H: rt::Clock + AllocGlobal, F: Files, R: Read, W: Write, E: Write>(
 ) -> u8
     requires { IsFalse streams.old.out.failed }
 
-    // The action, or the mistake in the line, and the clock decide the run.
-    ensures { (now : Option ℕ) × EndsParsed F.Files now streams.old.input streams.new.input files.old files.new
+    // The action, or the mistake in the line, the clock and the default name decide the run.
+    ensures { (now : Option ℕ) × (name : DefaultName) × EndsParsed F.Files now name streams.old.input streams.new.input files.old files.new
         streams.old.out streams.new.out streams.old.err streams.new.err result parsed.now }
 {
     let alloc = Wiping::new(rt.alloc());
@@ -70,5 +86,6 @@ pub fn run<H: rt::Clock + AllocGlobal, F: Files, R: Read, W: Write, E: Write>(
         Ok(action) if action.needs_clock() => seconds_now(rt),
         _ => None,
     };
-    respond(alloc, parsed, files, now, streams)
+    let name = name_left_out(rt, parsed);
+    respond(alloc, parsed, files, now, name.file(), streams)
 }
