@@ -1,11 +1,11 @@
 //! The runs of commands, each with the result if nothing fails.
 
 use super::images::{ADDED, CACHE, CACHE_EDITED, CACHE_REWRITTEN, EDITED, IMAGE, REMOVED};
-use krb_audit::{SelectedKvno, Selection};
+use krb_audit::{FindingWords, SelectedKvno, Selection};
 use krb_cache_text::CcColumns;
 use krb_commands::{
-    Action, CopyOptions, FindOptions, KlistOptions, ListKind, RemoveOptions, TicketCheck,
-    TicketOptions, WordFault,
+    Action, CheckOptions, CopyOptions, FileKind, FileName, FindOptions, KlistOptions, ListKind,
+    NameSource, RemoveOptions, TicketCheck, TicketOptions, WordFault,
 };
 use krb_text::KtColumns;
 use krb_wire::{Order, Principal, parse_name};
@@ -18,6 +18,7 @@ pub enum ActionKind {
     Klist,
     KlistCache,
     Ktfind,
+    /// A check of `k` and of `KCM:n`.
     Ktcheck,
     Ktedit,
     /// A removal of the entry of `host/a@R`, or a dry run of it.
@@ -53,7 +54,7 @@ const COMMAND: Command = Command {
     left: IMAGE,
 };
 
-pub const COMMANDS: [Command; 10] = [
+pub const COMMANDS: [Command; 11] = [
     Command {
         action: ActionKind::Klist,
         text: "Keytab name: FILE:k\nKVNO Principal\n---- ---------\n   3 host/a@R\n   3 b@R\n",
@@ -71,6 +72,13 @@ config: pa_type(krbtgt/R@R) = \\\\\\x7f2\n",
     Command {
         action: ActionKind::Ktfind,
         text: "found 2 kvno 3 etype 17 host/a@R\n",
+        ..COMMAND
+    },
+    // Of a second keytab the name is of a type that is not read.
+    Command {
+        action: ActionKind::Ktcheck,
+        text: "k: entries 2 free 0 holes 0\n",
+        message: "krbfile: KCM:n: no such file\n",
         ..COMMAND
     },
     // Walks while an entry is removed, another is added, and the keytab is rewritten.
@@ -152,6 +160,20 @@ fn name(alloc: Global, text: &[u8]) -> Result<Principal<Global>, Fail> {
     parse_name(alloc, text, None).map_err(|_| Fail::new("no name"))
 }
 
+/// Returns the file that a word names.
+fn named<'a>(kind: FileKind, word: &'a str) -> FileName<'a> {
+    FileName::of(kind, word, NameSource::Word)
+}
+
+/// Returns the options of a check that allows nothing.
+fn check() -> CheckOptions {
+    CheckOptions {
+        v1_order: Order::Little,
+        quiet: false,
+        allowed: FindingWords::none(),
+    }
+}
+
 /// Returns the options of a look-up of `host/a@R` of any version and enctype.
 fn look_up(alloc: Global) -> Result<FindOptions<Global>, Fail> {
     Ok(FindOptions {
@@ -230,20 +252,31 @@ impl ActionKind {
         alloc: Global,
         file: &'a str,
     ) -> Result<Result<Action<'a>, WordFault<'static>>, Fail> {
+        let keytab = named(FileKind::Keytab, file);
+        let cache = named(FileKind::Cache, file);
         Ok(Ok(match self {
             ActionKind::Klist => Action::Klist(
                 listing(ListKind::Keytab(KtColumns::default())),
-                file,
+                Some(keytab),
             ),
-            ActionKind::KlistCache => Action::Klist(listing(ListKind::Cache(ALL)), file),
-            ActionKind::Ktfind => Action::Ktfind(look_up(alloc)?, file),
-            ActionKind::Ktcheck => Action::Ktcheck(Order::Little, file),
-            ActionKind::Ktedit => Action::Ktedit(Order::Little, file),
-            ActionKind::Ktremove(dry_run) => Action::Ktremove(removal(alloc, dry_run)?, file),
-            ActionKind::Ktcopy(dry_run) => Action::Ktcopy(copy(alloc, dry_run)?, file, "n"),
-            ActionKind::CheckTicket => Action::CheckTicket(TicketCheck { seconds: 0 }, file),
-            ActionKind::Ccedit => Action::Ccedit(file),
-            ActionKind::Ccremove(dry_run) => Action::Ccremove(tickets(alloc, dry_run)?, file),
+            ActionKind::KlistCache => Action::Klist(listing(ListKind::Cache(ALL)), Some(cache)),
+            ActionKind::Ktfind => Action::Ktfind(look_up(alloc)?, keytab),
+            ActionKind::Ktcheck => {
+                let other = named(FileKind::Keytab, "KCM:n");
+                Action::Ktcheck(check(), vec![in alloc; keytab, other]?)
+            }
+            ActionKind::Ktedit => Action::Ktedit(Order::Little, keytab),
+            ActionKind::Ktremove(dry_run) => Action::Ktremove(removal(alloc, dry_run)?, keytab),
+            ActionKind::Ktcopy(dry_run) => Action::Ktcopy(
+                copy(alloc, dry_run)?,
+                keytab,
+                named(FileKind::Keytab, "FILE:n"),
+            ),
+            ActionKind::CheckTicket => {
+                Action::CheckTicket(TicketCheck { seconds: 0 }, Some(cache))
+            }
+            ActionKind::Ccedit => Action::Ccedit(cache),
+            ActionKind::Ccremove(dry_run) => Action::Ccremove(tickets(alloc, dry_run)?, cache),
             ActionKind::Ktutil => Action::Ktutil(Order::Little),
         }))
     }

@@ -3,7 +3,7 @@
 use super::checks::is;
 use super::commands::{ActionKind, COMMANDS, Command, file_before};
 use super::images::{CACHE, IMAGE};
-use krb_commands::{Action, ErrorOutput, Ktutil, LineEnd, Streams, WordFault, respond};
+use krb_commands::{Action, ErrorOutput, Ktutil, LineEnd, Mistake, Streams, WordFault, respond};
 use krb_files::{Files, MemFiles, Watched, WatchedReader};
 use krb_wire::Order;
 use refusing::refuse_each;
@@ -29,7 +29,15 @@ pub fn respond_over<A: Allocator + Copy, F: Files, E: Write>(
             explains: false,
         },
     };
-    respond(alloc, action, files, Some(1_700_000_000), &mut streams)
+    let no_name = Err(WordFault::of(Mistake::Missing("FILE")));
+    respond(
+        alloc,
+        action,
+        files,
+        Some(1_700_000_000),
+        no_name,
+        &mut streams,
+    )
 }
 
 /// Returns a file `k`, the keytab, and a file `c`, the cache.
