@@ -88,7 +88,7 @@ fn missing_operand<'a>(options: &[Arg<'a>], count: usize) -> Option<&'a str> {
 // Returns the first mistake in the words after a command: one that it does not accept, or else what is missing.
 fn mistake_behind<'a>(command: &Command<'a>, words: &'a [String]) -> Mistake<'a> {
     let options = command.get_arguments();
-    let mut operands = 0;
+    let mut operands: usize = 0;
     let mut takes_options = true;
     let mut waiting = None;
     let mut last = "";
@@ -110,7 +110,7 @@ fn mistake_behind<'a>(command: &Command<'a>, words: &'a [String]) -> Mistake<'a>
                 Err(mistake) => return mistake,
             }
         } else if takes_operand(options, operands) {
-            operands += 1;
+            operands = operands.saturating_add(1);
         } else {
             return Mistake::LeftOver(last);
         }

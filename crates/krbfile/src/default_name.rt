@@ -69,6 +69,28 @@ fn default_text<R: rt::Files + AllocGlobal>(
     }
 }
 
+// Returns the text, unless it is empty.
+fn unless_empty(text: String) -> Option<String> {
+    if text.as_str() == "" {
+        None
+    } else {
+        Some(text)
+    }
+}
+
+// Returns the name in a variable of the environment. An empty one counts as none.
+fn name_in<R: rt::Env + AllocGlobal>(
+    rt: &R,
+    variable: &'static str,
+) -> Result<Option<String>, WordFault<'static>> {
+    match env::var(rt, variable) {
+        Ok(text) => Ok(unless_empty(text)),
+        Err(VarError::NotPresent) => Ok(None),
+        Err(VarError::NotUnicode) => Err(WordFault::of(Mistake::VariableNotText(variable))),
+        Err(VarError::OutOfMemory) => Err(WordFault::NoMemory),
+    }
+}
+
 // Adds the command to the reason for which there is no name.
 fn for_command(
     command: &'static str,
@@ -86,22 +108,25 @@ pub fn found_name<R: rt::Env + rt::Files + AllocGlobal>(
     kind: FileKind,
     command: &'static str,
 ) -> FoundName {
-    let (variable, named) = match kind {
+    let (variable, source) = match kind {
         FileKind::Keytab => ("KRB5_KTNAME", NameSource::KeytabVariable),
         FileKind::Cache => ("KRB5CCNAME", NameSource::CacheVariable),
     };
-    let (source, text) = match env::var(rt, variable) {
-        Ok(text) if text.as_str() != "" => (named, Ok(text)),
-        Ok(_) | Err(VarError::NotPresent) => (NameSource::Default, default_text(rt, kind)),
-        Err(VarError::NotUnicode) => {
-            let mistake = Mistake::VariableNotText(variable);
-            (named, Err(WordFault::of(mistake)))
-        }
-        Err(VarError::OutOfMemory) => (named, Err(WordFault::NoMemory)),
-    };
-    FoundName {
-        kind,
-        source,
-        text: for_command(command, text),
+    match name_in(rt, variable) {
+        Ok(Some(text)) => FoundName {
+            kind,
+            source,
+            text: Ok(text),
+        },
+        Ok(None) => FoundName {
+            kind,
+            source: NameSource::Default,
+            text: for_command(command, default_text(rt, kind)),
+        },
+        Err(fault) => FoundName {
+            kind,
+            source,
+            text: Err(fault.in_command(command)),
+        },
     }
 }
