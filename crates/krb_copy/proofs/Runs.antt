@@ -39,13 +39,13 @@ clash_follows all xs before held x classes twin f step = record {
 
 -- an entry that is copied
 pub copied_run : {A : Type 0} (all : List EntryParts) (xs : List PlacedEntry) (run : Run) (x : PlacedEntry) (replace : Bool) (places : List ℕ) (place : ℕ) (old : KeytabState) (new : Copying A) → old ≡ run.keytab
-    → Copy places ≡ step_of replace run.before run.held x.1 → put_result (without old places) x.1 ≡ Ok (place, new.making.keytab.state) → new.making.text.items ≡ run.text ++ copied_lines x.1 places place → new.making.clashes.items ≡ run.clashes
+    → Copy places ≡ step_of replace run.before run.held x.1 → put_result (without old places) x.1 ≡ Ok (place, new.making.keytab.state) → new.making.text.items ≡ run.text ++ copied_lines x.1 places place → new.making.clashes.items ≡ run.clashes → new.making.places.items ≡ run.places ++ place ∷ []
     → Follows all xs (run.before ++ x.1 ∷ []) (with_copy run.held x.1 place) new.classes
     → (next : Run) × (run_after run x (step_of replace run.before run.held x.1) ≡ Ok next) × IsRun all xs next new
-copied_run all xs run x replace places place old new keytab step added text clash follows = (
-  record { keytab = new.making.keytab.state; held = with_copy run.held x.1 place; before = run.before ++ x.1 ∷ []; text = run.text ++ copied_lines x.1 places place; clashes = run.clashes },
+copied_run all xs run x replace places place old new keytab step added text clash to follows = (
+  record { keytab = new.making.keytab.state; held = with_copy run.held x.1 place; before = run.before ++ x.1 ∷ []; text = run.text ++ copied_lines x.1 places place; clashes = run.clashes; places = run.places ++ place ∷ [] },
   ap (run_after run x) (sym step) ∙ ap (run_added run x.1 places) (ap (λ (k : KeytabState). put_result (without k places) x.1) (sym keytab) ∙ added),
-  record { keytab = refl; text = text; clashes = clash; classes = follows },
+  record { keytab = refl; text = text; clashes = clash; places = to; classes = follows },
 )
 
 -- an entry whose addition is refused
@@ -77,7 +77,7 @@ one_met all xs due replace x rest old new w meets replaces = record {
 
 -- all were met
 pub all_met : {A : Type 0} (all : List EntryParts) (xs : List PlacedEntry) (due : Result Run Code) (replace : Bool) (copying : Copying A) → IsOnTheWay all xs due replace [] copying → Ends due (Ok tt) copying
-all_met all xs due replace copying w = record { run = w.now; is_due = sym w.same; text_is = w.is_run.text; clashes_are = w.is_run.clashes; keytab_is = λ _. w.is_run.keytab }
+all_met all xs due replace copying w = record { run = w.now; is_due = sym w.same; text_is = w.is_run.text; clashes_are = w.is_run.clashes; places_are = λ _. w.is_run.places; keytab_is = λ _. w.is_run.keytab }
 
 no_clash : {P : Type 0} (b : Bool) → b ≡ true → b ≡ false → P
 no_clash b t f = let clash : true ≡ false = sym t ∙ f in absurd cc
@@ -89,6 +89,7 @@ ended_by due now code true (Ok done) new is same text clash ends = record {
   is_due = sym same ∙ ap (λ (b : Bool). cond b (Ok now) (Err code)) (sym (ap has_lines clash) ∙ is);
   text_is = text;
   clashes_are = clash;
+  places_are = λ f. no_clash (has_lines now.clashes) (sym (ap has_lines clash) ∙ is) f;
   keytab_is = λ f. no_clash (has_lines now.clashes) (sym (ap has_lines clash) ∙ is) f;
 }
 ended_by due now code true (Err refusal) new is same text clash ends = absurd cc
@@ -126,16 +127,16 @@ numbers_count all numbers asked e = sym (length-map numbers shown) ∙ ap length
 -- ---- the whole run
 
 -- a run at its start
-pub starts : {A : Type 0} (all : List EntryParts) (k : KeytabState) (copying : Copying A) → copying.making.keytab.state ≡ k → copying.making.text.items ≡ [] → copying.making.clashes.items ≡ [] → Follows all (placed_entries k) [] (map as_found (placed_entries k)) copying.classes
+pub starts : {A : Type 0} (all : List EntryParts) (k : KeytabState) (copying : Copying A) → copying.making.keytab.state ≡ k → copying.making.text.items ≡ [] → copying.making.clashes.items ≡ [] → copying.making.places.items ≡ [] → Follows all (placed_entries k) [] (map as_found (placed_entries k)) copying.classes
     → IsRun all (placed_entries k) (run_start k) copying
-starts all k copying keytab text clash follows = record { keytab = keytab; text = text; clashes = clash; classes = follows }
+starts all k copying keytab text clash to follows = record { keytab = keytab; text = text; clashes = clash; places = to; classes = follows }
 
 pub due_is : (replace by : Bool) (asked : List PlacedEntry) (k : KeytabState) → by ≡ replace → run_over by asked (run_start k) ≡ copy_run replace asked k
 unfolding copy_run
 due_is replace by asked k e = ap (λ (b : Bool). run_over b asked (run_start k)) e
 
-pub made_is : (due other : Result Run Code) (text clashes : List ℕ) (keytab : KeytabState) → due ≡ other → IsMade due text clashes keytab → IsMade other text clashes keytab
-made_is due other text clashes keytab e m = record { run = m.run; is_due = sym e ∙ m.is_due; text_is = m.text_is; clashes_are = m.clashes_are; keytab_is = m.keytab_is }
+pub made_is : (due other : Result Run Code) (text clashes places : List ℕ) (keytab : KeytabState) → due ≡ other → IsMade due text clashes places keytab → IsMade other text clashes places keytab
+made_is due other text clashes places keytab e m = record { run = m.run; is_due = sym e ∙ m.is_due; text_is = m.text_is; clashes_are = m.clashes_are; places_are = m.places_are; keytab_is = m.keytab_is }
 
 pub refused_is : (due other : Result Run Code) (refusal : Refusal) → due ≡ other → IsRefusedBy due refusal → IsRefusedBy other refusal
 refused_is due other (ByCode code) e r = sym e ∙ r

@@ -53,13 +53,14 @@ step_of replace before held x =
 
 -- ---- a run
 
--- where a run is: the keytab, the entries that it has, those asked for so far, the lines, and those of the clashes alone
+-- where a run is: the keytab, the entries that it has, those asked for so far, the lines, those of the clashes alone, and the places of the copies, in order
 pub record Run : Type 0 where
   pub keytab : KeytabState
   pub held : List Held
   pub before : List EntryParts
   pub text : List ℕ
   pub clashes : List ℕ
+  pub places : List ℕ
 
 -- the line of an entry that clashes, with the place of its first twin
 abbrev pub clash_line : PlacedEntry → ℕ → List ℕ
@@ -82,6 +83,7 @@ run_added run x removed (Ok given) = Ok (record {
   before = run.before ++ x ∷ [];
   text = run.text ++ copied_lines x removed given.0;
   clashes = run.clashes;
+  places = run.places ++ given.0 ∷ [];
 })
 
 -- the run after a step
@@ -107,7 +109,7 @@ run_over replace (x ∷ xs) run = go_on (run_over replace xs) run (run_after run
 
 -- the run before the first entry
 abbrev pub run_start : KeytabState → Run
-run_start k = record { keytab = k; held = map as_found (placed_entries k); before = []; text = []; clashes = [] }
+run_start k = record { keytab = k; held = map as_found (placed_entries k); before = []; text = []; clashes = []; places = [] }
 
 -- copying the entries asked for into a keytab
 unfoldable pub copy_run : Bool → List PlacedEntry → KeytabState → Result Run Code

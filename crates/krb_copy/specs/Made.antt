@@ -10,12 +10,13 @@ use Rattle.krb_copy.specs.Copying.{Run, has_lines}
 use Rattle.krb_copy.specs.Classes.{Follows}
 use Rattle.krb_copy.specs.declared.copy.Copying.{Copying}
 
--- the lines, those of the clashes, and, if there are none of these, the keytab are those of the run
-pub record IsMade (due : Result Run Code) (text clashes : List ℕ) (keytab : KeytabState) : Type 0 where
+-- the lines, those of the clashes, and, if there are none of these, the places of the copies and the keytab are those of the run
+pub record IsMade (due : Result Run Code) (text clashes places : List ℕ) (keytab : KeytabState) : Type 0 where
   pub run : Run
   pub is_due : due ≡ Ok run
   pub text_is : text ≡ run.text
   pub clashes_are : clashes ≡ run.clashes
+  pub places_are : has_lines run.clashes ≡ false → places ≡ run.places
   pub keytab_is : has_lines run.clashes ≡ false → keytab ≡ run.keytab
 
 -- the run is refused with this code, or memory ran out
@@ -30,6 +31,7 @@ pub record IsRun {A : Type 0} (all : List EntryParts) (xs : List PlacedEntry) (r
   pub keytab : copying.making.keytab.state ≡ run.keytab
   pub text : copying.making.text.items ≡ run.text
   pub clashes : copying.making.clashes.items ≡ run.clashes
+  pub places : copying.making.places.items ≡ run.places
   pub classes : Follows all xs run.before run.held copying.classes
 
 -- an addition is refused and adds no line, or memory ran out
@@ -45,7 +47,7 @@ Meets all xs run due (Err NoMemory) new = Unit {0}
 
 -- the run has come to its end, or is refused
 abbrev pub Ends : {A : Type 0} → Result Run Code → Result (Unit {0}) Refusal → Copying A → Type 0
-Ends due (Ok done) new = IsMade due new.making.text.items new.making.clashes.items new.making.keytab.state
+Ends due (Ok done) new = IsMade due new.making.text.items new.making.clashes.items new.making.places.items new.making.keytab.state
 Ends due (Err refusal) new = IsRefusedBy due refusal
 
 -- a refusal by a code only ends the run if an entry has clashed; else it is the run's

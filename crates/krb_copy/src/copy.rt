@@ -25,6 +25,8 @@ pub struct Copied<A: Allocator> {
     pub text: Vec<u8, A>,
     /// The lines of the clashes alone. If there is one, the keytab is not to be saved.
     pub clashes: Vec<u8, A>,
+    /// The places to which entries were copied, in order.
+    pub places: Vec<u32, A>,
     pub keytab: Keytab<A>,
 }
 
@@ -134,7 +136,7 @@ pub fn copy_into<A: Allocator + Copy>(
     replace: bool,
 ) -> Result<Copied<A>, Refusal>
     ensures made { IfOk result (λ copied. IsMade (copy_run replace asked.now to.state)
-        copied.text.items copied.clashes.items copied.keytab.state) }
+        copied.text.items copied.clashes.items copied.places.items copied.keytab.state) }
     ensures refused { IfErr result (IsRefusedBy (copy_run replace asked.now to.state)) }
 {
     let (classes, numbers) = prepare(alloc, &*asked, &to, replace)?;
@@ -145,12 +147,14 @@ pub fn copy_into<A: Allocator + Copy>(
         keytab,
         text: Vec::new(alloc),
         clashes: Vec::new(alloc),
+        places: Vec::new(alloc),
     };
     let mut copying = Copying { making, classes };
     copying.go_over(alloc, asked, &numbers)?;
     Ok(Copied {
         text: copying.making.text,
         clashes: copying.making.clashes,
+        places: copying.making.places,
         keytab: copying.making.keytab.into_keytab(),
     })
 }

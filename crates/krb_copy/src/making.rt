@@ -1,6 +1,6 @@
 //! Removing and adding entries, and the lines about them.
 
-ghost use Rattle.std.specs.Prelude.{◌≡◌, ◌++◌, OnOk, IfOk, IfErr};
+ghost use Rattle.std.specs.Prelude.{◌≡◌, ◌++◌, ◌∷◌, [], OnOk, IfOk, IfErr};
 ghost use Rattle.std.specs.List.{flat_map};
 ghost use Rattle.krb_text.specs.Found.{removed_line};
 ghost use Rattle.krb_keytab.specs.Changes.{put_result, without};
@@ -13,12 +13,13 @@ use krb_walk::Refusal;
 use krb_wire::NoMemory;
 use std::alloc::Allocator;
 
-/// What a run has made: the keytab, its lines, and those of the clashes alone.
+/// What a run has made: the keytab, its lines, those of the clashes alone, and the places of the copies.
 #[derive(Drop)]
 pub struct Making<A: Allocator> {
     pub keytab: Indexed<A>,
     pub text: Vec<u8, A>,
     pub clashes: Vec<u8, A>,
+    pub places: Vec<u32, A>,
 }
 
 // Appends the line of an entry at `place` that clashes with its first twin.
@@ -41,6 +42,7 @@ impl<A: Allocator + Copy> Making<A> {
         ensures text { OnOk result (self.new.text.items
             ≡ self.old.text.items ++ flat_map (λ p. removed_line (p, entry.now)) places.now) }
         ensures clash { self.new.clashes.items ≡ self.old.clashes.items }
+        ensures places { self.new.places.items ≡ self.old.places.items }
     {
         'places: for place in places {
             let _ = self.keytab.remove_at(*place);
@@ -59,6 +61,7 @@ impl<A: Allocator + Copy> Making<A> {
         ensures refused { IfErr result (IsRefusal
             (put_result (without self.old.keytab.state places.now) entry.now) self.old.text.items self.new.text.items) }
         ensures clash { self.new.clashes.items ≡ self.old.clashes.items }
+        ensures places { IfOk result (λ place. self.new.places.items ≡ self.old.places.items ++ place ∷ []) }
     {
         let before = self.text.len();
         let new = entry.copy(alloc)?;
@@ -66,6 +69,7 @@ impl<A: Allocator + Copy> Making<A> {
         match self.keytab.add(&new) {
             Ok(place) => {
                 append_placed(b"copied ", place, entry, &mut self.text)?;
+                self.places.push(place)?;
                 Ok(place)
             }
             Err(refusal) => {
@@ -78,6 +82,7 @@ impl<A: Allocator + Copy> Making<A> {
     /// Tells that the entry at `place` clashes with its first twin.
     pub fn clash(&mut self, place: u32, entry: &EntryView<'_>, twin: u32) -> Result<(), NoMemory>
         ensures keytab { self.new.keytab ≡ self.old.keytab }
+        ensures places { self.new.places.items ≡ self.old.places.items }
         ensures text { OnOk result (self.new.text.items
             ≡ self.old.text.items ++ clash_line (place, entry.now) twin) }
         ensures clashes { OnOk result (self.new.clashes.items

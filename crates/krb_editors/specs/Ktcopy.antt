@@ -11,14 +11,17 @@ use Rattle.krb_copy.specs.Copying.{Run, copy_run, has_lines}
 use Rattle.krb_audit.specs.declared.selection.SelectedKvno.{SelectedKvno}
 use Rattle.krb_audit.specs.declared.selection.SelectedKvno.TheVariants.{Any, Newest}
 use Rattle.krb_audit.specs.declared.selection.Selection.{Selection}
+use Rattle.krb_audit.specs.Findings.{hides_added}
 use Rattle.krb_audit.specs.Selection.{selected_in}
 use Rattle.krb_driver.specs.declared.error.RunError.TheVariants.{NothingToCopy, Refused}
 use Rattle.krb_driver.specs.declared.file_name.FileName.{FileName}
+use Rattle.krb_driver.specs.declared.verdict.Verdict.{Verdict}
 use Rattle.krb_driver.specs.declared.verdict.Verdict.TheVariants.{Clashed, Well}
 use Rattle.krb_driver.specs.Effects.{CommandPlan, Effect, Displays, Fails, holds, opens, saves_unless, text}
 use Rattle.krb_driver.specs.Matches.{AreSpelledNames, Matched, bad_names, v1_order}
 use Rattle.krb_driver.specs.Mistakes.{MistakeParts, Twice}
 use Rattle.krb_driver.specs.Opening.{whole_in, whole_or_empty}
+use Rattle.krb_driver.specs.Verdicts.{hiding}
 use Rattle.krb_editors.specs.declared.ktcopy.CopyOptions.{CopyOptions}
 use Rattle.krb_editors.specs.Selecting.{IsSpelledKvno, asks_for_any, bad_etype, bad_kvno}
 
@@ -35,12 +38,16 @@ asks_for_some s = not (asks_for_any s) || not (is_any_kvno s.kvno)
 abbrev pub finds_none : {A : Type 0} → Selection A → List PlacedEntry → Bool
 finds_none s xs = (length xs == 0) && asks_for_some s
 
+-- the verdict of a run that copied entries and met no clash: it tells from where on MIT's programs see none, if they miss a copy
+abbrev pub copied_verdict : Run → Verdict
+copied_verdict run = hiding (hides_added run.keytab run.places) Well
+
 -- the lines of a run are printed, and its keytab is saved if something was copied; after a clash nothing is saved, and only a dry run prints more than the clashes
 abbrev pub copied_effect : Bool → List ℕ → Result Run Code → Effect
 copied_effect dry_run to (Err code) = Fails to (Refused code)
 copied_effect dry_run to (Ok run) =
     if has_lines run.clashes then Displays to (text (if dry_run then run.text else run.clashes) Clashed)
-    else (if has_lines run.text then saves_unless dry_run to (image_of run.keytab) run.text Well else Displays to (text run.text Well))
+    else (if has_lines run.text then saves_unless dry_run to (image_of run.keytab) run.text (copied_verdict run) else Displays to (text run.text Well))
 
 -- TO is held, unless it is a dry run, and opened; the entries are copied into its keytab
 abbrev pub copies_to : {A : Type 0} → CopyOptions A → FileName → List PlacedEntry → CommandPlan

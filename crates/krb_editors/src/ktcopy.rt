@@ -3,15 +3,17 @@
 ghost use Rattle.std.specs.Prelude.{◌≡◌, IsFalse, None, Ok, if◌then◌else◌, option_map};
 ghost use Rattle.krb_copy.specs.Copying.{Run, copy_run};
 ghost use Rattle.krb_copy.specs.Made.{IsMade as IsRunOf};
+ghost use Rattle.krb_audit.specs.Findings.{hides_added};
 ghost use Rattle.krb_audit.specs.Selection.{selected_in};
 ghost use Rattle.krb_driver.specs.Commands.{Makes, RunsCommand, always, any, text_effect};
 ghost use Rattle.krb_driver.specs.Effects.{IsMade};
 ghost use Rattle.krb_driver.specs.Mistakes.{Reads, mistake_parts};
-ghost use Rattle.krb_driver.specs.declared.verdict.Verdict.TheVariants.{Clashed};
+ghost use Rattle.krb_driver.specs.Verdicts.{hiding};
+ghost use Rattle.krb_driver.specs.declared.verdict.Verdict.TheVariants.{Clashed, Well};
 ghost use Rattle.krb_editors.specs.Ktcopy.{SpellsCopy, asks_for_some, copied_effect, copies_from, copies_to, copy_mistake, finds_none, ktcopy_plan, odd_copy};
 
 use crate::selecting::{bad_etype, etypes_of, kvno_by_word};
-use krb_audit::{SelectedKvno, Selection, selected_entries};
+use krb_audit::{SelectedKvno, Selection, hides_added, selected_entries};
 use krb_copy::{Copied, copy_into};
 use krb_driver::{
     Command, CommandName, CommandWords, FileError, FileName, Made, Matches, Mistake, Output,
@@ -159,28 +161,43 @@ fn clashed<A: Allocator>(dry_run: bool, text: Vec<u8, A>, clashes: Vec<u8, A>) -
     }
 }
 
+// Returns what to print of a run that copied entries to these places. The verdict tells if MIT's programs miss one.
+fn told<A: Allocator>(keytab: &Keytab<A>, places: &[u32], text: Vec<u8, A>) -> Output<A>
+    ensures text { result.text.items ≡ text.items }
+    ensures verdict { result.verdict ≡ hiding (hides_added keytab.now.state places.now) Well }
+{
+    Output {
+        text,
+        verdict: Verdict::Well.hiding(hides_added(keytab, places)),
+    }
+}
+
 // Returns what to print and save of what was copied.
 fn made<'a, A: Allocator + Copy, B: Allocator>(
     command: &CopyEntries<'a, B>,
     copied: Copied<A>,
 ) -> Result<Made<A, Output<A>>, FileError<'a>>
-    ensures { (run : Run) → IsRunOf (Ok run) copied.text.items copied.clashes.items copied.keytab.state
+    ensures { (run : Run) → IsRunOf (Ok run) copied.text.items copied.clashes.items copied.places.items copied.keytab.state
         → text_effect command.now.to.name.now result ≡ copied_effect command.now.options.now.dry_run command.now.to.name.now (Ok run) }
 {
     let dry_run = command.options.dry_run;
     let Copied {
         text,
         clashes,
+        places,
         keytab,
     } = copied;
     if !clashes.is_empty() {
         return Ok(Made::Shows(clashed(dry_run, text, clashes)));
     }
-    let output = Output {
-        text,
-        verdict: Verdict::Well,
-    };
-    if dry_run || output.text.is_empty() {
+    if text.is_empty() {
+        return Ok(Made::Shows(Output {
+            text,
+            verdict: Verdict::Well,
+        }));
+    }
+    let output = told(&keytab, &places, text);
+    if dry_run {
         return Ok(Made::Shows(output));
     }
     Ok(Made::Saves(keytab.into_image(), output))

@@ -22,8 +22,8 @@ returns-in_err-go_over-clause-refused g c =
     let k = c.args.to.state in
     let asked = c.args.asked.now in
     let all = all_of (placed_entries k) asked in
-    let start : Copying g.row.A.Denot = record { making = record { keytab = c.in-Ok.keytab; text = c.new.result; clashes = c.new-2.result }; classes = c.in_ok-classes.classes } in
-    let is_run = starts all k start (ap (λ (m : InMemory). m.state) c.in-Ok.ensures.ok) c.new.ensures.items c.new-2.ensures.items c.in_ok-classes.ensures.follows in
+    let start : Copying g.row.A.Denot = record { making = record { keytab = c.in-Ok.keytab; text = c.new.result; clashes = c.new-2.result; places = c.new-3.result }; classes = c.in_ok-classes.classes } in
+    let is_run = starts all k start (ap (λ (m : InMemory). m.state) c.in-Ok.ensures.ok) c.new.ensures.items c.new-2.ensures.items c.new-3.ensures.items c.in_ok-classes.ensures.follows in
     let numbered = ap (λ (ns : List Number). map shown ns) c.deref.ensures.value ∙ c.in_ok-classes.ensures.numbers in
     let refused = c.in_err-go_over.ensures all (placed_entries k) (run_start k) is_run numbered in
     let p = err_from_is_err_and c.from_residual-in_err-go_over.result c.from_residual-in_err-go_over.ensures.1 in
@@ -34,10 +34,10 @@ returns-clause-made g c =
     let k = c.args.to.state in
     let asked = c.args.asked.now in
     let all = all_of (placed_entries k) asked in
-    let start : Copying g.row.A.Denot = record { making = record { keytab = c.in-Ok.keytab; text = c.new.result; clashes = c.new-2.result }; classes = c.in_ok-classes.classes } in
-    let is_run = starts all k start (ap (λ (m : InMemory). m.state) c.in-Ok.ensures.ok) c.new.ensures.items c.new-2.ensures.items c.in_ok-classes.ensures.follows in
+    let start : Copying g.row.A.Denot = record { making = record { keytab = c.in-Ok.keytab; text = c.new.result; clashes = c.new-2.result; places = c.new-3.result }; classes = c.in_ok-classes.classes } in
+    let is_run = starts all k start (ap (λ (m : InMemory). m.state) c.in-Ok.ensures.ok) c.new.ensures.items c.new-2.ensures.items c.new-3.ensures.items c.in_ok-classes.ensures.follows in
     let numbered = ap (λ (ns : List Number). map shown ns) c.deref.ensures.value ∙ c.in_ok-classes.ensures.numbers in
     let made = c.in_ok-go_over.ensures all (placed_entries k) (run_start k) is_run numbered in
     let new = c.go_over.new.self.making in
-    subst (λ (m : InMemory). IsMade (copy_run c.args.replace asked k) new.text.items new.clashes.items m.state) (sym c.into_keytab.ensures)
-    (made_is (run_over c.in_ok-classes.classes.replace asked (run_start k)) (copy_run c.args.replace asked k) new.text.items new.clashes.items new.keytab.state (due_is c.args.replace c.in_ok-classes.classes.replace asked k c.in_ok-classes.ensures.replace) made)
+    subst (λ (m : InMemory). IsMade (copy_run c.args.replace asked k) new.text.items new.clashes.items new.places.items m.state) (sym c.into_keytab.ensures)
+    (made_is (run_over c.in_ok-classes.classes.replace asked (run_start k)) (copy_run c.args.replace asked k) new.text.items new.clashes.items new.places.items new.keytab.state (due_is c.args.replace c.in_ok-classes.classes.replace asked k c.in_ok-classes.ensures.replace) made)

@@ -24,7 +24,7 @@ returns-in-There-clause-meets g c = λ all xs run s e.
     let step = c.in-There.ensures all run.before xs run.held c.args.entry.now s.classes e in (
       record run { before = run.before ++ c.args.entry.now ∷ [] },
       ap (run_after run x) (sym step),
-      record { keytab = s.keytab; text = s.text; clashes = s.clashes; classes = c.keep.ensures.follows all run.before xs run.held c.args.entry.now s.classes e (sym step) },
+      record { keytab = s.keytab; text = s.text; clashes = s.clashes; places = s.places; classes = c.keep.ensures.follows all run.before xs run.held c.args.entry.now s.classes e (sym step) },
     )
 
 pub returns-in_ok-clash-in-Clash-clause-meets : goal.returns-in_ok-clash-in-Clash-clause-meets
@@ -37,6 +37,7 @@ returns-in_ok-clash-in-Clash-clause-meets g c = λ all xs run s e.
         keytab = ap (λ k. k.state) c.clash.ensures.keytab ∙ s.keytab;
         text = c.in_ok-clash-in-Clash.ensures.text ∙ ap (λ (t : List ℕ). t ++ clash_line x c.in-Clash.twin) s.text;
         clashes = c.in_ok-clash-in-Clash.ensures.clashes ∙ ap (λ (t : List ℕ). t ++ clash_line x c.in-Clash.twin) s.clashes;
+        places = c.clash.ensures.places ∙ s.places;
         classes = clash_follows all xs run.before run.held c.args.entry.now c.args.self.now.classes c.in-Clash.twin s.classes step;
       },
     )
@@ -49,4 +50,5 @@ returns-in_ok-place-in-Copy-clause-meets g c = λ all xs run s e.
     s.keytab step c.in_ok-place-in-Copy.ensures.added
     (c.in_ok-place-in-Copy.ensures.text ∙ ap (λ (t : List ℕ). t ++ copied_lines c.args.entry.now c.in-Copy.places.now c.in_ok-place-in-Copy.place) s.text)
     (c.copy.ensures.clash ∙ s.clashes)
+    (c.in_ok-place-in-Copy.ensures.places ∙ ap (λ (ps : List ℕ). ps ++ c.in_ok-place-in-Copy.place ∷ []) s.places)
     (c.set_copy.ensures.follows all run.before xs run.held c.args.entry.now s.classes e)
