@@ -15,7 +15,7 @@ pub use krb_editors::{
 };
 pub use krb_ktutil::{Ktutil, LineEnd, file_word, run_ktutil};
 pub use krb_readers::{
-    CheckOptions, FindOptions, KlistOptions, ListKind, TicketCheck, run_klist, run_ktcheck, run_ktfind,
-    run_ticket_check,
+    CheckOptions, FindOptions, KlistOptions, ListKind, TicketCheck, run_klist, run_ktcheck,
+    run_ktfind, run_ticket_check,
 };
 pub use response::{DefaultName, respond};

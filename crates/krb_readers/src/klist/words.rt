@@ -6,7 +6,8 @@ ghost use Rattle.krb_driver.specs.Mistakes.{Reads, mistake_parts};
 
 use krb_cache_text::CcColumns;
 use krb_driver::{
-    CommandName, CommandWords, FileKind, Matches, Mistake, V1_BIG, Word, WordFault, times_given, v1_order,
+    CommandName, CommandWords, FileKind, Matches, Mistake, V1_BIG, Word, WordFault, times_given,
+    v1_order,
 };
 use krb_text::KtColumns;
 use krb_wire::Order;
