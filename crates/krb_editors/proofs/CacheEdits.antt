@@ -6,45 +6,17 @@ use Rattle.krb_walk.specs.declared.event.Event.{Event}
 use Rattle.krb_walk.specs.declared.event.Event.TheVariants.{Put, Cut}
 use Rattle.krb_walk.specs.declared.refusal.Code.{Code}
 use Rattle.krb_walk.specs.ReplyContent.{ReplyContent}
-use Rattle.krb_walk.specs.Rules.{Rules}
-use Rattle.krb_walk.specs.Events.{SessionState, after, put_reply, reply_to}
-use Rattle.krb_walk.specs.History.{AllLawful, history, replies, state_after}
+use Rattle.krb_walk.specs.Events.{SessionState, put_reply, reply_to}
+use Rattle.krb_walk.specs.History.{state_after}
 use Rattle.krb_walk.specs.Ran.{Ran}
-use Rattle.krb_walk.proofs.Runs.{ran_of}
 use Rattle.krb_ccache.specs.Changes.{is_refused, put_result}
 use Rattle.krb_ccache.specs.Credential.{CredParts}
 use Rattle.krb_ccache.specs.Placed.{cache_rules}
 use Rattle.krb_ccache.specs.SetConfig.{SettingParts, entry_of, match_places, setting_events}
 use Rattle.krb_ccache.specs.Store.{CacheState}
 use Rattle.krb_cache_text.specs.Script.{CacheLineParts}
+use Rattle.krb_editors.proofs.RunJoins.{ran_join, state_join}
 use Rattle.krb_editors.specs.Ccedit.{is_refusal, line_events, lines_events}
-
--- ---- runs one after the other
-
-state_join : {S I : Type 0} (r : Rules S I) (s : SessionState S) (es fs : List (Event I)) → state_after r s (es ++ fs) ≡ state_after r (state_after r s es) fs
-state_join r s [] fs = refl
-state_join r s (e ∷ es) fs = state_join r (after r s e) es fs
-
-replies_join : {S I : Type 0} (r : Rules S I) (s : SessionState S) (es fs : List (Event I)) → replies (history r s (es ++ fs)) ≡ replies (history r s es) ++ replies (history r (state_after r s es) fs)
-replies_join r s [] fs = refl
-replies_join r s (e ∷ es) fs = ap (λ (reported : List ReplyContent). reply_to r s e ∷ reported) (replies_join r (after r s e) es fs)
-
-lawful_join : {S I : Type 0} (r : Rules S I) (s : SessionState S) (es fs : List (Event I)) → AllLawful r (history r s es) → AllLawful r (history r (state_after r s es) fs) → AllLawful r (history r s (es ++ fs))
-lawful_join r s [] fs all more = more
-lawful_join r s (e ∷ es) fs all more = (all.0, lawful_join r (after r s e) es fs all.1 more)
-
--- two runs, one after the other, are one run
-pub ran_join : {S I : Type 0} (r : Rules S I) (old mid new : SessionState S) (es fs : List (Event I)) (t u v : List ReplyContent) → Ran r old mid es t u → Ran r mid new fs u v → Ran r old new (es ++ fs) t v
-ran_join {S} r old mid new es fs t u v first second =
-    ran_of r old new (es ++ fs) t v first.run.ready
-    (second.replies_are ∙ ap (λ (s : SessionState S). u ++ replies (history r s fs)) first.state ∙ ap (λ (x : List ReplyContent). x ++ replies (history r (state_after r old es) fs)) first.replies_are
-    ∙ append_assoc t (replies (history r old es)) (replies (history r (state_after r old es) fs)) ∙ sym (ap (λ (x : List ReplyContent). t ++ x) (replies_join r old es fs)))
-    (second.state ∙ ap (λ (s : SessionState S). state_after r s fs) first.state ∙ sym (state_join r old es fs))
-    (lawful_join r old es fs first.run.lawful (subst (λ (s : SessionState S). AllLawful r (history r s fs)) first.state second.run.lawful))
-
--- a run ends in the state that its events leave
-pub ran_to_end : {S I : Type 0} (r : Rules S I) (old new : SessionState S) (es : List (Event I)) (t u : List ReplyContent) → Ran r old new es t u → Ran r old (state_after r old es) es t u
-ran_to_end {S} r old new es t u ran = subst (λ (s : SessionState S). Ran r old s es t u) ran.state ran
 
 -- ---- a value
 

@@ -39,6 +39,7 @@ use Rattle.krb_driver.specs.declared.verdict.Verdict.TheVariants.{Well, Replied}
 use Rattle.krb_driver.specs.Commands.{text_effect}
 use Rattle.krb_driver.specs.Effects.{Effect, Displays, Saves, text}
 use Rattle.krb_editors.specs.Sessions.{is_change, new_session, moments, left, replied, session_effect, RunsFairly}
+use Rattle.krb_driver.specs.Verdicts.{hiding}
 use Rattle.krb_driver.specs.Reported.{is_failure, reports_code, reports_fault, reported_code, reported_fault, reported_codes, reported_faults, replied_verdict}
 
 -- ---- the format after an event
@@ -218,30 +219,30 @@ pub left_begun : {S I : Type 0} (r : Rules S I) (store : S) (events : List (Even
 left_begun {S} r store events old new reported begins ran =
     ap (λ (s : SessionState S). s.store) (ran.state ∙ ap (λ (s : SessionState S). state_after r s events) begins)
 
-module _ (kind : FileKind) (reported : List ReplyContent) (image lines text_ : List ℕ) (verdict : Verdict) where
+module _ (kind : FileKind) (hidden : Option ℕ) (reported : List ReplyContent) (image lines text_ : List ℕ) (verdict : Verdict) where
   -- replies that report a change save the image
-  pub replied_saves : list_any is_change reported ≡ true → text_ ≡ lines → verdict ≡ replied_verdict kind (λ reply. reply) reported → (file : List ℕ) → Saves file image text_ verdict ≡ replied kind file reported image lines
+  pub replied_saves : list_any is_change reported ≡ true → text_ ≡ lines → verdict ≡ hiding hidden (replied_verdict kind (λ reply. reply) reported) → (file : List ℕ) → Saves file image text_ verdict ≡ replied kind file hidden reported image lines
   replied_saves changed text_is verdict_is file =
-      let due = replied_verdict kind (λ reply. reply) reported in
+      let due = hiding hidden (replied_verdict kind (λ reply. reply) reported) in
       ap (λ (t : List ℕ). Saves file image t verdict) text_is ∙ ap (Saves file image lines) verdict_is
       ∙ ap (λ (b : Bool). if b then Saves file image lines due else Displays file (text lines due)) (sym changed)
 
   -- others save nothing
-  pub replied_shows : list_any is_change reported ≡ false → text_ ≡ lines → verdict ≡ replied_verdict kind (λ reply. reply) reported → (file : List ℕ) → Displays file (text text_ verdict) ≡ replied kind file reported image lines
+  pub replied_shows : list_any is_change reported ≡ false → text_ ≡ lines → verdict ≡ hiding hidden (replied_verdict kind (λ reply. reply) reported) → (file : List ℕ) → Displays file (text text_ verdict) ≡ replied kind file hidden reported image lines
   replied_shows changed text_is verdict_is file =
-      let due = replied_verdict kind (λ reply. reply) reported in
+      let due = hiding hidden (replied_verdict kind (λ reply. reply) reported) in
       ap (λ (t : List ℕ). Displays file (text t verdict)) text_is ∙ ap (λ (v : Verdict). Displays file (text lines v)) verdict_is
       ∙ ap (λ (b : Bool). if b then Saves file image lines due else Displays file (text lines due)) (sym changed)
 
 -- what is due after the replies of a session is the effect of the session
 pub session_made : {S I F : Type 0} (kind : FileKind) (r : Rules S I) (image : S → List ℕ) (tail_of : F → List ℕ → List ℕ) (format : S → F) (rewritten : F) → KeepsFormat format rewritten r
     → (store : S) (events : List (Event I)) (reported : List ReplyContent) (bytes : List ℕ) → Ran r (new_session store) (state_after r (new_session store) events) events [] reported → bytes ≡ image (left r store events)
-    → (file : List ℕ) → replied kind file reported bytes (reply_texts_by tail_of rewritten (format store) reported) ≡ session_effect kind r image (λ k. reply_text_by tail_of (format k)) file store events
-session_made kind r image tail_of format rewritten keeps store events reported bytes ran bytes_are file =
+    → (hidden : Option ℕ) (file : List ℕ) → replied kind file hidden reported bytes (reply_texts_by tail_of rewritten (format store) reported) ≡ session_effect kind r image (λ k. reply_text_by tail_of (format k)) hidden file store events
+session_made kind r image tail_of format rewritten keeps store events reported bytes ran bytes_are hidden file =
     let due = replies (moments r store events) in
-    ap (λ (t : List ReplyContent). replied kind file t bytes (reply_texts_by tail_of rewritten (format store) t)) ran.replies_are
-    ∙ ap (λ (b : List ℕ). replied kind file due b (reply_texts_by tail_of rewritten (format store) due)) bytes_are
-    ∙ ap (replied kind file due (image (left r store events))) (sym (lines_of r format rewritten keeps tail_of (new_session store) events))
+    ap (λ (t : List ReplyContent). replied kind file hidden t bytes (reply_texts_by tail_of rewritten (format store) t)) ran.replies_are
+    ∙ ap (λ (b : List ℕ). replied kind file hidden due b (reply_texts_by tail_of rewritten (format store) due)) bytes_are
+    ∙ ap (replied kind file hidden due (image (left r store events))) (sym (lines_of r format rewritten keeps tail_of (new_session store) events))
 
 -- the effect is what is due, if the two are the same for every file
 pub made_as : {A E : Type 0} (given due : List ℕ → Effect) → ((file : List ℕ) → given file ≡ due file) → (result : Result (Made A (Output A)) E)

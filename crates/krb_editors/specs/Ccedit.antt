@@ -1,5 +1,5 @@
 -- What ccedit does.
-use Rattle.std.specs.Prelude.{ℕ, Bool, true, false, List, [], ◌∷◌, ◌++◌}
+use Rattle.std.specs.Prelude.{ℕ, Bool, true, false, List, [], ◌∷◌, ◌++◌, None}
 use Rattle.std.specs.List.{list_any}
 use Rattle.krb_walk.specs.declared.event.Event.{Event}
 use Rattle.krb_walk.specs.ReplyContent.{ReplyContent, Refused}
@@ -53,7 +53,7 @@ cache_events lines cache = lines_events (session.new_session cache) lines
 
 -- what lines over the cache of a file save and print: the cache is saved if they changed it
 abbrev pub edits : List CacheLineParts → List ℕ → CacheState → Effect
-edits lines file cache = session.session_effect Cache cache_rules image_of (λ k. cache_reply_text k.version) file cache (cache_events lines cache)
+edits lines file cache = session.session_effect Cache cache_rules image_of (λ k. cache_reply_text k.version) None file cache (cache_events lines cache)
 
 -- lines were run over a cache: every walk is given what is due to it
 abbrev pub RunsFairly : List CacheLineParts → CacheState → Type 0

@@ -1,4 +1,5 @@
 -- What the contracts of this crate say.
+pub mod Added
 pub mod Sessions
 pub mod Scripted
 pub mod Ktedit

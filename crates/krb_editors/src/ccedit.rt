@@ -153,7 +153,14 @@ fn edit<A: Allocator + Copy>(
     let format = CcFormat(cache.version());
     let mut replies = Vec::new(alloc);
     let cache = run_lines(alloc, cache, lines, &mut replies)?;
-    replied(alloc, FileKind::Cache, format, &replies, cache.into_image())
+    replied(
+        alloc,
+        FileKind::Cache,
+        format,
+        &replies,
+        cache.into_image(),
+        None,
+    )
 }
 
 // Returns whether a line may change a cache.

@@ -46,22 +46,24 @@ fn are_changes<A: Allocator>(replies: &[Reply<A>]) -> bool
     replies.iter().any(is_change)
 }
 
-/// Returns what to print after a session with those replies, and the image to save if they report a change.
+/// Returns what to print after a session with those replies, and the image to save if they report a change. MIT's
+/// programs see none of its entries from `hidden` on, of which one was added.
 pub fn replied<A: Allocator + Copy, F: RecordFormat>(
     alloc: A,
     kind: FileKind,
     format: F,
     replies: &[Reply<A>],
     image: Vec<u8, A>,
+    hidden: Option<u32>,
 ) -> Result<Made<A, Output<A>>, NoMemory>
     ensures { IfOk result (λ made. (file : List ℕ) → text_effect file (Ok made)
-        ≡ replied kind file (map content_of replies.now) image.items (reply_texts_by F.tail_of F.rewritten format (map content_of replies.now))) }
+        ≡ replied kind file hidden (map content_of replies.now) image.items (reply_texts_by F.tail_of F.rewritten format (map content_of replies.now))) }
 {
     let mut text = Vec::new(alloc);
     reply_lines(format, replies, &mut text)?;
     let output = Output {
         text,
-        verdict: replied_verdict(kind, replies),
+        verdict: replied_verdict(kind, replies).hiding(hidden),
     };
     if are_changes(replies) {
         Ok(Made::Saves(image, output))

@@ -6,8 +6,10 @@ ghost use Rattle.krb_driver.specs.Commands.{text_effect};
 ghost use Rattle.krb_editors.specs.Ktedit.{RunsFairly, edits, ktedit_fairly, ktedit_plan};
 ghost use Rattle.krb_editors.specs.Scripted.{RunsScript};
 
+use crate::added::run_following;
 use crate::edited::{may_any_change, replied};
 use crate::scripted::read_script;
+use krb_audit::hides_added;
 use krb_driver::{
     Command, CommandName, CommandWords, FileError, FileKind, FileName, Made, Output, Streams,
     V1_BIG, Word, give_or_empty, hold_if, report, run,
@@ -64,9 +66,17 @@ fn edit<A: Allocator + Copy>(
     };
     let mut session = Session::new(alloc, keytab);
     let mut replies = Vec::new(alloc);
-    session.run(events, &mut replies)?;
-    let image = session.into_store().into_image();
-    replied(alloc, FileKind::Keytab, format, &replies, image)
+    let added = run_following(alloc, &mut session, events, &mut replies)?;
+    let keytab = session.into_store().into_keytab();
+    let hidden = hides_added(&keytab, &added);
+    replied(
+        alloc,
+        FileKind::Keytab,
+        format,
+        &replies,
+        keytab.into_image(),
+        hidden,
+    )
 }
 
 impl<'f, A: Allocator + Copy> Command<A> for EditKeytab<'f, A> {

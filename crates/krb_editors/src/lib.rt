@@ -1,6 +1,7 @@
 //! The commands that change a file: ktedit, ktremove, ktcopy, ccedit and ccremove.
 #![tactic(auto)]
 
+mod added;
 mod ccedit;
 mod ccremove;
 mod edited;

@@ -1,4 +1,5 @@
 use Rattle.std.proofs.Common.{ℕ, List, map, ap, ◌∙◌}
+use Rattle.std.specs.Prelude.{None}
 use Rattle.krb_walk.specs.ReplyContent.{content_of}
 use Rattle.krb_ccache.specs.declared.version.Version.TheVariants.{V4}
 use Rattle.krb_ccache.specs.Placed.{cache_rules}
@@ -20,8 +21,8 @@ returns-clause-made g c =
     let bytes = c.into_image.result.items in
     let ran = rw c.new-replies.ensures.items at c.in_ok-cache.ensures.ran in
     let image = c.into_image.ensures.spelled ∙ ap image_of c.in_ok-cache.ensures.left in
-    made_as (λ (file : List ℕ). replied Cache file reported bytes (reply_texts_by cache_record_tail V4 cache.version reported)) (λ (file : List ℕ). edits c.args.lines.now file cache)
-    (session_made Cache cache_rules image_of cache_record_tail (λ (k : CacheState). k.version) V4 cache_keeps cache events reported bytes ran image)
+    made_as (λ (file : List ℕ). replied Cache file None reported bytes (reply_texts_by cache_record_tail V4 cache.version reported)) (λ (file : List ℕ). edits c.args.lines.now file cache)
+    (session_made Cache cache_rules image_of cache_record_tail (λ (k : CacheState). k.version) V4 cache_keeps cache events reported bytes ran image None)
     c.replied.result (rw (c.deref.ensures.value, c.version.ensures) at c.replied.ensures)
 
 -- every walk is given what is due to it

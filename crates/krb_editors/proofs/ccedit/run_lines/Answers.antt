@@ -6,7 +6,8 @@ use Rattle.krb_ccache.specs.Placed.{cache_rules}
 use Rattle.krb_ccache.specs.Store.{CacheState}
 use Rattle.krb_editors.specs.Ccedit.{cache_session}
 use Rattle.krb_editors.specs.Sessions.{new_session}
-use Rattle.krb_editors.proofs.CacheEdits.{ran_line, ran_to_end}
+use Rattle.krb_editors.proofs.CacheEdits.{ran_line}
+use Rattle.krb_editors.proofs.RunJoins.{ran_to_end}
 use Rattle.krb_editors.proofs.ccedit.run_lines.Goals as goal
 
 -- no line was run yet
