@@ -1,8 +1,10 @@
 //! What a run prints, and how its end is reported.
 
 pub(crate) mod error_output;
+mod explanation;
 mod found_words;
 mod mistake_words;
+mod name_words;
 mod piece;
 pub(crate) mod reported;
 mod reported_words;

@@ -166,10 +166,8 @@ fn told<A: Allocator>(keytab: &Keytab<A>, places: &[u32], text: Vec<u8, A>) -> O
     ensures text { result.text.items ≡ text.items }
     ensures verdict { result.verdict ≡ hiding (hides_added keytab.now.state places.now) Well }
 {
-    Output {
-        text,
-        verdict: Verdict::Well.hiding(hides_added(keytab, places)),
-    }
+    let verdict = Verdict::Well.hiding(hides_added(keytab, places));
+    Output { text, verdict }
 }
 
 // Returns what to print and save of what was copied.
@@ -191,10 +189,8 @@ fn made<'a, A: Allocator + Copy, B: Allocator>(
         return Ok(Made::Shows(clashed(dry_run, text, clashes)));
     }
     if text.is_empty() {
-        return Ok(Made::Shows(Output {
-            text,
-            verdict: Verdict::Well,
-        }));
+        let verdict = Verdict::Well;
+        return Ok(Made::Shows(Output { text, verdict }));
     }
     let output = told(&keytab, &places, text);
     if dry_run {

@@ -5,8 +5,9 @@ ghost use Rattle.krb_driver.specs.PieceTexts.{piece_text, pieces_text};
 ghost use Rattle.krb_driver.specs.Runs.{Writes};
 ghost use Rattle.krb_driver.specs.Words.{found_fault_words, found_words, word_lines};
 
+use crate::reporting::explanation::{Explanation, no_words};
 use crate::reporting::piece::MessagePiece;
-use crate::reporting::words::{Explanation, listed_words, no_words};
+use crate::reporting::words::listed_words;
 use crate::reporting::writing::write_pieces;
 use crate::verdict::Findings;
 use krb_audit::FindingWords;

@@ -7,9 +7,10 @@ ghost use Rattle.krb_driver.specs.Runs.{Writes};
 ghost use Rattle.krb_driver.specs.Underway.{Adds};
 ghost use Rattle.krb_driver.specs.Words.{code_words, fault_words, hidden_words_of, reported_words};
 
+use crate::reporting::name_words::hidden_words;
 use crate::reporting::piece::MessagePiece;
 use crate::reporting::reported::Reported;
-use crate::reporting::words::{hidden_words, refusal_phrase};
+use crate::reporting::words::refusal_phrase;
 use crate::reporting::writing::{Gathered, add_pieces, send};
 use crate::verdict::FileKind;
 use arrayvec::ArrayVec;

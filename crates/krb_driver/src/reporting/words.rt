@@ -1,16 +1,15 @@
 //! The words that explain what ended a run.
 
 ghost use Rattle.std.specs.Prelude.{◌≡◌, [], ◌++◌, IfOk, IsFalse, codes, is_some};
-ghost use Rattle.krb_driver.specs.FileNames.{untyped};
-ghost use Rattle.krb_driver.specs.declared.verdict.FileKind.TheVariants.{Keytab};
 ghost use Rattle.krb_driver.specs.Messages.{phrase_line, words_line};
 ghost use Rattle.krb_driver.specs.PieceTexts.{piece_text, pieces_text};
 ghost use Rattle.krb_driver.specs.Verdicts.{is_itemized};
-ghost use Rattle.krb_driver.specs.Words.{cache_phrase, cause_words, ending_words, error_words, hidden_words, keytab_phrase, line_fault_phrase, list_phrase, listed_words, missing_words, no_cache_phrase, no_keytab_phrase, nothing_phrase, refusal_phrase, source_words, type_in, type_words, typed_words, verdict_words};
+ghost use Rattle.krb_driver.specs.Words.{cache_phrase, cause_words, ending_words, error_words, keytab_phrase, line_fault_phrase, list_phrase, listed_words, no_cache_phrase, no_keytab_phrase, nothing_phrase, refusal_phrase, verdict_words};
 
 use crate::error::RunError;
-use crate::file_name::{NameSource, type_of};
 use crate::loading::{NotCache, NotKeytab};
+use crate::reporting::explanation::{Explanation, no_words, phrase, words};
+use crate::reporting::name_words::{hidden_words, missing_words, type_words, typed_words};
 use crate::reporting::piece::MessagePiece;
 use crate::verdict::{FileKind, Verdict};
 use krb_ccache::CcOpenFault;
@@ -19,82 +18,7 @@ use krb_keytab::KtOpenFault;
 use krb_text::LineFault;
 use krb_walk::{Code, Fault};
 
-/// The pieces of words. Unused ones are empty.
-pub type Explanation<'a> = [MessagePiece<'a>; 9];
-
-const NONE: MessagePiece<'static> = MessagePiece::Text("");
-
 const TOO_LARGE: &str = "it has more than 16,777,216 bytes";
-
-// Returns words of two pieces, after the line number if they are for a line of ktutil, and a line after them.
-fn words_before<'a>(
-    line: Option<u64>,
-    first: MessagePiece<'a>,
-    second: MessagePiece<'a>,
-    last: &'static str,
-) -> Explanation<'a>
-    ensures { pieces_text result ≡ words_line line
-        (piece_text first.entry ++ (piece_text second.entry ++ codes "\n")) ++ last.now }
-{
-    let end = MessagePiece::Text("\n");
-    let last = MessagePiece::Text(last);
-    match line {
-        None => {
-            let head = MessagePiece::Text("krbfile: ");
-            [head, first, second, end, last, NONE, NONE, NONE, NONE]
-        }
-        Some(line) => {
-            let head = MessagePiece::Text("krbfile: line ");
-            let number = MessagePiece::Number(line);
-            let colon = MessagePiece::Text(": ");
-            [head, number, colon, first, second, end, last, NONE, NONE]
-        }
-    }
-}
-
-// Returns words of two pieces, after the line number if they are for a line of ktutil.
-fn words<'a>(
-    line: Option<u64>,
-    first: MessagePiece<'a>,
-    second: MessagePiece<'a>,
-) -> Explanation<'a>
-    ensures { pieces_text result ≡ words_line line
-        (piece_text first.entry ++ (piece_text second.entry ++ codes "\n")) }
-{
-    words_before(line, first, second, "")
-}
-
-/// Returns no words.
-pub fn no_words<'a>() -> Explanation<'a>
-    ensures { pieces_text result ≡ [] }
-{
-    let none = MessagePiece::Text("");
-    [none; 9]
-}
-
-// Returns words that are one text.
-fn alone<'a>(text: &'static str) -> Explanation<'a>
-    ensures { pieces_text result ≡ text.now }
-{
-    [
-        MessagePiece::Text(text),
-        NONE,
-        NONE,
-        NONE,
-        NONE,
-        NONE,
-        NONE,
-        NONE,
-        NONE,
-    ]
-}
-
-// Returns words that are one phrase.
-fn phrase<'a>(line: Option<u64>, text: &'static str) -> Explanation<'a>
-    ensures { pieces_text result ≡ phrase_line line text.now }
-{
-    words(line, MessagePiece::Text(text), MessagePiece::Text(""))
-}
 
 // Returns the phrase for a refusal by a keytab.
 fn keytab_phrase(code: Code) -> &'static str
@@ -178,98 +102,6 @@ fn line_fault_phrase(line: Option<u64>, fault: LineFault) -> &'static str
     match line {
         None => fault.phrase(),
         Some(_) => fault.ktutil_phrase(),
-    }
-}
-
-// Returns the words that tell where a file's name comes from, if no word of a line gave it.
-fn source_line(source: NameSource) -> &'static str
-    ensures { result.now ≡ source_words source }
-{
-    match source {
-        NameSource::Word => "",
-        NameSource::CacheVariable => "krbfile: KRB5CCNAME names it\n",
-        NameSource::KeytabVariable => "krbfile: KRB5_KTNAME names it\n",
-        NameSource::Default => { "krbfile: the default name (krb5.conf is not read); give FILE\n" }
-    }
-}
-
-// Returns the words for a missing file: ktutil says it once more, and a run tells where a name comes from that it was
-// not given.
-fn missing_words<'a>(line: Option<u64>, source: NameSource) -> Explanation<'a>
-    ensures { pieces_text result ≡ missing_words line source }
-{
-    match line {
-        None => alone(source_line(source)),
-        Some(_) => phrase(line, "no such file"),
-    }
-}
-
-// Returns the type that a name begins with.
-fn type_in(name: &[u8]) -> MessagePiece<'_>
-    ensures { piece_text result ≡ type_in name.now }
-{
-    match type_of(name) {
-        Some(kind) => MessagePiece::Name(kind),
-        None => MessagePiece::Text(""),
-    }
-}
-
-// Returns the words for a name of a type that is not read.
-fn type_words(line: Option<u64>, name: &[u8], source: NameSource) -> Explanation<'_>
-    ensures { pieces_text result ≡ type_words line name.now ++ source_words source }
-{
-    let first = MessagePiece::Text("only files are read, and this is ");
-    words_before(line, first, type_in(name), source_line(source))
-}
-
-// Returns whether a name begins with the type of files that are read.
-fn is_untyped(name: &[u8]) -> bool
-    ensures { result ≡ is_some (untyped Keytab name.now) }
-{
-    name.starts_with(b"FILE:") || name.starts_with(b"WRFILE:")
-}
-
-// Returns the words for a name that begins with a type where a file is to be written.
-fn typed_words(line: Option<u64>, name: &[u8]) -> Explanation<'_>
-    ensures { pieces_text result ≡ typed_words line name.now }
-{
-    if is_untyped(name) {
-        words(line, MessagePiece::Text("leave out "), type_in(name))
-    } else {
-        type_words(line, name, NameSource::Word)
-    }
-}
-
-// Returns these words for a file, or for a line of ktutil, after a text.
-fn hidden_after<'a>(
-    head: &'static str,
-    subject: MessagePiece<'a>,
-    place: MessagePiece<'a>,
-) -> Explanation<'a>
-    ensures { pieces_text result ≡ head.now ++ (piece_text subject.entry
-        ++ (codes ": MIT's programs see no entry from " ++ (piece_text place.entry ++ codes " on\n"))) }
-{
-    [
-        MessagePiece::Text(head),
-        subject,
-        MessagePiece::Text(": MIT's programs see no entry from "),
-        place,
-        MessagePiece::Text(" on\n"),
-        NONE,
-        NONE,
-        NONE,
-        NONE,
-    ]
-}
-
-/// Returns the words for an entry that was added and that MIT's programs do not see, as they see none from `place` on.
-pub fn hidden_words(file: &[u8], line: Option<u64>, place: u32) -> Explanation<'_>
-    ensures { pieces_text result ≡ hidden_words file.now line place }
-{
-    let number = MessagePiece::Number(u64::from(place));
-    match line {
-        None => hidden_after("krbfile: ", MessagePiece::Name(file), number),
-        Some(line) => hidden_after("krbfile: line ", MessagePiece::Number(line), number),
     }
 }
 

@@ -17,6 +17,13 @@ pub const KTCHECK: CommandWords = CommandWords {
     after_help: Some(
         "\
 Without FILE it checks the keytab that KRB5_KTNAME names, else /etc/krb5.keytab.
+Findings, a line each. The status is 1 for all but old, and for mode if any user may read or write:
+  mode      Users other than the owner may read or change the file
+  weak      An encryption type that MIT calls weak or deprecated
+  hidden    MIT's programs see no entry from this one on
+  same      The same key of a name, version and type twice
+  clash     Two keys of a name, version and type
+  old       There is a newer version of the name
 Examples:
   krbfile ktcheck -q /etc/*.keytab          What is wrong with any of them, for a cron job
   krbfile ktcheck --allow weak ad.keytab    The same, where rc4 keys are wanted",
