@@ -15,7 +15,8 @@ _krbfile() {
         '') options="$commands --explain --version -V" ;;
         help) options=$commands ;;
         klist) options='-c -f -C -k -t -K -e -s --for --v1-big --json' ;;
-        ktfind | ktedit | ktcheck | ktutil) options='--v1-big' ;;
+        ktfind | ktedit | ktutil) options='--v1-big' ;;
+        ktcheck) options='-q --allow --v1-big' ;;
         ktremove) options='-n -p -k --age -e --v1-big' ;;
         ktcopy) options='-n --replace -p -k -e --v1-big' ;;
         ccremove) options='-n -p --expired' ;;
@@ -27,6 +28,8 @@ _krbfile() {
         COMPREPLY=($(compgen -W old -- "$word"))
     elif [[ $command == ktcopy && ${COMP_WORDS[COMP_CWORD - 1]} == -k ]]; then
         COMPREPLY=($(compgen -W new -- "$word"))
+    elif [[ $command == ktcheck && ${COMP_WORDS[COMP_CWORD - 1]} == --allow ]]; then
+        COMPREPLY=($(compgen -W 'weak hidden same clash old mode' -- "$word"))
     elif [[ $command == @(ktremove|ktcopy) && ${COMP_WORDS[COMP_CWORD - 1]} == -e ]]; then
         COMPREPLY=($(compgen -W "$etypes" -- "$word"))
     elif [[ $command == ktfind ]] && ((operands == 2)); then

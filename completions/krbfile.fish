@@ -17,7 +17,7 @@ for at in __fish_use_subcommand '__fish_seen_subcommand_from help'
     complete -c krbfile -n $at -a ktedit -d 'Edit a keytab by a script'
     complete -c krbfile -n $at -a ktremove -d 'Remove entries from a keytab'
     complete -c krbfile -n $at -a ktcopy -d 'Copy entries from one keytab into another'
-    complete -c krbfile -n $at -a ktcheck -d 'Tell what is wrong with a keytab'
+    complete -c krbfile -n $at -a ktcheck -d 'Tell what is wrong with keytabs'
     complete -c krbfile -n $at -a ktutil -d 'Edit a list of entries by commands'
     complete -c krbfile -n $at -a ccedit -d 'Edit a credential cache by a script'
     complete -c krbfile -n $at -a ccremove -d 'Remove tickets from a credential cache'
@@ -46,6 +46,10 @@ complete -c krbfile -n '__fish_seen_subcommand_from ktcopy' -s k -x -a new -d 'E
 complete -c krbfile -n '__fish_seen_subcommand_from ktremove ktcopy' -s e -x -d 'Entries of that encryption type' \
     -a 'des3-cbc-sha1 aes128-cts-hmac-sha1-96 aes256-cts-hmac-sha1-96 aes128-cts-hmac-sha256-128
     aes256-cts-hmac-sha384-192 arcfour-hmac camellia128-cts-cmac camellia256-cts-cmac'
+
+complete -c krbfile -n '__fish_seen_subcommand_from ktcheck' -s q -d 'Print no counts of a file without findings'
+complete -c krbfile -n '__fish_seen_subcommand_from ktcheck' -l allow -x -a 'weak hidden same clash old mode' \
+    -d 'Findings that do not count for the status'
 
 complete -c krbfile -n '__fish_seen_subcommand_from ccremove' -s n -d 'Save nothing'
 complete -c krbfile -n '__fish_seen_subcommand_from ccremove' -s p -x -d 'Tickets for that service'
