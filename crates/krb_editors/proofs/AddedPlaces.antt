@@ -18,7 +18,7 @@ use Rattle.krb_walk.specs.History.{history, moment, state_after}
 use Rattle.krb_walk.proofs.Carries.{Rises}
 use Rattle.krb_keytab.specs.Store.{KeytabState}
 use Rattle.krb_audit.specs.Findings.{hidden_at, hidden_from, hides_added}
-use Rattle.krb_editors.specs.Added.{HaveSame, moved_by, moved_over, places_after}
+use Rattle.krb_editors.specs.Added.{HaveSame, followed_past, followed_over, places_after}
 
 -- ---- lists with the same numbers
 
@@ -71,19 +71,19 @@ hides_same k xs ys h = hides_by xs ys (hidden_from k) h
 -- ---- histories
 
 -- the places after one more event
-pub moved_more : {S I : Type 0} (r : Rules S I) (s : SessionState S) (es : List (Event I)) (e : Event I) (places : List ℕ)
-    → moved_over r places (history r s (es ++ e ∷ [])) ≡ moved_by r (moment r (state_after r s es) e) (moved_over r places (history r s es))
-moved_more r s [] e places = refl
-moved_more r s (x ∷ es) e places = moved_more r (after r s x) es e (moved_by r (moment r s x) places)
+pub followed_more : {S I : Type 0} (r : Rules S I) (s : SessionState S) (es : List (Event I)) (e : Event I) (places : List ℕ)
+    → followed_over r places (history r s (es ++ e ∷ [])) ≡ followed_past r (moment r (state_after r s es) e) (followed_over r places (history r s es))
+followed_more r s [] e places = refl
+followed_more r s (x ∷ es) e places = followed_more r (after r s x) es e (followed_past r (moment r s x) places)
 
 -- places that were followed over events, and past one more
-pub same_moved : {S I : Type 0} (r : Rules S I) (start old : SessionState S) (es : List (Event I)) (e : Event I) (was is : List ℕ) → old ≡ state_after r start es
-    → HaveSame was (moved_over r [] (history r start es)) → HaveSame is (moved_by r (moment r old e) was) → HaveSame is (moved_over r [] (history r start (es ++ e ∷ [])))
-same_moved {S} r start old es e was is at before step =
-    let there = moved_over r [] (history r start es) in
+pub same_followed : {S I : Type 0} (r : Rules S I) (start old : SessionState S) (es : List (Event I)) (e : Event I) (was is : List ℕ) → old ≡ state_after r start es
+    → HaveSame was (followed_over r [] (history r start es)) → HaveSame is (followed_past r (moment r old e) was) → HaveSame is (followed_over r [] (history r start (es ++ e ∷ [])))
+same_followed {S} r start old es e was is at before step =
+    let there = followed_over r [] (history r start es) in
     let m = moment r (state_after r start es) e in
-    let here : HaveSame is (moved_by r m was) = subst (λ (s : SessionState S). HaveSame is (moved_by r (moment r s e) was)) at step in
-    rw (moved_more r start es e []) (same_trans is (moved_by r m was) (moved_by r m there) here (same_after (r.seen m.before.store) (r.seen m.after.store) m.reply was there before))
+    let here : HaveSame is (followed_past r m was) = subst (λ (s : SessionState S). HaveSame is (followed_past r (moment r s e) was)) at step in
+    rw (followed_more r start es e []) (same_trans is (followed_past r m was) (followed_past r m there) here (same_after (r.seen m.before.store) (r.seen m.after.store) m.reply was there before))
 
 -- ---- ranks
 
@@ -227,10 +227,6 @@ same_removed p old new each =
     (λ q. each q ∙ ap (λ (b : Bool). cond b false (has q old)) (is_at-eq p q) ∙ sym (any_filter (λ x. not (x == p)) (is_at (nat_cmp q)) old ∙ has_others q p old))
 
 -- ---- a rewrite
-
--- where a place is carried, by the live places before and after
-abbrev pub carry_by : List ℕ → List ℕ → ℕ → ℕ → ℕ
-carry_by before after end p = nth_or end after (length (filter (λ q. nat_lt q p) before))
 
 any_append : (test : ℕ → Bool) (xs ys : List ℕ) → list_any test (xs ++ ys) ≡ list_any test xs || list_any test ys
 any_append test [] ys = refl

@@ -1,10 +1,10 @@
 -- Where the entries that the events of a session added stand.
-use Rattle.std.specs.Prelude.{◌≡◌, ℕ, Bool, true, false, List, [], ◌∷◌, ◌==◌, not, filter, map}
+use Rattle.std.specs.Prelude.{◌≡◌, ℕ, Bool, true, false, List, [], ◌∷◌, ◌==◌, nat_lt, not, length, filter, map}
 use Rattle.std.specs.List.{list_any}
 use Rattle.krb_walk.specs.declared.event.Event.{Event}
 use Rattle.krb_walk.specs.declared.event.Event.TheVariants.{Rewrite}
 use Rattle.krb_walk.specs.History.{Moment}
-use Rattle.krb_walk.specs.Ranks.{carry}
+use Rattle.krb_walk.specs.Ranks.{carry, nth_or}
 use Rattle.krb_walk.specs.ReplyContent.{ReplyContent, Placed, Gone, Rewritten}
 use Rattle.krb_walk.specs.Rules.{Rules}
 use Rattle.krb_walk.specs.Store.{Store}
@@ -17,14 +17,14 @@ places_after old new (Rewritten end) places = map (carry old new) places
 places_after old new other places = places
 
 module _ {S I : Type 0} (rules : Rules S I) where
-  -- the same after a moment
-  abbrev pub moved_by : Moment S I → List ℕ → List ℕ
-  moved_by m places = places_after (rules.seen m.before.store) (rules.seen m.after.store) m.reply places
+  -- the places past a moment
+  abbrev pub followed_past : Moment S I → List ℕ → List ℕ
+  followed_past m places = places_after (rules.seen m.before.store) (rules.seen m.after.store) m.reply places
 
-  -- the same after the moments of a history
-  abbrev pub moved_over : List ℕ → List (Moment S I) → List ℕ
-  moved_over places [] = places
-  moved_over places (m ∷ ms) = moved_over (moved_by m places) ms
+  -- the places past the moments of a history, one after the other
+  abbrev pub followed_over : List ℕ → List (Moment S I) → List ℕ
+  followed_over places [] = places
+  followed_over places (m ∷ ms) = followed_over (followed_past m places) ms
 
 -- ---- for private contracts
 
@@ -32,6 +32,10 @@ module _ {S I : Type 0} (rules : Rules S I) where
 abbrev pub is_rewrite : {I : Type 0} → Event I → Bool
 is_rewrite Rewrite = true
 is_rewrite event = false
+
+-- where a rewrite carries a place, by the live places before and after it, and its end
+abbrev pub carry_by : List ℕ → List ℕ → ℕ → ℕ → ℕ
+carry_by before after end p = nth_or end after (length (filter (λ q. nat_lt q p) before))
 
 -- the same numbers are in two lists: what a test finds in one of them, it finds in the other
 pub record HaveSame (xs ys : List ℕ) : Type 0 where

@@ -12,7 +12,7 @@ use Rattle.krb_driver.specs.declared.verdict.FileKind.{FileKind}
 use Rattle.krb_driver.specs.Effects.{Effect, Displays, Saves, text}
 use Rattle.krb_driver.specs.Reported.{replied_verdict}
 use Rattle.krb_driver.specs.Verdicts.{hiding}
-use Rattle.krb_editors.specs.Added.{moved_over}
+use Rattle.krb_editors.specs.Added.{followed_over}
 
 -- an event that may change a store
 abbrev pub may_change : {I : Type 0} → Event I → Bool
@@ -28,7 +28,7 @@ is_change (Gone place) = true
 is_change (Rewritten end) = true
 is_change other = false
 
--- the effect of replies over a file of that kind: the image is saved if they report a change, and the lines printed; with the place from which on MIT's programs see none of its entries, if one of those was added
+-- the effect of replies over a file of that kind: the image is saved if they report a change, and the lines are printed; from `hidden` on MIT's programs see no entry, and miss one that was added
 abbrev pub replied : FileKind → List ℕ → Option ℕ → List ReplyContent → List ℕ → List ℕ → Effect
 replied kind file hidden reported image lines =
     let verdict = hiding hidden (replied_verdict kind (λ reply. reply) reported) in
@@ -49,7 +49,7 @@ module _ {S I : Type 0} (rules : Rules S I) (store : S) (events : List (Event I)
 
   -- the places at which entries that they added stand after them
   abbrev pub added : List ℕ
-  added = moved_over rules [] moments
+  added = followed_over rules [] moments
 
   -- the events were run: every walk is given what is due to it
   abbrev pub RunsFairly : Type 0

@@ -8,7 +8,7 @@ ghost use Rattle.krb_walk.specs.Ran.{Ran};
 ghost use Rattle.krb_walk.specs.Ranks.{live_places, nth_or};
 ghost use Rattle.krb_walk.specs.ReplyContent.{content_of, is_rewritten};
 ghost use Rattle.krb_walk.specs.Store.{Store};
-ghost use Rattle.krb_editors.specs.Added.{HaveSame, is_rewrite, moved_by, moved_over, places_after};
+ghost use Rattle.krb_editors.specs.Added.{HaveSame, carry_by, is_rewrite, followed_past, followed_over, places_after};
 
 use krb_walk::{Event, Placed, Reply, Session, Stop};
 use krb_wire::NoMemory;
@@ -68,8 +68,7 @@ fn carried<A: Allocator + Copy>(
     end: u32,
 ) -> Result<BTreeSet<u32, A>, NoMemory>
     requires { IsNonDecreasing before.now }
-    ensures { IfOk result (λ places. HaveSame places.keys
-        (map (λ p. nth_or end after.now (length (filter (λ q. nat_lt q p) before.now))) added.now.keys)) }
+    ensures { IfOk result (λ places. HaveSame places.keys (map (carry_by before.now after.now end) added.now.keys)) }
 {
     let mut places = BTreeSet::new(alloc);
     for place in added {
@@ -117,7 +116,7 @@ fn apply<P: Placed, A: Allocator + Copy>(
     ensures ran { OnOk result (Ran P.rules (session_of P.state_of session.old) (session_of P.state_of session.new)
         (event.now ∷ []) (map content_of replies.old.items) (map content_of replies.new.items)) }
     ensures added { OnOk result (HaveSame added.new.keys
-        (moved_by P.rules (moment P.rules (session_of P.state_of session.old) event.now) added.old.keys)) }
+        (followed_past P.rules (moment P.rules (session_of P.state_of session.old) event.now) added.old.keys)) }
 {
     let before = places_before(alloc, session.store(), event)?;
     let reply = session.apply(event)?;
@@ -136,7 +135,7 @@ pub fn run_following<P: Placed, A: Allocator + Copy>(
     ensures ran { OnOk result (Ran P.rules (session_of P.state_of session.old) (session_of P.state_of session.new)
         events.now (map content_of replies.old.items) (map content_of replies.new.items)) }
     ensures added { IfOk result (λ places. HaveSame places.items
-        (moved_over P.rules [] (history P.rules (session_of P.state_of session.old) events.now))) }
+        (followed_over P.rules [] (history P.rules (session_of P.state_of session.old) events.now))) }
 {
     let mut added = BTreeSet::new(alloc);
     'events: for event in events {

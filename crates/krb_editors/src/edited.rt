@@ -46,8 +46,8 @@ fn are_changes<A: Allocator>(replies: &[Reply<A>]) -> bool
     replies.iter().any(is_change)
 }
 
-/// Returns what to print after a session with those replies, and the image to save if they report a change. MIT's
-/// programs see none of its entries from `hidden` on, of which one was added.
+/// Returns what to print after a session with those replies, and the image to save if they report a change. From
+/// `hidden` on MIT's programs see no entry, and miss one that was added.
 pub fn replied<A: Allocator + Copy, F: RecordFormat>(
     alloc: A,
     kind: FileKind,

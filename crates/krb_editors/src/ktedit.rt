@@ -2,6 +2,7 @@
 
 ghost use Rattle.std.specs.Prelude.{◌≡◌, ℕ, List, IfOk, IsFalse, Ok};
 ghost use Rattle.krb_text.specs.Script.{event_in};
+ghost use Rattle.krb_audit.specs.Findings.{hides_added};
 ghost use Rattle.krb_driver.specs.Commands.{text_effect};
 ghost use Rattle.krb_editors.specs.Ktedit.{RunsFairly, edits, ktedit_fairly, ktedit_plan};
 ghost use Rattle.krb_editors.specs.Scripted.{RunsScript};
@@ -51,6 +52,16 @@ struct EditKeytab<'f, A: Allocator> {
     events: Vec<Event<NewEntry<A>>, A>,
 }
 
+// Returns the place from which on MIT's programs see no entry, if they miss one that was added at these places.
+fn hidden_from<A: Allocator>(keytab: &Keytab<A>, added: &[u32]) -> Option<u32>
+    ensures { result ≡ hides_added keytab.now.state added.now }
+{
+    if added.is_empty() {
+        return None;
+    }
+    hides_added(keytab, added)
+}
+
 // Runs events over a keytab, with a table of its cells, in a new session.
 fn edit<A: Allocator + Copy>(
     alloc: A,
@@ -68,7 +79,7 @@ fn edit<A: Allocator + Copy>(
     let mut replies = Vec::new(alloc);
     let added = run_following(alloc, &mut session, events, &mut replies)?;
     let keytab = session.into_store().into_keytab();
-    let hidden = hides_added(&keytab, &added);
+    let hidden = hidden_from(&keytab, &added);
     replied(
         alloc,
         FileKind::Keytab,

@@ -5,8 +5,8 @@ use Rattle.std.specs.BTreeSet.{insert_key}
 use Rattle.std.specs.Map.Iter.{deref}
 use Rattle.std.specs.Ordering.{nat_cmp}
 use Rattle.krb_walk.specs.Ranks.{nth_or}
-use Rattle.krb_editors.specs.Added.{HaveSame}
-use Rattle.krb_editors.proofs.AddedPlaces.{carry_by, same_refl, same_trans, same_turned}
+use Rattle.krb_editors.specs.Added.{HaveSame, carry_by}
+use Rattle.krb_editors.proofs.AddedPlaces.{same_refl, same_trans, same_turned}
 use Rattle.krb_editors.proofs.added.carried.Goals as goal
 
 -- all are left

@@ -2,7 +2,7 @@ use Rattle.std.proofs.Common.{[], ◌<◌, length, map, take, arith}
 use Rattle.krb_walk.specs.Events.{session_of}
 use Rattle.krb_walk.specs.ReplyContent.{content_of}
 use Rattle.krb_walk.proofs.Runs.{ran_none}
-use Rattle.krb_editors.proofs.AddedPlaces.{same_moved, same_refl}
+use Rattle.krb_editors.proofs.AddedPlaces.{same_followed, same_refl}
 use Rattle.krb_editors.proofs.RunJoins.{one_more, ran_event}
 use Rattle.krb_editors.proofs.added.run_following.Goals as goal
 
@@ -27,5 +27,5 @@ events-preserved g c =
     let ran = c.events.invariant.ran in
     record {
       ran = ran_event r start old new events i e _ _ _ below c.event-item.is ran c.in_ok-apply.ensures.ran;
-      added = rw (one_more events i e below c.event-item.is) (same_moved r start old (take i events) e c.events.added.keys c.apply.new.added.keys ran.state c.events.invariant.added c.in_ok-apply.ensures.added);
+      added = rw (one_more events i e below c.event-item.is) (same_followed r start old (take i events) e c.events.added.keys c.apply.new.added.keys ran.state c.events.invariant.added c.in_ok-apply.ensures.added);
     }

@@ -3,7 +3,7 @@ use Rattle.krb_walk.specs.Events.{session_of}
 use Rattle.krb_walk.specs.History.{history}
 use Rattle.krb_walk.specs.Ran.{Ran}
 use Rattle.krb_walk.specs.ReplyContent.{content_of}
-use Rattle.krb_editors.specs.Added.{HaveSame, moved_over}
+use Rattle.krb_editors.specs.Added.{HaveSame, followed_over}
 use Rattle.krb_editors.proofs.added.run_following.Given as goal
 
 -- the events so far were run, and the places followed
@@ -13,5 +13,5 @@ invariant-events g l =
     let events = take l.event-index l.events in
     record {
       ran : Ran g.P.Placed.rules start (session_of g.P.Placed.state_of l.session) events (map content_of l.fn.replies.items) (map content_of l.replies.items);
-      added : HaveSame l.added.keys (moved_over g.P.Placed.rules [] (history g.P.Placed.rules start events));
+      added : HaveSame l.added.keys (followed_over g.P.Placed.rules [] (history g.P.Placed.rules start events));
     }

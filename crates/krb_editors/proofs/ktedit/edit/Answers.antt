@@ -8,7 +8,7 @@ use Rattle.krb_keytab.specs.Store.{InMemory, KeytabState, image_of}
 use Rattle.krb_text.specs.Reply.{record_tail, reply_texts_by}
 use Rattle.krb_audit.specs.Findings.{hides_added}
 use Rattle.krb_driver.specs.declared.verdict.FileKind.TheVariants.{Keytab}
-use Rattle.krb_editors.specs.Added.{HaveSame, moved_over}
+use Rattle.krb_editors.specs.Added.{HaveSame, followed_over}
 use Rattle.krb_editors.specs.Ktedit.{RunsFairly, edits, hidden}
 use Rattle.krb_editors.specs.Sessions.{added, left, new_session, replied}
 use Rattle.krb_editors.proofs.AddedPlaces.{hides_same}
@@ -28,9 +28,9 @@ returns-clause-made g c =
     let ran = rw c.new-replies.ensures.items at c.in_ok-added.ensures.ran in
     let store : c.into_keytab-keytab.result.state ≡ left keytab_rules keytab events = ap (λ (k : InMemory). k.state) (c.into_keytab-keytab.ensures ∙ c.into_store.ensures) ∙ left_begun keytab_rules keytab events old new reported begins ran in
     let image = c.into_image.ensures.spelled ∙ ap image_of store in
-    let same = subst (λ (s : SessionState KeytabState). HaveSame c.in_ok-added.added.items (moved_over keytab_rules [] (history keytab_rules s events))) begins c.in_ok-added.ensures.added in
-    let told : c.hides_added-hidden.result ≡ hidden events keytab =
-    rw store at c.hides_added-hidden.ensures
+    let same = subst (λ (s : SessionState KeytabState). HaveSame c.in_ok-added.added.items (followed_over keytab_rules [] (history keytab_rules s events))) begins c.in_ok-added.ensures.added in
+    let told : c.hidden_from-hidden.result ≡ hidden events keytab =
+    rw store at c.hidden_from-hidden.ensures
     ∙ ap (hides_added (left keytab_rules keytab events)) c.deref.ensures.value
     ∙ hides_same (left keytab_rules keytab events) c.in_ok-added.added.items (added keytab_rules keytab events) same in
     made_as (λ (file : List ℕ). replied Keytab file (hidden events keytab) reported bytes (reply_texts_by record_tail V2 keytab.format reported)) (λ (file : List ℕ). edits events file keytab)
