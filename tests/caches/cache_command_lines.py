@@ -27,7 +27,7 @@ TAKEN = {
 
 # Lines that are refused, beside a cache `c` and a keytab `k` that could be listed.
 REFUSED: list[str | Line] = [
-    "klist -c", "klist -cefC", "klist -c --", "klist c c", "klist -- -c c", "klist -cx c", "klist -c=yes c",
+    "klist c c", "klist -- -c c", "klist -cx c", "klist -c=yes c",
     "klist --flags c", "c", "-c c",
     *(f"klist {options} {name}" for name in ("c", "k") for options in (
         "-c -k", "-k -c", "-ck", "-kc", "-t", "-K", "-et", "--v1-big", "-c -t", "-c -K", "-ctK", "-c --v1-big",

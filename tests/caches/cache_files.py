@@ -29,7 +29,7 @@ def missing(name: str) -> Case:
     return over(f"missing cache {name!r}", ("klist", "--", name), None, message(1, f"{name}: no such file"))
 
 
-CASES = [*map(there, NAMES), *map(missing, ("c", "a c", "no/c", "FILE:c", ""))]
+CASES = [*map(there, NAMES), *map(missing, ("c", "a c", "no/c", ""))]
 
 
 def sizes() -> list[Case]:

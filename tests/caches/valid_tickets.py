@@ -102,11 +102,11 @@ LASTING = ["-s", "-c -s", "-sc", "-s -s", "-s --for 0", "-s --for=0", "--for 0 -
 TOO_LONG = ["-s --for 4294967295", "--for=4294967295 -s", "-s --for 3000000000"]
 
 REFUSED: list[str | Line] = [
-    "klist -s", "klist -s -c", "klist -s c c", "klist -s -k c", "klist -sk c", "klist -k -s c", "klist -s --json c",
+    "klist -s c c", "klist -s -k c", "klist -sk c", "klist -k -s c", "klist -s --json c",
     "klist --json c -s", "klist -se c", "klist -s -f c", "klist -C -s c", "klist -st c", "klist -sK c",
     "klist -s --v1-big c", "klist -s=yes c", "klist --for 3 c", "klist -c --for=3 c", "klist -k --for 3 c",
     "klist --json --for 3 c", "klist -s --for 3 --for 3 c", "klist -s --for=3 --for 4 c", "klist -s --for c",
-    "klist -s c --for", "klist -s --for 3", "klist -s --for x c", "klist -s --for= c", "klist -s --for -1 c",
+    "klist -s c --for", "klist -s --for x c", "klist -s --for= c", "klist -s --for -1 c",
     "klist -s --for +1 c", "klist -s --for 1.5 c", "klist -s --for 1h c", "klist -s --for 0x3 c",
     "klist -s --for 4294967296 c", "klist -s --for 00000000003 c", "klist -s --fo 3 c", "klist -s -for 3 c",
     ("klist", "-s", "--for", "", "c"), ("klist", "-s", "--for", " 3", "c"), ("klist", "-s", b"\xff"),

@@ -108,7 +108,9 @@ ROWS = [
     Case("a folder", ("ktcheck", "."), message(3, ".: cannot read"), FILES),
     lambda: over("a large file", "ktcheck k", bytes(LIMIT + 1), TOO_LARGE),
     *(Case(f"ktcheck {words}", ("ktcheck", *words.split()), BAD_LINE, FILES)
-      for words in ("", "-k k", "-n k", "k c", "--mode k")),
+      for words in ("-k k", "-n k", "--mode k", "-q=yes k", "--allow k", "--allow", "k --allow", "--allow x k",
+                    "--allow Weak k", "--allow weak,old k", "--allow entries k", "--allow fault k", "--allow= k",
+                    "--allow weak --allow x k")),
 ]
 
 

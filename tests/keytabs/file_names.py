@@ -14,7 +14,7 @@ LIMIT = 16_777_216
 NOBODY = 65_534
 
 # Each is taken and printed as it is given.
-NAMES = ["k", "two words", "schlüssel-ключ-鍵", "-k", "--v1-big", "-", "a:b", "FILE:k", "new\nline", "x" * 255]
+NAMES = ["k", "two words", "schlüssel-ключ-鍵", "-k", "--v1-big", "-", "a:b", "new\nline", "x" * 255]
 
 
 def sized(size: int) -> bytes:

@@ -116,16 +116,20 @@ WRONG_BODIES = {
         "a-service-ticket-is-enough": "another ticket is enough beside a ticket-granting ticket that has ended",
     },
     "krb_editors": {
+        "a-dry-run-hides": "a dry run of ktcopy does not say what MIT's programs would not see",
         "a-dry-run-holds": "a dry run of ktremove holds the file",
         "a-refused-value-removes-the-old-one": "a configuration value that is refused removes the old one",
         "all-have-expired-without-a-clock": "every ticket has expired where the clock cannot be read",
         "an-input-that-was-read-is-told-as-failed": "an empty input is reported as one that cannot be read",
         "copies-past-a-clash": "what did not clash is saved though an entry clashed",
+        "follows-no-rewrite": "an added entry is looked for where it was before a rewrite",
         "new-over-TO": "the newest entries are those of the keytab that is copied to",
         "removed-keys-stay-in-the-file": "the removed tickets stay in the file that is saved",
+        "tells-of-removed-entries": "an entry that was removed again counts as added",
     },
     "krb_ktutil": {
         "saves-part": "write_kt saves what it added before a refusal",
+        "writes-under-a-type": "write_kt writes a file whose name begins with a type",
     },
     "krb_c": {
         "tells-the-length-that-was-cut": "a text that does not fit answers the length that was taken",

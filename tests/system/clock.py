@@ -100,8 +100,10 @@ def check_unread_by_others(report: Report, under: Preloaded) -> None:
         lines = [((*age, "k"), NO_CLOCK), ((*age, "-n", "k"), NO_CLOCK), ((*age, "no"), NO_CLOCK),
                  ((EXPLAIN, *age, "k"), EXPLAINED), (("ktremove", "-n", "-k", "old", "k"), Outcome(0, text([X]))),
                  ((*age, "--age", "0", "k"), message(2, "bad command line")),
-                 *((("klist", "-s", *words), Outcome(3)) for words in (("c",), ("--for", "0", "c"), ("no",), ("k",))),
-                 ((EXPLAIN, "klist", "-s", "c"), Outcome(3)), (("klist", "-s"), message(2, "bad command line"))]
+                 *((("klist", "-s", *words), Outcome(3))
+                   for words in (("c",), ("--for", "0", "c"), ("no",), ("k",), ("KCM:c",), ())),
+                 ((*age, "KCM:k"), NO_CLOCK), ((EXPLAIN, "klist", "-s", "c"), Outcome(3)),
+                 (("klist", "-s", "c", "c"), message(2, "bad command line"))]
         for words, wanted in lines:
             got = over.run(Line(words), **setting)
             report.compare(f"no clock by {setting}: {' '.join(words)}", wanted, got.outcome)
@@ -111,7 +113,7 @@ def check_unread(report: Report, under: Preloaded) -> None:
     """Checks that an unreadable clock is reported before the file is read, and only if the clock is needed."""
     over = under.over({"c": USUAL})
     for setting in UNREAD:
-        for words in (("--expired", "c"), ("-n", "--expired", "c"), ("--expired", "no"),
+        for words in (("--expired", "c"), ("-n", "--expired", "c"), ("--expired", "no"), ("--expired", "KCM:c"),
                       ("--expired", "-p", "krbtgt/R@R", "c")):
             got = over.run(Line(("ccremove", *words)), **setting)
             faults = differences(NO_CLOCK, got.outcome)

@@ -9,7 +9,7 @@ from runs.rows import BAD_LINE, Help, Line, printed, shown, words_of
 
 # Lines that are refused, beside a file `k` that could be listed.
 REFUSED: list[str | Line] = [
-    "", "klist", "klist -k", "klist -ktKe", "klist -k --", "klist -k k k", "klist -k t k", "klist -- -k k",
+    "", "klist -k k k", "klist -k t k", "klist -- -k k",
     "klist --v1-big k", "klist -t k", "klist -K k", "klist -tKe k", "klist -c -k k", "klist -k -f k", "klist -k -C k",
     "klist -ktf k", "klist -k --v1-big=yes k", "klist -k=yes k", "klist -k -t=yes k", "klist -kx k", "klist -xk k",
     "klist -ktx k", "klist -k -T k", "klist -k -E k", "klist -x -k k", "klist -k --nosuch k", "klist -k --keys k",

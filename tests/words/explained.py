@@ -3,7 +3,7 @@
 import os
 import socket
 from collections.abc import Callable
-from dataclasses import dataclass
+from dataclasses import dataclass, field
 from errno import ENXIO
 
 from keytabs.edits import ADD_HOST
@@ -12,9 +12,9 @@ from keytabs.ktutil_lines import FAULTS as TALK_FAULTS
 from keytabs.ktutil_lines import KEY
 from keytabs.scripts import FAULTS as LINE_FAULTS
 from makers.images import HOST, TWO, Entry, keytab, record
-from runs.harness import Outcome, Report, folder_of, message, run
+from runs.harness import Outcome, Report, differences, files_in, folder_of, message, run
 from runs.rows import Line, words_of
-from runs.terminal import EXPLAIN, run_on_terminal, runs_with_words
+from runs.terminal import EXPLAIN, WAYS, run_on_terminal
 from words.phrases import (BEGINS_AS_CACHE, BEGINS_AS_NO_KEYTAB, CAUSES, FAULTS, FINDINGS, LARGE, LISTED_AS_KEYTAB,
                            SHORT, code, line_fault)
 
@@ -36,6 +36,10 @@ class Explained:
     status: int = 1
     # The output, if it is known.
     out: bytes | None = None
+    # The files afterwards, if they are checked.
+    after: dict[str, bytes] | None = None
+    # The options of the run, such as its environment.
+    options: dict[str, object] = field(default_factory=dict)
     # A change to the folder before the run.
     setting: Callable[[str], None] = lambda folder: None
 
@@ -48,13 +52,16 @@ class Explained:
         """Runs it on a pipe and with explanations: everything else is the same."""
         if report.leaves_out(len(self.stdin) + sum(map(len, self.files.values()))):
             return
-        with folder_of(self.files) as folder:
-            self.setting(folder)
-            piped = run(program, self.words, folder, self.stdin)
-            out = piped.out if self.out is None else self.out
-            report.compare(f"{self.name}, on a pipe", self.wanted(False, out), piped)
-            for way, got in runs_with_words(program, self.words, folder, self.stdin):
-                report.compare(f"{self.name}, {way}", self.wanted(True, out), got)
+        out = self.out
+        for way, (make, explains) in WAYS.items():
+            with folder_of(self.files) as folder:
+                self.setting(folder)
+                got = make(program, self.words, folder, self.stdin, **self.options)
+                out = got.out if out is None else out
+                found = differences(self.wanted(explains, out), got)
+                if self.after is not None and files_in(folder) != self.after:
+                    found.append("other files")
+            report.check(f"{self.name}, {way}", found)
 
 
 def case(name: str, line: str | Line, image: bytes | None, *output: tuple[str, str], file: str = "k",

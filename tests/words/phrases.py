@@ -43,7 +43,7 @@ SHORT = (1, "it has fewer than two bytes")
 LISTED_AS_KEYTAB = (2, "it begins as a credential cache; list it without -k")
 BEGINS_AS_CACHE = (2, "it begins as a credential cache")
 BEGINS_AS_NO_KEYTAB = (2, "it does not begin as a keytab of version 1 or 2")
-BEGINS_AS_KEYTAB = (2, "it begins as a keytab, or as a cache of version 1 or 2 (not read)")
+BEGINS_AS_KEYTAB = (2, "a keytab (list it with -k), or a cache of version 1 or 2 (not read)")
 BEGINS_AS_NO_CACHE = (2, "it does not begin as a cache of version 3 or 4")
 BAD_HEADER = (4, "its header is damaged")
 BAD_DEFAULT = (5, "it has no default principal")
@@ -115,6 +115,15 @@ FINDINGS = {
 # A clash of ktcopy.
 CLASH = "TO has another key for this name, version and type"
 
+# An entry that was added, and that MIT's programs do not see; PLACE is that of the first which they do not.
+UNSEEN = "MIT's programs see no entry from PLACE on"
+
+# Why a file of a name with a type is not there, or is not written, and where a name that no word gives is from.
+NOT_READ = "only files are read, and this is TYPE"
+LEAVE_OUT = "leave out TYPE"
+NAMED = "VARIABLE names it"
+DEFAULT = "the default name (krb5.conf is not read); give FILE"
+
 LARGE = "it has more than 16,777,216 bytes"
 CLOCK = "the clock is before 1970 or after 2106, or failed"
 
@@ -123,9 +132,9 @@ MISTAKES = (
     "no command", "unknown command WORD", "unknown option WORD", "no FILE", "left over: WORD", "OPTION needs a value",
     "OPTION is given twice", "OPTION does not go with OPTION", "OPTION goes with OPTION alone",
     "OPTION is for keytabs; give -k", '"WORD" is no version', '"WORD" is no encryption type',
-    '"WORD" is no number of seconds', *(f'"WORD" has {fault}' for fault in NAMES.values()),
+    '"WORD" is no number of seconds', '"WORD" is no finding', *(f'"WORD" has {fault}' for fault in NAMES.values()),
     "nothing selects; give -p, -k or -e", "nothing selects; give -p or --expired",
-    "--explain stands before the command", "an argument is not UTF-8",
+    "--explain stands before the command", "an argument is not UTF-8", "VARIABLE is not UTF-8",
 )
 
 Numbered = dict[tuple[int, str], str]

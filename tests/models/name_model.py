@@ -1,0 +1,92 @@
+"""Which file a word names, and which one a line without a word: by the rules for types of names and for defaults."""
+
+import re
+from collections.abc import Mapping
+from dataclasses import dataclass, replace
+from enum import Enum
+
+from words.phrases import DEFAULT, LEAVE_OUT, NAMED, NOT_READ
+
+# A type: two or more letters before the first colon.
+TYPE = re.compile(rb"[A-Za-z]{2,}:")
+
+
+class Kind(Enum):
+    """A kind of file, with the types that its names may begin with, and the variable of its default."""
+
+    KEYTAB = ((b"FILE:", b"WRFILE:"), "KRB5_KTNAME")
+    CACHE = ((b"FILE:",), "KRB5CCNAME")
+
+    def __init__(self, types: tuple[bytes, ...], variable: str) -> None:
+        self.types = types
+        self.variable = variable
+
+
+@dataclass(frozen=True)
+class FileName:
+    """A name as it is loaded and printed. `other` is its type if files of that are not read, `source` what is said of
+    a default."""
+
+    text: bytes
+    other: bytes = b""
+    source: str = ""
+
+    def missing(self) -> list[bytes]:
+        """Returns the message where it is not there, and the lines that explain it."""
+        explained = [spelled(NOT_READ, self.other)] if self.other else []
+        return [self.text + b": no such file", *explained, *([self.source.encode()] if self.source else [])]
+
+
+class NoName(Exception):
+    """A default cannot be had, and so the line is bad, for that reason."""
+
+    def __init__(self, why: str) -> None:
+        super().__init__(why)
+        self.why = why
+
+
+def spelled(phrase: str, type_of_name: bytes) -> bytes:
+    """Returns a phrase about a type."""
+    return phrase.encode().replace(b"TYPE", type_of_name)
+
+
+def type_of(word: bytes) -> bytes:
+    """Returns the type that a word begins with, or nothing."""
+    found = TYPE.match(word)
+    return found[0] if found else b""
+
+
+def named(kind: Kind, word: bytes) -> FileName:
+    """Returns the file that a word names."""
+    front = type_of(word)
+    return FileName(word[len(front):]) if front in kind.types else FileName(word, front)
+
+
+def unwritten(word: bytes) -> bytes | None:
+    """Returns why ktutil does not write a file of that name, if it begins with a type."""
+    front = type_of(word)
+    if not front:
+        return None
+    return spelled(LEAVE_OUT if front in Kind.KEYTAB.types else NOT_READ, front)
+
+
+def user_in(status: bytes) -> int | None:
+    """Returns the number of the real user, by the system's text about a process."""
+    found = re.search(rb"^Uid:\s+(\d+)", status, re.MULTILINE)
+    return int(found[1]) if found else None
+
+
+def default(kind: Kind, env: Mapping[str, bytes], user: int | None) -> FileName:
+    """Returns the file of a line without one, for that user, if the number can be had."""
+    value = env.get(kind.variable, b"")
+    if value:
+        try:
+            value.decode()
+        except UnicodeDecodeError:
+            raise NoName(f"{kind.variable} is not UTF-8") from None
+        return replace(named(kind, value), source=NAMED.replace("VARIABLE", kind.variable))
+    if kind is Kind.KEYTAB:
+        return FileName(b"/etc/krb5.keytab", source=DEFAULT)
+    if user is None:
+        raise NoName("no FILE")
+    return FileName(b"/tmp/krb5cc_%d" % user, source=DEFAULT)
