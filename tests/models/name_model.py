@@ -17,9 +17,15 @@ class Kind(Enum):
     KEYTAB = ((b"FILE:", b"WRFILE:"), "KRB5_KTNAME")
     CACHE = ((b"FILE:",), "KRB5CCNAME")
 
-    def __init__(self, types: tuple[bytes, ...], variable: str) -> None:
-        self.types = types
-        self.variable = variable
+    @property
+    def types(self) -> tuple[bytes, ...]:
+        """The types, each of which is taken off."""
+        return self.value[0]
+
+    @property
+    def variable(self) -> str:
+        """The name of the variable."""
+        return self.value[1]
 
 
 @dataclass(frozen=True)
@@ -38,11 +44,7 @@ class FileName:
 
 
 class NoName(Exception):
-    """A default cannot be had, and so the line is bad, for that reason."""
-
-    def __init__(self, why: str) -> None:
-        super().__init__(why)
-        self.why = why
+    """A default cannot be had, and so the line is bad, for the reason that it has as text."""
 
 
 def spelled(phrase: str, type_of_name: bytes) -> bytes:

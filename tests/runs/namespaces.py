@@ -1,0 +1,39 @@
+"""Runs that see other files in place of the system's, by mounts of their own."""
+
+import os
+import subprocess
+from shlex import quote
+
+from runs.harness import SECONDS, Outcome, Report, run
+
+# Makes the mounts, and starts the words after it.
+UNSHARE = ("unshare", "--mount") if os.geteuid() == 0 else ("unshare", "--mount", "--user", "--map-root-user")
+
+# What the system tells of the run, once it takes the place of its shell.
+STATUS = "/proc/$$/status"
+
+
+def front(mounts: dict[str, str]) -> list[str]:
+    """Returns the words before a program's, for which those files and folders take the place of the system's."""
+    lines = [f"mount --bind {path if '$' in path else quote(path)} {place}" for place, path in mounts.items()]
+    return [*UNSHARE, "sh", "-c", " && ".join([*lines, 'exec "$0" "$@"'])]
+
+
+def run_within(program: str, words, folder: str, mounts: dict[str, str], **options) -> Outcome:
+    """Makes a run in a folder, for which those files and folders take the place of the system's."""
+    first, *rest = [*front(mounts), program, *words]
+    return run(first, rest, folder, **options)
+
+
+def can_mount(report: Report, what: str) -> bool:
+    """Whether such runs can be made; if not, reports that part as left out."""
+    why = "unshare is not there"
+    try:
+        done = subprocess.run([*front({"/etc": "/etc"}), "true"], capture_output=True, timeout=SECONDS, check=False)
+        why = done.stderr.decode(errors="replace").strip() or "mounts are not allowed"
+        if done.returncode == 0:
+            return True
+    except FileNotFoundError:
+        pass
+    report.skip(what, f"no folder can be mounted: {why}")
+    return False
