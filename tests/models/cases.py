@@ -10,6 +10,7 @@ from models import cache_reading, check_model, json_model, reading
 from models.cache_script_model import cache_edited
 from models.copy_model import Request, copied
 from models.ktutil_model import handled
+from models.name_model import FileName
 from models.reading import name_text
 from models.removal_model import Selection, removal
 from models.script_model import edited
@@ -92,6 +93,20 @@ def ktcheck(image: bytes, *, v1_big: bool = False) -> Case:
     """Returns a check of a keytab."""
     return listing(("ktcheck", *big(v1_big), "k"), image,
                    check_model.checked(image, v1_big, check_model.mode_of_files()))
+
+
+@timeless
+def ktcheck_all(*, files: tuple[tuple[str, bytes | None], ...]) -> Case:
+    """Returns a check of several keytabs; None means no file."""
+    return Case(f"ktcheck of {len(files)} files", ("ktcheck", *(name for name, _ in files)),
+                check_model.checked_files(placed(files)), {name: image for name, image in files if image is not None})
+
+
+def placed(files: tuple[tuple[str, bytes | None], ...]) -> list[check_model.Placed]:
+    """Returns files as a check finds them, of the mode that the tests make them."""
+    mode = check_model.mode_of_files()
+    return [(FileName(name.encode()), None if image is None else check_model.File(image, mode))
+            for name, image in files]
 
 
 @timeless

@@ -1,13 +1,24 @@
-"""What ktcheck finds, by its rules."""
+"""What ktcheck finds in keytabs, by its rules: the output, the words that explain findings, and the status."""
 
 import os
+from collections.abc import Iterator, Sequence
+from dataclasses import dataclass, field
 
 from models.keytab_model import Keytab
+from models.name_model import FileName
 from models.reading import KeytabEntry, no_keytab
 from models.removal_model import newest_versions
+from models.walks import LIMIT
 from runs.harness import Outcome
+from words.phrases import BEGINS_AS_CACHE, BEGINS_AS_NO_KEYTAB, CAUSES, FAULTS, FINDINGS, LARGE, SHORT
 
 WEAK = {1, 2, 3, 4, 6, 8, 16, 23, 24}
+
+# Findings that make the status 1, unless they are allowed; a mode does if all users may read or write.
+WRONG = {"weak", "hidden", "same", "clash"}
+
+# What stands under a name in place of a file.
+FOLDER = "a folder"
 
 
 def is_out(count: int) -> bool:
@@ -47,22 +58,118 @@ def lines_of(those: list[tuple[int, KeytabEntry]]) -> list[bytes]:
     return lines
 
 
+@dataclass(frozen=True)
+class File:
+    """A plain file of a mode."""
+
+    image: bytes
+    mode: int = 0o600
+
+
+# A name, and what stands there: nothing if it is None.
+Placed = tuple[FileName, File | str | None]
+
+
+@dataclass(frozen=True)
+class Options:
+    """The options of a run."""
+
+    v1_big: bool = False
+    is_quiet: bool = False
+    allowed: tuple[str, ...] = ()
+
+    def words(self) -> list[str]:
+        """Returns them as words."""
+        allowed = [word for each in self.allowed for word in ("--allow", each)]
+        return [*["--v1-big"] * self.v1_big, *["-q"] * self.is_quiet, *allowed]
+
+
+@dataclass
+class Run:
+    """A run over files, and what it has printed so far."""
+
+    options: Options
+    explains: bool = False
+    has_labels: bool = False
+    out: bytes = b""
+    err: bytes = b""
+    status: int = 0
+    told: set[str] = field(default_factory=set)
+
+    def say(self, line: bytes, *explained: str | bytes) -> None:
+        """Prints a message if there is one, and what explains it if that is asked for."""
+        explained = [each.encode() if isinstance(each, str) else each for each in explained]
+        for each in [line] * (line != b"") + explained * self.explains:
+            self.err += b"krbfile: " + each + b"\n"
+
+    def fail(self, status: int, line: bytes, *explained: str | bytes) -> None:
+        """Reports a file that is not checked."""
+        self.say(line, *explained)
+        self.status = max(self.status, status)
+
+    def check(self, name: FileName, place: File | str | None) -> None:
+        """Checks what stands under a name."""
+        if name.other or place is None:
+            self.fail(1, *name.missing())
+        elif place == FOLDER:
+            self.fail(3, name.text + b": cannot read", CAUSES["EISDIR"])
+        elif len(place.image) > LIMIT:
+            self.fail(1, name.text + b": file too large", LARGE)
+        elif no_keytab(place.image):
+            number, why = why_no_keytab(place.image)
+            self.fail(1, name.text + b": not a keytab (%d)" % number, why)
+        else:
+            self.check_keytab(name.text, place)
+
+    def check_keytab(self, name: bytes, file: File) -> None:
+        """Checks a keytab."""
+        keytab = Keytab(file.image, self.options.v1_big)
+        holes = [len(cell.data) for cell in keytab.cells if not cell.is_live]
+        lines = [b"mode %o" % (file.mode & 0o7777)] if file.mode & 0o66 else []
+        lines += lines_of(keytab.live())
+        found = {line.split()[0].decode() for line in lines}
+        counted = found & (WRONG | {"mode"} if file.mode & 0o6 else WRONG) - {*self.options.allowed}
+        lines += [b"fault %d at %d" % keytab.fault] if keytab.fault else []
+        if lines or not self.options.is_quiet:
+            lines.append(b"entries %d free %d holes %d" % (len(keytab.live()), sum(holes), len(holes)))
+        label = name + b": " if self.has_labels else b""
+        self.out += b"".join(label + line + b"\n" for line in lines)
+        self.status = max(self.status, 1 if counted or keytab.fault else 0)
+        self.explain(name, found, keytab.fault)
+
+    def explain(self, name: bytes, found: set[str], fault: tuple[int, int] | None) -> None:
+        """Prints the words of findings that were not printed before, and those of a fault."""
+        self.say(b"", *(f"{word}: {phrase}" for word, phrase in FINDINGS.items() if word in found - self.told))
+        self.told |= found
+        if fault:
+            self.say(b"", name + b": fault %d at %d" % fault, FAULTS[fault[0]])
+
+
+def why_no_keytab(image: bytes) -> tuple[int, str]:
+    """Returns the number of the reason for which a file is no keytab, and its phrase."""
+    if len(image) < 2:
+        return SHORT
+    return BEGINS_AS_CACHE if image[:2] in (b"\x05\x03", b"\x05\x04") else BEGINS_AS_NO_KEYTAB
+
+
+def after_each(those: Sequence[Placed], options: Options = Options(), explains: bool = False) -> Iterator[Outcome]:
+    """Yields what a run over these names has printed before the first, and after each."""
+    run = Run(options, explains, has_labels=len(those) > 1)
+    yield Outcome(0)
+    for name, place in those:
+        run.check(name, place)
+        yield Outcome(run.status, run.out, run.err)
+
+
+def checked_files(those: Sequence[Placed], options: Options = Options(), explains: bool = False) -> Outcome:
+    """Returns the outcome of a run over these names."""
+    *_, last = after_each(those, options, explains)
+    return last
+
+
 def checked(image: bytes, v1_big: bool = False, mode: int = 0o600) -> Outcome:
-    """Returns the outcome of a run over a plain file of that mode."""
-    refused = no_keytab(image)
-    if refused:
-        return refused
-    keytab = Keytab(image, v1_big)
-    those, fault = keytab.live(), keytab.fault
-    holes = [len(cell.data) for cell in keytab.cells if not cell.is_live]
-    lines = [b"mode %o" % (mode & 0o7777)] if mode & 0o66 else []
-    lines += lines_of(those)
-    if fault:
-        lines.append(b"fault %d at %d" % fault)
-    wrong = mode & 0o6 or fault or any(
-        line.split()[0] in (b"weak", b"hidden", b"same", b"clash") for line in lines)
-    lines.append(b"entries %d free %d holes %d" % (len(those), sum(holes), len(holes)))
-    return Outcome(1 if wrong else 0, b"".join(line + b"\n" for line in lines))
+    """Returns the outcome of a run over a plain file `k` of that mode."""
+    return checked_files([(FileName(b"k"), File(image, mode))], Options(v1_big))
 
 
 def mode_of_files() -> int:

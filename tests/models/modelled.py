@@ -9,6 +9,7 @@ from makers.images import END, Entry, hole, keytab, old, record
 from makers.usual_caches import PA_TYPE, TICKET, USUAL, VERSION_3
 from models import cases
 from models.cache_model import Cache
+from models.check_model import after_each
 from models.keytab_model import Keytab
 from models.ktutil_model import handled
 from models.removal_model import OLD, Selection
@@ -71,12 +72,22 @@ def stages_of(files: dict[str, bytes], lines: list[bytes]) -> Iterator[Stage]:
         yield Stage(got.out, got.err, after)
 
 
+def stages_of_check(case: Case) -> Iterator[Stage]:
+    """Yields the state before each file of ktcheck: what is printed of a file is gathered first."""
+    files = tuple((name, case.files.get(name)) for name in case.words[1:])
+    *before, _ = after_each(cases.placed(files))
+    return (Stage(got.out, got.err, case.files) for got in before)
+
+
 def modelled(case: Case) -> Modelled:
     """Returns a run of a command. If it ends early, output that is printed as the run goes may be a prefix, ktutil
-    stops before a line or at its end, and other commands do nothing."""
-    is_talk = case.words[0] == "ktutil"
-    stages = stages_of(case.files, case.stdin.splitlines(keepends=True)) if is_talk else [Stage(b"", b"", case.files)]
-    return Modelled(case, tuple(stages), may_print=case.words[0] in ("klist", "ktfind", "ktcheck"))
+    stops before a line or at its end, ktcheck before a file, and other commands do nothing."""
+    command, stages = case.words[0], iter([Stage(b"", b"", case.files)])
+    if command == "ktutil":
+        stages = stages_of(case.files, case.stdin.splitlines(keepends=True))
+    elif command == "ktcheck":
+        stages = stages_of_check(case)
+    return Modelled(case, tuple(stages), may_print=command in ("klist", "ktfind"))
 
 
 def mixed_keytab(count: int) -> bytes:
@@ -160,6 +171,7 @@ def small() -> list[Modelled]:
         cases.ktfind(image, name=name, kvno=4),
         cases.ktcheck(image),
         cases.ktcheck(DAMAGED),
+        cases.ktcheck_all(files=(("k", image), ("no", None), ("c", cache), ("d", DAMAGED), ("k", image))),
         cases.klist_cache(cache, words=("-cefC", "c")),
         cases.klist_cache(cache[:-1]),
         cases.klist_json(image),
@@ -190,6 +202,7 @@ def large() -> list[Modelled]:
         cases.klist(image + b"\0", columns="tKe"),
         cases.ktfind(image, name=(b"x", b"2971", b"R")),
         cases.ktcheck(rotated_keytab(300)),
+        cases.ktcheck_all(files=(("k", image), ("no", None), ("r", rotated_keytab(100)), ("k", image))),
         cases.klist_cache(cache),
         cases.klist_cache(cache + b"\0", words=("-cefC", "c")),
         cases.klist_json(image),

@@ -8,6 +8,8 @@ from errno import EACCES, EAGAIN, EINTR, ENOMEM, ENOSPC, errorcode
 from functools import cached_property
 from random import Random
 
+from models.cases import placed
+from models.check_model import FOLDER, checked_files
 from models.ktutil_model import Failure, Ktutil, handled
 from models.modelled import NOW, Modelled, Stage, large, small
 from runs.harness import Outcome, Report, differences, message
@@ -73,12 +75,21 @@ class Ends:
             yield end
             nth += 1
 
+    def unread_keytabs(self) -> Iterator[End]:
+        """Yields the outcome of ktcheck for each file that cannot be read: the next goes on."""
+        case = self.run.case
+        those = placed(tuple((name, case.files.get(name)) for name in case.words[1:]))
+        for nth, (name, _) in enumerate(those):
+            yield checked_files([*those[:nth], (name, FOLDER), *those[nth + 1:]]), case.files
+
     @cached_property
     def of_loads(self) -> list[End]:
         """How it ends for each load that fails."""
         words = self.run.case.words
         if words[0] == "ktutil":
             return [*self.talks("load")]
+        if words[0] == "ktcheck":
+            return [*self.unread_keytabs()]
         names = words[-2:] if words[0] == "ktcopy" else [words[1] if words[0] in ("ktfind", "ktedit") else words[-1]]
         return [(message(3, f"{name}: cannot read"), self.run.case.files) for name in names]
 
@@ -112,8 +123,8 @@ class Ends:
 
 def ends_in_output(run: Modelled, got: Counted) -> bool:
     """Whether a run ended because its output failed: a prefix was printed, and a script is saved."""
-    is_talk = run.case.words[0] == "ktutil"
-    stages = run.stages if is_talk else (Stage(b"", b"", run.after()),)
+    has_stages = run.case.words[0] in ("ktutil", "ktcheck")
+    stages = run.stages if has_stages else (Stage(b"", b"", run.after()),)
     printing = Modelled(run.case, stages, may_print=True)
     return printing.ends_early(got.outcome, got.files, NO_OUTPUT)
 

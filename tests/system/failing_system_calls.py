@@ -104,6 +104,7 @@ def runs() -> list[tuple[Modelled, list[Step]]]:
         (cases.klist_cache(USUAL, words=("-cefC", "c")), [*load("c"), PRINT]),
         (cases.ktfind(TWO, name=(b"b", b"R")), [*load("k"), PRINT]),
         (cases.ktcheck(TWO), [*load("k"), PRINT]),
+        (cases.ktcheck_all(files=(("k", TWO), ("j", keytab(B, B)))), [*load("k"), PRINT, *load("j", 2), PRINT]),
         (cases.ktedit(TWO, b"start\ncut 2\n" + add, name="a keytab"), [READ, *change_k]),
         (cases.ktedit(None, add, name="no file"), [READ, *hold("k"), *load("k"), *save("k", is_new=True), PRINT]),
         (cases.ktremove(TWO, selection=Selection((b"host/a@R",)), name="a keytab"), change_k),

@@ -8,9 +8,10 @@ from dataclasses import replace
 
 from keytabs.ktutil_lines import TWO_LISTED, lines
 from keytabs.listings import B_LINE, HOST_LINE, case
-from makers.images import TWO, Entry, keytab
+from makers.images import HOST, TWO, Entry, keytab
 from runs.harness import SECONDS, Case, Outcome, Report, folder_of, message, run
 from runs.limits import limit
+from runs.rows import printed
 from runs.terminal import EXPLAIN
 from words.phrases import code
 
@@ -25,6 +26,12 @@ LONG = case("a long listing", keytab(*[Entry((LONG_NAME,))] * 300), *[b"   3 " +
 # Three faulty lines with others between, and a status of 1.
 FAULTY = lines("faults between lists", ["frob", "rkt k", "delent 9", "l", "rkt n", "l"], TWO_LISTED * 2,
                "line 1: fault 1", "line 3: fault 7", "n: no such file", files={"k": TWO})
+
+# Three keytabs, with findings and without: the run ends with the file whose lines are cut.
+SEVERAL = Case("several keytabs", ("ktcheck", "k", "s", "k"),
+               printed("k: entries 2 free 0 holes 0", "s: same 53 2 kvno 3 etype 17 host/a@R",
+                       "s: entries 2 free 0 holes 0", "k: entries 2 free 0 holes 0", status=1),
+               {"k": TWO, "s": keytab(HOST, HOST)})
 
 # Messages with their explanations.
 EXPLAINED = [
@@ -75,6 +82,11 @@ def check_closed_pipe(report: Report, program: str, taken: int, action: signal.H
 def check(report: Report, program: str) -> None:
     """Runs this topic."""
     check_each_byte(report, program, KLIST, "stdout", "out")
+    before = os.umask(0o077)
+    try:
+        check_each_byte(report, program, SEVERAL, "stdout", "out")
+    finally:
+        os.umask(before)
     for case in (FAULTY, *EXPLAINED):
         check_each_byte(report, program, case, "stderr", "err")
     for action in (signal.SIG_DFL, signal.SIG_IGN):
