@@ -79,6 +79,7 @@ WRONG_BODIES = {
         "old-without-wrapping": "a version of 8 bits that went round counts as old",
         "removes-the-newest": "the newest version counts as old",
         "same-without-the-key": "two entries count as the same whatever their keys are",
+        "the-hidden-one-is-seen": "the first entry that MIT's programs do not see is not hidden",
     },
     "krb_disk": {
         "a-file-of-any-user-is-a-leftover": "a leftover may be of any user",
@@ -109,11 +110,17 @@ WRONG_BODIES = {
         "same-by-name": "an entry with another key counts as being there",
     },
     "krb_driver": {
+        "a-letter-is-a-type": "one letter before a colon is a type",
+        "holds-another-type": "a name of a type that is not read is held",
         "holds-no-file": "a command does not hold the file that it may change",
         "saves-the-text": "what is printed is saved in the file's place",
     },
     "krb_readers": {
         "a-service-ticket-is-enough": "another ticket is enough beside a ticket-granting ticket that has ended",
+        "status-of-the-last": "the status of several keytabs is that of the last",
+    },
+    "krb_commands": {
+        "the-default-in-place-of-the-name": "the default name is taken though a name is given",
     },
     "krb_editors": {
         "a-dry-run-hides": "a dry run of ktcopy does not say what MIT's programs would not see",
