@@ -76,9 +76,10 @@ def check_clash(report: Report) -> None:
 
 def check_mistakes(report: Report) -> None:
     """Checks that the lines of the mistakes have each, and no other."""
-    patterns = {each: re.sub("WORD|OPTION", "(?s:.*)", re.escape(each)) for each in phrases.MISTAKES}
+    patterns = {each: re.sub("WORD|OPTION|VARIABLE", "(?s:.*)", re.escape(each)) for each in phrases.MISTAKES}
     of_operands = patterns["no FILE"].replace("FILE", "(?:FILE|FROM|TO|KVNO|ETYPE|NAME)")
-    found = {each: [mistake for mistake in [*MISTAKES, "an argument is not UTF-8"] if re.fullmatch(pattern, mistake)]
+    lines = [*MISTAKES, "an argument is not UTF-8", "KRB5CCNAME is not UTF-8"]
+    found = {each: [mistake for mistake in lines if re.fullmatch(pattern, mistake)]
              for each, pattern in (patterns | {"no FILE": of_operands}).items()}
     report.check("each mistake has a line", [each for each, lines in found.items() if not lines])
     others = set(MISTAKES) - {mistake for lines in found.values() for mistake in lines}
