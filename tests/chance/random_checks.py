@@ -28,7 +28,8 @@ MODES = (0o600, 0o600, 0o600, 0o640, 0o604, 0o666, 0o4600)
 
 # What has to occur among the results.
 KINDS = (*FINDINGS, "fault", "entries", "no such file", "cannot read", "not a keytab",
-         *(f"status {status}" for status in (0, 1, 3)), "a label", "no label", "nothing is printed", "explained", "only what is allowed")
+         *(f"status {status}" for status in (0, 1, 3)), "a label", "no label", "nothing is printed", "explained",
+         "only what is allowed")
 
 
 @dataclass(frozen=True)

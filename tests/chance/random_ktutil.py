@@ -17,8 +17,9 @@ COMMANDS = {Ktutil.list_slots: 4, Ktutil.read_kt: 7, Ktutil.write_kt: 5, Ktutil.
             Ktutil.clear_list: 1, Ktutil.quit: 1, None: 1}
 WORDS = {**SPELLINGS, None: (b"", b" \t")}
 
-# Files that exist, may be missing, have no folder, or are a folder, and names that are not text.
-NAMES = [*[b"a", b"b", b"c"] * 5, b"d", b"no/k", b".", b"\xff", b"a\\\\", b"\0"]
+# Files that exist, may be missing, have no folder, or are a folder, names that are not text, and those with a type.
+NAMES = [*[b"a", b"b", b"c"] * 5, b"d", b"no/k", b".", b"\xff", b"a\\\\", b"\0", b"FILE:a", b"WRFILE:b", b"FILE:d",
+         b"KCM:a", b"file:b", b"a1:c"]
 
 # The kinds of results that have to occur.
 KINDS = (

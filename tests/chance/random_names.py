@@ -33,8 +33,8 @@ BAD = b"bad command line"
 
 # What has to occur among the runs.
 KINDS = ("there", "changed", "made", "missing", "another type", "a folder", "neither", "no name", "a user's default",
-         "silent", "an argument is not UTF-8", "KRB5CCNAME is not UTF-8", "KRB5_KTNAME is not UTF-8", "KRB5CCNAME names it",
-         "KRB5_KTNAME names it", *(command.line for command in COMMANDS))
+         "silent", "an argument is not UTF-8", "KRB5CCNAME is not UTF-8", "KRB5CCNAME names it",
+         "KRB5_KTNAME is not UTF-8", "KRB5_KTNAME names it", *(command.line for command in COMMANDS))
 
 
 @dataclass(frozen=True)

@@ -18,6 +18,7 @@ from models.ticket_removal_model import Selection as TicketSelection
 from models.ticket_removal_model import ticket_removal
 from models.valid_ticket_model import silent
 from runs.harness import Case, Outcome
+from runs.terminal import EXPLAIN
 
 
 def timeless(build: Callable[..., Case]) -> Callable[..., Case]:
@@ -29,6 +30,11 @@ def timeless(build: Callable[..., Case]) -> Callable[..., Case]:
         return made(*given[: build.__code__.co_argcount], **more)
 
     return case_at
+
+
+def first(explains: bool) -> list[str]:
+    """Returns the option that has messages explained."""
+    return [EXPLAIN] * explains
 
 
 def big(v1_big: bool) -> list[str]:
@@ -110,10 +116,12 @@ def placed(files: tuple[tuple[str, bytes | None], ...]) -> list[check_model.Plac
 
 
 @timeless
-def ktedit(image: bytes | None, script: bytes, *, v1_big: bool = False, name: str = "") -> Case:
+def ktedit(image: bytes | None, script: bytes, *, v1_big: bool = False, name: str = "",
+           explains: bool = False) -> Case:
     """Returns a run of a script over a keytab."""
-    wanted, after = edited(image, script, v1_big)
-    return changing(name, ("ktedit", *big(v1_big), "k"), "k", (image, after), wanted, script)
+    wanted, after = edited(image, script, v1_big, explains)
+    words = (*first(explains), "ktedit", *big(v1_big), "k")
+    return changing(name, words, "k", (image, after), wanted, script)
 
 
 def ktremove(image: bytes, now: int = 0, *, selection: Selection, v1_big: bool = False, is_dry: bool = False,
@@ -126,18 +134,20 @@ def ktremove(image: bytes, now: int = 0, *, selection: Selection, v1_big: bool =
 
 @timeless
 def ktcopy(source: bytes | None, target: bytes | None, *, request: Request, is_same: bool = False,
-           name: str = "") -> Case:
+           name: str = "", explains: bool = False) -> Case:
     """Returns a copy from the keytab `k` to the keytab `t`, or to itself; None means no file."""
     operands = ("k", "k" if is_same else "t")
     files = {file: image for file, image in (("t", target), ("k", source)) if file in operands and image is not None}
-    wanted, after = copied(files, operands, request)
-    return Case(f"ktcopy {name}", ("ktcopy", *request.words(), *operands), wanted, files, after)
+    wanted, after = copied(files, operands, request, explains)
+    words = (*first(explains), "ktcopy", *request.words(), *operands)
+    return Case(f"ktcopy {name}", words, wanted, files, after)
 
 
-def ktutil(given: bytes, now: int, *, files: dict[str, bytes], v1_big: bool = False, name: str = "") -> Case:
+def ktutil(given: bytes, now: int, *, files: dict[str, bytes], v1_big: bool = False, name: str = "",
+           explains: bool = False) -> Case:
     """Returns a run of ktutil."""
-    wanted, after = handled(files, given, now, v1_big)
-    return Case(f"ktutil {name}", ("ktutil", *big(v1_big)), wanted, files, after, given)
+    wanted, after = handled(files, given, now, v1_big, explains=explains)
+    return Case(f"ktutil {name}", (*first(explains), "ktutil", *big(v1_big)), wanted, files, after, given)
 
 
 @timeless

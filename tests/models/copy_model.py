@@ -2,11 +2,13 @@
 
 from dataclasses import dataclass
 
+from models.hidden_model import unseen
 from models.keytab_model import Keytab
 from models.reading import KeytabEntry, no_keytab
 from models.removal_model import Selection, newest_versions
 from models.walks import DAMAGED, Refused
 from runs.harness import Outcome, message
+from words.phrases import CLASH
 
 NEW = "new"
 
@@ -82,6 +84,8 @@ class Copying:
         self.kept: set[tuple[object, ...]] = set()
         self.lines: list[bytes] = []
         self.clashes: list[bytes] = []
+        # The places to which entries were copied.
+        self.places: list[int] = []
 
     def copy(self, place: int, entry: KeytabEntry) -> None:
         """Copies the entry at a place of the other keytab, unless its key is there or it clashes."""
@@ -101,12 +105,15 @@ class Copying:
         lines = [b"removed %d " % at + other.tail() + b"\n" for at, other in others]
         for at, _ in others:
             self.keytab.cut(at)
-        self.lines += [*lines, b"copied %d " % self.keytab.add(entry) + entry.tail() + b"\n"]
+        self.places.append(self.keytab.add(entry))
+        self.lines += [*lines, b"copied %d " % self.places[-1] + entry.tail() + b"\n"]
         self.kept.add((identity(entry), entry.key))
 
 
-def copied(files: dict[str, bytes], words: tuple[str, str], request: Request) -> tuple[Outcome, dict[str, bytes]]:
-    """Returns the outcome of a run from the first file to the second, and the files afterwards."""
+def copied(files: dict[str, bytes], words: tuple[str, str], request: Request,
+           explains: bool = False) -> tuple[Outcome, dict[str, bytes]]:
+    """Returns the outcome of a run from the first file to the second, and the files afterwards. Clashes and what MIT's
+    programs do not see are explained if that is asked for, not a message."""
     source, target = words
     try:
         those = selected(source, files.get(source), request)
@@ -121,6 +128,8 @@ def copied(files: dict[str, bytes], words: tuple[str, str], request: Request) ->
         if not copying.clashes:
             return message(1, f"{target}: refused {refused.code}"), files
     if copying.clashes:
-        return Outcome(1, b"".join(copying.lines if request.is_dry else copying.clashes)), files
+        err = f"krbfile: clash: {CLASH}\n".encode() * explains
+        return Outcome(1, b"".join(copying.lines if request.is_dry else copying.clashes), err), files
     is_saved = copying.lines and not request.is_dry
-    return Outcome(0, b"".join(copying.lines)), {**files, target: keytab.image()} if is_saved else files
+    err = "".join(f"krbfile: {target}: {line}\n" for line in unseen(keytab, copying.places) if explains).encode()
+    return Outcome(0, b"".join(copying.lines), err), {**files, target: keytab.image()} if is_saved else files

@@ -14,11 +14,15 @@ from makers.script_lines import (
     name_in,
     number_in,
 )
+from models.check_model import why_no_keytab
+from models.hidden_model import unseen
 from models.keytab_model import Keytab
+from models.name_model import Kind, named, unwritten
 from models.reading import KeytabEntry, no_keytab
 from models.script_model import etype_in, key_in
 from models.walks import DAMAGED, LIMIT, Refused
 from runs.harness import Outcome
+from words.phrases import CAUSES, code, line_fault
 
 # The options of a listing, and the letters of their columns.
 COLUMNS = {b"-t": "t", b"-k": "K", b"-e": "e"}
@@ -28,11 +32,11 @@ LONGEST_NAME = 255
 
 
 class Failure(Exception):
-    """A line fails, with a message and a status."""
+    """A line fails, with a message, a status, and the phrase that explains it, if that is known."""
 
-    def __init__(self, text: bytes, status: int) -> None:
+    def __init__(self, text: bytes, status: int, phrase: str = "") -> None:
         super().__init__(text, status)
-        self.text, self.status = text, status
+        self.text, self.status, self.phrase = text, status, phrase
 
 
 def words_in(line: bytes) -> list[bytes]:
@@ -81,9 +85,10 @@ def options_of_entry(words: list[bytes]) -> dict[bytes, bytes]:
 class Ktutil:
     """The list, the entry whose key is due next, the files, and the output and messages so far."""
 
-    def __init__(self, files: dict[str, bytes], now: int, v1_big: bool) -> None:
+    def __init__(self, files: dict[str, bytes], now: int, v1_big: bool, explains: bool = False) -> None:
         self.files = dict(files)
-        self.now, self.v1_big = now, v1_big
+        self.now, self.v1_big, self.explains = now, v1_big, explains
+        self.number = 0
         self.entries: list[KeytabEntry] = []
         self.awaited: KeytabEntry | None = None
         self.is_over = False
@@ -94,8 +99,14 @@ class Ktutil:
         self.err += b"krbfile: " + text + b"\n"
         self.status = max(self.status, status)
 
+    def explain(self, phrase: str) -> None:
+        """Explains what the line has reported, if that is asked for."""
+        if self.explains and phrase:
+            self.err += b"krbfile: line %d: %s\n" % (self.number, phrase.encode(errors="surrogateescape"))
+
     def handle(self, number: int, line: bytes) -> None:
         """Does what the line of that number says, or reports its fault."""
+        self.number = number
         try:
             if self.awaited is None:
                 self.command(words_in(line))
@@ -103,10 +114,13 @@ class Ktutil:
                 self.take_key(line.strip(b" \t"))
         except LineFault as fault:
             self.say(b"line %d: fault %d" % (number, fault.number), 1)
+            self.explain(line_fault(fault.number, "ktutil"))
         except Refused as refused:
             self.say(b"line %d: refused %d" % (number, refused.code), 1)
+            self.explain(code(refused.code))
         except Failure as failure:
             self.say(failure.text, failure.status)
+            self.explain(failure.phrase)
 
     def command(self, words: list[bytes]) -> None:
         """Runs the command of a line's words, if there are any."""
@@ -129,40 +143,47 @@ class Ktutil:
             raise LineFault(WORD_COUNT)
         self.out += slots(self.entries, "".join(COLUMNS[word] for word in words))
 
-    def load(self, word: bytes) -> Keytab | None:
+    def load(self, name: str) -> Keytab | None:
         """Returns the keytab of a file, or None if the file is missing."""
-        name = file_name(word)
-        if name == "." or "\0" in name or len(word) > LONGEST_NAME:
-            raise Failure(word + b": cannot read", 3)
+        if name == ".":
+            raise Failure(b".: cannot read", 3, CAUSES["EISDIR"])
+        if "\0" in name or len(name.encode()) > LONGEST_NAME:
+            raise Failure(name.encode() + b": cannot read", 3)
         if name not in self.files:
             return None
         image = self.files[name]
         if len(image) > LIMIT:
-            raise Failure(word + b": file too large", 1)
+            raise Failure(name.encode() + b": file too large", 1)
         refused = no_keytab(image, name)
         if refused:
-            raise Failure(refused.err.removeprefix(b"krbfile: ").removesuffix(b"\n"), 1)
+            raise Failure(refused.err.removeprefix(b"krbfile: ").removesuffix(b"\n"), 1, why_no_keytab(image)[1])
         return Keytab(image, self.v1_big)
 
     def read_kt(self, words: list[bytes]) -> None:
-        """`read_kt`."""
+        """`read_kt`. The name may begin with a type."""
         check_count(words, 1)
-        keytab = self.load(words[0])
+        name = named(Kind.KEYTAB, file_name(words[0]).encode())
+        keytab = None if name.other else self.load(name.text.decode())
         if keytab is None:
-            raise Failure(words[0] + b": no such file", 1)
+            text, *why = name.missing()
+            raise Failure(text, 1, why[0].decode() if why else "no such file")
         if keytab.fault:
             raise Refused(DAMAGED)
         self.entries += keytab.entries()
 
     def write_kt(self, words: list[bytes]) -> None:
-        """`write_kt`. A name with a slash names a missing folder."""
+        """`write_kt`. The name may not begin with a type. One with a slash is of a missing folder."""
         check_count(words, 1)
-        keytab = self.load(words[0]) or Keytab()
-        for entry in self.entries:
-            keytab.add(entry)
-        if b"/" in words[0]:
-            raise Failure(words[0] + b": cannot write", 3)
-        self.files[file_name(words[0])] = keytab.image()
+        name = file_name(words[0])
+        if why := unwritten(words[0]):
+            raise Failure(words[0] + b": cannot write", 3, why.decode())
+        keytab = self.load(name) or Keytab()
+        places = [keytab.add(entry) for entry in self.entries]
+        if "/" in name:
+            raise Failure(words[0] + b": cannot write", 3, CAUSES["ENOENT"])
+        self.files[name] = keytab.image()
+        for line in unseen(keytab, places):
+            self.explain(line)
 
     def add_entry(self, words: list[bytes]) -> None:
         """`add_entry`, whose key comes with the next line."""
@@ -203,14 +224,14 @@ COMMANDS = {word: command for command, words in SPELLINGS.items() for word in wo
 
 
 def handled(
-    files: dict[str, bytes], given: bytes, now: int, v1_big: bool = False, is_cut: bool = False
+    files: dict[str, bytes], given: bytes, now: int, v1_big: bool = False, is_cut: bool = False, explains: bool = False
 ) -> tuple[Outcome, dict[str, bytes]]:
     """Returns the outcome of `ktutil` for an input, and the files after it.
 
     If the input is cut, because a read failed or it is too large, a last piece without a line end is
-    not a line.
+    not a line. The messages of lines are explained if that is asked for, but for files that cannot be read.
     """
-    ktutil = Ktutil(files, now, v1_big)
+    ktutil = Ktutil(files, now, v1_big, explains)
     *lines, last = given[:LIMIT].split(b"\n")
     is_large = len(given) > LIMIT
     if last and not is_cut and not is_large:

@@ -1,0 +1,138 @@
+"""What is said where a run adds an entry that MIT's programs do not see: they end at the first entry that is hidden.
+
+A record of host/a@R takes 51 bytes with its length, one of b@R or c@R 45, and one of h@R, which has no key, 29.
+"""
+
+from dataclasses import replace
+
+from keytabs.copies import LONG, OTHER, Y
+from keytabs.copies import X as HOST_TAIL
+from keytabs.edits import ADD_B, ADD_C, C
+from keytabs.ktutil_lines import ADDENT, KEY
+from makers.images import B, HOST, TWO, Entry, keytab, old
+from runs.rows import shown, text, words_of
+from words.explained import Explained, in_the_way
+from words.phrases import CAUSES, CLASH, UNSEEN, code
+
+# An entry that is hidden, the same with a key, a line that adds it, and how it is printed.
+HIDDEN = Entry((b"h",), timestamp=0, enctype=1, key=b"")
+KEYED = replace(HIDDEN, key=b"x")
+ADD = "add 3 1 0 - h@R"
+H = "kvno 3 etype 1 h@R"
+
+
+def told(place: int | None, name: str = "k") -> tuple[tuple[str, str], ...]:
+    """Returns the words about entries that are not seen from a place on."""
+    return () if place is None else (("", f"{name}: {UNSEEN.replace('PLACE', str(place))}"),)
+
+
+def edit(name: str, image: bytes | None, script: list[str], place: int | None, *before: tuple[str, str],
+         status: int = 0, **more) -> Explained:
+    """Returns a script over a keytab, what is explained of its replies, and the place from which nothing is seen."""
+    return Explained(f"ktedit: {name}", ("ktedit", "k"), (*before, *told(place)), {} if image is None else {"k": image},
+                     text(script), status, **more)
+
+
+def copy(options: str, source: bytes, target: bytes | None, place: int | None, *lines: str) -> Explained:
+    """Returns a copy from `k` to `t`, and the place from which nothing is seen."""
+    files = {"k": source, **({} if target is None else {"t": target})}
+    words = ("ktcopy", *words_of(options), "k", "t")
+    return Explained(f"{shown(words)} of {len(source)} bytes", words, told(place, "t"), files, status=0,
+                     out=text(lines))
+
+
+def talk(name: str, lines: list[str], files: dict[str, bytes], *those: tuple[int, int],
+         after: tuple[tuple[str, str], ...] = (), status: int = 0) -> Explained:
+    """Returns lines of ktutil, the numbers of those that write what is not seen, and from which place on."""
+    output = tuple(("", f"line {line}: {UNSEEN.replace('PLACE', str(place))}") for line, place in those)
+    return Explained(f"ktutil: {name}", ("ktutil",), (*output, *after), files, text(lines), status, b"")
+
+
+NOT_LIVE = ("", f"refused 5: {code(5)}")
+
+EDITS = [
+    # The image that is saved has a hidden entry at the place of an addition, or before it.
+    edit("a hidden entry, no file", None, [ADD], 2),
+    edit("a seen entry, no file", None, [ADD_B], None),
+    edit("a hidden entry behind others", TWO, [ADD], 98),
+    edit("a hidden entry between additions", None, [ADD_B, ADD, ADD_C], 47),
+    edit("two hidden entries", None, [ADD_B, ADD, ADD], 47),
+    edit("a seen entry behind one that was there", keytab(B, HIDDEN), [ADD_C], 47),
+    edit("a seen entry before one that was there", keytab(41, HIDDEN), [ADD_C], None),
+    edit("one before it and one behind", keytab(41, HIDDEN), [ADD_C, ADD_B], 47),
+    edit("a hidden entry in a hole", keytab(60, B), [ADD], 2),
+    edit("version 1", old(HIDDEN), [ADD_B], 2),
+    edit("version 1, of seen entries", old(HOST), [ADD_B], None),
+    # Nothing is said of what was there, nor of what the run removed again.
+    edit("no addition", keytab(HIDDEN), ["start", "step 0"], None),
+    edit("a removal", keytab(HIDDEN, B), ["cut 31"], None),
+    edit("a hidden entry is removed again", TWO, [ADD, "cut 98"], None),
+    edit("a seen one behind a hidden one is removed again", keytab(HIDDEN), [ADD_B, "cut 31"], None),
+    edit("the hidden one is removed", keytab(HIDDEN), [ADD_B, "cut 2"], None),
+    edit("one of two is removed again", keytab(HIDDEN), [ADD_B, ADD_C, "cut 76"], 2),
+    edit("removed and added in its place", keytab(B, HIDDEN), ["cut 2", ADD_B], None),
+    edit("removed, added and removed in one place", keytab(HIDDEN), [ADD_B, "cut 31", ADD_C, "cut 31", ADD_B], 2),
+    # A rewrite moves what was added.
+    edit("a rewrite, then nothing is before it", keytab(60, HIDDEN), [ADD, "rewrite"], 2),
+    edit("a rewrite", keytab(70, B, HIDDEN), [ADD_C, ADD_B, "rewrite"], 92),
+    edit("a rewrite before the addition", keytab(70, HIDDEN), ["rewrite", ADD_C], 2),
+    edit("a seen one before a hidden one, rewritten", keytab(41, 9, HIDDEN), [ADD_C, "rewrite"], None),
+    edit("removed after a rewrite", keytab(70, HIDDEN, B), [ADD, "rewrite", "cut 2"], None),
+    edit("a rewrite, and another at the old place is removed", keytab(B, HIDDEN), [ADD_C, "cut 2", "rewrite"], 2),
+    edit("a rewrite that moves nothing", keytab(HIDDEN), [ADD_B, "rewrite", "cut 31"], None),
+    edit("two rewrites", keytab(5, B, 5, HIDDEN), [ADD_C, "rewrite", "cut 2", "rewrite"], 2),
+    # It follows what explains the replies, and changes no status.
+    edit("a refusal", None, ["cut 3", ADD], 2, NOT_LIVE, status=1),
+    edit("a refusal, seen", None, ["cut 3", ADD_B], None, NOT_LIVE, status=1),
+    # Where nothing is saved it is not said.
+    edit("a faulty script", None, [ADD, "frob"], None, ("line 2: fault 1", "unknown first word"), status=1),
+    edit("not saved", TWO, [ADD], None, ("k: cannot write", CAUSES["in the way"].replace("NAME", "k")), status=3,
+         out=b"", setting=in_the_way),
+    edit("a damaged keytab", keytab(HIDDEN, b"\0"), [ADD], None, ("", f"refused 1: {code(1)}"), status=1),
+]
+
+COPIES = [
+    *(copy(options, keytab(HIDDEN), None, 2, f"copied 2 {H}") for options in ("", "-n", "--replace", "-e 1 -n")),
+    copy("", TWO, None, None, f"copied 2 {HOST_TAIL}", f"copied 53 {Y}"),
+    copy("", keytab(B, HIDDEN), TWO, 98, f"copied 98 {H}"),
+    copy("-p b@R", keytab(B, HIDDEN), None, None, f"copied 2 {Y}"),
+    # A seen entry behind one that was there, and before it.
+    *(copy(options, keytab(B), keytab(HIDDEN), 2, f"copied 31 {Y}") for options in ("", "-n")),
+    copy("", keytab(B), keytab(41, HIDDEN), None, f"copied 2 {Y}"),
+    copy("", keytab(B, C), keytab(41, HIDDEN), 47, f"copied 2 {Y}", "copied 76 kvno 3 etype 17 c@R"),
+    copy("", keytab(B), old(HIDDEN), 2, f"copied 27 {Y}"),
+    # What is replaced is gone.
+    *(copy(f"--replace {dry}", keytab(KEYED), keytab(HIDDEN), None, f"removed 2 {H}", f"copied 31 {H}")
+      for dry in ("", "-n")),
+    *(copy(f"--replace {dry}", keytab(HIDDEN), keytab(KEYED), 2, f"removed 2 {H}", f"copied 2 {H}")
+      for dry in ("", "-n")),
+    # Nothing is added.
+    copy("", keytab(HIDDEN), keytab(HIDDEN), None), copy("-n", keytab(HIDDEN), keytab(B, HIDDEN), None),
+    # A clash is told, and nothing else: nothing would be saved.
+    *(Explained(f"ktcopy {options}: a clash", ("ktcopy", *words_of(options), "k", "t"), (("", f"clash: {CLASH}"),),
+                {"k": keytab(HIDDEN, B), "t": keytab(OTHER)}) for options in ("", "-n")),
+    Explained("ktcopy: a refusal", ("ktcopy", "k", "t"), (("t: refused 2", code(2)),),
+              {"k": keytab(HIDDEN, LONG), "t": old()}, out=b""),
+    Explained("ktcopy: not saved", ("ktcopy", "k", "t.krbfile"),
+              (("t.krbfile: cannot write", CAUSES["name of saves"]),), {"k": keytab(HIDDEN)}, status=3, out=b""),
+]
+
+J = {"j": keytab(HIDDEN), "h": keytab(HIDDEN), "b": keytab(B), "o": keytab(41, HIDDEN)}
+
+LINES = [
+    talk("a hidden entry", ["rkt j", "wkt n"], J, (2, 2)),
+    talk("a seen entry behind a hidden one", ["rkt b", "wkt h"], J, (2, 2)),
+    talk("a hidden entry behind a seen one", ["rkt j", "wkt b"], J, (2, 47)),
+    talk("a seen entry before a hidden one", ["rkt b", "wkt o"], J),
+    talk("each line that writes", ["rkt b", "wkt n", "wkt h", "rkt j", "", "wkt m", "clear", "wkt h", "q"], J, (3, 2),
+         (6, 47)),
+    talk("a new entry", [ADDENT, KEY, "wkt n", "wkt h"], J, (4, 2)),
+    talk("an empty list", ["wkt h"], J),
+    talk("a deleted slot", ["rkt j", "rkt b", "delent 1", "wkt n"], J),
+    talk("not saved", ["rkt j", "wkt n.krbfile"], J, status=3,
+         after=(("n.krbfile: cannot write", f"line 2: {CAUSES['name of saves']}"),)),
+    talk("a damaged keytab", ["rkt j", "wkt d"], {**J, "d": keytab(HIDDEN, b"\0")}, status=1,
+         after=(("line 2: refused 1", f"line 2: {code(1)}"),)),
+]
+
+CASES = [*EDITS, *COPIES, *LINES]
