@@ -13,7 +13,8 @@ mod words;
 use krb_commands::{ErrorOutput, Streams};
 use krb_disk::DiskFiles;
 use krb_files::{Watched, WatchedReader};
-use run::{asks_to_explain, is_out_of_memory, parsed, run, wants_plain, words_of};
+use krb_terminal::Screen;
+use run::{asks_to_explain, is_out_of_memory, parsed, prints_json, run, wants_plain, words_of};
 use silent::asks_for_silence;
 use std::io::IsTerminal;
 use std::process::ExitCode;
@@ -28,15 +29,22 @@ fn main(rt: HostRuntime) -> ExitCode {
     if wants_plain(&parsed) {
         files.only_plain();
     }
+    let out = rt.stdout();
     let err = rt.stderr();
-    let explains = asks_to_explain(&rt) || err.is_terminal();
-    let mut streams = Streams {
-        input: WatchedReader::new(rt.stdin()),
-        out: Watched::new(rt.stdout()),
-        err: ErrorOutput {
-            to: Watched::new(err),
-            explains,
-        },
+    let mut out = Screen::new(out, out.is_terminal() && !prints_json(&parsed));
+    let mut error_screen = Screen::new(err, err.is_terminal());
+    let status = {
+        let mut streams = Streams {
+            input: WatchedReader::new(rt.stdin()),
+            out: Watched::new(&mut out),
+            err: ErrorOutput {
+                to: Watched::new(&mut error_screen),
+                explains: asks_to_explain(&rt) || err.is_terminal(),
+            },
+        };
+        run(&rt, &parsed, &mut files, &mut streams)
     };
-    ExitCode::from(run(&rt, &parsed, &mut files, &mut streams))
+    let _ = out.finish();
+    let _ = error_screen.finish();
+    ExitCode::from(status)
 }

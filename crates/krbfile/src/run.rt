@@ -52,6 +52,14 @@ pub fn wants_plain(parsed: &Result<Action<'_>, WordFault<'_>>) -> bool {
     }
 }
 
+/// Returns whether the run prints JSON.
+pub fn prints_json(parsed: &Result<Action<'_>, WordFault<'_>>) -> bool {
+    match parsed {
+        Ok(Action::Klist(options, _)) => options.json,
+        _ => false,
+    }
+}
+
 // Returns the name of the file if the line leaves it out.
 fn name_left_out<H: rt::Env + rt::Files + AllocGlobal>(
     rt: &H,

@@ -1,0 +1,3 @@
+-- What a screen prints.
+pub mod Escaped
+pub mod Screen
