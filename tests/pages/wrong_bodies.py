@@ -138,6 +138,10 @@ WRONG_BODIES = {
         "saves-part": "write_kt saves what it added before a refusal",
         "writes-under-a-type": "write_kt writes a file whose name begins with a type",
     },
+    "krb_terminal": {
+        "escapes-no-c1": "a pair of c2 and 80 to 9f passes as it is",
+        "forgets-a-parted-pair": "a pair passes as it is if two writes part it",
+    },
     "krb_c": {
         "tells-the-length-that-was-cut": "a text that does not fit answers the length that was taken",
     },
