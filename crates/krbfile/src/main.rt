@@ -31,12 +31,12 @@ fn main(rt: HostRuntime) -> ExitCode {
     }
     let out = rt.stdout();
     let err = rt.stderr();
-    let mut out = Screen::new(out, out.is_terminal() && !prints_json(&parsed));
+    let mut screen = Screen::new(out, out.is_terminal() && !prints_json(&parsed));
     let mut error_screen = Screen::new(err, err.is_terminal());
     let status = {
         let mut streams = Streams {
             input: WatchedReader::new(rt.stdin()),
-            out: Watched::new(&mut out),
+            out: Watched::new(&mut screen),
             err: ErrorOutput {
                 to: Watched::new(&mut error_screen),
                 explains: asks_to_explain(&rt) || err.is_terminal(),
@@ -44,7 +44,7 @@ fn main(rt: HostRuntime) -> ExitCode {
         };
         run(&rt, &parsed, &mut files, &mut streams)
     };
-    let _ = out.finish();
+    let _ = screen.finish();
     let _ = error_screen.finish();
     ExitCode::from(status)
 }
