@@ -1,5 +1,5 @@
 -- Words without a prefix.
-use Rattle.std.proofs.Common.{◌≡◌, ◌≢◌, Bool, true, false, List, [], ◌∷◌, ◌++◌, ℕ, Option, None, Some, Bor, refl, sym, ap, ◌∙◌, cond, drop, eqb, length}
+use Rattle.std.proofs.Common.{◌≡◌, ◌≢◌, Bool, true, false, List, [], ◌∷◌, ◌++◌, ℕ, Option, None, Some, Bor, refl, sym, ap, ◌∙◌, cond, drop, eqb}
 use Rattle.std.specs.Prelude.{MatchOption, option_map}
 use Rattle.std.specs.Str.Pattern.{FindsTextPrefix, StripsPrefix}
 use Rattle.std.proofs.lemmas.Bool.{eqb-true, eq-eqb}

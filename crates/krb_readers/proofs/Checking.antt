@@ -1,5 +1,5 @@
 -- Files checked one after the other.
-use Rattle.std.proofs.Common.{◌≡◌, inl, inr, List, [], ◌∷◌, Bool, false, true, ◌||◌, IsFalse, IsTrue, refl}
+use Rattle.std.proofs.Common.{inl, inr, List, ◌∷◌, Bool, false, true, ◌||◌, IsFalse, IsTrue, refl}
 use Rattle.std.proofs.lemmas.Bool.{true≢false}
 use Rattle.krb_files.specs.declared.files.Files.{Ghosts}
 use Rattle.krb_driver.specs.declared.file_name.FileName.{FileName}

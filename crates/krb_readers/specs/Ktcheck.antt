@@ -1,5 +1,5 @@
 -- What ktcheck does.
-use Rattle.std.specs.Prelude.{◌≡◌, ◌⊎◌, ℕ, max, List, [], ◌∷◌, ◌++◌, length, codes, Bool, true, false, not, ◌&&◌, ◌||◌, nat_lt, IsTrue, IsFalse, if◌then◌else◌, Option, is_none, is_some, Ok, Err}
+use Rattle.std.specs.Prelude.{◌≡◌, ◌⊎◌, ℕ, max, List, [], ◌∷◌, ◌++◌, length, codes, Bool, true, false, not, ◌&&◌, ◌||◌, nat_lt, IsTrue, IsFalse, if◌then◌else◌, Option, is_some, Ok, Err}
 use Rattle.krb_walk.specs.Store.{fault_of}
 use Rattle.krb_keytab.specs.Store.{KeytabState, store_of}
 use Rattle.krb_files.specs.declared.files.Files.{Ghosts}
