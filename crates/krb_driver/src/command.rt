@@ -227,8 +227,8 @@ pub fn run_to_end<A: Allocator + Copy, C: Command<A>, F: Files, R: Read, W: Writ
     ending
 }
 
-// Returns the exit status of a run.
-fn status_of(ending: Result<Verdict, RunError>) -> u8
+/// Returns the exit status of a run that ended so.
+pub fn status_of(ending: Result<Verdict, RunError>) -> u8
     ensures { result ≡ ending_status ending }
 {
     match ending {

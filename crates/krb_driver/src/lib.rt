@@ -11,7 +11,7 @@ mod reporting;
 mod streams;
 mod verdict;
 
-pub use command::{Command, FileError, Made, Output, Show, hold_if, run, run_to_end};
+pub use command::{Command, FileError, Made, Output, Show, hold_if, run, run_to_end, status_of};
 pub use command_line::matches::{
     Matches, first_value, spelled_name, spelled_names, spelled_seconds, times_given, v1_order,
 };

@@ -15,7 +15,7 @@ use crate::ktcheck::words::CheckOptions;
 use krb_audit::{CheckUp, FindingWords, check_up};
 use krb_driver::{
     Command, FileError, FileName, Findings, Made, Output, RunError, Streams, Verdict, open_keytab,
-    run_to_end,
+    run_to_end, status_of,
 };
 use krb_files::Files;
 use krb_keytab::Keytab;
@@ -148,15 +148,6 @@ fn explained_by(ending: Result<Verdict, RunError>) -> FindingWords
     match ending {
         Ok(Verdict::Found(findings)) => findings.words,
         _ => FindingWords::none(),
-    }
-}
-
-fn status_of(ending: Result<Verdict, RunError>) -> u8
-    ensures { result ≡ ending_status ending }
-{
-    match ending {
-        Ok(verdict) => verdict.status(),
-        Err(error) => error.status(),
     }
 }
 
