@@ -1,0 +1,193 @@
+"""`klist` and `klist -k` without a file beside MIT's, over one environment: both take the same file, but for the
+differences named here."""
+
+import os
+import re
+import shutil
+import subprocess
+from collections.abc import Iterator, Mapping
+from dataclasses import dataclass
+from random import Random
+
+from chance.random_names import random_word
+from keytabs.file_names import NOBODY
+from makers.images import TWO
+from models.name_model import Kind, default, type_of
+from models.named_runs import CACHE
+from names.default_files import BAD
+from names.default_names import own_cache
+from peers.beside_mit import PATHS, are_there
+from runs.harness import SECONDS, Outcome, Report, folder_of, message
+from runs.random_runs import ONE_IN
+
+# How many random values each kind of file is named by.
+VALUES = 300
+
+# The environment of both: MIT's has no configuration.
+PLAIN = {"PATH": PATHS, "KRB5_CONFIG": os.devnull, "LC_ALL": "C", "TZ": "UTC"}
+
+WORDS = {Kind.CACHE: (), Kind.KEYTAB: ("-k",)}
+IMAGES = {Kind.CACHE: CACHE, Kind.KEYTAB: TWO}
+
+# The name of the file in what each prints: where it lists, and where there is none.
+NAMED = re.compile(rb"(?:Ticket cache|Keytab name): FILE:(.*)\n")
+MISSING = re.compile(rb"klist: .*(?:\(filename: (.*)\)|Key table file '(.*)' not found)", re.DOTALL)
+OURS_MISSING = re.compile(rb"krbfile: (.*): no such file\n", re.DOTALL)
+
+# What MIT's reads of a configuration file, and ours does not.
+CONFIGURATION = b"[libdefaults]\ndefault_ccache_name = FILE:c\ndefault_keytab_name = FILE:k\n"
+
+# What MIT's says of a type that it does not know, or has nothing of.
+REFUSES = re.compile(rb"Unknown (?:credential cache|Key table) type|No KCM server found|No credentials cache found|"
+                     rb"keyring|directory")
+
+
+@dataclass(frozen=True)
+class Taken:
+    """The file that a program took, and whether it listed it; None where it took none."""
+
+    name: bytes | None
+    is_listed: bool
+
+
+def theirs_of(got: Outcome) -> Taken:
+    """Returns what MIT's klist took. It prints the name of a keytab before it opens that."""
+    found = (NAMED.match(got.out) or [b"", None])[1]
+    missing = MISSING.match(got.err)
+    return Taken(found if missing is None else missing[1] if missing[1] is not None else missing[2], got.status == 0)
+
+
+def ours_of(got: Outcome) -> Taken:
+    """Returns what our klist took."""
+    found = NAMED.match(got.out) or OURS_MISSING.fullmatch(got.err)
+    return Taken(found[1] if found else None, got.status == 0)
+
+
+def by_both(program: str, kind: Kind, folder: str, env: Mapping[str, str | bytes],
+            front: tuple[str, ...] = ()) -> tuple[Outcome, Outcome]:
+    """Returns the outcomes of both, by words before the program's name."""
+    outcomes = []
+    for words in (("klist", *WORDS[kind]), (program, "klist", *WORDS[kind])):
+        done = subprocess.run([*front, *words], cwd=folder, env=PLAIN | env, capture_output=True, timeout=SECONDS,
+                              stdin=subprocess.DEVNULL, check=False)
+        outcomes.append(Outcome(done.returncode, done.stdout, done.stderr))
+    return outcomes[0], outcomes[1]
+
+
+def is_type_to_mit(kind: Kind, value: bytes) -> bool:
+    """Whether MIT's takes what stands before the first colon for a type: all but one letter, and of a keytab a path."""
+    front, colon, _ = value.partition(b":")
+    is_drive = len(front) == 1 and front.isalpha()
+    return colon != b"" and not is_drive and not (kind is Kind.KEYTAB and value.startswith(b"/"))
+
+
+def faults_of(program: str, kind: Kind, value: bytes, files: dict[str, bytes]) -> list[str]:
+    """Returns the faults of both over a value of the variable. Ours takes for a type only two letters or more."""
+    with folder_of(files) as folder:
+        got = by_both(program, kind, folder, {kind.variable: value})
+    theirs, ours = theirs_of(got[0]), ours_of(got[1])
+    name = default(kind, {kind.variable: value}, 0)
+    wanted = Taken(name.text, os.path.normpath(os.fsdecode(name.text)) in files and not name.other)
+    found = [] if ours == wanted else [f"{value}: ours took {ours}, not {wanted}"]
+    if is_type_to_mit(kind, value) and type_of(value) not in kind.types:
+        is_refused = got[0].status == 1 and REFUSES.search(got[0].err)
+        return found + ([] if is_refused else [f"{value}: MIT's does not refuse it: {got[0]}"])
+    return found + ([] if ours == theirs else [f"{value}: ours took {ours}, MIT's {theirs}"])
+
+
+def values(kind: Kind) -> Iterator[bytes]:
+    """Yields names, with and without a type, of files that are there and of none."""
+    yield from (b"k", b"./k", b"no", b" ", b"C:k", b"c:k", b"k%{uid}", b"%{null}k", b"./FILE:k", b"1:k", b":k",
+                b"k:FILE:k", b"KCM:k", b"KCM:", b"file:k", b"File:k", b"FILE:./KCM:k", b"-k", b"/no:k", b"a b:k",
+                b"ab:k")
+    for front in kind.types:
+        yield from (front + rest for rest in (b"k", b"", b"no", b"FILE:k", b"WRFILE:k", b":k", b"C:k"))
+    yield from (b"KEYRING:k", b"DIR:k", b"WRFILE:k") if kind is Kind.CACHE else (b"SRVTAB:k",)
+
+
+def check_values(report: Report, program: str) -> None:
+    """Checks the values, where no file is there, and where all are that a program might take."""
+    for kind in Kind:
+        for value in map(bytes.decode, values(kind)):
+            names = {os.path.normpath(name) for name in (value, value.partition(":")[2], "k") if name}
+            for files in ({}, {name: IMAGES[kind] for name in names if "/" not in name}):
+                report.check(f"klist {kind.variable}={value!r} beside MIT's, {len(files)} files",
+                             faults_of(program, kind, value.encode(), files))
+
+
+def check_random(report: Report, program: str, count: int) -> None:
+    """Checks random values, over a file that each should take or none."""
+    for kind in Kind:
+        wrong = []
+        for number in range(count):
+            random = Random(number)
+            value = random_word(random)
+            if value and b"\xff" not in value and b"\n" not in value:
+                name = os.fsdecode(default(kind, {kind.variable: value}, 0).text)
+                is_there = name != "" and random.random() < 0.7
+                wrong += faults_of(program, kind, value, {name: IMAGES[kind]} if is_there else {})
+        report.check(f"klist {kind.variable} of random values beside MIT's", wrong[:3])
+
+
+def check_different(report: Report, program: str) -> None:
+    """Checks the other differences: an empty value, a configuration file, what is no text, and a keytab in memory."""
+    with folder_of({"k": TWO, "c": CACHE, "\udcff": TWO, "conf": CONFIGURATION}) as folder:
+        rows = [
+            ("an empty value", Kind.KEYTAB, {"KRB5_KTNAME": ""}, b"", b"/etc/krb5.keytab"),
+            ("an empty value", Kind.CACHE, {"KRB5CCNAME": ""}, b"", b"/tmp/krb5cc_%d" % os.getuid()),
+            ("a configuration file", Kind.KEYTAB, {"KRB5_CONFIG": "conf"}, b"k", b"/etc/krb5.keytab"),
+            ("a configuration file", Kind.CACHE, {"KRB5_CONFIG": "conf"}, b"c", b"/tmp/krb5cc_%d" % os.getuid()),
+        ]
+        for name, kind, env, to_mit, to_us in rows:
+            got = by_both(program, kind, folder, env)
+            taken = (theirs_of(got[0]).name, ours_of(got[1]).name)
+            report.check(f"MIT's klist is otherwise: {name}, {kind.variable}",
+                         [] if taken == (to_mit, to_us) else [f"{taken} are taken"])
+        for value, wanted in ((b"\xff", message(2, BAD)), (b"MEMORY:k", message(1, "MEMORY:k: no such file"))):
+            theirs, ours = by_both(program, Kind.KEYTAB, folder, {"KRB5_KTNAME": value})
+            found = [] if theirs.status == 0 and ours == wanted else [f"{theirs}, {ours}"]
+            report.check(f"MIT's klist is otherwise: it lists the keytab {value}", found)
+
+
+def check_another(report: Report, program: str) -> None:
+    """Checks the default cache of another user, if root runs the tests."""
+    what = "the default cache of another user beside MIT's klist"
+    if os.geteuid() != 0 or shutil.which("setpriv") is None:
+        report.skip(what, "none but root may run as another, by setpriv")
+        return
+    with folder_of({}) as folder, own_cache(NOBODY, CACHE) as path:
+        if path is None:
+            report.skip(what, "it is there")
+            return
+        copy = os.path.join(folder, "krbfile")
+        shutil.copy(program, copy)
+        for each in (folder, copy):
+            os.chmod(each, 0o755)
+        front = ("setpriv", f"--reuid={NOBODY}", f"--regid={NOBODY}", "--clear-groups")
+        theirs, ours = by_both(copy, Kind.CACHE, folder, {}, front)
+        wanted = Taken(path.encode(), True)
+        report.check(what, [] if theirs_of(theirs) == ours_of(ours) == wanted else [f"{theirs}, {ours}"])
+        # A run with the rights of another than its real user: MIT's looks at no environment.
+        theirs, ours = by_both(program, Kind.CACHE, folder, {"KRB5CCNAME": "no"}, ("setpriv", f"--ruid={NOBODY}"))
+        taken = (theirs_of(theirs), ours_of(ours))
+        report.check("MIT's klist is otherwise: the rights of another user",
+                     [] if taken == (wanted, Taken(b"no", False)) else [f"{taken} are taken"])
+
+
+def check_defaults(report: Report, program: str) -> None:
+    """Checks the defaults of this user."""
+    for kind in Kind:
+        with folder_of({}) as folder:
+            theirs, ours = by_both(program, kind, folder, {})
+            found = [] if theirs_of(theirs) == ours_of(ours) else [f"MIT's took {theirs}, ours {ours}"]
+            report.check(f"the default beside MIT's: {kind.variable}", found)
+
+
+def check(report: Report, program: str) -> None:
+    """Runs this topic if MIT's klist is installed."""
+    if are_there(report, "default files beside MIT's klist", ("klist",)):
+        check_values(report, program)
+        check_random(report, program, VALUES if report.is_proved else VALUES // ONE_IN)
+        check_different(report, program)
+        check_defaults(report, program)
+        check_another(report, program)

@@ -1,0 +1,100 @@
+"""What ktedit, ktcopy and ktutil say of entries that MIT's programs do not see, beside what MIT's klist lists of the
+file that they saved: it is said just where an entry that was added is not listed, with the place of the first that is
+not."""
+
+import os
+import re
+from dataclasses import dataclass, replace
+from random import Random
+
+from chance.random_keytabs import Choices
+from chance.random_lines import Scripts
+from chance.random_scripts import session_over
+from chance.random_unseen import random_line
+from keytabs.scripts import FAULTS
+from makers.images import BIG, hole, keytab
+from models import script_model
+from models.keytab_model import Keytab
+from peers.beside_mit import Mit, are_there
+from runs.harness import Report, folder_of, run
+from runs.random_runs import FEWEST, ONE_IN
+from runs.terminal import EXPLAIN
+
+# How many runs are made.
+RUNS = 300
+
+# The times of entries that are there, and of those that a run may add, as the lines of scripts have them.
+THERE, ADDED = 7, 0
+
+# Entries of which a few are not seen.
+FEW = Choices(names=(*[(b"a", b"R"), (b"bb", b"c", b"R")] * 4, (b"", b"R"), (b"R",), (b"a", b"", b"R"), (b"a", b"")),
+              versions=(1, 2, 3), enctypes=(17, 18), timestamps=(THERE,), keys=(*[b"x" * 16] * 6, b""))
+ADDITIONS = replace(FEW, timestamps=(ADDED,))
+
+SAID = re.compile(rb"^krbfile: (?:t|line 2): MIT's programs see no entry from (\d+) on$", re.MULTILINE)
+
+
+@dataclass(frozen=True)
+class Made:
+    """A run that may add entries to the file `t`: its words, its input, and the files."""
+
+    words: tuple[str, ...]
+    stdin: bytes
+    files: dict[str, bytes]
+
+
+def sound(random: Random, choices: Choices) -> bytes:
+    """Returns a sound keytab of a few such entries and holes."""
+    while True:
+        parts = [choices.random_part(random, 2, BIG) for _ in range(random.randrange(5))]
+        image = keytab(*parts, *[hole(bytes(random.randrange(1, 60)))] * random.randrange(2))
+        if Keytab(image).fault is None:
+            return image
+
+
+def made(random: Random) -> Made:
+    """Returns a run of one of the commands."""
+    files = {"k": sound(random, ADDITIONS), "t": sound(random, FEW)}
+    kind = random.choice(("ktedit", "ktcopy", "ktutil"))
+    if kind == "ktedit":
+        scripts = Scripts(random_line, script_model.event_in, FAULTS)
+        return Made(("ktedit", "t"), scripts.random_script(random, session_over(False, files["t"])), files)
+    if kind == "ktcopy":
+        return Made(("ktcopy", "--replace", "k", "t"), b"", files)
+    return Made(("ktutil",), b"rkt k\nwkt t\n", files)
+
+
+def place_not_seen(folder: str, count: int) -> int | None:
+    """Returns the place of the first entry of the file `t` that is not among the first ones that MIT's klist lists, if
+    that or one behind it was added."""
+    with open(os.path.join(folder, "t"), "rb") as file:
+        rest = Keytab(file.read()).live()[count:]
+    return rest[0][0] if any(entry.timestamp == ADDED for _, entry in rest) else None
+
+
+def check_run(program: str, each: Made) -> tuple[list[str], str]:
+    """Makes a run, and returns its faults and what was found."""
+    with folder_of(each.files) as folder:
+        got = run(program, (EXPLAIN, *each.words), folder, each.stdin)
+        listed = len(Mit(folder).klist("t"))
+        place = place_not_seen(folder, listed)
+    said = [int(number) for number in SAID.findall(got.err)]
+    wanted = [] if place is None else [place]
+    return ([] if said == wanted else [f"{each}: {said} is said, {wanted} is so"],
+            f"{each.words[0]}, {'not all' if wanted else 'all'} are seen")
+
+
+def check(report: Report, program: str) -> None:
+    """Runs this topic if MIT's programs are installed."""
+    if not are_there(report, "what is said of additions beside MIT's klist", ("klist",)):
+        return
+    seen: dict[str, int] = {}
+    count = RUNS if report.is_proved else RUNS // ONE_IN
+    for number in range(count):
+        faults, kind = check_run(program, made(Random(number)))
+        report.check(f"said of additions, number {number}", faults)
+        seen[kind] = seen.get(kind, 0) + 1
+    if count == RUNS:
+        commands = ("ktedit", "ktcopy", "ktutil")
+        kinds = [f"{command}, {how} are seen" for command in commands for how in ("all", "not all")]
+        report.check("each kind of addition", [f"no {kind}" for kind in kinds if seen.get(kind, 0) < FEWEST])
