@@ -3,7 +3,7 @@
 import os
 import shutil
 from collections.abc import Iterator
-from contextlib import contextmanager
+from contextlib import contextmanager, nullcontext
 from dataclasses import dataclass
 
 from keytabs.file_names import NOBODY
@@ -141,34 +141,46 @@ def check_without_number(report: Report, program: str, name: str, place: System)
     place.compare(report, program, name, "klist -x", message(2, BAD), "unknown option -x; see krbfile klist --help")
 
 
-def users(program: str, folder: str) -> Iterator[tuple[str, list[str], int, str]]:
-    """Yields ways to run the program as a user: a name, the words before, the real user's number, and the program."""
-    yield "this user", [], os.getuid(), program
+def users(program: str, folder: str) -> Iterator[tuple[str, tuple[str, ...], int, str]]:
+    """Yields ways to run the program: a name, the words before it, the number of the real user, and its path."""
+    yield "this user", (), os.getuid(), program
     if os.geteuid() == 0:
-        copy = os.path.join(folder, "krbfile")
-        shutil.copy(program, copy)
-        for path in (folder, copy):
-            os.chmod(path, 0o755)
-        yield "a real user beside root", ["setpriv", f"--ruid={NOBODY}"], NOBODY, program
-        yield "another user", ["setpriv", f"--reuid={NOBODY}", f"--regid={NOBODY}", "--clear-groups"], NOBODY, copy
-        yield "root for another user", ["setpriv", f"--euid={NOBODY}"], 0, copy
+        copy = open_to_all(program, folder)
+        yield "a real user beside root", ("setpriv", f"--ruid={NOBODY}"), NOBODY, program
+        yield "another user", by_user(NOBODY), NOBODY, copy
+        yield "root for another user", ("setpriv", f"--euid={NOBODY}"), 0, copy
+
+
+def open_to_all(program: str, folder: str) -> str:
+    """Copies a program to a folder, so that all users may run it, and returns its path."""
+    copy = os.path.join(folder, "krbfile")
+    shutil.copy(program, copy)
+    for path in (folder, copy):
+        os.chmod(path, 0o755)
+    return copy
+
+
+def by_user(user: int) -> tuple[str, ...]:
+    """Returns the words before those of a run by a user."""
+    return "setpriv", f"--reuid={user}", f"--regid={user}", "--clear-groups"
 
 
 def check_users(report: Report, program: str) -> None:
-    """Checks the default caches of users, as the system tells them."""
-    if os.geteuid() != 0 or shutil.which("setpriv") is None:
+    """Checks the default caches of users, as the system tells them. That of who runs the tests is not made."""
+    has_setpriv = shutil.which("setpriv") is not None
+    if os.geteuid() != 0 or not has_setpriv:
         report.skip("default caches of other users", "none but root may run as another, by setpriv")
     with folder_of({}) as folder:
-        for name, front, user, copy in users(program, folder):
-            if front and shutil.which("setpriv") is None:
-                continue
-            with own_cache(user, CACHE) as path:
-                if path is None:
+        for name, front, user, copy in users(program, folder) if has_setpriv else ():
+            is_made = user not in (os.getuid(), 0)
+            with own_cache(user, CACHE) if is_made else nullcontext(OWN.format(user)) as path:
+                if path is None or not is_made and os.path.lexists(path):
                     report.skip(f"the default cache of {name}", "it is there")
                     continue
                 first, *rest = [*front, copy, "klist"]
                 got = run(first, rest, folder, env={"PATH": os.environ["PATH"]})
-                report.compare(f"the default cache of {name}", Outcome(0, cache_listed(path)), got)
+                wanted = Outcome(0, cache_listed(path)) if is_made else message(1, f"{path}: no such file")
+                report.compare(f"the default cache of {name}", wanted, got)
 
 
 def check(report: Report, program: str) -> None:

@@ -10,18 +10,20 @@ from dataclasses import dataclass
 from random import Random
 
 from chance.random_names import random_word
-from keytabs.file_names import NOBODY
 from makers.images import TWO
 from models.name_model import Kind, default, type_of
 from models.named_runs import CACHE
 from names.default_files import BAD
-from names.default_names import own_cache
+from names.default_names import by_user, open_to_all, own_cache
 from peers.beside_mit import PATHS, are_there
 from runs.harness import SECONDS, Outcome, Report, folder_of, message
 from runs.random_runs import ONE_IN
 
 # How many random values each kind of file is named by.
 VALUES = 300
+
+# A user whose default cache no other topic makes.
+USER = 65_533
 
 # The environment of both: MIT's has no configuration.
 PLAIN = {"PATH": PATHS, "KRB5_CONFIG": os.devnull, "LC_ALL": "C", "TZ": "UTC"}
@@ -32,7 +34,7 @@ IMAGES = {Kind.CACHE: CACHE, Kind.KEYTAB: TWO}
 # The name of the file in what each prints: where it lists, and where there is none.
 NAMED = re.compile(rb"(?:Ticket cache|Keytab name): FILE:(.*)\n")
 MISSING = re.compile(rb"klist: .*(?:\(filename: (.*)\)|Key table file '(.*)' not found)", re.DOTALL)
-OURS_MISSING = re.compile(rb"krbfile: (.*): no such file\n", re.DOTALL)
+OURS_MISSING = re.compile(rb"krbfile: (.*): (?:no such file|cannot read)\n", re.DOTALL)
 
 # What MIT's reads of a configuration file, and ours does not.
 CONFIGURATION = b"[libdefaults]\ndefault_ccache_name = FILE:c\ndefault_keytab_name = FILE:k\n"
@@ -155,20 +157,15 @@ def check_another(report: Report, program: str) -> None:
     if os.geteuid() != 0 or shutil.which("setpriv") is None:
         report.skip(what, "none but root may run as another, by setpriv")
         return
-    with folder_of({}) as folder, own_cache(NOBODY, CACHE) as path:
+    with folder_of({}) as folder, own_cache(USER, CACHE) as path:
         if path is None:
             report.skip(what, "it is there")
             return
-        copy = os.path.join(folder, "krbfile")
-        shutil.copy(program, copy)
-        for each in (folder, copy):
-            os.chmod(each, 0o755)
-        front = ("setpriv", f"--reuid={NOBODY}", f"--regid={NOBODY}", "--clear-groups")
-        theirs, ours = by_both(copy, Kind.CACHE, folder, {}, front)
+        theirs, ours = by_both(open_to_all(program, folder), Kind.CACHE, folder, {}, by_user(USER))
         wanted = Taken(path.encode(), True)
         report.check(what, [] if theirs_of(theirs) == ours_of(ours) == wanted else [f"{theirs}, {ours}"])
         # A run with the rights of another than its real user: MIT's looks at no environment.
-        theirs, ours = by_both(program, Kind.CACHE, folder, {"KRB5CCNAME": "no"}, ("setpriv", f"--ruid={NOBODY}"))
+        theirs, ours = by_both(program, Kind.CACHE, folder, {"KRB5CCNAME": "no"}, ("setpriv", f"--ruid={USER}"))
         taken = (theirs_of(theirs), ours_of(ours))
         report.check("MIT's klist is otherwise: the rights of another user",
                      [] if taken == (wanted, Taken(b"no", False)) else [f"{taken} are taken"])
