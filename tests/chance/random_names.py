@@ -9,8 +9,9 @@ from contextlib import nullcontext
 from dataclasses import dataclass, replace
 from random import Random
 
+from models.check_model import FOLDER
 from models.name_model import FileName, Kind, NoName, default, named
-from models.named_runs import COMMANDS, FOLDER, NEITHER, Command, Ended
+from models.named_runs import COMMANDS, NEITHER, Command, Ended
 from names.default_names import OWN, own_cache
 from names.file_types import decoys
 from runs.harness import Outcome, Report, differences, files_in, folder_of, run

@@ -14,6 +14,7 @@ from makers.images import HOST, TWO, keytab
 from makers.usual_caches import TICKET
 from models import json_model
 from models.cache_reading import listed as listed_cache
+from models.check_model import FOLDER
 from models.name_model import FileName, Kind
 from runs.harness import Outcome
 from runs.rows import text
@@ -22,8 +23,7 @@ from words.phrases import BEGINS_AS_NO_CACHE, BEGINS_AS_NO_KEYTAB, CAUSES
 # Stands for the name in what is printed, and for the name as JSON has it.
 NAME, JSON = b"<name>", b'"<name in JSON>"'
 
-# What stands under a name in place of a file, and a file that is neither a keytab nor a cache.
-FOLDER = "a folder"
+# A file that is neither a keytab nor a cache.
 NEITHER = b"xy"
 NEITHERS = {Kind.KEYTAB: (b"keytab", BEGINS_AS_NO_KEYTAB), Kind.CACHE: (b"cache", BEGINS_AS_NO_CACHE)}
 

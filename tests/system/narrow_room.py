@@ -13,6 +13,7 @@ from caches import cache_files
 from caches import greatest_caches
 from keytabs.file_names import LIMIT, sized
 from keytabs.greatest import cases
+from models.cases import ktcheck_all
 from models.modelled import NO_MEMORY
 from runs.harness import SECONDS, Case, Outcome, Report, faults_of, run_case
 from runs.limits import limit
@@ -20,6 +21,9 @@ from runs.random_runs import Rounds
 
 STACK = 256 * 1024
 SPACE = 64 * 1024 * 1024
+
+# How many of the greatest files a run checks, and the memory for it, which is less than that of the files.
+MANY, ROOM = 40, 256 * 1024 * 1024
 
 # The memory that a long test lets a run have, as powers of two: from a little more than the program
 # itself takes up to more than any run does.
@@ -68,8 +72,16 @@ def without_room() -> list[Case]:
                  stdin=stdin) for words, stdin in lines.items()]
 
 
+def check_many(report: Report, program: str) -> None:
+    """Checks that ktcheck gives the memory of each file back: many files take no more than one."""
+    case = ktcheck_all(files=(("k", sized(LIMIT)),) * MANY)
+    report.check(f"{MANY} of the greatest files, in 256 MB of memory",
+                 faults_of(case, *run_case(program, case, preexec_fn=limit(resource.RLIMIT_AS, ROOM))))
+
+
 def check(report: Report, program: str) -> None:
     """Runs this topic."""
+    check_many(report, program)
     for case in [*cases(), *greatest_caches.cases()]:
         case.check(report, program)
     for case in without_room():
