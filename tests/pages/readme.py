@@ -6,6 +6,7 @@ import shutil
 from collections.abc import Iterator
 from itertools import takewhile
 
+from clients.examples import folder_with, root_of
 from makers.samples import folder_of_samples
 from pages.documents import read
 from runs.harness import TOP, Outcome, Report, folder_of, run
@@ -13,6 +14,21 @@ from runs.harness import TOP, Outcome, Report, folder_of, run
 SHOWN = "README.md"
 LIBRARY = os.path.join(TOP, "lib", "libkrbfile.so.1")
 PROVED = "crates/store_tests/src/tests/readme.rt"
+
+
+# Keytabs in /etc by samples, what cron mails of them, and the status. Without any the shell leaves the pattern.
+WEAK = ["weak 53 kvno 3 etype 23 b@R", "entries 2 free 0 holes 0"]
+IN_CRON = [
+    ({"a.keytab": "host.keytab"}, [], 0),
+    ({"a.keytab": "host.keytab", "b.keytab": "other.keytab", "c.keytab": "old.keytab"}, [], 0),
+    ({"a.keytab": "mixed.keytab"}, WEAK, 1),
+    ({"a.keytab": "host.keytab", "b.keytab": "mixed.keytab"}, [f"ETC/b.keytab: {line}" for line in WEAK], 1),
+    ({"a.keytab": "rotated.keytab", "b.keytab": "host.keytab", "c": "mixed.keytab"},
+     ["ETC/a.keytab: old 2 kvno 3 etype 17 host/a@R", "ETC/a.keytab: entries 3 free 0 holes 0"], 0),
+    ({"a.keytab": "damaged.keytab", "b.keytab": "host.keytab"},
+     ["ETC/a.keytab: fault 2 at 53", "ETC/a.keytab: entries 1 free 0 holes 0"], 1),
+    ({}, ["krbfile: ETC/*.keytab: no such file"], 1),
+]
 
 
 def lines_of(text: str) -> list[str]:
@@ -90,7 +106,21 @@ def check_sessions(report: Report, program: str) -> None:
                 check_session(report, program, folder, "session of README", session)
 
 
+def check_cron(report: Report, program: str) -> None:
+    """Runs README's line for cron over the keytabs of several hosts, below a root of its own."""
+    lines = re.findall(r"`(krbfile ktcheck [^`]*)` in cron", read(SHOWN))
+    report.check("README has a line for cron", [] if len(lines) == 1 else [f"{lines}"])
+    for keytabs, printed, status in IN_CRON if lines else ():
+        samples = {f"etc/{name}": sample for name, sample in keytabs.items()}
+        with root_of(samples) as root, folder_with(program) as programs:
+            out = "".join(line.replace("ETC", os.path.join(root, "etc")) + "\n" for line in printed).encode()
+            got = run("/bin/sh", ("-c", lines[0].replace("/etc/", f"{root}/etc/")), "/", env=surroundings(programs))
+        wanted = Outcome(status, *((out, b"") if keytabs else (b"", out)))
+        report.compare(f"README's line for cron: {sorted(keytabs)}", wanted, got)
+
+
 def check(report: Report, program: str) -> None:
     """Runs this topic."""
     check_snippets(report)
     check_sessions(report, program)
+    check_cron(report, program)

@@ -54,12 +54,12 @@ class Preloaded:
         """Returns the same over other files."""
         return Preloaded(self.program, self.library, files)
 
-    def run(self, line: Line, **settings: int) -> Counted | None:
-        """Makes a run with the settings that preload.c describes; None if that was not loaded."""
+    def run(self, line: Line, **settings: int | str) -> Counted | None:
+        """Makes a run with the settings that preload.c describes, and other variables; None if that was not loaded."""
         with folder_of(self.files) as folder:
             return self.run_in(folder, line, **settings)
 
-    def run_in(self, folder: str, line: Line, **settings: int) -> Counted | None:
+    def run_in(self, folder: str, line: Line, **settings: int | str) -> Counted | None:
         """Makes a run in a folder, with those settings."""
         with tempfile.NamedTemporaryFile() as counts:
             env = {"LD_PRELOAD": self.library, "PRELOAD_COUNTS": counts.name}

@@ -1,14 +1,22 @@
 """Refuses each allocation of each command, once and from it on, and compares with the models.
 
 A run that is out of memory reports so, with status 4. klist and ktfind may have printed a prefix of
-their text, ktedit has neither printed nor saved, and ktutil has handled its lines up to some line. Help
-is printed, or a prefix of it.
+their text, ktedit has neither printed nor saved, ktcheck has checked its files up to some file, and
+ktutil has handled its lines up to some line. Help is printed, or a prefix of it.
 """
 
+import os
 from random import Random
 
+from caches.cache_listings import TICKET_LINE
+from keytabs.listings import B_LINE, HOST_LINE
+from keytabs.listings import listed as listed_keytab
+from makers.cache_images import cache
+from makers.images import TWO
+from makers.usual_caches import TICKET
+from models.cache_reading import listed
 from models.modelled import NO_MEMORY, NOW, Modelled, Stage, large, small
-from runs.harness import Case, Report, differences, message
+from runs.harness import Case, Outcome, Report, differences, message
 from runs.preload import Counted, Line, Preloaded, preloaded
 from runs.random_runs import Rounds
 
@@ -73,11 +81,46 @@ def command_lines(under: Preloaded) -> list[Modelled]:
             for words, outcome in wanted]
 
 
+def check_default(report: Report, under: Preloaded, line: Line, env: dict[str, str], wanted: Outcome) -> None:
+    """Refuses the allocations of a line that leaves out the file. `klist -s` prints nothing."""
+    no_memory = Outcome(4) if "-s" in line.words else NO_MEMORY
+    whole = under.run(line, CLOCK=NOW, **env)
+    report.compare(f"{line} with {env}", wanted, whole.outcome)
+    for way, settings in WAYS.items():
+        faults = []
+        for nth in range(1, whole.requests + 1):
+            got = under.run(line, CLOCK=NOW, REFUSE=nth, **settings, **env)
+            is_done = got.failures == 1 and got.outcome == wanted
+            if not is_done and got.outcome != no_memory:
+                faults.append(f"at {nth} {', '.join(differences(no_memory, got.outcome))}")
+        faults += [] if whole.requests else ["its requests for memory are not seen"]
+        report.check(f"memory refused {way}: {line} with {env}", faults[:3])
+
+
+def check_defaults(report: Report, under: Preloaded) -> None:
+    """Refuses the allocations of lines whose file the environment names, or which is the default."""
+    over = under.over({"c": cache(TICKET), "k": TWO})
+    rows = [
+        ("klist", {"KRB5CCNAME": "FILE:c"}, Outcome(0, listed(b"u@R", TICKET_LINE))),
+        ("klist -s", {"KRB5CCNAME": "c"}, Outcome(0)),
+        ("klist -k", {"KRB5_KTNAME": "k"}, Outcome(0, listed_keytab(HOST_LINE, B_LINE))),
+        ("ktcheck -q", {"KRB5_KTNAME": "KCM:k"}, message(1, "KCM:k: no such file")),
+    ]
+    own = f"/tmp/krb5cc_{os.getuid()}"
+    if os.path.lexists(own):
+        report.skip("memory refused to a listing of the default cache", f"{own} is there")
+    else:
+        rows += [("klist", {}, message(1, f"{own}: no such file")), ("klist -s", {}, Outcome(1))]
+    for line, env, wanted in rows:
+        check_default(report, over, Line((*line.split(),)), env, wanted)
+
+
 def check(report: Report, program: str) -> None:
     """Runs this topic."""
     with preloaded(report, program, "memory that is refused", {}) as under:
         if under is None:
             return
+        check_defaults(report, under)
         for run in command_lines(under):
             check_run(report, under, run, lambda requests: spread(requests, FEW))
         for run in small():

@@ -63,7 +63,8 @@ TALKING = ["ktutil", "ktutil --v1-big", "ktutil --v1-big --v1-big", "ktutil --"]
 NO_TALKS: list[str | Line] = ["ktutil k", "ktutil -k", "ktutil --v1-big=yes", ("ktutil", ""), ("ktutil", b"\xff")]
 
 # Lines that print help, and words that it has.
-OF_KLIST = (b"krbfile klist", b"-k", b"-t", b"-K", b"-e", b"--v1-big", b"FILE", b"--help")
+OF_KLIST = (b"krbfile klist", b"-k", b"-t", b"-K", b"-e", b"--v1-big", b"[FILE]", b"KRB5CCNAME", b"KRB5_KTNAME",
+            b"/etc/krb5.keytab", b"/tmp/krb5cc_", b"--help")
 HELP = [
     (["--help", "-h", "help"], (b"krbfile", b"klist", b"ktfind", b"ktedit", b"ktremove", b"ktcopy", b"ktcheck",
                                 b"ktutil", b"ccedit", b"ccremove", b"--help", b"--version")),
@@ -74,7 +75,9 @@ HELP = [
     (["help ktedit", "ktedit --help", "ktedit k -h"], (b"krbfile ktedit", b"--v1-big", b"FILE", b"--help")),
     (["ktremove --help"],
      (b"krbfile ktremove", b"-n", b"-p <NAME>", b"-k <KVNO>", b"-e <ETYPE>", b"--v1-big", b"FILE")),
-    (["ktcheck -h"], (b"krbfile ktcheck", b"--v1-big", b"FILE", b"--help")),
+    (["ktcheck -h", "ktcheck k k --help", "ktcheck --allow weak -h"],
+     (b"krbfile ktcheck", b"--v1-big", b"-q", b"--allow <WORD>", b"weak, hidden, same, clash, old or mode", b"[FILE..]",
+      b"KRB5_KTNAME", b"/etc/krb5.keytab", b"--help")),
     (["help ktutil", "ktutil --help", "ktutil --v1-big -h"], (b"krbfile ktutil", b"--v1-big", b"--help")),
 ]
 
