@@ -31,15 +31,16 @@ fn main(rt: HostRuntime) -> ExitCode {
     }
     let out = rt.stdout();
     let err = rt.stderr();
+    let on_terminal = err.is_terminal();
     let mut screen = Screen::new(out, out.is_terminal() && !prints_json(&parsed));
-    let mut error_screen = Screen::new(err, err.is_terminal());
+    let mut error_screen = Screen::new(err, on_terminal);
     let status = {
         let mut streams = Streams {
             input: WatchedReader::new(rt.stdin()),
             out: Watched::new(&mut screen),
             err: ErrorOutput {
                 to: Watched::new(&mut error_screen),
-                explains: asks_to_explain(&rt) || err.is_terminal(),
+                explains: asks_to_explain(&rt) || on_terminal,
             },
         };
         run(&rt, &parsed, &mut files, &mut streams)
