@@ -3,6 +3,7 @@
 use krb_commands::{DefaultName, FileKind, FileName, Mistake, NameSource, WordFault};
 use std::alloc::Global;
 use std::env::VarError;
+use std::io::ErrorKind;
 use std::{env, fs, rt};
 
 /// The keytab of a host.
@@ -49,10 +50,18 @@ fn user_in(status: &[u8]) -> Option<u32> {
     None
 }
 
+// Returns the number of the real user, or `None` if it cannot be had.
+fn real_user<R: rt::Files + AllocGlobal>(rt: &R) -> Result<Option<u32>, WordFault<'static>> {
+    match fs::read(rt, STATUS) {
+        Ok(status) => Ok(user_in(&status)),
+        Err(error) if error.kind() == ErrorKind::OutOfMemory => Err(WordFault::NoMemory),
+        Err(_) => Ok(None),
+    }
+}
+
 // Returns the default name of a user's cache.
 fn cache_name<R: rt::Files + AllocGlobal>(rt: &R) -> Result<String, WordFault<'static>> {
-    let status = fs::read(rt, STATUS).unwrap_or(Vec::new(rt.alloc()));
-    match user_in(&status) {
+    match real_user(rt)? {
         Some(user) => Ok(format!(in rt.alloc(); "/tmp/krb5cc_{user}")?),
         None => Err(WordFault::of(Mistake::Missing("FILE"))),
     }
