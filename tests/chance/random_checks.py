@@ -20,7 +20,7 @@ from words.phrases import FINDINGS
 # How many lists a short run checks.
 USUAL = 300
 
-# What the words for files begin with, and what stands there: a type that is taken off, another, or no type.
+# What the words for files begin with, and what is there: a type that is taken off, another, or no type.
 FRONTS = ("", "", "", "FILE:", "WRFILE:", "./", "KCM:", "file:", "1:")
 NAMES = ("k", "j", "i", "é", "a b", "FILE:k", "1:k")
 
@@ -34,19 +34,19 @@ KINDS = (*FINDINGS, "fault", "entries", "no such file", "cannot read", "not a ke
 
 @dataclass(frozen=True)
 class Checked:
-    """A run over words that name files, and what stands under some names."""
+    """A run over words that name files, and what is under some names."""
 
     words: tuple[str, ...]
     options: Options
     places: dict[str, File | str]
 
     def those(self) -> list[Placed]:
-        """Returns the files that the words name, with what stands there."""
+        """Returns the files that the words name, with what is there."""
         names = [named(Kind.KEYTAB, word.encode()) for word in self.words]
         return [(name, self.places.get(name.text.decode().removeprefix("./"))) for name in names]
 
     def make(self, folder: str) -> None:
-        """Makes what stands there."""
+        """Makes what is there."""
         for name, place in self.places.items():
             path = os.path.join(folder, name)
             if place == FOLDER:
@@ -83,7 +83,7 @@ class Checked:
 
 
 def random_place(random: Random) -> File | str | None:
-    """Returns what stands under a name: mostly a keytab of a few parts."""
+    """Returns what is under a name: mostly a keytab of a few parts."""
     kind = random.random()
     if kind < 0.06:
         return FOLDER

@@ -40,7 +40,7 @@ KINDS = ("there", "changed", "made", "missing", "another type", "a folder", "nei
 
 @dataclass(frozen=True)
 class Made:
-    """A run: its command, the word for the file or None, the environment, the user, and what stands under the name."""
+    """A run: its command, the word for the file or None, the environment, the user, and what is under the name."""
 
     command: Command
     word: bytes | None
@@ -138,8 +138,8 @@ def faults_of(program: str, made: Made) -> list[str]:
             made_too = made.command.makes if wanted.status == 0 else {}
             found += differences(wanted.outcome(explains), made.run(program, folder, explains))
             found += [] if files_in(folder) == {**before, **changed, **made_too} else ["other files"]
-    told = f"{made.command.line} of {made.word} with {made.env} by {made.user} over {made.place!r:.40}"
-    return [told, *found] if found else []
+    shown = f"{made.command.line} of {made.word} with {made.env} by {made.user} over {made.place!r:.40}"
+    return [shown, *found] if found else []
 
 
 def kinds_of(made: Made) -> Iterator[str]:

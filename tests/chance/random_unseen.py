@@ -31,7 +31,7 @@ UNSEEN = b": MIT's programs see no entry from "
 
 
 def random_line(random: Random, session: KeytabSession) -> bytes:
-    """Returns a line that adds or removes an entry, or writes the keytab anew."""
+    """Returns a line that adds or removes an entry, or rewrites the keytab."""
     kind = chosen(random, LINES)
     if kind == "add":
         return f"add 3 1 0 {random.choice(KEYS)} {random.choice(NAMES)}".encode()
@@ -70,12 +70,12 @@ def random_inputs(random: Random) -> Iterator[CaseAt]:
 def kinds_of(case: Case) -> Iterator[str]:
     """Yields what is said of the entries that a run adds."""
     assert case.words[0] == EXPLAIN
-    is_told = UNSEEN in case.wanted.err
+    is_named = UNSEEN in case.wanted.err
     if b"line " in case.wanted.err or case.words[1] == "ktutil":
-        yield "a line is not seen" if is_told else "no line is told of"
+        yield "a line is not seen" if is_named else "each line is seen"
     elif b"placed " in case.wanted.out or b"copied " in case.wanted.out:
-        yield "not seen" if is_told else "seen"
-    if is_told:
+        yield "not seen" if is_named else "seen"
+    if is_named:
         yield from ["-n"] * ("-n" in case.words)
         yield from (word for word in ("gone", "rewritten", "refused", "removed") if word.encode() in case.wanted.out)
     if b"krbfile: clash: " in case.wanted.err:
@@ -86,6 +86,6 @@ TOPICS = (
     Topic("random unseen additions", random_scripts, kinds_of, ("seen", "not seen", "gone", "rewritten", "refused"),
           usual=400),
     Topic("random unseen copies", random_copies, kinds_of, ("seen", "not seen", "-n", "removed", "clash"), usual=300),
-    Topic("random unseen lines of ktutil", random_inputs, kinds_of, ("a line is not seen", "no line is told of"),
+    Topic("random unseen lines of ktutil", random_inputs, kinds_of, ("a line is not seen", "each line is seen"),
           usual=300),
 )

@@ -17,7 +17,7 @@ WEAK = {1, 2, 3, 4, 6, 8, 16, 23, 24}
 # Findings that make the status 1, unless they are allowed; a mode does if all users may read or write.
 WRONG = {"weak", "hidden", "same", "clash"}
 
-# What stands under a name in place of a file.
+# What is under a name in place of a file.
 FOLDER = "a folder"
 
 
@@ -66,7 +66,7 @@ class File:
     mode: int = 0o600
 
 
-# A name, and what stands there: nothing if it is None.
+# A name, and what is there: nothing if it is None.
 Placed = tuple[FileName, File | str | None]
 
 
@@ -94,7 +94,7 @@ class Run:
     out: bytes = b""
     err: bytes = b""
     status: int = 0
-    told: set[str] = field(default_factory=set)
+    explained: set[str] = field(default_factory=set)
 
     def say(self, line: bytes, *explained: str | bytes) -> None:
         """Prints a message if there is one, and what explains it if that is asked for."""
@@ -108,7 +108,7 @@ class Run:
         self.status = max(self.status, status)
 
     def check(self, name: FileName, place: File | str | None) -> None:
-        """Checks what stands under a name."""
+        """Checks what is under a name."""
         if name.other or place is None:
             self.fail(1, *name.missing())
         elif place == FOLDER:
@@ -139,8 +139,8 @@ class Run:
 
     def explain(self, name: bytes, found: set[str], fault: tuple[int, int] | None) -> None:
         """Prints the words of findings that were not printed before, and those of a fault."""
-        self.say(b"", *(f"{word}: {phrase}" for word, phrase in FINDINGS.items() if word in found - self.told))
-        self.told |= found
+        self.say(b"", *(f"{word}: {phrase}" for word, phrase in FINDINGS.items() if word in found - self.explained))
+        self.explained |= found
         if fault:
             self.say(b"", name + b": fault %d at %d" % fault, FAULTS[fault[0]])
 

@@ -109,7 +109,7 @@ class Command:
         return Ended(0, self.shown(name, printed), after=image)
 
     def ended(self, name: FileName, place: bytes | str | None) -> Ended:
-        """Returns the end of a run over what stands under a name."""
+        """Returns the end of a run over what is under a name."""
         if name.other or place is None:
             return self.missing(name)
         if place == FOLDER:

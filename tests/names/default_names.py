@@ -79,8 +79,8 @@ def other_system(keytab: bytes | None, status: bytes | None = None,
         os.mkdir(etc)
         if keytab is not None:
             write(os.path.join(etc, "krb5.keytab"), keytab)
-        told = {} if status is None else {STATUS: os.path.join(folder, "status")}
-        yield System(folder, {"/etc": etc, **told, **(mounts or {})})
+        status_file = {} if status is None else {STATUS: os.path.join(folder, "status")}
+        yield System(folder, {"/etc": etc, **status_file, **(mounts or {})})
 
 
 def check_keytabs(report: Report, program: str) -> None:

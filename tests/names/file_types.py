@@ -47,7 +47,7 @@ def decoys(word: str, name: str) -> dict[str, bytes]:
 
 @dataclass(frozen=True)
 class Row:
-    """A command over a word, the file that it names, and what stands there."""
+    """A command over a word, the file that it names, and what is there."""
 
     command: Command
     word: str
@@ -55,7 +55,7 @@ class Row:
     place: bytes | None
 
     def path(self) -> str:
-        """Returns where the file stands in the folder."""
+        """Returns where the file is in the folder."""
         return os.path.normpath(os.fsdecode(self.name.text))
 
     def files(self) -> dict[str, bytes]:
@@ -102,14 +102,14 @@ def rows() -> Iterator[Row]:
             if command.can_take(word.encode()):
                 yield from (Row(command, word, FileName(name.encode()), place) for place in (command.image, None))
         for word, front in others.items():
-            # What stands there is never read.
+            # What is there is never read.
             yield Row(command, word, FileName(word.encode(), front.encode()), command.image)
         # Of a type alone nothing is left: no such file, and none is made.
         yield Row(command, "FILE:", FileName(b""), None)
 
 
-def told(line: str, what: str, *explained: str, files: dict[str, bytes] | None = None, stdin: bytes = b"",
-         status: int = 1) -> Explained:
+def run_of(line: str, what: str, *explained: str, files: dict[str, bytes] | None = None, stdin: bytes = b"",
+           status: int = 1) -> Explained:
     """Returns a run that only prints a message, explained by these lines, and leaves its files."""
     output = ((what, explained[0] if explained else ""), *(("", each) for each in explained[1:]))
     return Explained(f"{line} {stdin.decode()!r}", words_of(line), output, files or {}, stdin, status, b"", files or {})
@@ -121,30 +121,30 @@ def not_read(name: str) -> str:
 
 
 def unwritten(word: str, phrase: str) -> Explained:
-    """Returns a line of ktutil that writes to a name with a type: nothing is read or made, whatever stands there."""
+    """Returns a line of ktutil that writes to a name with a type: nothing is read or made, whatever is there."""
     files = {word: NEITHER, word.partition(":")[2] or "k": NEITHER, "j": TWO}
     why = phrase.replace("TYPE", word.partition(":")[0] + ":")
-    return told("ktutil", f"{word}: cannot write", f"line 2: {why}", files=files, stdin=f"rkt j\nwkt {word}\n".encode(),
-                status=3)
+    return run_of("ktutil", f"{word}: cannot write", f"line 2: {why}", files=files,
+                  stdin=f"rkt j\nwkt {word}\n".encode(), status=3)
 
 
 # What comes before the name: the script, and of ktcopy the keytab that is copied from, with what is selected in it.
 ORDER = [
-    told("ktedit KCM:k", "line 2: fault 1", line_fault(1), stdin=b"start\nfrob\n"),
-    told("ccedit KCM:c", "line 1: fault 1", line_fault(1), stdin=b"frob\n"),
-    told("ktedit KCM:k", "KCM:k: no such file", not_read("KCM:"), stdin=b"start\n"),
-    told("ccedit KCM:c", "KCM:c: no such file", not_read("KCM:"), stdin=b"start\n"),
-    told("ktcopy no KCM:t", "no: no such file"),
-    told("ktcopy KCM:k MEMORY:t", "KCM:k: no such file", not_read("KCM:")),
-    told("ktcopy k KCM:t", "k: not a keytab (2)", BEGINS_AS_NO_KEYTAB[1], files={"k": NEITHER}),
-    told("ktcopy k KCM:t", "k: refused 1", code(1), files={"k": TWO[:-1]}),
-    told("ktcopy -p c@R k KCM:t", "k: refused 9", code(9, "ktcopy"), files={"k": TWO}),
-    *(told(f"ktcopy {options} k KCM:t", "KCM:t: no such file", not_read("KCM:"), files={"k": TWO})
+    run_of("ktedit KCM:k", "line 2: fault 1", line_fault(1), stdin=b"start\nfrob\n"),
+    run_of("ccedit KCM:c", "line 1: fault 1", line_fault(1), stdin=b"frob\n"),
+    run_of("ktedit KCM:k", "KCM:k: no such file", not_read("KCM:"), stdin=b"start\n"),
+    run_of("ccedit KCM:c", "KCM:c: no such file", not_read("KCM:"), stdin=b"start\n"),
+    run_of("ktcopy no KCM:t", "no: no such file"),
+    run_of("ktcopy KCM:k MEMORY:t", "KCM:k: no such file", not_read("KCM:")),
+    run_of("ktcopy k KCM:t", "k: not a keytab (2)", BEGINS_AS_NO_KEYTAB[1], files={"k": NEITHER}),
+    run_of("ktcopy k KCM:t", "k: refused 1", code(1), files={"k": TWO[:-1]}),
+    run_of("ktcopy -p c@R k KCM:t", "k: refused 9", code(9, "ktcopy"), files={"k": TWO}),
+    *(run_of(f"ktcopy {options} k KCM:t", "KCM:t: no such file", not_read("KCM:"), files={"k": TWO})
       for options in ("", "-n", "--replace")),
     # Nothing would be saved, and TO is asked for all the same.
-    told("ktcopy k KCM:t", "KCM:t: no such file", not_read("KCM:"), files={"k": keytab()}),
-    told("ktremove -n -k old KCM:k", "KCM:k: no such file", not_read("KCM:")),
-    told("ccremove -n -p b@R KCM:c", "KCM:c: no such file", not_read("KCM:")),
+    run_of("ktcopy k KCM:t", "KCM:t: no such file", not_read("KCM:"), files={"k": keytab()}),
+    run_of("ktremove -n -k old KCM:k", "KCM:k: no such file", not_read("KCM:")),
+    run_of("ccremove -n -p b@R KCM:c", "KCM:c: no such file", not_read("KCM:")),
 ]
 
 # ktutil writes to no name that begins with a type. Faults of the line's words come first.

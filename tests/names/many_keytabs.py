@@ -1,4 +1,4 @@
-"""`ktcheck` over a thousand files: every line has its label, every file is told, and words are told once."""
+"""`ktcheck` over a thousand files: labels, messages, and each finding explained once."""
 
 import os
 from collections.abc import Callable, Iterator
@@ -62,11 +62,12 @@ class Made:
         """Yields its message if it has one."""
         return (f"{self.name}: {what}" for what in self.kind.message[:1])
 
-    def told(self, told: set[str]) -> Iterator[str]:
-        """Yields its message, and what explains it and its findings, if that was not told of a file before."""
+    def messages(self, explained: set[str]) -> Iterator[str]:
+        """Yields its message, and what explains it and its findings, if no file before had them."""
         yield from (*self.message(), *self.kind.message[1:])
-        yield from (f"{each}: {FINDINGS[each]}" for each in FINDINGS if each in self.kind.findings and each not in told)
-        told.update(self.kind.findings)
+        yield from (f"{each}: {phrase}" for each, phrase in FINDINGS.items()
+                    if each in self.kind.findings and each not in explained)
+        explained.update(self.kind.findings)
         if self.kind.make is DAMAGED:
             yield from (f"{self.name}: fault 1 at 53", FAULTS[1])
 
@@ -88,8 +89,8 @@ def check_those(report: Report, program: str, folder: str, those: list[Made], op
     out = [line for each in those for line in each.lines("-q" in options)]
     for way in ("on a pipe", EXPLAIN):
         make, explains = WAYS[way]
-        told: set[str] = set()
-        err = [line for each in those for line in (each.told(told) if explains else each.message())]
+        explained: set[str] = set()
+        err = [line for each in those for line in (each.messages(explained) if explains else each.message())]
         wanted = Outcome(status, text(out), text(f"krbfile: {line}" for line in err))
         got = make(program, ("ktcheck", *options, *(each.word for each in those)), folder)
         report.compare(f"{len(those)} files, status {status} {' '.join(options)}, {way}", wanted, got)

@@ -1,4 +1,4 @@
-"""`ktcheck` over several keytabs: a label on each line, what is told once, and what ends the run."""
+"""`ktcheck` over several keytabs: a label on each line, what is explained once, and what ends the run."""
 
 import os
 from collections.abc import Iterator
@@ -91,7 +91,7 @@ LABELS = [
     check_up("FILE:FILE:k k", labelled(("FILE:k", W[1]), SOUND_K), *words("weak"), status=1),
     check_up(("two words", "k"), labelled(("two words", [SOUND]), SOUND_K)),
     check_up("w o", labelled(W, O), *words("weak", "old"), status=1),
-    # A file that is not checked is told, and the next goes on; the status is the greatest.
+    # A file that cannot be checked has its message, and the next goes on; the status is the greatest.
     check_up("no k", labelled(SOUND_K), MISSING, status=1),
     check_up("k no", labelled(SOUND_K), MISSING, status=1),
     check_up("no no", [], MISSING, MISSING, status=1),
@@ -116,7 +116,7 @@ TOLD = [
 ]
 
 QUIET = [
-    # A file of which nothing else is told has no line; what is allowed, old, or a mode is told.
+    # A file without any other finding has no line; what is allowed, old, or a mode has one.
     check_up("-q k", []), check_up("k -q", []), check_up("-qq -q e k", []), check_up("-q -- k k", []),
     check_up("-q o", O[1], *words("old")),
     check_up("-q k o e", labelled(O), *words("old")),
@@ -135,7 +135,7 @@ def allow(*findings: str) -> str:
 
 
 def allowed() -> Iterator[Explained]:
-    """Yields checks with some findings allowed: these are told as ever, and only others count for the status."""
+    """Yields checks with some findings allowed: these have their lines, and only others count for the status."""
     for finding, (file, lines) in SINGLE.items():
         for other in FINDINGS:
             yield check_up(f"{allow(other)} {file}", lines, *words(finding), status=int(finding not in (other, "old")))
@@ -170,7 +170,7 @@ def check(report: Report, program: str) -> None:
         set_modes(folder)
         for line, (messages, status) in FAILING.items():
             for first in ((), (EXPLAIN,)):
-                told = [each for one in messages for each in (one if first else one[:1]) if each]
+                lines = [each for one in messages for each in (one if first else one[:1]) if each]
                 shell = ("-c", 'exec "$0" "$@" > /dev/full', program, *first, "ktcheck", *line.split())
-                wanted = Outcome(status, err=text(f"krbfile: {each}" for each in told))
+                wanted = Outcome(status, err=text(f"krbfile: {each}" for each in lines))
                 report.compare(f"/dev/full: {shown(shell[3:])}", wanted, run("sh", shell, folder))

@@ -77,7 +77,7 @@ def by_both(program: str, kind: Kind, folder: str, env: Mapping[str, str | bytes
 
 
 def is_type_to_mit(kind: Kind, value: bytes) -> bool:
-    """Whether MIT's takes what stands before the first colon for a type: all but one letter, and of a keytab a path."""
+    """Whether MIT's takes what comes before the first colon for a type: all but one letter, and of a keytab a path."""
     front, colon, _ = value.partition(b":")
     is_drive = len(front) == 1 and front.isalpha()
     return colon != b"" and not is_drive and not (kind is Kind.KEYTAB and value.startswith(b"/"))

@@ -21,7 +21,7 @@ ADD = "add 3 1 0 - h@R"
 H = "kvno 3 etype 1 h@R"
 
 
-def told(place: int | None, name: str = "k") -> tuple[tuple[str, str], ...]:
+def hidden_at(place: int | None, name: str = "k") -> tuple[tuple[str, str], ...]:
     """Returns the words about entries that are not seen from a place on."""
     return () if place is None else (("", f"{name}: {UNSEEN.replace('PLACE', str(place))}"),)
 
@@ -29,15 +29,16 @@ def told(place: int | None, name: str = "k") -> tuple[tuple[str, str], ...]:
 def edit(name: str, image: bytes | None, script: list[str], place: int | None, *before: tuple[str, str],
          status: int = 0, **more) -> Explained:
     """Returns a script over a keytab, what is explained of its replies, and the place from which nothing is seen."""
-    return Explained(f"ktedit: {name}", ("ktedit", "k"), (*before, *told(place)), {} if image is None else {"k": image},
-                     text(script), status, **more)
+    files = {} if image is None else {"k": image}
+    return Explained(f"ktedit: {name}", ("ktedit", "k"), (*before, *hidden_at(place)), files, text(script), status,
+                     **more)
 
 
 def copy(options: str, source: bytes, target: bytes | None, place: int | None, *lines: str) -> Explained:
     """Returns a copy from `k` to `t`, and the place from which nothing is seen."""
     files = {"k": source, **({} if target is None else {"t": target})}
     words = ("ktcopy", *words_of(options), "k", "t")
-    return Explained(f"{shown(words)} of {len(source)} bytes", words, told(place, "t"), files, status=0,
+    return Explained(f"{shown(words)} of {len(source)} bytes", words, hidden_at(place, "t"), files, status=0,
                      out=text(lines))
 
 
@@ -108,7 +109,7 @@ COPIES = [
       for dry in ("", "-n")),
     # Nothing is added.
     copy("", keytab(HIDDEN), keytab(HIDDEN), None), copy("-n", keytab(HIDDEN), keytab(B, HIDDEN), None),
-    # A clash is told, and nothing else: nothing would be saved.
+    # A clash has its message, and nothing else has: nothing would be saved.
     *(Explained(f"ktcopy {options}: a clash", ("ktcopy", *words_of(options), "k", "t"), (("", f"clash: {CLASH}"),),
                 {"k": keytab(HIDDEN, B), "t": keytab(OTHER)}) for options in ("", "-n")),
     Explained("ktcopy: a refusal", ("ktcopy", "k", "t"), (("t: refused 2", code(2)),),
