@@ -1,7 +1,9 @@
 -- The phrases that state why a file was not loaded or saved, or a text not written.
 use Rattle.std.specs.Prelude.{ℕ, List, ◌++◌, codes, decimal, unsigned_abs}
+use Rattle.krb_files.specs.declared.aftermath.Aftermath.{Aftermath}
+use Rattle.krb_files.specs.declared.aftermath.Aftermath.TheVariants.{Restored, Damaged, LostChange}
 use Rattle.krb_files.specs.declared.cause.Cause.{Cause}
-use Rattle.krb_files.specs.declared.cause.Cause.TheVariants.{PermissionDenied, NoDirectory, NotADirectory, IsADirectory, NotAPlainFile, TooManyLinks, BadLink, NoName, NoSpace, QuotaExceeded, ReadOnly, MountPoint, NameTooLong, FileTooLarge, InputOutput, Interrupted, BrokenPipe, InUse, Changed, NameOfSaves, InTheWay, OwnerNotKept, NoLock, System}
+use Rattle.krb_files.specs.declared.cause.Cause.TheVariants.{PermissionDenied, NoDirectory, NoFile, NotADirectory, IsADirectory, NotAPlainFile, TooManyLinks, BadLink, NoName, NoSpace, QuotaExceeded, ReadOnly, MountPoint, NameTooLong, FileTooLarge, InputOutput, Interrupted, BrokenPipe, InUse, Changed, NameOfSaves, InTheWay, OwnerNotKept, NoLock, System}
 use Rattle.krb_files.specs.declared.files.LoadFault.{LoadFault}
 use Rattle.krb_files.specs.declared.files.LoadFault.TheVariants as load
 use Rattle.krb_files.specs.declared.files.SaveFault.{SaveFault}
@@ -30,6 +32,7 @@ out_phrase out.NoMemory = codes "out of memory"
 abbrev pub cause_phrase : Cause → List ℕ
 cause_phrase PermissionDenied = codes "permission denied"
 cause_phrase NoDirectory = codes "no such directory"
+cause_phrase NoFile = codes "no such file"
 cause_phrase NotADirectory = codes "not a directory"
 cause_phrase IsADirectory = codes "is a directory"
 cause_phrase NotAPlainFile = codes "not a plain file"
@@ -57,3 +60,9 @@ cause_phrase (System number) = codes "error "
 abbrev pub cause_text : Cause → List ℕ
 cause_text (System number) = codes "error " ++ decimal (unsigned_abs number)
 cause_text cause = cause_phrase cause
+
+-- what a save left behind
+abbrev pub aftermath_phrase : Aftermath → List ℕ
+aftermath_phrase Restored = codes "the old bytes are back"
+aftermath_phrase Damaged = codes "the old bytes could not be written back; the file is damaged"
+aftermath_phrase LostChange = codes "a change of another program was lost"

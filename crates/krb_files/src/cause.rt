@@ -18,6 +18,8 @@ const INPUT_OUTPUT: i32 = 5;
 pub enum Cause {
     PermissionDenied,
     NoDirectory,
+    /// The file to be saved in place is missing.
+    NoFile,
     NotADirectory,
     IsADirectory,
     /// The file to be changed exists and is not a plain file.
@@ -60,6 +62,7 @@ impl Cause {
         match self {
             Cause::PermissionDenied => "permission denied",
             Cause::NoDirectory => "no such directory",
+            Cause::NoFile => "no such file",
             Cause::NotADirectory => "not a directory",
             Cause::IsADirectory => "is a directory",
             Cause::NotAPlainFile => "not a plain file",

@@ -5,6 +5,7 @@ ghost use Rattle.krb_files.specs.Files.{FileMap, SameFiles, SetsFile, CountsFail
 ghost use Rattle.krb_files.specs.Numbers.{load_number, save_number};
 ghost use Rattle.krb_files.specs.Phrases.{load_phrase, save_phrase};
 
+use crate::aftermath::Aftermath;
 use crate::cause::Cause;
 use std::alloc::Allocator;
 use std::fmt;
@@ -179,6 +180,11 @@ pub trait Files {
 
     /// Returns the cause of the last call that returned `Failed`, if known.
     fn cause(&self) -> Option<Cause> {
+        None
+    }
+
+    /// Returns what the last save left behind, if that is to be told.
+    fn aftermath(&self) -> Option<Aftermath> {
         None
     }
 }

@@ -1,6 +1,7 @@
 //! Files by name, and readers and writers that remember a failure.
 #![tactic(auto)]
 
+mod aftermath;
 mod cause;
 mod files;
 mod mem_files;
@@ -10,6 +11,7 @@ mod watched;
 mod watched_reader;
 mod writer;
 
+pub use aftermath::Aftermath;
 pub use cause::Cause;
 pub use files::{Files, LoadFault, SaveFault};
 pub use mem_files::MemFiles;

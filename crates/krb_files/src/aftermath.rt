@@ -1,0 +1,42 @@
+//! What a save left behind, beside what it returned.
+
+ghost use Rattle.std.specs.Prelude.{◌≡◌};
+ghost use Rattle.krb_files.specs.Phrases.{aftermath_phrase};
+
+use std::fmt;
+
+/// What a save left behind, beside what it returned.
+#[derive(Clone, Copy, Debug, PartialEq, Eq)]
+pub enum Aftermath {
+    /// The save in place failed, and the file has its old bytes again.
+    Restored,
+    /// The save in place failed, and so did the writing back of the old bytes.
+    Damaged,
+    /// The save replaced a file that another program had changed after it was compared.
+    LostChange,
+}
+
+impl Aftermath {
+    /// Returns its phrase.
+    pub fn phrase(self) -> &'static str
+        ensures { result.now ≡ aftermath_phrase self }
+    {
+        match self {
+            Aftermath::Restored => "the old bytes are back",
+            Aftermath::Damaged => {
+                "the old bytes could not be written back; the file is damaged"
+            }
+            Aftermath::LostChange => "a change of another program was lost",
+        }
+    }
+}
+
+impl fmt::Display for Aftermath {
+    ghost use Rattle.std.specs.Prelude.{Some};
+
+    ghost output = { λ aftermath. Some (aftermath_phrase aftermath) };
+
+    fn fmt<W: fmt::Write>(&self, f: &mut fmt::Formatter<W>) -> fmt::Result {
+        f.write_str(self.phrase())
+    }
+}
