@@ -1,3 +1,4 @@
 pub mod Moments
 pub mod Pieces
+pub mod PlaceMoments
 pub mod Within

@@ -1,5 +1,6 @@
 -- What a load and a save of a file on disk may return.
-use Rattle.std.specs.Prelude.{◌≡◌, ◌==◌, ℕ, ◌≤◌, ◌%◌, bit_and, if◌then◌else◌, Bool, false, List, ◌∷◌, length, Option, None, Some, IsSome, IsTrue, Result, Ok, Err}
+use Rattle.std.specs.Prelude.{◌≡◌, ◌==◌, ℕ, ◌≤◌, ◌%◌, bit_and, if◌then◌else◌, Bool, true, false, List, ◌∷◌, length, Option, None, Some, IsSome, IsTrue, Result, Ok, Err}
+use Rattle.krb_files.specs.declared.aftermath.Aftermath.{Aftermath}
 use Rattle.krb_files.specs.declared.cause.Cause.{Cause}
 use Rattle.krb_files.specs.declared.files.LoadFault.{LoadFault}
 use Rattle.krb_files.specs.declared.files.LoadFault.TheVariants as load
@@ -11,8 +12,10 @@ use Rattle.krb_disk.specs.declared.fault.DiskFault.TheVariants as disk
 use Rattle.krb_disk.specs.declared.fault.ReadFault.{ReadFault}
 use Rattle.krb_disk.specs.declared.fault.ReadFault.TheVariants as read
 use Rattle.krb_disk.specs.declared.looks.Found.{Found}
+use Rattle.krb_disk.specs.declared.old.Way.{Way}
+use Rattle.krb_disk.specs.declared.old.Way.TheVariants.{Replace, InPlace}
 
--- what contracts see of the files on a disk: how many calls failed, the cause of the last failure, the names and bytes of the saves that made all their calls, the last first, the permission bits of the file loaded last, whether one is held, and whether only plain files are loaded
+-- what contracts see of the files on a disk: how many calls failed, the cause of the last failure, the names and bytes of the saves that made all their calls, the last first, the permission bits of the file loaded last, whether one is held, whether only plain files are loaded, whether files are saved in place, and what the last save left behind
 pub record Disk : Type 0 where
   pub failures : ℕ
   pub cause : Option Cause
@@ -20,10 +23,17 @@ pub record Disk : Type 0 where
   pub mode : Option ℕ
   pub is_held : Bool
   pub only_plain : Bool
+  pub in_place : Bool
+  pub aftermath : Option Aftermath
 
 -- no file is held any more
 abbrev pub left : Disk → Disk
 left disk = record disk { is_held = false }
+
+-- files are saved in place
+abbrev pub is_in_place : Way → Bool
+is_in_place InPlace = true
+is_in_place Replace = false
 
 -- the permission bits of a plain file
 abbrev pub permissions : Found → Option ℕ
@@ -36,10 +46,11 @@ pub record Fails (old new : Disk) : Type 0 where
   pub unsaved : new.saved ≡ old.saved
   pub held : new.is_held ≡ old.is_held
   pub plain : new.only_plain ≡ old.only_plain
+  pub in_place : new.in_place ≡ old.in_place
 
 -- a load that returns no bytes counts the failed call, if there was one, and changes nothing else
 abbrev pub CountsLoad : Disk → ReadFault → Disk → Type 0
-CountsLoad old (read.Disk (disk.Failed cause)) new = Fails old new × (new.mode ≡ old.mode) × (old.failures ≤ new.failures)
+CountsLoad old (read.Disk (disk.Failed cause)) new = Fails old new × (new.mode ≡ old.mode) × (old.failures ≤ new.failures) × (new.aftermath ≡ old.aftermath)
 CountsLoad old _ new = new ≡ old
 
 -- likewise for a save that was not made
@@ -50,11 +61,11 @@ CountsSave old disk.NoMemory new = new ≡ old
 -- a load from a disk returns at most `limit` bytes, of a plain file if only those are loaded; if it returns none, no mode is known; if it does not fail, nothing but the mode changes
 abbrev pub AnswersFromDisk : Disk → Disk → ℕ → Result (List ℕ) LoadFault → Type 0
 AnswersFromDisk old new limit (Ok bytes) = (length bytes ≤ limit) × (new ≡ record old { mode = new.mode }) × (IsTrue old.only_plain → IsSome new.mode)
-AnswersFromDisk old new limit (Err load.Failed) = Fails old new × (new.mode ≡ None)
+AnswersFromDisk old new limit (Err load.Failed) = Fails old new × (new.mode ≡ None) × (new.aftermath ≡ old.aftermath)
 AnswersFromDisk old new limit (Err fault) = new ≡ record old { mode = None }
 
 -- a save to a disk that returns Ok made all calls of one save of these bytes under that name, and any other those of none; the known mode stays
 abbrev pub SavesToDisk : Disk → List ℕ → List ℕ → Disk → Result (Unit {0}) SaveFault → Type 0
-SavesToDisk old name bytes new (Ok done) = new ≡ record old { saved = (name, bytes) ∷ old.saved }
+SavesToDisk old name bytes new (Ok done) = new ≡ record old { saved = (name, bytes) ∷ old.saved; aftermath = new.aftermath }
 SavesToDisk old name bytes new (Err save.Failed) = Fails old new × (new.mode ≡ old.mode)
-SavesToDisk old name bytes new (Err save.NoMemory) = new ≡ old
+SavesToDisk old name bytes new (Err save.NoMemory) = new ≡ record old { aftermath = new.aftermath }

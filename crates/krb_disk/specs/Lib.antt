@@ -1,10 +1,13 @@
 -- What the contracts of this crate say.
+pub mod Content
 pub mod Device
 pub mod Disk
 pub mod DiskFiles
 pub mod Faults
+pub mod InPlace
 pub mod Looks
 pub mod Mode
 pub mod NewFile
+pub mod PlaceStages
 pub mod Stages
 pub mod Target

@@ -6,19 +6,20 @@ ghost use Rattle.krb_disk.specs.NewFile.{IsFilled};
 ghost use Rattle.krb_disk.specs.Stages.{private_mode, IsDueMode, IsFound, stood, synced};
 ghost use Rattle.krb_disk.specs.declared.stage.Stage.TheVariants.{Made, Locked, Agreed, Held, Written, Examined, Permitted};
 
+mod in_place;
 mod log;
 mod old;
+mod old_file;
 mod stale_file;
 
 use crate::fault::DiskFault;
 use crate::lock::TakeLock;
 use crate::looks::device::Device;
-use crate::looks::mounts::mount_device;
 use crate::looks::same::is_same_file;
 use crate::looks::{Found, Looks};
 use crate::noted::Noted;
-use crate::number::Numbered;
 use crate::owner::{SetOwner, set_owner};
+use crate::place_stage::PlaceStage;
 use crate::stage::Stage;
 use krb_files::save;
 use log::Log;
@@ -43,10 +44,26 @@ pub struct NewFile<S, F> {
     path: S,
     file: Noted<F>,
     stage: Stage,
-    /// The device of its mount, if known.
-    mount: Option<Device>,
     /// What was written to it.
     written: Log,
+}
+
+/// The old file, open. Only these calls reach it.
+#[derive(Drop)]
+pub struct OldFile<F> {
+    file: F,
+    /// Why it cannot be saved in place, if that is known.
+    refused: Option<DiskFault>,
+    /// The device of its mount, if known.
+    mount: Option<Device>,
+}
+
+/// The old file while it is saved in place. Only these calls reach it.
+#[derive(Drop)]
+pub struct PlaceFile<F> {
+    file: F,
+    mount: Option<Device>,
+    stage: PlaceStage,
 }
 
 // Returns what the system reports of an open file.
@@ -96,7 +113,6 @@ impl<R: rt::Files + Alloc> Calls<'_, R> {
             path,
             file: Noted::new(file),
             stage: Stage::Made,
-            mount: None,
             written: Log::new(),
         })
     }
@@ -229,18 +245,5 @@ where
         requires group { group ≡ _old.now.group }
     {
         set_owner(&file.file.file, owner, group)
-    }
-}
-
-impl<R: rt::Files + Alloc> Calls<'_, R>
-where
-    R::File: Numbered,
-{
-    /// Finds the device of the mount that the new file, and so the old one, is on.
-    pub fn find_mount(&self, file: &mut NewFile<String<R::A>, R::File>) -> Result<(), DiskFault>
-        ensures { OnOk result (file.new ≡ record file.old { mount = file.new.mount }) }
-    {
-        file.mount = mount_device(&self.looks, file.file.file.number())?;
-        Ok(())
     }
 }

@@ -1,29 +1,31 @@
 //! Files on a disk, by name.
 
 ghost use Rattle.std.specs.Prelude.{◌≡◌, ◌≤◌, ◌<◌, true, false, [], ◌∷◌, None, is_some, IfOk, OnOk, OnErr, IsSome, IsTrue, vec_len};
-ghost use Rattle.krb_disk.specs.DiskFiles.{Disk, Fails, CountsLoad, CountsSave, AnswersFromDisk, SavesToDisk, left};
+ghost use Rattle.krb_disk.specs.DiskFiles.{Disk, Fails, CountsLoad, CountsSave, AnswersFromDisk, SavesToDisk, is_in_place, left};
 ghost use Rattle.krb_disk.specs.Faults.{load_fault, save_fault};
 ghost use Rattle.krb_disk.specs.Looks.{IsPlain};
 
 use crate::calls::Calls;
-use crate::fault::{DiskFault, ReadFault};
-use crate::held::Held;
-use crate::hold::Hold;
+use crate::fault::{DiskFault, ReadFault, Unsaved};
+use crate::held::{Held, save_anew};
 use crate::lock::TakeLock;
 use crate::looks::Found;
 use crate::number::Numbered;
+use crate::old::Way;
 use crate::owner::SetOwner;
 use crate::read::{read_file, read_plain};
-use krb_files::{Cause, Files, LoadFault, SaveFault};
+use crate::write_in_place::WriteInPlace;
+use krb_files::{Aftermath, Cause, Files, LoadFault, SaveFault};
 use std::alloc::Allocator;
 use std::marker::Model;
 use std::rt;
 
 /// The files on a disk. Contracts assume nothing of their contents; they see how many calls failed, the cause of the
-/// last failure, which saves made all their calls, the mode of the file loaded last, whether one is held, and whether
-/// only plain files are loaded. A load reads the whole file. A save writes a new file and renames it over the old one:
-/// whatever fails, the file is the old or the new one. A held file is saved only if it is as it was when it was held
-/// or, later, loaded.
+/// last failure, which saves made all their calls, what the last one left behind, the mode of the file loaded last,
+/// whether one is held, whether only plain files are loaded, and whether files are saved in place. A load reads the
+/// whole file. A save writes a new file and renames it over the old one, so that whatever fails, the file is the old or
+/// the new one; or it writes over the old one. A held file is saved only if it is as it was when it was held or, later,
+/// loaded.
 #[derive(Drop)]
 pub struct DiskFiles<'a, R: rt::Files + Alloc> {
     calls: Calls<'a, R>,
@@ -33,6 +35,9 @@ pub struct DiskFiles<'a, R: rt::Files + Alloc> {
     mode: Option<u32>,
     held: Option<Held<R>>,
     only_plain: bool,
+    way: Way,
+    /// What the last save left behind.
+    aftermath: Option<Aftermath>,
 }
 
 impl<'a, R: rt::Files + Alloc> Model for DiskFiles<'a, R> {
@@ -45,6 +50,8 @@ impl<'a, R: rt::Files + Alloc> Model for DiskFiles<'a, R> {
       mode = files.mode;
       is_held = is_some files.held;
       only_plain = files.only_plain;
+      in_place = is_in_place files.way;
+      aftermath = files.aftermath;
     } };
 
     // A counted failure has a cause.
@@ -54,7 +61,7 @@ impl<'a, R: rt::Files + Alloc> Model for DiskFiles<'a, R> {
 impl<'a, R: rt::Files + Alloc> DiskFiles<'a, R> {
     /// Returns the files that `rt` reaches, with no failed call yet.
     pub fn new(rt: &'a R) -> DiskFiles<'a, R>
-        ensures { result ≡ record { failures = 0; cause = None; saved = []; mode = None; is_held = false; only_plain = false } }
+        ensures { result ≡ record { failures = 0; cause = None; saved = []; mode = None; is_held = false; only_plain = false; in_place = false; aftermath = None } }
     {
         DiskFiles {
             calls: Calls::new(rt),
@@ -63,6 +70,8 @@ impl<'a, R: rt::Files + Alloc> DiskFiles<'a, R> {
             mode: None,
             held: None,
             only_plain: false,
+            way: Way::Replace,
+            aftermath: None,
         }
     }
 
@@ -74,12 +83,20 @@ impl<'a, R: rt::Files + Alloc> DiskFiles<'a, R> {
         self.only_plain = true;
     }
 
+    /// From now on files are saved in place: the file keeps all that is not its bytes, and a missing one is not made.
+    pub fn save_in_place(&mut self)
+        ensures { self.new ≡ record self.old { in_place = true } }
+    {
+        self.way = Way::InPlace;
+    }
+
     // Counts a failure, up to the greatest u64, and notes its cause.
     fn count_failure(&mut self, cause: Cause)
         ensures fails { Fails self.old self.new }
         ensures count { self.old.failures ≤ self.new.failures }
         ensures mode { self.new.mode ≡ self.old.mode }
         ensures held { self.new.is_held ≡ self.old.is_held }
+        ensures aftermath { self.new.aftermath ≡ self.old.aftermath }
     {
         self.failures = self.failures.saturating_add(1);
         self.cause = Some(cause);
@@ -88,7 +105,7 @@ impl<'a, R: rt::Files + Alloc> DiskFiles<'a, R> {
 
 impl<R: rt::Files + rt::Clock + Alloc> DiskFiles<'_, R>
 where
-    R::File: SetOwner + TakeLock + Numbered,
+    R::File: SetOwner + TakeLock + Numbered + WriteInPlace,
 {
     // Returns the error of a load that returns no bytes, and counts the failed call, if there was one.
     fn refuse_load(&mut self, fault: ReadFault) -> LoadFault
@@ -128,26 +145,26 @@ where
         }
         match &mut self.held {
             Some(held) => held.load(&self.calls, alloc, name, limit),
-            None => read_file(self.calls.looks(), alloc, name, limit, 0),
+            None => read_file(self.calls.looks(), alloc, name, limit),
         }
     }
 
-    fn save_held(&mut self, name: &str, bytes: &[u8]) -> Result<(), DiskFault>
+    // Saves a file, which is held before if it was not. Returns what that left behind.
+    fn save_held(&mut self, name: &str, bytes: &[u8]) -> Result<Option<Aftermath>, Unsaved>
         ensures ok { OnOk result (self.new
             ≡ record (left self.old) { saved = (name.now, bytes.now) ∷ self.old.saved }) }
         ensures err { OnErr result (self.new ≡ left self.old) }
     {
-        let hold = match self.held.take() {
-            Some(held) => held.into_hold(&self.calls, name)?,
-            None => Hold::take(&self.calls, name)?,
-        };
-        hold.save(&mut self.calls, bytes)
+        match self.held.take() {
+            Some(held) => held.save(&mut self.calls, name, bytes, self.way),
+            None => save_anew(&mut self.calls, name, bytes, self.way),
+        }
     }
 }
 
 impl<R: rt::Files + rt::Clock + Alloc> Files for DiskFiles<'_, R>
 where
-    R::File: SetOwner + TakeLock + Numbered,
+    R::File: SetOwner + TakeLock + Numbered + WriteInPlace,
 {
     ghost file = { λ _ _. None };
 
@@ -167,7 +184,7 @@ where
         ensures { self.new ≡ record self.old { is_held = true } }
     {
         self.release();
-        self.held = Some(Held::take(&self.calls, name));
+        self.held = Some(Held::take(&self.calls, name, self.way));
     }
 
     fn release(&mut self)
@@ -203,8 +220,14 @@ where
             return Err(SaveFault::Failed);
         }
         match self.save_held(name, bytes) {
-            Ok(()) => Ok(()),
-            Err(fault) => Err(self.refuse_save(fault)),
+            Ok(aftermath) => {
+                self.aftermath = aftermath;
+                Ok(())
+            }
+            Err(unsaved) => {
+                self.aftermath = unsaved.aftermath;
+                Err(self.refuse_save(unsaved.why))
+            }
         }
     }
 
@@ -220,5 +243,11 @@ where
         ensures { result ≡ self.now.cause }
     {
         self.cause
+    }
+
+    fn aftermath(&self) -> Option<Aftermath>
+        ensures { result ≡ self.now.aftermath }
+    {
+        self.aftermath
     }
 }

@@ -5,7 +5,7 @@ ghost use Rattle.krb_disk.specs.Faults.{load_fault, save_fault};
 ghost use Rattle.krb_disk.specs.declared.fault.DiskFault.TheVariants.{NoMemory};
 ghost use Rattle.krb_disk.specs.declared.fault.ReadFault.TheVariants.{Disk};
 
-use krb_files::{Cause, LoadFault, SaveFault};
+use krb_files::{Aftermath, Cause, LoadFault, SaveFault};
 use std::alloc::AllocError;
 use std::io::{self, ErrorKind};
 
@@ -22,6 +22,22 @@ pub enum ReadFault {
     Missing,
     TooLarge,
     Disk(DiskFault),
+}
+
+/// Why a file was not saved, and what that left behind.
+#[derive(Clone, Copy)]
+pub struct Unsaved {
+    pub why: DiskFault,
+    pub aftermath: Option<Aftermath>,
+}
+
+impl From<DiskFault> for Unsaved {
+    fn from(why: DiskFault) -> Unsaved {
+        Unsaved {
+            why,
+            aftermath: None,
+        }
+    }
 }
 
 // An error of the system, even ENOMEM, has a number and is `Failed`. An `OutOfMemory` without a number means that an

@@ -14,13 +14,32 @@ use std::rt;
 /// How many bytes are compared at once.
 const PIECE: usize = 16_384;
 
-/// Reads a file of at most `limit` bytes, with spare capacity for `room` more as far as `limit` allows.
+/// Reads what is left of an open file, at most `limit` bytes, with capacity for `expected` as far as `limit` allows.
+pub fn read_open<A: Allocator, F: Read + Drop>(
+    alloc: A,
+    file: F,
+    limit: u32,
+    expected: u64,
+) -> Result<Vec<u8, A>, ReadFault>
+    ensures { IfOk result (λ bytes. vec_len bytes ≤ limit) }
+{
+    let mut file = WatchedReader::new(Noted::new(file));
+    match load(alloc, &mut file, limit, expected) {
+        Ok(bytes) => Ok(bytes),
+        Err(LoadFault::TooLarge) => Err(ReadFault::TooLarge),
+        Err(LoadFault::NoMemory) => Err(ReadFault::Disk(DiskFault::NoMemory)),
+        Err(LoadFault::Missing | LoadFault::Failed) => {
+            Err(ReadFault::from(file.into_reader().error()))
+        }
+    }
+}
+
+/// Reads a file of at most `limit` bytes.
 pub fn read_file<R: rt::Files, A: Allocator>(
     looks: &Looks<'_, R>,
     alloc: A,
     path: &str,
     limit: u32,
-    room: u64,
 ) -> Result<(Found, Vec<u8, A>), ReadFault>
     ensures { IfOk result (λ read. vec_len read.1 ≤ limit) }
 {
@@ -28,15 +47,8 @@ pub fn read_file<R: rt::Files, A: Allocator>(
         return Err(ReadFault::Missing);
     };
     let found = file.describe()?;
-    let mut file = WatchedReader::new(Noted::new(file));
-    match load(alloc, &mut file, limit, found.size.saturating_add(room)) {
-        Ok(bytes) => Ok((found, bytes)),
-        Err(LoadFault::TooLarge) => Err(ReadFault::TooLarge),
-        Err(LoadFault::NoMemory) => Err(ReadFault::Disk(DiskFault::NoMemory)),
-        Err(LoadFault::Missing | LoadFault::Failed) => {
-            Err(ReadFault::from(file.into_reader().error()))
-        }
-    }
+    let bytes = read_open(alloc, file, limit, found.size)?;
+    Ok((found, bytes))
 }
 
 // Returns whether `path` leads to a plain file, links followed.
@@ -60,7 +72,7 @@ pub fn read_plain<R: rt::Files, A: Allocator>(
     ensures plain { IfOk result (λ read. IsPlain read.0) }
 {
     if is_plain(looks, path)? {
-        let (found, bytes) = read_file(looks, alloc, path, limit, 0)?;
+        let (found, bytes) = read_file(looks, alloc, path, limit)?;
         if found.is_file() {
             return Ok((found, bytes));
         }

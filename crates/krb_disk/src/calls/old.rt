@@ -1,6 +1,6 @@
 //! The calls on the old file, and the rename that completes a save.
 
-ghost use Rattle.std.specs.Prelude.{◌≡◌, ◌≤◌, ◌∷◌, IfOk, OnOk, OnErr, IsTrue, string_bytes, vec_len};
+ghost use Rattle.std.specs.Prelude.{◌≡◌, ◌∷◌, IfOk, OnOk, OnErr, IsTrue, string_bytes};
 ghost use Rattle.std.specs.Path.{path_buf_bytes};
 ghost use Rattle.krb_disk.specs.Looks.{IsPlainOrNone};
 ghost use Rattle.krb_disk.specs.NewFile.{IsFilled};
@@ -11,22 +11,17 @@ ghost use Rattle.krb_disk.specs.declared.stage.Stage.TheVariants.{Ours, Same};
 use super::log::Log;
 use super::{Calls, NewFile};
 use crate::deadline::Deadline;
-use crate::fault::{DiskFault, ReadFault};
+use crate::fault::DiskFault;
 use crate::looks::Found;
-use crate::looks::device::Mounted;
+use crate::looks::device::{Device, Mounted};
 use crate::looks::locks::{LockKind, is_locked};
-use crate::read::read_file;
 use crate::snapshot::Snapshot;
 use crate::stage::Stage;
 use crate::target::Target;
 use krb_files::Cause;
-use std::alloc::Allocator;
 use std::fs::{self, OpenFile};
 use std::io::{self, ErrorKind};
 use std::rt;
-
-/// How many bytes may be added to a held file's image before it is reallocated.
-const ROOM_TO_GROW: u64 = 131_072;
 
 impl<R: rt::Files> Calls<'_, R> {
     /// Returns what is at the path of the old file. A symbolic link is not followed.
@@ -41,18 +36,6 @@ impl<R: rt::Files> Calls<'_, R> {
 }
 
 impl<R: rt::Files + Alloc> Calls<'_, R> {
-    /// Loads the old file, with spare capacity.
-    pub fn load<A: Allocator>(
-        &self,
-        alloc: A,
-        path: &str,
-        limit: u32,
-    ) -> Result<(Found, Vec<u8, A>), ReadFault>
-        ensures { IfOk result (λ read. vec_len read.1 ≤ limit) }
-    {
-        read_file(&self.looks, alloc, path, limit, ROOM_TO_GROW)
-    }
-
     /// Returns whether the old file is still as it was seen.
     pub fn compare(
         &self,
@@ -101,27 +84,29 @@ impl<R: rt::Files + Alloc> Calls<'_, R> {
 }
 
 impl<R: rt::Files + rt::Clock + Alloc> Calls<'_, R> {
-    /// Returns whether no program has or awaits a record lock to write on `file`, which is beside the new file.
+    /// Returns whether no program has or awaits a lock of that kind on a file of that mount.
     pub fn is_quiet(
         &self,
-        beside: &NewFile<String<R::A>, R::File>,
         file: &Found,
+        mount: Option<Device>,
+        kind: LockKind,
         deadline: &Deadline,
     ) -> Result<bool, DiskFault> {
-        let file = Mounted::new(file, beside.mount);
-        Ok(!is_locked(&self.looks, &file, LockKind::Record, deadline)?)
+        let file = Mounted::new(file, mount);
+        Ok(!is_locked(&self.looks, &file, kind, deadline)?)
     }
 
     /// Returns whether no program has or awaits a record lock to write on the old file that was compared.
     pub fn watch(
         &self,
         file: &mut NewFile<String<R::A>, R::File>,
+        mount: Option<Device>,
         deadline: &Deadline,
     ) -> Result<bool, DiskFault>
         ensures { IfOk result (λ is. file.new ≡ record file.old { stage = watched is file.old.stage }) }
     {
         let is_quiet = match file.stage {
-            Stage::Same(Some(old)) => self.is_quiet(file, &old, deadline)?,
+            Stage::Same(Some(old)) => self.is_quiet(&old, mount, LockKind::Record, deadline)?,
             _ => true,
         };
         file.stage = file.stage.watched(is_quiet);

@@ -23,21 +23,27 @@ const PIECE: usize = 4096;
 /// up to 31 in 2,000 readings missed it, so five in a row do about once in 10^9.
 const READINGS: u32 = 5;
 
-/// The two kinds of locks. They do not conflict with each other.
+/// The kinds of locks. Those of a whole file and of records do not conflict with each other.
 #[derive(Clone, Copy)]
 pub enum LockKind {
     /// `flock`: ours, on a new file.
     WholeFile,
-    /// `fcntl` record locks: MIT's, on a file that its programs change.
+    /// `fcntl` record locks to write: MIT's, on a file that its programs change.
     Record,
+    /// Also those to read.
+    AnyRecord,
 }
 
 impl LockKind {
     fn is_called(self, word: &str) -> bool {
         match self {
             LockKind::WholeFile => word == "FLOCK",
-            LockKind::Record => word == "POSIX" || word == "OFDLCK",
+            LockKind::Record | LockKind::AnyRecord => word == "POSIX" || word == "OFDLCK",
         }
+    }
+
+    fn is_for(self, word: &str) -> bool {
+        word == "WRITE" || word == "READ" && matches!(self, LockKind::AnyRecord)
     }
 }
 
@@ -49,11 +55,11 @@ fn is_place(word: &str, file: &Mounted) -> bool {
     }
 }
 
-// Returns whether a line is a write lock of that kind on that file, taken or awaited.
+// Returns whether a line is a lock of that kind on that file, taken or awaited.
 fn is_lock(line: &str, kind: LockKind, file: &Mounted) -> bool {
     let mut words = line.split_ascii_whitespace();
     words.any(|word| kind.is_called(word))
-        && words.any(|word| word == "WRITE")
+        && words.any(|word| kind.is_for(word))
         && words.any(|word| is_place(word, file))
 }
 
@@ -91,7 +97,7 @@ fn read_list<R: rt::Files + rt::Clock + Alloc>(
     Ok(false)
 }
 
-/// Returns whether a program has or awaits a lock of that kind to write on the file, as far as the system reports.
+/// Returns whether a program has or awaits a lock of that kind on the file, as far as the system reports.
 /// If that is not known by the deadline, returns true.
 pub fn is_locked<R: rt::Files + rt::Clock + Alloc>(
     looks: &Looks<'_, R>,

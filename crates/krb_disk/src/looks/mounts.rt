@@ -19,7 +19,7 @@ fn read_text<R: rt::Files + Alloc>(
     looks: &Looks<'_, R>,
     path: &str,
 ) -> Result<Option<Vec<u8, R::A>>, DiskFault> {
-    match read_file(looks, looks.alloc(), path, USUAL_LIMIT, 0) {
+    match read_file(looks, looks.alloc(), path, USUAL_LIMIT) {
         Ok((_, text)) => Ok(Some(text)),
         Err(ReadFault::Disk(DiskFault::NoMemory)) => Err(DiskFault::NoMemory),
         Err(_) => Ok(None),

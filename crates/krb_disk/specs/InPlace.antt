@@ -1,0 +1,135 @@
+-- A model of a file that is saved in place: what the calls of a save do to it, also where they fail, and what a crash leaves.
+use Rattle.std.specs.Prelude.{◌≡◌, ◌⊎◌, ℕ, ◌<◌, ◌≤◌, Bool, true, false, List, [], ◌∷◌, length, slice_get, Option}
+use Rattle.krb_disk.specs.Content.{Content, Has, Writes, Cuts, IsPatch}
+use Rattle.krb_disk.specs.PlaceStages.{torn_to}
+use Rattle.krb_disk.specs.declared.place_stage.PlaceStage.{PlaceStage}
+use Rattle.krb_disk.specs.declared.place_stage.PlaceStage.TheVariants.{Untouched, Same, Quiet, Extended, Lengthened, Overwritten, Cut, Saved, Whole, Mixed, Torn, Trimmed, Back, Lost}
+
+-- a save in place: the old bytes, the new ones, and the places from which and up to which old ones are written over
+pub record PlaceSave : Type 0 where
+  pub old : List ℕ
+  pub new : List ℕ
+  pub first : ℕ
+  pub last : ℕ
+
+-- the calls on the old file, named as the methods of `Calls`
+pub data PlaceCall : Type 0 where
+  Watch : PlaceCall
+  Extend : PlaceCall
+  Sync : PlaceCall
+  Overwrite : PlaceCall
+  Shorten : PlaceCall
+  Finish : PlaceCall
+  Restore : PlaceCall
+  CutBack : PlaceCall
+
+-- what happens to the file: it is compared, and is as it was loaded; a call does what it is to do, or fails; or another program writes to it
+pub data Event : Type 0 where
+  Compare : Event
+  Do : PlaceCall → Event
+  Fail : PlaceCall → Event
+  Intrude : Event
+
+-- a moment: the stage of the file, its bytes, those that it had since it was synced last, and whether this program alone wrote to it since the comparison
+pub record PlaceMoment : Type 0 where
+  pub stage : PlaceStage
+  pub bytes : Content
+  pub earlier : List Content
+  pub alone : Bool
+
+-- the stage at which a call is due, and those after it: if it does what it is to do, and if it fails
+abbrev pub Turns : PlaceCall → PlaceStage → PlaceStage → PlaceStage → Type 0
+Turns Watch s t u = (s ≡ Same) × (t ≡ Quiet) × (u ≡ Untouched)
+Turns Extend s t u = (s ≡ Quiet) × (t ≡ Extended) × (u ≡ Whole)
+Turns Sync Extended t u = (t ≡ Lengthened) × (u ≡ Whole)
+Turns Sync Trimmed t u = (t ≡ Back) × (u ≡ Lost)
+Turns Overwrite s t u = (s ≡ Lengthened) × (t ≡ Overwritten) × (u ≡ Mixed)
+Turns Shorten s t u = (s ≡ Overwritten) × (t ≡ Cut) × (u ≡ Torn)
+Turns Finish s t u = (s ≡ Cut) × (t ≡ Saved) × (u ≡ Torn)
+Turns Restore Mixed t u = (t ≡ Whole) × (u ≡ Lost)
+Turns Restore Torn t u = (t ≡ Whole) × (u ≡ Lost)
+Turns CutBack s t u = (s ≡ Whole) × (t ≡ Trimmed) × (u ≡ Lost)
+Turns call s t u = ⊥
+
+-- what a call is to do at a place
+abbrev pub Makes : PlaceSave → PlaceStage → PlaceCall → ℕ → Option ℕ → Option ℕ → Type 0
+Makes save stage Extend = Writes save.new (length save.old) (length save.new)
+Makes save stage Overwrite = Writes save.new save.first save.last
+Makes save stage Shorten = Cuts (length save.new)
+Makes save stage Restore = Writes save.old save.first (torn_to (length save.old) save.last stage)
+Makes save stage CutBack = Cuts (length save.old)
+Makes save stage call = λ i before after. after ≡ before
+
+-- the earlier bytes since the last sync, after a call
+abbrev pub since : PlaceCall → Content → List Content → List Content
+since Sync bytes earlier = []
+since Finish bytes earlier = []
+since call bytes earlier = bytes ∷ earlier
+
+-- the file is compared, and has the old bytes
+pub record Compares (save : PlaceSave) (m n : PlaceMoment) : Type 0 where
+  pub due : m.stage ≡ Untouched
+  pub has : Has save.old m.bytes
+  pub now : n ≡ record m { stage = Same; alone = true }
+
+-- a call does what it is to do at each place
+pub record Works (save : PlaceSave) (call : PlaceCall) (m n : PlaceMoment) : Type 0 where
+  pub failed : PlaceStage
+  pub turns : Turns call m.stage n.stage failed
+  pub makes : (i : ℕ) → Makes save m.stage call i (m.bytes i) (n.bytes i)
+  pub earlier : n.earlier ≡ since call m.bytes m.earlier
+  pub alone : n.alone ≡ m.alone
+
+-- a call fails, and did at each place what it was to do, or nothing
+pub record Fails (save : PlaceSave) (call : PlaceCall) (m n : PlaceMoment) : Type 0 where
+  pub done : PlaceStage
+  pub turns : Turns call m.stage done n.stage
+  pub makes : (i : ℕ) → (n.bytes i ≡ m.bytes i) ⊎ Makes save m.stage call i (m.bytes i) (n.bytes i)
+  pub earlier : n.earlier ≡ m.bytes ∷ m.earlier
+  pub alone : n.alone ≡ m.alone
+
+-- another program writes what it likes
+pub record Intrudes (m n : PlaceMoment) : Type 0 where
+  pub now : n ≡ record m { bytes = n.bytes; earlier = n.earlier; alone = false }
+
+-- what an event does
+abbrev pub Does : PlaceSave → Event → PlaceMoment → PlaceMoment → Type 0
+Does save Compare m n = Compares save m n
+Does save (Do call) m n = Works save call m n
+Does save (Fail call) m n = Fails save call m n
+Does save Intrude m n = Intrudes m n
+
+-- these events led to this moment, the last one first
+abbrev pub Leads : PlaceSave → List Event → PlaceMoment → Type 0
+Leads save [] now = (now.stage ≡ Untouched) × (now.alone ≡ false)
+Leads save (event ∷ events) now = (before : PlaceMoment) × (Leads save events before × Does save event before now)
+
+-- one of these contents has that byte there
+abbrev pub OneHas : List Content → ℕ → Option ℕ → Type 0
+OneHas [] i byte = ⊥
+OneHas (c ∷ cs) i byte = (byte ≡ c i) ⊎ OneHas cs i byte
+
+-- what a crash may leave: at each place a byte that the file had there since it was synced last
+abbrev pub IsLeft : PlaceMoment → Content → Type 0
+IsLeft m left = (i : ℕ) → OneHas (m.bytes ∷ m.earlier) i (left i)
+
+-- each old byte is there
+abbrev pub HasOld : PlaceSave → Content → Type 0
+HasOld save content = (i : ℕ) → i < length save.old → content i ≡ slice_get save.old i
+
+-- past the old end the file is as the new one
+abbrev pub HasEnd : PlaceSave → Content → Type 0
+HasEnd save content = (i : ℕ) → length save.old ≤ i → content i ≡ slice_get save.new i
+
+-- each old byte is there, or the new end is, whatever a crash leaves; at the end the file has the new bytes, or after a failure the old ones
+pub record IsSafe (save : PlaceSave) (m : PlaceMoment) (left : Content) : Type 0 where
+  pub ordered : HasOld save m.bytes ⊎ HasEnd save left
+  pub lengthened : m.stage ≡ Lengthened → HasOld save left
+  pub saved : m.stage ≡ Saved → Has save.new left
+  pub back : m.stage ≡ Back → Has save.old left
+
+-- this holds after any events, and a crash, if no other program writes after the comparison
+abbrev pub EachMomentInPlaceIsSafe : Type 0
+EachMomentInPlaceIsSafe = (save : PlaceSave) (events : List Event) (now : PlaceMoment) (left : Content)
+    → IsPatch save.old save.new save.first save.last
+    → Leads save events now → now.alone ≡ true → IsLeft now left → IsSafe save now left

@@ -1,0 +1,151 @@
+//! The old file, open: its lock, and what is read of it.
+
+ghost use Rattle.std.specs.Prelude.{◌≡◌, ◌≤◌, IfOk, vec_len};
+ghost use Rattle.krb_disk.specs.declared.place_stage.PlaceStage.TheVariants.{Untouched};
+
+use super::{Calls, OldFile, PlaceFile, describe, is_at_path};
+use crate::fault::{DiskFault, ReadFault};
+use crate::lock::TakeLock;
+use crate::looks::Found;
+use crate::looks::device::Device;
+use crate::looks::mounts::mount_device;
+use crate::number::Numbered;
+use crate::place_stage::PlaceStage;
+use crate::read::{has_bytes, read_open};
+use krb_files::Cause;
+use std::alloc::Allocator;
+use std::fs::{self, OpenOptions};
+use std::io::{self, ErrorKind, Seek};
+use std::rt;
+
+/// How many bytes may be added to a held file's image before it is reallocated.
+const ROOM_TO_GROW: u64 = 131_072;
+
+impl<F> OldFile<F> {
+    fn new(file: F, refused: Option<DiskFault>) -> OldFile<F> {
+        OldFile {
+            file,
+            refused,
+            mount: None,
+        }
+    }
+
+    /// Returns the device of its mount, if known.
+    pub fn mount(&self) -> Option<Device> {
+        self.mount
+    }
+}
+
+impl<F: Drop> OldFile<F> {
+    /// Returns the file to be saved in place, or why it cannot be.
+    pub fn to_be_written(self) -> Result<PlaceFile<F>, DiskFault>
+        ensures { IfOk result (λ file. file.stage ≡ Untouched) }
+    {
+        match self.refused {
+            Some(fault) => Err(fault),
+            None => Ok(PlaceFile {
+                file: self.file,
+                mount: self.mount,
+                stage: PlaceStage::Untouched,
+            }),
+        }
+    }
+}
+
+fn open_to_write<R: rt::Files>(rt: &R, path: &str) -> io::Result<R::File> {
+    OpenOptions::new().read(true).write(true).open(rt, path)
+}
+
+impl<R: rt::Files> Calls<'_, R> {
+    /// Opens the old file, and so that it can be saved in place, if it is to be and that is allowed.
+    pub fn open_old(&self, path: &str, in_place: bool) -> io::Result<OldFile<R::File>> {
+        if !in_place {
+            return Ok(OldFile::new(fs::open(self.rt, path)?, None));
+        }
+        match open_to_write(self.rt, path) {
+            Ok(file) => Ok(OldFile::new(file, None)),
+            Err(error) => {
+                let file = fs::open(self.rt, path)?;
+                Ok(OldFile::new(file, Some(DiskFault::from(error))))
+            }
+        }
+    }
+
+    /// Returns what the system reports of the old file, if it is still at `path`.
+    pub fn find_old(&self, old: &OldFile<R::File>, path: &str) -> io::Result<Option<Found>> {
+        if is_at_path(&self.looks, path, &old.file)? {
+            Ok(Some(describe(&old.file)?))
+        } else {
+            Ok(None)
+        }
+    }
+
+    /// Loads the old file, with spare capacity.
+    pub fn load<A: Allocator>(
+        &self,
+        alloc: A,
+        old: &mut OldFile<R::File>,
+        limit: u32,
+    ) -> Result<(Found, Vec<u8, A>), ReadFault>
+        ensures { IfOk result (λ read. vec_len read.1 ≤ limit) }
+    {
+        old.file.rewind()?;
+        let found = describe(&old.file)?;
+        let bytes = read_open(
+            alloc,
+            &mut old.file,
+            limit,
+            found.size.saturating_add(ROOM_TO_GROW),
+        )?;
+        Ok((found, bytes))
+    }
+
+    /// Returns whether the old file, which has no name any more, now has other bytes than these.
+    pub fn has_changed(&self, old: &mut OldFile<R::File>, bytes: &[u8]) -> bool {
+        if old.file.rewind().is_err() {
+            return false;
+        }
+        matches!(has_bytes(&mut old.file, bytes), Ok(false))
+    }
+}
+
+impl<R: rt::Files> Calls<'_, R>
+where
+    R::File: TakeLock,
+{
+    // Locks the old file by a handle that writes, for file systems that lock no other.
+    fn lock_to_write(&self, path: &str) -> io::Result<Option<R::File>> {
+        let file = open_to_write(self.rt, path)?;
+        Ok(if file.take_lock()? { Some(file) } else { None })
+    }
+
+    /// Locks the old file and returns whether it was free. Where it cannot be locked it counts as free, and cannot be
+    /// saved in place.
+    pub fn lock_old(&self, old: &mut OldFile<R::File>, path: &str) -> bool {
+        if let Ok(is_free) = old.file.take_lock() {
+            return is_free;
+        }
+        match self.lock_to_write(path) {
+            Ok(Some(file)) => {
+                old.file = file;
+                true
+            }
+            Ok(None) => false,
+            Err(_) => {
+                old.refused = Some(old.refused.unwrap_or(DiskFault::Failed(Cause::NoLock)));
+                true
+            }
+        }
+    }
+}
+
+impl<R: rt::Files + Alloc> Calls<'_, R>
+where
+    R::File: Numbered,
+{
+    /// Finds the device of the mount that the old file is on.
+    pub fn find_mount(&self, old: &mut OldFile<R::File>) -> Result<(), DiskFault> {
+        old.mount = mount_device(&self.looks, old.file.number())?;
+        Ok(())
+    }
+}

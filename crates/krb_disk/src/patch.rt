@@ -1,0 +1,59 @@
+//! The parts of a file that a save in place writes.
+
+ghost use Rattle.std.specs.Prelude.{◌≡◌, ℕ, ◌≤◌, ◌<◌, length, slice_get};
+ghost use Rattle.krb_disk.specs.Content.{IsPatch};
+
+/// The bytes of a file before and after a save, and the places from which and up to which new ones are written over old ones:
+/// from the first that differs to the last one that does, among those that both have.
+#[derive(Clone, Copy)]
+pub struct Patch<'a> {
+    pub before: &'a [u8],
+    pub after: &'a [u8],
+    pub first: usize,
+    pub last: usize,
+}
+
+// Returns how many of the first `most` bytes are alike before the first that differs.
+fn same_front(old: &[u8], new: &[u8], most: usize) -> usize
+    requires { (most ≤ length old.now) × (most ≤ length new.now) }
+    ensures within { result ≤ most }
+    ensures same { (i : ℕ) → i < result → slice_get old.now i ≡ slice_get new.now i }
+{
+    let mut at = 0;
+    while at < most && old[at] == new[at] {
+        at += 1;
+    }
+    at
+}
+
+// Returns the place after the last of the first `most` bytes that differs, or `first`.
+fn after_last(old: &[u8], new: &[u8], first: usize, most: usize) -> usize
+    requires { (first ≤ most) × (most ≤ length old.now) × (most ≤ length new.now) }
+    ensures within { (first ≤ result) × (result ≤ most) }
+    ensures same { (i : ℕ) → result ≤ i → i < most → slice_get old.now i ≡ slice_get new.now i }
+{
+    let mut at = most;
+    while first < at && old[at - 1] == new[at - 1] {
+        at -= 1;
+    }
+    at
+}
+
+impl<'a> Patch<'a> {
+    /// Returns the patch that makes the bytes after of those before.
+    pub fn between(before: &'a [u8], after: &'a [u8]) -> Patch<'a>
+        ensures before { result.before.now ≡ before.now }
+        ensures after { result.after.now ≡ after.now }
+        ensures patch { IsPatch before.now after.now result.first result.last }
+    {
+        let most = before.len().min(after.len());
+        let first = same_front(before, after, most);
+        let last = after_last(before, after, first, most);
+        Patch {
+            before,
+            after,
+            first,
+            last,
+        }
+    }
+}
