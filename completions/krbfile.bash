@@ -15,11 +15,13 @@ _krbfile() {
         '') options="$commands --explain --version -V" ;;
         help) options=$commands ;;
         klist) options='-c -f -C -k -t -K -e -s --for --v1-big --json' ;;
-        ktfind | ktedit | ktutil) options='--v1-big' ;;
+        ktfind) options='--v1-big' ;;
+        ktedit | ktutil) options='--v1-big --in-place' ;;
         ktcheck) options='-q --allow --v1-big' ;;
-        ktremove) options='-n -p -k --age -e --v1-big' ;;
-        ktcopy) options='-n --replace -p -k -e --v1-big' ;;
-        ccremove) options='-n -p --expired' ;;
+        ktremove) options='-n -p -k --age -e --v1-big --in-place' ;;
+        ktcopy) options='-n --replace -p -k -e --v1-big --in-place' ;;
+        ccedit) options='--in-place' ;;
+        ccremove) options='-n -p --expired --in-place' ;;
     esac
     COMPREPLY=()
     if [[ $word == -* || $command == '' || $command == help ]]; then

@@ -56,6 +56,7 @@ complete -c krbfile -n '__fish_seen_subcommand_from ccremove' -s p -x -d 'Ticket
 complete -c krbfile -n '__fish_seen_subcommand_from ccremove' -l expired -d 'Tickets that have expired'
 
 complete -c krbfile -n '__fish_seen_subcommand_from klist ktfind ktedit ktremove ktcopy ktcheck ktutil' -l v1-big -d 'Version 1 files are big-endian'
+complete -c krbfile -n '__fish_seen_subcommand_from ktedit ktremove ktcopy ktutil ccedit ccremove' -l in-place -d 'Write the file where it stands, and make no new one'
 complete -c krbfile -n '__fish_seen_subcommand_from klist ktfind ktedit ktremove ktcopy ktcheck ccedit ccremove' -F
 
 complete -c krbfile -n __krbfile_wants_etype -a 'des3-cbc-sha1 aes128-cts-hmac-sha1-96

@@ -93,7 +93,8 @@ def check_definitions(report: Report) -> None:
     files = {"no such file", "file too large", "cannot read", "cannot write", "out of memory"}
     in_library = {*phrases.LIBRARY_CODES.values(), phrases.TOO_LONG, phrases.LIBRARY_IN_THE_WAY, "error "}
     listed = {phrase for wanted in LISTS.values() for _, phrase in wanted}
-    others = {*phrases.NAMES.values(), *phrases.CAUSES.values()} - {"NAME.krbfile is in the way", "error NUMBER"}
+    causes = {*phrases.CAUSES.values()} - {"NAME.krbfile is in the way", "error NUMBER"}
+    others = {*phrases.NAMES.values(), *causes, *phrases.AFTERMATHS.values()}
     report.check("the phrases of the definitions", sorted(defined ^ (files | in_library | listed | others)))
 
 

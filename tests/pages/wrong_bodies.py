@@ -110,9 +110,11 @@ WRONG_BODIES = {
         "same-by-name": "an entry with another key counts as being there",
     },
     "krb_driver": {
+        "a-failed-run-hides-what-its-save-left": "what a save left behind is not told of a run that failed",
         "a-letter-is-a-type": "one letter before a colon is a type",
         "holds-another-type": "a name of a type that is not read is held",
         "holds-no-file": "a command does not hold the file that it may change",
+        "makes-the-file-to-be-saved-in-place": "an empty keytab takes the place of a missing file to be saved in place",
         "saves-the-text": "what is printed is saved in the file's place",
     },
     "krb_readers": {
@@ -135,6 +137,7 @@ WRONG_BODIES = {
         "tells-of-removed-entries": "an entry that was removed again counts as added",
     },
     "krb_ktutil": {
+        "a-list-tells-what-a-save-left": "a line that saves nothing tells what an earlier save left behind",
         "saves-part": "write_kt saves what it added before a refusal",
         "writes-under-a-type": "write_kt writes a file whose name begins with a type",
     },

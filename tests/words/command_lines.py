@@ -17,6 +17,7 @@ REFUSED: list[str | Line] = [
     "ktfind", "ktfind k", "ktfind k 0", "ktfind k 0 0", "ktfind 0 0 b@R", "ktfind --v1-big k 0 0",
     "ktfind k 0 0 b@R b@R", "ktfind -k k 0 0 b@R", "ktfind -x k 0 0 b@R", "ktfind --v1-big=yes k 0 0 b@R",
     "ktfind k 0 0 -b@R",
+    "ktfind --in-place k 0 0 b@R", "klist --in-place -k k", "ktcheck --in-place k",
     "ktedit", "ktedit k k", "ktedit -k k", "ktedit --v1-big", "ktedit --v1-big=yes k",
     ("",), ("klist", "-k", "k", ""), ("ktfind", "k", "0", "0", "b@R", ""),
     ("klist", "-k", b"\xff"), ("klist", "-k", "k", b"\xff"), (b"\xff", "-k", "k"), ("klist", b"-k\xff", "k"),
@@ -56,11 +57,13 @@ FINDING = ["ktfind k 0 0 b@R", "ktfind k 3 17 b@R", "ktfind k 0000000003 0000000
            "ktfind -- k 0 0 b@R", "ktfind k 0 0 -- b@R"]
 
 # Lines that read a script, which is `start`.
-EDITING = ["ktedit k", "ktedit --v1-big k", "ktedit k --v1-big", "ktedit --v1-big k --v1-big", "ktedit -- k"]
+EDITING = ["ktedit k", "ktedit --v1-big k", "ktedit k --v1-big", "ktedit --v1-big k --v1-big", "ktedit -- k",
+           "ktedit --in-place k", "ktedit k --in-place --v1-big --in-place"]
 
 # Lines of ktutil that read commands, and lines that are refused.
-TALKING = ["ktutil", "ktutil --v1-big", "ktutil --v1-big --v1-big", "ktutil --"]
-NO_TALKS: list[str | Line] = ["ktutil k", "ktutil -k", "ktutil --v1-big=yes", ("ktutil", ""), ("ktutil", b"\xff")]
+TALKING = ["ktutil", "ktutil --v1-big", "ktutil --v1-big --v1-big", "ktutil --", "ktutil --in-place"]
+NO_TALKS: list[str | Line] = ["ktutil k", "ktutil -k", "ktutil --v1-big=yes", "ktutil --in-place=yes", ("ktutil", ""),
+                              ("ktutil", b"\xff")]
 
 # Lines that print help, and words that it has.
 OF_KLIST = (b"krbfile klist", b"-k", b"-t", b"-K", b"-e", b"--v1-big", b"[FILE]", b"KRB5CCNAME", b"KRB5_KTNAME",
@@ -72,7 +75,8 @@ HELP = [
      OF_KLIST),
     (["help ktfind", "ktfind --help", "ktfind -h", "ktfind k --help", "ktfind k 0 0 b@R --help"],
      (b"krbfile ktfind", b"--v1-big", b"FILE", b"KVNO", b"ETYPE", b"NAME", b"--help")),
-    (["help ktedit", "ktedit --help", "ktedit k -h"], (b"krbfile ktedit", b"--v1-big", b"FILE", b"--help")),
+    (["help ktedit", "ktedit --help", "ktedit k -h"],
+     (b"krbfile ktedit", b"--v1-big", b"--in-place", b"FILE", b"--help")),
     (["ktremove --help"],
      (b"krbfile ktremove", b"-n", b"-p <NAME>", b"-k <KVNO>", b"-e <ETYPE>", b"--v1-big", b"FILE")),
     (["ktcheck -h", "ktcheck k k --help", "ktcheck --allow weak -h"],

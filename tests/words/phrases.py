@@ -75,6 +75,7 @@ NAMES = {1: "no realm", 2: "a backslash at the end", 3: "a second @", 4: "a / in
 CAUSES = {
     "EACCES": "permission denied",
     "ENOENT": "no such directory",
+    "no file": "no such file",
     "ENOTDIR": "not a directory",
     "EISDIR": "is a directory",
     "no plain file": "not a plain file",
@@ -101,6 +102,13 @@ CAUSES = {
 
 # The library's phrase for what is in the way, as it has no name.
 LIBRARY_IN_THE_WAY = "the name of its new file is taken"
+
+# What a save left behind.
+AFTERMATHS = {
+    "restored": "the old bytes are back",
+    "damaged": "the old bytes could not be written back; the file is damaged",
+    "lost change": "a change of another program was lost",
+}
 
 # Findings of ktcheck, in the order in which they are explained.
 FINDINGS = {

@@ -73,21 +73,21 @@ abbrev pub AsksKtcheck : Matched → Action → Type 0
 AsksKtcheck words (Ktcheck options names) = (options ≡ check_options words) × AreNamed (words.values (codes "FILE")) names.items
 AsksKtcheck words action = ⊥
 
--- a file is the keytab, or the cache, that the word of FILE names
-abbrev pub IsFile : FileKind → Matched → FileName → Type 0
-IsFile kind words file = IsNamed kind (words.operand (codes "FILE")) Word file
+-- a file is the keytab, or the cache, that the word of that operand names, and is to be saved in place if the words ask for that
+abbrev pub IsEdited : FileKind → Matched → List ℕ → FileName → Type 0
+IsEdited kind words operand file = IsNamed kind (words.operand operand) Word file × (file.in_place ≡ words.flag (codes "in-place"))
 
 -- the action is the one that the words of the command ask for
 abbrev pub Asks : CommandName → Matched → Action → Type 0
 Asks name.Klist words action = AsksKlist words action
-Asks name.Ktedit words (Ktedit order file) = (order ≡ v1_order words) × IsFile Keytab words file
-Asks name.Ktfind words (Ktfind options file) = SpellsEntry words options × IsFile Keytab words file
-Asks name.Ktremove words (Ktremove options file) = SpellsRemoval words options × IsFile Keytab words file
-Asks name.Ktcopy words (Ktcopy options from to) = SpellsCopy words options × IsNamed Keytab (words.operand (codes "FROM")) Word from × IsNamed Keytab (words.operand (codes "TO")) Word to
+Asks name.Ktedit words (Ktedit order file) = (order ≡ v1_order words) × IsEdited Keytab words (codes "FILE") file
+Asks name.Ktfind words (Ktfind options file) = SpellsEntry words options × IsNamed Keytab (words.operand (codes "FILE")) Word file
+Asks name.Ktremove words (Ktremove options file) = SpellsRemoval words options × IsEdited Keytab words (codes "FILE") file
+Asks name.Ktcopy words (Ktcopy options from to) = SpellsCopy words options × IsNamed Keytab (words.operand (codes "FROM")) Word from × IsEdited Keytab words (codes "TO") to
 Asks name.Ktcheck words action = AsksKtcheck words action
-Asks name.Ccedit words (Ccedit file) = IsFile Cache words file
-Asks name.Ccremove words (Ccremove options file) = SpellsTickets words options × IsFile Cache words file
-Asks name.Ktutil words (Ktutil order) = order ≡ v1_order words
+Asks name.Ccedit words (Ccedit file) = IsEdited Cache words (codes "FILE") file
+Asks name.Ccremove words (Ccremove options file) = SpellsTickets words options × IsEdited Cache words (codes "FILE") file
+Asks name.Ktutil words (Ktutil order in_place) = (order ≡ v1_order words) × (in_place ≡ words.flag (codes "in-place"))
 Asks command words action = ⊥
 
 -- the first mistake in the words of klist
@@ -112,7 +112,7 @@ is_timed kvno = false
 -- an action needs the time of the clock
 abbrev pub needs_clock : Action → Bool
 needs_clock (CheckTicket check file) = true
-needs_clock (Ktutil order) = true
+needs_clock (Ktutil order in_place) = true
 needs_clock (Ktremove options file) = is_timed options.selection.kvno
 needs_clock (Ccremove options file) = options.expired
 needs_clock action = false
@@ -121,6 +121,16 @@ needs_clock action = false
 abbrev pub wants_plain : Action → Bool
 wants_plain (CheckTicket check file) = true
 wants_plain action = false
+
+-- an action saves its file in place
+abbrev pub saves_in_place : Action → Bool
+saves_in_place (Ktedit order file) = file.in_place
+saves_in_place (Ktremove options file) = file.in_place
+saves_in_place (Ktcopy options from to) = to.in_place
+saves_in_place (Ccedit file) = file.in_place
+saves_in_place (Ccremove options file) = file.in_place
+saves_in_place (Ktutil order in_place) = in_place
+saves_in_place action = false
 
 -- the run that prints a help text
 abbrev pub help_run : List ℕ → Run
@@ -171,11 +181,11 @@ module _ {F : Type 0} (trait : Ghosts F) (now : Option ℕ) (default : DefaultNa
   EndsAction (Klist options file) = Lists trait old new out out' err err' status options (file_or file default)
   EndsAction (CheckTicket check file) = ChecksTickets trait old new out out' err err' status check now (file_or file default) × (input' ≡ input)
   EndsAction (Ktfind options file) = RunsCommand trait (always (ktfind_plan options file)) any old new out out' err err' status
-  EndsAction (Ktedit order file) = RunsScript trait old new out out' err err' status (ktedit_plan order file) (ktedit_fairly order) event_in input input'
+  EndsAction (Ktedit order file) = RunsScript trait old new out out' err err' status (ktedit_plan order file) (ktedit_fairly order file) event_in input input'
   EndsAction (Ktcheck options names) = ChecksKeytabs trait old new out out' err err' status options default names.items
   EndsAction (Ktremove options file) = RunsKtremove trait file options old new out out' err err' status (needed_time options.selection.kvno now)
   EndsAction (Ktcopy options from to) = RunsCommand trait (always (ktcopy_plan options from to)) any old new out out' err err' status
-  EndsAction (Ktutil order) = RunsKtutil trait order (unwrap_or now 0) input input' old new out out' err err' status
+  EndsAction (Ktutil order in_place) = RunsKtutil trait order (unwrap_or now 0) input input' old new out out' err err' status
   EndsAction (Ccedit file) = RunsScript trait old new out out' err err' status (ccedit_plan file) ccedit_fairly cache_line_in input input'
   EndsAction (Ccremove options file) = RunsCcremove trait file options old new out out' err err' status (ended_by options now)
   EndsAction (Help text) = (new ≡ old) × EndsRun [] None (help_run (string_bytes text)) out out' err err' status

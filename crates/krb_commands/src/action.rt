@@ -1,7 +1,7 @@
 //! The commands, and the actions of their command lines.
 
 ghost use Rattle.std.specs.Prelude.{◌≡◌, codes, map, slice_get, IfErr, IfOk, None, OnOk};
-ghost use Rattle.krb_commands.specs.Actions.{AreNamed, Asks, AsksKlist, AsksKtcheck, NamesFile, klist_mistake, line_mistake, needs_clock, wants_plain};
+ghost use Rattle.krb_commands.specs.Actions.{AreNamed, Asks, AsksKlist, AsksKtcheck, IsEdited, NamesFile, klist_mistake, line_mistake, needs_clock, saves_in_place, wants_plain};
 ghost use Rattle.krb_driver.specs.FileNames.{IsNamed};
 ghost use Rattle.krb_driver.specs.declared.file_name.NameSource.TheVariants.{Word};
 ghost use Rattle.krb_readers.specs.CheckWords.{bad_findings};
@@ -43,8 +43,8 @@ pub enum Action<'a> {
     Ktcopy(CopyOptions<Global>, FileName<'a>, FileName<'a>),
     Ccedit(FileName<'a>),
     Ccremove(TicketOptions<Global>, FileName<'a>),
-    /// With the byte order of version 1 keytabs.
-    Ktutil(Order),
+    /// With the byte order of version 1 keytabs, and whether files are saved in place.
+    Ktutil(Order, bool),
     /// Prints that help text.
     Help(String),
 }
@@ -56,7 +56,7 @@ impl Action<'_> {
         ensures { result ≡ needs_clock self.now }
     {
         match self {
-            Action::CheckTicket(..) | Action::Ktutil(_) => true,
+            Action::CheckTicket(..) | Action::Ktutil(..) => true,
             Action::Ktremove(options, _) => {
                 matches!(options.selection.kvno, SelectedKvno::OldFor(_))
             }
@@ -81,6 +81,21 @@ impl Action<'_> {
     {
         matches!(self, Action::CheckTicket(..))
     }
+
+    /// Returns whether it saves its file in place.
+    pub fn saves_in_place(&self) -> bool
+        ensures { result ≡ saves_in_place self.now }
+    {
+        match self {
+            Action::Ktedit(_, file)
+            | Action::Ktremove(_, file)
+            | Action::Ktcopy(_, _, file)
+            | Action::Ccedit(file)
+            | Action::Ccremove(_, file) => file.in_place,
+            Action::Ktutil(_, in_place) => *in_place,
+            _ => false,
+        }
+    }
 }
 
 // Returns the file that a word names, if one does.
@@ -98,6 +113,13 @@ fn file_of<'a, M: Matches<'a>>(matches: &M, kind: FileKind, operand: &str) -> Fi
     ensures { IsNamed kind ((M.matched matches.now).operand operand.now) Word result }
 {
     FileName::of(kind, matches.operand(operand), NameSource::Word)
+}
+
+// Returns the file that the word of an operand names, to be edited: in place if the words ask for that.
+fn edited_file<'a, M: Matches<'a>>(matches: &M, kind: FileKind, operand: &str) -> FileName<'a>
+    ensures { IsEdited kind (M.matched matches.now) operand.now result }
+{
+    file_of(matches, kind, operand).saved(matches.flag("in-place"))
 }
 
 // Returns the keytabs that words name.
@@ -145,22 +167,25 @@ fn parsed<'a, M: Matches<'a>>(
 ) -> Result<Action<'a>, WordFault<'a>>
     ensures { Reads (line_mistake command (M.matched matches.now)) (Asks command (M.matched matches.now)) result }
 {
-    let keytab = file_of(matches, FileKind::Keytab, "FILE");
-    let cache = file_of(matches, FileKind::Cache, "FILE");
+    let keytab = edited_file(matches, FileKind::Keytab, "FILE");
+    let cache = edited_file(matches, FileKind::Cache, "FILE");
     match command {
         CommandName::Klist => parsed_klist(matches),
         CommandName::Ktedit => Ok(Action::Ktedit(v1_order(matches), keytab)),
-        CommandName::Ktfind => Ok(Action::Ktfind(find_options(alloc, matches)?, keytab)),
+        CommandName::Ktfind => Ok(Action::Ktfind(
+            find_options(alloc, matches)?,
+            file_of(matches, FileKind::Keytab, "FILE"),
+        )),
         CommandName::Ktremove => Ok(Action::Ktremove(remove_options(alloc, matches)?, keytab)),
         CommandName::Ktcopy => Ok(Action::Ktcopy(
             copy_options(alloc, matches)?,
             file_of(matches, FileKind::Keytab, "FROM"),
-            file_of(matches, FileKind::Keytab, "TO"),
+            edited_file(matches, FileKind::Keytab, "TO"),
         )),
         CommandName::Ktcheck => parsed_ktcheck(alloc, matches),
         CommandName::Ccedit => Ok(Action::Ccedit(cache)),
         CommandName::Ccremove => Ok(Action::Ccremove(ticket_options(alloc, matches)?, cache)),
-        CommandName::Ktutil => Ok(Action::Ktutil(v1_order(matches))),
+        CommandName::Ktutil => Ok(Action::Ktutil(v1_order(matches), matches.flag("in-place"))),
     }
 }
 

@@ -6,7 +6,7 @@ ghost use Rattle.krb_driver.specs.Runs.{EndsRun};
 
 use crate::action::Action;
 use krb_driver::{
-    ErrorOutput, FileName, Streams, Verdict, WordFault, report, report_word_fault, show,
+    Details, ErrorOutput, FileName, Streams, Verdict, WordFault, report, report_word_fault, show,
 };
 use krb_editors::{run_ccedit, run_ccremove, run_ktcopy, run_ktedit, run_ktremove};
 use krb_files::{Files, Watched};
@@ -96,7 +96,7 @@ fn show_help<W: Write, E: Write>(text: &str, out: &mut Watched<W>, err: &mut Err
     ensures { EndsRun [] None (help_run text.now) out.old out.new err.old err.new result }
 {
     let ending = show(text.as_bytes(), Ok(Verdict::Well), out);
-    report(ending, b"", None, out.cause(), err)
+    report(ending, b"", None, Details::unsaved(out.cause()), err)
 }
 
 /// Runs an action, or reports why the command line was not read, and returns the exit status. `default` is the name of
@@ -132,7 +132,7 @@ pub fn respond<A: Allocator + Copy, F: Files, R: Read, W: Write, E: Write>(
         Ok(Action::Ktcopy(options, from, to)) => {
             run_ktcopy(alloc, options, *from, *to, files, streams)
         }
-        Ok(Action::Ktutil(v1_order)) => {
+        Ok(Action::Ktutil(v1_order, _)) => {
             run_ktutil(alloc, *v1_order, now.unwrap_or(0), files, streams)
         }
         Ok(Action::Ccedit(file)) => run_ccedit(alloc, *file, files, streams),

@@ -11,7 +11,7 @@ use Rattle.krb_files.specs.Loading.{most_bytes}
 use Rattle.krb_driver.specs.Input.{GivesInput}
 use Rattle.krb_driver.specs.Runs.{Writes, ReportsEnd}
 use Rattle.krb_files.specs.declared.cause.Cause.{Cause}
-use Rattle.krb_driver.specs.Words.{ending_text, words_if, ending_words}
+use Rattle.krb_driver.specs.Words.{ending_words, own_text, words_if}
 use Rattle.krb_driver.specs.ErrorOutput.{ErrorWatch}
 use Rattle.krb_driver.specs.RunErrors.{Ending, ending_message}
 use Rattle.krb_files.specs.Reader.{Source, ConsumesAtMost, is_failed}
@@ -28,14 +28,14 @@ words_if-nothing false = refl
 -- nothing was to be reported of a run that went well
 pub ReportsEnd-nothing : (file : List ℕ) (line : Option ℕ) (err : ErrorWatch) → ReportsEnd file line (Ok Well) err err
 ReportsEnd-nothing file line err = record {
-  cause = None;
-  writes = subst (Writes err.to err.to) (sym (words_if-nothing err.explains)) (Writes-nothing err.to);
+  details = record { cause = None; aftermath = None };
+  writes = subst (λ (words : List ℕ). Writes err.to err.to (words ++ words)) (sym (words_if-nothing err.explains)) (Writes-nothing err.to);
   still = refl;
 }
 
 -- a message was written, with the words that are shown
 pub Writes-words : (file : List ℕ) (line : Option ℕ) (cause : Option Cause) (ending : Ending) (err : ErrorWatch) (to : Watch) (words : List ℕ)
-    → Writes err.to to (ending_message file ending ++ words) → words ≡ words_if err.explains (ending_words file line cause ending) → Writes err.to to (ending_text err.explains file line cause ending)
+    → Writes err.to to (ending_message file ending ++ words) → words ≡ words_if err.explains (ending_words file line cause ending) → Writes err.to to (own_text err.explains file line cause ending)
 Writes-words file line cause ending err to words writes are = subst (λ (w : List ℕ). Writes err.to to (ending_message file ending ++ w)) are writes
 
 -- ---- what a reader gave

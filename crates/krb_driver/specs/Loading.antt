@@ -1,5 +1,5 @@
 -- What a load gives.
-use Rattle.std.specs.Prelude.{◌≡◌, ◌⊎◌, ℕ, nat_eq, Bool, ◌||◌, List, [], ◌∷◌, Result, Ok, Err}
+use Rattle.std.specs.Prelude.{◌≡◌, ◌⊎◌, ℕ, nat_eq, Bool, true, false, ◌||◌, List, [], ◌∷◌, Result, Ok, Err}
 use Rattle.std.specs.List.{starts_with}
 use Rattle.krb_wire.specs.declared.format.KtFormat.TheVariants.{V2}
 use Rattle.krb_wire.specs.declared.format.Order.{Order}
@@ -55,10 +55,16 @@ abbrev pub keytab_or_new : Order → Result (List ℕ) LoadFault → Result Keyt
 keytab_or_new order (Err load.Missing) = Ok (empty V2 most_bytes)
 keytab_or_new order answer = keytab_of order answer
 
--- the same for a file of no bytes too
-abbrev pub keytab_or_fresh : Order → Result (List ℕ) LoadFault → Result KeytabState NoKeytab
-keytab_or_fresh order (Ok []) = Ok (empty V2 most_bytes)
-keytab_or_fresh order answer = keytab_or_new order answer
+-- what takes the place of a missing file: an empty keytab of version 2, unless the file is to be saved in place
+abbrev pub new_unless : Bool → Result KeytabState NoKeytab
+new_unless true = Err (Load load.Missing)
+new_unless false = Ok (empty V2 most_bytes)
+
+-- the keytab of a file, where one of no bytes gives an empty keytab of version 2, and so does a missing one that is not to be saved in place
+abbrev pub keytab_or_fresh : Order → Bool → Result (List ℕ) LoadFault → Result KeytabState NoKeytab
+keytab_or_fresh order in_place (Ok []) = Ok (empty V2 most_bytes)
+keytab_or_fresh order in_place (Err load.Missing) = new_unless in_place
+keytab_or_fresh order in_place answer = keytab_of order answer
 
 -- the cache that a load gives, or why there is none
 abbrev pub cache_of : Result (List ℕ) LoadFault → Result CacheState RunError

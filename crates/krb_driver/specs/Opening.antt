@@ -1,5 +1,5 @@
 -- What opened files give.
-use Rattle.std.specs.Prelude.{is_some, if◌then◌else◌, Option, None, Some, Result, Ok, Err}
+use Rattle.std.specs.Prelude.{Bool, true, false, is_some, if◌then◌else◌, Option, None, Some, Result, Ok, Err}
 use Rattle.krb_wire.specs.declared.format.Order.{Order}
 use Rattle.krb_walk.specs.Store.{fault_of}
 use Rattle.krb_walk.specs.declared.refusal.Code.{Code}
@@ -21,13 +21,14 @@ keytab_in order answer = result_map_err no_keytab_error (keytab_of order answer)
 abbrev pub listed_in : Order → Answer → Result KeytabState RunError
 listed_in order answer = result_map_err list_error (keytab_of order answer)
 
--- the same, but a missing file gives an empty keytab
-abbrev pub keytab_or_empty : Order → Answer → Result KeytabState RunError
-keytab_or_empty order answer = result_map_err no_keytab_error (keytab_or_new order answer)
+-- the same, but a missing file that is not to be saved in place gives an empty keytab
+abbrev pub keytab_or_empty : Order → Bool → Answer → Result KeytabState RunError
+keytab_or_empty order true answer = keytab_in order answer
+keytab_or_empty order false answer = result_map_err no_keytab_error (keytab_or_new order answer)
 
--- the same for a file of no bytes too
-abbrev pub fresh_in : Order → Answer → Result KeytabState RunError
-fresh_in order answer = result_map_err no_keytab_error (keytab_or_fresh order answer)
+-- the same, but a file of no bytes gives an empty keytab too
+abbrev pub fresh_in : Order → Bool → Answer → Result KeytabState RunError
+fresh_in order in_place answer = result_map_err no_keytab_error (keytab_or_fresh order in_place answer)
 
 -- what was opened, or its refusal if there is one
 abbrev pub or_refused : {K E : Type 0} → (Code → E) → K → Option Code → Result K E
@@ -50,9 +51,9 @@ cache_refusal k = if is_read_only k.version then Some ReadOnly else (if is_some 
 unfoldable pub whole_in : Order → Answer → Result KeytabState RunError
 whole_in order answer = unless_refused Refused keytab_refusal (keytab_in order answer)
 
--- the same, but a missing file, or one of no bytes, gives an empty keytab
-unfoldable pub whole_or_empty : Order → Answer → Result KeytabState RunError
-whole_or_empty order answer = unless_refused Refused keytab_refusal (fresh_in order answer)
+-- the same, but a file of no bytes, or a missing one that is not to be saved in place, gives an empty keytab
+unfoldable pub whole_or_empty : Order → Bool → Answer → Result KeytabState RunError
+whole_or_empty order in_place answer = unless_refused Refused keytab_refusal (fresh_in order in_place answer)
 
 -- the cache of a file to change, which is not of version 3 and not damaged
 unfoldable pub writable_in : Answer → Result CacheState RunError

@@ -1,10 +1,10 @@
 -- What a run of the program prints and reports, and its exit status.
-use Rattle.std.specs.Prelude.{◌≡◌, ℕ, List, [], IsTrue, IsFalse, Option, Err}
+use Rattle.std.specs.Prelude.{◌≡◌, ℕ, List, [], ◌++◌, IsTrue, IsFalse, Option, Err}
 use Rattle.std.specs.Io.KnownBytes.{Appends}
-use Rattle.krb_files.specs.declared.cause.Cause.{Cause}
 use Rattle.krb_files.specs.Bytes.{Watch, AppendsPrefix}
 use Rattle.krb_driver.specs.declared.error.RunError.{RunError}
 use Rattle.krb_driver.specs.declared.error.RunError.TheVariants.{OutputNotWritten, NoMemory}
+use Rattle.krb_driver.specs.declared.reporting.details.Details.{Details}
 use Rattle.krb_driver.specs.ErrorOutput.{ErrorWatch}
 use Rattle.krb_driver.specs.RunErrors.{Ending, ending_status}
 use Rattle.krb_driver.specs.Words.{ending_text}
@@ -36,10 +36,14 @@ pub record Writes (old new : Watch) (text : List ℕ) : Type 0 where
   pub prefix : AppendsPrefix old.contents new.contents text
   pub whole : IsFalse new.failed → Appends old.contents new.contents text
 
--- the end of a run over that file, or of a line of ktutil, was reported, with the words for some cause or for none
+-- a text was written after what was written since some start; or the writer had failed, and nothing was written
+abbrev pub WritesOn : Watch → Watch → List ℕ → Type 0
+WritesOn old new text = (start : Watch) (before : List ℕ) → Writes start old before → Writes start new (before ++ text)
+
+-- the end of a run over that file, or of a line of ktutil, was reported, with the words for some details of its calls
 pub record ReportsEnd (file : List ℕ) (line : Option ℕ) (ending : Ending) (err err' : ErrorWatch) : Type 0 where
-  pub cause : Option Cause
-  pub writes : Writes err.to err'.to (ending_text err.explains file line cause ending)
+  pub details : Details
+  pub writes : Writes err.to err'.to (ending_text err.explains file line details ending)
   pub still : err'.explains ≡ err.explains
 
 -- the end was reported, and the exit status is that of the end

@@ -13,9 +13,11 @@ use Rattle.krb_keytab.specs.Open.{open_fault_phrase as kt_phrase}
 use Rattle.krb_ccache.specs.declared.open.CcOpenFault.{CcOpenFault}
 use Rattle.krb_ccache.specs.declared.open.CcOpenFault.TheVariants as cc
 use Rattle.krb_ccache.specs.Open.{open_fault_phrase as cc_phrase}
+use Rattle.krb_files.specs.declared.aftermath.Aftermath.{Aftermath}
+use Rattle.krb_files.specs.declared.aftermath.Aftermath.TheVariants.{LostChange}
 use Rattle.krb_files.specs.declared.cause.Cause.{Cause}
 use Rattle.krb_files.specs.declared.cause.Cause.TheVariants.{InTheWay, System}
-use Rattle.krb_files.specs.Phrases.{cause_phrase}
+use Rattle.krb_files.specs.Phrases.{aftermath_phrase, cause_phrase}
 use Rattle.krb_text.specs.declared.line_fault.LineFault.{LineFault}
 use Rattle.krb_text.specs.LineFault.{line_phrase, ktutil_phrase}
 use Rattle.krb_audit.specs.declared.finding_words.FindingWords.{FindingWords}
@@ -25,12 +27,13 @@ use Rattle.krb_driver.specs.declared.file_name.NameSource.TheVariants.{Word, Cac
 use Rattle.krb_driver.specs.declared.error.RunError.TheVariants as error
 use Rattle.krb_driver.specs.declared.verdict.FileKind.{FileKind}
 use Rattle.krb_driver.specs.declared.verdict.FileKind.TheVariants.{Keytab, Cache}
+use Rattle.krb_driver.specs.declared.reporting.details.Details.{Details}
 use Rattle.krb_driver.specs.declared.reporting.reported.Reported.{Reported}
 use Rattle.krb_driver.specs.declared.verdict.Findings.{Findings}
 use Rattle.krb_driver.specs.declared.verdict.Verdict.{Verdict}
 use Rattle.krb_driver.specs.declared.verdict.Verdict.TheVariants.{Well, HiddenFrom, Listed, Replied, Found, NothingToRemove, Clashed}
 use Rattle.krb_driver.specs.FileNames.{type_of, untyped}
-use Rattle.krb_driver.specs.Messages.{words_line, phrase_line}
+use Rattle.krb_driver.specs.Messages.{file_message, words_line, phrase_line}
 use Rattle.krb_driver.specs.RunErrors.{Ending, ending_message}
 
 -- ---- phrases
@@ -208,6 +211,16 @@ abbrev pub words_if : Bool → List ℕ → List ℕ
 words_if true words = words
 words_if false words = []
 
--- the text that reports the end of a run: its message, and the words if they are shown
-abbrev pub ending_text : Bool → List ℕ → Option ℕ → Option Cause → Ending → List ℕ
-ending_text explains file line cause ending = ending_message file ending ++ words_if explains (ending_words file line cause ending)
+-- the message for the end of a run, and the words that explain it if they are shown
+abbrev pub own_text : Bool → List ℕ → Option ℕ → Option Cause → Ending → List ℕ
+own_text explains file line cause ending = ending_message file ending ++ words_if explains (ending_words file line cause ending)
+
+-- the words for what a save left behind, if that is to be told
+abbrev pub aftermath_words : List ℕ → Option ℕ → Option Aftermath → List ℕ
+aftermath_words file line None = []
+aftermath_words file None (Some LostChange) = file_message file (aftermath_phrase LostChange)
+aftermath_words file line (Some aftermath) = phrase_line line (aftermath_phrase aftermath)
+
+-- the text that reports the end of a run: its message and its words, and at the end those for what its save left behind
+abbrev pub ending_text : Bool → List ℕ → Option ℕ → Details → Ending → List ℕ
+ending_text explains file line details ending = own_text explains file line details.cause ending ++ words_if explains (aftermath_words file line details.aftermath)

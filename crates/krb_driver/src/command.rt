@@ -8,7 +8,8 @@ ghost use Rattle.krb_driver.specs.RunErrors.{ending_status};
 
 use crate::error::RunError;
 use crate::file_name::FileName;
-use crate::reporting::{cause_of, report, show};
+use crate::reporting::details::details_of;
+use crate::reporting::{report, show};
 use crate::streams::Streams;
 use crate::verdict::Verdict;
 use krb_files::{Files, Watched};
@@ -222,8 +223,8 @@ pub fn run_to_end<A: Allocator + Copy, C: Command<A>, F: Files, R: Read, W: Writ
     let file = command.file();
     let named = about(&ready, file);
     let ending = show_ready(alloc, file, ready, &mut streams.out);
-    let cause = cause_of(&ending, files, &streams.out);
-    let _status = report(ending, named.as_bytes(), None, cause, &mut streams.err);
+    let details = details_of(&ending, files, &streams.out);
+    let _status = report(ending, named.as_bytes(), None, details, &mut streams.err);
     ending
 }
 

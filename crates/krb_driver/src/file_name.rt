@@ -1,6 +1,6 @@
 //! The names of files: an operand may begin with a type, as in `FILE:/etc/krb5.keytab`.
 
-ghost use Rattle.std.specs.Prelude.{◌≡◌, ◌<◌, IfSome, length, option_copied, option_map};
+ghost use Rattle.std.specs.Prelude.{◌≡◌, ◌<◌, IfSome, false, length, option_copied, option_map};
 ghost use Rattle.std.specs.List.{list_any, position_from};
 ghost use Rattle.krb_driver.specs.FileNames.{IsNamed, has_type, is_colon, is_no_letter, is_type, stripped, type_of, untyped};
 
@@ -25,6 +25,8 @@ pub struct FileName<'a> {
     pub name: &'a str,
     pub is_other_type: bool,
     pub source: NameSource,
+    /// The file is to be saved in place, so it has to be there.
+    pub in_place: bool,
 }
 
 fn is_no_letter(byte: u8) -> bool
@@ -93,19 +95,32 @@ fn untyped(kind: FileKind, word: &str) -> Option<&str>
 impl<'a> FileName<'a> {
     /// Returns the name that a word gives: without `FILE:`, of a keytab also without `WRFILE:`.
     pub fn of(kind: FileKind, word: &'a str, source: NameSource) -> FileName<'a>
-        ensures { IsNamed kind word.now source result }
+        ensures named { IsNamed kind word.now source result }
+        ensures in_place { result.in_place ≡ false }
     {
         match untyped(kind, word) {
             Some(name) => FileName {
                 name,
                 is_other_type: false,
                 source,
+                in_place: false,
             },
             None => FileName {
                 name: word,
                 is_other_type: has_type(word.as_bytes()),
                 source,
+                in_place: false,
             },
         }
+    }
+
+    /// Returns the same name of a file that is to be saved in place if `in_place`.
+    pub fn saved(self, in_place: bool) -> FileName<'a>
+        ensures name { result.name.now ≡ self.entry.name.now }
+        ensures other { result.is_other_type ≡ self.entry.is_other_type }
+        ensures source { result.source ≡ self.entry.source }
+        ensures in_place { result.in_place ≡ in_place }
+    {
+        FileName { in_place, ..self }
     }
 }

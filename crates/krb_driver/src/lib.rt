@@ -16,7 +16,7 @@ pub use command_line::matches::{
     Matches, first_value, spelled_name, spelled_names, spelled_seconds, times_given, v1_order,
 };
 pub use command_line::mistake::{BadLine, Mistake, WordFault};
-pub use command_line::words::{CommandName, CommandWords, DRY_RUN, V1_BIG, Word};
+pub use command_line::words::{CommandName, CommandWords, DRY_RUN, IN_PLACE, V1_BIG, Word};
 pub use error::RunError;
 pub use file_name::{FileName, NameSource, type_of};
 pub use loading::{NoKeytab, NotKeytab, load_keytab, load_or_new};
@@ -24,8 +24,9 @@ pub use opening::{
     give_cache, give_or_empty, open_cache, open_keytab, open_listed, open_whole,
     open_whole_or_empty, open_writable,
 };
+pub use reporting::details::{Details, details_of};
 pub use reporting::error_output::ErrorOutput;
 pub use reporting::reported::replied_verdict;
-pub use reporting::{cause_of, report, report_word_fault, show};
+pub use reporting::{report, report_word_fault, show};
 pub use streams::Streams;
 pub use verdict::{FileKind, Findings, Verdict};

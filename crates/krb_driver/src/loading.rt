@@ -7,7 +7,7 @@ ghost use Rattle.krb_wire.specs.declared.format.KtFormat.TheVariants.{V2};
 ghost use Rattle.krb_keytab.specs.Store.{open_result};
 ghost use Rattle.krb_driver.specs.declared.loading.NoKeytab.TheVariants.{Load};
 ghost use Rattle.krb_files.specs.Loading.{most_bytes};
-ghost use Rattle.krb_driver.specs.Loading.{Gives, GivesOrRunsOut, begins_as_cache, begins_as_keytab, cache_of, keytab_of, keytab_or_fresh, keytab_or_new, not_keytab, result_map, result_map_err};
+ghost use Rattle.krb_driver.specs.Loading.{Gives, GivesOrRunsOut, begins_as_cache, begins_as_keytab, cache_of, keytab_of, keytab_or_fresh, keytab_or_new, new_unless, not_keytab, result_map, result_map_err};
 
 use crate::error::RunError;
 use krb_ccache::{CcOpenFault, Ccache};
@@ -112,15 +112,28 @@ pub fn load_or_new<A: Allocator + Copy, F: Files>(
     }
 }
 
-/// Loads the keytab of a file, or returns an empty one of version 2 if the file is missing or has no bytes.
+// Returns an empty keytab of version 2 in the place of a missing file, unless that is to be saved in place.
+fn new_unless<A: Allocator + Copy>(alloc: A, in_place: bool) -> Result<Keytab<A>, NoKeytab>
+    ensures { (result_map (λ k. k.state) result ≡ new_unless in_place) ⊎ (result_map (λ k. k.state) result ≡ Err (Load load.NoMemory)) }
+{
+    if in_place {
+        Err(NoKeytab::Load(LoadFault::Missing))
+    } else {
+        new_keytab(alloc)
+    }
+}
+
+/// Loads the keytab of a file, or returns an empty one of version 2 if the file has no bytes, or is missing and not to
+/// be saved in place.
 pub fn load_or_fresh<A: Allocator + Copy, F: Files>(
     alloc: A,
     v1_order: Order,
+    in_place: bool,
     files: &mut F,
     name: &str,
 ) -> Result<Keytab<A>, NoKeytab>
     ensures { GivesOrRunsOut F.Files files.old name.now
-        (keytab_or_fresh v1_order) (result_map (λ k. k.state) result) files.new }
+        (keytab_or_fresh v1_order in_place) (result_map (λ k. k.state) result) files.new }
 {
     match files.load(alloc, name, USUAL_LIMIT) {
         Ok(image) => {
@@ -129,7 +142,7 @@ pub fn load_or_fresh<A: Allocator + Copy, F: Files>(
             }
             open(v1_order, image)
         }
-        Err(LoadFault::Missing) => new_keytab(alloc),
+        Err(LoadFault::Missing) => new_unless(alloc, in_place),
         Err(fault) => Err(NoKeytab::Load(fault)),
     }
 }

@@ -1,6 +1,6 @@
 //! Opens the keytab or the cache of a file for a command. Each error names the file.
 
-ghost use Rattle.std.specs.Prelude.{◌≡◌, is_some};
+ghost use Rattle.std.specs.Prelude.{◌≡◌, false, is_some};
 ghost use Rattle.krb_driver.specs.declared.error.RunError.TheVariants.{OtherType, Refused};
 ghost use Rattle.krb_driver.specs.Commands.{GivesOf, Opens, opened};
 ghost use Rattle.krb_driver.specs.Loading.{cache_of};
@@ -88,14 +88,14 @@ pub fn open_listed<'a, A: Allocator, F: Files>(
     give_listed(alloc, v1_order, files, file)
 }
 
-/// Loads the keytab of a file, or returns an empty one of version 2 if the file is missing.
-pub fn give_or_empty<'a, A: Allocator + Copy, F: Files>(
+// Loads the keytab of a file, or returns an empty one of version 2 if the file is missing.
+fn give_or_new<'a, A: Allocator + Copy, F: Files>(
     alloc: A,
     v1_order: Order,
     files: &mut F,
     file: FileName<'a>,
 ) -> Result<Keytab<A>, FileError<'a>>
-    ensures { GivesOf F.Files files.old file.entry (keytab_or_empty v1_order) (opened (λ k. k.state) result) files.new }
+    ensures { GivesOf F.Files files.old file.entry (keytab_or_empty v1_order false) (opened (λ k. k.state) result) files.new }
 {
     if file.is_other_type {
         return Err(other_type(file));
@@ -103,6 +103,23 @@ pub fn give_or_empty<'a, A: Allocator + Copy, F: Files>(
     match load_or_new(alloc, v1_order, files, file.name) {
         Ok(keytab) => Ok(keytab),
         Err(why) => Err(FileError::of(file, RunError::from(why))),
+    }
+}
+
+/// Loads the keytab of a file, or returns an empty one of version 2 if the file is missing and not to be saved in place.
+pub fn give_or_empty<'a, A: Allocator + Copy, F: Files>(
+    alloc: A,
+    v1_order: Order,
+    files: &mut F,
+    file: FileName<'a>,
+) -> Result<Keytab<A>, FileError<'a>>
+    ensures { GivesOf F.Files files.old file.entry (keytab_or_empty v1_order file.entry.in_place)
+        (opened (λ k. k.state) result) files.new }
+{
+    if file.in_place {
+        give_keytab(alloc, v1_order, files, file)
+    } else {
+        give_or_new(alloc, v1_order, files, file)
     }
 }
 
@@ -164,33 +181,36 @@ pub fn open_whole<'a, A: Allocator, F: Files>(
     whole(file, given)
 }
 
-// Loads the keytab of a file, or returns an empty one of version 2 if the file is missing or has no bytes.
+// Loads the keytab of a file, or returns an empty one of version 2 if the file has no bytes, or is missing and not to be
+// saved in place.
 fn give_or_fresh<'a, A: Allocator + Copy, F: Files>(
     alloc: A,
     v1_order: Order,
     files: &mut F,
     file: FileName<'a>,
 ) -> Result<Keytab<A>, FileError<'a>>
-    ensures { GivesOf F.Files files.old file.entry (fresh_in v1_order) (opened (λ k. k.state) result) files.new }
+    ensures { GivesOf F.Files files.old file.entry (fresh_in v1_order file.entry.in_place)
+        (opened (λ k. k.state) result) files.new }
 {
     if file.is_other_type {
         return Err(other_type(file));
     }
-    match load_or_fresh(alloc, v1_order, files, file.name) {
+    match load_or_fresh(alloc, v1_order, file.in_place, files, file.name) {
         Ok(keytab) => Ok(keytab),
         Err(why) => Err(FileError::of(file, RunError::from(why))),
     }
 }
 
-/// Opens the keytab of a file to change it, or returns an empty one of version 2 if the file is missing or has no bytes.
-/// Refuses a damaged one.
+/// Opens the keytab of a file to change it, or returns an empty one of version 2 if the file has no bytes, or is missing
+/// and not to be saved in place. Refuses a damaged one.
 pub fn open_whole_or_empty<'a, A: Allocator + Copy, F: Files>(
     alloc: A,
     v1_order: Order,
     files: &mut F,
     file: FileName<'a>,
 ) -> Result<Keytab<A>, FileError<'a>>
-    ensures { Opens F.Files files.old file.entry (whole_or_empty v1_order) (opened (λ k. k.state) result) files.new }
+    ensures { Opens F.Files files.old file.entry (whole_or_empty v1_order file.entry.in_place)
+        (opened (λ k. k.state) result) files.new }
 {
     let given = give_or_fresh(alloc, v1_order, files, file);
     whole(file, given)

@@ -1,5 +1,7 @@
 //! What a run prints, and how its end is reported.
 
+mod aftermath_words;
+pub(crate) mod details;
 pub(crate) mod error_output;
 mod explanation;
 mod found_words;
@@ -15,21 +17,24 @@ ghost use Rattle.std.specs.Prelude.{◌≡◌, IsFalse, codes};
 ghost use Rattle.krb_keytab.specs.Open.{open_fault_number};
 ghost use Rattle.krb_driver.specs.Messages.{file_message, file_number_message, line_message, message};
 ghost use Rattle.krb_driver.specs.PieceTexts.{pieces_text};
-ghost use Rattle.krb_driver.specs.Runs.{Writes, ReportsEnd, Shows, Reports};
+ghost use Rattle.krb_driver.specs.Runs.{Writes, WritesOn, Shows, Reports};
 ghost use Rattle.krb_driver.specs.RunErrors.{ending_message, error_message};
 ghost use Rattle.krb_driver.specs.Verdicts.{verdict_message};
-ghost use Rattle.krb_driver.specs.Words.{ending_text};
+ghost use Rattle.krb_driver.specs.Words.{aftermath_words, ending_text, own_text, words_if};
 
+use crate::command::status_of;
 use crate::error::RunError;
 use crate::loading::NotKeytab;
+use crate::reporting::aftermath_words::aftermath_words;
+use crate::reporting::details::Details;
 use crate::reporting::error_output::ErrorOutput;
 use crate::reporting::found_words::report_findings;
 use crate::reporting::piece::MessagePiece;
 use crate::reporting::reported_words::report_replies;
 use crate::reporting::words::ending_words;
-use crate::reporting::writing::write_pieces;
+use crate::reporting::writing::{write_on, write_pieces};
 use crate::verdict::Verdict;
-use krb_files::{Cause, Files, Watched, put};
+use krb_files::{Aftermath, Cause, Watched, put};
 use krb_walk::Code;
 pub use mistake_words::report_word_fault;
 use std::io::Write;
@@ -169,19 +174,7 @@ fn ending_message(ending: Result<Verdict, RunError>, file: &[u8]) -> Message<'_>
     }
 }
 
-/// Returns what the run's failed call failed with: the last failed write of `out` if it was that, else of `files`.
-pub fn cause_of<F: Files, W: Write>(
-    ending: &Result<Verdict, RunError>,
-    files: &F,
-    out: &Watched<W>,
-) -> Option<Cause> {
-    match ending {
-        Err(RunError::OutputNotWritten) => out.cause(),
-        _ => files.cause(),
-    }
-}
-
-// Reports how a run ended, with the explaining words if `err` explains.
+// Reports how a run ended, with the words that explain it if `err` shows them.
 fn report_end<E: Write>(
     ending: Result<Verdict, RunError>,
     file: &[u8],
@@ -189,8 +182,8 @@ fn report_end<E: Write>(
     cause: Option<Cause>,
     err: &mut ErrorOutput<E>,
 )
-    ensures reports { ReportsEnd file.now line ending err.old err.new }
-    ensures cause { Writes err.old.to err.new.to (ending_text err.old.explains file.now line cause ending) }
+    ensures text { Writes err.old.to err.new.to (own_text err.old.explains file.now line cause ending) }
+    ensures still { err.new.explains ≡ err.old.explains }
 {
     let message = ending_message(ending, file);
     if !err.explains {
@@ -208,27 +201,54 @@ fn report_end<E: Write>(
     }
 }
 
-/// Reports on `err` how a run over `file`, or line `line` of ktutil, ended, and returns the exit status. `cause` is
-/// that of the call that failed, if one did. Ignores a failure of `err`.
-pub fn report<E: Write>(
+// The same, but of a run that went well nothing is written.
+fn report_unless_well<E: Write>(
     ending: Result<Verdict, RunError>,
     file: &[u8],
     line: Option<u64>,
     cause: Option<Cause>,
     err: &mut ErrorOutput<E>,
-) -> u8
-    ensures reports { Reports file.now line ending err.old err.new result }
-    ensures cause { Writes err.old.to err.new.to (ending_text err.old.explains file.now line cause ending) }
+)
+    ensures text { Writes err.old.to err.new.to (own_text err.old.explains file.now line cause ending) }
+    ensures still { err.new.explains ≡ err.old.explains }
 {
     match ending {
-        Ok(Verdict::Well) => 0,
-        Ok(verdict) => {
-            report_end(ending, file, line, cause, err);
-            verdict.status()
-        }
-        Err(error) => {
-            report_end(ending, file, line, cause, err);
-            error.status()
-        }
+        Ok(Verdict::Well) => {}
+        _ => report_end(ending, file, line, cause, err),
     }
+}
+
+// Tells what a save left behind, if that is to be told and `err` shows words.
+fn report_aftermath<E: Write>(
+    aftermath: Option<Aftermath>,
+    file: &[u8],
+    line: Option<u64>,
+    err: &mut ErrorOutput<E>,
+)
+    ensures text { WritesOn err.old.to err.new.to (words_if err.old.explains (aftermath_words file.now line aftermath)) }
+    ensures still { err.new.explains ≡ err.old.explains }
+{
+    let Some(aftermath) = aftermath else {
+        return;
+    };
+    if err.explains {
+        write_on(&mut err.to, &aftermath_words(aftermath, file, line));
+    }
+}
+
+/// Reports on `err` how a run over `file`, or line `line` of ktutil, ended, and then what its save left behind, and
+/// returns the exit status. Ignores a failure of `err`.
+pub fn report<E: Write>(
+    ending: Result<Verdict, RunError>,
+    file: &[u8],
+    line: Option<u64>,
+    details: Details,
+    err: &mut ErrorOutput<E>,
+) -> u8
+    ensures reports { Reports file.now line ending err.old err.new result }
+    ensures text { Writes err.old.to err.new.to (ending_text err.old.explains file.now line details ending) }
+{
+    report_unless_well(ending, file, line, details.cause, err);
+    report_aftermath(details.aftermath, file, line, err);
+    status_of(ending)
 }

@@ -51,7 +51,7 @@ copied_effect dry_run to (Ok run) =
 
 -- TO is held, unless it is a dry run, and opened; the entries are copied into its keytab
 abbrev pub copies_to : {A : Type 0} → CopyOptions A → FileName → List PlacedEntry → CommandPlan
-copies_to o to xs = holds (not o.dry_run) to (opens to (whole_or_empty o.v1_order) (λ k. Ends (copied_effect o.dry_run to.name.now (copy_run o.replace xs k))))
+copies_to o to xs = holds (not o.dry_run) to (opens to (whole_or_empty o.v1_order to.in_place) (λ k. Ends (copied_effect o.dry_run to.name.now (copy_run o.replace xs k))))
 
 -- the same, unless entries are asked for and there are none
 abbrev pub copies_from : {A : Type 0} → CopyOptions A → FileName → FileName → List PlacedEntry → CommandPlan

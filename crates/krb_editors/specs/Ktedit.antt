@@ -32,8 +32,8 @@ RunsFairly events keytab = session.RunsFairly keytab_rules keytab events
 
 -- the file is held if an event may change it, and opened; the events are run in a session over its keytab
 abbrev pub ktedit_plan : Order → FileName → List (Event EntryParts) → CommandPlan
-ktedit_plan order file events = holds (list_any may_change events) file (opens file (keytab_or_empty order) (λ k. Ends (edits events file.name.now k)))
+ktedit_plan order file events = holds (list_any may_change events) file (opens file (keytab_or_empty order file.in_place) (λ k. Ends (edits events file.name.now k)))
 
 -- the same holds of the keytab that the file gave
-abbrev pub ktedit_fairly : Order → List (Event EntryParts) → List Answer → Type 0
-ktedit_fairly order events = fair_first (keytab_or_empty order) (RunsFairly events)
+abbrev pub ktedit_fairly : Order → FileName → List (Event EntryParts) → List Answer → Type 0
+ktedit_fairly order file events = fair_first (keytab_or_empty order file.in_place) (RunsFairly events)

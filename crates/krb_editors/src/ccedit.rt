@@ -20,8 +20,8 @@ use crate::scripted::read_script;
 use krb_cache_text::{CacheLine, CcFormat, Request};
 use krb_ccache::{Ccache, Cred, Setting};
 use krb_driver::{
-    Command, CommandName, CommandWords, FileError, FileKind, FileName, Made, Output, Streams, Word,
-    give_cache, hold_if, report, run,
+    Command, CommandName, CommandWords, Details, FileError, FileKind, FileName, IN_PLACE, Made,
+    Output, Streams, Word, give_cache, hold_if, report, run,
 };
 use krb_files::Files;
 use krb_walk::{Event, Reply, Session};
@@ -34,7 +34,7 @@ pub const CCEDIT: CommandWords = CommandWords {
     command: CommandName::Ccedit,
     name: "ccedit",
     about: "Edits a credential cache by a script from the standard input",
-    usage: "krbfile ccedit FILE < SCRIPT",
+    usage: "krbfile ccedit [--in-place] FILE < SCRIPT",
     after_help: Some(
         "\
 Lines of the script, of which empty ones and those that begin with # ask for nothing:
@@ -45,7 +45,7 @@ Lines of the script, of which empty ones and those that begin with # ask for not
   config KEY PRINCIPAL VALUE  A configuration value; PRINCIPAL is - for none
   rewrite                     The cache is written anew, without what was removed",
     ),
-    words: &[Word::Operand("FILE", "The file to edit")],
+    words: &[IN_PLACE, Word::Operand("FILE", "The file to edit")],
 };
 
 /// The command ccedit.
@@ -222,8 +222,8 @@ pub fn run_ccedit<A: Allocator + Copy, F: Files, R: Read, W: Write, E: Write>(
     match read_script(alloc, &mut streams.input) {
         Ok(lines) => run(alloc, &EditCache { file, lines }, files, streams),
         Err(error) => {
-            let cause = streams.input.cause();
-            report(Err(error), b"", None, cause, &mut streams.err)
+            let details = Details::unsaved(streams.input.cause());
+            report(Err(error), b"", None, details, &mut streams.err)
         }
     }
 }

@@ -11,9 +11,9 @@ ghost use Rattle.krb_driver.specs.Mistakes.{Reads, mistake_parts};
 use krb_audit::{SelectedTickets, select_tickets};
 use krb_ccache::Ccache;
 use krb_driver::{
-    Command, CommandName, CommandWords, DRY_RUN, FileError, FileKind, FileName, Made, Matches,
-    Mistake, Output, RunError, Streams, Verdict, Word, WordFault, hold_if, open_writable, report,
-    run, spelled_names, times_given,
+    Command, CommandName, CommandWords, DRY_RUN, Details, FileError, FileKind, FileName, IN_PLACE,
+    Made, Matches, Mistake, Output, RunError, Streams, Verdict, Word, WordFault, hold_if,
+    open_writable, report, run, spelled_names, times_given,
 };
 use krb_files::Files;
 use krb_walk::Refusal;
@@ -26,7 +26,7 @@ pub const CCREMOVE: CommandWords = CommandWords {
     command: CommandName::Ccremove,
     name: "ccremove",
     about: "Removes tickets from a credential cache",
-    usage: "krbfile ccremove [-n] [-p SERVICE] [--expired] FILE",
+    usage: "krbfile ccremove [--in-place] [-n] [-p SERVICE] [--expired] FILE",
     after_help: None,
     words: &[
         DRY_RUN,
@@ -37,6 +37,7 @@ pub const CCREMOVE: CommandWords = CommandWords {
             "Tickets for that service, with its realm",
         ),
         Word::LongFlag("expired", "Tickets that have ended"),
+        IN_PLACE,
         Word::Operand("FILE", "The file to remove from"),
     ],
 };
@@ -216,6 +217,12 @@ pub fn run_ccremove<A: Allocator + Copy, B: Allocator, F: Files, R: Read, W: Wri
             };
             run(alloc, &command, files, streams)
         }
-        Err(error) => report(Err(error), b"", None, None, &mut streams.err),
+        Err(error) => report(
+            Err(error),
+            b"",
+            None,
+            Details::unsaved(None),
+            &mut streams.err,
+        ),
     }
 }

@@ -16,8 +16,8 @@ use crate::selecting::{bad_etype, etypes_of, kvno_by_word};
 use krb_audit::{SelectedKvno, Selection, hides_added, selected_entries};
 use krb_copy::{Copied, copy_into};
 use krb_driver::{
-    Command, CommandName, CommandWords, FileError, FileName, Made, Matches, Mistake, Output,
-    RunError, Streams, V1_BIG, Verdict, Word, WordFault, first_value, hold_if, open_whole,
+    Command, CommandName, CommandWords, FileError, FileName, IN_PLACE, Made, Matches, Mistake,
+    Output, RunError, Streams, V1_BIG, Verdict, Word, WordFault, first_value, hold_if, open_whole,
     open_whole_or_empty, run, spelled_names, times_given, v1_order,
 };
 use krb_files::Files;
@@ -33,7 +33,7 @@ pub const KTCOPY: CommandWords = CommandWords {
     name: "ktcopy",
     about: "Copies entries from one keytab into another",
     usage: "\
-krbfile ktcopy [--v1-big] [-n] [--replace] [-p NAME].. [-k KVNO|new] [-e ETYPE].. FROM TO",
+krbfile ktcopy [--v1-big] [--in-place] [-n] [--replace] [-p NAME].. [-k KVNO|new] [-e ETYPE].. FROM TO",
     after_help: Some(
         "\
 Examples:
@@ -67,6 +67,7 @@ Examples:
             "Entries of that encryption type, by name or number; may be repeated",
         ),
         V1_BIG,
+        IN_PLACE,
         Word::Operand("FROM", "The file to copy from"),
         Word::Operand("TO", "The file to copy to; it is made if it is missing"),
     ],

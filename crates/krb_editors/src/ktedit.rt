@@ -12,8 +12,8 @@ use crate::edited::{may_any_change, replied};
 use crate::scripted::read_script;
 use krb_audit::hides_added;
 use krb_driver::{
-    Command, CommandName, CommandWords, FileError, FileKind, FileName, Made, Output, Streams,
-    V1_BIG, Word, give_or_empty, hold_if, report, run,
+    Command, CommandName, CommandWords, Details, FileError, FileKind, FileName, IN_PLACE, Made,
+    Output, Streams, V1_BIG, Word, give_or_empty, hold_if, report, run,
 };
 use krb_files::Files;
 use krb_keytab::{Indexed, Keytab, NewEntry};
@@ -27,7 +27,7 @@ pub const KTEDIT: CommandWords = CommandWords {
     command: CommandName::Ktedit,
     name: "ktedit",
     about: "Edits a keytab by a script from the standard input",
-    usage: "krbfile ktedit [--v1-big] FILE < SCRIPT",
+    usage: "krbfile ktedit [--v1-big] [--in-place] FILE < SCRIPT",
     after_help: Some(
         "\
 Lines of the script, of which empty ones and those that begin with # ask for nothing:
@@ -40,6 +40,7 @@ Lines of the script, of which empty ones and those that begin with # ask for not
     ),
     words: &[
         V1_BIG,
+        IN_PLACE,
         Word::Operand("FILE", "The file to edit, made where it is missing"),
     ],
 };
@@ -100,7 +101,7 @@ impl<'f, A: Allocator + Copy> Command<A> for EditKeytab<'f, A> {
     ghost plan = { λ c mode. ktedit_plan c.v1_order c.file c.events.items };
 
     // Every walk is given what is due to it.
-    ghost fairly = { λ c. ktedit_fairly c.v1_order c.events.items };
+    ghost fairly = { λ c. ktedit_fairly c.v1_order c.file c.events.items };
 
     fn file(&self) -> &str {
         self.file.name
@@ -128,7 +129,7 @@ pub fn run_ktedit<A: Allocator + Copy, F: Files, R: Read, W: Write, E: Write>(
 ) -> u8
     requires { IsFalse streams.old.out.failed }
     ensures { RunsScript F.Files files.old files.new streams.old.out streams.new.out streams.old.err streams.new.err result
-        (ktedit_plan v1_order file.entry) (ktedit_fairly v1_order) event_in streams.old.input streams.new.input }
+        (ktedit_plan v1_order file.entry) (ktedit_fairly v1_order file.entry) event_in streams.old.input streams.new.input }
 {
     match read_script(alloc, &mut streams.input) {
         Ok(events) => {
@@ -140,8 +141,8 @@ pub fn run_ktedit<A: Allocator + Copy, F: Files, R: Read, W: Write, E: Write>(
             run(alloc, &command, files, streams)
         }
         Err(error) => {
-            let cause = streams.input.cause();
-            report(Err(error), b"", None, cause, &mut streams.err)
+            let details = Details::unsaved(streams.input.cause());
+            report(Err(error), b"", None, details, &mut streams.err)
         }
     }
 }

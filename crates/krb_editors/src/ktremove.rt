@@ -10,9 +10,10 @@ ghost use Rattle.krb_driver.specs.Mistakes.{Reads, mistake_parts};
 use crate::selecting::{bad_etype, etypes_of, kvno_by_word};
 use krb_audit::{SelectedKvno, Selection, select};
 use krb_driver::{
-    Command, CommandName, CommandWords, DRY_RUN, FileError, FileKind, FileName, Made, Matches,
-    Mistake, Output, RunError, Streams, V1_BIG, Verdict, Word, WordFault, first_value, hold_if,
-    open_whole, report, run, spelled_names, spelled_seconds, times_given, v1_order,
+    Command, CommandName, CommandWords, DRY_RUN, Details, FileError, FileKind, FileName, IN_PLACE,
+    Made, Matches, Mistake, Output, RunError, Streams, V1_BIG, Verdict, Word, WordFault,
+    first_value, hold_if, open_whole, report, run, spelled_names, spelled_seconds, times_given,
+    v1_order,
 };
 use krb_files::Files;
 use krb_keytab::Keytab;
@@ -26,7 +27,7 @@ pub const KTREMOVE: CommandWords = CommandWords {
     name: "ktremove",
     about: "Removes entries from a keytab",
     usage: "\
-krbfile ktremove [--v1-big] [-n] [-p NAME].. [-k KVNO|old [--age SECONDS]] [-e ETYPE].. FILE",
+krbfile ktremove [--v1-big] [--in-place] [-n] [-p NAME].. [-k KVNO|old [--age SECONDS]] [-e ETYPE].. FILE",
     after_help: Some(
         "\
 Examples:
@@ -59,6 +60,7 @@ Examples:
             "Entries of that encryption type, by name or number; may be repeated",
         ),
         V1_BIG,
+        IN_PLACE,
         Word::Operand("FILE", "The file to remove from"),
     ],
 };
@@ -255,6 +257,12 @@ pub fn run_ktremove<A: Allocator + Copy, B: Allocator, F: Files, R: Read, W: Wri
             };
             run(alloc, &command, files, streams)
         }
-        Err(error) => report(Err(error), b"", None, None, &mut streams.err),
+        Err(error) => report(
+            Err(error),
+            b"",
+            None,
+            Details::unsaved(None),
+            &mut streams.err,
+        ),
     }
 }

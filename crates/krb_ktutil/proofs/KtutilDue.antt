@@ -24,7 +24,7 @@ use Rattle.krb_driver.specs.declared.verdict.FileKind.TheVariants.{Keytab}
 use Rattle.krb_driver.specs.FileNames.{has_type, is_other_type}
 use Rattle.krb_driver.specs.Loading.{keytab_of, keytab_or_new}
 use Rattle.krb_ktutil.specs.KtutilCommand.{Awaited, Command, Skip, ListSlots, ReadFile, WriteFile, AwaitKey, DeleteSlot, ClearList, Quit, command_of}
-use Rattle.krb_ktutil.specs.KtutilPlan.{KtutilState, Outcome, LineEffect, ComesTo, Saves, LinePlan, Added, kept, line_faults, no_keytab_end, none_added, save_end, saved_end, with_entries, with_added, saved_as, stays, written_to, key_line, with_key, command_plan, plan_by, plan_of}
+use Rattle.krb_ktutil.specs.KtutilPlan.{KtutilState, Outcome, LineEffect, ComesTo, Saves, LinePlan, Added, kept, line_faults, no_keytab_end, none_added, save_end, with_entries, with_added, saved_as, stays, written_to, key_line, with_key, command_plan, plan_by, plan_of}
 use Rattle.krb_ktutil.specs.KtutilFiles.{Shows, RunsOut, Settles, Handles}
 use Rattle.krb_ktutil.specs.KtutilHonest.{ShowsDue, FailsBy, FailsCall, HandlesHonestly, Spares, ReportsMemory, is_done, line_files}
 
@@ -54,15 +54,9 @@ no_keytab-reported (Load load.NoMemory) = tt
 no_keytab-reported (Open fault) = tt
 
 save-reported : (hidden : Option ℕ) (answer : Result (Unit {0}) SaveFault) → ReportsMemory (save_end hidden answer)
-save-reported None (Ok done) = tt
-save-reported (Some place) (Ok done) = tt
+save-reported hidden (Ok done) = tt
 save-reported hidden (Err save.Failed) = tt
 save-reported hidden (Err save.NoMemory) = tt
-
--- a line that saved its file is done
-saved-done : (hidden : Option ℕ) → is_done (saved_end hidden) ≡ true
-saved-done None = refl
-saved-done (Some place) = refl
 
 module _ (s : KtutilState) where
   kept-careful : (ending : LineEnd) → ReportsMemory ending → IsCareful s (kept s ending)
@@ -152,7 +146,7 @@ module _ {F : Type 0} (trait : Ghosts F) (old new : KtutilState) (out out' : Lis
 
   due-spared : (effect : LineEffect) (files files' : F) → ShowsDue trait effect files files' old new out out' ending → is_done ending ≡ false → SameFiles (trait.file files) (trait.file files')
   due-spared (ComesTo takes due) files files' shows differ = shows.files_are
-  due-spared (Saves name bytes hidden) files files' shows differ = absurd (true≢false (sym (saved-done hidden) ∙ sym (ap is_done shows.shows.ending_is) ∙ differ))
+  due-spared (Saves name bytes hidden) files files' shows differ = absurd (true≢false (sym (ap is_done shows.shows.ending_is) ∙ differ))
 
   module _ (files between files' : F) (same : SameFiles (trait.file files) (trait.file between)) (le : trait.failure_count files ≤ trait.failure_count between) (h : trait.is_honest between) where
     same-then : files' ≡ between → SameFiles (trait.file files) (trait.file files')

@@ -4,13 +4,14 @@ use Rattle.std.specs.Prelude.{IsTrue, IsFalse, max, if◌then◌else◌, Option,
 use Rattle.std.specs.Io.KnownBytes.{Appends}
 use Rattle.std.proofs.lemmas.Bool.{false≢true}
 use mathlib.Core.Path.{fun_ext}
+use Rattle.krb_files.specs.declared.aftermath.Aftermath.{Aftermath}
 use Rattle.krb_files.specs.declared.files.Files.{Ghosts}
 use Rattle.krb_ktutil.specs.declared.ktutil.line_end.LineEnd.{LineEnd}
 use Rattle.krb_driver.specs.ErrorOutput.{ErrorWatch}
 use Rattle.krb_files.specs.Files.{FileMap, SameFiles}
 use Rattle.krb_files.specs.Plan.{follow}
 use Rattle.krb_files.proofs.PlanLaws.{count-more, count-trans}
-use Rattle.krb_ktutil.specs.KtutilPlan.{KtutilState, Outcome, plan_of}
+use Rattle.krb_ktutil.specs.KtutilPlan.{KtutilState, Outcome, is_of_save, plan_of}
 use Rattle.krb_ktutil.specs.KtutilHonest.{ShowsDue, HandlesHonestly, line_files, line_outcome}
 use Rattle.krb_files.proofs.Prefixes.{Appends-nil, Appends-trans}
 use Rattle.krb_ktutil.proofs.KtutilDue.{Lasts, handles_honestly, handles_lasts}
@@ -21,7 +22,8 @@ use Rattle.krb_ktutil.specs.InputLines.{lines_of}
 use Rattle.krb_ktutil.specs.KtutilCommand.{named_in}
 use Rattle.krb_ktutil.specs.KtutilTalk.{Talk, ending_of, line_run, goes_on, AreFirst, Continues, Stops, TalksOver}
 use Rattle.krb_ktutil.specs.KtutilDue.{TalkDue, quiet_run, last_due, due_after, talk_due, GivesLines, LeavesDueUnlessFailed, TalksHonestly}
-use Rattle.krb_driver.specs.Runs.{Run, ReportsEnd, EndsRun, ends_by}
+use Rattle.krb_driver.specs.Runs.{Run, ReportsEnd, EndsRun, Writes, ends_by}
+use Rattle.krb_driver.specs.Words.{aftermath_words, own_text, words_if}
 use Rattle.krb_driver.specs.RunErrors.{Ending, ending_status, input_error, error_status}
 use Rattle.krb_driver.proofs.Shown.{ReportsEnd-nothing}
 
@@ -136,17 +138,20 @@ module _ {F : Type 0} (trait : Ghosts F) (now : ℕ) (final : Run) where
       ]
 
 -- a line was the last because memory ran out: what was due after those before it was left, and that was reported
-spent_by : {F : Type 0} (trait : Ghosts F) (file : List ℕ) (which : Option ℕ) (run : Run) (status : ℕ) (last end : Talk F) → EndsRun file which run last.out end.out last.err end.err status → end.status ≡ max last.status status → run.out ≡ [] → run.ending ≡ Err NoMemory
+spent_by : {F : Type 0} (trait : Ghosts F) (file : List ℕ) (which : Option ℕ) (run : Run) (status : ℕ) (last end : Talk F) (ends : EndsRun file which run last.out end.out last.err end.err status)
+    → ends.reported.reports.details.aftermath ≡ None → end.status ≡ max last.status status → run.out ≡ [] → run.ending ≡ Err NoMemory
     → SameFiles (trait.file last.files) (trait.file end.files) → (failed : Bool) → failed ≡ end.out.failed → LeavesDueUnlessFailed trait (last_due [] None (ends_by NoMemory) (trait.file last.files)) last end
-spent_by trait file which run status last end ends worst none memory same true is = inr (inl (sym is))
-spent_by trait file which run status last end ends worst none memory same false is =
+spent_by trait file which run status last end ends untold worst none memory same true is = inr (inl (sym is))
+spent_by trait file which run status last end ends untold worst none memory same false is =
     let done = ends.shows.done (sym is) in
     let spent = done.1 ∙ memory in
-    let reports : ReportsEnd file which (Err NoMemory) last.err end.err = subst (λ (e : Ending). ReportsEnd file which e last.err end.err) spent ends.reported.reports in
+    let reports = ends.reported.reports in
+    let text = λ (e : Ending) (a : Option Aftermath). own_text last.err.explains file which reports.details.cause e ++ words_if last.err.explains (aftermath_words file which a) in
+    let writes = subst (λ (a : Option Aftermath). Writes last.err.to end.err.to (text (Err NoMemory) a)) untold (subst (λ (e : Ending). Writes last.err.to end.err.to (text e reports.details.aftermath)) spent reports.writes) in
     inr (inr (record {
       files = same;
       out = subst (λ (text : List ℕ). Appends last.out.contents end.out.contents text) none done.0;
-      err = (end.err, record { cause = reports.cause; writes = reports.writes; still = reports.still }, refl);
+      err = (end.err, record { details = record { cause = reports.details.cause; aftermath = None }; writes = writes; still = reports.still }, refl);
       status = worst ∙ ap (max last.status) (ends.reported.status_is ∙ ap ending_status spent);
     }))
 
@@ -213,6 +218,6 @@ module _ {F : Type 0} (trait : Ghosts F) (now : ℕ) (given : Option (List ℕ))
         }
         | inr fails ↦ leaves_final (ends_by NoMemory) end (GivesLines-unread load.NoMemory (before_last given lines line are_first)) le (elim fails.why [
           | inl call ↦ inl call.0
-          | inr spent ↦ spent_by trait (named_in line) (Some (length lines + 1)) run handles.status last end handles.ends handles.worst fails.same (ap (ending_of (length lines + 1)) spent) fails.same_files end.out.failed refl
+          | inr spent ↦ spent_by trait (named_in line) (Some (length lines + 1)) run handles.status last end handles.ends (handles.told (ap is_of_save spent)) handles.worst fails.same (ap (ending_of (length lines + 1)) spent) fails.same_files end.out.failed refl
         ]) honest
       ]

@@ -7,13 +7,13 @@ use Rattle.krb_files.specs.Files.{FileMap, SameFiles, CountsFailure}
 use Rattle.krb_files.specs.Plan.{follow, with_bytes}
 use Rattle.krb_ktutil.specs.declared.ktutil.line_end.LineEnd.{LineEnd}
 use Rattle.krb_ktutil.specs.declared.ktutil.line_end.LineEnd.TheVariants as end
-use Rattle.krb_ktutil.specs.KtutilPlan.{KtutilState, Outcome, LineEffect, ComesTo, Saves, LinePlan, kept, saved_end}
+use Rattle.krb_ktutil.specs.KtutilPlan.{KtutilState, Outcome, LineEffect, ComesTo, Saves, LinePlan, kept}
 use Rattle.krb_ktutil.specs.KtutilFiles.{Shows}
 
 -- the outcome of a line if no call fails, and the files after it
 abbrev pub line_outcome : KtutilState → LineEffect → Outcome
 line_outcome s (ComesTo takes due) = due
-line_outcome s (Saves name bytes hidden) = kept s (saved_end hidden)
+line_outcome s (Saves name bytes hidden) = kept s (end.Saved hidden)
 
 abbrev pub line_files : FileMap → LineEffect → FileMap
 line_files files (ComesTo takes due) = files
@@ -22,7 +22,7 @@ line_files files (Saves name bytes hidden) = with_bytes files name bytes
 -- a line is done
 abbrev pub is_done : LineEnd → Bool
 is_done end.Done = true
-is_done (end.HiddenFrom place) = true
+is_done (end.Saved hidden) = true
 is_done ending = false
 
 -- if an allocation fails, in a file call too, the line ends with `NoMemory` and not with an error of the file

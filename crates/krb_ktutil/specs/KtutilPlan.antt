@@ -77,16 +77,17 @@ no_keytab_end (Load load.Failed) = end.Load load.Failed
 no_keytab_end (Load load.NoMemory) = end.NoMemory
 no_keytab_end (Open why) = end.NotAKeytab why
 
--- how a line ends after its file was saved: it tells the place from which on MIT's programs see no entry, if there is one
-abbrev pub saved_end : Option ℕ → LineEnd
-saved_end None = end.Done
-saved_end (Some place) = end.HiddenFrom place
-
--- how a line ends after the save of its file: if the save failed, it does not tell that place
+-- how a line ends after the save of its file: it tells the place from which on MIT's programs see no entry, if there is one and the save did not fail
 abbrev pub save_end : Option ℕ → Result (Unit {0}) SaveFault → LineEnd
-save_end hidden (Ok done) = saved_end hidden
+save_end hidden (Ok done) = end.Saved hidden
 save_end hidden (Err save.Failed) = end.Save save.Failed
 save_end hidden (Err save.NoMemory) = end.NoMemory
+
+-- a line ends with its save, done or failed
+abbrev pub is_of_save : LineEnd → Bool
+is_of_save (end.Saved hidden) = true
+is_of_save (end.Save fault) = true
+is_of_save ending = false
 
 -- the entries of a keytab are appended to the list; a damaged one is refused
 abbrev pub with_entries : KtutilState → Result KeytabState NoKeytab → LineEffect

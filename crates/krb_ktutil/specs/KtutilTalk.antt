@@ -10,11 +10,12 @@ use Rattle.krb_files.specs.Reader.{Source, is_failed}
 use Rattle.krb_ktutil.specs.declared.ktutil.line_end.LineEnd.{LineEnd}
 use Rattle.krb_ktutil.specs.declared.ktutil.line_end.LineEnd.TheVariants as end
 use Rattle.krb_driver.specs.declared.file_name.NameSource.TheVariants.{Word}
-use Rattle.krb_driver.specs.declared.verdict.Verdict.TheVariants.{Well, HiddenFrom}
+use Rattle.krb_driver.specs.declared.verdict.Verdict.TheVariants.{Well}
 use Rattle.krb_driver.specs.declared.error.RunError.TheVariants as error
+use Rattle.krb_driver.specs.Verdicts.{hiding}
 use Rattle.krb_driver.specs.ErrorOutput.{ErrorWatch}
 use Rattle.krb_ktutil.specs.KtutilCommand.{named_in}
-use Rattle.krb_ktutil.specs.KtutilPlan.{KtutilState, plan_of}
+use Rattle.krb_ktutil.specs.KtutilPlan.{KtutilState, is_of_save, plan_of}
 use Rattle.krb_ktutil.specs.KtutilFiles.{Handles}
 use Rattle.krb_ktutil.specs.InputLines.{CutsOff, lines_of}
 use Rattle.krb_files.specs.Loading.{most_bytes}
@@ -24,7 +25,7 @@ use Rattle.krb_driver.specs.RunErrors.{Ending, input_error, load_error, save_err
 -- the ending of a line of that number
 abbrev pub ending_of : ℕ → LineEnd → Ending
 ending_of number end.Done = Ok Well
-ending_of number (end.HiddenFrom place) = Ok (HiddenFrom place)
+ending_of number (end.Saved hidden) = Ok (hiding hidden Well)
 ending_of number end.Quit = Ok Well
 ending_of number (end.Fault fault) = Err (error.FaultyLine number fault)
 ending_of number (end.Refused code) = Err (error.LineRefused number code)
@@ -68,12 +69,13 @@ abbrev pub AreFirst : List (List ℕ) → Option (List ℕ) → Type 0
 AreFirst lines given = IfSome given (λ bytes. (more : List (List ℕ)) × (lines_of bytes ≡ lines ++ more))
 
 module _ {F : Type 0} (trait : Ghosts F) (now : ℕ) where
-  -- a line was run by its plan: its text was printed, its end was reported, and the worst status was kept
+  -- a line was run by its plan: its text was printed, its end was reported, and the worst status was kept; only the line of a save tells what that left behind
   pub record HandlesLine (number : ℕ) (line : List ℕ) (old new : Talk F) (ending : LineEnd) : Type 0 where
     pub text : List ℕ
     pub status : ℕ
     pub handled : Handles trait (plan_of old.state now line) old.files new.files old.state new.state [] text ending
     pub ends : EndsRun (named_in line) (Some number) (line_run number ending text) old.out new.out old.err new.err status
+    pub told : IsFalse (is_of_save ending) → ends.reported.reports.details.aftermath ≡ None
     pub worst : new.status ≡ max old.status status
 
   -- a line was run, and the next one may come

@@ -17,12 +17,13 @@ mod words;
 
 use crate::input_lines::InputLines;
 use krb_driver::{
-    CommandName, CommandWords, ErrorOutput, NameSource, RunError, Streams, V1_BIG, Verdict,
-    cause_of, report, show,
+    CommandName, CommandWords, Details, ErrorOutput, IN_PLACE, NameSource, RunError, Streams,
+    V1_BIG, Verdict, details_of, report, show,
 };
 use krb_files::{Files, Watched};
 use krb_wire::Order;
 pub use line_end::LineEnd;
+use line_end::details_to_tell;
 pub use named::file_word;
 pub use state::Ktutil;
 use std::alloc::Allocator;
@@ -33,7 +34,7 @@ pub const KTUTIL: CommandWords = CommandWords {
     command: CommandName::Ktutil,
     name: "ktutil",
     about: "Edits a list of entries by commands from the standard input",
-    usage: "krbfile ktutil [--v1-big] < COMMANDS",
+    usage: "krbfile ktutil [--v1-big] [--in-place] < COMMANDS",
     after_help: Some(
         "\
 Commands, each on a line, and their short names:
@@ -46,7 +47,7 @@ Commands, each on a line, and their short names:
   clear_list, clear          Empties the list
   quit, q, exit              Ends",
     ),
-    words: &[V1_BIG],
+    words: &[V1_BIG, IN_PLACE],
 };
 
 /// The state of a run of ktutil between two lines.
@@ -74,7 +75,7 @@ fn ending_of(number: u64, ending: LineEnd) -> Result<Verdict, RunError>
 {
     match ending {
         LineEnd::Done | LineEnd::Quit => Ok(Verdict::Well),
-        LineEnd::HiddenFrom(place) => Ok(Verdict::HiddenFrom(place)),
+        LineEnd::Saved(hidden_from) => Ok(Verdict::Well.hiding(hidden_from)),
         LineEnd::Fault(fault) => Err(RunError::FaultyLine {
             line: number,
             fault,
@@ -122,8 +123,8 @@ impl<A: Allocator + Copy> Talk<A> {
         self.text.clear();
         let ending = self.ktutil.line(files, line, self.now, &mut self.text);
         let shown = show(&self.text, ending_of(number, ending), out);
-        let cause = cause_of(&shown, files, out);
-        let status = report(shown, file_word(line), Some(number), cause, err);
+        let details = details_to_tell(ending, details_of(&shown, files, out));
+        let status = report(shown, file_word(line), Some(number), details, err);
         self.status = self.status.max(status);
         goes_on(ending, out.has_failed())
     }
@@ -156,7 +157,7 @@ pub fn run_ktutil<A: Allocator + Copy, F: Files, R: Read, W: Write, E: Write>(
                     Err(RunError::of_input(fault)),
                     b"",
                     None,
-                    input.cause(),
+                    Details::unsaved(input.cause()),
                     err,
                 );
                 return talk.status.max(status);

@@ -14,7 +14,10 @@ use krb_commands::{ErrorOutput, Streams};
 use krb_disk::DiskFiles;
 use krb_files::{Watched, WatchedReader};
 use krb_terminal::Screen;
-use run::{asks_to_explain, is_out_of_memory, parsed, prints_json, run, wants_plain, words_of};
+use run::{
+    asks_to_explain, is_out_of_memory, parsed, prints_json, run, saves_in_place, wants_plain,
+    words_of,
+};
 use silent::asks_for_silence;
 use std::io::IsTerminal;
 use std::process::ExitCode;
@@ -28,6 +31,9 @@ fn main(rt: HostRuntime) -> ExitCode {
     let mut files = DiskFiles::new(&rt);
     if wants_plain(&parsed) {
         files.only_plain();
+    }
+    if saves_in_place(&parsed) {
+        files.save_in_place();
     }
     let out = rt.stdout();
     let err = rt.stderr();

@@ -52,6 +52,14 @@ pub fn wants_plain(parsed: &Result<Action<'_>, WordFault<'_>>) -> bool {
     }
 }
 
+/// Returns whether the files are to be told to save in place.
+pub fn saves_in_place(parsed: &Result<Action<'_>, WordFault<'_>>) -> bool {
+    match parsed {
+        Ok(action) => action.saves_in_place(),
+        Err(_) => false,
+    }
+}
+
 /// Returns whether the run prints JSON.
 pub fn prints_json(parsed: &Result<Action<'_>, WordFault<'_>>) -> bool {
     match parsed {

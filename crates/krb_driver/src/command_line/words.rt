@@ -42,6 +42,12 @@ pub struct CommandWords {
 /// The flag `--v1-big`.
 pub const V1_BIG: Word = Word::LongFlag("v1-big", "Version 1 files are big-endian");
 
+/// The flag `--in-place`.
+pub const IN_PLACE: Word = Word::LongFlag(
+    "in-place",
+    "Write the file where it stands, and make no new one",
+);
+
 /// The flag `-n`, `--dry-run`.
 pub const DRY_RUN: Word = Word::Flag(
     "dry-run",

@@ -2,7 +2,7 @@
 
 ghost use Rattle.std.specs.Prelude.{◌++◌};
 ghost use Rattle.krb_driver.specs.PieceTexts.{piece_text, pieces_text, shown_word};
-ghost use Rattle.krb_driver.specs.Runs.{Writes};
+ghost use Rattle.krb_driver.specs.Runs.{Writes, WritesOn};
 ghost use Rattle.krb_driver.specs.Underway.{Adds, Sends};
 
 use crate::reporting::piece::{MessagePiece, shown_byte};
@@ -88,6 +88,15 @@ pub fn write_pieces<E: Write>(
 {
     let mut gathered = ArrayVec::new();
     add_pieces(message, &mut gathered, err);
+    add_pieces(words, &mut gathered, err);
+    send(&gathered, err);
+}
+
+/// Writes words after what was written, in one write if they fit; nothing if a write failed. Ignores a failure.
+pub fn write_on<E: Write>(err: &mut Watched<E>, words: &[MessagePiece<'_>])
+    ensures { WritesOn err.old err.new (pieces_text words.now) }
+{
+    let mut gathered = ArrayVec::new();
     add_pieces(words, &mut gathered, err);
     send(&gathered, err);
 }

@@ -1,9 +1,9 @@
 //! How a line of ktutil ends.
 
-ghost use Rattle.std.specs.Prelude.{◌≡◌};
-ghost use Rattle.krb_ktutil.specs.KtutilPlan.{no_keytab_end, save_end, saved_end};
+ghost use Rattle.std.specs.Prelude.{◌≡◌, None, if◌then◌else◌};
+ghost use Rattle.krb_ktutil.specs.KtutilPlan.{is_of_save, no_keytab_end, save_end};
 
-use krb_driver::{NoKeytab, NotKeytab};
+use krb_driver::{Details, NoKeytab, NotKeytab};
 use krb_files::{LoadFault, SaveFault};
 use krb_text::LineFault;
 use krb_walk::Code;
@@ -12,8 +12,9 @@ use krb_walk::Code;
 #[derive(Clone, Copy, PartialEq, Eq)]
 pub enum LineEnd {
     Done,
-    /// Done, but MIT's programs do not see an entry that was added: they see none from this place on.
-    HiddenFrom(u32),
+    /// Done, and a file was saved. If there is a place, MIT's programs see no entry from it on, and one that was added is
+    /// among those.
+    Saved(Option<u32>),
     Quit,
     Fault(LineFault),
     /// A keytab refused what was read from it or added to it.
@@ -40,23 +41,24 @@ impl From<NoKeytab> for LineEnd {
     }
 }
 
-// Returns how a line ends after its file was saved. MIT's programs see no entry from that place on, if one is given.
-fn saved_end(hidden_from: Option<u32>) -> LineEnd
-    ensures { result ≡ saved_end hidden_from }
-{
-    match hidden_from {
-        None => LineEnd::Done,
-        Some(place) => LineEnd::HiddenFrom(place),
-    }
-}
-
 /// Returns how a line ends after the save of its file. If the save failed, nothing is said of what MIT's programs see.
 pub fn save_end(hidden_from: Option<u32>, saved: Result<(), SaveFault>) -> LineEnd
     ensures { result ≡ save_end hidden_from saved }
 {
     match saved {
-        Ok(()) => saved_end(hidden_from),
+        Ok(()) => LineEnd::Saved(hidden_from),
         Err(SaveFault::NoMemory) => LineEnd::NoMemory,
         Err(SaveFault::Failed) => LineEnd::Save(SaveFault::Failed),
+    }
+}
+
+/// Returns what is told of a line that ended so: what the last save left behind only if that was the line's own.
+pub fn details_to_tell(ending: LineEnd, details: Details) -> Details
+    ensures cause { result.cause ≡ details.cause }
+    ensures aftermath { result.aftermath ≡ (if is_of_save ending then details.aftermath else None) }
+{
+    match ending {
+        LineEnd::Saved(_) | LineEnd::Save(_) => details,
+        _ => Details::unsaved(details.cause),
     }
 }

@@ -277,7 +277,7 @@ impl ActionKind {
             }
             ActionKind::Ccedit => Action::Ccedit(cache),
             ActionKind::Ccremove(dry_run) => Action::Ccremove(tickets(alloc, dry_run)?, cache),
-            ActionKind::Ktutil => Action::Ktutil(Order::Little),
+            ActionKind::Ktutil => Action::Ktutil(Order::Little, false),
         }))
     }
 }

@@ -7,4 +7,5 @@ unfolding whole_or_empty
 returns g c =
     let order = c.args.v1_order in
     let file = c.args.file in
-    rw c.whole.ensures (opens-by g.F.Files c.args.files.now file (whole_or_empty order) _ c.give_or_fresh-given.new.files (gives-unless g.F.Files c.args.files.now file (fresh_in order) keytab_refusal _ c.give_or_fresh-given.new.files c.give_or_fresh-given.ensures))
+    let in_place = file.in_place in
+    rw c.whole.ensures (opens-by g.F.Files c.args.files.now file (whole_or_empty order in_place) _ c.give_or_fresh-given.new.files (gives-unless g.F.Files c.args.files.now file (fresh_in order in_place) keytab_refusal _ c.give_or_fresh-given.new.files c.give_or_fresh-given.ensures))

@@ -8,7 +8,7 @@ use Rattle.krb_readers.proofs.ktcheck.run_ktcheck.Goals as goal
 
 -- no file
 abbrev none : FileName
-none = record { name = record { ref_ptr = (0, 0); now = [] }; is_other_type = false; source = Word }
+none = record { name = record { ref_ptr = (0, 0); now = [] }; is_other_type = false; source = Word; in_place = false }
 
 pub names-preserved : goal.names-preserved
 names-preserved g c =

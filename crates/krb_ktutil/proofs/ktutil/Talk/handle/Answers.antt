@@ -15,8 +15,16 @@ returns-clause-next g c =
       ends = record {
         ending = c.show-shown.result;
         shows = rw (c.deref.ensures.value, c.ending_of.ensures) at c.show-shown.ensures;
-        reported = rw c.file_word.ensures at c.report-status.ensures.reports;
+        reported = record {
+          reports = record {
+            details = c.details_to_tell-details.result;
+            writes = rw c.file_word.ensures at c.report-status.ensures.text;
+            still = c.report-status.ensures.reports.reports.still;
+          };
+          status_is = c.report-status.ensures.reports.status_is;
+        };
       };
+      told = λ other. rw other at c.details_to_tell-details.ensures.aftermath;
       worst = c.max-self.ensures;
     } in
     rw c.goes_on.ensures (HandlesNext-by g.F.Files c.args.self.now.now c.args.number c.args.line.now old new c.line-ending.result handles (goes_on c.line-ending.result) c.has_failed.result refl c.has_failed.ensures)

@@ -7,5 +7,5 @@ use Rattle.krb_ktutil.proofs.ktutil.state.Ktutil.read.Goals as goal
 -- the word's type is not read
 pub returns-then-file : goal.returns-then-file
 returns-then-file g c =
-    let other : is_other_type Keytab c.args.word.now ≡ true = sym c.of-file.ensures.other ∙ c.if-file.true in
+    let other : is_other_type Keytab c.args.word.now ≡ true = sym c.of-file.ensures.named.other ∙ c.if-file.true in
     rw other (handles_stays g.F.Files)

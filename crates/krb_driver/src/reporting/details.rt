@@ -1,0 +1,54 @@
+//! What the calls of a run tell beside their results.
+
+ghost use Rattle.std.specs.Prelude.{◌≡◌, None};
+
+use crate::error::RunError;
+use crate::verdict::Verdict;
+use krb_files::{Aftermath, Cause, Files, Watched};
+use std::io::Write;
+
+/// What the calls of a run, or of a line of ktutil, tell beside their results.
+#[derive(Clone, Copy)]
+pub struct Details {
+    /// Why a call failed, if one did and that is known.
+    pub cause: Option<Cause>,
+    /// What the save left behind, if that is to be told.
+    pub aftermath: Option<Aftermath>,
+}
+
+impl Details {
+    /// Returns the details of calls of which none was a save.
+    pub fn unsaved(cause: Option<Cause>) -> Details
+        ensures cause { result.cause ≡ cause }
+        ensures aftermath { result.aftermath ≡ None }
+    {
+        Details {
+            cause,
+            aftermath: None,
+        }
+    }
+}
+
+/// Returns why the run's failed call failed: the last failed write of `out` if it was that, else the call of `files`.
+pub fn cause_of<F: Files, W: Write>(
+    ending: &Result<Verdict, RunError>,
+    files: &F,
+    out: &Watched<W>,
+) -> Option<Cause> {
+    match ending {
+        Err(RunError::OutputNotWritten) => out.cause(),
+        _ => files.cause(),
+    }
+}
+
+/// Returns the details of a run that ended so: its cause, and what the last save of `files` left behind.
+pub fn details_of<F: Files, W: Write>(
+    ending: &Result<Verdict, RunError>,
+    files: &F,
+    out: &Watched<W>,
+) -> Details {
+    Details {
+        cause: cause_of(ending, files, out),
+        aftermath: files.aftermath(),
+    }
+}
