@@ -8,7 +8,7 @@ from collections.abc import Callable
 from keytabs.edits import ADD_B
 from makers.images import B, keytab
 from models.script_model import edited
-from runs.harness import Outcome, Report, differences, folder_of, run
+from runs.harness import Outcome, Report, differences, folder_of, message, run
 from runs.preload import Line
 from runs.rows import text
 from runs.system_calls import Halt, check_traced, halted
@@ -23,14 +23,16 @@ HALTS = {
     "making": Halt("openat", paths=("k.krbfile",)),
     "finding": Halt("openat", 2, ("k.krbfile",)),
     "opening": Halt("openat", paths=("k", "file")),
+    "missing": Halt("?statx,?newfstatat,?lstat,?lstat64", 2, ("k",)),
+    "load": Halt("read", 2, ("k", "file")),
     "writing": Halt("write"),
     "syncing": Halt("fsync"),
 }
 
 
-def edited_while(program: str, folder: str, call: str, change: Place) -> Outcome:
+def edited_while(program: str, folder: str, call: str, change: Place, *options: str) -> Outcome:
     """Makes a run that adds an entry, and halts it after a system call while a change is made."""
-    return halted(program, Line(("ktedit", "k"), SCRIPT), folder, HALTS[call], change)
+    return halted(program, Line(("ktedit", *options, "k"), SCRIPT), folder, HALTS[call], change)
 
 
 def named(name: str, make: Callable[[str], None]) -> Place:
@@ -48,7 +50,8 @@ def at_name(do: Callable[[str], None]) -> Place:
     return lambda folder: do(os.path.join(folder, "k"))
 
 
-# What replaces the file after it was opened to be loaded, and whether there was one.
+# What replaces the file after it was loaded, or found to be missing, and whether there was one. The last ones replace
+# the new file.
 REPLACED: list[tuple[str, bool, Place]] = [
     ("another file of the same bytes", True, named("k", lambda path: write(path, OLD))),
     ("a link to another file", True, named("k", lambda path: os.symlink("other", path))),
@@ -82,7 +85,7 @@ def known(folder: str) -> dict[str, object]:
     return found
 
 
-def check_change(report: Report, program: str, call: str, of: tuple[str, bool, Place]) -> None:
+def check_change(report: Report, program: str, call: str, of: tuple[str, bool, Place], *options: str) -> None:
     """Makes a change after that call of a run: the file stays as it is, and so does what took its name."""
     what, is_there, change = of
     with folder_of({"old": OLD, "other": b"other"}) as folder:
@@ -94,27 +97,30 @@ def check_change(report: Report, program: str, call: str, of: tuple[str, bool, P
             change(folder)
             wanted.update(known(folder))
 
-        faults = differences(UNSAVED, edited_while(program, folder, call, change_and_look))
+        faults = differences(UNSAVED, edited_while(program, folder, call, change_and_look, *options))
         if known(folder) != wanted or NEW in tree(folder).values():
             faults.append(f"{[*tree(folder)]} are there, or are not as they were")
-    report.check(f"{what}, behind the {call} of a run", faults)
+    report.check(f"{what}, behind the {call} of a run {' '.join(options)}", faults)
 
 
 def check_changes(report: Report, program: str) -> None:
     """Checks that a file that changed since it was loaded is not saved."""
-    for call in ("opening", "writing", "syncing"):
-        for of in REPLACED:
+    for of in REPLACED:
+        for call in ("load" if of[1] else "missing", "writing", "syncing"):
             check_change(report, program, call, of)
-    for call in ("writing", "syncing"):
-        for of in CHANGED if os.geteuid() == 0 else CHANGED[:-2]:
+    changed = CHANGED if os.geteuid() == 0 else CHANGED[:-2]
+    for of in changed:
+        for call in ("load", "writing", "syncing"):
             check_change(report, program, call, of)
+    for of in [*(of for of in REPLACED[:-2] if of[1]), *changed]:
+        check_change(report, program, "load", of, "--in-place")
 
 
 def check_led_elsewhere(report: Report, program: str) -> None:
     """Checks a link that changes: the file that was loaded is saved, and no other gets its keys."""
     places = {"another link": lambda path: os.symlink("other", path),
               "a file": lambda path: write(path, OLD, 0o644)}
-    for call in ("opening", "writing", "syncing"):
+    for call in ("opening", "load", "writing", "syncing"):
         for what, make in places.items():
             with folder_of({"file": OLD, "other": OLD}) as folder:
                 os.symlink("file", os.path.join(folder, "k"))
@@ -137,6 +143,20 @@ def check_led(report: Report, program: str) -> None:
             faults = differences(SAVED, edited_while(program, folder, "look", change))
             faults += tree_faults({"k": "file", "file": NEW}, folder)
         report.check(f"{what} at the end of a link, behind a look at it", faults)
+
+
+def check_opened_anew(report: Report, program: str) -> None:
+    """Checks that a run whose file is replaced before it has locked it loads and saves the one that is there then."""
+    outcome, image = edited(keytab(B), SCRIPT)
+    other, none = named("k", lambda path: write(path, keytab(B))), at_name(os.remove)
+    changes = [("another file", (), outcome, {"k": image}, other), ("no file any more", (), SAVED, {"k": NEW}, none),
+               ("another file", ("--in-place",), outcome, {"k": image}, other),
+               ("no file any more", ("--in-place",), message(1, "k: no such file"), {}, none)]
+    for what, options, wanted, after, change in changes:
+        with folder_of({"k": OLD}) as folder:
+            faults = differences(wanted, edited_while(program, folder, "opening", change, *options))
+            faults += tree_faults(after, folder)
+        report.check(f"{what}, behind the opening of a run {' '.join(options)}", faults)
 
 
 def check_crossed(report: Report, program: str) -> None:
@@ -182,4 +202,4 @@ def check_crossed_hold(report: Report, program: str) -> None:
 def check(report: Report, program: str) -> None:
     """Runs this topic."""
     check_traced(report, program, "files that are changed meanwhile", check_changes,
-                 check_led_elsewhere, check_led, check_crossed, check_crossed_hold)
+                 check_led_elsewhere, check_led, check_opened_anew, check_crossed, check_crossed_hold)
