@@ -152,6 +152,21 @@ ssize_t write(int fd, const void *bytes, size_t size)
     return syscall(SYS_write, fd, bytes, at_most(size));
 }
 
+/* A write to a place of a file, under both of its names. */
+ssize_t pwrite(int fd, const void *bytes, size_t size, off_t at)
+{
+    ssize_t answer;
+    counts->writes += in_main;
+    if (in_main && !grants(&saves, &answer))
+        return answer;
+    return syscall(SYS_pwrite64, fd, bytes, at_most(size), at);
+}
+
+ssize_t pwrite64(int fd, const void *bytes, size_t size, off64_t at)
+{
+    return pwrite(fd, bytes, size, at);
+}
+
 int clock_gettime(clockid_t clock, struct timespec *time)
 {
     if (!in_main || clock != CLOCK_REALTIME || (clock_seconds == 0 && !fail_clock))

@@ -19,8 +19,8 @@ CALL = re.compile(r"(\w+)\(")
 
 # The calls by which a run accesses its files.
 CALLS = (
-    "open,openat,read,pread64,write,pwrite64,writev,close,statx,fstat,newfstatat,lstat,stat,"
-    "readlink,readlinkat,ftruncate,chown,fchown,lchown,fchownat,chmod,fchmod,fchmodat,fsync,"
+    "open,openat,lseek,read,pread64,write,pwrite64,writev,close,statx,fstat,newfstatat,lstat,"
+    "stat,readlink,readlinkat,ftruncate,chown,fchown,lchown,fchownat,chmod,fchmod,fchmodat,fsync,"
     "fdatasync,flock,fcntl,link,linkat,rename,renameat,renameat2,unlink,unlinkat"
 )
 

@@ -14,7 +14,7 @@ from runs.harness import Report
 from runs.preload import preloaded
 from runs.system_calls import check_traced
 from system.failing_streams import OF_LARGE, OF_SMALL, Ends, check_few_bytes, check_setting, settings_of
-from system.failing_system_calls import PRINT, check_run, hold, load, save
+from system.failing_system_calls import PRINT, check_run, held, hold, load, save
 from system.narrow_room import SPACE, faults_in
 from system.refused_memory import FEW, SOME, spread
 from system.refused_memory import check_run as check_memory
@@ -50,7 +50,7 @@ def large() -> list[Modelled]:
 
 def check_calls(report: Report, program: str) -> None:
     """Lets each system call of a copy fail, and kills the run at each."""
-    steps = [*load("k"), *hold("t"), *load("t", 2)]
+    steps = [*load("k"), *hold("t"), *held(2)]
     add = ktcopy(TWO, keytab(HOST), request=Request(), name="an entry")
     check_run(report, program, modelled(add), [*steps, *save("t"), PRINT])
     new = ktcopy(TWO, None, request=Request(), name="no file")

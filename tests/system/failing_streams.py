@@ -90,7 +90,7 @@ class Ends:
             return [*self.talks("load")]
         if words[0] == "ktcheck":
             return [*self.unread_keytabs()]
-        names = words[-2:] if words[0] == "ktcopy" else [words[1] if words[0] in ("ktfind", "ktedit") else words[-1]]
+        names = words[-2:] if words[0] == "ktcopy" else [words[1] if words[0] == "ktfind" else words[-1]]
         return [(message(3, f"{name}: cannot read"), self.run.case.files) for name in names]
 
     @cached_property

@@ -22,7 +22,7 @@ from system.failing_streams import Ends, ends_in_output
 ERRORS = ("EIO", "ENOSPC", "EACCES", "EPERM", "EINTR", "ENOMEM")
 
 # The calls that are repeated if they were interrupted. Reads and writes are not.
-REPEATED = ("open", "openat", "flock", "fchmod", "fsync")
+REPEATED = ("open", "openat", "flock", "fchmod", "fsync", "pwrite64", "ftruncate")
 
 # How often the list of locks is read.
 READINGS = 5
@@ -66,39 +66,52 @@ def needed(nth: int, *patterns: str) -> list[Step]:
     return [Step(pattern, "save", nth) for pattern in patterns]
 
 
+def lock(name: str, nth: int = 1, mode: str = "O_RDONLY") -> list[Step]:
+    """Returns the steps of a lock, which is tried by another handle where one does not take it."""
+    stat = rf'\w*stat\w*\(.*"{name}"'
+    disk = [*looked(r"/proc/self/fdinfo/\d+"), *looked("/proc/self/mountinfo")]
+    return [*needed(nth, stat, rf'open.*"{name}", {mode}'), Step(r"flock", ""),
+            *needed(nth, r"\w*stat\w*\(\d", stat, r"\w*stat\w*\(\d"), *disk, *listed()]
+
+
 def hold(name: str, nth: int = 1) -> list[Step]:
     """Returns the steps of a hold; without it a file is loaded and not saved. Only the owner may read the new file."""
-    stat = rf'\w*stat\w*\(.*"{name}"'
-    made = needed(nth, stat, r"open.*O_CREAT\|O_EXCL\b.*, 0600\)", r"flock", r"\w*stat\w*\(\d",
-                  rf'\w*stat\w*\(.*"{name}\.krbfile"', r"fcntl")
-    disk = [*looked(r"/proc/self/fdinfo/\d+"), *looked("/proc/self/mountinfo")]
-    return [*made, Step(r"close", ""), *disk, *needed(nth, stat), *listed()]
+    made = needed(nth, rf'\w*stat\w*\(.*"{name}"', r"open.*O_CREAT\|O_EXCL\b.*, 0600\)", r"flock",
+                  r"\w*stat\w*\(\d", rf'\w*stat\w*\(.*"{name}\.krbfile"', r"fcntl")
+    return [*made, Step(r"close", ""), *lock(name, nth)]
+
+
+def held(nth: int = 1) -> list[Step]:
+    """Returns the steps of a load of a file that is held."""
+    return [Step(pattern, "load", nth) for pattern in (r"lseek", r"\w*stat\w*\(\d", r"read\([1-9]")]
 
 
 def save(name: str, nth: int = 1, is_new: bool = False) -> list[Step]:
-    """Returns the steps of a save. It is done even if the folder cannot be synced."""
+    """Returns the steps of a save. It is done even if the folder cannot be synced, or the old file be looked at."""
     stat = rf'\w*stat\w*\(.*"{name}'
     owner = [] if is_new else [Step(r"fchown", "owner", nth), *needed(nth, r"\w*stat\w*\(\d")]
     made = needed(nth, r"fchmod", r"fsync", r"\w*stat\w*\(\d", stat + r'\.krbfile"', stat + '"')
     again = needed(nth, rf'open.*"{name}", O_RDONLY', r"\w*stat\w*\(\d", r"read\([1-9]")
     again = [] if is_new else [*again, Step(r"close", ""), *listed()]
     synced = [Step(pattern, "") for pattern in (r'open.*"\."', r"fsync", r"close")]
-    return [*needed(nth, r"write\([3-9]"), *owner, *made, *again, *needed(nth, r"rename"), *synced]
+    seen = [] if is_new else [Step(pattern, "") for pattern in (r"lseek", r"read\([1-9]")]
+    return [*needed(nth, r"write\([3-9]"), *owner, *made, *again, *needed(nth, r"rename"), *synced, *seen,
+            Step(r"close", "")]
 
 
 READ = Step(r"read\(0", "input")
 PRINT = Step(r"write\(1", "output")
 
 TALK = b"rkt j\nl\nwkt k\nwkt n\nl -e\nrkt n\nl\n"
-TALKED = [READ, *load("j"), PRINT, *hold("k"), *load("k", 2), *save("k"), *hold("n", 2),
-          *load("n", 3), *save("n", 2, is_new=True), PRINT, *load("n", 4), PRINT, READ]
+TALKED = [READ, *load("j"), PRINT, *hold("k"), *held(2), *save("k"), *hold("n", 2), *save("n", 2, is_new=True), PRINT,
+          *load("n", 4), PRINT, READ]
 
 
 def runs() -> list[tuple[Modelled, list[Step]]]:
     """Returns runs and their steps."""
     add = b"add 3 17 0 000102030405060708090a0b0c0d0e0f host/a@R\n"
     config = b"start\ncut 40\nconfig pa_type krbtgt/R@R 3\n"
-    change_k, change_c = ([*hold(name), *load(name), *save(name), PRINT] for name in "kc")
+    change_k, change_c = ([*hold(name), *held(), *save(name), PRINT] for name in "kc")
     return [(modelled(case), steps) for case, steps in (
         (cases.klist(TWO, columns="tKe"), [*load("k"), PRINT]),
         (cases.klist_cache(USUAL, words=("-cefC", "c")), [*load("c"), PRINT]),
@@ -106,7 +119,7 @@ def runs() -> list[tuple[Modelled, list[Step]]]:
         (cases.ktcheck(TWO), [*load("k"), PRINT]),
         (cases.ktcheck_all(files=(("k", TWO), ("j", keytab(B, B)))), [*load("k"), PRINT, *load("j", 2), PRINT]),
         (cases.ktedit(TWO, b"start\ncut 2\n" + add, name="a keytab"), [READ, *change_k]),
-        (cases.ktedit(None, add, name="no file"), [READ, *hold("k"), *load("k"), *save("k", is_new=True), PRINT]),
+        (cases.ktedit(None, add, name="no file"), [READ, *hold("k"), *save("k", is_new=True), PRINT]),
         (cases.ktremove(TWO, selection=Selection((b"host/a@R",)), name="a keytab"), change_k),
         (cases.ccedit(USUAL, config, name="a cache"), [READ, *change_c]),
         (cases.ccremove(USUAL, NOW, selection=TicketSelection(b"krbtgt/R@R"), name="a cache"), change_c),
@@ -199,22 +212,30 @@ def hasty_renames(calls: list[Call], run: Modelled) -> list[str]:
     return found
 
 
+def calls_of_run(report: Report, program: str, run: Modelled, steps: list[Step]) -> list[Call]:
+    """Returns the calls of a run, each of which has to belong to a step."""
+    got, trace = traced_run(program, run)
+    calls = [*calls_of(trace, first_text(run, steps))]
+    report.check(f"the locks before a rename of {run.case.name}", hasty_renames(calls, run))
+    is_wanted = steps_of(calls, steps) and run.is_whole(got.outcome, got.files)
+    report.check(f"the system calls of {run.case.name}", [] if is_wanted else ["not as wanted"])
+    return calls if is_wanted else []
+
+
+def check_failure(report: Report, program: str, ends: Ends, steps: list[Step], call: Call, error: str) -> None:
+    """Lets a call of a run fail."""
+    run = ends.run
+    got, trace = traced_run(program, run, *call.to(f"error={error}"))
+    step = failed_step(trace, first_text(run, steps), steps)
+    report.check(f"{call} fails with {error}: {run.case.name}", faults_of_failure(ends, call, step, error, got))
+
+
 def check_run(report: Report, program: str, run: Modelled, steps: list[Step]) -> None:
     """Lets each call of a run fail, and kills the run at each."""
-    got, trace = traced_run(program, run)
-    first = first_text(run, steps)
-    calls = [*calls_of(trace, first)]
-    report.check(f"the locks before a rename of {run.case.name}", hasty_renames(calls, run))
-    found = steps_of(calls, steps)
-    report.check(f"the system calls of {run.case.name}",
-                 [] if found and run.is_whole(got.outcome, got.files) else ["not as wanted"])
     ends = Ends(run)
-    for call, _ in found or []:
+    for call in calls_of_run(report, program, run, steps):
         for error in ERRORS:
-            got, trace = traced_run(program, run, *call.to(f"error={error}"))
-            step = failed_step(trace, first, steps)
-            faults = faults_of_failure(ends, call, step, error, got)
-            report.check(f"{call} fails with {error}: {run.case.name}", faults)
+            check_failure(report, program, ends, steps, call, error)
         got, _ = traced_run(program, run, *call.to("signal=KILL"))
         report.check(f"killed at {call}: {run.case.name}", faults_of_kill(run, got))
 
