@@ -171,12 +171,14 @@ def killed(program: str, case: Case, call: Call) -> list[str]:
 
 
 def check_kills(report: Report, program: str) -> None:
-    """Kills runs at each call: what was not written over is there, and nothing else is left."""
-    for case in map(in_place, (MIXED, SHORTER)):
+    """Kills runs at each call, or at those that change the file: what was not written over is there, and no more."""
+    for case in (MIXED, LONGER, SHORTER):
+        placed = in_place(case)
         with folder_of(case.files) as folder:
-            _, trace = traced(program, Line(case.words, case.stdin), folder)
+            _, trace = traced(program, Line(placed.words, case.stdin), folder)
         for call in calls_of(trace, '"k", O_RDWR'):
-            report.check(f"killed at {call}: {case.name}", killed(program, case, call))
+            if case == MIXED or call.name in CHANGES:
+                report.check(f"killed at {call}: {placed.name}", killed(program, placed, call))
 
 
 def faults_at(under: Preloaded, case: Case, **settings: int) -> Iterator[list[str]]:
