@@ -1,4 +1,4 @@
-"""Files that can be saved in place only: no file can be made beside them, or take their name. And what may not be written."""
+"""Files that can be saved in place only, since none can be made beside them, or take their name; and names of any length."""
 
 import os
 import subprocess
@@ -66,9 +66,10 @@ def check_mounted(report: Report, program: str) -> None:
                 before = kept(os.path.join(folder, "over"))
                 mounts = {quote(os.path.join(folder, "k")): os.path.join(folder, "over")}
                 got = run_within(program, (EXPLAIN, *one.words), folder, mounts, stdin=case.stdin)
-                faults = differences(wanted, got) + ([] if kept(os.path.join(folder, "over")) == before else ["not kept"])
-                faults += tree_faults({"k": b"under", "over": case.files_after["k"] if is_saved else case.files["k"]},
-                                      folder)
+                faults = differences(wanted, got)
+                faults += [] if kept(os.path.join(folder, "over")) == before else ["not kept"]
+                over = case.files_after["k"] if is_saved else case.files["k"]
+                faults += tree_faults({"k": b"under", "over": over}, folder)
             report.check(f"a mount over the file: {one.name}", faults)
 
 
@@ -103,7 +104,8 @@ def check_read_only(report: Report, program: str) -> None:
             return
         write(os.path.join(folder, "k"), OLD)
         subprocess.run(["mount", "-o", "remount,ro", folder], check=True)
-        rows = [(SCRIPT, explained(message(3, "k: cannot write"), CAUSES["EROFS"])), (b"start\n", Outcome(0, b"walk 0 at 2\n"))]
+        rows = [(SCRIPT, explained(message(3, "k: cannot write"), CAUSES["EROFS"])),
+                (b"start\n", Outcome(0, b"walk 0 at 2\n"))]
         for script, wanted in rows:
             faults = differences(wanted, run(program, (EXPLAIN, "ktedit", IN_PLACE, "k"), folder, script))
             faults += tree_faults({"k": OLD}, folder)

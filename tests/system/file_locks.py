@@ -1,0 +1,194 @@
+"""The lock of a file that may be changed: who else has it is waited for, and runs that change nothing take none."""
+
+import fcntl
+import os
+import time
+from collections.abc import Callable
+from concurrent.futures import ThreadPoolExecutor
+from dataclasses import replace
+
+from makers.images import B, HOST, TWO, keytab
+from makers.usual_caches import USUAL
+from models.cases import (ccedit, ccremove, klist, klist_cache, klist_json, ktcheck, ktcopy, ktedit, ktfind, ktremove,
+                          ktutil)
+from models.copy_model import Request
+from models.removal_model import Selection
+from runs.harness import Case, Report, differences, faults_of, files_in, folder_of, run
+from runs.preload import Line
+from runs.system_calls import Halt, check_traced, halted, traced
+from runs.terminal import EXPLAIN
+from system.placing import ADD_LONG, EQUAL, IN_PLACE, LONGER, PLACED, explained, in_place
+from system.saving import HOLDING_NOTHING, SAVING_NOTHING, TGT, tree_faults, unsaved
+from system.waits import AT_ONCE, LEAST_WAIT, LONGEST_WAIT, faults_of_waiting, ofd_lock
+from words.phrases import CAUSES
+
+# A run of each command that changes a file, in both ways.
+BOTH_WAYS = [way for case in PLACED[-6:] for way in (case, in_place(case))]
+
+# Runs that take no lock: those that list, dry runs, and a line of ktutil that reads.
+BOTH = Selection((b"b@R",))
+LOCKING_NOTHING = (
+    klist(TWO), klist_json(TWO), klist_cache(USUAL), ktcheck(TWO), ktfind(TWO, name=(b"b", b"R")), *HOLDING_NOTHING,
+    *(way for case in (ktremove(TWO, selection=BOTH, is_dry=True, name="tells"),
+                       ccremove(USUAL, 0, selection=TGT, is_dry=True, name="tells"),
+                       ktcopy(TWO, keytab(HOST), request=Request(is_dry=True), name="tells"),
+                       ktutil(b"rkt k\nl\n", 0, files={"k": TWO}, name="reads"),
+                       ccedit(USUAL, b"start\n", name="walks")) for way in (case, in_place(case))),
+)
+
+# Runs that lock their file and then have nothing to save.
+LEAVING = (*SAVING_NOTHING, ktedit(TWO, b"cut 3\n", name="is refused"),
+           ktremove(TWO, selection=Selection((b"c@R",)), name="finds none"),
+           ktcopy(keytab(B), TWO, request=Request(), name="has it already"))
+
+# Kinds of locks: of a whole file, and record locks.
+FLOCK, TO_READ, TO_WRITE = "a flock", "a lock to read", "a lock to write"
+LOCKS: dict[str, Callable[[object], None]] = {
+    FLOCK: lambda file: fcntl.flock(file, fcntl.LOCK_EX),
+    "a shared flock": lambda file: fcntl.flock(file, fcntl.LOCK_SH),
+    TO_READ: lambda file: fcntl.lockf(file, fcntl.LOCK_SH),
+    TO_WRITE: lambda file: fcntl.lockf(file, fcntl.LOCK_EX),
+    "a lock of an open file to read": lambda file: ofd_lock(file, fcntl.F_RDLCK),
+}
+
+
+def file_of(case: Case) -> str:
+    """Returns the file that a run changes, or would."""
+    return "t" if "t" in case.files else "c" if "c" in case.files else "k"
+
+
+def waited_for(program: str, case: Case, lock: str) -> list[str]:
+    """Returns the faults of a run that has to wait for a lock of its file."""
+    with folder_of(case.files) as folder, open(os.path.join(folder, file_of(case)), "r+b") as file:
+        LOCKS[lock](file)
+        return faults_of_waiting(program, folder, file.close, case)
+
+
+def check_waits(report: Report, program: str) -> None:
+    """Checks that each run that may change a file waits for another program's lock of it."""
+    rows = [(case, FLOCK) for case in (*BOTH_WAYS, *LEAVING, *map(in_place, LEAVING))]
+    rows += [(in_place(EQUAL), lock) for lock in LOCKS] + [(EQUAL, "a shared flock"), (EQUAL, TO_WRITE)]
+    for case, lock in rows:
+        report.check(f"{lock} is waited for: {case.name}", waited_for(program, case, lock))
+
+
+def ended_beside(program: str, case: Case, lock: str, file: str) -> tuple[list[str], float]:
+    """Returns the faults of a run while another program has a lock of a file, and how long it took."""
+    with folder_of(case.files) as folder, open(os.path.join(folder, file), "r+b") as locked:
+        LOCKS[lock](locked)
+        begun = time.monotonic()
+        got = run(program, case.words, folder, case.stdin)
+        return faults_of(case, got, files_in(folder)), time.monotonic() - begun
+
+
+def check_no_waits(report: Report, program: str) -> None:
+    """Checks that runs that change nothing wait for no lock, nor those that replace for one to read."""
+    rows = [(case, lock, file) for case in LOCKING_NOTHING for lock in (FLOCK, TO_WRITE) for file in case.files]
+    rows += [(case, TO_READ, file_of(case)) for case in PLACED]
+    rows += [(case, FLOCK, "k") for case in BOTH_WAYS if case.words[0] == "ktcopy"]
+    for case, lock, file in rows:
+        faults, seconds = ended_beside(program, case, lock, file)
+        faults += [] if seconds < AT_ONCE else [f"it took {seconds:.1f} seconds"]
+        report.check(f"{lock} of {file} is not waited for: {case.name}", faults)
+
+
+def gives_up(program: str, case: Case) -> list[str]:
+    """Returns the faults of a run while another program keeps the lock: after ten seconds its save is refused."""
+    if case.files_after != case.files:
+        line = "line 2: " if case.words[0] == "ktutil" else ""
+        wanted = explained(unsaved(case, file_of(case)), line + CAUSES["in use"])
+        case = replace(case, words=(EXPLAIN, *case.words), wanted=wanted, files_after=case.files)
+    faults, seconds = ended_beside(program, case, FLOCK, file_of(case))
+    return faults + ([] if LEAST_WAIT <= seconds <= LONGEST_WAIT else [f"it took {seconds:.1f} seconds"])
+
+
+def check_given_up(report: Report, program: str) -> None:
+    """Checks that a lock that stays is waited for some ten seconds."""
+    cases = (*BOTH_WAYS, LEAVING[0], in_place(LEAVING[0]))
+    with ThreadPoolExecutor(len(cases)) as pool:
+        for case, faults in zip(cases, pool.map(gives_up, [program] * len(cases), cases)):
+            report.check(f"a flock that stays: {case.name}", faults)
+
+
+def renamed_while_held(program: str, case: Case) -> list[str]:
+    """Returns the faults of a run that waits for the lock of a file while another file takes its name."""
+    with folder_of({"k": TWO, "new": case.files["k"]}) as folder:
+        new, path = os.path.join(folder, "new"), os.path.join(folder, "k")
+        with open(path, "rb") as old:
+            fcntl.flock(old, fcntl.LOCK_EX)
+            kept = os.dup(old.fileno())
+
+            def end() -> None:
+                os.rename(new, path)
+                fcntl.flock(old, fcntl.LOCK_UN)
+
+            faults = faults_of_waiting(program, folder, end, case)
+        with open(kept, "rb") as old:
+            return faults + ([] if old.read() == TWO else ["the old file was changed"])
+
+
+def check_renamed(report: Report, program: str) -> None:
+    """Checks a lock that is held while another file takes the name: that one is changed."""
+    add = ktedit(keytab(B), ADD_LONG, name="adds")
+    for case in (add, in_place(add)):
+        report.check(f"a lock that is held through a rename: {case.name}", renamed_while_held(program, case))
+
+
+def check_no_lock_taken(report: Report, program: str) -> None:
+    """Checks that a run that changes nothing takes no lock, not even for a moment."""
+    for case in LOCKING_NOTHING:
+        with folder_of(case.files) as folder:
+            outcome, trace = traced(program, Line(case.words, case.stdin), folder)
+        taken = [line for line in trace if line.startswith("flock(") or "F_SETLK" in line or "F_OFD_SETLK" in line]
+        report.check(f"no lock is taken: {case.name}", differences(case.wanted, outcome) + taken)
+
+
+def check_without(report: Report, program: str) -> None:
+    """Checks a file that cannot be locked: it is replaced, and not saved in place."""
+    for error in ("ENOLCK", "EOPNOTSUPP", "EIO", "EBADF"):
+        for case, when in ((LONGER, ":when=2+"), (in_place(LONGER), "")):
+            is_placed = IN_PLACE in case.words
+            wanted = explained(unsaved(case), CAUSES["ENOLCK"]) if is_placed else case.wanted
+            with folder_of(case.files) as folder:
+                line = Line((EXPLAIN, *case.words), case.stdin)
+                outcome, _ = traced(program, line, folder, "-e", f"inject=flock:error={error}{when}")
+                faults = differences(wanted, outcome)
+                faults += tree_faults(case.files if is_placed else case.files_after, folder)
+            report.check(f"no lock can be had, {error}: {case.name}", faults)
+    with folder_of(LONGER.files) as folder:
+        placed = in_place(LONGER)
+        outcome, _ = traced(program, Line(placed.words, placed.stdin), folder, "-e", "inject=flock:error=EBADF:when=1")
+        report.check("a handle that reads cannot be locked, and one that writes can",
+                     differences(placed.wanted, outcome) + tree_faults(placed.files_after, folder))
+
+
+def is_locked(path: str) -> bool:
+    """Whether a program has the lock of a file."""
+    with open(path, "rb") as file:
+        try:
+            fcntl.flock(file, fcntl.LOCK_EX | fcntl.LOCK_NB)
+        except BlockingIOError:
+            return True
+    return False
+
+
+def check_held_to_end(report: Report, program: str) -> None:
+    """Checks that the lock is held from before the load to the end of the save."""
+    load, sync, cut = Halt("read", paths=("k",)), Halt("fsync"), Halt("ftruncate")
+    placed = in_place(LONGER)
+    for case, halt in ((LONGER, load), (LONGER, sync), (placed, load), (placed, sync), (placed, cut)):
+        with folder_of(case.files) as folder:
+            found: list[bool] = []
+            outcome = halted(program, Line(case.words, case.stdin), folder, halt,
+                             lambda folder, found=found: found.append(is_locked(os.path.join(folder, "k"))))
+            faults = differences(case.wanted, outcome) + tree_faults(case.files_after, folder)
+        report.check(f"locked behind {halt.calls}: {case.name}", faults + ([] if found == [True] else ["not locked"]))
+
+
+def check(report: Report, program: str) -> None:
+    """Runs this topic."""
+    check_waits(report, program)
+    check_no_waits(report, program)
+    check_given_up(report, program)
+    check_renamed(report, program)
+    check_traced(report, program, "locks of files", check_no_lock_taken, check_without, check_held_to_end)

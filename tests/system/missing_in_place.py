@@ -1,0 +1,126 @@
+"""A missing file is not made in place, and a name that leads to no plain file ends as without `--in-place`."""
+
+import os
+
+from keytabs.ktutil_lines import KEY
+from keytabs.scripts import FAULTS as LINE_FAULTS
+from makers.images import B, HOST, TWO, keytab
+from makers.usual_caches import USUAL
+from runs.harness import Outcome, Report, differences, folder_of, run
+from runs.rows import words_of
+from runs.terminal import EXPLAIN
+from system.pipe_files import RUNS as OVER_PIPES
+from system.pipe_files import fed
+from system.placing import IN_PLACE
+from system.saving import SCRIPT, tree, tree_faults
+from words.explained import Explained
+from words.phrases import BEGINS_AS_CACHE, CAUSES, LEAVE_OUT, NOT_READ, code, line_fault
+
+ADD = f"addent -key -p a@R -k 1 -e 17\n{KEY}\n".encode()
+NO_FILE = CAUSES["no file"]
+
+
+def ends(line: str, *output: tuple[str, str], status: int = 1, out: bytes = b"", stdin: bytes = b"",
+         files: dict[str, bytes] | None = None) -> Explained:
+    """Returns a run that leaves its files as they are, with its messages, each with its explanation."""
+    files = files or {}
+    return Explained(f"{line} {stdin!r}", words_of(line), output, files, stdin, status, out, files)
+
+
+def missing(line: str, **more) -> Explained:
+    """Returns a run whose file, named last, is missing."""
+    return ends(line, (f"{line.split()[-1]}: no such file", ""), **more)
+
+
+def unwritten(name: str, line: int, phrase: str, stdin: bytes, **more) -> Explained:
+    """Returns a run of ktutil of which that line is not saved to that file."""
+    return ends("ktutil --in-place", (f"{name}: cannot write", f"line {line}: {phrase}"), status=3, stdin=stdin, **more)
+
+
+FAULTY, FAULT = next(iter(LINE_FAULTS.items()))
+
+CASES = [
+    # Each command over a missing file, also where nothing is saved.
+    missing("ktedit --in-place k", stdin=SCRIPT),
+    ends("ktedit k --in-place", ("k: no such file", ""), stdin=SCRIPT),
+    missing("ktedit --in-place --v1-big k", stdin=b""),
+    missing("ktedit --in-place k", stdin=b"start\nstep 0\n"),
+    missing("ccedit --in-place c", stdin=b"config a - v\n"),
+    missing("ktremove --in-place -k old k"),
+    missing("ktremove --in-place -n -k old k"),
+    missing("ccremove --in-place --expired c"),
+    missing("ccremove --in-place -n --expired c"),
+    missing("ktcopy --in-place k t", files={"k": TWO}),
+    missing("ktcopy --in-place -n k t", files={"k": TWO}),
+    missing("ktcopy --in-place --replace k t", files={"k": keytab()}),
+    # What comes before: a faulty script, and the file that is copied from.
+    ends("ktedit --in-place k", ("line 1: fault %d" % FAULT, line_fault(FAULT)), stdin=f"{FAULTY}\n".encode()),
+    ends("ktcopy --in-place k t", ("k: no such file", ""), files={"t": TWO}),
+    ends("ktcopy --in-place k t", ("k: no such file", "")),
+    ends("ktcopy --in-place -p c@R k t", ("k: refused 9", code(9, "ktcopy")), files={"k": TWO}),
+    ends("ktcopy --in-place k t", ("k: refused 1", code(1)), files={"k": TWO[:-1]}),
+    # A file in no folder, and one of another type.
+    missing("ktedit --in-place no/k", stdin=SCRIPT),
+    ends("ktedit --in-place KCM:k", ("KCM:k: no such file", NOT_READ.replace("TYPE", "KCM:")), stdin=SCRIPT),
+    # ktutil: what is read, and what is written.
+    ends("ktutil --in-place", ("k: no such file", f"line 1: {NO_FILE}"), stdin=b"rkt k\n"),
+    unwritten("k", 3, NO_FILE, ADD + b"wkt k\n"),
+    unwritten("k", 1, NO_FILE, b"wkt k\n"),
+    unwritten("FILE:k", 3, LEAVE_OUT.replace("TYPE", "FILE:"), ADD + b"wkt FILE:k\n"),
+    unwritten("k.krbfile", 3, CAUSES["name of saves"], ADD + b"wkt k.krbfile\n", files={"k.krbfile": TWO}),
+    # A file that is not a keytab.
+    ends("ktedit --in-place k", (f"k: not a keytab ({BEGINS_AS_CACHE[0]})", BEGINS_AS_CACHE[1]), stdin=SCRIPT,
+         files={"k": USUAL}),
+    # One of no bytes is a keytab for ktcopy.
+    Explained("a file of no bytes", words_of("ktcopy --in-place k t"), (), {"k": keytab(B), "t": b""}, status=0,
+              out=b"copied 2 kvno 3 etype 17 b@R\n", after={"k": keytab(B), "t": keytab(B)}),
+    # A dry run changes nothing.
+    ends("ktremove --in-place -n -p b@R k", status=0, out=b"removed 53 kvno 3 etype 17 b@R\n", files={"k": TWO}),
+    ends("ccremove --in-place -n -p krbtgt/R@R c", status=0, out=b"removed 40 krbtgt/R@R\n", files={"c": USUAL}),
+    ends("ktcopy --in-place -n k t", status=0, out=b"copied 53 kvno 3 etype 17 b@R\n",
+         files={"k": keytab(B), "t": keytab(HOST)}),
+]
+
+
+def check_links(report: Report, program: str) -> None:
+    """Checks links to no file, and one to a file, which is saved where it is."""
+    rows = [("a link to nothing", "no", Outcome(1, err=b"krbfile: l: no such file\n"), keytab(B)),
+            ("a link into no folder", "no/k", Outcome(1, err=b"krbfile: l: no such file\n"), keytab(B)),
+            ("a link to a file", "k", Outcome(0, b"placed 47\n"), keytab(B, HOST))]
+    for name, target, wanted, after in rows:
+        with folder_of({"k": keytab(B)}) as folder:
+            os.symlink(target, os.path.join(folder, "l"))
+            there = {**tree(folder), "k": after}
+            faults = differences(wanted, run(program, ("ktedit", IN_PLACE, "l"), folder, SCRIPT))
+            faults += tree_faults(there, folder)
+        report.check(f"{name}, in place", faults)
+
+
+def check_no_files(report: Report, program: str) -> None:
+    """Checks that a folder and a device end as without `--in-place`."""
+    for name in (".", "/dev/null", "/dev/full/k"):
+        for words, stdin in ((("ktedit", name), SCRIPT), (("ktremove", "-k", "3", name), b""),
+                             (("ccedit", name), b"cut 40\n"), (("ktutil",), ADD + f"wkt {name}\n".encode())):
+            with folder_of({}) as folder:
+                got = [run(program, (EXPLAIN, words[0], *options, *words[1:]), folder, stdin)
+                       for options in ((), (IN_PLACE,))]
+                faults = differences(*got) + ([] if got[0].status else [f"{got[0]}"]) + tree_faults({}, folder)
+            report.check(f"as without --in-place: {' '.join(words)}, {name}", faults)
+
+
+def check_pipes(report: Report, program: str) -> None:
+    """Checks that a pipe is not opened."""
+    for words, stdin, name, place in OVER_PIPES:
+        wanted = Outcome(3, err=f"krbfile: {name}: cannot read\nkrbfile: {place}{CAUSES['no plain file']}\n".encode())
+        with folder_of({}) as folder:
+            os.symlink("k", os.path.join(folder, "link"))
+            with fed(os.path.join(folder, "k")) as opened:
+                faults = differences(wanted, run(program, (EXPLAIN, words[0], IN_PLACE, *words[1:]), folder, stdin))
+                faults += ["it was opened"] if opened else []
+        report.check(f"a pipe is not changed in place: {' '.join(words)}", faults)
+
+
+def check(report: Report, program: str) -> None:
+    """Runs what is not in the table."""
+    for each in (check_links, check_no_files, check_pipes):
+        each(report, program)
