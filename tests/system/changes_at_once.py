@@ -14,6 +14,7 @@ from peers.beside_mit import SURROUNDINGS, are_there
 from runs.harness import Report, folder_of, run
 from runs.random_runs import Rounds
 from runs.storms import Run, rage
+from system.placing import IN_PLACE
 from system.saving import tree, write
 from system.storm_kinds import KINDS, MANY, Kind, change, removes
 
@@ -48,6 +49,8 @@ class Storm:
             name = f"{'m' if is_mits else 'h' if removes(command) else 'a'}{number}"
             source = source_of(name, sources)
             words, text = change(command, name, self.random.choice(PATHS), source)
+            if self.kind.in_place and not is_killed and self.random.random() < 0.5:
+                words = (words[0], IN_PLACE, *words[1:])
             line = (self.program, *words)
             if is_mits:
                 line, text = ("ktutil",), f"rkt {source}\nwkt k\n"
@@ -89,10 +92,11 @@ class Storm:
             self.found.append(f"{sorted(found)} are left")
 
     def judge_looks(self) -> None:
-        """Judges what was seen meanwhile. An entry of MIT's may have been seen half written."""
+        """Judges what was seen meanwhile. An entry of MIT's may have been seen half written, and so may one in place."""
         for image in self.seen:
             is_whole = self.kind.names(image) is not None
-            is_bad = self.kind.is_no_file(image) if self.kind.with_mit else not is_whole
+            may_be_part = self.kind.with_mit or self.kind.in_place
+            is_bad = self.kind.is_no_file(image) if may_be_part else not is_whole
             if is_bad:
                 self.found.append(f"{image[:40]}, {len(image)} bytes, was seen")
 

@@ -58,6 +58,8 @@ class Kind:
     kills: bool = False
     # Half of the programs are MIT's ktutil, and they begin within a second.
     with_mit: bool = False
+    # Half of the runs save in place: none of those that are killed, since they may leave a part of a save.
+    in_place: bool = False
 
     @property
     def is_of_caches(self) -> bool:
@@ -92,6 +94,7 @@ class Kind:
         words = [f"{MANY} runs of {' and '.join(self.commands)}"]
         words += ["over none" if self.over_none else "over a file"]
         words += ["half of them killed"] * self.kills + ["half of them MIT's"] * self.with_mit
+        words += ["some in place"] * self.in_place
         return ", ".join(words)
 
 
@@ -103,6 +106,10 @@ KTCOPY, MIXED = ("ktcopy",), ("ktcopy", "ktedit", "ktremove", "ktcopy")
 # The kinds in which keytabs are copied into the file.
 COPIES = (Kind(KTCOPY), Kind(KTCOPY, over_none=True), Kind(MIXED), Kind(KTCOPY, kills=True),
           Kind(KTCOPY, over_none=True, kills=True), Kind(KTCOPY, with_mit=True), Kind(MIXED, with_mit=True))
+
+# The kinds of which some runs save in place.
+PLACES = tuple(Kind(commands, in_place=True) for commands in (KTEDIT, KTUTIL, MIXED, BOTH)) + (
+    Kind(KTEDIT, in_place=True, kills=True), Kind(BOTH, in_place=True, kills=True))
 
 KINDS = (Kind(KTEDIT), Kind(KTEDIT, over_none=True), Kind(KTUTIL), Kind(KTUTIL, over_none=True),
          Kind(KTEDIT, kills=True), Kind(KTEDIT, over_none=True, kills=True),
