@@ -4,6 +4,7 @@ It is made from bytes, of a file, a script or an input, and from the time of the
 """
 
 from collections.abc import Callable
+from dataclasses import replace
 from functools import lru_cache, wraps
 
 from models import cache_reading, check_model, json_model, reading
@@ -19,6 +20,9 @@ from models.ticket_removal_model import ticket_removal
 from models.valid_ticket_model import silent
 from runs.harness import Case, Outcome
 from runs.terminal import EXPLAIN
+
+# The option by which a file is saved in place.
+IN_PLACE = "--in-place"
 
 
 def timeless(build: Callable[..., Case]) -> Callable[..., Case]:
@@ -148,6 +152,12 @@ def ktutil(given: bytes, now: int, *, files: dict[str, bytes], v1_big: bool = Fa
     """Returns a run of ktutil."""
     wanted, after = handled(files, given, now, v1_big, explains=explains)
     return Case(f"ktutil {name}", (*first(explains), "ktutil", *big(v1_big)), wanted, files, after, given)
+
+
+def in_place(case: Case) -> Case:
+    """Returns the same run, which saves in place."""
+    command, *rest = case.words
+    return replace(case, name=f"{case.name}, in place", words=(command, IN_PLACE, *rest))
 
 
 @timeless

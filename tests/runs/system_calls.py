@@ -80,12 +80,13 @@ class Halt:
 
 
 def halted(
-    program: str, line: Line, folder: str, halt: Halt, change: Callable[[str], None]
+    program: str, line: Line, folder: str, halt: Halt, change: Callable[[str], None],
+    env: dict[str, str] | None = None
 ) -> Outcome:
     """Makes a run that is halted somewhere until a change is made in its folder, and then goes on."""
     with tempfile.NamedTemporaryFile() as trace:
         words = ["strace", "-f", "-o", trace.name, *halt.options(), program, *line.words]
-        with subprocess.Popen(words, cwd=folder, stdin=subprocess.PIPE, stdout=subprocess.PIPE,
+        with subprocess.Popen(words, cwd=folder, env=env, stdin=subprocess.PIPE, stdout=subprocess.PIPE,
                               stderr=subprocess.PIPE) as started:
             started.stdin.write(line.stdin)
             started.stdin.close()

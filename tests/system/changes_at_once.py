@@ -10,11 +10,11 @@ from functools import partial
 from random import Random
 
 from makers.images import Entry, keytab
+from models.cases import IN_PLACE
 from peers.beside_mit import SURROUNDINGS, are_there
 from runs.harness import Report, folder_of, run
 from runs.random_runs import Rounds
 from runs.storms import Run, rage
-from system.placing import IN_PLACE
 from system.saving import tree, write
 from system.storm_kinds import KINDS, MANY, Kind, change, removes
 
@@ -92,7 +92,7 @@ class Storm:
             self.found.append(f"{sorted(found)} are left")
 
     def judge_looks(self) -> None:
-        """Judges what was seen meanwhile. An entry of MIT's may have been seen half written, and so may one in place."""
+        """Judges what was seen meanwhile. What MIT's write, or a save in place, may have been seen half written."""
         for image in self.seen:
             is_whole = self.kind.names(image) is not None
             may_be_part = self.kind.with_mit or self.kind.in_place

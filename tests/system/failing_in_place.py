@@ -8,6 +8,7 @@ import re
 import signal
 from collections.abc import Iterator
 
+from models.cases import in_place
 from models.modelled import modelled
 from runs.harness import Case, Outcome, Report, differences, files_in, folder_of, run
 from runs.preload import MOST_CALLS, Line, Preloaded, preloaded
@@ -15,7 +16,7 @@ from runs.system_calls import Call, calls_of, check_traced, traced
 from runs.terminal import EXPLAIN
 from system.failing_streams import Ends
 from system.failing_system_calls import PRINT, READ, Step, calls_of_run, check_failure, held, listed, lock, needed
-from system.placing import CUT_OFF, EQUAL, LONGER, MIXED, PLACED, SHORTER, changed, explained, in_place
+from system.placing import CUT_OFF, EQUAL, LONGER, MIXED, PLACED, SHORTER, changed, explained
 from system.saving import tree_faults, unsaved, write
 from words.phrases import AFTERMATHS, CAUSES
 

@@ -9,15 +9,15 @@ from dataclasses import replace
 
 from makers.images import B, HOST, TWO, keytab
 from makers.usual_caches import USUAL
-from models.cases import (ccedit, ccremove, klist, klist_cache, klist_json, ktcheck, ktcopy, ktedit, ktfind, ktremove,
-                          ktutil)
+from models.cases import (IN_PLACE, ccedit, ccremove, in_place, klist, klist_cache, klist_json, ktcheck, ktcopy,
+                          ktedit, ktfind, ktremove, ktutil)
 from models.copy_model import Request
 from models.removal_model import Selection
 from runs.harness import Case, Report, differences, faults_of, files_in, folder_of, run
 from runs.preload import Line
 from runs.system_calls import Halt, check_traced, halted, traced
 from runs.terminal import EXPLAIN
-from system.placing import ADD_LONG, EQUAL, IN_PLACE, LONGER, PLACED, explained, in_place
+from system.placing import ADD_LONG, EQUAL, LONGER, PLACED, explained
 from system.saving import HOLDING_NOTHING, SAVING_NOTHING, TGT, tree_faults, unsaved
 from system.waits import AT_ONCE, LEAST_WAIT, LONGEST_WAIT, faults_of_waiting, ofd_lock
 from words.phrases import CAUSES

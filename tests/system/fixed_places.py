@@ -1,16 +1,16 @@
-"""Files that can be saved in place only, since none can be made beside them, or take their name; and names of any length."""
+"""Files that can be saved in place only, as none can be made beside them or take their name, and long names."""
 
 import os
 import subprocess
 from shlex import quote
 
 from makers.images import HOST, Entry, keytab
-from models.cases import ktedit
+from models.cases import IN_PLACE, in_place, ktedit
 from runs.harness import Case, Outcome, Report, differences, folder_of, message, run
 from runs.namespaces import can_mount, run_within
 from runs.terminal import EXPLAIN
 from system.disk_faults import mounted
-from system.placing import EQUAL, IN_PLACE, MIXED, PLACED, changed, explained, in_place, kept
+from system.placing import EQUAL, MIXED, PLACED, changed, explained, kept
 from system.saving import NEW, OLD, SCRIPT, WALK, as_another, run_over, tree, tree_faults, unsaved, write
 from words.phrases import AFTERMATHS, CAUSES
 

@@ -5,8 +5,9 @@ import struct
 from collections.abc import Iterator
 from contextlib import suppress
 
+from models.cases import in_place
 from runs.harness import Case, Report, differences, faults_of, files_in, folder_of, run
-from system.placing import PLACED, changed, in_place, kept
+from system.placing import PLACED, changed, kept
 from system.saving import GROUP, USER, tree
 
 # The tags of an access list's entries, and the number of those that name nobody.

@@ -9,13 +9,13 @@ from dataclasses import replace
 from typing import BinaryIO
 
 from makers.images import B, HOST, keytab
-from models.cases import ktutil
+from models.cases import in_place, ktutil
 from runs.harness import Case, Report, differences, folder_of
 from runs.preload import Line
 from runs.system_calls import Halt, check_traced, halted
 from runs.terminal import EXPLAIN
 from system.failing_system_calls import READINGS
-from system.placing import PLACED, changed, explained, in_place
+from system.placing import PLACED, changed, explained
 from system.saving import tree_faults
 from words.phrases import AFTERMATHS, line_fault
 

@@ -6,12 +6,12 @@ from keytabs.ktutil_lines import KEY
 from keytabs.scripts import FAULTS as LINE_FAULTS
 from makers.images import B, HOST, TWO, keytab
 from makers.usual_caches import USUAL
+from models.cases import IN_PLACE
 from runs.harness import Outcome, Report, differences, folder_of, run
 from runs.rows import words_of
 from runs.terminal import EXPLAIN
 from system.pipe_files import RUNS as OVER_PIPES
 from system.pipe_files import fed
-from system.placing import IN_PLACE
 from system.saving import SCRIPT, tree, tree_faults
 from words.explained import Explained
 from words.phrases import BEGINS_AS_CACHE, CAUSES, LEAVE_OUT, NOT_READ, code, line_fault

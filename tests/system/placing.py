@@ -11,8 +11,6 @@ from models.removal_model import Selection
 from runs.harness import Case, Outcome
 from system.saving import ADD, TGT
 
-IN_PLACE = "--in-place"
-
 # An entry that is longer than those of the keytab, and lines of ktutil that add one to the keytab `k`.
 ADD_LONG = b"add 3 17 1700000000 000102030405060708090a0b0c0d0e0f a/long/name@R\n"
 TALK = b"rkt j\nwkt k\n"
@@ -33,12 +31,6 @@ PLACED = (
     ccedit(USUAL, b"cut 40\nconfig pa_type krbtgt/R@R 3\n", name="sets"),
     ccremove(USUAL, 0, selection=TGT, name="removes"),
 )
-
-
-def in_place(case: Case) -> Case:
-    """Returns a run that saves in place."""
-    command, *rest = case.words
-    return replace(case, name=f"{case.name}, in place", words=(command, IN_PLACE, *rest))
 
 
 def changed(case: Case) -> str:

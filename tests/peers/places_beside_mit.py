@@ -1,0 +1,80 @@
+"""Saves in place beside MIT's programs, which lock a file to read it, and to add an entry to it."""
+
+import os
+import subprocess
+import time
+
+from makers.images import B, HOST, Entry, keytab
+from models.cases import IN_PLACE
+from models.reading import read_image
+from peers.beside_mit import SURROUNDINGS, are_there
+from runs.harness import SECONDS, Outcome, Report, differences, folder_of
+from runs.preload import Line
+from runs.system_calls import Halt, check_traced, halted
+from system.placing import ADD_LONG
+
+# How long a run is watched that has to wait.
+MOMENT = 0.3
+
+# The names in the file at first, of the entry that MIT's ktutil adds, and of the one that a run adds.
+FIRST, MITS, OURS = b"host/a@R", b"b@R", b"a/long/name@R"
+
+# MIT's programs, halted while they have the lock: one that reads the file, and one that has begun to add an entry.
+READS = (("klist", Line(("-k", "k"))), Halt("read", paths=("k",)))
+ADDS = (("ktutil", Line((), b"rkt j\nwkt k\nq\n")), Halt("write", paths=("k",)))
+
+
+def names_in(image: bytes) -> list[bytes]:
+    """Returns the names in a keytab, or none where it is damaged."""
+    those, fault = read_image(image, False)
+    return [] if fault else [entry.text() for _, entry in those]
+
+
+def ended_beside(program: str, options: tuple[str, ...], folder: str, mits: tuple[tuple[str, Line], Halt],
+                 seconds: float) -> tuple[Outcome, bool, Outcome]:
+    """Returns how a run ends that begins while one of MIT's programs is halted, whether it waits for so many seconds,
+    and how MIT's program ends."""
+    started: list[subprocess.Popen[bytes]] = []
+    waits: list[bool] = []
+
+    def begin(folder: str) -> None:
+        """Starts the run."""
+        ours = subprocess.Popen([program, "ktedit", *options, "k"], cwd=folder, stdin=subprocess.PIPE,
+                                stdout=subprocess.PIPE, stderr=subprocess.PIPE)
+        ours.stdin.write(ADD_LONG)
+        ours.stdin.close()
+        ours.stdin = None
+        until = time.monotonic() + seconds
+        while ours.poll() is None and time.monotonic() < until:
+            time.sleep(0.01)
+        started.append(ours)
+        waits.append(ours.poll() is None)
+
+    (peer, line), halt = mits
+    theirs = halted(peer, line, folder, halt, begin, SURROUNDINGS)
+    out, err = started[0].communicate(timeout=SECONDS)
+    return Outcome(started[0].returncode, out, err), waits[0], theirs
+
+
+def check_peers(report: Report, program: str) -> None:
+    """Checks that a save in place waits for who reads or adds, and that one that replaces waits for who adds."""
+    added = keytab(HOST, B)
+    rows = [(READS, (IN_PLACE,), True, keytab(HOST), [FIRST, OURS]), (READS, (), False, keytab(HOST), [FIRST, OURS]),
+            (ADDS, (IN_PLACE,), True, added, [FIRST, MITS, OURS]), (ADDS, (), True, added, [FIRST, MITS, OURS])]
+    for mits, options, has_to_wait, before, wanted in rows:
+        with folder_of({"k": keytab(HOST), "j": keytab(Entry((b"b",)))}) as folder:
+            ours, waits, theirs = ended_beside(program, options, folder, mits, MOMENT if has_to_wait else SECONDS)
+            with open(os.path.join(folder, "k"), "rb") as file:
+                names = names_in(file.read())
+        faults = differences(Outcome(0, b"placed %d\n" % len(before)), ours)
+        faults += [] if names == wanted else [f"{names}, not {wanted}"]
+        faults += [] if waits == has_to_wait else [f"it waits: {waits}"]
+        is_listed = FIRST in theirs.out and OURS not in theirs.out
+        faults += [f"{theirs}"] if theirs.status or (mits is READS and not is_listed) else []
+        report.check(f"beside MIT's {mits[0][0]}, {' '.join(options) or 'replacing'}", faults)
+
+
+def check(report: Report, program: str) -> None:
+    """Runs this topic."""
+    if are_there(report, "saves in place beside MIT's programs"):
+        check_traced(report, program, "saves in place beside MIT's programs", check_peers)
