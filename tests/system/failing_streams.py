@@ -1,6 +1,7 @@
 """Each read and each write of each command fails, by several errors, or moves few bytes.
 
-The expected results are those of the models. An interrupted read or write counts as failed.
+The expected results are those of the models. An interrupted read or write counts as failed, but one in place is
+repeated.
 """
 
 from collections.abc import Iterable, Iterator
@@ -8,7 +9,7 @@ from errno import EACCES, EAGAIN, EINTR, ENOMEM, ENOSPC, errorcode
 from functools import cached_property
 from random import Random
 
-from models.cases import placed
+from models.cases import IN_PLACE, placed
 from models.check_model import FOLDER, checked_files
 from models.ktutil_model import Failure, Ktutil, handled
 from models.modelled import NOW, Modelled, Stage, large, small
@@ -136,7 +137,8 @@ def faults_of_call(
     run = ends.run
     settings = {setting: nth, "MOST": most, "ERROR": error}
     got = over.run(Line(run.case.words, run.case.stdin), CLOCK=NOW, **settings)
-    if got.failures:
+    is_repeated = setting == "FAIL_SAVE" and error == EINTR and IN_PLACE in run.case.words
+    if got.failures and not is_repeated:
         is_wanted = ends.are_met(setting, (nth - 1) * most, got)
     else:
         is_wanted = run.is_whole(got.outcome, got.files)
