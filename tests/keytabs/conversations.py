@@ -19,10 +19,10 @@ LISTED = text(TWO_LISTED)
 class Talk:
     """A run of ktutil with its input left open."""
 
-    def __init__(self, program: str, folder: str, stdin: int, input_end: int) -> None:
+    def __init__(self, program: str, folder: str, stdin: int, input_end: int, *options: str) -> None:
         self.input_end = input_end
         self.found: list[str] = []
-        self.run = subprocess.Popen([program, "ktutil"], cwd=folder, stdin=stdin,
+        self.run = subprocess.Popen([program, "ktutil", *options], cwd=folder, stdin=stdin,
                                     stdout=subprocess.PIPE, stderr=subprocess.PIPE, bufsize=0)
         os.close(stdin)
 

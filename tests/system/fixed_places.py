@@ -1,16 +1,18 @@
 """Files that can be saved in place only, as none can be made beside them or take their name, and long names."""
 
 import os
+import resource
 import subprocess
 from shlex import quote
 
 from makers.images import HOST, Entry, keytab
 from models.cases import IN_PLACE, in_place, ktedit
 from runs.harness import Case, Outcome, Report, differences, folder_of, message, run
+from runs.limits import limit
 from runs.namespaces import can_mount, run_within
 from runs.terminal import EXPLAIN
 from system.disk_faults import mounted
-from system.placing import EQUAL, MIXED, PLACED, changed, explained, kept
+from system.placing import EQUAL, LONGER, MIXED, PLACED, changed, explained, kept
 from system.saving import NEW, OLD, SCRIPT, WALK, as_another, run_over, tree, tree_faults, unsaved, write
 from words.phrases import AFTERMATHS, CAUSES
 
@@ -96,6 +98,20 @@ def check_full_disk(report: Report, program: str) -> None:
         report.check(f"a full disk: {case.name}", faults)
 
 
+def check_limit(report: Report, program: str) -> None:
+    """Checks a file that may not become as long as it would: the part that was written is cut off again."""
+    for case in (LONGER, MIXED):
+        placed, most = in_place(case), len(case.files["k"]) + 10
+        wanted = explained(unsaved(placed), CAUSES["EFBIG"], AFTERMATHS["restored"])
+        with folder_of(case.files) as folder:
+            before = kept(os.path.join(folder, "k"))
+            got = run(program, (EXPLAIN, *placed.words), folder, case.stdin,
+                      preexec_fn=limit(resource.RLIMIT_FSIZE, most))
+            faults = differences(wanted, got) + tree_faults(dict(case.files), folder)
+            faults += [] if kept(os.path.join(folder, "k")) == before else ["not kept"]
+        report.check(f"no more than {most} bytes: {placed.name}", faults)
+
+
 def check_read_only(report: Report, program: str) -> None:
     """Checks that a file on a disk that is read-only is loaded, and only its save is refused."""
     with folder_of({}) as folder, mounted(folder, "-t", "tmpfs", "krbfile") as is_mounted:
@@ -146,6 +162,6 @@ def check_beside(report: Report, program: str) -> None:
 
 def check(report: Report, program: str) -> None:
     """Runs this topic."""
-    for each in (check_locked_folder, check_unwritable, check_mounted, check_full_disk, check_read_only, check_names,
-                 check_beside):
+    for each in (check_locked_folder, check_unwritable, check_mounted, check_full_disk, check_limit, check_read_only,
+                 check_names, check_beside):
         each(report, program)

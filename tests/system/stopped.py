@@ -13,6 +13,7 @@ from contextlib import contextmanager
 from keytabs.conversations import LISTED, Talk, terminal
 from keytabs.ktutil_lines import HEADING, NO_SLOTS
 from makers.images import B, TWO, keytab
+from models.cases import IN_PLACE
 from models.script_model import edited
 from runs.harness import SECONDS, Outcome, Report, differences, folder_of, message
 from runs.rows import text
@@ -76,10 +77,12 @@ def waits_for(process: subprocess.Popen[bytes], stream: int) -> bool:
 
 def check_unread(report: Report, program: str) -> None:
     """Checks that while nobody reads a run's output, another run can change the file."""
-    cases = [(1, "ktedit k", SCRIPT, OLD), (1, "ktedit k", b"cut 3\n", OLD),
-             (2, "ktedit k", SCRIPT, b"other"), (2, "ktutil", b"rkt j\nwkt k\n", b"other"),
-             (2, "ktutil", b"rkt j\nwkt k\n", TWO[:-1])]
-    for number, words, text, data in cases:
+    cases = [(1, "ktedit", "k", SCRIPT, OLD), (1, "ktedit", "k", b"cut 3\n", OLD),
+             (2, "ktedit", "k", SCRIPT, b"other"), (2, "ktutil", "", b"rkt j\nwkt k\n", b"other"),
+             (2, "ktutil", "", b"rkt j\nwkt k\n", TWO[:-1])]
+    rows = [(number, f"{command} {option} {name}", text, data)
+            for number, command, name, text, data in cases for option in ("", IN_PLACE)]
+    for number, words, text, data in rows:
         stream = {1: "stdout", 2: "stderr"}[number]
         with full_pipe() as given, folder_of({"j": keytab(B), "k": data}) as folder:
             slow = subprocess.Popen([program, *words.split()], cwd=folder, stdin=subprocess.PIPE,
@@ -97,11 +100,11 @@ def check_unread(report: Report, program: str) -> None:
         report.check(f"{words} with {text[:3]}, and nobody reads its {stream}", faults)
 
 
-def check_idle(report: Report, program: str) -> None:
+def check_idle(report: Report, program: str, *options: str) -> None:
     """Checks that while ktutil waits for its next line, another run can change the file that it wrote."""
     wanted, image = edited(keytab(B), SCRIPT)
     with folder_of({"j": keytab(B), "k": OLD, "x": b"other"}) as folder:
-        talk = Talk(program, folder, *os.pipe())
+        talk = Talk(program, folder, *os.pipe(), *options)
         talk.send(b"rkt j\nwkt k\nwkt x\nl\n")
         talk.hear(text([*HEADING, "   1    3 b@R"]))
         found = differences(wanted, edit(program, folder))
@@ -111,7 +114,7 @@ def check_idle(report: Report, program: str) -> None:
         talk.end(message(1, "x: not a keytab (2)"))
         os.close(talk.input_end)
         found += tree_faults({"j": keytab(B), "k": image, "x": NEW}, folder)
-    report.check("a file changes that ktutil wrote", found + talk.found)
+    report.check(f"a file changes that ktutil {' '.join(options)} wrote", found + talk.found)
 
 
 def check(report: Report, program: str) -> None:
@@ -120,6 +123,7 @@ def check(report: Report, program: str) -> None:
     check_talk(report, program, "a terminal", terminal)
     check_full_pipe(report, program)
     check_idle(report, program)
+    check_idle(report, program, IN_PLACE)
     if os.path.exists("/proc/self/syscall"):
         check_unread(report, program)
     else:
