@@ -135,12 +135,13 @@ def check_renamed(report: Report, program: str) -> None:
 
 
 def check_no_lock_taken(report: Report, program: str) -> None:
-    """Checks that a run that changes nothing takes no lock, not even for a moment."""
+    """Checks that a run that changes nothing takes no lock, not even for a moment, and opens no file to write it."""
+    strange = ("flock(", "F_SETLK", "F_OFD_SETLK", "O_RDWR", "O_WRONLY", "O_CREAT")
     for case in LOCKING_NOTHING:
         with folder_of(case.files) as folder:
             outcome, trace = traced(program, Line(case.words, case.stdin), folder)
-        taken = [line for line in trace if line.startswith("flock(") or "F_SETLK" in line or "F_OFD_SETLK" in line]
-        report.check(f"no lock is taken: {case.name}", differences(case.wanted, outcome) + taken)
+        found = [line for line in trace if any(word in line for word in strange)]
+        report.check(f"no lock is taken: {case.name}", differences(case.wanted, outcome) + found)
 
 
 def check_without(report: Report, program: str) -> None:
@@ -155,11 +156,19 @@ def check_without(report: Report, program: str) -> None:
                 faults = differences(wanted, outcome)
                 faults += tree_faults(case.files if is_placed else case.files_after, folder)
             report.check(f"no lock can be had, {error}: {case.name}", faults)
-    with folder_of(LONGER.files) as folder:
-        placed = in_place(LONGER)
-        outcome, _ = traced(program, Line(placed.words, placed.stdin), folder, "-e", "inject=flock:error=EBADF:when=1")
-        report.check("a handle that reads cannot be locked, and one that writes can",
-                     differences(placed.wanted, outcome) + tree_faults(placed.files_after, folder))
+
+
+def check_other_handle(report: Report, program: str) -> None:
+    """Checks a file of which only a handle that writes can be locked: then that one is."""
+    for case, nth in ((LONGER, 2), (in_place(LONGER), 1)):
+        with folder_of(case.files) as folder:
+            line = Line(case.words, case.stdin)
+            outcome, trace = traced(program, line, folder, "-e", f"inject=flock:error=EBADF:when={nth}")
+            faults = differences(case.wanted, outcome) + tree_faults(case.files_after, folder)
+        opened = [number for number, each in enumerate(trace) if '"k", O_RDWR' in each]
+        after = trace[opened[-1] + 1] if opened else ""
+        faults += [] if after.startswith("flock(") and after.endswith("= 0") else [f"no lock, but {after}"]
+        report.check(f"a handle that reads cannot be locked: {case.name}", faults)
 
 
 def is_locked(path: str) -> bool:
@@ -191,4 +200,5 @@ def check(report: Report, program: str) -> None:
     check_no_waits(report, program)
     check_given_up(report, program)
     check_renamed(report, program)
-    check_traced(report, program, "locks of files", check_no_lock_taken, check_without, check_held_to_end)
+    check_traced(report, program, "locks of files", check_no_lock_taken, check_without, check_other_handle,
+                 check_held_to_end)
