@@ -24,7 +24,7 @@ def access_list(*entries: tuple[int, int, int]) -> bytes:
 MODE = 0o640
 LIST = access_list((OWNER, 6, NOBODY), (NAMED, 4, 1234), (OWN_GROUP, 4, NOBODY), (MASK, 4, NOBODY), (OTHERS, 0, NOBODY))
 
-# Attributes of a file. Only root may set a label.
+# Attributes of a file. A label may be set by root only.
 LISTED = {"system.posix_acl_access": LIST}
 OF_USERS = {"user.origin": b"a realm"}
 LABEL = {"security.selinux": b"system_u:object_r:krb5_keytab_t:s0\0"}
@@ -50,7 +50,7 @@ def set_all(path: str, attributes: dict[str, bytes]) -> None:
 def kinds(report: Report) -> Iterator[dict[str, bytes]]:
     """Yields attributes that a file may have: none, and those that can be set."""
     yield {}
-    for those in (LISTED, OF_USERS, LABEL) if os.geteuid() == 0 else (LISTED, OF_USERS):
+    for those in (LISTED, OF_USERS, LABEL):
         if can_set(report, those):
             yield those
 
