@@ -63,7 +63,7 @@ fn what_brings_the_old_bytes_back(rt: HostRuntime) {
         (43, &["patch\nsync\npatch\ncut\nsync\n", "patch\n", BACK]),
     ] {
         let disk = Disk::new(rt.alloc(), WHOLE.having(b"old").failing(failing, 5));
-        save_on(rt.alloc(), &disk);
+        let _ = save_on(rt.alloc(), &disk);
         is(&rt, &disk.ended_with(calls), &true, "calls");
     }
 }
