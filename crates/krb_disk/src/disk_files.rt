@@ -149,6 +149,13 @@ where
         }
     }
 
+    // Keeps a hold until the file is saved or released.
+    fn keep(&mut self, held: Held<R>)
+        ensures { self.new ≡ record self.old { is_held = true } }
+    {
+        self.held = Some(held);
+    }
+
     // Saves a file, which is held before if it was not. Returns what that left behind.
     fn save_held(&mut self, name: &str, bytes: &[u8]) -> Result<Option<Aftermath>, Unsaved>
         ensures ok { OnOk result (self.new
@@ -184,7 +191,8 @@ where
         ensures { self.new ≡ record self.old { is_held = true } }
     {
         self.release();
-        self.held = Some(Held::take(&self.calls, name, self.way));
+        let held = Held::take(&self.calls, name, self.way);
+        self.keep(held);
     }
 
     fn release(&mut self)

@@ -92,7 +92,7 @@ where
         Err(_) => Aftermath::Damaged,
     };
     Err(Unsaved {
-        why: DiskFault::from(error),
+        why: DiskFault::Failed(Cause::from(&error)),
         aftermath: Some(aftermath),
     })
 }
