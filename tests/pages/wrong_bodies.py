@@ -82,6 +82,7 @@ WRONG_BODIES = {
         "the-hidden-one-is-seen": "the first entry that MIT's programs do not see is not hidden",
     },
     "krb_disk": {
+        "a-damaged-file-is-told-as-restored": "a file whose old bytes could not be brought back is told as having them",
         "a-file-of-any-user-is-a-leftover": "a leftover may be of any user",
         "a-file-that-may-not-be-read-is-missing": "a file that may not be read is reported as missing",
         "a-mode-that-lets-all-write": "a saved file may be written by all",
@@ -99,8 +100,11 @@ WRONG_BODIES = {
         "renames-to-another-path": "the new file is renamed to another path",
         "renames-without-comparing": "a file that changed meanwhile is replaced",
         "replaces-what-is-no-file": "what is held may be a directory or a device",
+        "saves-in-place-without-comparing": "a file that changed meanwhile is written over in place",
         "saves-other-bytes": "other bytes are saved",
         "saves-under-another-name": "the file is saved under another name",
+        "writes-nothing-back": "after a failure no old byte is written back",
+        "writes-over-old-bytes-before-the-sync": "old bytes are written over before the new end of the file is on the disk",
     },
     "krb_copy": {
         "clash-by-order-of-addition": "the line of a clash has the place of the twin that was added last",

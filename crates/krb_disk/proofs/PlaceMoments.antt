@@ -1,11 +1,11 @@
 -- Each moment of a save in place is safe.
-use Rattle.std.proofs.Common.{◌≡◌, ◌⊎◌, inl, inr, ℕ, ◌<◌, ◌≤◌, Bool, true, false, List, [], ◌∷◌, length, slice_get, Option, None, Some, sym, ap, subst, ◌∙◌, arith, refl}
+use Rattle.std.proofs.Common.{◌≡◌, ◌⊎◌, inl, inr, ℕ, ◌<◌, ◌≤◌, true, List, [], ◌∷◌, length, slice_get, Option, sym, subst, ◌∙◌, arith, refl}
 use Rattle.std.proofs.lemmas.Option.{slice_get_past}
 use Rattle.std.proofs.lemmas.Bool.{cases_lt}
 use Rattle.krb_disk.specs.declared.place_stage.PlaceStage.{PlaceStage}
 use Rattle.krb_disk.specs.declared.place_stage.PlaceStage.TheVariants.{Untouched, Same, Quiet, Extended, Lengthened, Overwritten, Cut, Saved, Whole, Mixed, Torn, Trimmed, Back, Lost}
 use Rattle.krb_disk.specs.Content.{Content, Has, Writes, Cuts, IsPatch}
-use Rattle.krb_disk.specs.InPlace.{PlaceSave, PlaceCall, Watch, Extend, Sync, Overwrite, Shorten, Finish, Restore, CutBack, Event, Compare, Do, Fail, Intrude, PlaceMoment, Turns, Makes, since, Works, Fails, Does, Leads, OneHas, IsLeft, HasOld, HasEnd, IsSafe}
+use Rattle.krb_disk.specs.InPlace.{PlaceSave, PlaceCall, Watch, Extend, Sync, Overwrite, Shorten, Finish, Restore, CutBack, Event, Compare, Do, Fail, Intrude, PlaceMoment, Turns, Makes, since, Does, Leads, OneHas, IsLeft, HasOld, HasEnd, IsSafe}
 
 -- what the patch of a save is
 abbrev Fits : PlaceSave → Type 0

@@ -7,6 +7,7 @@ use Rattle.krb_files.specs.declared.files.LoadFault.TheVariants as load
 use Rattle.krb_files.specs.declared.files.SaveFault.{SaveFault}
 use Rattle.krb_files.specs.declared.files.SaveFault.TheVariants as save
 use Rattle.krb_files.specs.Files.{CountsFailure}
+use Rattle.krb_disk.specs.Aftermaths.{IsDone, IsUndone}
 use Rattle.krb_disk.specs.declared.fault.DiskFault.{DiskFault}
 use Rattle.krb_disk.specs.declared.fault.DiskFault.TheVariants as disk
 use Rattle.krb_disk.specs.declared.fault.ReadFault.{ReadFault}
@@ -55,7 +56,7 @@ CountsLoad old _ new = new ≡ old
 
 -- likewise for a save that was not made
 abbrev pub CountsSave : Disk → DiskFault → Disk → Type 0
-CountsSave old (disk.Failed cause) new = Fails old new × (new.mode ≡ old.mode) × (old.failures ≤ new.failures)
+CountsSave old (disk.Failed cause) new = Fails old new × (new.mode ≡ old.mode) × (old.failures ≤ new.failures) × (new.aftermath ≡ old.aftermath)
 CountsSave old disk.NoMemory new = new ≡ old
 
 -- a load from a disk returns at most `limit` bytes, of a plain file if only those are loaded; if it returns none, no mode is known; if it does not fail, nothing but the mode changes
@@ -66,6 +67,6 @@ AnswersFromDisk old new limit (Err fault) = new ≡ record old { mode = None }
 
 -- a save to a disk that returns Ok made all calls of one save of these bytes under that name, and any other those of none; the known mode stays
 abbrev pub SavesToDisk : Disk → List ℕ → List ℕ → Disk → Result (Unit {0}) SaveFault → Type 0
-SavesToDisk old name bytes new (Ok done) = new ≡ record old { saved = (name, bytes) ∷ old.saved; aftermath = new.aftermath }
-SavesToDisk old name bytes new (Err save.Failed) = Fails old new × (new.mode ≡ old.mode)
-SavesToDisk old name bytes new (Err save.NoMemory) = new ≡ record old { aftermath = new.aftermath }
+SavesToDisk old name bytes new (Ok done) = (new ≡ record old { saved = (name, bytes) ∷ old.saved; aftermath = new.aftermath }) × IsDone new.aftermath
+SavesToDisk old name bytes new (Err save.Failed) = Fails old new × (new.mode ≡ old.mode) × IsUndone new.aftermath
+SavesToDisk old name bytes new (Err save.NoMemory) = new ≡ record old { aftermath = None }

@@ -1,4 +1,5 @@
 -- What the contracts of this crate say.
+pub mod Aftermaths
 pub mod Content
 pub mod Device
 pub mod Disk

@@ -1,6 +1,7 @@
 //! Files on a disk, by name.
 
-ghost use Rattle.std.specs.Prelude.{◌≡◌, ◌≤◌, ◌<◌, true, false, [], ◌∷◌, None, is_some, IfOk, OnOk, OnErr, IsSome, IsTrue, vec_len};
+ghost use Rattle.std.specs.Prelude.{◌≡◌, ◌≤◌, ◌<◌, true, false, [], ◌∷◌, None, is_some, IfOk, OnOk, OnErr, IfErr, IsSome, IsTrue, vec_len};
+ghost use Rattle.krb_disk.specs.Aftermaths.{IsDone, IsRefused};
 ghost use Rattle.krb_disk.specs.DiskFiles.{Disk, Fails, CountsLoad, CountsSave, AnswersFromDisk, SavesToDisk, is_in_place, left};
 ghost use Rattle.krb_disk.specs.Faults.{load_fault, save_fault};
 ghost use Rattle.krb_disk.specs.Looks.{IsPlain};
@@ -149,11 +150,20 @@ where
         }
     }
 
+    // Keeps a hold until the file is saved or released.
+    fn keep(&mut self, held: Held<R>)
+        ensures { self.new ≡ record self.old { is_held = true } }
+    {
+        self.held = Some(held);
+    }
+
     // Saves a file, which is held before if it was not. Returns what that left behind.
     fn save_held(&mut self, name: &str, bytes: &[u8]) -> Result<Option<Aftermath>, Unsaved>
         ensures ok { OnOk result (self.new
             ≡ record (left self.old) { saved = (name.now, bytes.now) ∷ self.old.saved }) }
         ensures err { OnErr result (self.new ≡ left self.old) }
+        ensures done { IfOk result IsDone }
+        ensures refused { IfErr result IsRefused }
     {
         match self.held.take() {
             Some(held) => held.save(&mut self.calls, name, bytes, self.way),
@@ -184,7 +194,8 @@ where
         ensures { self.new ≡ record self.old { is_held = true } }
     {
         self.release();
-        self.held = Some(Held::take(&self.calls, name, self.way));
+        let held = Held::take(&self.calls, name, self.way);
+        self.keep(held);
     }
 
     fn release(&mut self)
@@ -215,6 +226,7 @@ where
     }
 
     fn save(&mut self, name: &str, bytes: &[u8]) -> Result<(), SaveFault> {
+        self.aftermath = None;
         if self.failures == u64::MAX {
             self.release();
             return Err(SaveFault::Failed);

@@ -1,6 +1,6 @@
 //! Why a call on the disk failed.
 
-ghost use Rattle.std.specs.Prelude.{◌≡◌};
+ghost use Rattle.std.specs.Prelude.{◌≡◌, None};
 ghost use Rattle.krb_disk.specs.Faults.{load_fault, save_fault};
 ghost use Rattle.krb_disk.specs.declared.fault.DiskFault.TheVariants.{NoMemory};
 ghost use Rattle.krb_disk.specs.declared.fault.ReadFault.TheVariants.{Disk};
@@ -32,6 +32,8 @@ pub struct Unsaved {
 }
 
 impl From<DiskFault> for Unsaved {
+    ghost from_gives = { λ why unsaved. unsaved ≡ record { why = why; aftermath = None } };
+
     fn from(why: DiskFault) -> Unsaved {
         Unsaved {
             why,

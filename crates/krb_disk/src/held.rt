@@ -1,6 +1,7 @@
 //! A held file, or why it is not held.
 
-ghost use Rattle.std.specs.Prelude.{◌≡◌, ◌≤◌, ◌∷◌, IfOk, OnOk, OnErr, vec_len};
+ghost use Rattle.std.specs.Prelude.{◌≡◌, ◌≤◌, ◌∷◌, IfErr, IfOk, OnOk, OnErr, vec_len};
+ghost use Rattle.krb_disk.specs.Aftermaths.{IsDone, IsRefused};
 
 use crate::calls::Calls;
 use crate::deadline::Deadline;
@@ -42,7 +43,9 @@ fn is_pipe<R: rt::Files>(looks: &Looks<'_, R>, name: &str, fault: DiskFault) -> 
 }
 
 // Returns what a save that replaced a file left behind.
-fn aftermath_of(has_lost: bool) -> Option<Aftermath> {
+fn aftermath_of(has_lost: bool) -> Option<Aftermath>
+    ensures { IsDone result }
+{
     if has_lost {
         Some(Aftermath::LostChange)
     } else {
@@ -80,6 +83,8 @@ where
     R::File: SetOwner + TakeLock + Numbered + WriteInPlace,
     ensures ok { OnOk result (calls.new.saved.entries ≡ (name.now, bytes.now) ∷ calls.old.saved.entries) }
     ensures err { OnErr result (calls.new.saved.entries ≡ calls.old.saved.entries) }
+    ensures done { IfOk result IsDone }
+    ensures refused { IfErr result IsRefused }
 {
     let target = find_target(calls.looks(), name)?;
     match way {
@@ -147,6 +152,8 @@ where
     ) -> Result<Option<Aftermath>, Unsaved>
         ensures ok { OnOk result (calls.new.saved.entries ≡ (name.now, bytes.now) ∷ calls.old.saved.entries) }
         ensures err { OnErr result (calls.new.saved.entries ≡ calls.old.saved.entries) }
+        ensures done { IfOk result IsDone }
+        ensures refused { IfErr result IsRefused }
     {
         match self {
             Held::Replacing(hold) => {

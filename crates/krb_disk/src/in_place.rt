@@ -1,6 +1,7 @@
 //! A save in place.
 
 ghost use Rattle.std.specs.Prelude.{◌≡◌, ◌∷◌, IfErr, IfOk, OnOk, OnErr, Some, string_bytes};
+ghost use Rattle.krb_disk.specs.Aftermaths.{IsRefused};
 ghost use Rattle.krb_disk.specs.Content.{Has, IsPatch, TurnsInto};
 ghost use Rattle.krb_disk.specs.PlaceStages.{HasFailed, IsAftermath, watched_in_place};
 ghost use Rattle.krb_disk.specs.declared.place_stage.PlaceStage.TheVariants.{Untouched, Quiet, Saved, Back, Lost};
@@ -80,6 +81,7 @@ where
     requires patch { IsPatch patch.before.now patch.after.now patch.first patch.last }
     ensures stage { OnOk result (file.new.stage ≡ Saved) }
     ensures aftermath { IfErr result (λ unsaved. IsAftermath file.new.stage unsaved.aftermath) }
+    ensures refused { IfErr result IsRefused }
     ensures saved { OnOk result (calls.new.saved.entries
         ≡ (string_bytes target.now.name, patch.entry.after.now) ∷ calls.old.saved.entries) }
     ensures unsaved { OnErr result (calls.new.saved.entries ≡ calls.old.saved.entries) }
@@ -92,7 +94,7 @@ where
         Err(_) => Aftermath::Damaged,
     };
     Err(Unsaved {
-        why: DiskFault::from(error),
+        why: DiskFault::Failed(Cause::from(&error)),
         aftermath: Some(aftermath),
     })
 }
@@ -163,6 +165,7 @@ where
     ensures ok { OnOk result (calls.new.saved.entries
         ≡ (string_bytes old.target.name, bytes.now) ∷ calls.old.saved.entries) }
     ensures err { OnErr result (calls.new.saved.entries ≡ calls.old.saved.entries) }
+    ensures refused { IfErr result IsRefused }
 {
     if let Snapshot::File(_) = old.snapshot {
         load(calls, &mut old)?;

@@ -23,9 +23,7 @@ impl Aftermath {
     {
         match self {
             Aftermath::Restored => "the old bytes are back",
-            Aftermath::Damaged => {
-                "the old bytes could not be written back; the file is damaged"
-            }
+            Aftermath::Damaged => { "the old bytes could not be written back; the file is damaged" }
             Aftermath::LostChange => "a change of another program was lost",
         }
     }

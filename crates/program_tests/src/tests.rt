@@ -5,6 +5,7 @@ mod commands;
 mod disk;
 mod holds;
 mod images;
+mod in_place;
 mod locks;
 mod runs;
 mod saves;

@@ -3,12 +3,13 @@
 ghost use Rattle.std.specs.Prelude.{◌≡◌, ◌≤◌, IfOk, vec_len};
 ghost use Rattle.krb_disk.specs.declared.place_stage.PlaceStage.TheVariants.{Untouched};
 
-use super::{Calls, OldFile, PlaceFile, describe, is_at_path};
+use super::{Calls, OldFile, PlaceFile, describe};
 use crate::fault::{DiskFault, ReadFault};
 use crate::lock::TakeLock;
 use crate::looks::Found;
 use crate::looks::device::Device;
 use crate::looks::mounts::mount_device;
+use crate::looks::same::is_same_file;
 use crate::number::Numbered;
 use crate::place_stage::PlaceStage;
 use crate::read::{has_bytes, read_open};
@@ -73,10 +74,10 @@ impl<R: rt::Files> Calls<'_, R> {
 
     /// Returns what the system reports of the old file, if it is still at `path`.
     pub fn find_old(&self, old: &OldFile<R::File>, path: &str) -> io::Result<Option<Found>> {
-        if is_at_path(&self.looks, path, &old.file)? {
-            Ok(Some(describe(&old.file)?))
-        } else {
-            Ok(None)
+        let opened = describe(&old.file)?;
+        match self.looks.look(path)? {
+            Some(named) if is_same_file(&named, &opened) => Ok(Some(opened)),
+            _ => Ok(None),
         }
     }
 

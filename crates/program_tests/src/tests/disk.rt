@@ -3,7 +3,7 @@
 ghost use Rattle.std.specs.Prelude.{IsErr};
 
 use super::state::State;
-use krb_disk::{Numbered, SetOwner, TakeLock};
+use krb_disk::{Numbered, SetOwner, TakeLock, WriteInPlace};
 use std::alloc::{Allocator, Global};
 use std::cell::{Cell, RefCell};
 use std::fs::{Metadata, OpenFile, OpenOptions, Permissions};
@@ -19,10 +19,11 @@ pub struct Disk {
     calls: RefCell<String>,
 }
 
-/// A reference to the disk, or a file of it, with what is left to read.
+/// A reference to the disk, or a file of it, with its bytes and what is left to read of them.
 #[derive(Drop)]
 pub struct Reached<'a> {
     disk: &'a Disk,
+    bytes: &'static [u8],
     left: &'static [u8],
 }
 
@@ -40,6 +41,7 @@ impl Disk {
     pub fn reached(&self) -> Reached<'_> {
         Reached {
             disk: self,
+            bytes: b"",
             left: b"",
         }
     }
@@ -57,6 +59,21 @@ impl Disk {
             }
         }
         left.is_empty()
+    }
+
+    /// Returns whether those calls were the last ones, in that order.
+    pub fn ended_with(&self, calls: &[&str]) -> bool {
+        let Ok(made) = self.calls.try_borrow() else {
+            return false;
+        };
+        let mut left = made.as_str();
+        for call in calls.iter().rev() {
+            match left.strip_suffix(*call) {
+                Some(front) => left = front,
+                None => return false,
+            }
+        }
+        true
     }
 
     fn note(&self, what: &str, path: &str) -> io::Result<()> {
@@ -110,8 +127,11 @@ impl Write for Reached<'_> {
 }
 
 impl Seek for Reached<'_> {
+    // Only to the start.
     fn seek(&mut self, _pos: SeekFrom) -> io::Result<u64> {
-        unsupported()
+        self.disk.note("rewind", "")?;
+        self.left = self.bytes;
+        Ok(0)
     }
 }
 
@@ -160,6 +180,16 @@ impl TakeLock for Reached<'_> {
     }
 }
 
+impl WriteInPlace for Reached<'_> {
+    fn write_part(&mut self, _image: &[u8], _from: usize, _to: usize) -> io::Result<()> {
+        self.disk.note("patch", "")
+    }
+
+    fn cut(&mut self, _len: usize) -> io::Result<()> {
+        self.disk.note("cut", "")
+    }
+}
+
 impl Numbered for Reached<'_> {
     fn number(&self) -> i32 {
         7
@@ -202,9 +232,11 @@ impl<'a> rt::Files for Reached<'a> {
         if is_new && state.is_taken {
             return Err(io::Error::from(ErrorKind::AlreadyExists));
         }
+        let bytes = state.bytes_of(path);
         Ok(Reached {
             disk: self.disk,
-            left: state.bytes_of(path),
+            bytes,
+            left: bytes,
         })
     }
 

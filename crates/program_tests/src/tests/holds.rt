@@ -7,8 +7,8 @@ use super::images::{CACHE, IMAGE};
 use super::locks::{LOCK, NONE};
 use super::runs::respond_over;
 use super::saves::{
-    HOLD, KEEPS, LEAVE, LOAD, LOCKS, LOOK, OWNS, RENAME, Saved, WRITES, hold, load, release, save,
-    saved,
+    HELD_LOAD, HOLD, KEEPS, LAST_LOOK, LEAVE, LOAD, LOCKS, LOOK, MAKE, OWNS, RENAME, Saved, WRITES,
+    hold, load, release, save, saved,
 };
 use super::state::WHOLE;
 use krb_disk::DiskFiles;
@@ -72,14 +72,14 @@ fn run_on(
 /// Calls on the disk: a load alone, one of a file that is held and then released or saved, and one more before that.
 const LOOKS: &[&str] = &[LOAD];
 
-const LEAVES: &[&str] = &[HOLD, LOCKS, LOAD, LEAVE];
+const LEAVES: &[&str] = &[MAKE, HOLD, LOCKS, HELD_LOAD, LEAVE];
 
 const CHANGES: &[&str] = &[
-    HOLD, LOCKS, LOAD, WRITES, OWNS, KEEPS, LOOK, LOAD, LOCKS, RENAME,
+    MAKE, HOLD, LOCKS, HELD_LOAD, WRITES, OWNS, KEEPS, LOOK, LOAD, LOCKS, RENAME, LAST_LOOK,
 ];
 
 const READS_AND_CHANGES: &[&str] = &[
-    LOAD, HOLD, LOCKS, LOAD, WRITES, OWNS, KEEPS, LOOK, LOAD, LOCKS, RENAME,
+    LOAD, MAKE, HOLD, LOCKS, HELD_LOAD, WRITES, OWNS, KEEPS, LOOK, LOAD, LOCKS, RENAME, LAST_LOOK,
 ];
 
 /// Dry runs and scripts that change nothing hold nothing. A run that finds nothing to change releases what it held.
@@ -122,11 +122,26 @@ fn a_file_that_is_left(rt: HostRuntime) {
     hold(&mut files);
     release(&mut files);
     release(&mut files);
-    is(&rt, &disk.was_called(&[HOLD, LOCKS, LEAVE]), &true, "left");
+    is(
+        &rt,
+        &disk.was_called(&[MAKE, HOLD, LOCKS, LEAVE]),
+        &true,
+        "left",
+    );
     hold(&mut files);
     let another = save(&mut files, "d.krbfile");
     is(&rt, &another, &saved(Some(Cause::NameOfSaves)), "another");
-    let calls = [HOLD, LOCKS, LEAVE, HOLD, LOCKS, LEAVE, "look d.krbfile\n"];
+    let calls = [
+        MAKE,
+        HOLD,
+        LOCKS,
+        LEAVE,
+        MAKE,
+        HOLD,
+        LOCKS,
+        LEAVE,
+        "look d.krbfile\n",
+    ];
     is(&rt, &disk.was_called(&calls), &true, "left for another");
     disk.state.set(WHOLE.failing(2, 13));
     hold(&mut files);

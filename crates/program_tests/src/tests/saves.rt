@@ -8,9 +8,11 @@ use krb_files::{Cause, Files, LoadFault, SaveFault};
 use std::alloc::Global;
 use std::process::Abort;
 
-/// The calls that hold `k`, a plain file, up to the readings of the list of locks.
-pub const HOLD: &str = "look k\nmake k.krbfile\nlock\nstat\nlook k.krbfile\ndouble\n\
-open /proc/self/fdinfo/7\nstat\nread\nlook k\n";
+/// The calls that hold `k`, a plain file, to replace it: first those that create and lock the new file, then those on
+/// `k` itself, up to the readings of the list of locks.
+pub const MAKE: &str = "look k\nmake k.krbfile\nlock\nstat\nlook k.krbfile\ndouble\n";
+
+pub const HOLD: &str = "look k\nopen k\nlock\nstat\nlook k\nopen /proc/self/fdinfo/7\nstat\nread\n";
 
 /// Five readings of the list of locks, which is empty.
 pub const LOCKS: &str = "open /proc/locks\nread\nopen /proc/locks\nread\nopen /proc/locks\nread\n\
@@ -30,8 +32,13 @@ pub const RENAME: &str = "rename k.krbfile\nopen .\nsync\n";
 /// The calls that release a held file.
 pub const LEAVE: &str = "stat\nlook k.krbfile\nremove k.krbfile\n";
 
-/// The calls that load `k`, if it is not empty.
+/// The calls that load `k`, if it is not empty, and those that load it through a hold.
 pub const LOAD: &str = "open k\nstat\nread\nread\n";
+
+pub const HELD_LOAD: &str = "rewind\nstat\nread\nread\n";
+
+/// The calls that look at the old file after the rename, if it is not empty.
+pub const LAST_LOOK: &str = "rewind\nread\nread\n";
 
 /// Files on such a disk. The functions below have no contracts, which keeps the proofs of tests short.
 pub type Noted<'a, 'd> = DiskFiles<'a, (Reached<'d>, Global)>;
@@ -81,24 +88,24 @@ fn check_save<R: Abort + AllocGlobal>(rt: &R, failing: u64, error: i32, cause: O
     is(rt, &got, &(saved(cause), false, error), "save");
 }
 
-/// Returns the cause of a save whose call of that number fails. A save succeeds without the system's information on
-/// mounts and locks, and once the new file is renamed.
+/// Returns the cause of a save whose call of that number fails. A save succeeds without a handle of the old file or its
+/// lock, without the system's information on mounts and locks, and once the new file is renamed.
 fn cause_of(failing: u64) -> Option<Cause> {
     match failing {
-        7..=9 | 11..=20 | 29..=38 | 40..=41 => None,
-        22 => Some(Cause::OwnerNotKept),
+        8..=9 | 12..=24 | 33..=42 | 44..=45 => None,
+        26 => Some(Cause::OwnerNotKept),
         _ => Some(Cause::InputOutput),
     }
 }
 
 #[test]
 fn each_call_of_a_save_fails(rt: HostRuntime) {
-    for failing in 1..=41 {
+    for failing in 1..=45 {
         check_save(&rt, failing, 5, cause_of(failing));
     }
 }
 
-/// Call 1 looks, 2 creates the new file, 3 locks it, 21 writes to it, 25 syncs it, and 39 renames it. A file system
+/// Call 1 looks, 2 creates the new file, 3 locks it, 25 writes to it, 29 syncs it, and 43 renames it. A file system
 /// without locks is no error. EBUSY means a mount point only of the rename. ENOMEM of the system is not out of memory
 /// in the program.
 #[test]
@@ -113,16 +120,16 @@ fn what_a_save_fails_with(rt: HostRuntime) {
         (2, 36, Some(Cause::NameTooLong)),
         (3, 37, Some(Cause::NoLock)),
         (3, 95, None),
-        (21, 4, Some(Cause::Interrupted)),
-        (21, 27, Some(Cause::FileTooLarge)),
-        (21, 28, Some(Cause::NoSpace)),
-        (21, 32, Some(Cause::BrokenPipe)),
-        (21, 122, Some(Cause::QuotaExceeded)),
-        (21, 71, Some(Cause::System(71))),
-        (39, 16, Some(Cause::MountPoint)),
-        (25, 16, Some(Cause::System(16))),
+        (25, 4, Some(Cause::Interrupted)),
+        (25, 27, Some(Cause::FileTooLarge)),
+        (25, 28, Some(Cause::NoSpace)),
+        (25, 32, Some(Cause::BrokenPipe)),
+        (25, 122, Some(Cause::QuotaExceeded)),
+        (25, 71, Some(Cause::System(71))),
+        (43, 16, Some(Cause::MountPoint)),
+        (29, 16, Some(Cause::System(16))),
         (1, 12, Some(Cause::System(12))),
-        (21, 12, Some(Cause::System(12))),
+        (25, 12, Some(Cause::System(12))),
     ] {
         check_save(&rt, failing, error, cause);
     }
@@ -139,10 +146,10 @@ fn the_calls_of_a_save(rt: HostRuntime) {
         (38, "own\nown the group\n"),
         (95, "own\nown the group\n"),
     ] {
-        let failing = if error == 0 { 0 } else { 22 };
+        let failing = if error == 0 { 0 } else { 26 };
         let disk = Disk::new(rt.alloc(), WHOLE.failing(failing, error));
         is(&rt, &save_on(rt.alloc(), &disk), &saved(None), own);
-        let calls = [HOLD, LOCKS, WRITES, own, KEEPS, LOOK, LOCKS, RENAME];
+        let calls = [MAKE, HOLD, LOCKS, WRITES, own, KEEPS, LOOK, LOCKS, RENAME];
         is(&rt, &disk.was_called(&calls), &true, own);
     }
 }
