@@ -8,7 +8,8 @@ import re
 import signal
 from collections.abc import Iterator
 
-from models.cases import in_place
+from makers.images import B, HOST, keytab
+from models.cases import IN_PLACE, in_place
 from models.modelled import modelled
 from runs.harness import Case, Outcome, Report, differences, files_in, folder_of, run
 from runs.preload import MOST_CALLS, Line, Preloaded, preloaded
@@ -129,6 +130,20 @@ def check_failures(report: Report, program: str) -> None:
                 check_unsaved(report, program, case, call, error)
 
 
+def check_talk(report: Report, program: str) -> None:
+    """Checks lines of ktutil of which the first that writes fails: what it left is told once, and the next is saved."""
+    talk = b"rkt j\nwkt k\nwkt k.krbfile\nwkt no\nwkt k\n"
+    lines = ("k: cannot write", f"line 2: {CAUSES['EIO']}", f"line 2: {AFTERMATHS['restored']}",
+             "k.krbfile: cannot write", f"line 3: {CAUSES['name of saves']}", "no: cannot write",
+             f"line 4: {CAUSES['no file']}")
+    with folder_of({"j": keytab(B), "k": keytab(HOST)}) as folder:
+        line = Line((EXPLAIN, "ktutil", IN_PLACE), talk)
+        outcome, _ = traced(program, line, folder, "-e", "inject=pwrite64:error=EIO:when=1")
+        faults = differences(explained(Outcome(3), *lines), outcome)
+        faults += tree_faults({"j": keytab(B), "k": keytab(HOST, B)}, folder)
+    report.check("a line of ktutil that fails in place", faults)
+
+
 def steps() -> list[Step]:
     """Returns the steps of a run in place that changes old bytes and adds others."""
     stat = r'\w*stat\w*\(.*"k"'
@@ -205,6 +220,6 @@ def check_parts(report: Report, program: str) -> None:
 
 def check(report: Report, program: str) -> None:
     """Runs this topic."""
-    check_traced(report, program, "system calls of saves in place that fail", check_order, check_failures, check_steps,
-                 check_kills)
+    check_traced(report, program, "system calls of saves in place that fail", check_order, check_failures, check_talk,
+                 check_steps, check_kills)
     check_parts(report, program)

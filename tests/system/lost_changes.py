@@ -17,10 +17,11 @@ from runs.terminal import EXPLAIN
 from system.failing_system_calls import READINGS
 from system.placing import PLACED, changed, explained
 from system.saving import tree_faults
-from words.phrases import AFTERMATHS, line_fault
+from words.phrases import AFTERMATHS, LEAVE_OUT, line_fault
 
-# A run of each command, and lines of ktutil of which another is at fault.
-TALK = ktutil(b"rkt j\nwkt k\nfrob\n", 0, files={"j": keytab(B), "k": keytab(HOST)}, name="adds, and is at fault")
+# A run of each command, and lines of ktutil of which the last ones are at fault and refused.
+TALK = ktutil(b"rkt j\nwkt k\nfrob\nwkt FILE:k\n", 0, files={"j": keytab(B), "k": keytab(HOST)},
+              name="adds, is at fault, and is refused")
 CASES_OF_ALL = (*PLACED[-6:], TALK)
 
 # Where a run is halted: before its rename, at the last reading of the locks, and behind it.
@@ -52,7 +53,8 @@ def told(case: Case, is_lost: bool) -> Case:
     line = f"line 2: {lost}" if case.words[0] == "ktutil" else f"{changed(case)}: {lost}"
     wanted = explained(replace(case.wanted, err=b""), *[line] * is_lost)
     if case == TALK:
-        wanted = explained(wanted, "line 3: fault 1", f"line 3: {line_fault(1, 'ktutil')}")
+        wanted = explained(wanted, "line 3: fault 1", f"line 3: {line_fault(1, 'ktutil')}", "FILE:k: cannot write",
+                           f"line 4: {LEAVE_OUT.replace('TYPE', 'FILE:')}")
     return replace(case, words=words, wanted=wanted)
 
 

@@ -66,6 +66,7 @@ CASES = [
     ends("ktutil --in-place", ("k: no such file", f"line 1: {NO_FILE}"), stdin=b"rkt k\n"),
     unwritten("k", 3, NO_FILE, ADD + b"wkt k\n"),
     unwritten("k", 1, NO_FILE, b"wkt k\n"),
+    unwritten("no/k", 3, NO_FILE, ADD + b"wkt no/k\n"),
     unwritten("FILE:k", 3, LEAVE_OUT.replace("TYPE", "FILE:"), ADD + b"wkt FILE:k\n"),
     unwritten("k.krbfile", 3, CAUSES["name of saves"], ADD + b"wkt k.krbfile\n", files={"k.krbfile": TWO}),
     # A file that is not a keytab.
