@@ -9,7 +9,7 @@ from dataclasses import replace
 
 from makers.images import B, HOST, TWO, keytab
 from makers.usual_caches import USUAL
-from models.cases import (IN_PLACE, ccedit, ccremove, in_place, klist, klist_cache, klist_json, ktcheck, ktcopy,
+from models.cases import (ccedit, ccremove, in_place, klist, klist_cache, klist_json, ktcheck, ktcopy,
                           ktedit, ktfind, ktremove, ktutil)
 from models.copy_model import Request
 from models.removal_model import Selection
@@ -146,16 +146,17 @@ def check_no_lock_taken(report: Report, program: str) -> None:
 
 def check_without(report: Report, program: str) -> None:
     """Checks a file that cannot be locked: it is replaced, and not saved in place."""
-    for error in ("ENOLCK", "EOPNOTSUPP", "EIO", "EBADF"):
-        for case, when in ((LONGER, ":when=2+"), (in_place(LONGER), "")):
-            is_placed = IN_PLACE in case.words
-            wanted = explained(unsaved(case), CAUSES["ENOLCK"]) if is_placed else case.wanted
-            with folder_of(case.files) as folder:
-                line = Line((EXPLAIN, *case.words), case.stdin)
-                outcome, _ = traced(program, line, folder, "-e", f"inject=flock:error={error}{when}")
-                faults = differences(wanted, outcome)
-                faults += tree_faults(case.files if is_placed else case.files_after, folder)
-            report.check(f"no lock can be had, {error}: {case.name}", faults)
+    placed = in_place(LONGER)
+    rows = [*((LONGER, error, ":when=2+") for error in ("ENOLCK", "EOPNOTSUPP", "EBADF")),
+            *((placed, error, "") for error in ("ENOLCK", "EOPNOTSUPP", "EBADF", "EIO"))]
+    for case, error, when in rows:
+        wanted = explained(unsaved(case), CAUSES["ENOLCK"]) if case is placed else case.wanted
+        with folder_of(case.files) as folder:
+            line = Line((EXPLAIN, *case.words), case.stdin)
+            outcome, _ = traced(program, line, folder, "-e", f"inject=flock:error={error}{when}")
+            faults = differences(wanted, outcome)
+            faults += tree_faults(case.files if case is placed else case.files_after, folder)
+        report.check(f"no lock can be had, {error}: {case.name}", faults)
 
 
 def check_other_handle(report: Report, program: str) -> None:
