@@ -9,8 +9,8 @@ from dataclasses import replace
 
 from makers.images import B, HOST, TWO, keytab
 from makers.usual_caches import USUAL
-from models.cases import (ccedit, ccremove, in_place, klist, klist_cache, klist_json, ktcheck, ktcopy,
-                          ktedit, ktfind, ktremove, ktutil)
+from models.cases import (ccedit, ccremove, in_place, klist, klist_cache, klist_json, ktcheck, ktcopy, ktedit, ktfind,
+                          ktremove, ktutil)
 from models.copy_model import Request
 from models.removal_model import Selection
 from runs.harness import Case, Report, differences, faults_of, files_in, folder_of, run
@@ -26,10 +26,9 @@ from words.phrases import CAUSES
 BOTH_WAYS = [way for case in PLACED[-6:] for way in (case, in_place(case))]
 
 # Runs that take no lock: those that list, dry runs, and a line of ktutil that reads.
-BOTH = Selection((b"b@R",))
 LOCKING_NOTHING = (
     klist(TWO), klist_json(TWO), klist_cache(USUAL), ktcheck(TWO), ktfind(TWO, name=(b"b", b"R")), *HOLDING_NOTHING,
-    *(way for case in (ktremove(TWO, selection=BOTH, is_dry=True, name="tells"),
+    *(way for case in (ktremove(TWO, selection=Selection((b"b@R",)), is_dry=True, name="tells"),
                        ccremove(USUAL, 0, selection=TGT, is_dry=True, name="tells"),
                        ktcopy(TWO, keytab(HOST), request=Request(is_dry=True), name="tells"),
                        ktutil(b"rkt k\nl\n", 0, files={"k": TWO}, name="reads"),

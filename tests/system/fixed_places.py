@@ -7,13 +7,13 @@ from shlex import quote
 
 from makers.images import HOST, Entry, keytab
 from models.cases import IN_PLACE, in_place, ktedit
-from runs.harness import Case, Outcome, Report, differences, folder_of, message, run
+from runs.harness import Case, Outcome, Report, differences, folder_of, run
 from runs.limits import limit
 from runs.namespaces import can_mount, run_within
 from runs.terminal import EXPLAIN
 from system.disk_faults import mounted
 from system.placing import EQUAL, LONGER, MIXED, PLACED, changed, explained, kept
-from system.saving import NEW, OLD, SCRIPT, WALK, as_another, run_over, tree, tree_faults, unsaved, write
+from system.saving import NEW, OLD, SAVED, SCRIPT, UNSAVED, WALK, as_another, run_over, tree, tree_faults, unsaved, write
 from words.phrases import AFTERMATHS, CAUSES
 
 # A keytab that fills a page of 4,096 bytes but for less than an entry.
@@ -120,7 +120,7 @@ def check_read_only(report: Report, program: str) -> None:
             return
         write(os.path.join(folder, "k"), OLD)
         subprocess.run(["mount", "-o", "remount,ro", folder], check=True)
-        rows = [(SCRIPT, explained(message(3, "k: cannot write"), CAUSES["EROFS"])),
+        rows = [(SCRIPT, explained(UNSAVED, CAUSES["EROFS"])),
                 (b"start\n", Outcome(0, b"walk 0 at 2\n"))]
         for script, wanted in rows:
             faults = differences(wanted, run(program, (EXPLAIN, "ktedit", IN_PLACE, "k"), folder, script))
@@ -155,7 +155,7 @@ def check_beside(report: Report, program: str) -> None:
         with folder_of({"k": OLD}) as folder:
             make(os.path.join(folder, "k.krbfile"))
             wanted = {**tree(folder), "k": NEW}
-            faults = differences(Outcome(0, b"placed 2\n"), run(program, ("ktedit", IN_PLACE, "k"), folder, SCRIPT))
+            faults = differences(SAVED, run(program, ("ktedit", IN_PLACE, "k"), folder, SCRIPT))
             faults += tree_faults(wanted, folder)
         report.check(f"{what} in the new file's place, in place", faults)
 
