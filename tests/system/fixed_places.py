@@ -13,7 +13,8 @@ from runs.namespaces import can_mount, run_within
 from runs.terminal import EXPLAIN
 from system.disk_faults import mounted
 from system.placing import EQUAL, LONGER, MIXED, PLACED, changed, explained, kept
-from system.saving import NEW, OLD, SAVED, SCRIPT, UNSAVED, WALK, as_another, run_over, tree, tree_faults, unsaved, write
+from system.saving import (NEW, OLD, SAVED, SCRIPT, UNSAVED, WALK, as_another, run_over, tree, tree_faults, unsaved,
+                           write)
 from words.phrases import AFTERMATHS, CAUSES
 
 # A keytab that fills a page of 4,096 bytes but for less than an entry.
