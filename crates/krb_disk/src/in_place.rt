@@ -175,7 +175,10 @@ where
         handle,
         snapshot,
     } = old;
-    let mut file = handle?.to_be_written()?;
+    let Some(file) = handle else {
+        return Err(Unsaved::from(DiskFault::Failed(Cause::NoFile)));
+    };
+    let mut file = file.to_be_written()?;
     let Snapshot::Loaded(found, old_bytes) = &snapshot else {
         return Err(Unsaved::from(DiskFault::Failed(Cause::Changed)));
     };

@@ -13,7 +13,6 @@ use crate::looks::Found;
 use crate::looks::device::Device;
 use crate::looks::locks::LockKind;
 use crate::number::Numbered;
-use crate::read::read_file;
 use crate::snapshot::Snapshot;
 use crate::target::Target;
 use krb_files::Cause;
@@ -21,14 +20,12 @@ use std::alloc::Allocator;
 use std::io::ErrorKind;
 use std::rt;
 
-/// The handle of the old file, or why there is none: `NoFile` if it is missing.
-pub type Handle<F> = Result<OldFile<F>, DiskFault>;
-
 /// The old file of a save: of the programs that hold a file before they change it, only this one may change it.
 #[derive(Drop)]
 pub struct Old<R: rt::Files + Alloc> {
     pub target: Target<R::A>,
-    pub handle: Handle<R::File>,
+    /// Its handle, if the file is there.
+    pub handle: Option<OldFile<R::File>>,
     pub snapshot: Snapshot<R::A>,
 }
 
@@ -52,19 +49,8 @@ impl Way {
 // The handle of a file that is held, and what was found of it.
 #[derive(Drop)]
 struct Opened<F> {
-    handle: Handle<F>,
+    handle: Option<OldFile<F>>,
     found: Option<Found>,
-}
-
-// Returns what a try gives where there is no handle: nothing if it is to be repeated, as the file is gone.
-fn without_handle<F>(found: Found, error: std::io::Error) -> Option<Opened<F>> {
-    match error.kind() {
-        ErrorKind::NotFound => None,
-        _ => Some(Opened {
-            handle: Err(DiskFault::from(error)),
-            found: Some(found),
-        }),
-    }
 }
 
 // Locks the open file. Returns nothing if another program has it, or replaced it.
@@ -89,7 +75,7 @@ where
         return Ok(None);
     }
     Ok(Some(Opened {
-        handle: Ok(file),
+        handle: Some(file),
         found: Some(found),
     }))
 }
@@ -106,7 +92,7 @@ where
 {
     let Some(found) = calls.see(path)? else {
         return Ok(Some(Opened {
-            handle: Err(DiskFault::Failed(Cause::NoFile)),
+            handle: None,
             found: None,
         }));
     };
@@ -115,7 +101,8 @@ where
     }
     match calls.open_old(path, way == Way::InPlace) {
         Ok(file) => lock_opened(calls, path, way, file, deadline),
-        Err(error) => Ok(without_handle(found, error)),
+        Err(error) if error.kind() == ErrorKind::NotFound => Ok(None),
+        Err(error) => Err(DiskFault::from(error)),
     }
 }
 
@@ -168,7 +155,7 @@ impl<R: rt::Files + Alloc> Old<R> {
         self.target.name() == name
     }
 
-    // Reads the file through its handle. Without one there is no file, or the open says why.
+    // Reads the file through its handle.
     fn read<A: Allocator>(
         &mut self,
         calls: &Calls<'_, R>,
@@ -180,9 +167,8 @@ impl<R: rt::Files + Alloc> Old<R> {
         ensures snapshot { self.new.snapshot ≡ self.old.snapshot }
     {
         match &mut self.handle {
-            Ok(file) => calls.load(alloc, file, limit),
-            Err(DiskFault::Failed(Cause::NoFile)) => Err(ReadFault::Missing),
-            Err(_) => read_file(calls.looks(), alloc, self.target.path(), limit),
+            Some(file) => calls.load(alloc, file, limit),
+            None => Err(ReadFault::Missing),
         }
     }
 
@@ -214,15 +200,15 @@ impl<R: rt::Files + Alloc> Old<R> {
     /// Returns the device of the file's mount, if known.
     pub fn mount(&self) -> Option<Device> {
         match &self.handle {
-            Ok(file) => file.mount(),
-            Err(_) => None,
+            Some(file) => file.mount(),
+            None => None,
         }
     }
 
     /// Returns whether the file, which has no name any more, has other bytes than those that were compared.
     pub fn has_changed(&mut self, calls: &Calls<'_, R>) -> bool {
         match (&mut self.handle, &self.snapshot) {
-            (Ok(file), Snapshot::Loaded(_, bytes)) => calls.has_changed(file, bytes),
+            (Some(file), Snapshot::Loaded(_, bytes)) => calls.has_changed(file, bytes),
             _ => false,
         }
     }

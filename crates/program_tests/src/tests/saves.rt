@@ -88,11 +88,11 @@ fn check_save<R: Abort + AllocGlobal>(rt: &R, failing: u64, error: i32, cause: O
     is(rt, &got, &(saved(cause), false, error), "save");
 }
 
-/// Returns the cause of a save whose call of that number fails. A save succeeds without a handle of the old file or its
-/// lock, without the system's information on mounts and locks, and once the new file is renamed.
+/// Returns the cause of a save whose call of that number fails. A save succeeds without the old file's lock, without the
+/// system's information on mounts and locks, and once the new file is renamed.
 fn cause_of(failing: u64) -> Option<Cause> {
     match failing {
-        8..=9 | 12..=24 | 33..=42 | 44..=45 => None,
+        9 | 12..=24 | 33..=42 | 44..=45 => None,
         26 => Some(Cause::OwnerNotKept),
         _ => Some(Cause::InputOutput),
     }
