@@ -43,9 +43,9 @@ fn first_bad<'a>(words: &[&'a str]) -> Option<&'a str>
 
 /// Returns the mistake of the first word that is not an enctype, if there is one.
 pub fn bad_etype<'a, M: Matches<'a>>(matches: &M) -> Option<Mistake<'a>>
-    ensures { option_map mistake_parts result ≡ bad_etype ((M.matched matches.now).values (codes "etype")) }
+    ensures { option_map mistake_parts result ≡ bad_etype ((M.matched matches.now).values (codes "enctype")) }
 {
-    Some(Mistake::NoEtype(first_bad(matches.values("etype"))?))
+    Some(Mistake::NoEtype(first_bad(matches.values("enctype"))?))
 }
 
 /// Returns the kvnos that a word selects, or `Any` without a word. The word `name` selects `named`.

@@ -45,7 +45,15 @@ Commands, each on a line, and their short names:
                              Adds an entry; the next line is its key, in hexadecimal
   delete_entry, delent SLOT  Deletes the entry of that slot
   clear_list, clear          Empties the list
-  quit, q, exit              Ends",
+  quit, q, exit              Ends
+Statuses:
+  0  All commands were run
+  1  A command is faulty or refused, or its file is missing, too large, damaged or no keytab
+  2  The command line is bad
+  3  The commands, a file or the output failed
+  4  Out of memory
+Example: add the keys of one keytab to another
+  printf 'rkt rotated.keytab\\nwkt other.keytab\\n' | krbfile ktutil",
     ),
     words: &[V1_BIG, IN_PLACE],
 };

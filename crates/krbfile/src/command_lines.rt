@@ -9,16 +9,18 @@ const VERSION: &str = "1.0 (rattle logic dac8208d650f15bf)";
 
 fn arg_of<'a>(alloc: Global, word: Word) -> Arg<'a> {
     match word {
-        Word::Flag(id, letter, help) => Arg::new(alloc, id)
+        Word::Flag(name, letter, help) => Arg::new(alloc, name)
             .short(letter)
+            .long(name)
             .action(ArgAction::SetTrue)
             .help(help),
         Word::LongFlag(name, help) => Arg::new(alloc, name)
             .long(name)
             .action(ArgAction::SetTrue)
             .help(help),
-        Word::Valued(id, letter, value, help) => Arg::new(alloc, id)
+        Word::Valued(name, letter, value, help) => Arg::new(alloc, name)
             .short(letter)
+            .long(name)
             .action(ArgAction::Append)
             .value_name(value)
             .help(help),
