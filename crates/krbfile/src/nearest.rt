@@ -1,7 +1,7 @@
 //! What was meant by an unknown word.
 
 use clap::Command;
-use krb_commands::{COMMANDS, More};
+use krb_commands::{COMMANDS, More, words_of};
 use std::alloc::{AllocError, Global};
 use strsim::osa_distance;
 
@@ -31,8 +31,8 @@ fn nearest<'a>(
 // Returns the names of the commands.
 fn command_names(alloc: Global) -> Result<Vec<&'static str>, AllocError> {
     let mut names = vec![in alloc; "help"]?;
-    for line in COMMANDS {
-        names.push(line.name)?;
+    for command in &COMMANDS {
+        names.push(words_of(*command).name)?;
     }
     Ok(names)
 }

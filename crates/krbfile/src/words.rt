@@ -6,7 +6,9 @@ use crate::equals::double_equals;
 use crate::nearest::{meant_command, meant_option};
 use clap::error::ErrorKind;
 use clap::{ArgMatches, Command};
-use krb_commands::{Action, BadLine, COMMANDS, Matches, Mistake, More, WordFault, action_of};
+use krb_commands::{
+    Action, BadLine, COMMANDS, Matches, Mistake, More, WordFault, action_of, words_of,
+};
 use std::alloc::{AllocError, Global};
 
 /// The matches of clap for a command's words.
@@ -79,7 +81,8 @@ fn command_action<'a>(
 ) -> Result<Action<'a>, WordFault<'a>> {
     let none = Vec::new(alloc);
     let long = long_names(alloc, words)?;
-    for line in COMMANDS {
+    for command in &COMMANDS {
+        let line = words_of(*command);
         if let Some(found) = matches.subcommand_matches(line.name) {
             let matched = Matched {
                 found,
