@@ -195,7 +195,8 @@ CASES = [
     *(faulty(line, number) for number, line in first_of_each(LINE_FAULTS).items()),
     *(faulty_talk(line, number) for number, line in first_of_each(TALK_FAULTS).items()),
     faulty_talk("rkt \udcff", 8),
-    *(faulty_talk(line, 1, "see krbfile ktutil --help") for line in ("?", "help", "lr", "list_requests", " help\tlist")),
+    *(faulty_talk(line, 1, "see krbfile ktutil --help")
+      for line in ("?", "help", "lr", "list_requests", " help\tlist")),
     *(faulty_talk(line, 1) for line in ("HELP", "helps", "\\?")),
     *(faulty_talk(line, 2, "keys are not made from passwords here")
       for line in ("addent -password -p b@R -k 3 -e 17", "add_entry -p b@R -k 3 -e 17 -password")),

@@ -30,6 +30,7 @@ def check(report: Report, program: str) -> None:
             shown = run(program, (command, "--help"), folder).out.decode()
         end = END.search(shown)
         told = [line.split()[0] for line in end[1].splitlines()] if end else []
-        report.check(f"the statuses of krbfile {command} --help", [] if told == list(STATUSES) else [f"it tells {told}"])
+        wrong = [] if told == list(STATUSES) else [f"it tells {told}"]
+        report.check(f"the statuses of krbfile {command} --help", wrong)
         if end:
             check_example(report, program, command, end[3])

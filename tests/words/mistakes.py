@@ -43,12 +43,14 @@ MISTAKES: dict[str, list[str | Line]] = {
     "left over: c@R": ["ktfind k 0 0 b@R c@R"],
     **{f"{option} does not go with -k": [f"klist {option} -k k"] for option in ("-c", "-f", "-C")},
     **{f"{option} does not go with {keytab}": [f"klist {option} {keytab} k"]
-       for option, keytab in (("--cache", "--keytab"), ("-f", "--keytab"), ("--flags", "-k"), ("--config", "--keytab"))},
+       for option, keytab in (("--cache", "--keytab"), ("-f", "--keytab"), ("--flags", "-k"),
+                              ("--config", "--keytab"))},
     **{f"{option} is for keytabs; give -k": [f"klist {option} k"]
        for option in ("-t", "-K", "--v1-big", "--times", "--keys")},
     "--principal needs a value": ["ktremove k --principal", "ktcopy --principal -k new k t"],
     "--service needs a value": ["ccremove k --service", "ccremove --service --expired k"],
-    "--kvno is given twice": ["ktremove --kvno 1 --kvno=1 k", "ktcopy --kvno=new --kvno new k t", "ktremove -k 1 --kvno 2 k"],
+    "--kvno is given twice": ["ktremove --kvno 1 --kvno=1 k", "ktcopy --kvno=new --kvno new k t",
+                              "ktremove -k 1 --kvno 2 k"],
     "--service is given twice": ["ccremove --service a@R --service=a@R k"],
     "--silent does not go with --keytab": ["klist --silent --keytab k"],
     "--silent does not go with --enctypes": ["klist --enctypes --silent k"],
