@@ -12,7 +12,7 @@ ghost use Rattle.krb_driver.specs.Verdicts.{hiding};
 ghost use Rattle.krb_driver.specs.declared.verdict.Verdict.TheVariants.{Clashed, Well};
 ghost use Rattle.krb_editors.specs.Ktcopy.{SpellsCopy, asks_for_some, copied_effect, copies_from, copies_to, copy_mistake, finds_none, ktcopy_plan, odd_copy};
 
-use crate::selecting::{bad_etype, etypes_of, kvno_by_word};
+use crate::selecting::{OF_ENCTYPE, OF_PRINCIPAL, bad_etype, etypes_of, kvno_by_word};
 use krb_audit::{SelectedKvno, Selection, hides_added, selected_entries};
 use krb_copy::{Copied, copy_into};
 use krb_driver::{
@@ -52,24 +52,14 @@ Example: bring new keys into the keytab in use
             "Tell what would be copied, and save nothing",
         ),
         Word::LongFlag("replace", "Replace entries that have another key"),
-        Word::Valued(
-            "principal",
-            'p',
-            "NAME",
-            "Entries of that principal, with its realm; may be repeated",
-        ),
+        OF_PRINCIPAL,
         Word::Valued(
             "kvno",
             'k',
             "KVNO",
             "Entries of that version; new: those of the newest",
         ),
-        Word::Valued(
-            "enctype",
-            'e',
-            "ETYPE",
-            "Entries of that encryption type, by name or number; may be repeated",
-        ),
+        OF_ENCTYPE,
         V1_BIG,
         IN_PLACE,
         Word::Operand("FROM", "The file to copy from"),

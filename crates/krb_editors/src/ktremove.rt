@@ -7,7 +7,7 @@ ghost use Rattle.krb_driver.specs.Effects.{IsMade};
 ghost use Rattle.krb_editors.specs.Ktremove.{RunsKtremove, SpellsKvno, SpellsRemoval, kvno_mistake, needed_time, none_verdict, odd_selection, remove_mistake, removes, with_age};
 ghost use Rattle.krb_driver.specs.Mistakes.{Reads, mistake_parts};
 
-use crate::selecting::{bad_etype, etypes_of, kvno_by_word};
+use crate::selecting::{OF_ENCTYPE, OF_PRINCIPAL, bad_etype, etypes_of, kvno_by_word};
 use krb_audit::{SelectedKvno, Selection, select};
 use krb_driver::{
     Command, CommandName, CommandWords, DRY_RUN, Details, FileError, FileKind, FileName, IN_PLACE,
@@ -41,12 +41,7 @@ Example: which keys have been replaced by a newer version
     ),
     words: &[
         DRY_RUN,
-        Word::Valued(
-            "principal",
-            'p',
-            "NAME",
-            "Entries of that principal, with its realm; may be repeated",
-        ),
+        OF_PRINCIPAL,
         Word::Valued(
             "kvno",
             'k',
@@ -58,12 +53,7 @@ Example: which keys have been replaced by a newer version
             "SECONDS",
             "With -k old: where the newest version has been there so long",
         ),
-        Word::Valued(
-            "enctype",
-            'e',
-            "ETYPE",
-            "Entries of that encryption type, by name or number; may be repeated",
-        ),
+        OF_ENCTYPE,
         V1_BIG,
         IN_PLACE,
         Word::Operand("FILE", "The file to remove from"),
