@@ -14,25 +14,26 @@ _krbfile() {
     case $command in
         '') options="$commands --explain --version -V" ;;
         help) options=$commands ;;
-        klist) options='-c -f -C -k -t -K -e -s --for --v1-big --json' ;;
+        klist) options='-c --cache -f --flags -C --config -k --keytab -t --times -K --keys -e
+            --enctypes -s --silent --for --v1-big --json' ;;
         ktfind) options='--v1-big' ;;
         ktedit | ktutil) options='--v1-big --in-place' ;;
-        ktcheck) options='-q --allow --v1-big' ;;
-        ktremove) options='-n -p -k --age -e --v1-big --in-place' ;;
-        ktcopy) options='-n --replace -p -k -e --v1-big --in-place' ;;
+        ktcheck) options='-q --quiet --allow --v1-big' ;;
+        ktremove) options='-n --dry-run -p --principal -k --kvno --age -e --enctype --v1-big --in-place' ;;
+        ktcopy) options='-n --dry-run --replace -p --principal -k --kvno -e --enctype --v1-big --in-place' ;;
         ccedit) options='--in-place' ;;
-        ccremove) options='-n -p --expired --in-place' ;;
+        ccremove) options='-n --dry-run -p --service --expired --in-place' ;;
     esac
     COMPREPLY=()
     if [[ $word == -* || $command == '' || $command == help ]]; then
         COMPREPLY=($(compgen -W "$options --help -h" -- "$word"))
-    elif [[ $command == ktremove && ${COMP_WORDS[COMP_CWORD - 1]} == -k ]]; then
+    elif [[ $command == ktremove && ${COMP_WORDS[COMP_CWORD - 1]} == @(-k|--kvno) ]]; then
         COMPREPLY=($(compgen -W old -- "$word"))
-    elif [[ $command == ktcopy && ${COMP_WORDS[COMP_CWORD - 1]} == -k ]]; then
+    elif [[ $command == ktcopy && ${COMP_WORDS[COMP_CWORD - 1]} == @(-k|--kvno) ]]; then
         COMPREPLY=($(compgen -W new -- "$word"))
     elif [[ $command == ktcheck && ${COMP_WORDS[COMP_CWORD - 1]} == --allow ]]; then
         COMPREPLY=($(compgen -W 'weak hidden same clash old mode' -- "$word"))
-    elif [[ $command == @(ktremove|ktcopy) && ${COMP_WORDS[COMP_CWORD - 1]} == -e ]]; then
+    elif [[ $command == @(ktremove|ktcopy) && ${COMP_WORDS[COMP_CWORD - 1]} == @(-e|--enctype) ]]; then
         COMPREPLY=($(compgen -W "$etypes" -- "$word"))
     elif [[ $command == ktfind ]] && ((operands == 2)); then
         COMPREPLY=($(compgen -W "$etypes" -- "$word"))

@@ -24,35 +24,35 @@ for at in __fish_use_subcommand '__fish_seen_subcommand_from help'
     complete -c krbfile -n $at -a help -d 'Print help'
 end
 
-complete -c krbfile -n '__fish_seen_subcommand_from klist' -s c -d 'List a credential cache'
-complete -c krbfile -n '__fish_seen_subcommand_from klist' -s f -d 'Show the flags of tickets'
-complete -c krbfile -n '__fish_seen_subcommand_from klist' -s C -d 'Show configuration entries'
-complete -c krbfile -n '__fish_seen_subcommand_from klist' -s k -d 'List a keytab'
-complete -c krbfile -n '__fish_seen_subcommand_from klist' -s t -d 'Show the times of entries'
-complete -c krbfile -n '__fish_seen_subcommand_from klist' -s K -d 'Show the keys of entries'
-complete -c krbfile -n '__fish_seen_subcommand_from klist' -s e -d 'Show encryption types'
+complete -c krbfile -n '__fish_seen_subcommand_from klist' -s c -l cache -d 'List a credential cache'
+complete -c krbfile -n '__fish_seen_subcommand_from klist' -s f -l flags -d 'Show the flags of tickets'
+complete -c krbfile -n '__fish_seen_subcommand_from klist' -s C -l config -d 'Show configuration entries'
+complete -c krbfile -n '__fish_seen_subcommand_from klist' -s k -l keytab -d 'List a keytab'
+complete -c krbfile -n '__fish_seen_subcommand_from klist' -s t -l times -d 'Show the times of entries'
+complete -c krbfile -n '__fish_seen_subcommand_from klist' -s K -l keys -d 'Show the keys of entries'
+complete -c krbfile -n '__fish_seen_subcommand_from klist' -s e -l enctypes -d 'Show encryption types'
 complete -c krbfile -n '__fish_seen_subcommand_from klist' -l json -d 'Print all as one JSON object'
-complete -c krbfile -n '__fish_seen_subcommand_from klist' -s s -d 'Print nothing; status 0 if there is a ticket to go on with'
+complete -c krbfile -n '__fish_seen_subcommand_from klist' -s s -l silent -d 'Print nothing; status 0 if there is a ticket to go on with'
 complete -c krbfile -n '__fish_seen_subcommand_from klist' -l for -x -d 'With -s: seconds that the ticket is valid for'
 
-complete -c krbfile -n '__fish_seen_subcommand_from ktremove' -s n -d 'Save nothing'
-complete -c krbfile -n '__fish_seen_subcommand_from ktremove' -s p -x -d 'Entries of that principal'
-complete -c krbfile -n '__fish_seen_subcommand_from ktremove' -s k -x -a old -d 'Entries of that version'
+complete -c krbfile -n '__fish_seen_subcommand_from ktremove' -s n -l dry-run -d 'Save nothing'
+complete -c krbfile -n '__fish_seen_subcommand_from ktremove' -s p -l principal -x -d 'Entries of that principal'
+complete -c krbfile -n '__fish_seen_subcommand_from ktremove' -s k -l kvno -x -a old -d 'Entries of that version'
 complete -c krbfile -n '__fish_seen_subcommand_from ktremove' -l age -x -d 'With -k old: replaced for so many seconds'
-complete -c krbfile -n '__fish_seen_subcommand_from ktcopy' -s n -d 'Save nothing'
+complete -c krbfile -n '__fish_seen_subcommand_from ktcopy' -s n -l dry-run -d 'Save nothing'
 complete -c krbfile -n '__fish_seen_subcommand_from ktcopy' -l replace -d 'Replace entries that have another key'
-complete -c krbfile -n '__fish_seen_subcommand_from ktcopy' -s p -x -d 'Entries of that principal'
-complete -c krbfile -n '__fish_seen_subcommand_from ktcopy' -s k -x -a new -d 'Entries of that version'
-complete -c krbfile -n '__fish_seen_subcommand_from ktremove ktcopy' -s e -x -d 'Entries of that encryption type' \
+complete -c krbfile -n '__fish_seen_subcommand_from ktcopy' -s p -l principal -x -d 'Entries of that principal'
+complete -c krbfile -n '__fish_seen_subcommand_from ktcopy' -s k -l kvno -x -a new -d 'Entries of that version'
+complete -c krbfile -n '__fish_seen_subcommand_from ktremove ktcopy' -s e -l enctype -x -d 'Entries of that encryption type' \
     -a 'des3-cbc-sha1 aes128-cts-hmac-sha1-96 aes256-cts-hmac-sha1-96 aes128-cts-hmac-sha256-128
     aes256-cts-hmac-sha384-192 arcfour-hmac camellia128-cts-cmac camellia256-cts-cmac'
 
-complete -c krbfile -n '__fish_seen_subcommand_from ktcheck' -s q -d 'Print no counts of a file without findings'
+complete -c krbfile -n '__fish_seen_subcommand_from ktcheck' -s q -l quiet -d 'Print no counts of a file without findings'
 complete -c krbfile -n '__fish_seen_subcommand_from ktcheck' -l allow -x -a 'weak hidden same clash old mode' \
     -d 'Findings that do not count for the status'
 
-complete -c krbfile -n '__fish_seen_subcommand_from ccremove' -s n -d 'Save nothing'
-complete -c krbfile -n '__fish_seen_subcommand_from ccremove' -s p -x -d 'Tickets for that service'
+complete -c krbfile -n '__fish_seen_subcommand_from ccremove' -s n -l dry-run -d 'Save nothing'
+complete -c krbfile -n '__fish_seen_subcommand_from ccremove' -s p -l service -x -d 'Tickets for that service'
 complete -c krbfile -n '__fish_seen_subcommand_from ccremove' -l expired -d 'Tickets that have expired'
 
 complete -c krbfile -n '__fish_seen_subcommand_from klist ktfind ktedit ktremove ktcopy ktcheck ktutil' -l v1-big -d 'Version 1 files are big-endian'

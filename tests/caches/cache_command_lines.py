@@ -28,7 +28,7 @@ TAKEN = {
 # Lines that are refused, beside a cache `c` and a keytab `k` that could be listed.
 REFUSED: list[str | Line] = [
     "klist c c", "klist -- -c c", "klist -cx c", "klist -c=yes c",
-    "klist --flags c", "c", "-c c",
+    "klist --flags=yes c", "c", "-c c",
     *(f"klist {options} {name}" for name in ("c", "k") for options in (
         "-c -k", "-k -c", "-ck", "-kc", "-t", "-K", "-et", "--v1-big", "-c -t", "-c -K", "-ctK", "-c --v1-big",
         "-efC --v1-big", "-k -f", "-f -k", "-kf", "-fk", "-k -C", "-kC", "-kefC", "-kt -e -C")),
@@ -55,7 +55,7 @@ HELP = [
      (*OF_KLIST, b"-c", b"-f", b"-C")),
     (["ccedit --help", "help ccedit"], (b"krbfile ccedit", b"FILE", b"config KEY PRINCIPAL VALUE", b"--help")),
     (["ccremove -h", "help ccremove"],
-     (b"krbfile ccremove", b"-n", b"-p <SERVICE>", b"--expired", b"FILE", b"--help")),
+     (b"krbfile ccremove", b"-n, --dry-run", b"-p, --service <SERVICE>", b"--expired", b"FILE", b"--help")),
 ]
 
 FILES = {"c": USUAL, "k": TWO}

@@ -143,7 +143,7 @@ CASES = [
         "c", "-n c", "-p", "-p b@R", "--expired", "-n --expired", "-p b@R -p b@R c", "-p b@R -p c@R c",
         "-p b@R c -pb@R", "-p b c", "-p b@R@R c", "-p b@R/ c", "-p b@R\\ c", "-p b@R c more", "-x --expired c",
         "-k old c", "-e 17 c", "--expired -n=yes c", "--expired=yes c", "--v1-big --expired c",
-        "--dry-run --expired c", "-expired c", "--expire c")),
+        "--dry-run=yes --expired c", "-expired c", "--expire c")),
 ]
 
 

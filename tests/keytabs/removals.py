@@ -145,7 +145,7 @@ CASES = [
       for line in ("k", "-n k", "-p", "-p b@R", "-k old", "-e 17", "-p b@R -p b k", "-k 3 -k 3 k", "-k old -k old k",
                    "-k new k", "-k -1 k", "-k 4294967296 k", "-k Old k", "-k= k", "-e any k", "-e 65536 k",
                    "-e 17 -e any k", "-p b k", "-p b@R@R k", "-p b@R/ k", "-p b@R k more", "-p= k", "-k=3 k",
-                   "-nk=old k", "-e=17 k", "-x -k old k", "-k old -n=yes k", "--dry-run -k old k", "-K old k",
+                   "-nk=old k", "-e=17 k", "-x -k old k", "-k old -n=yes k", "--dry-run=yes -k old k", "-K old k",
                    "--age 3 k", "-k 3 --age 3 k", "-p b@R --age 3 k", "-e 17 --age 3 k", "-k new --age 3 k",
                    "-k old --age k", "-k old --age", "-k old --age 3 --age 3 k", "-k old --age x k",
                    "-k old --age= k", "-k old --age -1 k", "-k old --age +1 k", "-k old --age 1d k",

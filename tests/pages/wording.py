@@ -7,7 +7,7 @@ import re
 from pages.documents import read
 from runs.harness import TOP, Report
 from words import phrases
-from words.mistakes import MISTAKES
+from words.mistakes import MISTAKES, NEAR
 
 PAGE = "docs/krbfile.1"
 FORMATS = "docs/FORMATS.md"
@@ -78,7 +78,8 @@ def check_mistakes(report: Report) -> None:
     """Checks that the lines of the mistakes have each, and no other."""
     patterns = {each: re.sub("WORD|OPTION|VARIABLE", "(?s:.*)", re.escape(each)) for each in phrases.MISTAKES}
     of_operands = patterns["no FILE"].replace("FILE", "(?:FILE|FROM|TO|KVNO|ETYPE|NAME)")
-    lines = [*MISTAKES, "an argument is not UTF-8", "KRB5CCNAME is not UTF-8"]
+    lines = [*MISTAKES, *(phrase for phrase, _ in NEAR), "no command", "an argument is not UTF-8",
+             "KRB5CCNAME is not UTF-8"]
     found = {each: [mistake for mistake in lines if re.fullmatch(pattern, mistake)]
              for each, pattern in (patterns | {"no FILE": of_operands}).items()}
     report.check("each mistake has a line", [each for each, lines in found.items() if not lines])

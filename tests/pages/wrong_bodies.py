@@ -116,6 +116,7 @@ WRONG_BODIES = {
     "krb_driver": {
         "a-failed-run-hides-what-its-save-left": "what a save left behind is not told of a run that failed",
         "a-letter-is-a-type": "one letter before a colon is a type",
+        "an-option-is-named-by-its-letter": "an option that was typed by its long name is named by its letter",
         "holds-another-type": "a name of a type that is not read is held",
         "holds-no-file": "a command does not hold the file that it may change",
         "makes-the-file-to-be-saved-in-place": "an empty keytab takes the place of a missing file to be saved in place",
@@ -142,6 +143,7 @@ WRONG_BODIES = {
     },
     "krb_ktutil": {
         "a-list-tells-what-a-save-left": "a line that saves nothing tells what an earlier save left behind",
+        "every-command-wants-a-password": "read_kt too is told that keys are not made from passwords",
         "saves-part": "write_kt saves what it added before a refusal",
         "writes-under-a-type": "write_kt writes a file whose name begins with a type",
     },

@@ -51,7 +51,7 @@ def by_zsh(command: str) -> set[str]:
     case = rf"^ +{command}\)\n(?s:(.*?));;" if command else r"^_arguments -C ((?:.*\\\n)*.*)"
     own = re.search(case, text, re.MULTILINE).group(1)
     everywhere = re.search(r"^options=(.*)", text, re.MULTILINE).group(1)
-    return {option for item in re.findall(r"'(?:\(.*?\)')?(\S+?)'?\[", everywhere + own)
+    return {option for item in re.findall(r"'(?:(?:\(.*?\)|\*)')?(\S+?)'?\[", everywhere + own)
             for option in item.strip("{}*").split(",")}
 
 

@@ -12,8 +12,8 @@ from words.phrases import BEGINS_AS_CACHE, BEGINS_AS_NO_KEYTAB, CAUSES, CLASH, L
 CLASHES = ("", f"clash: {CLASH}")
 
 # Words of the command's help.
-HELP = (b"krbfile ktcopy", b"-n", b"--replace", b"-p <NAME>", b"-k <KVNO>", b"-e <ETYPE>", b"--v1-big", b"FROM", b"TO",
-        b"--help")
+HELP = (b"krbfile ktcopy", b"-n, --dry-run", b"--replace", b"-p, --principal <NAME>", b"-k, --kvno <KVNO>",
+        b"-e, --enctype <ETYPE>", b"--v1-big", b"FROM", b"TO", b"--help")
 
 
 def copy(name: str, options: str, source: bytes | None, target: bytes | None, *output: tuple[str, str],

@@ -98,14 +98,14 @@ def faulty(line: str, number: int) -> Explained:
                 stdin=f"start\n{line}\n".encode())
 
 
-def talk_fault(at: int, number: int) -> tuple[str, str]:
+def talk_fault(at: int, number: int, phrase: str = "") -> tuple[str, str]:
     """Returns the message about a faulty line of ktutil, with its explanation."""
-    return f"line {at}: fault {number}", f"line {at}: {line_fault(number, 'ktutil')}"
+    return f"line {at}: fault {number}", f"line {at}: {phrase or line_fault(number, 'ktutil')}"
 
 
-def faulty_talk(line: str, number: int) -> Explained:
+def faulty_talk(line: str, number: int, phrase: str = "") -> Explained:
     """Returns a run over a faulty line of ktutil."""
-    return case(f"ktutil: {line!r}", "ktutil", TWO, talk_fault(2, number),
+    return case(f"ktutil: {line!r}", "ktutil", TWO, talk_fault(2, number, phrase),
                 stdin=f"l\n{line}\n".encode(errors="surrogateescape"))
 
 
@@ -195,6 +195,12 @@ CASES = [
     *(faulty(line, number) for number, line in first_of_each(LINE_FAULTS).items()),
     *(faulty_talk(line, number) for number, line in first_of_each(TALK_FAULTS).items()),
     faulty_talk("rkt \udcff", 8),
+    *(faulty_talk(line, 1, "see krbfile ktutil --help")
+      for line in ("?", "help", "lr", "list_requests", " help\tlist")),
+    *(faulty_talk(line, 1) for line in ("HELP", "helps", "\\?")),
+    *(faulty_talk(line, 2, "keys are not made from passwords here")
+      for line in ("addent -password -p b@R -k 3 -e 17", "add_entry -p b@R -k 3 -e 17 -password")),
+    *(faulty_talk(line, 2) for line in ("rkt -password k", "addent -Password -p b@R -k 3 -e 17", "l -password")),
     case("ktutil: two faults", "ktutil", None, talk_fault(2, 5), talk_fault(3, 1),
          stdin=f"{ADDENT}00\nx\n".encode()),
     # Files that are not read.

@@ -1,5 +1,7 @@
 """Bad command lines: on a pipe only the message is printed, on a terminal and with `--explain` also what is wrong."""
 
+import re
+
 from makers.images import TWO
 from runs.harness import Case, Outcome, Report, differences, folder_of, run
 from runs.rows import Line, shown, words_of
@@ -11,7 +13,6 @@ MESSAGE = b"krbfile: bad command line\n"
 
 # What is wrong, and lines with that mistake. If the line has a command, that command's help says more.
 MISTAKES: dict[str, list[str | Line]] = {
-    "no command": [""],
     "unknown command frob": ["frob", "help frob"],
     "unknown command KLIST": ["KLIST -k k"],
     "unknown command ": [("",)],
@@ -22,9 +23,12 @@ MISTAKES: dict[str, list[str | Line]] = {
                           "ktcopy -x k t", "ktcopy -nx k t"],
     "left over: k": ["help klist k", "klist -- -k k", "ktutil k"],
     "unknown option --nosuch": ["klist -k k --nosuch"],
+    # Too far from every name, or as near to another.
+    "unknown command kcedit": ["kcedit k"],
+    "unknown option --versio": ["--versio"],
+    "unknown option --e": ["ktcopy --e 17 k t"],
     r"unknown option -\xc3\xb6": ["klist -tök k", "klist -ö k"],
     "unknown option -k=yes": ["klist -k=yes k"],
-    "unknown option --v1-big=yes": ["klist -k --v1-big=yes k"],
     "unknown option --version": ["klist --version"],
     "no FILE": ["ktedit --v1-big", "ktedit --", "ktfind", "ktremove -k old", "ccedit", "ccremove --expired"],
     "no FROM": ["ktcopy", "ktcopy -n -p b@R", "ktcopy --"],
@@ -38,7 +42,19 @@ MISTAKES: dict[str, list[str | Line]] = {
     "left over: u": ["ktcopy k t u", "ktcopy k -n t u"],
     "left over: c@R": ["ktfind k 0 0 b@R c@R"],
     **{f"{option} does not go with -k": [f"klist {option} -k k"] for option in ("-c", "-f", "-C")},
-    **{f"{option} is for keytabs; give -k": [f"klist {option} k"] for option in ("-t", "-K", "--v1-big")},
+    **{f"{option} does not go with {keytab}": [f"klist {option} {keytab} k"]
+       for option, keytab in (("--cache", "--keytab"), ("-f", "--keytab"), ("--flags", "-k"),
+                              ("--config", "--keytab"))},
+    **{f"{option} is for keytabs; give -k": [f"klist {option} k"]
+       for option in ("-t", "-K", "--v1-big", "--times", "--keys")},
+    "--principal needs a value": ["ktremove k --principal", "ktcopy --principal -k new k t"],
+    "--service needs a value": ["ccremove k --service", "ccremove --service --expired k"],
+    "--kvno is given twice": ["ktremove --kvno 1 --kvno=1 k", "ktcopy --kvno=new --kvno new k t",
+                              "ktremove -k 1 --kvno 2 k"],
+    "--service is given twice": ["ccremove --service a@R --service=a@R k"],
+    "--silent does not go with --keytab": ["klist --silent --keytab k"],
+    "--silent does not go with --enctypes": ["klist --enctypes --silent k"],
+    "-s does not go with --config": ["klist --config -s k"],
     "nothing selects; give -p, -k or -e": ["ktremove k", "ktremove -n k"],
     "-k needs a value": ["ktremove -k", "ktcopy k t -k"],
     "-np needs a value": ["ktremove k -np", "ccremove k -np"],
@@ -71,18 +87,34 @@ MISTAKES: dict[str, list[str | Line]] = {
     "unknown option -n=p=b@R": ["ktremove -n=p=b@R k"],
     "left over: j": ["ktremove -e17 k j", "ccremove --expired k j"],
     "unknown option --v1-big": ["ccedit --v1-big k"],
-    "unknown option --replace=yes": ["ktcopy --replace=yes k t"],
     "nothing selects; give -p or --expired": ["ccremove k", "ccremove -n k"],
     '"=b" has no realm': ["ccremove -p=b k"],
     '"b@R@S" has a second @': ["ccremove -p b@R@S --expired k", "ktcopy -p b@R@S k t", "ktfind k 0 0 b@R@S"],
-    "unknown option --expired=yes": ["ccremove --expired=yes k"],
-    "unknown option --expire": ["ccremove --expire k"],
     "--explain stands before the command": ["ccremove --explain --expired k", "klist --explain -k k",
                                             "ktcopy --explain k t", "ktutil --explain"],
     '"x" is no version': ["ktfind k x 0 b@R"],
     '"4294967296" is no version': ["ktfind k 4294967296 0 b@R"],
     r'"b@R\" has a backslash at the end': ["ktfind k 0 0 b@R\\"],
     '"b@R/x" has a / in the realm': ["ktfind k 0 0 b@R/x"],
+}
+
+# What is wrong, and what was meant as it seems.
+NEAR: dict[tuple[str, str], list[str | Line]] = {
+    ("unknown command klis", "klist"): ["klis -k k", "help klis"],
+    ("unknown command lkist", "klist"): ["lkist"],
+    ("unknown command listk", "klist"): ["listk"],
+    ("unknown command ktfin", "ktfind"): ["ktfin k 0 0 b@R"],
+    ("unknown command hlep", "help"): ["hlep"],
+    ("unknown option --keytb", "--keytab"): ["klist --keytb k", "klist -c --keytb"],
+    ("unknown option --enctype", "--enctypes"): ["klist -k --enctype k"],
+    ("unknown option --enctypes", "--enctype"): ["ktremove --enctypes 17 k"],
+    ("unknown option --etype=17", "--enctype"): ["ktcopy --etype=17 k t"],
+    ("unknown option --v1big", "--v1-big"): ["ktedit --v1big k"],
+    ("unknown option --in-palce", "--in-place"): ["ktutil --in-palce"],
+    ("unknown option --expired=yes", "--expired"): ["ccremove --expired=yes k"],
+    ("unknown option --expire", "--expired"): ["ccremove --expire k"],
+    ("unknown option --replace=yes", "--replace"): ["ktcopy --replace=yes k t"],
+    ("unknown option --v1-big=yes", "--v1-big"): ["klist -k --v1-big=yes k"],
 }
 
 COMMANDS = ("klist", "ktfind", "ktedit", "ktremove", "ktcopy", "ktcheck", "ktutil", "ccedit", "ccremove")
@@ -107,23 +139,33 @@ def explained(line: str, phrase: str) -> Case:
 
 CASES = [
     *(mistake(line, f"{phrase}; see {help_for(line)}") for phrase, lines in MISTAKES.items() for line in lines),
+    *(mistake(line, f"{phrase}; see {help_for(line)}\nkrbfile: did you mean {meant}?")
+      for (phrase, meant), lines in NEAR.items() for line in lines),
     mistake(("klist", "-k", b"\xff"), "an argument is not UTF-8; see krbfile --help"),
-    explained("", "no command; see krbfile --help"),
     explained(f"{EXPLAIN} klist -k k", "--explain is given twice; see krbfile --help"),
     explained(f"klist k {EXPLAIN}", "--explain stands before the command; see krbfile klist --help"),
 ]
 
 
 def check_others(report: Report, program: str) -> None:
-    """Checks that each other refused line is explained in one more line."""
+    """Checks that each other refused line is explained in one more line, and that another may tell what was meant."""
     with folder_of({"k": TWO}) as folder:
-        for line in REFUSED:
+        for line in filter(None, REFUSED):
             got = run(program, (EXPLAIN, *words_of(line)), folder)
             found = differences(Outcome(2, err=got.err), got)
-            lines = got.err.splitlines(keepends=True)
-            if len(lines) != 2 or lines[0] != MESSAGE or not lines[1].endswith(b" --help\n"):
+            if re.fullmatch(rb"%b.* --help\n(krbfile: did you mean [\w-]+\?\n)?" % MESSAGE, got.err) is None:
                 found.append(f"it is told as {got.err!r}")
             report.check(f"explained: {shown(line)}", found)
+
+
+def check_no_command(report: Report, program: str) -> None:
+    """Checks that the help follows where there is no command."""
+    with folder_of({}) as folder:
+        shown_help = run(program, ("--help",), folder).out
+        wanted = Outcome(2, err=MESSAGE + b"krbfile: no command; see krbfile --help\n" + shown_help)
+        for way, got in runs_with_words(program, (), folder):
+            report.compare(f"{way}: no command", wanted, got)
+        report.compare("no command, on a pipe", Outcome(2, err=MESSAGE), run(program, (), folder))
 
 
 def check_good_lines(report: Report, program: str) -> None:
@@ -145,4 +187,5 @@ def check_good_lines(report: Report, program: str) -> None:
 def check(report: Report, program: str) -> None:
     """Runs the lines of other topics."""
     check_others(report, program)
+    check_no_command(report, program)
     check_good_lines(report, program)

@@ -25,9 +25,32 @@ use krb_wire::Order;
 use std::alloc::{AllocError, Global};
 
 /// The commands, in the order in which help lists them.
-pub const COMMANDS: &[CommandWords] = &[
-    KLIST, KTEDIT, KTFIND, KTREMOVE, KTCOPY, KTCHECK, CCEDIT, CCREMOVE, KTUTIL,
+pub const COMMANDS: [CommandName; 9] = [
+    CommandName::Klist,
+    CommandName::Ktedit,
+    CommandName::Ktfind,
+    CommandName::Ktremove,
+    CommandName::Ktcopy,
+    CommandName::Ktcheck,
+    CommandName::Ccedit,
+    CommandName::Ccremove,
+    CommandName::Ktutil,
 ];
+
+/// Returns the words of a command.
+pub fn words_of(command: CommandName) -> CommandWords {
+    match command {
+        CommandName::Klist => KLIST,
+        CommandName::Ktedit => KTEDIT,
+        CommandName::Ktfind => KTFIND,
+        CommandName::Ktremove => KTREMOVE,
+        CommandName::Ktcopy => KTCOPY,
+        CommandName::Ktcheck => KTCHECK,
+        CommandName::Ccedit => CCEDIT,
+        CommandName::Ccremove => CCREMOVE,
+        CommandName::Ktutil => KTUTIL,
+    }
+}
 
 /// What a command line says to do. Commands over a file carry its name, or none if the line leaves it out.
 #[derive(Drop)]

@@ -4,9 +4,9 @@
 mod action;
 mod response;
 
-pub use action::{Action, COMMANDS, action_of};
+pub use action::{Action, COMMANDS, action_of, words_of};
 pub use krb_driver::{
-    BadLine, CommandName, CommandWords, ErrorOutput, FileKind, FileName, Matches, Mistake,
+    BadLine, CommandName, CommandWords, ErrorOutput, FileKind, FileName, Matches, Mistake, More,
     NameSource, NotKeytab, Streams, Word, WordFault,
 };
 pub use krb_editors::{

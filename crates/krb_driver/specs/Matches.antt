@@ -11,11 +11,16 @@ use Rattle.krb_wire.specs.Spelling.{Parts}
 use Rattle.krb_text.specs.Numbers.{number_in}
 use Rattle.krb_driver.specs.Mistakes.{MistakeParts, BadName, NoSeconds}
 
--- the flags, operands and option values of a command line, by the names of its command's words
+-- the flags, operands and option values of a command line, by the names of its command's words, and the long names on it
 pub record Matched : Type 0 where
   pub flag : List ℕ → Bool
   pub operand : List ℕ → List ℕ
   pub values : List ℕ → List (List ℕ)
+  pub is_long : List ℕ → Bool
+
+-- an option as it was typed: by its long name if that stands on the line, and otherwise by its letter
+abbrev pub typed : Matched → List ℕ → List ℕ → List ℕ
+typed words letter name = if words.is_long name then name else letter
 
 -- the byte order of version 1 keytabs
 abbrev pub v1_order : Matched → Order

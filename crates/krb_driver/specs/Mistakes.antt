@@ -1,10 +1,12 @@
 -- The messages for a command line that was not read.
 use Rattle.std.specs.Borrow.{Bor}
-use Rattle.std.specs.Prelude.{◌≡◌, ℕ, List, ◌++◌, Bool, Option, None, Some, option_map, codes, Result, Ok, Err}
+use Rattle.std.specs.Prelude.{◌≡◌, ℕ, List, [], ◌++◌, Bool, Option, None, Some, option_map, codes, Result, Ok, Err}
 use Rattle.krb_wire.specs.declared.name_fault.NameFault.{NameFault}
 use Rattle.krb_wire.specs.NameOf.{name_fault_phrase}
 use Rattle.krb_driver.specs.declared.command_line.mistake.Mistake.{Mistake}
 use Rattle.krb_driver.specs.declared.command_line.mistake.Mistake.TheVariants as mistake
+use Rattle.krb_driver.specs.declared.command_line.mistake.More.{More}
+use Rattle.krb_driver.specs.declared.command_line.mistake.More.TheVariants as more
 use Rattle.krb_driver.specs.declared.command_line.mistake.WordFault.{WordFault}
 use Rattle.krb_driver.specs.declared.command_line.mistake.WordFault.TheVariants as word
 use Rattle.krb_driver.specs.Messages.{message}
@@ -92,16 +94,23 @@ abbrev pub help_of : Option (List ℕ) → List ℕ
 help_of None = codes "; see krbfile --help\n"
 help_of (Some command) = codes "; see krbfile " ++ (command ++ codes " --help\n")
 
+-- what follows the line of a mistake: a line with what was meant, or a help text
+abbrev pub more_words : More → List ℕ
+more_words more.Nothing = []
+more_words (more.MeantCommand name) = codes "krbfile: did you mean " ++ (name.now ++ codes "?\n")
+more_words (more.MeantOption name) = codes "krbfile: did you mean --" ++ (name.now ++ codes "?\n")
+more_words (more.Help text) = text.now
+
 -- ---- the command line
 
--- the line of a mistake, with the reference to the help
-abbrev pub mistake_words : Mistake → Option (List ℕ) → List ℕ
-mistake_words what command = codes "krbfile: " ++ mistake_line (mistake_parts what) (help_of command)
+-- the line of a mistake, with the reference to the help, and what follows
+abbrev pub mistake_words : Mistake → Option (List ℕ) → More → List ℕ
+mistake_words what command more = codes "krbfile: " ++ mistake_line (mistake_parts what) (help_of command ++ more_words more)
 
 -- the message for words that were not read, with or without the words that explain it
 abbrev pub word_text : Bool → WordFault → List ℕ
 word_text explains word.NoMemory = message (codes "out of memory")
-word_text explains (word.BadLine line) = message (codes "bad command line") ++ words_if explains (mistake_words line.mistake (option_map (λ command. command.now) line.command))
+word_text explains (word.BadLine line) = message (codes "bad command line") ++ words_if explains (mistake_words line.mistake (option_map (λ command. command.now) line.command) line.more)
 
 -- the number of a word fault
 abbrev pub word_number : WordFault → ℕ

@@ -12,6 +12,7 @@ use Rattle.krb_files.specs.declared.output.OutFault.{OutFault}
 use Rattle.krb_files.specs.declared.output.OutFault.TheVariants as out
 use Rattle.krb_text.specs.declared.script.ScriptRefusal.{ScriptRefusal}
 use Rattle.krb_text.specs.declared.script.ScriptRefusal.TheVariants as refusal
+use Rattle.krb_text.specs.declared.line_fault.LineFault.TheVariants.{UnknownWord, WordCount}
 use Rattle.krb_text.specs.LineFault.{line_fault_number}
 use Rattle.krb_driver.specs.declared.file_name.NameSource.{NameSource}
 use Rattle.krb_driver.specs.declared.file_name.NameSource.TheVariants.{Word}
@@ -75,6 +76,8 @@ abbrev pub error_message : List ℕ → RunError → List ℕ
 error_message file error.InputTooLarge = message (codes "input too large")
 error_message file error.InputNotRead = message (codes "cannot read input")
 error_message file (error.FaultyLine line fault) = line_message line (codes "fault ") (line_fault_number fault)
+error_message file (error.FromPassword line) = line_message line (codes "fault ") (line_fault_number WordCount)
+error_message file (error.AsksForHelp line) = line_message line (codes "fault ") (line_fault_number UnknownWord)
 error_message file (error.LineRefused line code) = line_message line (codes "refused ") (code_number code)
 error_message file (error.NoSuchFile source) = file_message file (codes "no such file")
 error_message file (error.OtherType source) = file_message file (codes "no such file")

@@ -175,6 +175,8 @@ abbrev pub error_words : List ℕ → Option ℕ → Option Cause → RunError �
 error_words file line cause error.InputTooLarge = phrase_line line too_large
 error_words file line cause error.InputNotRead = cause_words file line cause
 error_words file line cause (error.FaultyLine number fault) = phrase_line line (line_fault_phrase line fault)
+error_words file line cause (error.FromPassword number) = phrase_line line (codes "keys are not made from passwords here")
+error_words file line cause (error.AsksForHelp number) = phrase_line line (codes "see krbfile ktutil --help")
 error_words file line cause (error.LineRefused number code) = phrase_line line (keytab_phrase code)
 error_words file line cause (error.NoSuchFile source) = missing_words line source
 error_words file line cause (error.OtherType source) = type_words line file ++ source_words source

@@ -17,6 +17,10 @@ pub enum RunError {
     InputTooLarge,
     InputNotRead,
     FaultyLine { line: u64, fault: LineFault },
+    /// A line of ktutil adds an entry with a key from a password: its fault is its words.
+    FromPassword { line: u64 },
+    /// A line of ktutil asks for help, or for its commands: its fault is its command.
+    AsksForHelp { line: u64 },
     /// A keytab refused what a line read from it or added to it.
     LineRefused { line: u64, code: Code },
     NoSuchFile(NameSource),

@@ -13,9 +13,10 @@ mod verdict;
 
 pub use command::{Command, FileError, Made, Output, Show, hold_if, run, run_to_end, status_of};
 pub use command_line::matches::{
-    Matches, first_value, spelled_name, spelled_names, spelled_seconds, times_given, v1_order,
+    Matches, first_value, spelled_name, spelled_names, spelled_seconds, times_given, typed,
+    v1_order,
 };
-pub use command_line::mistake::{BadLine, Mistake, WordFault};
+pub use command_line::mistake::{BadLine, Mistake, More, WordFault};
 pub use command_line::words::{CommandName, CommandWords, DRY_RUN, IN_PLACE, V1_BIG, Word};
 pub use error::RunError;
 pub use file_name::{FileName, NameSource, type_of};

@@ -35,6 +35,7 @@ use crate::reporting::words::ending_words;
 use crate::reporting::writing::{write_on, write_pieces};
 use crate::verdict::Verdict;
 use krb_files::{Aftermath, Cause, Watched, put};
+use krb_text::LineFault;
 use krb_walk::Code;
 pub use mistake_words::report_word_fault;
 use std::io::Write;
@@ -132,6 +133,12 @@ fn error_message(error: RunError, file: &[u8]) -> Message<'_>
         RunError::InputTooLarge => message("input too large"),
         RunError::InputNotRead => message("cannot read input"),
         RunError::FaultyLine { line, fault } => line_message(line, "fault ", fault.number()),
+        RunError::FromPassword { line } => {
+            line_message(line, "fault ", LineFault::WordCount.number())
+        }
+        RunError::AsksForHelp { line } => {
+            line_message(line, "fault ", LineFault::UnknownWord.number())
+        }
         RunError::LineRefused { line, code } => line_message(line, "refused ", code.number()),
         RunError::NoSuchFile(_) | RunError::OtherType(_) => file_message(file, "no such file"),
         RunError::FileTooLarge => file_message(file, "file too large"),

@@ -20,7 +20,7 @@ use Rattle.krb_driver.specs.declared.verdict.Verdict.TheVariants.{Well, NothingT
 use Rattle.krb_driver.specs.Commands.{RunsCommand, any}
 use Rattle.krb_driver.specs.Effects.{CommandPlan, Effect, Displays, holds, opens, saves_unless, text}
 use Rattle.krb_driver.specs.ErrorOutput.{ErrorWatch}
-use Rattle.krb_driver.specs.Matches.{AreSpelledNames, Matched, bad_names}
+use Rattle.krb_driver.specs.Matches.{AreSpelledNames, Matched, bad_names, typed}
 use Rattle.krb_driver.specs.Mistakes.{MistakeParts, NothingSelects, Twice}
 use Rattle.krb_driver.specs.Opening.{writable_in}
 use Rattle.krb_editors.specs.Scripted.{EndsBefore}
@@ -66,7 +66,7 @@ module _ {F A : Type 0} (trait : Ghosts F) (file : FileName) (o : TicketOptions 
 -- the mistake that shows before any value is read: an option is given twice, or nothing selects
 abbrev pub odd_tickets : Matched → Option MistakeParts
 odd_tickets words =
-    if nat_lt 1 (length (words.values (codes "service"))) then Some (Twice (codes "-p"))
+    if nat_lt 1 (length (words.values (codes "service"))) then Some (Twice (typed words (codes "-p") (codes "--service")))
     else (if (length (words.values (codes "service")) == 0) && not (words.flag (codes "expired")) then Some (NothingSelects (codes "-p or --expired"))
     else None)
 

@@ -26,7 +26,7 @@ use Rattle.krb_driver.specs.declared.verdict.Verdict.TheVariants.{Well, NothingT
 use Rattle.krb_driver.specs.Commands.{RunsCommand, any}
 use Rattle.krb_driver.specs.ErrorOutput.{ErrorWatch}
 use Rattle.krb_driver.specs.Effects.{CommandPlan, Effect, Displays, holds, opens, saves_unless, text}
-use Rattle.krb_driver.specs.Matches.{AreSpelledNames, Matched, bad_names, bad_seconds, v1_order}
+use Rattle.krb_driver.specs.Matches.{AreSpelledNames, Matched, bad_names, bad_seconds, typed, v1_order}
 use Rattle.krb_driver.specs.Mistakes.{MistakeParts, NothingSelects, OnlyWith, Twice}
 use Rattle.krb_driver.specs.Opening.{whole_in}
 use Rattle.krb_editors.specs.Scripted.{EndsBefore}
@@ -78,10 +78,10 @@ is_old_word (Some word) = bytes_eq word (codes "old")
 -- the mistake that shows before any value is read: an option is given twice, an age goes with another selection, or nothing selects
 abbrev pub odd_selection : Matched → Option MistakeParts
 odd_selection words =
-    if nat_lt 1 (length (words.values (codes "kvno"))) then Some (Twice (codes "-k"))
+    if nat_lt 1 (length (words.values (codes "kvno"))) then Some (Twice (typed words (codes "-k") (codes "--kvno")))
     else (if nat_lt 1 (length (words.values (codes "age"))) then Some (Twice (codes "--age"))
     else (if (length (words.values (codes "age")) == 1) && not (is_old_word (slice_get (words.values (codes "kvno")) 0)) then Some (OnlyWith (codes "--age") (codes "-k old"))
-    else (if (length (words.values (codes "name")) == 0) && ((length (words.values (codes "kvno")) == 0) && (length (words.values (codes "etype")) == 0)) then Some (NothingSelects (codes "-p, -k or -e"))
+    else (if (length (words.values (codes "principal")) == 0) && ((length (words.values (codes "kvno")) == 0) && (length (words.values (codes "enctype")) == 0)) then Some (NothingSelects (codes "-p, -k or -e"))
     else None)))
 
 -- the first mistake of `-k` and `--age`
@@ -93,7 +93,7 @@ abbrev pub remove_mistake : Matched → Option MistakeParts
 remove_mistake words =
     option_or (odd_selection words)
     (option_or (kvno_mistake words)
-    (option_or (bad_etype (words.values (codes "etype"))) (bad_names (words.values (codes "name")))))
+    (option_or (bad_etype (words.values (codes "enctype"))) (bad_names (words.values (codes "principal")))))
 
 -- the same kvnos, old ones only if they have been replaced for so many seconds
 abbrev pub with_age : Option ℕ → SelectedKvno → SelectedKvno
@@ -108,8 +108,8 @@ pub record SpellsKvno (words : Matched) (kvno : SelectedKvno) : Type 0 where
 
 -- each option is what its own word spells
 pub record SpellsRemoval {A : Type 0} (words : Matched) (options : RemoveOptions A) : Type 0 where
-  pub names : AreSpelledNames (words.values (codes "name")) options.selection.names.items
+  pub names : AreSpelledNames (words.values (codes "principal")) options.selection.names.items
   pub kvno : SpellsKvno words options.selection.kvno
-  pub enctypes : options.selection.enctypes.items ≡ filter_map etype_in (words.values (codes "etype"))
+  pub enctypes : options.selection.enctypes.items ≡ filter_map etype_in (words.values (codes "enctype"))
   pub dry_run : options.dry_run ≡ words.flag (codes "dry-run")
   pub v1_order : options.v1_order ≡ v1_order words

@@ -43,7 +43,15 @@ Lines of the script, of which empty ones and those that begin with # ask for not
   step WALK                   The next credential of that walk
   cut PLACE                   The removal of the credential at that place
   config KEY PRINCIPAL VALUE  A configuration value; PRINCIPAL is - for none
-  rewrite                     The cache is written anew, without what was removed",
+  rewrite                     The cache is written anew, without what was removed
+Statuses:
+  0  All lines were run
+  1  A line is faulty, a reply is a refusal or a fault, or the file is missing, too large or no cache
+  2  The command line is bad
+  3  The script, the file or the output failed
+  4  Out of memory
+Example: write a cache anew, without what was removed
+  echo rewrite | krbfile ccedit krb5cc_0",
     ),
     words: &[IN_PLACE, Word::Operand("FILE", "The file to edit")],
 };

@@ -13,7 +13,7 @@ use krb_ccache::Ccache;
 use krb_driver::{
     Command, CommandName, CommandWords, DRY_RUN, Details, FileError, FileKind, FileName, IN_PLACE,
     Made, Matches, Mistake, Output, RunError, Streams, Verdict, Word, WordFault, hold_if,
-    open_writable, report, run, spelled_names, times_given,
+    open_writable, report, run, spelled_names, times_given, typed,
 };
 use krb_files::Files;
 use krb_walk::Refusal;
@@ -27,7 +27,17 @@ pub const CCREMOVE: CommandWords = CommandWords {
     name: "ccremove",
     about: "Removes tickets from a credential cache",
     usage: "krbfile ccremove [--in-place] [-n] [-p SERVICE] [--expired] FILE",
-    after_help: None,
+    after_help: Some(
+        "\
+Statuses:
+  0  The tickets were removed; with --expired: also where there are none
+  1  No ticket is selected, or the file is missing, too large, damaged or no cache
+  2  The command line is bad
+  3  The file, the output or the clock failed
+  4  Out of memory
+Example: remove the tickets that have ended
+  krbfile ccremove --expired krb5cc_1",
+    ),
     words: &[
         DRY_RUN,
         Word::Valued(
@@ -59,7 +69,7 @@ fn odd_tickets<'a, M: Matches<'a>>(matches: &M) -> Option<Mistake<'a>>
 {
     let services = times_given(matches, "service");
     if services > 1 {
-        Some(Mistake::Twice("-p"))
+        Some(Mistake::Twice(typed(matches, "-p", "--service")))
     } else if services == 0 && !matches.flag("expired") {
         Some(Mistake::NothingSelects("-p or --expired"))
     } else {

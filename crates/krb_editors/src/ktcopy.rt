@@ -12,13 +12,13 @@ ghost use Rattle.krb_driver.specs.Verdicts.{hiding};
 ghost use Rattle.krb_driver.specs.declared.verdict.Verdict.TheVariants.{Clashed, Well};
 ghost use Rattle.krb_editors.specs.Ktcopy.{SpellsCopy, asks_for_some, copied_effect, copies_from, copies_to, copy_mistake, finds_none, ktcopy_plan, odd_copy};
 
-use crate::selecting::{bad_etype, etypes_of, kvno_by_word};
+use crate::selecting::{OF_ENCTYPE, OF_PRINCIPAL, bad_etype, etypes_of, kvno_by_word};
 use krb_audit::{SelectedKvno, Selection, hides_added, selected_entries};
 use krb_copy::{Copied, copy_into};
 use krb_driver::{
     Command, CommandName, CommandWords, FileError, FileName, IN_PLACE, Made, Matches, Mistake,
     Output, RunError, Streams, V1_BIG, Verdict, Word, WordFault, first_value, hold_if, open_whole,
-    open_whole_or_empty, run, spelled_names, times_given, v1_order,
+    open_whole_or_empty, run, spelled_names, times_given, typed, v1_order,
 };
 use krb_files::Files;
 use krb_keytab::{EntryView, Keytab};
@@ -36,10 +36,14 @@ pub const KTCOPY: CommandWords = CommandWords {
 krbfile ktcopy [--v1-big] [--in-place] [-n] [--replace] [-p NAME].. [-k KVNO|new] [-e ETYPE].. FROM TO",
     after_help: Some(
         "\
-Examples:
-  krbfile ktcopy new.keytab /etc/krb5.keytab                Bring new keys into the keytab in use
-  krbfile ktcopy -p HTTP/www@R /etc/krb5.keytab www.keytab  Hand a service its keys
-  krbfile ktcopy -n a.keytab b.keytab                       Which keys of a.keytab b.keytab lacks",
+Statuses:
+  0  The entries were copied, or stood there already
+  1  An entry clashes or none is selected, or a file is missing, too large, damaged or no keytab
+  2  The command line is bad
+  3  A file or the output failed
+  4  Out of memory
+Example: bring new keys into the keytab in use
+  krbfile ktcopy rotated.keytab host.keytab",
     ),
     words: &[
         Word::Flag(
@@ -48,24 +52,14 @@ Examples:
             "Tell what would be copied, and save nothing",
         ),
         Word::LongFlag("replace", "Replace entries that have another key"),
-        Word::Valued(
-            "name",
-            'p',
-            "NAME",
-            "Entries of that principal, with its realm; may be repeated",
-        ),
+        OF_PRINCIPAL,
         Word::Valued(
             "kvno",
             'k',
             "KVNO",
             "Entries of that version; new: those of the newest",
         ),
-        Word::Valued(
-            "etype",
-            'e',
-            "ETYPE",
-            "Entries of that encryption type, by name or number; may be repeated",
-        ),
+        OF_ENCTYPE,
         V1_BIG,
         IN_PLACE,
         Word::Operand("FROM", "The file to copy from"),
@@ -90,7 +84,7 @@ fn odd_copy<'a, M: Matches<'a>>(matches: &M) -> Option<Mistake<'a>>
     ensures { option_map mistake_parts result ≡ odd_copy (M.matched matches.now) }
 {
     if times_given(matches, "kvno") > 1 {
-        return Some(Mistake::Twice("-k"));
+        return Some(Mistake::Twice(typed(matches, "-k", "--kvno")));
     }
     None
 }
@@ -112,8 +106,8 @@ pub fn copy_options<'a, M: Matches<'a>>(
     if let Some(mistake) = bad_etype(matches) {
         return Err(WordFault::of(mistake));
     }
-    let names = spelled_names(alloc, matches.values("name"))?;
-    let Ok(enctypes) = etypes_of(alloc, matches.values("etype")) else {
+    let names = spelled_names(alloc, matches.values("principal"))?;
+    let Ok(enctypes) = etypes_of(alloc, matches.values("enctype")) else {
         return Err(WordFault::NoMemory);
     };
     Ok(CopyOptions {

@@ -36,7 +36,15 @@ Lines of the script, of which empty ones and those that begin with # ask for not
   step WALK                     The next record of that walk
   add KVNO ETYPE TIME KEY NAME  An addition; KEY is hexadecimal, or - for none
   cut PLACE                     The removal of the record at that place
-  rewrite                       The keytab is written anew, without holes",
+  rewrite                       The keytab is written anew, without holes
+Statuses:
+  0  All lines were run
+  1  A line is faulty, a reply is a refusal or a fault, or the file is missing, too large or no keytab
+  2  The command line is bad
+  3  The script, the file or the output failed
+  4  Out of memory
+Example: remove the record at byte 53
+  echo cut 53 | krbfile ktedit host.keytab",
     ),
     words: &[
         V1_BIG,

@@ -7,13 +7,13 @@ ghost use Rattle.krb_driver.specs.Effects.{IsMade};
 ghost use Rattle.krb_editors.specs.Ktremove.{RunsKtremove, SpellsKvno, SpellsRemoval, kvno_mistake, needed_time, none_verdict, odd_selection, remove_mistake, removes, with_age};
 ghost use Rattle.krb_driver.specs.Mistakes.{Reads, mistake_parts};
 
-use crate::selecting::{bad_etype, etypes_of, kvno_by_word};
+use crate::selecting::{OF_ENCTYPE, OF_PRINCIPAL, bad_etype, etypes_of, kvno_by_word};
 use krb_audit::{SelectedKvno, Selection, select};
 use krb_driver::{
     Command, CommandName, CommandWords, DRY_RUN, Details, FileError, FileKind, FileName, IN_PLACE,
     Made, Matches, Mistake, Output, RunError, Streams, V1_BIG, Verdict, Word, WordFault,
     first_value, hold_if, open_whole, report, run, spelled_names, spelled_seconds, times_given,
-    v1_order,
+    typed, v1_order,
 };
 use krb_files::Files;
 use krb_keytab::Keytab;
@@ -30,18 +30,18 @@ pub const KTREMOVE: CommandWords = CommandWords {
 krbfile ktremove [--v1-big] [--in-place] [-n] [-p NAME].. [-k KVNO|old [--age SECONDS]] [-e ETYPE].. FILE",
     after_help: Some(
         "\
-Examples:
-  krbfile ktremove -k old --age 86400 /etc/krb5.keytab  Remove keys that were replaced a day ago
-  krbfile ktremove -n -e 23 /etc/krb5.keytab            Which keys of a weak type are there",
+Statuses:
+  0  The entries were removed; with -k old: also where there are none
+  1  No entry is selected, or the file is missing, too large, damaged or no keytab
+  2  The command line is bad
+  3  The file, the output or the clock failed
+  4  Out of memory
+Example: which keys have been replaced by a newer version
+  krbfile ktremove -n -k old rotated.keytab",
     ),
     words: &[
         DRY_RUN,
-        Word::Valued(
-            "name",
-            'p',
-            "NAME",
-            "Entries of that principal, with its realm; may be repeated",
-        ),
+        OF_PRINCIPAL,
         Word::Valued(
             "kvno",
             'k',
@@ -53,12 +53,7 @@ Examples:
             "SECONDS",
             "With -k old: where the newest version has been there so long",
         ),
-        Word::Valued(
-            "etype",
-            'e',
-            "ETYPE",
-            "Entries of that encryption type, by name or number; may be repeated",
-        ),
+        OF_ENCTYPE,
         V1_BIG,
         IN_PLACE,
         Word::Operand("FILE", "The file to remove from"),
@@ -79,16 +74,16 @@ pub struct RemoveOptions<A: Allocator> {
 fn odd_selection<'a, M: Matches<'a>>(matches: &M) -> Option<Mistake<'a>>
     ensures { option_map mistake_parts result ≡ odd_selection (M.matched matches.now) }
 {
-    let names = times_given(matches, "name");
+    let names = times_given(matches, "principal");
     let kvnos = times_given(matches, "kvno");
     let ages = times_given(matches, "age");
     if kvnos > 1 {
-        Some(Mistake::Twice("-k"))
+        Some(Mistake::Twice(typed(matches, "-k", "--kvno")))
     } else if ages > 1 {
         Some(Mistake::Twice("--age"))
     } else if ages == 1 && first_value(matches, "kvno") != Some("old") {
         Some(Mistake::OnlyWith("--age", "-k old"))
-    } else if names == 0 && kvnos == 0 && times_given(matches, "etype") == 0 {
+    } else if names == 0 && kvnos == 0 && times_given(matches, "enctype") == 0 {
         Some(Mistake::NothingSelects("-p, -k or -e"))
     } else {
         None
@@ -134,8 +129,8 @@ pub fn remove_options<'a, M: Matches<'a>>(
     if let Some(mistake) = bad_etype(matches) {
         return Err(WordFault::of(mistake));
     }
-    let names = spelled_names(alloc, matches.values("name"))?;
-    let Ok(enctypes) = etypes_of(alloc, matches.values("etype")) else {
+    let names = spelled_names(alloc, matches.values("principal"))?;
+    let Ok(enctypes) = etypes_of(alloc, matches.values("enctype")) else {
         return Err(WordFault::NoMemory);
     };
     Ok(RemoveOptions {

@@ -7,10 +7,26 @@ ghost use Rattle.krb_driver.specs.Mistakes.{mistake_parts};
 ghost use Rattle.krb_editors.specs.Selecting.{IsSpelledKvno, bad_etype, bad_kvno, kvno_in};
 
 use krb_audit::SelectedKvno;
-use krb_driver::{Matches, Mistake};
+use krb_driver::{Matches, Mistake, Word};
 use krb_text::{etype_of, parse_u32};
 use krb_wire::NoMemory;
 use std::alloc::Global;
+
+/// The option `-p`, `--principal`.
+pub const OF_PRINCIPAL: Word = Word::Valued(
+    "principal",
+    'p',
+    "NAME",
+    "Entries of that principal, with its realm; may be repeated",
+);
+
+/// The option `-e`, `--enctype`.
+pub const OF_ENCTYPE: Word = Word::Valued(
+    "enctype",
+    'e',
+    "ETYPE",
+    "Entries of that encryption type, by name or number; may be repeated",
+);
 
 // Parses a word as a kvno, or as that name, which stands for some kvnos.
 fn kvno_of(word: &str, name: &str, named: SelectedKvno) -> Option<SelectedKvno>
@@ -43,9 +59,9 @@ fn first_bad<'a>(words: &[&'a str]) -> Option<&'a str>
 
 /// Returns the mistake of the first word that is not an enctype, if there is one.
 pub fn bad_etype<'a, M: Matches<'a>>(matches: &M) -> Option<Mistake<'a>>
-    ensures { option_map mistake_parts result ≡ bad_etype ((M.matched matches.now).values (codes "etype")) }
+    ensures { option_map mistake_parts result ≡ bad_etype ((M.matched matches.now).values (codes "enctype")) }
 {
-    Some(Mistake::NoEtype(first_bad(matches.values("etype"))?))
+    Some(Mistake::NoEtype(first_bad(matches.values("enctype"))?))
 }
 
 /// Returns the kvnos that a word selects, or `Any` without a word. The word `name` selects `named`.

@@ -45,8 +45,8 @@ module _ {F : Type 0} (trait : Ghosts F) (now : ℕ) (final : Run) where
   -- what is due after a line with that outcome, and after those that follow, if it goes on
   abbrev NextDue : ℕ → List ℕ → List (List ℕ) → Bool → Outcome → FileMap → TalkDue
   NextDue number line more goes due files =
-      if goes then due_after (named_in line) (Some number) (line_run number due.ending due.text) (talk_due final now (number + 1) more due.state files)
-      else last_due (named_in line) (Some number) (line_run number due.ending due.text) files
+      if goes then due_after (named_in line) (Some number) (line_run number line due.ending due.text) (talk_due final now (number + 1) more due.state files)
+      else last_due (named_in line) (Some number) (line_run number line due.ending due.text) files
 
   due_by : (number : ℕ) (line : List ℕ) (more : List (List ℕ)) (old new : KtutilState) (files files' : F) (text : List ℕ) (ending : LineEnd)
       → ShowsDue trait (follow (trait.file files) (plan_of old now line)) files files' old new [] text ending → (goes : Bool) → goes_on ending ≡ goes
@@ -85,7 +85,7 @@ module _ {F : Type 0} (trait : Ghosts F) (now : ℕ) (final : Run) where
   line_honestly number line more old mid new continues honestly le le' rest =
       let handles = continues.handles in
       let due = talk_due final now number (line ∷ more) old.state (trait.file old.files) in
-      let run = line_run number continues.ending handles.text in
+      let run = line_run number line continues.ending handles.text in
       let others = talk_due final now (number + 1) more mid.state (trait.file mid.files) in
       elim honestly.comes [
         | inl shows ↦ subst (λ (d : TalkDue). LeavesDueUnlessFailed trait d old new)
@@ -133,7 +133,7 @@ module _ {F : Type 0} (trait : Ghosts F) (now : ℕ) (final : Run) where
       elim stops.why [
         | inl not ↦ subst (λ (d : TalkDue). LeavesDueUnlessFailed trait d last new)
             (sym (due_by number line more last.state new.state last.files new.files handles.text stops.ending due false not))
-            (close_by (named_in line) (Some number) (line_run number stops.ending handles.text) handles.status last new handles.ends handles.worst new.out.failed refl)
+            (close_by (named_in line) (Some number) (line_run number line stops.ending handles.text) handles.status last new handles.ends handles.worst new.out.failed refl)
         | inr failed ↦ inr (inl failed)
       ]
 
@@ -206,7 +206,7 @@ module _ {F : Type 0} (trait : Ghosts F) (now : ℕ) (given : Option (List ℕ))
       let rest = rest_of given lines line are_first in
       let handles = stops.handles in
       let le = (handles_lasts trait handles.handled).1 in
-      let run = line_run (length lines + 1) stops.ending handles.text in
+      let run = line_run (length lines + 1) line stops.ending handles.text in
       elim (handles_honestly trait handles.handled ((talk_lasts trait now 1 lines first last talked).0 honest)).comes [
         | inl due ↦ record {
           lines = lines ++ line ∷ rest.0;
@@ -218,6 +218,6 @@ module _ {F : Type 0} (trait : Ghosts F) (now : ℕ) (given : Option (List ℕ))
         }
         | inr fails ↦ leaves_final (ends_by NoMemory) end (GivesLines-unread load.NoMemory (before_last given lines line are_first)) le (elim fails.why [
           | inl call ↦ inl call.0
-          | inr spent ↦ spent_by trait (named_in line) (Some (length lines + 1)) run handles.status last end handles.ends (handles.told (ap is_of_save spent)) handles.worst fails.same (ap (ending_of (length lines + 1)) spent) fails.same_files end.out.failed refl
+          | inr spent ↦ spent_by trait (named_in line) (Some (length lines + 1)) run handles.status last end handles.ends (handles.told (ap is_of_save spent)) handles.worst fails.same (ap (ending_of (length lines + 1) line) spent) fails.same_files end.out.failed refl
         ]) honest
       ]

@@ -42,7 +42,7 @@ talk_due final now number [] state files = last_due [] None final files
 talk_due final now number (line ∷ lines) state files =
     let effect = follow files (plan_of state now line) in
     let due = line_outcome state effect in
-    let run = line_run number due.ending due.text in
+    let run = line_run number line due.ending due.text in
     if goes_on due.ending
     then due_after (named_in line) (Some number) run (talk_due final now (number + 1) lines due.state (line_files files effect))
     else last_due (named_in line) (Some number) run (line_files files effect)

@@ -15,6 +15,8 @@ use Rattle.krb_driver.specs.declared.error.RunError.TheVariants as error
 use Rattle.krb_driver.specs.Verdicts.{hiding}
 use Rattle.krb_driver.specs.ErrorOutput.{ErrorWatch}
 use Rattle.krb_ktutil.specs.KtutilCommand.{named_in}
+use Rattle.krb_ktutil.specs.FaultyLines.{fault_error}
+use Rattle.krb_ktutil.specs.KtutilWords.{words}
 use Rattle.krb_ktutil.specs.KtutilPlan.{KtutilState, is_of_save, plan_of}
 use Rattle.krb_ktutil.specs.KtutilFiles.{Handles}
 use Rattle.krb_ktutil.specs.InputLines.{CutsOff, lines_of}
@@ -22,23 +24,23 @@ use Rattle.krb_files.specs.Loading.{most_bytes}
 use Rattle.krb_driver.specs.Runs.{Run, ReportsEnd, EndsRun}
 use Rattle.krb_driver.specs.RunErrors.{Ending, input_error, load_error, save_error, error_status}
 
--- the ending of a line of that number
-abbrev pub ending_of : ℕ → LineEnd → Ending
-ending_of number end.Done = Ok Well
-ending_of number (end.Saved hidden) = Ok (hiding hidden Well)
-ending_of number end.Quit = Ok Well
-ending_of number (end.Fault fault) = Err (error.FaultyLine number fault)
-ending_of number (end.Refused code) = Err (error.LineRefused number code)
-ending_of number (end.NotAKeytab why) = Err (error.NotAKeytab why)
-ending_of number end.OtherType = Err (error.OtherType Word)
-ending_of number end.TypedName = Err error.TypedName
-ending_of number (end.Load fault) = Err (load_error fault)
-ending_of number (end.Save fault) = Err (save_error fault)
-ending_of number end.NoMemory = Err error.NoMemory
+-- the ending of a line, which has that number
+abbrev pub ending_of : ℕ → List ℕ → LineEnd → Ending
+ending_of number line end.Done = Ok Well
+ending_of number line (end.Saved hidden) = Ok (hiding hidden Well)
+ending_of number line end.Quit = Ok Well
+ending_of number line (end.Fault fault) = Err (fault_error number (words line) fault)
+ending_of number line (end.Refused code) = Err (error.LineRefused number code)
+ending_of number line (end.NotAKeytab why) = Err (error.NotAKeytab why)
+ending_of number line end.OtherType = Err (error.OtherType Word)
+ending_of number line end.TypedName = Err error.TypedName
+ending_of number line (end.Load fault) = Err (load_error fault)
+ending_of number line (end.Save fault) = Err (save_error fault)
+ending_of number line end.NoMemory = Err error.NoMemory
 
 -- what a line prints, and its ending
-abbrev pub line_run : ℕ → LineEnd → List ℕ → Run
-line_run number ending text = record { out = text; ending = ending_of number ending }
+abbrev pub line_run : ℕ → List ℕ → LineEnd → List ℕ → Run
+line_run number line ending text = record { out = text; ending = ending_of number line ending }
 
 -- another line may come after one that ended so
 abbrev pub goes_on : LineEnd → Bool
@@ -74,7 +76,7 @@ module _ {F : Type 0} (trait : Ghosts F) (now : ℕ) where
     pub text : List ℕ
     pub status : ℕ
     pub handled : Handles trait (plan_of old.state now line) old.files new.files old.state new.state [] text ending
-    pub ends : EndsRun (named_in line) (Some number) (line_run number ending text) old.out new.out old.err new.err status
+    pub ends : EndsRun (named_in line) (Some number) (line_run number line ending text) old.out new.out old.err new.err status
     pub told : IsFalse (is_of_save ending) → ends.reported.reports.details.aftermath ≡ None
     pub worst : new.status ≡ max old.status status
 

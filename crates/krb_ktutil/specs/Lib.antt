@@ -5,6 +5,7 @@ pub mod KtutilCommand
 pub mod KtutilPlan
 pub mod KtutilFiles
 pub mod KtutilHonest
+pub mod FaultyLines
 pub mod KtutilTalk
 pub mod KtutilDue
 pub mod Ktutil

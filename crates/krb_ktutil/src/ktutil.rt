@@ -7,6 +7,7 @@ ghost use Rattle.krb_ktutil.specs.KtutilTalk.{ending_of, goes_on};
 mod addition;
 mod command;
 mod entries;
+mod faulty_lines;
 mod key;
 mod line_end;
 mod named;
@@ -16,6 +17,7 @@ mod verb;
 mod words;
 
 use crate::input_lines::InputLines;
+use crate::ktutil::faulty_lines::fault_error;
 use krb_driver::{
     CommandName, CommandWords, Details, ErrorOutput, IN_PLACE, NameSource, RunError, Streams,
     V1_BIG, Verdict, details_of, report, show,
@@ -45,7 +47,15 @@ Commands, each on a line, and their short names:
                              Adds an entry; the next line is its key, in hexadecimal
   delete_entry, delent SLOT  Deletes the entry of that slot
   clear_list, clear          Empties the list
-  quit, q, exit              Ends",
+  quit, q, exit              Ends
+Statuses:
+  0  All commands were run
+  1  A command is faulty or refused, or its file is missing, too large, damaged or no keytab
+  2  The command line is bad
+  3  The commands, a file or the output failed
+  4  Out of memory
+Example: add the keys of one keytab to another
+  printf 'rkt rotated.keytab\\nwkt other.keytab\\n' | krbfile ktutil",
     ),
     words: &[V1_BIG, IN_PLACE],
 };
@@ -69,17 +79,14 @@ fn goes_on(ending: LineEnd, has_out_failed: bool) -> bool
     !matches!(ending, LineEnd::Quit | LineEnd::NoMemory) && !has_out_failed
 }
 
-// Returns the ending of a line of that number.
-fn ending_of(number: u64, ending: LineEnd) -> Result<Verdict, RunError>
-    ensures { result ≡ ending_of number ending }
+// Returns the ending of a line, which has that number.
+fn ending_of(number: u64, line: &[u8], ending: LineEnd) -> Result<Verdict, RunError>
+    ensures { result ≡ ending_of number line.now ending }
 {
     match ending {
         LineEnd::Done | LineEnd::Quit => Ok(Verdict::Well),
         LineEnd::Saved(hidden_from) => Ok(Verdict::Well.hiding(hidden_from)),
-        LineEnd::Fault(fault) => Err(RunError::FaultyLine {
-            line: number,
-            fault,
-        }),
+        LineEnd::Fault(fault) => Err(fault_error(number, line, fault)),
         LineEnd::Refused(code) => Err(RunError::LineRefused { line: number, code }),
         LineEnd::NotAKeytab(why) => Err(RunError::NotAKeytab(why)),
         LineEnd::OtherType => Err(RunError::OtherType(NameSource::Word)),
@@ -122,7 +129,7 @@ impl<A: Allocator + Copy> Talk<A> {
     {
         self.text.clear();
         let ending = self.ktutil.line(files, line, self.now, &mut self.text);
-        let shown = show(&self.text, ending_of(number, ending), out);
+        let shown = show(&self.text, ending_of(number, line, ending), out);
         let details = details_to_tell(ending, details_of(&shown, files, out));
         let status = report(shown, file_word(line), Some(number), details, err);
         self.status = self.status.max(status);

@@ -22,7 +22,7 @@ use Rattle.krb_driver.specs.declared.verdict.FileKind.{FileKind}
 use Rattle.krb_driver.specs.declared.verdict.FileKind.TheVariants as file
 use Rattle.krb_driver.specs.Effects.{CommandPlan, Displays, Page, opens}
 use Rattle.krb_driver.specs.Loading.{cache_of}
-use Rattle.krb_driver.specs.Matches.{Matched, v1_order}
+use Rattle.krb_driver.specs.Matches.{Matched, typed, v1_order}
 use Rattle.krb_driver.specs.Mistakes.{MistakeParts, DoNotGoTogether, ForKeytabs, OnlyWith, Twice}
 use Rattle.krb_driver.specs.Opening.{listed_in}
 use Rattle.krb_driver.specs.Verdicts.{listing_verdict}
@@ -58,19 +58,23 @@ klist_plan o file = listing_plan o.kind o.json o.v1_order file
 
 -- ---- what the words ask for
 
+-- an option does not go with `-k`, both as they were typed
+abbrev pub not_with_keytab : Matched → List ℕ → List ℕ → MistakeParts
+not_with_keytab words letter name = DoNotGoTogether (typed words letter name) (typed words (codes "-k") (codes "--keytab"))
+
 -- the first option that does not go with `-k`
 abbrev pub odd_with_keytab : Matched → Option MistakeParts
 odd_with_keytab words =
-    if words.flag (codes "cache") then Some (DoNotGoTogether (codes "-c") (codes "-k"))
-    else (if words.flag (codes "flags") then Some (DoNotGoTogether (codes "-f") (codes "-k"))
-    else (if words.flag (codes "configs") then Some (DoNotGoTogether (codes "-C") (codes "-k"))
+    if words.flag (codes "cache") then Some (not_with_keytab words (codes "-c") (codes "--cache"))
+    else (if words.flag (codes "flags") then Some (not_with_keytab words (codes "-f") (codes "--flags"))
+    else (if words.flag (codes "config") then Some (not_with_keytab words (codes "-C") (codes "--config"))
     else None))
 
 -- the first option that goes only with `-k`
 abbrev pub odd_with_cache : Matched → Option MistakeParts
 odd_with_cache words =
-    if words.flag (codes "times") then Some (ForKeytabs (codes "-t"))
-    else (if words.flag (codes "keys") then Some (ForKeytabs (codes "-K"))
+    if words.flag (codes "times") then Some (ForKeytabs (typed words (codes "-t") (codes "--times")))
+    else (if words.flag (codes "keys") then Some (ForKeytabs (typed words (codes "-K") (codes "--keys")))
     else (if words.flag (codes "v1-big") then Some (ForKeytabs (codes "--v1-big"))
     else None))
 
@@ -93,8 +97,8 @@ list_mistake words = option_or (odd_seconds words) (odd_option words)
 abbrev pub list_kind : Matched → ListKind
 list_kind words =
     if words.flag (codes "keytab")
-    then Keytab (record { times = words.flag (codes "times"); etypes = words.flag (codes "etypes"); keys = words.flag (codes "keys") })
-    else Cache (record { flags = words.flag (codes "flags"); etypes = words.flag (codes "etypes"); configs = words.flag (codes "configs") })
+    then Keytab (record { times = words.flag (codes "times"); etypes = words.flag (codes "enctypes"); keys = words.flag (codes "keys") })
+    else Cache (record { flags = words.flag (codes "flags"); etypes = words.flag (codes "enctypes"); configs = words.flag (codes "config") })
 
 -- the kind of file that is listed
 abbrev pub file_kind : ListKind → FileKind

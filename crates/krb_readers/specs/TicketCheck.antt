@@ -13,7 +13,7 @@ use Rattle.krb_files.specs.Loading.{Answer, LoadsFile, most_bytes}
 use Rattle.krb_text.specs.Numbers.{number_in}
 use Rattle.krb_readers.specs.declared.klist.ticket_check.TicketCheck.{TicketCheck}
 use Rattle.krb_driver.specs.declared.file_name.FileName.{FileName}
-use Rattle.krb_driver.specs.Matches.{Matched, bad_seconds}
+use Rattle.krb_driver.specs.Matches.{Matched, bad_seconds, typed}
 use Rattle.krb_driver.specs.Mistakes.{MistakeParts, DoNotGoTogether}
 use Rattle.krb_readers.specs.Klist.{odd_seconds, odd_with_cache}
 
@@ -72,14 +72,18 @@ module _ {F : Type 0} (trait : Ghosts F) (file : FileName) (old new : F) (status
 
 -- ---- what the words ask for
 
+-- an option does not go with `-s`, both as they were typed
+abbrev pub not_with_silent : Matched → List ℕ → List ℕ → MistakeParts
+not_with_silent words letter name = DoNotGoTogether (typed words (codes "-s") (codes "--silent")) (typed words letter name)
+
 -- the first option that does not go with `-s`
 abbrev pub odd_with_silent : Matched → Option MistakeParts
 odd_with_silent words =
-    if words.flag (codes "keytab") then Some (DoNotGoTogether (codes "-s") (codes "-k"))
-    else (if words.flag (codes "json") then Some (DoNotGoTogether (codes "-s") (codes "--json"))
-    else (if words.flag (codes "etypes") then Some (DoNotGoTogether (codes "-s") (codes "-e"))
-    else (if words.flag (codes "flags") then Some (DoNotGoTogether (codes "-s") (codes "-f"))
-    else (if words.flag (codes "configs") then Some (DoNotGoTogether (codes "-s") (codes "-C"))
+    if words.flag (codes "keytab") then Some (not_with_silent words (codes "-k") (codes "--keytab"))
+    else (if words.flag (codes "json") then Some (not_with_silent words (codes "--json") (codes "--json"))
+    else (if words.flag (codes "enctypes") then Some (not_with_silent words (codes "-e") (codes "--enctypes"))
+    else (if words.flag (codes "flags") then Some (not_with_silent words (codes "-f") (codes "--flags"))
+    else (if words.flag (codes "config") then Some (not_with_silent words (codes "-C") (codes "--config"))
     else None))))
 
 -- the first mistake that shows before SECONDS are read

@@ -23,7 +23,17 @@ pub const KTFIND: CommandWords = CommandWords {
     name: "ktfind",
     about: "Finds an entry in a keytab",
     usage: "krbfile ktfind [--v1-big] FILE KVNO ETYPE NAME",
-    after_help: None,
+    after_help: Some(
+        "\
+Statuses:
+  0  The entry was found
+  1  There is no such entry, or the file is missing, too large, damaged or no keytab
+  2  The command line is bad
+  3  The file or the output failed
+  4  Out of memory
+Example: the newest key of b@R, of whatever type
+  krbfile ktfind host.keytab 0 0 b@R",
+    ),
     words: &[
         V1_BIG,
         Word::Operand("FILE", "The file to look in"),

@@ -1,7 +1,7 @@
 //! Finds the mistake in a command line that clap did not match.
 
 use clap::{Arg, ArgAction, Command};
-use krb_commands::{BadLine, Mistake};
+use krb_commands::{BadLine, Mistake, More};
 
 // Returns whether a word is an option or a bundle of options, if no `--` comes before it.
 fn is_option(word: &str) -> bool {
@@ -157,7 +157,8 @@ pub fn words_behind(words: &[String]) -> &[String] {
     }
 }
 
-/// Returns the first mistake in words that `krbfile` did not match; the first word is the program's name.
+/// Returns the first mistake in words that `krbfile` did not match, and nothing after it; the first word is the program's
+/// name.
 pub fn bad_line<'a>(krbfile: &Command<'a>, words: &'a [String]) -> BadLine<'a> {
     let (mistake, command) = match words_behind(words) {
         [] => (Mistake::NoCommand, None),
@@ -167,5 +168,9 @@ pub fn bad_line<'a>(krbfile: &Command<'a>, words: &'a [String]) -> BadLine<'a> {
             None => (no_command(name.as_str()), None),
         },
     };
-    BadLine { mistake, command }
+    BadLine {
+        mistake,
+        command,
+        more: More::Nothing,
+    }
 }

@@ -1,7 +1,7 @@
 //! The command lines, for clap.
 
 use clap::{Arg, ArgAction, Command};
-use krb_commands::{COMMANDS, CommandWords, Word};
+use krb_commands::{COMMANDS, CommandWords, Word, words_of};
 use std::alloc::{AllocError, Global};
 
 /// The version, and the toolchain that proves and compiles it.
@@ -9,16 +9,18 @@ const VERSION: &str = "1.0 (rattle logic dac8208d650f15bf)";
 
 fn arg_of<'a>(alloc: Global, word: Word) -> Arg<'a> {
     match word {
-        Word::Flag(id, letter, help) => Arg::new(alloc, id)
+        Word::Flag(name, letter, help) => Arg::new(alloc, name)
             .short(letter)
+            .long(name)
             .action(ArgAction::SetTrue)
             .help(help),
         Word::LongFlag(name, help) => Arg::new(alloc, name)
             .long(name)
             .action(ArgAction::SetTrue)
             .help(help),
-        Word::Valued(id, letter, value, help) => Arg::new(alloc, id)
+        Word::Valued(name, letter, value, help) => Arg::new(alloc, name)
             .short(letter)
+            .long(name)
             .action(ArgAction::Append)
             .value_name(value)
             .help(help),
@@ -67,7 +69,9 @@ fn top_command<'a>(alloc: Global) -> Result<Command<'a>, AllocError> {
 
 // Returns whether a word is the name of a command.
 fn is_command(word: Option<&str>) -> bool {
-    COMMANDS.iter().any(|line| word == Some(line.name))
+    COMMANDS
+        .iter()
+        .any(|command| word == Some(words_of(*command).name))
 }
 
 fn with_line<'a>(
@@ -83,9 +87,10 @@ fn with_line<'a>(
 pub fn krbfile_command<'a>(alloc: Global, word: Option<&str>) -> Result<Command<'a>, AllocError> {
     let mut krbfile = top_command(alloc)?;
     let is_alone = is_command(word);
-    for line in COMMANDS {
+    for command in &COMMANDS {
+        let line = words_of(*command);
         if !is_alone || word == Some(line.name) {
-            krbfile = with_line(alloc, krbfile, line)?;
+            krbfile = with_line(alloc, krbfile, &line)?;
         }
     }
     Ok(krbfile)

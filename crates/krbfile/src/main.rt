@@ -6,6 +6,7 @@ mod clock;
 mod command_lines;
 mod default_name;
 mod equals;
+mod nearest;
 mod run;
 mod silent;
 mod words;
@@ -24,7 +25,8 @@ use std::process::ExitCode;
 
 fn main(rt: HostRuntime) -> ExitCode {
     let mut words = words_of(&rt);
-    let parsed = parsed(rt.alloc(), &mut words);
+    let mut help = String::new(rt.alloc());
+    let parsed = parsed(rt.alloc(), &mut words, &mut help);
     if is_out_of_memory(&parsed) && asks_for_silence(&rt) {
         return ExitCode::from(4);
     }

@@ -28,13 +28,14 @@ pub fn words_of<R: rt::Env + AllocGlobal>(rt: &R) -> Result<Vec<String>, WordFau
     }
 }
 
-/// Returns the action that the words of the command line request.
+/// Returns the action that the words of the command line request. `help` is for a help text that a fault shows.
 pub fn parsed<'a>(
     alloc: Global,
     words: &'a mut Result<Vec<String>, WordFault<'static>>,
+    help: &'a mut String,
 ) -> Result<Action<'a>, WordFault<'a>> {
     match words {
-        Ok(words) => parse_words(alloc, words),
+        Ok(words) => parse_words(alloc, words, help),
         Err(fault) => Err(*fault),
     }
 }

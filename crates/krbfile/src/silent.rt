@@ -12,10 +12,11 @@ fn is_klist<R: rt::Env>(rt: &R, number: usize) -> bool {
     matches!(rt.arg(number, &mut word), Ok(5)) && word.starts_with(b"klist")
 }
 
-// Returns whether a word is a bundle of letters with `s` among them. A word that is longer is none.
+// Returns whether a word is `--silent`, or a bundle of letters with `s` among them. A word that is longer is none.
 fn has_silent<R: rt::Env>(rt: &R, number: usize) -> bool {
     let mut word = [0; 16];
     match rt.arg(number, &mut word) {
+        Ok(8) if word.starts_with(b"--silent") => true,
         Ok(length) if length > 1 => {
             word[0] == b'-' && word[1] != b'-' && word.iter().take(length).any(|byte| *byte == b's')
         }

@@ -3,10 +3,13 @@
 use crate::bad_line::{bad_line, words_behind};
 use crate::command_lines::krbfile_command;
 use crate::equals::double_equals;
-use clap::ArgMatches;
+use crate::nearest::{meant_command, meant_option};
 use clap::error::ErrorKind;
-use krb_commands::{Action, COMMANDS, Matches, Mistake, WordFault, action_of};
-use std::alloc::Global;
+use clap::{ArgMatches, Command};
+use krb_commands::{
+    Action, BadLine, COMMANDS, Matches, Mistake, More, WordFault, action_of, words_of,
+};
+use std::alloc::{AllocError, Global};
 
 /// The matches of clap for a command's words.
 #[derive(Drop)]
@@ -14,11 +17,14 @@ struct Matched<'m, 'a> {
     found: &'m ArgMatches<'a>,
     /// The values of an absent option: none.
     none: &'m [&'a str],
+    /// The long names of options on the line, each with its `--`.
+    long: &'m [&'a str],
 }
 
 impl<'a> Matches<'a> for Matched<'_, 'a> {
     ghost use Rattle.std.specs.Prelude.{[], codes, false, map, option_map, unwrap_or};
     ghost use Rattle.std.specs.Option.{option_map_or};
+    ghost use Rattle.std.specs.List.{list_any};
     ghost use Rattle.std.specs.Str.{bytes_eq};
     ghost use Rattle.clap.specs.Words.{first_value, found_of, matched_of, raw_values};
 
@@ -26,6 +32,7 @@ impl<'a> Matches<'a> for Matched<'_, 'a> {
       flag = λ name. option_map_or (λ word. bytes_eq word (codes "true")) (first_value (found_of m.found.now) name) false;
       operand = λ name. unwrap_or (first_value (found_of m.found.now) name) [];
       values = λ name. unwrap_or (option_map raw_values (matched_of (found_of m.found.now) name)) (map (λ word. word.now) m.none.now);
+      is_long = λ name. list_any (λ word. bytes_eq word.now name) m.long.now;
     } };
 
     fn flag(&self, name: &str) -> bool {
@@ -45,34 +52,83 @@ impl<'a> Matches<'a> for Matched<'_, 'a> {
     fn values(&self, name: &str) -> &[&'a str] {
         self.found.get_strs(name).unwrap_or(self.none)
     }
+
+    fn is_long(&self, name: &str) -> bool {
+        self.long.iter().any(|word| *word == name)
+    }
+}
+
+// Returns the long names of options in the words before a first `--`, each with its `--` and without its value.
+fn long_names<'a>(alloc: Global, words: &'a [String]) -> Result<Vec<&'a str>, AllocError> {
+    let mut names = Vec::new(alloc);
+    for word in words {
+        let word = word.as_str();
+        if word == "--" {
+            return Ok(names);
+        }
+        if word.starts_with("--") {
+            names.push(word.split_once("=").map_or(word, |parts| parts.0))?;
+        }
+    }
+    Ok(names)
 }
 
 // Returns the action that a command and its words request.
 fn command_action<'a>(
     alloc: Global,
     matches: &ArgMatches<'a>,
+    words: &'a [String],
 ) -> Result<Action<'a>, WordFault<'a>> {
     let none = Vec::new(alloc);
-    for line in COMMANDS {
+    let long = long_names(alloc, words)?;
+    for command in &COMMANDS {
+        let line = words_of(*command);
         if let Some(found) = matches.subcommand_matches(line.name) {
-            let matched = Matched { found, none: &none };
+            let matched = Matched {
+                found,
+                none: &none,
+                long: &long,
+            };
             return action_of(alloc, line.command, line.name, &matched);
         }
     }
     Err(WordFault::of(Mistake::NoCommand))
 }
 
-/// Returns the action that the words request; the first word is the program's name.
+// Returns what follows the line of a mistake. The text of a help is kept in `help`.
+fn more_of<'a>(
+    alloc: Global,
+    krbfile: &mut Command<'a>,
+    line: &BadLine<'a>,
+    help: &'a mut String,
+) -> Result<More<'a>, AllocError> {
+    match (line.mistake, line.command) {
+        (Mistake::NoCommand, _) => {
+            *help = krbfile.render_help()?;
+            Ok(More::Help(help.as_str()))
+        }
+        (Mistake::UnknownCommand(word), _) => meant_command(alloc, word),
+        (Mistake::UnknownOption(word), Some(name)) => match krbfile.find_subcommand(name) {
+            Some(command) => meant_option(alloc, command, word),
+            None => Ok(More::Nothing),
+        },
+        _ => Ok(More::Nothing),
+    }
+}
+
+/// Returns the action that the words request; the first word is the program's name. `help` is for a help text that a
+/// fault shows.
 pub fn parse_words<'a>(
     alloc: Global,
     words: &'a mut [String],
+    help: &'a mut String,
 ) -> Result<Action<'a>, WordFault<'a>> {
     let word = words_behind(words).first();
     let mut command = krbfile_command(alloc, word.map(|word| word.as_str()))?;
     double_equals(alloc, &command, words)?;
     let words: &'a [String] = words;
     let error = match command.try_get_matches_from_mut(words) {
-        Ok(matches) => return command_action(alloc, &matches),
+        Ok(matches) => return command_action(alloc, &matches, words),
         Err(error) => error,
     };
     match error.kind() {
@@ -81,6 +137,10 @@ pub fn parse_words<'a>(
         ErrorKind::DisplayHelp | ErrorKind::DisplayVersion => {
             Ok(Action::Help(format!(in alloc; "{error}")?))
         }
-        _ => Err(WordFault::BadLine(bad_line(&command, words))),
+        _ => {
+            let line = bad_line(&command, words);
+            let more = more_of(alloc, &mut command, &line, help)?;
+            Err(WordFault::BadLine(BadLine { more, ..line }))
+        }
     }
 }

@@ -3,7 +3,7 @@
 ghost use Rattle.std.specs.Prelude.{◌≡◌, IfErr, IfOk, None, Ok, OnOk, Some, length, map, option_map, slice_get};
 ghost use Rattle.krb_wire.specs.NameOf.{name_of};
 ghost use Rattle.krb_wire.specs.Reading.{principal_parts};
-ghost use Rattle.krb_driver.specs.Matches.{AreSpelledNames, AreSpelledSeconds, bad_name, bad_names, bad_seconds, v1_order};
+ghost use Rattle.krb_driver.specs.Matches.{AreSpelledNames, AreSpelledSeconds, bad_name, bad_names, bad_seconds, typed, v1_order};
 ghost use Rattle.krb_driver.specs.Mistakes.{Reads, mistake_parts};
 
 use crate::command_line::mistake::{Mistake, WordFault};
@@ -29,6 +29,17 @@ pub trait Matches<'a> {
     /// Returns the values given to that option, or for that operand, in order.
     fn values(&self, name: &str) -> &[&'a str]
         ensures { map (λ word. word.now) result.now ≡ (matched self.now).values name.now };
+
+    /// Returns whether that long name of an option, with its `--`, stands on the line.
+    fn is_long(&self, name: &str) -> bool
+        ensures { result ≡ (matched self.now).is_long name.now };
+}
+
+/// Returns an option as it was typed: by its long name if that stands on the line, and otherwise by its letter.
+pub fn typed<'a, M: Matches<'a>>(matches: &M, letter: &'a str, name: &'a str) -> &'a str
+    ensures { result.now ≡ typed (M.matched matches.now) letter.now name.now }
+{
+    if matches.is_long(name) { name } else { letter }
 }
 
 /// Returns how many times an option is given.

@@ -1,6 +1,7 @@
 //! What is wrong with a command line.
 
 ghost use Rattle.std.specs.Prelude.{◌≡◌, None};
+ghost use Rattle.krb_driver.specs.declared.command_line.mistake.More.TheVariants.{Nothing};
 ghost use Rattle.krb_driver.specs.declared.command_line.mistake.WordFault.TheVariants.{NoMemory};
 
 use krb_wire::NameFault;
@@ -36,11 +37,24 @@ pub enum Mistake<'a> {
     VariableNotText(&'a str),
 }
 
-/// A mistake, and the command whose help says more, if there is one.
+/// What follows the line of a mistake.
+#[derive(Clone, Copy)]
+pub enum More<'a> {
+    Nothing,
+    /// The command that was meant, as it seems.
+    MeantCommand(&'a str),
+    /// The long option that was meant, as it seems, without its `--`.
+    MeantOption(&'a str),
+    /// The text of a help.
+    Help(&'a str),
+}
+
+/// A mistake, the command whose help says more, if there is one, and what follows.
 #[derive(Clone, Copy)]
 pub struct BadLine<'a> {
     pub mistake: Mistake<'a>,
     pub command: Option<&'a str>,
+    pub more: More<'a>,
 }
 
 /// Why a command line was not read.
@@ -53,13 +67,14 @@ pub enum WordFault<'a> {
 impl<'a> WordFault<'a> {
     ghost use Rattle.krb_driver.specs.Mistakes.{in_command, word_number};
 
-    /// Returns the fault for that mistake, with no command.
+    /// Returns the fault for that mistake, with no command, and nothing after it.
     pub fn of(mistake: Mistake<'a>) -> WordFault<'a>
-        ensures { result ≡ WordFault.BadLine (record { mistake = mistake.entry; command = None }) }
+        ensures { result ≡ WordFault.BadLine (record { mistake = mistake.entry; command = None; more = Nothing }) }
     {
         WordFault::BadLine(BadLine {
             mistake,
             command: None,
+            more: More::Nothing,
         })
     }
 

@@ -1,6 +1,7 @@
 //! The words of a command, as help shows them.
 
-/// A word of a command line: its name, its letter if it has one, the name of its value, and its help text.
+/// A word of a command line: its name, which of an option is its long name, its letter if it has one, the name of its
+/// value, and its help text.
 #[derive(Clone, Copy)]
 pub enum Word {
     Flag(&'static str, char, &'static str),

@@ -2,14 +2,15 @@
 
 ghost use Rattle.std.specs.Prelude.{◌≡◌, ℕ, List, [], ◌++◌, codes, option_map};
 ghost use Rattle.krb_driver.specs.Messages.{message};
-ghost use Rattle.krb_driver.specs.Mistakes.{help_of, mistake_head, mistake_line, mistake_parts, mistake_words, quoted, word_status, word_text};
+ghost use Rattle.krb_driver.specs.Mistakes.{help_of, mistake_head, mistake_line, mistake_parts, mistake_words, more_words, quoted, word_status, word_text};
 ghost use Rattle.krb_driver.specs.PieceTexts.{pieces_before, pieces_text, shown_word};
 ghost use Rattle.krb_driver.specs.Runs.{Writes};
 
-use crate::command_line::mistake::{BadLine, Mistake, WordFault};
+use crate::command_line::mistake::{BadLine, Mistake, More, WordFault};
 use crate::reporting::error_output::ErrorOutput;
 use crate::reporting::piece::MessagePiece;
-use crate::reporting::writing::write_pieces;
+use crate::reporting::writing::{add_pieces, send, write_pieces};
+use arrayvec::ArrayVec;
 use krb_files::Watched;
 use std::io::Write;
 
@@ -141,13 +142,37 @@ fn help_pieces(command: Option<&str>) -> [MessagePiece<'_>; 3]
     }
 }
 
-// Reports that a command line is bad, what is wrong with it, and which help to see.
+// Returns what follows the line of a mistake.
+fn more_pieces(more: More<'_>) -> [MessagePiece<'_>; 3]
+    ensures { pieces_text result ≡ more_words more.entry }
+{
+    let end = MessagePiece::Text("?\n");
+    match more {
+        More::Nothing => [NONE, NONE, NONE],
+        More::MeantCommand(name) => [
+            MessagePiece::Text("krbfile: did you mean "),
+            MessagePiece::Text(name),
+            end,
+        ],
+        More::MeantOption(name) => [
+            MessagePiece::Text("krbfile: did you mean --"),
+            MessagePiece::Text(name),
+            end,
+        ],
+        More::Help(text) => [MessagePiece::Text(text), NONE, NONE],
+    }
+}
+
+// Reports that a command line is bad, what is wrong with it, which help to see, and what follows.
 fn report_mistake<E: Write>(line: BadLine<'_>, err: &mut Watched<E>)
     ensures { Writes err.old err.new (message (codes "bad command line")
-        ++ mistake_words line.entry.mistake (option_map (λ name. name.now) line.entry.command)) }
+        ++ mistake_words line.entry.mistake (option_map (λ name. name.now) line.entry.command) line.entry.more) }
 {
-    let mistake = mistake_pieces(line.mistake);
-    write_pieces(err, &mistake, &help_pieces(line.command));
+    let mut gathered = ArrayVec::new();
+    add_pieces(&mistake_pieces(line.mistake), &mut gathered, err);
+    add_pieces(&help_pieces(line.command), &mut gathered, err);
+    add_pieces(&more_pieces(line.more), &mut gathered, err);
+    send(&gathered, err);
 }
 
 // Writes a message without words.

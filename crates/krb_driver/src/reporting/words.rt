@@ -154,6 +154,8 @@ fn error_words(
     match error {
         RunError::InputTooLarge | RunError::FileTooLarge => phrase(line, TOO_LARGE),
         RunError::FaultyLine { fault, .. } => phrase(line, line_fault_phrase(line, fault)),
+        RunError::FromPassword { .. } => phrase(line, "keys are not made from passwords here"),
+        RunError::AsksForHelp { .. } => phrase(line, "see krbfile ktutil --help"),
         RunError::LineRefused { code, .. } | RunError::Refused(code) => {
             phrase(line, keytab_phrase(code))
         }

@@ -15,7 +15,8 @@ pub enum Verb {
     Quit,
 }
 
-fn is_either(word: &[u8], long: &str, short: &str) -> bool
+/// Returns whether a word is one of two names.
+pub fn is_either(word: &[u8], long: &str, short: &str) -> bool
     ensures { result ≡ is_either word.now long.now short.now }
 {
     word == long.as_bytes() || word == short.as_bytes()

@@ -3,13 +3,13 @@
 ghost use Rattle.std.specs.Prelude.{◌≡◌, option_map};
 ghost use Rattle.krb_ccache.specs.Store.{open_result};
 ghost use Rattle.krb_files.specs.Loading.{most_bytes};
-ghost use Rattle.krb_readers.specs.TicketCheck.{RunsTicketCheck, check_mistake, check_of, odd_check, odd_with_silent, opened_status};
+ghost use Rattle.krb_readers.specs.TicketCheck.{RunsTicketCheck, check_mistake, check_of, not_with_silent, odd_check, odd_with_silent, opened_status};
 ghost use Rattle.krb_driver.specs.Mistakes.{Reads, mistake_parts};
 
 use crate::klist::seen_tickets::has_ticket;
 use crate::klist::words::{odd_seconds, odd_with_cache};
 use krb_ccache::Ccache;
-use krb_driver::{FileName, Matches, Mistake, WordFault, first_value, spelled_seconds};
+use krb_driver::{FileName, Matches, Mistake, WordFault, first_value, spelled_seconds, typed};
 use krb_files::{Files, LoadFault};
 use krb_wire::{Limits, USUAL_LIMIT};
 use std::alloc::Allocator;
@@ -21,20 +21,28 @@ pub struct TicketCheck {
     pub seconds: u32,
 }
 
+// Returns the mistake that an option does not go with `-s`, both as they were typed.
+fn not_with_silent<'a, M: Matches<'a>>(matches: &M, letter: &'a str, name: &'a str) -> Mistake<'a>
+    ensures { mistake_parts result ≡ not_with_silent (M.matched matches.now) letter.now name.now }
+{
+    let option = typed(matches, letter, name);
+    Mistake::DoNotGoTogether(typed(matches, "-s", "--silent"), option)
+}
+
 // Returns the mistake of an option that does not go with `-s`, if one is given.
 fn odd_with_silent<'a, M: Matches<'a>>(matches: &M) -> Option<Mistake<'a>>
     ensures { option_map mistake_parts result ≡ odd_with_silent (M.matched matches.now) }
 {
     if matches.flag("keytab") {
-        Some(Mistake::DoNotGoTogether("-s", "-k"))
+        Some(not_with_silent(matches, "-k", "--keytab"))
     } else if matches.flag("json") {
-        Some(Mistake::DoNotGoTogether("-s", "--json"))
-    } else if matches.flag("etypes") {
-        Some(Mistake::DoNotGoTogether("-s", "-e"))
+        Some(not_with_silent(matches, "--json", "--json"))
+    } else if matches.flag("enctypes") {
+        Some(not_with_silent(matches, "-e", "--enctypes"))
     } else if matches.flag("flags") {
-        Some(Mistake::DoNotGoTogether("-s", "-f"))
-    } else if matches.flag("configs") {
-        Some(Mistake::DoNotGoTogether("-s", "-C"))
+        Some(not_with_silent(matches, "-f", "--flags"))
+    } else if matches.flag("config") {
+        Some(not_with_silent(matches, "-C", "--config"))
     } else {
         None
     }

@@ -1,13 +1,13 @@
 //! The words of klist, and its options.
 
 ghost use Rattle.std.specs.Prelude.{◌≡◌, option_map};
-ghost use Rattle.krb_readers.specs.Klist.{list_kind, list_mistake, list_options, odd_option, odd_seconds, odd_with_cache, odd_with_keytab};
+ghost use Rattle.krb_readers.specs.Klist.{list_kind, list_mistake, list_options, not_with_keytab, odd_option, odd_seconds, odd_with_cache, odd_with_keytab};
 ghost use Rattle.krb_driver.specs.Mistakes.{Reads, mistake_parts};
 
 use krb_cache_text::CcColumns;
 use krb_driver::{
     CommandName, CommandWords, FileKind, Matches, Mistake, V1_BIG, Word, WordFault, times_given,
-    v1_order,
+    typed, v1_order,
 };
 use krb_text::KtColumns;
 use krb_wire::Order;
@@ -25,18 +25,23 @@ krbfile klist [-c] [-e] [-f] [-C] [--json] [FILE]
         "\
 Without FILE it lists the cache that KRB5CCNAME names, else /tmp/krb5cc_UID; with -k
 the keytab that KRB5_KTNAME names, else /etc/krb5.keytab.
-Examples:
-  krbfile klist -k -e             The entries of the default keytab, with encryption types
-  krbfile klist -s || kinit       Log in unless there is a ticket to go on with",
+Statuses:
+  0  The file was listed; with -s: there is a ticket to go on with
+  1  The file is missing, too large, damaged or of another kind; with -s: there is no such ticket
+  2  The command line is bad
+  3  The file, the output or the clock failed
+  4  Out of memory
+Example: the entries of a keytab, with encryption types
+  krbfile klist -k -e host.keytab",
     ),
     words: &[
         Word::Flag("cache", 'c', "List a credential cache (the default)"),
         Word::Flag("flags", 'f', "Show the flags of tickets"),
-        Word::Flag("configs", 'C', "Show configuration entries"),
+        Word::Flag("config", 'C', "Show configuration entries"),
         Word::Flag("keytab", 'k', "List a keytab"),
         Word::Flag("times", 't', "Show the times of entries"),
         Word::Flag("keys", 'K', "Show the keys of entries"),
-        Word::Flag("etypes", 'e', "Show encryption types"),
+        Word::Flag("enctypes", 'e', "Show encryption types"),
         V1_BIG,
         Word::LongFlag("json", "Print all as one JSON object; keys only with -K"),
         Word::Flag(
@@ -84,16 +89,24 @@ pub struct KlistOptions {
     pub json: bool,
 }
 
+// Returns the mistake that an option does not go with `-k`, both as they were typed.
+fn not_with_keytab<'a, M: Matches<'a>>(matches: &M, letter: &'a str, name: &'a str) -> Mistake<'a>
+    ensures { mistake_parts result ≡ not_with_keytab (M.matched matches.now) letter.now name.now }
+{
+    let option = typed(matches, letter, name);
+    Mistake::DoNotGoTogether(option, typed(matches, "-k", "--keytab"))
+}
+
 // Returns the mistake of an option that does not go with `-k`, if one is given.
 fn odd_with_keytab<'a, M: Matches<'a>>(matches: &M) -> Option<Mistake<'a>>
     ensures { option_map mistake_parts result ≡ odd_with_keytab (M.matched matches.now) }
 {
     if matches.flag("cache") {
-        Some(Mistake::DoNotGoTogether("-c", "-k"))
+        Some(not_with_keytab(matches, "-c", "--cache"))
     } else if matches.flag("flags") {
-        Some(Mistake::DoNotGoTogether("-f", "-k"))
-    } else if matches.flag("configs") {
-        Some(Mistake::DoNotGoTogether("-C", "-k"))
+        Some(not_with_keytab(matches, "-f", "--flags"))
+    } else if matches.flag("config") {
+        Some(not_with_keytab(matches, "-C", "--config"))
     } else {
         None
     }
@@ -104,9 +117,9 @@ pub fn odd_with_cache<'a, M: Matches<'a>>(matches: &M) -> Option<Mistake<'a>>
     ensures { option_map mistake_parts result ≡ odd_with_cache (M.matched matches.now) }
 {
     if matches.flag("times") {
-        Some(Mistake::ForKeytabs("-t"))
+        Some(Mistake::ForKeytabs(typed(matches, "-t", "--times")))
     } else if matches.flag("keys") {
-        Some(Mistake::ForKeytabs("-K"))
+        Some(Mistake::ForKeytabs(typed(matches, "-K", "--keys")))
     } else if matches.flag("v1-big") {
         Some(Mistake::ForKeytabs("--v1-big"))
     } else {
@@ -146,14 +159,14 @@ fn list_kind<'a, M: Matches<'a>>(matches: &M) -> ListKind
     if matches.flag("keytab") {
         ListKind::Keytab(KtColumns {
             times: matches.flag("times"),
-            etypes: matches.flag("etypes"),
+            etypes: matches.flag("enctypes"),
             keys: matches.flag("keys"),
         })
     } else {
         ListKind::Cache(CcColumns {
             flags: matches.flag("flags"),
-            etypes: matches.flag("etypes"),
-            configs: matches.flag("configs"),
+            etypes: matches.flag("enctypes"),
+            configs: matches.flag("config"),
         })
     }
 }

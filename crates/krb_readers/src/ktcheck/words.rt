@@ -24,9 +24,14 @@ Findings, a line each. The status is 1 for all but old, and for mode if any user
   same      The same key of a name, version and type twice
   clash     Two keys of a name, version and type
   old       There is a newer version of the name
-Examples:
-  krbfile ktcheck -q /etc/*.keytab          What is wrong with any of them, for a cron job
-  krbfile ktcheck --allow weak ad.keytab    The same, where rc4 keys are wanted",
+Statuses:
+  0  Nothing is wrong but what is allowed
+  1  Something is wrong, or a file is missing, too large or no keytab
+  2  The command line is bad
+  3  A file or the output failed
+  4  Out of memory
+Example: what is wrong with keytabs, where weak keys are wanted
+  krbfile ktcheck -q --allow weak host.keytab mixed.keytab",
     ),
     words: &[
         V1_BIG,

@@ -1,0 +1,76 @@
+//! What was meant by an unknown word.
+
+use clap::Command;
+use krb_commands::{COMMANDS, More, words_of};
+use std::alloc::{AllocError, Global};
+use strsim::osa_distance;
+
+/// The distance from which on a word is too far from a name.
+const FAR: usize = 3;
+
+// Returns the name that is nearer to a word than every other, and not far from it.
+fn nearest<'a>(
+    alloc: Global,
+    word: &str,
+    names: &[&'a str],
+) -> Result<Option<&'a str>, AllocError> {
+    let mut found = None;
+    let mut least = FAR;
+    for name in names {
+        let distance = osa_distance(alloc, word, *name)?;
+        if distance < least {
+            found = Some(*name);
+            least = distance;
+        } else if distance == least {
+            found = None;
+        }
+    }
+    Ok(found)
+}
+
+// Returns the names of the commands.
+fn command_names(alloc: Global) -> Result<Vec<&'static str>, AllocError> {
+    let mut names = vec![in alloc; "help"]?;
+    for command in &COMMANDS {
+        names.push(words_of(*command).name)?;
+    }
+    Ok(names)
+}
+
+// Returns the long names of a command's options, without `--`.
+fn long_names<'a>(alloc: Global, command: &Command<'a>) -> Result<Vec<&'a str>, AllocError> {
+    let mut names = vec![in alloc; "help"]?;
+    for option in command.get_arguments() {
+        match option.get_long() {
+            Some(name) if name != "help" => names.push(name)?,
+            _ => {}
+        }
+    }
+    Ok(names)
+}
+
+/// Returns the command that was meant by a word, if one is near.
+pub fn meant_command<'a>(alloc: Global, word: &str) -> Result<More<'a>, AllocError> {
+    let names = command_names(alloc)?;
+    match nearest(alloc, word, &names)? {
+        Some(name) => Ok(More::MeantCommand(name)),
+        None => Ok(More::Nothing),
+    }
+}
+
+/// Returns the long option of a command that was meant by a word, if that is one and one is near.
+pub fn meant_option<'a>(
+    alloc: Global,
+    command: &Command<'a>,
+    word: &str,
+) -> Result<More<'a>, AllocError> {
+    let Some(option) = word.strip_prefix("--") else {
+        return Ok(More::Nothing);
+    };
+    let typed = option.split_once("=").map_or(option, |parts| parts.0);
+    let names = long_names(alloc, command)?;
+    match nearest(alloc, typed, &names)? {
+        Some(name) => Ok(More::MeantOption(name)),
+        None => Ok(More::Nothing),
+    }
+}
