@@ -22,7 +22,7 @@ from models.reading import KeytabEntry, no_keytab
 from models.script_model import etype_in, key_in
 from models.walks import DAMAGED, LIMIT, Refused
 from runs.harness import Outcome
-from words.phrases import CAUSES, code, line_fault
+from words.phrases import CAUSES, NO_PASSWORDS, SEE_HELP, code, line_fault
 
 # The options of a listing, and the letters of their columns.
 COLUMNS = {b"-t": "t", b"-k": "K", b"-e": "e"}
@@ -114,7 +114,7 @@ class Ktutil:
                 self.take_key(line.strip(b" \t"))
         except LineFault as fault:
             self.say(b"line %d: fault %d" % (number, fault.number), 1)
-            self.explain(line_fault(fault.number, "ktutil"))
+            self.explain(why_faulty(fault.number, words_in(line)))
         except Refused as refused:
             self.say(b"line %d: refused %d" % (number, refused.code), 1)
             self.explain(code(refused.code))
@@ -221,6 +221,15 @@ SPELLINGS: dict[Callable[[Ktutil, list[bytes]], None], tuple[bytes, ...]] = {
     Ktutil.quit: (b"quit", b"q", b"exit"),
 }
 COMMANDS = {word: command for command, words in SPELLINGS.items() for word in words}
+
+
+def why_faulty(number: int, words: list[bytes]) -> str:
+    """Returns what is wrong with a line of these words, which has that fault."""
+    if number == UNKNOWN_WORD and words[0] in (b"?", b"help", b"lr", b"list_requests"):
+        return SEE_HELP
+    if number == WORD_COUNT and words[0] in SPELLINGS[Ktutil.add_entry] and b"-password" in words:
+        return NO_PASSWORDS
+    return line_fault(number, "ktutil")
 
 
 def handled(

@@ -16,7 +16,7 @@ from runs.harness import Outcome, Report, differences, files_in, folder_of, mess
 from runs.rows import Line, words_of
 from runs.terminal import EXPLAIN, WAYS, run_on_terminal
 from words.phrases import (BEGINS_AS_CACHE, BEGINS_AS_NO_KEYTAB, CAUSES, FAULTS, FINDINGS, LARGE, LISTED_AS_KEYTAB,
-                           SHORT, code, line_fault)
+                           NO_PASSWORDS, SEE_HELP, SHORT, code, line_fault)
 
 ADD = f"{ADD_HOST}\n".encode()
 ADDENT = "addent -key -p host/a@R -k 3 -e 17\n"
@@ -195,10 +195,10 @@ CASES = [
     *(faulty(line, number) for number, line in first_of_each(LINE_FAULTS).items()),
     *(faulty_talk(line, number) for number, line in first_of_each(TALK_FAULTS).items()),
     faulty_talk("rkt \udcff", 8),
-    *(faulty_talk(line, 1, "see krbfile ktutil --help")
+    *(faulty_talk(line, 1, SEE_HELP)
       for line in ("?", "help", "lr", "list_requests", " help\tlist")),
     *(faulty_talk(line, 1) for line in ("HELP", "helps", "\\?")),
-    *(faulty_talk(line, 2, "keys are not made from passwords here")
+    *(faulty_talk(line, 2, NO_PASSWORDS)
       for line in ("addent -password -p b@R -k 3 -e 17", "add_entry -p b@R -k 3 -e 17 -password")),
     *(faulty_talk(line, 2) for line in ("rkt -password k", "addent -Password -p b@R -k 3 -e 17", "l -password")),
     case("ktutil: two faults", "ktutil", None, talk_fault(2, 5), talk_fault(3, 1),

@@ -100,6 +100,10 @@ CAUSES = {
     "other": "error NUMBER",
 }
 
+# Lines of ktutil that ask for what it does not do, or for its commands.
+NO_PASSWORDS = "keys are not made from passwords here"
+SEE_HELP = "see krbfile ktutil --help"
+
 # The library's phrase for what is in the way, as it has no name.
 LIBRARY_IN_THE_WAY = "the name of its new file is taken"
 
