@@ -61,21 +61,6 @@ impl Disk {
         left.is_empty()
     }
 
-    /// Returns whether those calls were the last ones, in that order.
-    pub fn ended_with(&self, calls: &[&str]) -> bool {
-        let Ok(made) = self.calls.try_borrow() else {
-            return false;
-        };
-        let mut left = made.as_str();
-        for call in calls.iter().rev() {
-            match left.strip_suffix(*call) {
-                Some(front) => left = front,
-                None => return false,
-            }
-        }
-        true
-    }
-
     fn note(&self, what: &str, path: &str) -> io::Result<()> {
         if let Ok(mut calls) = self.calls.try_borrow_mut() {
             calls.push_str(what)?;

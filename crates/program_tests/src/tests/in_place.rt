@@ -9,7 +9,9 @@ use krb_files::{Aftermath, Cause, Files};
 use std::alloc::Global;
 
 /// The calls that bring the old bytes back: two of them if no old byte is gone.
-const BACK: &str = "cut\nsync\n";
+const CUTS_BACK: &str = "cut\nsync\n";
+
+const WRITES_BACK: &str = "patch\ncut\nsync\n";
 
 /// Saves `k` in place on that disk. Returns the result, and what the save left behind.
 fn save_on(alloc: Global, disk: &Disk) -> (Saved, Option<Aftermath>) {
@@ -55,16 +57,19 @@ fn each_call_of_a_save_in_place_fails(rt: HostRuntime) {
 /// Old bytes are written back only if some may be gone.
 #[test]
 fn what_brings_the_old_bytes_back(rt: HostRuntime) {
-    for (failing, calls) in [
-        (39, ["patch\n", BACK].as_slice()),
-        (40, &["patch\nsync\n", BACK]),
-        (41, &["patch\nsync\npatch\n", "patch\n", BACK]),
-        (42, &["patch\nsync\npatch\ncut\n", "patch\n", BACK]),
-        (43, &["patch\nsync\npatch\ncut\nsync\n", "patch\n", BACK]),
+    for (failing, writes, back) in [
+        (39, "patch\n", CUTS_BACK),
+        (40, "patch\nsync\n", CUTS_BACK),
+        (41, "patch\nsync\npatch\n", WRITES_BACK),
+        (42, "patch\nsync\npatch\ncut\n", WRITES_BACK),
+        (43, "patch\nsync\npatch\ncut\nsync\n", WRITES_BACK),
     ] {
         let disk = Disk::new(rt.alloc(), WHOLE.having(b"old").failing(failing, 5));
         let _ = save_on(rt.alloc(), &disk);
-        is(&rt, &disk.ended_with(calls), &true, "calls");
+        let calls = [
+            "look k\n", HOLD, LOCKS, HELD_LOAD, "look k\n", LOAD, LOCKS, writes, back,
+        ];
+        is(&rt, &disk.was_called(&calls), &true, writes);
     }
 }
 
