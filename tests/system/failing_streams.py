@@ -1,7 +1,7 @@
 """Each read and each write of each command fails, by several errors, or moves few bytes.
 
 The expected results are those of the models. An interrupted read or write counts as failed, but one in place is
-repeated.
+repeated. A file that was replaced is read once more, and nothing is said where that fails.
 """
 
 from collections.abc import Iterable, Iterator
@@ -19,8 +19,8 @@ from runs.random_runs import Rounds
 
 ERRORS = (EINTR, EAGAIN, ENOSPC, ENOMEM, EACCES)
 
-# How few bytes one read or write moves.
-FEW = 60
+# How few bytes one read or write moves, and the most that one read of a file that is compared asks for.
+FEW, PIECE = 60, 16_384
 
 NO_OUTPUT = message(3, "cannot write output")
 
@@ -34,11 +34,12 @@ End = tuple[Outcome, dict[str, bytes]]
 
 
 class FailingFiles(dict):
-    """Files of which the nth load or the nth save fails."""
+    """Files of which the nth load or the nth save fails, and the lengths of those that were replaced."""
 
     def __init__(self, files: dict[str, bytes], load: int = 0, save: int = 0) -> None:
         super().__init__(files)
         self.loads_left, self.saves_left = load, save
+        self.replaced: list[int] = []
 
     def __contains__(self, name: str) -> bool:
         self.loads_left -= 1
@@ -50,15 +51,23 @@ class FailingFiles(dict):
         self.saves_left -= 1
         if self.saves_left == 0:
             raise Failure(f"{name}: cannot write".encode(), 3)
+        if super().__contains__(name):
+            self.replaced.append(len(self[name]))
         super().__setitem__(name, data)
 
 
-def talk_with(run: Modelled, **failing: int) -> End:
-    """Returns the outcome of ktutil if one load or save fails."""
+def talked(run: Modelled, **failing: int) -> Ktutil:
+    """Returns ktutil after a run of which one load or save fails."""
     ktutil = Ktutil({}, NOW, False)
     ktutil.files = FailingFiles(run.case.files, **failing)
     for number, line in enumerate(run.case.stdin.splitlines(), 1):
         ktutil.handle(number, line)
+    return ktutil
+
+
+def talk_with(run: Modelled, **failing: int) -> End:
+    """Returns the outcome of ktutil if one load or save fails."""
+    ktutil = talked(run, **failing)
     return Outcome(ktutil.status, ktutil.out, ktutil.err), dict(ktutil.files)
 
 
@@ -102,6 +111,19 @@ class Ends:
             return [*self.talks("save")]
         return [(message(3, f"{words[-1]}: cannot write"), self.run.case.files)]
 
+    @cached_property
+    def replaced(self) -> list[int]:
+        """The lengths of the files that it replaces."""
+        words, files = self.run.case.words, self.run.case.files
+        if words[0] == "ktutil":
+            return [] if IN_PLACE in words else talked(self.run).files.replaced
+        is_replaced = words[-1] in files and self.run.after() != files and IN_PLACE not in words
+        return [len(files[words[-1]])] if is_replaced else []
+
+    def last_looks(self, most: int) -> int:
+        """Returns how many of its reads are of files that it has replaced."""
+        return sum(-(-length // min(most, PIECE)) + 1 for length in self.replaced)
+
     def of_input(self, given: int) -> End:
         """Returns how it ends if its input fails after that many bytes."""
         case = self.run.case
@@ -132,18 +154,20 @@ def ends_in_output(run: Modelled, got: Counted) -> bool:
 
 def faults_of_call(
     over: Preloaded, ends: Ends, setting: str, nth: int, most: int, error: int
-) -> tuple[list[str], bool]:
-    """Returns the faults of a run in which that call fails, and whether the call was made."""
+) -> tuple[list[str], bool, bool]:
+    """Returns the faults of a run in which that call fails, whether the call was made, and whether it changed nothing."""
     run = ends.run
     settings = {setting: nth, "MOST": most, "ERROR": error}
     got = over.run(Line(run.case.words, run.case.stdin), CLOCK=NOW, **settings)
     is_repeated = setting == "FAIL_SAVE" and error == EINTR and IN_PLACE in run.case.words
-    if got.failures and not is_repeated:
-        is_wanted = ends.are_met(setting, (nth - 1) * most, got)
+    is_made, is_whole = bool(got.failures), run.is_whole(got.outcome, got.files)
+    is_silent = setting == "FAIL_READ" and is_whole and ends.last_looks(most) > 0
+    if not is_made or is_repeated or is_silent:
+        is_wanted = is_whole
     else:
-        is_wanted = run.is_whole(got.outcome, got.files)
-    return [] if is_wanted else [f"at {nth} {got.outcome.status}, {got.outcome.err!r}"], bool(
-        got.failures)
+        is_wanted = ends.are_met(setting, (nth - 1) * most, got)
+    faults = [] if is_wanted else [f"at {nth} {got.outcome.status}, {got.outcome.err!r}"]
+    return faults, is_made, is_made and is_silent
 
 
 # How many bytes a call moves, and how one fails: over small files, and over larger ones.
@@ -156,12 +180,15 @@ def check_setting(
 ) -> None:
     """Lets each call of a kind fail in each way."""
     for most, error in ways:
-        faults = []
+        faults, silent = [], 0
         for nth in range(1, MOST_CALLS):
-            found, is_made = faults_of_call(over, ends, setting, nth, most, error)
+            found, is_made, is_silent = faults_of_call(over, ends, setting, nth, most, error)
             faults += found
+            silent += is_silent
             if not is_made:
                 break
+        if setting == "FAIL_READ" and silent != (looks := ends.last_looks(most)):
+            faults.append(f"{silent} reads failed and changed nothing, not {looks}")
         name = f"{setting} {errorcode[error]}, at most {most} bytes"
         report.check(f"{name}: {ends.run.case.name}", faults[:3])
 
@@ -205,7 +232,7 @@ def check_rounds(report: Report, program: str, seeds: range) -> None:
             ends = random.choice(those)
             setting, error = random.choice(settings_of(ends.run)), random.choice(ERRORS)
             nth, most = int(2 ** random.uniform(0, 7)), int(2 ** random.uniform(0, 17))
-            faults, _ = faults_of_call(under.over(ends.run.case.files), ends, setting, nth, most, error)
+            faults, _, _ = faults_of_call(under.over(ends.run.case.files), ends, setting, nth, most, error)
             name = f"{setting} {errorcode[error]}, at most {most} bytes, number {seed}"
             report.check(f"{name}: {ends.run.case.name}", faults)
 
