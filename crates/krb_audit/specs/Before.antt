@@ -4,7 +4,7 @@ use Rattle.std.specs.List.{list_any}
 use Rattle.krb_keytab.specs.Find.{PlacedEntry, placed_entries}
 use Rattle.krb_keytab.specs.Store.{KeytabState}
 use Rattle.krb_audit.specs.declared.findings.Before.{Before}
-use Rattle.krb_audit.specs.Findings.{ends_mit}
+use Rattle.krb_audit.specs.Findings.{ends_mit, weak_among}
 use Rattle.krb_audit.specs.Firsts.{AreFirsts, looked}
 use Rattle.krb_audit.specs.Stamps.{AreKept}
 
@@ -14,3 +14,4 @@ pub record IsBefore {A : Type 0} (k : KeytabState) (xs : List PlacedEntry) (b : 
   pub firsts : AreFirsts (placed_entries k) xs (looked b.firsts)
   pub count : b.count ≡ length xs
   pub has_ended : b.has_ended ≡ list_any (λ x. ends_mit x.1) xs
+  pub weak_etypes : b.weak_etypes ≡ weak_among xs

@@ -1,5 +1,5 @@
 -- What is found about the entries of a keytab.
-use Rattle.std.specs.Prelude.{ℕ, List, [], ◌∷◌, ◌++◌, length, find, Bool, not, ◌&&◌, ◌||◌, ◌==◌, nat_le, nat_lt, if◌then◌else◌, Option, None, Some, option_map, option_and_then}
+use Rattle.std.specs.Prelude.{ℕ, List, [], ◌∷◌, ◌++◌, length, map, find, Bool, not, ◌&&◌, ◌||◌, ◌==◌, nat_le, nat_lt, if◌then◌else◌, Option, None, Some, option_map, option_and_then}
 use Rattle.std.specs.List.{list_any}
 use Rattle.std.specs.Str.{bytes_eq}
 use Rattle.krb_wire.specs.SameName.{have_same_name}
@@ -9,6 +9,7 @@ use Rattle.krb_keytab.specs.Store.{KeytabState}
 use Rattle.krb_text.specs.Etype.{is_weak}
 use Rattle.krb_audit.specs.declared.marks.Alike.{Alike}
 use Rattle.krb_audit.specs.declared.marks.Marks.{Marks}
+use Rattle.krb_audit.specs.declared.weak_etypes.WeakEtypes.{WeakEtypes}
 use Rattle.krb_audit.specs.Newest.{is_old}
 
 -- a count or a length with which MIT's programs read no entry
@@ -53,6 +54,14 @@ marks_of k before x = record {
   alike = option_map (as_alike x) (find (is_alike x) before);
   old = is_old (placed_entries k) x.1;
 }
+
+-- an enctype, if one of some entries has it
+abbrev pub etype_among : List PlacedEntry → ℕ → Option ℕ
+etype_among xs etype = if list_any (λ x. x.1.enctype == etype) xs then Some etype else None
+
+-- which of the weak enctypes some entries have, rising
+unfoldable pub weak_among : List PlacedEntry → WeakEtypes
+weak_among xs = record { found = map (etype_among xs) (1 ∷ 2 ∷ 3 ∷ 4 ∷ 6 ∷ 8 ∷ 16 ∷ 23 ∷ 24 ∷ []) }
 
 -- an entry, and what is found about it
 abbrev pub Marked : Type 0

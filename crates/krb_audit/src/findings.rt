@@ -5,7 +5,7 @@ ghost use Rattle.std.specs.List.{flat_map};
 ghost use Rattle.krb_keytab.specs.Find.{PlacedEntry, placed_entries};
 ghost use Rattle.krb_keytab.specs.Store.{KeytabState};
 ghost use Rattle.krb_audit.specs.Before.{IsBefore};
-ghost use Rattle.krb_audit.specs.Findings.{marked, marks_of};
+ghost use Rattle.krb_audit.specs.Findings.{marked, marks_of, weak_among};
 ghost use Rattle.krb_audit.specs.Report.{labelled_fault, mark_lines, report, words_found, words_of, wrong_words};
 
 use crate::counts::append_counts;
@@ -15,6 +15,7 @@ use crate::marks::Marks;
 use crate::mit::ends_mit;
 use crate::mode::{append_mode, is_open_file, is_open_to_all};
 use crate::newest::NewestVersions;
+use crate::weak_etypes::WeakEtypes;
 use krb_keytab::{EntryView, Keytab};
 use krb_text::{append, append_fault_line, is_weak};
 use krb_walk::Fault;
@@ -30,6 +31,7 @@ pub struct CheckUp<A: Allocator> {
     pub words_found: FindingWords,
     /// Those that report something wrong: not `old`, and `mode` only if others may read or write.
     pub wrong_words: FindingWords,
+    pub weak_etypes: WeakEtypes,
 }
 
 /// What is known before an entry is checked.
@@ -41,6 +43,7 @@ struct Before<'a, A: Allocator> {
     count: u32,
     /// True if MIT's programs stop before one of them.
     has_ended: bool,
+    weak_etypes: WeakEtypes,
 }
 
 // Returns whether it holds and did not hold before.
@@ -67,6 +70,7 @@ impl<'a, A: Allocator + Copy> Before<'a, A> {
             firsts: Firsts::new(alloc),
             count: 0,
             has_ended: false,
+            weak_etypes: WeakEtypes::none(),
         })
     }
 
@@ -82,15 +86,17 @@ impl<'a, A: Allocator + Copy> Before<'a, A> {
     {
         let number = self.count as usize;
         let kvno = entry.kvno();
+        let etype = entry.enctype();
         let ends = ends_mit(entry);
         let hidden = is_first(ends, self.has_ended);
         let first = self.newest.first(number).unwrap_or(0);
-        let key = (first, kvno, entry.enctype());
+        let key = (first, kvno, etype);
         let alike = self.firsts.consider(key, place, entry.key())?;
         self.count += 1;
         self.has_ended = either(self.has_ended, ends);
+        self.weak_etypes = self.weak_etypes.with(etype);
         Ok(Marks {
-            weak: is_weak(entry.enctype()),
+            weak: is_weak(etype),
             hidden,
             alike,
             old: self.newest.is_old(number, kvno),
@@ -98,16 +104,26 @@ impl<'a, A: Allocator + Copy> Before<'a, A> {
     }
 }
 
-// Appends the lines of all entries, each after a label. Returns which words they begin with, and the number of entries.
+// What the lines of all entries report.
+#[derive(Clone, Copy)]
+struct Listed {
+    words_found: FindingWords,
+    weak_etypes: WeakEtypes,
+    /// The number of entries.
+    count: u32,
+}
+
+// Appends the lines of all entries, each after a label.
 fn append_marks<A: Allocator + Copy, B: Allocator>(
     alloc: A,
     label: &[u8],
     keytab: &Keytab<B>,
     out: &mut Vec<u8, A>,
-) -> Result<(FindingWords, u32), NoMemory>
+) -> Result<Listed, NoMemory>
     ensures text { OnOk result (out.new.items ≡ out.old.items ++ flat_map (mark_lines label.now) (marked keytab.now.state)) }
-    ensures words_found { IfOk result (λ listed. listed.0 ≡ words_of (marked keytab.now.state)) }
-    ensures count { IfOk result (λ listed. listed.1 ≡ length (placed_entries keytab.now.state)) }
+    ensures words_found { IfOk result (λ listed. listed.words_found ≡ words_of (marked keytab.now.state)) }
+    ensures weak_etypes { IfOk result (λ listed. listed.weak_etypes ≡ weak_among (placed_entries keytab.now.state)) }
+    ensures count { IfOk result (λ listed. listed.count ≡ length (placed_entries keytab.now.state)) }
 {
     let _few = keytab.cell_count();
     let mut before = Before::first(alloc, keytab)?;
@@ -117,7 +133,11 @@ fn append_marks<A: Allocator + Copy, B: Allocator>(
         marks.append_lines(label, place, &entry, out)?;
         words_found = words_found.with(marks);
     }
-    Ok((words_found, before.count))
+    Ok(Listed {
+        words_found,
+        weak_etypes: before.weak_etypes,
+        count: before.count,
+    })
 }
 
 // Appends the line of the fault after a label, if there is one.
@@ -146,15 +166,17 @@ pub fn check_up<A: Allocator + Copy, B: Allocator>(
     ensures text { IfOk result (λ found. found.text.items ≡ report label.now mode keytab.now.state) }
     ensures words_found { IfOk result (λ found. found.words_found ≡ words_found mode keytab.now.state) }
     ensures wrong { IfOk result (λ found. found.wrong_words ≡ wrong_words mode keytab.now.state) }
+    ensures weak_etypes { IfOk result (λ found. found.weak_etypes ≡ weak_among (placed_entries keytab.now.state)) }
 {
     let mut text = Vec::new(alloc);
     append_mode(label, mode, &mut text)?;
-    let (entries, count) = append_marks(alloc, label, keytab, &mut text)?;
+    let listed = append_marks(alloc, label, keytab, &mut text)?;
     append_fault(label, keytab.fault(), &mut text)?;
-    append_counts(label, count, keytab, &mut text)?;
+    append_counts(label, listed.count, keytab, &mut text)?;
     Ok(CheckUp {
         text,
-        words_found: entries.with_mode(is_open_file(mode)),
-        wrong_words: entries.wrong().with_mode(is_open_to_all(mode)),
+        words_found: listed.words_found.with_mode(is_open_file(mode)),
+        wrong_words: listed.words_found.wrong().with_mode(is_open_to_all(mode)),
+        weak_etypes: listed.weak_etypes,
     })
 }

@@ -20,6 +20,7 @@ mod selection;
 mod stamp;
 mod ticket_criteria;
 mod tickets;
+mod weak_etypes;
 mod young;
 
 pub use finding_words::FindingWords;
@@ -30,3 +31,4 @@ pub use mit::hides_added;
 pub use selected::{Selected, select, selected_entries};
 pub use selection::{SelectedKvno, Selection};
 pub use tickets::{SelectedTickets, select_tickets};
+pub use weak_etypes::WeakEtypes;

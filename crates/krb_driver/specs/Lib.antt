@@ -2,9 +2,11 @@
 pub mod FileNames
 pub mod Messages
 pub mod PieceTexts
+pub mod FirstWords
 pub mod Verdicts
 pub mod RunErrors
 pub mod Reported
+pub mod Hints
 pub mod Words
 pub mod ErrorOutput
 pub mod Runs

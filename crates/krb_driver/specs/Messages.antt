@@ -1,5 +1,5 @@
 -- Lines for the error output.
-use Rattle.std.specs.Prelude.{ℕ, List, ◌++◌, codes, decimal, Option, None, Some}
+use Rattle.std.specs.Prelude.{ℕ, List, [], ◌++◌, codes, decimal, Bool, if◌then◌else◌, Option, None, Some}
 
 -- a message
 abbrev pub message : List ℕ → List ℕ
@@ -25,3 +25,7 @@ words_line (Some line) words = codes "krbfile: line " ++ (decimal line ++ (codes
 -- words that are one phrase
 abbrev pub phrase_line : Option ℕ → List ℕ → List ℕ
 phrase_line line phrase = words_line line (phrase ++ codes "\n")
+
+-- a line if its word is explained, else nothing
+abbrev pub line_if : Bool → List ℕ → List ℕ
+line_if is_explained line = if is_explained then line else []

@@ -1,5 +1,5 @@
 -- The errors that end a run: where they come from, their messages, and the exit status.
-use Rattle.std.specs.Prelude.{ℕ, List, [], Result, Ok, Err, codes}
+use Rattle.std.specs.Prelude.{ℕ, List, [], Option, None, Some, Result, Ok, Err, codes}
 use Rattle.krb_walk.specs.declared.refusal.Code.TheVariants.{NotFound}
 use Rattle.krb_walk.specs.Numbers.{code_number}
 use Rattle.krb_keytab.specs.Open.{open_fault_number}
@@ -12,6 +12,7 @@ use Rattle.krb_files.specs.declared.output.OutFault.{OutFault}
 use Rattle.krb_files.specs.declared.output.OutFault.TheVariants as out
 use Rattle.krb_text.specs.declared.script.ScriptRefusal.{ScriptRefusal}
 use Rattle.krb_text.specs.declared.script.ScriptRefusal.TheVariants as refusal
+use Rattle.krb_text.specs.declared.line_fault.LineFault.{LineFault}
 use Rattle.krb_text.specs.declared.line_fault.LineFault.TheVariants.{UnknownWord, WordCount}
 use Rattle.krb_text.specs.LineFault.{line_fault_number}
 use Rattle.krb_driver.specs.declared.file_name.NameSource.{NameSource}
@@ -21,6 +22,7 @@ use Rattle.krb_driver.specs.declared.loading.NoKeytab.TheVariants.{Load, Open}
 use Rattle.krb_driver.specs.declared.error.RunError.{RunError}
 use Rattle.krb_driver.specs.declared.error.RunError.TheVariants as error
 use Rattle.krb_driver.specs.declared.verdict.Verdict.{Verdict}
+use Rattle.krb_driver.specs.FirstWords.{first_word, line_at, safe_word}
 use Rattle.krb_driver.specs.Messages.{message, file_message, file_number_message, line_message}
 use Rattle.krb_driver.specs.Verdicts.{verdict_message, verdict_status}
 
@@ -32,10 +34,20 @@ input_error load.TooLarge = error.InputTooLarge
 input_error load.NoMemory = error.NoMemory
 input_error other = error.InputNotRead
 
--- the error for a script that was not read
-abbrev pub script_error : ScriptRefusal → RunError
-script_error (refusal.Fault line kind) = error.FaultyLine line kind
-script_error refusal.NoMemory = error.NoMemory
+-- the error for a line with an unknown first word, by that word if it is safe to show
+abbrev pub word_error : ℕ → Option (List ℕ) → RunError
+word_error line None = error.FaultyLine line UnknownWord
+word_error line (Some word) = error.UnknownWord line word
+
+-- the error for a fault of a script's line
+abbrev pub line_error : List ℕ → ℕ → LineFault → RunError
+line_error script line UnknownWord = word_error line (safe_word (first_word (line_at script line)))
+line_error script line fault = error.FaultyLine line fault
+
+-- the error for a script that was refused
+abbrev pub script_error : List ℕ → ScriptRefusal → RunError
+script_error script (refusal.Fault line kind) = line_error script line kind
+script_error script refusal.NoMemory = error.NoMemory
 
 -- the error for a file that was not loaded
 abbrev pub load_error : LoadFault → RunError
@@ -76,6 +88,7 @@ abbrev pub error_message : List ℕ → RunError → List ℕ
 error_message file error.InputTooLarge = message (codes "input too large")
 error_message file error.InputNotRead = message (codes "cannot read input")
 error_message file (error.FaultyLine line fault) = line_message line (codes "fault ") (line_fault_number fault)
+error_message file (error.UnknownWord line word) = line_message line (codes "fault ") (line_fault_number UnknownWord)
 error_message file (error.FromPassword line) = line_message line (codes "fault ") (line_fault_number WordCount)
 error_message file (error.AsksForHelp line) = line_message line (codes "fault ") (line_fault_number UnknownWord)
 error_message file (error.LineRefused line code) = line_message line (codes "refused ") (code_number code)

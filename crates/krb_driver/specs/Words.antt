@@ -18,7 +18,9 @@ use Rattle.krb_files.specs.declared.aftermath.Aftermath.TheVariants.{LostChange}
 use Rattle.krb_files.specs.declared.cause.Cause.{Cause}
 use Rattle.krb_files.specs.declared.cause.Cause.TheVariants.{InTheWay, System}
 use Rattle.krb_files.specs.Phrases.{aftermath_phrase, cause_phrase}
+use Rattle.krb_cache_text.specs.Escape.{escaped_text}
 use Rattle.krb_text.specs.declared.line_fault.LineFault.{LineFault}
+use Rattle.krb_text.specs.declared.line_fault.LineFault.TheVariants.{UnknownWord}
 use Rattle.krb_text.specs.LineFault.{line_phrase, ktutil_phrase}
 use Rattle.krb_audit.specs.declared.finding_words.FindingWords.{FindingWords}
 use Rattle.krb_driver.specs.declared.error.RunError.{RunError}
@@ -33,7 +35,8 @@ use Rattle.krb_driver.specs.declared.verdict.Findings.{Findings}
 use Rattle.krb_driver.specs.declared.verdict.Verdict.{Verdict}
 use Rattle.krb_driver.specs.declared.verdict.Verdict.TheVariants.{Well, HiddenFrom, Listed, Replied, Found, NothingToRemove, Clashed}
 use Rattle.krb_driver.specs.FileNames.{type_of, untyped}
-use Rattle.krb_driver.specs.Messages.{file_message, words_line, phrase_line}
+use Rattle.krb_driver.specs.Hints.{hint_words}
+use Rattle.krb_driver.specs.Messages.{file_message, line_if, words_line, phrase_line}
 use Rattle.krb_driver.specs.RunErrors.{Ending, ending_message}
 
 -- ---- phrases
@@ -147,10 +150,6 @@ hidden_words_of file (Some place) = hidden_words file None place
 abbrev pub reported_words : List ℕ → Reported → List ℕ
 reported_words file r = flat_map (code_words r.kind) r.codes ++ (flat_map fault_words r.faults ++ hidden_words_of file r.hidden_from)
 
--- a line if its word was printed, else nothing
-abbrev pub line_if : Bool → List ℕ → List ℕ
-line_if is_printed line = if is_printed then line else []
-
 -- the line for each word of findings that was printed, in this order
 abbrev pub word_lines : FindingWords → List ℕ
 word_lines t =
@@ -166,15 +165,20 @@ abbrev pub found_fault_words : List ℕ → Option Fault → List ℕ
 found_fault_words file None = []
 found_fault_words file (Some fault) = listed_words file fault
 
--- the words that explain findings
+-- the words that explain findings, and hints
 abbrev pub found_words : List ℕ → Findings → List ℕ
-found_words file findings = word_lines findings.words ++ found_fault_words file findings.fault
+found_words file findings = word_lines findings.words ++ (found_fault_words file findings.fault ++ hint_words file findings)
+
+-- the words for an unknown first word of a script's line
+abbrev pub unknown_words : List ℕ → List ℕ
+unknown_words word = codes "krbfile: " ++ (line_phrase UnknownWord ++ (codes ": \"" ++ (escaped_text word ++ codes "\"\n")))
 
 -- the words that explain an error of a run over that file, or of that line of ktutil
 abbrev pub error_words : List ℕ → Option ℕ → Option Cause → RunError → List ℕ
 error_words file line cause error.InputTooLarge = phrase_line line too_large
 error_words file line cause error.InputNotRead = cause_words file line cause
 error_words file line cause (error.FaultyLine number fault) = phrase_line line (line_fault_phrase line fault)
+error_words file line cause (error.UnknownWord number word) = unknown_words word
 error_words file line cause (error.FromPassword number) = phrase_line line (codes "keys are not made from passwords here")
 error_words file line cause (error.AsksForHelp number) = phrase_line line (codes "see krbfile ktutil --help")
 error_words file line cause (error.LineRefused number code) = phrase_line line (keytab_phrase code)

@@ -2,9 +2,11 @@
 
 ghost use Rattle.std.specs.Prelude.{◌≡◌};
 ghost use Rattle.krb_driver.specs.declared.error.RunError.TheVariants as error;
-ghost use Rattle.krb_driver.specs.RunErrors.{error_of_name, error_status, input_error, list_error, load_error, no_keytab_error, output_error, save_error, script_error};
+ghost use Rattle.krb_driver.specs.FirstWords.{first_word, line_at, safe_word};
+ghost use Rattle.krb_driver.specs.RunErrors.{error_of_name, error_status, input_error, list_error, load_error, no_keytab_error, output_error, save_error, script_error, word_error};
 
 use crate::file_name::NameSource;
+use crate::first_word::FirstWord;
 use crate::loading::{NoKeytab, NotCache, NotKeytab};
 use krb_files::{LoadFault, OutFault, SaveFault};
 use krb_text::{LineFault, ScriptRefusal};
@@ -17,6 +19,8 @@ pub enum RunError {
     InputTooLarge,
     InputNotRead,
     FaultyLine { line: u64, fault: LineFault },
+    /// A line of a script begins with this word: its fault is its first word.
+    UnknownWord { line: u64, word: FirstWord },
     /// A line of ktutil adds an entry with a key from a password: its fault is its words.
     FromPassword { line: u64 },
     /// A line of ktutil asks for help, or for its commands: its fault is its command.
@@ -83,6 +87,33 @@ impl RunError {
         }
     }
 
+    // Returns the error for a line of a script with an unknown first word.
+    fn of_word(line: u64, script: &[u8]) -> RunError
+        ensures { result ≡ word_error line (safe_word (first_word (line_at script.now line))) }
+    {
+        match FirstWord::at(script, line) {
+            Some(word) => RunError::UnknownWord { line, word },
+            None => RunError::FaultyLine {
+                line,
+                fault: LineFault::UnknownWord,
+            },
+        }
+    }
+
+    /// Returns the error for a script that was refused.
+    pub fn of_script(refusal: ScriptRefusal, script: &[u8]) -> RunError
+        ensures { result ≡ script_error script.now refusal }
+    {
+        match refusal {
+            ScriptRefusal::Fault {
+                line,
+                kind: LineFault::UnknownWord,
+            } => RunError::of_word(line, script),
+            ScriptRefusal::Fault { line, kind } => RunError::FaultyLine { line, fault: kind },
+            ScriptRefusal::NoMemory => RunError::NoMemory,
+        }
+    }
+
     /// Returns the error for an input that was not read.
     pub fn of_input(fault: LoadFault) -> RunError
         ensures { result ≡ input_error fault }
@@ -91,17 +122,6 @@ impl RunError {
             LoadFault::TooLarge => RunError::InputTooLarge,
             LoadFault::NoMemory => RunError::NoMemory,
             LoadFault::Missing | LoadFault::Failed => RunError::InputNotRead,
-        }
-    }
-}
-
-impl From<ScriptRefusal> for RunError {
-    ghost from_gives = { λ refusal given. given ≡ script_error refusal };
-
-    fn from(refusal: ScriptRefusal) -> RunError {
-        match refusal {
-            ScriptRefusal::Fault { line, kind } => RunError::FaultyLine { line, fault: kind },
-            ScriptRefusal::NoMemory => RunError::NoMemory,
         }
     }
 }

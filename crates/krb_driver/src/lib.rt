@@ -5,6 +5,7 @@ mod command;
 mod command_line;
 mod error;
 mod file_name;
+mod first_word;
 mod loading;
 mod opening;
 mod reporting;
@@ -20,6 +21,7 @@ pub use command_line::mistake::{BadLine, Mistake, More, WordFault};
 pub use command_line::words::{CommandName, CommandWords, DRY_RUN, IN_PLACE, V1_BIG, Word};
 pub use error::RunError;
 pub use file_name::{FileName, NameSource, type_of};
+pub use first_word::FirstWord;
 pub use loading::{NoKeytab, NotKeytab, load_keytab, load_or_new};
 pub use opening::{
     give_cache, give_or_empty, open_cache, open_keytab, open_listed, open_whole,

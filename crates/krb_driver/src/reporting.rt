@@ -5,8 +5,10 @@ pub(crate) mod details;
 pub(crate) mod error_output;
 mod explanation;
 mod found_words;
+mod hints;
 mod mistake_words;
 mod name_words;
+mod operand;
 mod piece;
 pub(crate) mod reported;
 mod reported_words;
@@ -136,7 +138,7 @@ fn error_message(error: RunError, file: &[u8]) -> Message<'_>
         RunError::FromPassword { line } => {
             line_message(line, "fault ", LineFault::WordCount.number())
         }
-        RunError::AsksForHelp { line } => {
+        RunError::UnknownWord { line, .. } | RunError::AsksForHelp { line } => {
             line_message(line, "fault ", LineFault::UnknownWord.number())
         }
         RunError::LineRefused { line, code } => line_message(line, "refused ", code.number()),

@@ -13,10 +13,12 @@ pub enum FileKind {
     Cache,
 }
 
-/// What was found about a keytab: which words are to be explained, the fault, and whether something is wrong.
+/// What was found about a keytab: which words are to be explained, which weak enctypes its entries have, the fault, and
+/// whether something is wrong.
 #[derive(Clone, Copy)]
 pub struct Findings {
     pub words: krb_audit::FindingWords,
+    pub weak_etypes: krb_audit::WeakEtypes,
     pub fault: Option<Fault>,
     pub is_wrong: bool,
 }

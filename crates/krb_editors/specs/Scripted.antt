@@ -8,19 +8,19 @@ use Rattle.krb_files.specs.Reader.{Source}
 use Rattle.krb_text.specs.declared.line_fault.LineFault.{LineFault}
 use Rattle.krb_text.specs.Script.{script_by}
 use Rattle.krb_driver.specs.declared.error.RunError.{RunError}
-use Rattle.krb_driver.specs.declared.error.RunError.TheVariants.{FaultyLine, NoMemory}
+use Rattle.krb_driver.specs.declared.error.RunError.TheVariants.{NoMemory}
 use Rattle.krb_driver.specs.Commands.{RunsCommand}
 use Rattle.krb_driver.specs.Effects.{CommandPlan}
 use Rattle.krb_driver.specs.ErrorOutput.{ErrorWatch}
 use Rattle.krb_driver.specs.Input.{GivesInput}
 use Rattle.krb_driver.specs.Loading.{result_map_err}
 use Rattle.krb_driver.specs.Runs.{Reports}
-use Rattle.krb_driver.specs.RunErrors.{input_error}
+use Rattle.krb_driver.specs.RunErrors.{input_error, line_error}
 
 module _ {L : Type 0} (reads : List ℕ → Result L LineFault) where
   -- the lines of an input, or why there are none
   abbrev pub lines_in : Result (List ℕ) LoadFault → Result (List L) RunError
-  lines_in (Ok text) = result_map_err (λ fault. FaultyLine fault.line fault.kind) (script_by reads text)
+  lines_in (Ok text) = result_map_err (λ fault. line_error text fault.line fault.kind) (script_by reads text)
   lines_in (Err fault) = Err (input_error fault)
 
   -- these are the lines that a reader gave, or memory ran out

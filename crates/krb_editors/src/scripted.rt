@@ -18,7 +18,9 @@ pub fn read_script<A: Allocator + Copy, L: ScriptLine<A>, R: Read>(
     ensures { GivesLines L.line_in input.old input.new (result_map (λ lines. lines.items) result) }
 {
     match load(alloc, input, USUAL_LIMIT, 0) {
-        Ok(text) => Ok(parse_script(alloc, &text)?),
+        Ok(text) => parse_script(alloc, &text).map_err(|refusal| RunError::of_script(
+            refusal, &text,
+        )),
         Err(fault) => Err(RunError::of_input(fault)),
     }
 }

@@ -1,11 +1,13 @@
 -- What ktcheck does.
 use Rattle.std.specs.Prelude.{◌≡◌, ◌⊎◌, ℕ, max, List, [], ◌∷◌, ◌++◌, length, codes, Bool, true, false, not, ◌&&◌, ◌||◌, nat_lt, IsTrue, IsFalse, if◌then◌else◌, Option, is_some, Ok, Err}
 use Rattle.krb_walk.specs.Store.{fault_of}
+use Rattle.krb_keytab.specs.Find.{placed_entries}
 use Rattle.krb_keytab.specs.Store.{KeytabState, store_of}
 use Rattle.krb_files.specs.declared.files.Files.{Ghosts}
 use Rattle.krb_files.specs.Bytes.{Watch}
 use Rattle.krb_files.specs.Plan.{Ends}
 use Rattle.krb_audit.specs.declared.finding_words.FindingWords.{FindingWords}
+use Rattle.krb_audit.specs.Findings.{weak_among}
 use Rattle.krb_audit.specs.Report.{has_words, joined, report, without, words_found, words_of, wrong_words}
 use Rattle.krb_driver.specs.declared.error.RunError.TheVariants as error
 use Rattle.krb_driver.specs.declared.file_name.FileName.{FileName}
@@ -33,6 +35,7 @@ printed o label mode k = if o.quiet && is_well mode k then [] else report label 
 abbrev pub findings_of : CheckOptions → FindingWords → Option ℕ → KeytabState → Findings
 findings_of o explained mode k = record {
   words = without (words_found mode k) explained;
+  weak_etypes = weak_among (placed_entries k);
   fault = fault_of (store_of k);
   is_wrong = has_words (without (wrong_words mode k) o.allowed) || is_some (fault_of (store_of k));
 }

@@ -4,7 +4,9 @@ pub(crate) mod words;
 
 ghost use Rattle.std.specs.Prelude.{◌≡◌, ◌||◌, ℕ, Option, List, max, is_some, IfOk, IsFalse};
 ghost use Rattle.krb_walk.specs.Store.{fault_of};
+ghost use Rattle.krb_keytab.specs.Find.{placed_entries};
 ghost use Rattle.krb_keytab.specs.Store.{KeytabState, store_of};
+ghost use Rattle.krb_audit.specs.Findings.{weak_among};
 ghost use Rattle.krb_audit.specs.Report.{joined, report, words_found, wrong_words};
 ghost use Rattle.krb_driver.specs.Commands.{output_page, text_effect};
 ghost use Rattle.krb_driver.specs.Effects.{Displays, IsMade};
@@ -51,7 +53,7 @@ fn verdict_of<A: Allocator>(
     fault: Option<Fault>,
 ) -> Verdict
     ensures { (mode : Option ℕ) (k : KeytabState) → found.now.words_found ≡ words_found mode k
-        → found.now.wrong_words ≡ wrong_words mode k → fault ≡ fault_of (store_of k)
+        → found.now.wrong_words ≡ wrong_words mode k → found.now.weak_etypes ≡ weak_among (placed_entries k) → fault ≡ fault_of (store_of k)
         → result ≡ found_verdict options.now explained mode k }
 {
     if is_well(found.words_found, fault) {
@@ -60,6 +62,7 @@ fn verdict_of<A: Allocator>(
     let wrong = found.wrong_words.without(options.allowed);
     Verdict::Found(Findings {
         words: found.words_found.without(explained),
+        weak_etypes: found.weak_etypes,
         fault,
         is_wrong: wrong.has_some() || fault.is_some(),
     })
@@ -72,7 +75,7 @@ fn output_of<'a, A: Allocator>(
     fault: Option<Fault>,
 ) -> Output<A>
     ensures { (mode : Option ℕ) (k : KeytabState) (label : List ℕ) → found.words_found ≡ words_found mode k
-        → found.wrong_words ≡ wrong_words mode k → found.text.items ≡ report label mode k → fault ≡ fault_of (store_of k)
+        → found.wrong_words ≡ wrong_words mode k → found.weak_etypes ≡ weak_among (placed_entries k) → found.text.items ≡ report label mode k → fault ≡ fault_of (store_of k)
         → output_page result ≡ page_of command.now.options.now label command.now.explained mode k }
 {
     let verdict = verdict_of(command.options, command.explained, &found, fault);

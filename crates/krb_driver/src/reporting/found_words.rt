@@ -6,10 +6,12 @@ ghost use Rattle.krb_driver.specs.Runs.{Writes};
 ghost use Rattle.krb_driver.specs.Words.{found_fault_words, found_words, word_lines};
 
 use crate::reporting::explanation::{Explanation, no_words};
+use crate::reporting::hints::add_hints;
 use crate::reporting::piece::MessagePiece;
 use crate::reporting::words::listed_words;
-use crate::reporting::writing::write_pieces;
+use crate::reporting::writing::{add_pieces, send};
 use crate::verdict::Findings;
+use arrayvec::ArrayVec;
 use krb_audit::FindingWords;
 use krb_files::Watched;
 use krb_walk::Fault;
@@ -68,13 +70,13 @@ fn fault_words(file: &[u8], fault: Option<Fault>) -> Explanation<'_>
     }
 }
 
-/// Explains the words of findings, each once, and the fault, in one write if they fit. Ignores a failure.
+/// Explains the words of findings, each once, and the fault, and gives hints, in one write if they fit. Ignores a failure.
 pub fn report_findings<E: Write>(err: &mut Watched<E>, findings: &Findings, file: &[u8])
     ensures { Writes err.old err.new (found_words file.now findings.now) }
 {
-    write_pieces(
-        err,
-        &word_lines(findings.words),
-        &fault_words(file, findings.fault),
-    );
+    let mut gathered = ArrayVec::new();
+    add_pieces(&word_lines(findings.words), &mut gathered, err);
+    add_pieces(&fault_words(file, findings.fault), &mut gathered, err);
+    add_hints(findings, file, &mut gathered, err);
+    send(&gathered, err);
 }

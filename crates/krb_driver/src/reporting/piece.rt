@@ -1,8 +1,10 @@
 //! The pieces of a message.
 
 ghost use Rattle.std.specs.Prelude.{◌≡◌};
+ghost use Rattle.krb_cache_text.specs.Escape.{escaped};
 ghost use Rattle.krb_driver.specs.PieceTexts.{shown_byte};
 
+use crate::first_word::FirstWord;
 use arrayvec::ArrayVec;
 
 /// A piece of a message.
@@ -15,6 +17,8 @@ pub enum MessagePiece<'a> {
     Number(u64),
     /// A word of the command line. Each byte that is not printable becomes `\x` and two hex digits.
     Word(&'a str),
+    /// A word of a script. Each byte that is not printable becomes `\x` and two hex digits, and a backslash is doubled.
+    Escaped(FirstWord),
 }
 
 /// Returns a byte of a word as it is printed.
@@ -29,4 +33,17 @@ pub fn shown_byte(byte: u8) -> ArrayVec<u8, 4>
     let mut text = *b"\\x..";
     hex::encode_to_slice(&[byte], &mut text[2..]).unwrap();
     ArrayVec::from(text)
+}
+
+/// Returns a byte of a script's word as it is printed.
+pub fn escaped_byte(byte: u8) -> ArrayVec<u8, 4>
+    ensures { result.items ≡ escaped byte }
+{
+    if byte != b'\\' {
+        return shown_byte(byte);
+    }
+    let mut doubled = ArrayVec::new();
+    doubled.push(byte);
+    doubled.push(byte);
+    doubled
 }

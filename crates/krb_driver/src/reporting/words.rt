@@ -4,9 +4,10 @@ ghost use Rattle.std.specs.Prelude.{◌≡◌, [], ◌++◌, IfOk, IsFalse, code
 ghost use Rattle.krb_driver.specs.Messages.{phrase_line, words_line};
 ghost use Rattle.krb_driver.specs.PieceTexts.{piece_text, pieces_text};
 ghost use Rattle.krb_driver.specs.Verdicts.{is_itemized};
-ghost use Rattle.krb_driver.specs.Words.{cache_phrase, cause_words, ending_words, error_words, keytab_phrase, line_fault_phrase, list_phrase, listed_words, no_cache_phrase, no_keytab_phrase, nothing_phrase, refusal_phrase, verdict_words};
+ghost use Rattle.krb_driver.specs.Words.{cache_phrase, cause_words, ending_words, error_words, keytab_phrase, line_fault_phrase, list_phrase, listed_words, no_cache_phrase, no_keytab_phrase, nothing_phrase, refusal_phrase, unknown_words, verdict_words};
 
 use crate::error::RunError;
+use crate::first_word::FirstWord;
 use crate::loading::{NotCache, NotKeytab};
 use crate::reporting::explanation::{Explanation, no_words, phrase, words};
 use crate::reporting::name_words::{hidden_words, missing_words, type_words, typed_words};
@@ -17,6 +18,8 @@ use krb_files::Cause;
 use krb_keytab::KtOpenFault;
 use krb_text::LineFault;
 use krb_walk::{Code, Fault};
+
+const NONE: MessagePiece<'static> = MessagePiece::Text("");
 
 const TOO_LARGE: &str = "it has more than 16,777,216 bytes";
 
@@ -142,6 +145,23 @@ pub fn listed_words(file: &[u8], fault: Fault) -> Explanation<'_>
     ]
 }
 
+// Returns the words for an unknown first word of a script's line.
+fn unknown_words<'a>(word: FirstWord) -> Explanation<'a>
+    ensures { pieces_text result ≡ unknown_words word }
+{
+    [
+        MessagePiece::Text("krbfile: "),
+        MessagePiece::Text(LineFault::UnknownWord.phrase()),
+        MessagePiece::Text(": \""),
+        MessagePiece::Escaped(word),
+        MessagePiece::Text("\"\n"),
+        NONE,
+        NONE,
+        NONE,
+        NONE,
+    ]
+}
+
 // Returns the words that explain an error of a run over `file`, or of line `line` of ktutil.
 fn error_words(
     error: RunError,
@@ -154,6 +174,7 @@ fn error_words(
     match error {
         RunError::InputTooLarge | RunError::FileTooLarge => phrase(line, TOO_LARGE),
         RunError::FaultyLine { fault, .. } => phrase(line, line_fault_phrase(line, fault)),
+        RunError::UnknownWord { word, .. } => unknown_words(word),
         RunError::FromPassword { .. } => phrase(line, "keys are not made from passwords here"),
         RunError::AsksForHelp { .. } => phrase(line, "see krbfile ktutil --help"),
         RunError::LineRefused { code, .. } | RunError::Refused(code) => {

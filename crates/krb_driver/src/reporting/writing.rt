@@ -1,11 +1,12 @@
 //! Writes each message in one write, if it fits.
 
 ghost use Rattle.std.specs.Prelude.{◌++◌};
+ghost use Rattle.krb_cache_text.specs.Escape.{escaped_text};
 ghost use Rattle.krb_driver.specs.PieceTexts.{piece_text, pieces_text, shown_word};
 ghost use Rattle.krb_driver.specs.Runs.{Writes, WritesOn};
 ghost use Rattle.krb_driver.specs.Underway.{Adds, Sends};
 
-use crate::reporting::piece::{MessagePiece, shown_byte};
+use crate::reporting::piece::{MessagePiece, escaped_byte, shown_byte};
 use arrayvec::ArrayVec;
 use itoa::Buffer;
 use krb_files::{Watched, put};
@@ -44,6 +45,15 @@ fn add_word<E: Write>(word: &[u8], gathered: &mut Gathered, err: &mut Watched<E>
     }
 }
 
+// Adds a word of a script as it is printed.
+fn add_escaped<E: Write>(word: &[u8], gathered: &mut Gathered, err: &mut Watched<E>)
+    ensures { Adds err.old gathered.old.items err.new gathered.new.items (escaped_text word.now) }
+{
+    'bytes: for byte in word {
+        add(escaped_byte(*byte).as_slice(), gathered, err);
+    }
+}
+
 fn add_piece<E: Write>(piece: MessagePiece<'_>, gathered: &mut Gathered, err: &mut Watched<E>)
     ensures { Adds err.old gathered.old.items err.new gathered.new.items (piece_text piece.entry) }
 {
@@ -52,6 +62,7 @@ fn add_piece<E: Write>(piece: MessagePiece<'_>, gathered: &mut Gathered, err: &m
         MessagePiece::Name(name) => add(name, gathered, err),
         MessagePiece::Number(number) => add(Buffer::new().format(number).as_bytes(), gathered, err),
         MessagePiece::Word(word) => add_word(word.as_bytes(), gathered, err),
+        MessagePiece::Escaped(word) => add_escaped(word.as_bytes(), gathered, err),
     }
 }
 

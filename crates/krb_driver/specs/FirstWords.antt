@@ -1,0 +1,25 @@
+-- The first word of a script's line, if it is safe to show.
+use Rattle.std.specs.Prelude.{ℕ, ◌-◌, List, [], length, slice_get, unwrap_or, Bool, not, ◌&&◌, nat_le, if◌then◌else◌, Option, None, Some}
+use Rattle.std.specs.Char.{is_ascii_hexdigit}
+use Rattle.std.specs.List.{list_any}
+use Rattle.krb_text.specs.Pieces.{pieces}
+
+-- the line of a script with that number, counted from 1, or an empty one
+abbrev pub line_at : List ℕ → ℕ → List ℕ
+line_at script number = unwrap_or (slice_get (pieces 10 script) (number - 1)) []
+
+-- the first word of a line
+abbrev pub first_word : List ℕ → List ℕ
+first_word line = unwrap_or (slice_get (pieces 32 line) 0) []
+
+-- the byte is no hexadecimal digit
+abbrev pub no_digit : ℕ → Bool
+no_digit b = not (is_ascii_hexdigit b)
+
+-- the word can be no part of a key: it has at most 16 bytes, and one is no hexadecimal digit
+abbrev pub is_safe : List ℕ → Bool
+is_safe word = nat_le (length word) 16 && list_any no_digit word
+
+-- the word, if it is safe to show
+abbrev pub safe_word : List ℕ → Option (List ℕ)
+safe_word word = if is_safe word then Some word else None
