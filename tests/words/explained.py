@@ -2,7 +2,7 @@
 
 import os
 import socket
-from collections.abc import Callable
+from collections.abc import Callable, Iterable
 from dataclasses import dataclass, field
 from errno import ENXIO
 
@@ -15,22 +15,25 @@ from makers.images import HOST, TWO, Entry, keytab, record
 from runs.harness import Outcome, Report, differences, files_in, folder_of, message, run
 from runs.rows import Line, words_of
 from runs.terminal import EXPLAIN, WAYS, run_on_terminal
-from words.phrases import (BEGINS_AS_CACHE, BEGINS_AS_NO_KEYTAB, CAUSES, FAULTS, FINDINGS, LARGE, LISTED_AS_KEYTAB,
-                           NO_PASSWORDS, SEE_HELP, SHORT, code, line_fault)
+from words.phrases import (BEGINS_AS_CACHE, BEGINS_AS_NO_KEYTAB, CAUSES, FAULTS, FINDINGS, HINTS, LARGE,
+                           LISTED_AS_KEYTAB, NO_PASSWORDS, SEE_HELP, SHORT, code, line_fault)
 
 ADD = f"{ADD_HOST}\n".encode()
 ADDENT = "addent -key -p host/a@R -k 3 -e 17\n"
 WRITE = f"{ADDENT}{KEY}\nwkt k\n".encode()
 CUT = TWO + b"\0\0\0"
 
+# Messages, each with its explanation or an empty text.
+Output = tuple[tuple[str, str], ...]
+
 
 @dataclass(frozen=True)
 class Explained:
-    """A run, and the messages on its error output, each with its explanation or an empty text."""
+    """A run, and the messages on its error output."""
 
     name: str
     words: Line
-    output: tuple[tuple[str, str], ...]
+    output: Output
     files: dict[str, bytes]
     stdin: bytes = b""
     status: int = 1
@@ -70,10 +73,15 @@ def case(name: str, line: str | Line, image: bytes | None, *output: tuple[str, s
     return Explained(name, words_of(line), output, {} if image is None else {file: image}, **more)
 
 
+def told(file: str, findings: Iterable[str], *fault: str, weak: str = "-e arcfour-hmac") -> Output:
+    """Returns the words of findings, those of a fault, and the hints for the file, with options for its weak types."""
+    hints = (hint.replace("-e ETYPE..", weak).replace("FILE", file) for word, hint in HINTS.items() if word in findings)
+    return tuple(("", line) for line in (*(f"{word}: {FINDINGS[word]}" for word in findings), *fault, *hints))
+
+
 def found(name: str, words: str, image: bytes, mode: int, *fault: str, status: int = 1) -> Explained:
-    """Returns a run of ktcheck: each printed word is explained once, and then the fault."""
-    return case(f"ktcheck: {name}", "ktcheck k", image, *(("", f"{word}: {FINDINGS[word]}") for word in words.split()),
-                *(("", line) for line in fault), status=status,
+    """Returns a run of ktcheck: each printed word is explained once, and then the fault; hints come last."""
+    return case(f"ktcheck: {name}", "ktcheck k", image, *told("k", words.split(), *fault), status=status,
                 setting=lambda folder: os.chmod(os.path.join(folder, "k"), mode))
 
 
