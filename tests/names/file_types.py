@@ -12,7 +12,7 @@ from runs.harness import Report, differences, files_in, folder_of
 from runs.rows import check_rows, shown, words_of
 from runs.terminal import EXPLAIN, WAYS
 from words.explained import Explained
-from words.phrases import BEGINS_AS_NO_KEYTAB, LEAVE_OUT, NOT_READ, code, line_fault
+from words.phrases import BEGINS_AS_NO_KEYTAB, LEAVE_OUT, NOT_READ, code, unknown
 
 # Names whose type is taken off, and the name that is left. A type is taken off once.
 TYPED = {
@@ -130,8 +130,8 @@ def unwritten(word: str, phrase: str) -> Explained:
 
 # What comes before the name: the script, and of ktcopy the keytab that is copied from, with what is selected in it.
 ORDER = [
-    run_of("ktedit KCM:k", "line 2: fault 1", line_fault(1), stdin=b"start\nfrob\n"),
-    run_of("ccedit KCM:c", "line 1: fault 1", line_fault(1), stdin=b"frob\n"),
+    run_of("ktedit KCM:k", "line 2: fault 1", unknown("frob"), stdin=b"start\nfrob\n"),
+    run_of("ccedit KCM:c", "line 1: fault 1", unknown("frob"), stdin=b"frob\n"),
     run_of("ktedit KCM:k", "KCM:k: no such file", not_read("KCM:"), stdin=b"start\n"),
     run_of("ccedit KCM:c", "KCM:c: no such file", not_read("KCM:"), stdin=b"start\n"),
     run_of("ktcopy no KCM:t", "no: no such file"),

@@ -135,7 +135,8 @@ def allowed() -> Iterator[Explained]:
     """Yields checks with some findings allowed: these have their lines, and only others count for the status."""
     for finding, (file, lines) in SINGLE.items():
         for other in FINDINGS:
-            yield check_up(f"{allow(other)} {file}", lines, *words(file, finding), status=int(finding not in (other, "old")))
+            status = int(finding not in (other, "old"))
+            yield check_up(f"{allow(other)} {file}", lines, *words(file, finding), status=status)
     for left_out in FINDINGS:
         others = allow(*(each for each in FINDINGS if each != left_out))
         yield check_up(f"{others} all", OF_ALL, *words("all", *FINDINGS), status=int(left_out != "old"))
