@@ -1,5 +1,6 @@
 """First words that no line of a script has: which are shown where words are, and that nothing else of a line is."""
 
+import re
 from collections.abc import Iterator
 
 from keytabs.ktutil_lines import ADDENT, KEY
@@ -43,10 +44,10 @@ KEYS = ("0123456789ABCDEF", "fedcba98" * 4, "fedcba98" * 8)
 
 def with_word(line: str, word: str) -> Iterator[str]:
     """Yields a line with a word in place of each of its words, before each and at the end."""
-    words = line.split(" ")
-    for at in range(len(words) + 1):
-        yield " ".join([*words[:at], word, *words[at:]])
-        yield " ".join([*words[:at], word, *words[at + 1:]])
+    parts = re.split("([ \n])", line)
+    for at in range(0, len(parts), 2):
+        yield from ("".join([*parts[:at], new, *parts[at + 1:]]) for new in (word, f"{word} {parts[at]}"))
+    yield f"{line} {word}"
 
 
 def check(report: Report, program: str) -> None:
