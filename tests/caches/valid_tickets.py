@@ -4,7 +4,6 @@ import os
 from collections.abc import Callable
 from dataclasses import replace
 
-from caches.cache_files import sized
 from caches.cache_listings import of_host
 from keytabs.file_names import LIMIT, NOBODY
 from makers.cache_images import Credential, Name, cache, config, header_field, offset
@@ -171,7 +170,6 @@ def check_unreadable(report: Report, program: str) -> None:
 
 def check(report: Report, program: str) -> None:
     """Checks large files, and those that are not in a table."""
-    check_rows(report, program, [ask("a large file", sized(LIMIT + 1), NONE),
-                                 ask("the greatest file", cache(TGT, bytes(LIMIT - len(cache(TGT)))), VALID)])
+    check_rows(report, program, [ask("the greatest file", cache(TGT, bytes(LIMIT - len(cache(TGT)))), VALID)])
     for each in (check_silence, check_places, check_unreadable):
         each(report, program)

@@ -1,7 +1,6 @@
 """The phrases of the manual page, of FORMATS, of the definitions and of Python's module are those of the table."""
 
 import glob
-import os
 import re
 
 from pages.documents import read

@@ -85,9 +85,9 @@ def found(name: str, words: str, image: bytes, mode: int, *fault: str, status: i
                 setting=lambda folder: os.chmod(os.path.join(folder, "k"), mode))
 
 
-def no_keytab(why: tuple[int, str]) -> tuple[str, str]:
+def no_keytab(why: tuple[int, str], name: str = "k") -> tuple[str, str]:
     """Returns the message about a file that is not a keytab."""
-    return f"k: not a keytab ({why[0]})", why[1]
+    return f"{name}: not a keytab ({why[0]})", why[1]
 
 
 def refused(name: str, line: str, image: bytes, number: int) -> Explained:
@@ -212,13 +212,7 @@ CASES = [
     case("ktutil: two faults", "ktutil", None, talk_fault(2, 5), talk_fault(3, 1),
          stdin=f"{ADDENT}00\nx\n".encode()),
     # Files that are not read.
-    case("a missing file", "klist k", None, ("k: no such file", "")),
-    case("rkt of a missing file", "ktutil", None, ("k: no such file", "line 1: no such file"), stdin=b"rkt k\n"),
-    lambda: case("a large file", "klist -k k", bytes(LIMIT + 1), ("k: file too large", LARGE)),
-    lambda: case("a large file in ktutil", "ktutil", bytes(LIMIT + 1), ("k: file too large", f"line 1: {LARGE}"),
-                 stdin=b"rkt k\n"),
     lambda: case("a large script", "ktedit k", None, ("input too large", LARGE), stdin=bytes(LIMIT + 1)),
-    unread("a folder", ".", "EISDIR"),
     unread("a file as a folder", "k/x", "ENOTDIR"),
     unread("a long name", "x" * 256, "ENAMETOOLONG"),
     unread("a link to itself", "l", "ELOOP", setting=link("l")),

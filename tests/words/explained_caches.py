@@ -1,7 +1,5 @@
 """Each message about a cache with its explanation, on a pipe, on a terminal and by `--explain`."""
 
-from functools import partial
-
 from caches.cache_edits import long_ticket
 from caches.cache_scripts import FAULTS as LINE_FAULTS
 from keytabs.file_names import LIMIT
@@ -42,22 +40,14 @@ def replies(name: str, image: bytes, script: bytes, refusals: tuple[int, ...], *
 
 
 def files(line: str, stdin: bytes) -> list[Explained]:
-    """Returns runs over files that are not read or not saved."""
+    """Returns runs over files that are not saved."""
     way = {"stdin": stdin, "status": 3}
     return [
-        case(f"{line}: no file", f"{line} c", None, ("c: no such file", ""), stdin=stdin),
-        case(f"{line}: a folder", f"{line} .", None, (".: cannot read", CAUSES["EISDIR"]), **way),
         case(f"{line}: a name of saves", f"{line} c.krbfile", USUAL,
              ("c.krbfile: cannot write", CAUSES["name of saves"]), file="c.krbfile", **way),
         case(f"{line}: another's new file", f"{line} k", USUAL,
              ("k: cannot write", CAUSES["in the way"].replace("NAME", "k")), setting=in_the_way, **way),
     ]
-
-
-def large(line: str, stdin: bytes) -> Explained:
-    """Returns a run over a file that is too large."""
-    return case(f"{line}: a large file", f"{line} c", bytes(LIMIT + 1), ("c: file too large", LARGE), file="c",
-                stdin=stdin)
 
 
 CASES = [
@@ -77,9 +67,8 @@ CASES = [
     case("ccremove: nothing to do", "ccremove --expired c", cache(), file="c", status=0),
     # Faulty lines of scripts.
     *(faulty(line, number) for number, line in first_of_each(LINE_FAULTS).items()),
-    # Files that are not read or not saved.
+    # Files that are not saved.
     *(each for line, stdin in CHANGING for each in files(line, stdin)),
-    *(partial(large, line, stdin) for line, stdin in CHANGING),
     lambda: case("ccedit: a large script", "ccedit c", None, ("input too large", LARGE), stdin=bytes(LIMIT + 1)),
     # Replies of ccedit.
     replies("places", USUAL, b"step 7\ncut 3\nresume 3\ncut 284\nstep 7\n", (4, 5, 6)),
