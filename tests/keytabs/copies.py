@@ -7,7 +7,8 @@ from dataclasses import replace
 
 from keytabs import greatest
 from keytabs.file_names import LIMIT
-from keytabs.finds import AES256, FIVE
+from keytabs.finds import AES256, FIVE, NOT_FOUND
+from keytabs.removals import B3, FOUR, versioned
 from makers.images import B, BIG, END, HOST, TWO, Entry, hole, keytab, old, record
 from runs.harness import Case, Outcome, Report, message
 from runs.rows import BAD_LINE, check_rows, printed, words_of
@@ -19,7 +20,6 @@ Y = "kvno 3 etype 17 b@R"
 OTHER = replace(B, key=bytes(16))
 THIRD = replace(B, key=b"\xff" * 16)
 
-NOT_FOUND = message(1, "k: refused 9")
 FROM_DAMAGED, TO_DAMAGED = (message(1, f"{name}: refused 1") for name in "kt")
 
 # A name that version 1 cannot hold: its count of components would have 17 bits.
@@ -48,14 +48,6 @@ def select(options: str, source: bytes, *those: Entry) -> Case:
     return copy("selected", options, source, None, lines, image)
 
 
-def versioned(kvno: int, seconds: int) -> Entry:
-    """Returns an entry of a@R."""
-    return Entry((b"a",), timestamp=seconds, version8=kvno, version32=kvno)
-
-
-B3 = Entry((b"b",))
-# host/a@R of versions 3, 5 and 5, of enctypes 17, 18 and 17, and b@R.
-FOUR = keytab(HOST, AES256, FIVE, B3)
 ROTATED = [versioned(254, 1), versioned(255, 2), versioned(0, 3)]
 # Two names that print alike: no components, and an empty one.
 BARE = [Entry((), version8=1, version32=1), Entry((b"",), version8=2, version32=2)]

@@ -10,8 +10,8 @@ from models.named_runs import NEITHER
 from runs.harness import Outcome, Report, folder_of, run
 from runs.rows import Line, shown, text, words_of
 from runs.terminal import EXPLAIN
-from words.explained import Explained, Output, told
-from words.phrases import BEGINS_AS_NO_KEYTAB, CAUSES, FAULTS, FINDINGS, NOT_READ
+from words.explained import Explained, Output
+from words.phrases import BEGINS_AS_NO_KEYTAB, CAUSES, FAULTS, FINDINGS, HINTS, NOT_READ
 
 X = "kvno 3 etype 17 host/a@R"
 SOUND = "entries 2 free 0 holes 0"
@@ -69,7 +69,9 @@ def labelled(*those: tuple[str, list[str]]) -> list[str]:
 
 def words(file: str, *findings: str) -> Output:
     """Returns the words of findings, and the hints for the file, whose weak entries have enctype 23."""
-    return told(file, findings)
+    hints = (hint.replace("ETYPE..", "arcfour-hmac") for finding, hint in HINTS.items() if finding in findings)
+    told = (*(f"{finding}: {FINDINGS[finding]}" for finding in findings), *hints)
+    return tuple(("", line.replace("FILE", file)) for line in told)
 
 
 def fault(name: str) -> Output:

@@ -2,7 +2,7 @@
 
 import os
 import socket
-from collections.abc import Callable, Iterable
+from collections.abc import Callable
 from dataclasses import dataclass, field
 from errno import ENXIO
 
@@ -11,12 +11,12 @@ from keytabs.file_names import LIMIT
 from keytabs.ktutil_lines import FAULTS as TALK_FAULTS
 from keytabs.ktutil_lines import KEY
 from keytabs.scripts import FAULTS as LINE_FAULTS
-from makers.images import HOST, TWO, Entry, keytab, record
+from makers.images import HOST, TWO, keytab, record
 from runs.harness import Outcome, Report, differences, files_in, folder_of, message, run
 from runs.rows import Line, words_of
 from runs.terminal import EXPLAIN, WAYS, run_on_terminal
-from words.phrases import (BEGINS_AS_CACHE, BEGINS_AS_NO_KEYTAB, CAUSES, FAULTS, FINDINGS, HINTS, LARGE,
-                           LISTED_AS_KEYTAB, NO_PASSWORDS, SEE_HELP, SHORT, code, line_fault)
+from words.phrases import (BEGINS_AS_CACHE, BEGINS_AS_NO_KEYTAB, CAUSES, FAULTS, FINDINGS, LARGE, LISTED_AS_KEYTAB,
+                           NO_PASSWORDS, SEE_HELP, SHORT, code, line_fault)
 
 ADD = f"{ADD_HOST}\n".encode()
 ADDENT = "addent -key -p host/a@R -k 3 -e 17\n"
@@ -73,18 +73,6 @@ def case(name: str, line: str | Line, image: bytes | None, *output: tuple[str, s
     return Explained(name, words_of(line), output, {} if image is None else {file: image}, **more)
 
 
-def told(file: str, findings: Iterable[str], *fault: str, weak: str = "-e arcfour-hmac") -> Output:
-    """Returns the words of findings, those of a fault, and the hints for the file, with options for its weak types."""
-    hints = (hint.replace("-e ETYPE..", weak).replace("FILE", file) for word, hint in HINTS.items() if word in findings)
-    return tuple(("", line) for line in (*(f"{word}: {FINDINGS[word]}" for word in findings), *fault, *hints))
-
-
-def found(name: str, words: str, image: bytes, mode: int, *fault: str, status: int = 1) -> Explained:
-    """Returns a run of ktcheck: each printed word is explained once, and then the fault; hints come last."""
-    return case(f"ktcheck: {name}", "ktcheck k", image, *told("k", words.split(), *fault), status=status,
-                setting=lambda folder: os.chmod(os.path.join(folder, "k"), mode))
-
-
 def no_keytab(why: tuple[int, str], name: str = "k") -> tuple[str, str]:
     """Returns the message about a file that is not a keytab."""
     return f"{name}: not a keytab ({why[0]})", why[1]
@@ -100,9 +88,9 @@ def refused_talk(name: str, at: int, image: bytes | None, number: int, stdin: by
     return case(name, "ktutil", image, (f"line {at}: refused {number}", f"line {at}: {code(number)}"), stdin=stdin)
 
 
-def faulty(line: str, number: int) -> Explained:
+def faulty(line: str, number: int, command: str = "ktedit", image: bytes = TWO) -> Explained:
     """Returns a run over a faulty line of a script."""
-    return case(f"ktedit: {line!r}", "ktedit k", TWO, (f"line 2: fault {number}", line_fault(number)),
+    return case(f"{command}: {line!r}", f"{command} k", image, (f"line 2: fault {number}", line_fault(number)),
                 stdin=f"start\n{line}\n".encode())
 
 
@@ -165,8 +153,6 @@ def link(target: str | bytes) -> Callable[[str], None]:
 
 DAMAGED = code(1)
 LISTED_CACHE, IS_CACHE, NO_KEYTAB = map(no_keytab, (LISTED_AS_KEYTAB, BEGINS_AS_CACHE, BEGINS_AS_NO_KEYTAB))
-WEAK = Entry((b"",), enctype=23)
-ALL_WORDS = keytab(WEAK, WEAK, Entry((b"",), enctype=23, key=bytes(16)), Entry((b"",), version8=4, version32=4))
 
 CASES = [
     # Files that are not keytabs, for each command.
@@ -192,13 +178,9 @@ CASES = [
                  f"addent -key -p {'x' * 65_536}@R -k 3 -e 17\n{KEY}\nwkt k\n".encode()),
     lambda: refused_talk("wkt to a full file", 3,
                          keytab(record(HOST.spelled() + bytes(LIMIT - 6 - len(HOST.spelled())))), 3, WRITE),
-    # Checks.
-    found("nothing", "", keytab(HOST), 0o600, status=0),
-    found("a group that may read", "mode", keytab(HOST), 0o640, status=0),
-    found("a damaged file", "", keytab(HOST, b"\0\0\0"), 0o600, "k: fault 1 at 53", FAULTS[1]),
-    found("the same key", "same", keytab(HOST, HOST), 0o600),
-    found("all words", " ".join(FINDINGS), ALL_WORDS, 0o644),
-    found("an old version", "old", keytab(HOST, Entry(version8=4, version32=4)), 0o600, status=0),
+    # A mode alone has its word, and no hint.
+    case("ktcheck: a group that may read", "ktcheck k", TWO, ("", f"mode: {FINDINGS['mode']}"), status=0,
+         setting=lambda folder: os.chmod(os.path.join(folder, "k"), 0o640)),
     # Faulty lines of scripts and of ktutil.
     *(faulty(line, number) for number, line in first_of_each(LINE_FAULTS).items()),
     *(faulty_talk(line, number) for number, line in first_of_each(TALK_FAULTS).items()),

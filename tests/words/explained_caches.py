@@ -5,9 +5,8 @@ from caches.cache_scripts import FAULTS as LINE_FAULTS
 from keytabs.file_names import LIMIT
 from makers.cache_images import cache
 from makers.usual_caches import USUAL, VERSION_3
-from words.explained import Explained, case, first_of_each, in_the_way, reported
-from words.phrases import (BAD_DEFAULT, BAD_HEADER, BEGINS_AS_KEYTAB, BEGINS_AS_NO_CACHE, CAUSES, FAULTS, LARGE, SHORT,
-                           code, line_fault)
+from words.explained import Explained, case, faulty, first_of_each, in_the_way, refused, reported
+from words.phrases import BAD_DEFAULT, BAD_HEADER, BEGINS_AS_KEYTAB, BEGINS_AS_NO_CACHE, CAUSES, FAULTS, LARGE, SHORT
 
 # Commands that change a cache, each with its input.
 CHANGING = (("ccedit", b"cut 40\n"), ("ccremove -p krbtgt/R@R", b""))
@@ -19,18 +18,6 @@ def no_cache(image: bytes, why: tuple[int, str]) -> list[Explained]:
     """Returns runs of each command over a file that is not a cache."""
     return [case(f"{line} of {image.hex()}", f"{line} k", image, (f"k: not a cache ({why[0]})", why[1]), stdin=stdin)
             for line, stdin in (("klist", b""), *CHANGING)]
-
-
-def refused(name: str, line: str, image: bytes, number: int) -> Explained:
-    """Returns a refused removal."""
-    return case(f"ccremove: {name}", f"ccremove {line} c", image, (f"c: refused {number}", code(number, "ccremove")),
-                file="c")
-
-
-def faulty(line: str, number: int) -> Explained:
-    """Returns a run over a faulty line of a script."""
-    return case(f"ccedit: {line!r}", "ccedit c", USUAL, (f"line 2: fault {number}", line_fault(number)), file="c",
-                stdin=f"start\n{line}\n".encode())
 
 
 def replies(name: str, image: bytes, script: bytes, refusals: tuple[int, ...], *faults: int) -> Explained:
@@ -60,13 +47,13 @@ CASES = [
     *no_cache(b"\x05\x03", BAD_DEFAULT),
     case("listed: fault 4 at 392", "klist k", CUT, ("", "k: fault 4 at 392"), ("", FAULTS[4])),
     # Refused removals.
-    refused("of nothing", "-p c@R", USUAL, 9),
-    refused("of nothing that has expired", "-p c@R --expired", USUAL, 9),
-    refused("from a damaged file", "--expired", CUT, 1),
-    refused("from version 3", "--expired", VERSION_3, 8),
+    refused("ccremove of nothing", "ccremove -p c@R", USUAL, 9),
+    refused("ccremove of nothing that has expired", "ccremove -p c@R --expired", USUAL, 9),
+    refused("ccremove from a damaged file", "ccremove --expired", CUT, 1),
+    refused("ccremove from version 3", "ccremove --expired", VERSION_3, 8),
     case("ccremove: nothing to do", "ccremove --expired c", cache(), file="c", status=0),
     # Faulty lines of scripts.
-    *(faulty(line, number) for number, line in first_of_each(LINE_FAULTS).items()),
+    *(faulty(line, number, "ccedit", USUAL) for number, line in first_of_each(LINE_FAULTS).items()),
     # Files that are not saved.
     *(each for line, stdin in CHANGING for each in files(line, stdin)),
     lambda: case("ccedit: a large script", "ccedit c", None, ("input too large", LARGE), stdin=bytes(LIMIT + 1)),
