@@ -15,8 +15,8 @@ REFUSED: list[str | Line] = [
     "ktfind --v1-big k 0 0", "ktfind k 0 0 b@R b@R", "ktfind -k k 0 0 b@R", "ktfind -x k 0 0 b@R",
     "ktfind --v1-big=yes k 0 0 b@R", "ktfind k 0 0 -b@R", "ktfind --in-place k 0 0 b@R", "klist --in-place -k k",
     "ktcheck --in-place k", "ktedit k k", "ktedit --v1-big=yes k",
-    ("ktfind", "k", "0", "0", "b@R", ""), ("klist", "-k", "k", b"\xff"), (b"\xff", "-k", "k"), ("klist", b"-k\xff", "k"),
-    ("ktfind", b"\xff", "0", "0", "b@R"), ("ktfind", "k", "0", "0", b"b\xff@R"), ("ktedit", b"\xff"),
+    ("klist", "-k", "k", b"\xff"), (b"\xff", "-k", "k"), ("klist", b"-k\xff", "k"), ("ktedit", b"\xff"),
+    ("ktfind", b"\xff", "0", "0", "b@R"), ("ktfind", "k", "0", "0", b"b\xff@R"), ("ktfind", "k", "0", "0", "b@R", ""),
     # Words that are not a version: not one to ten digits, or over 32 bits.
     *(("ktfind", "k", word, "0", "b@R") for word in (
         "", "-1", "+1", " 1", "1 ", "3.0", "0x3", "1e3", "1_0", "\u0663", "00000000003", "9999999999", "99999999999")),

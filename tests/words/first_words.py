@@ -16,7 +16,7 @@ SHOWN = {
     b"frob": "frob", b"frob 1 cut 2": "frob", b"g": "g", b"-": "-", b"0x": "0x", b"Start": "Start",
     b"abcdef012345678g": "abcdef012345678g", b"g" * 16 + b" x": "g" * 16,
     b"start\r": r"start\x0d", b"cafe\r": r"cafe\x0d", b"start\t2": r"start\x092", b"\0\x1f\x7f": r"\x00\x1f\x7f",
-    b"a\\b": r"a\\b", b"\\": r"\\", b'a"b': 'a"b', b'"': '"', b"caf\xc3\xa9": r"caf\xc3\xa9", b"\xff" * 16: r"\xff" * 16,
+    b"a\\b": r"a\\b", b'a"b': 'a"b', b'"': '"', b"caf\xc3\xa9": r"caf\xc3\xa9", b"\xff" * 16: r"\xff" * 16,
 }
 
 # Lines whose first word is empty, has more bytes, or hexadecimal digits alone.
