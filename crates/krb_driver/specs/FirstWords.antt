@@ -1,8 +1,9 @@
 -- The first word of a script's line, if it is safe to show.
-use Rattle.std.specs.Prelude.{ℕ, ◌-◌, List, [], length, slice_get, unwrap_or, Bool, not, ◌&&◌, nat_le, if◌then◌else◌, Option, None, Some}
+use Rattle.std.specs.Prelude.{ℕ, ◌-◌, List, [], ◌++◌, length, replicate, take, slice_get, unwrap_or, Bool, not, ◌&&◌, nat_le, if◌then◌else◌, Option, None, Some}
 use Rattle.std.specs.Char.{is_ascii_hexdigit}
 use Rattle.std.specs.List.{list_any}
 use Rattle.krb_text.specs.Pieces.{pieces}
+use Rattle.krb_driver.specs.declared.first_word.FirstWord.{FirstWord}
 
 -- the line of a script with that number, counted from 1, or an empty one
 abbrev pub line_at : List ℕ → ℕ → List ℕ
@@ -20,6 +21,14 @@ no_digit b = not (is_ascii_hexdigit b)
 abbrev pub is_safe : List ℕ → Bool
 is_safe word = nat_le (length word) 16 && list_any no_digit word
 
--- the word, if it is safe to show
-abbrev pub safe_word : List ℕ → Option (List ℕ)
-safe_word word = if is_safe word then Some word else None
+-- a word of at most 16 bytes
+abbrev pub first_word_of : List ℕ → FirstWord
+first_word_of word = record { bytes = word ++ replicate (16 - length word) 0; len = length word }
+
+-- the bytes of such a word
+abbrev pub word_text : FirstWord → List ℕ
+word_text word = take word.len word.bytes
+
+-- a word, if it is safe to show
+abbrev pub safe_word : List ℕ → Option FirstWord
+safe_word word = if is_safe word then Some (first_word_of word) else None

@@ -1,5 +1,5 @@
 -- Hints: the commands that show what can be done about findings.
-use Rattle.std.specs.Prelude.{◌≡◌, ℕ, ◌+◌, ◌<◌, ◌==◌, List, [], ◌∷◌, ◌++◌, length, codes, decimal, Bool, true, false, ◌||◌, if◌then◌else◌, nat_le, Option, None, Some, is_some, unwrap_or}
+use Rattle.std.specs.Prelude.{◌≡◌, ℕ, ◌+◌, ◌<◌, ◌==◌, List, [], ◌∷◌, ◌++◌, length, codes, decimal, Bool, false, ◌||◌, if◌then◌else◌, nat_le, Option, None, Some, is_some, unwrap_or}
 use Rattle.std.specs.Char.{is_ascii_alphanumeric}
 use Rattle.std.specs.List.{flat_map, list_all, list_any}
 use Rattle.krb_text.specs.Etype.{etype_name_of}

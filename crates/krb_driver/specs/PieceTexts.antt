@@ -3,6 +3,7 @@ use Rattle.std.specs.Prelude.{ℕ, List, [], ◌∷◌, ◌++◌, codes, decimal
 use Rattle.std.specs.List.{flat_map}
 use Rattle.hex.specs.Hex.{encode_lower}
 use Rattle.krb_cache_text.specs.Escape.{is_printable, escaped_text}
+use Rattle.krb_driver.specs.FirstWords.{word_text}
 use Rattle.krb_driver.specs.declared.reporting.piece.MessagePiece.{MessagePiece}
 use Rattle.krb_driver.specs.declared.reporting.piece.MessagePiece.TheVariants.{Text, Name, Number, Word, Escaped}
 
@@ -20,7 +21,7 @@ piece_text (Text text) = text.now
 piece_text (Name name) = name.now
 piece_text (Number n) = decimal n
 piece_text (Word word) = shown_word word.now
-piece_text (Escaped word) = escaped_text word
+piece_text (Escaped word) = escaped_text (word_text word)
 
 -- pieces one after the other
 abbrev pub pieces_text : List MessagePiece → List ℕ

@@ -16,6 +16,7 @@ use Rattle.krb_text.specs.declared.line_fault.LineFault.{LineFault}
 use Rattle.krb_text.specs.declared.line_fault.LineFault.TheVariants.{UnknownWord, WordCount}
 use Rattle.krb_text.specs.LineFault.{line_fault_number}
 use Rattle.krb_driver.specs.declared.file_name.NameSource.{NameSource}
+use Rattle.krb_driver.specs.declared.first_word.FirstWord.{FirstWord}
 use Rattle.krb_driver.specs.declared.file_name.NameSource.TheVariants.{Word}
 use Rattle.krb_driver.specs.declared.loading.NoKeytab.{NoKeytab}
 use Rattle.krb_driver.specs.declared.loading.NoKeytab.TheVariants.{Load, Open}
@@ -35,7 +36,7 @@ input_error load.NoMemory = error.NoMemory
 input_error other = error.InputNotRead
 
 -- the error for a line with an unknown first word, by that word if it is safe to show
-abbrev pub word_error : ℕ → Option (List ℕ) → RunError
+abbrev pub word_error : ℕ → Option FirstWord → RunError
 word_error line None = error.FaultyLine line UnknownWord
 word_error line (Some word) = error.UnknownWord line word
 

@@ -34,7 +34,9 @@ use Rattle.krb_driver.specs.declared.reporting.reported.Reported.{Reported}
 use Rattle.krb_driver.specs.declared.verdict.Findings.{Findings}
 use Rattle.krb_driver.specs.declared.verdict.Verdict.{Verdict}
 use Rattle.krb_driver.specs.declared.verdict.Verdict.TheVariants.{Well, HiddenFrom, Listed, Replied, Found, NothingToRemove, Clashed}
+use Rattle.krb_driver.specs.declared.first_word.FirstWord.{FirstWord}
 use Rattle.krb_driver.specs.FileNames.{type_of, untyped}
+use Rattle.krb_driver.specs.FirstWords.{word_text}
 use Rattle.krb_driver.specs.Hints.{hint_words}
 use Rattle.krb_driver.specs.Messages.{file_message, line_if, words_line, phrase_line}
 use Rattle.krb_driver.specs.RunErrors.{Ending, ending_message}
@@ -170,8 +172,8 @@ abbrev pub found_words : List ℕ → Findings → List ℕ
 found_words file findings = word_lines findings.words ++ (found_fault_words file findings.fault ++ hint_words file findings)
 
 -- the words for an unknown first word of a script's line
-abbrev pub unknown_words : List ℕ → List ℕ
-unknown_words word = codes "krbfile: " ++ (line_phrase UnknownWord ++ (codes ": \"" ++ (escaped_text word ++ codes "\"\n")))
+abbrev pub unknown_words : FirstWord → List ℕ
+unknown_words word = codes "krbfile: " ++ (line_phrase UnknownWord ++ (codes ": \"" ++ (escaped_text (word_text word) ++ codes "\"\n")))
 
 -- the words that explain an error of a run over that file, or of that line of ktutil
 abbrev pub error_words : List ℕ → Option ℕ → Option Cause → RunError → List ℕ

@@ -1,27 +1,17 @@
 //! The first word of a script's line, if it is safe to show.
 
-ghost use Rattle.std.specs.Prelude.{◌≡◌, ◌≤◌, ◌++◌, ◌-◌, ℕ, List, length, replicate, take};
+ghost use Rattle.std.specs.Prelude.{◌≡◌, IfSome};
 ghost use Rattle.std.specs.List.{list_any};
-ghost use Rattle.krb_driver.specs.FirstWords.{first_word, is_safe, line_at, no_digit, safe_word};
+ghost use Rattle.krb_driver.specs.FirstWords.{first_word, is_safe, line_at, no_digit};
 
 use krb_text::{Lines, Words};
-use std::marker::Model;
 
 /// A word that can be no part of a key: it has at most 16 bytes, and one is no hexadecimal digit.
 #[derive(Clone, Copy)]
 pub struct FirstWord {
+    // The word, and zeros after it.
     bytes: [u8; 16],
     len: usize,
-}
-
-impl Model for FirstWord {
-    ghost Value = { List ℕ };
-
-    ghost view = { λ word. take word.len word.bytes };
-
-    ghost invariant = { λ word. (word.len ≤ 16) × (word.bytes ≡ take word.len word.bytes ++ replicate (16 - word.len) 0) };
-
-    ghost inverse = { λ word. record { bytes = word ++ replicate (16 - length word) 0; len = length word } };
 }
 
 fn no_digit(byte: u8) -> bool
@@ -30,11 +20,18 @@ fn no_digit(byte: u8) -> bool
     !byte.is_ascii_hexdigit()
 }
 
+// Returns whether some byte is no hexadecimal digit.
+fn has_other(word: &[u8]) -> bool
+    ensures { result ≡ list_any no_digit word.now }
+{
+    word.iter().any(|byte| no_digit(*byte))
+}
+
 // Returns whether a word is no part of a key, which could be longer or have digits alone.
 fn is_safe(word: &[u8]) -> bool
     ensures { result ≡ is_safe word.now }
 {
-    word.len() <= 16 && word.iter().any(|byte| no_digit(*byte))
+    word.len() <= 16 && has_other(word)
 }
 
 // Returns the line with that number, counted from 1, or an empty one.
@@ -58,9 +55,12 @@ fn first_word(line: &[u8]) -> &[u8]
 }
 
 impl FirstWord {
+    ghost use Rattle.krb_driver.specs.FirstWords.{first_word, line_at, safe_word, word_text};
+
     // Returns a word if it is safe to show.
     fn of(word: &[u8]) -> Option<FirstWord>
-        ensures { result ≡ safe_word word.now }
+        ensures same { IfSome result (λ first. word_text first ≡ word.now) }
+        ensures value { result ≡ safe_word word.now }
     {
         if !is_safe(word) {
             return None;
@@ -79,8 +79,8 @@ impl FirstWord {
     }
 
     pub fn as_bytes(&self) -> &[u8]
-        ensures { result.now ≡ self.now }
+        ensures { result.now ≡ word_text self.now }
     {
-        &self.bytes[..self.len]
+        &self.bytes[..self.len.min(16)]
     }
 }

@@ -2,6 +2,7 @@
 //! Images and texts are spelled out by hand.
 
 mod caches;
+mod copies;
 mod files;
 mod images;
 mod listings;

@@ -1,6 +1,6 @@
 //! The name of a file as an operand, as a shell reads it.
 
-ghost use Rattle.std.specs.Prelude.{◌≡◌, ◌||◌, ◌++◌, MatchOption, ◌<◌, ◌+◌, length};
+ghost use Rattle.std.specs.Prelude.{◌≡◌, ◌==◌, ◌<◌, length, MatchOption};
 ghost use Rattle.std.specs.List.{flat_map, list_all, list_any};
 ghost use Rattle.krb_driver.specs.Hints.{Extends, folder_for, is_plain, operand_text, quote_for, quoted_byte};
 
@@ -10,22 +10,30 @@ use arrayvec::ArrayVec;
 /// An operand of at most 256 bytes.
 pub type Operand = ArrayVec<u8, 256>;
 
+fn contains(bytes: &[u8], wanted: u8) -> bool
+    ensures { result ≡ list_any (λ b. b == wanted) bytes.now }
+{
+    bytes.iter().any(|byte| *byte == wanted)
+}
+
 // Returns whether a shell reads a byte as it is.
 fn is_plain(byte: u8) -> bool
     ensures { result ≡ is_plain byte }
 {
-    byte.is_ascii_alphanumeric() || b"_-./:@%+,=".iter().any(|plain| *plain == byte)
+    byte.is_ascii_alphanumeric() || contains(b"_-./:@%+,=", byte)
+}
+
+fn are_plain(name: &[u8]) -> bool
+    ensures { result ≡ list_all is_plain name.now }
+{
+    name.iter().all(|byte| is_plain(*byte))
 }
 
 // Returns the quote around a name that has other bytes.
 fn quote_for(name: &[u8]) -> &'static [u8]
     ensures { result.now ≡ quote_for name.now }
 {
-    if name.iter().all(|byte| is_plain(*byte)) {
-        b""
-    } else {
-        b"'"
-    }
+    if are_plain(name) { b"" } else { b"'" }
 }
 
 // Returns the folder before a name that would be read as an option or as a type.

@@ -19,6 +19,11 @@ pub const KEYTAB: &[u8] = b"\x05\x02\
 \0\0\0\x2f\0\x02\0\x01R\0\x04host\0\x01a\0\0\0\x01\x65\x53\xf1\0\x04\0\x11\0\x10\
 \0\x01\x02\x03\x04\x05\x06\x07\x08\x09\x0a\x0b\x0c\x0d\x0e\x0f\0\0\0\x04";
 
+/// A keytab of `HOST` with another key.
+pub const OTHER_KEY: &[u8] = b"\x05\x02\
+\0\0\0\x2f\0\x02\0\x01R\0\x04host\0\x01a\0\0\0\x01\x65\x53\xf1\0\x03\0\x11\0\x10\
+\x20\x21\x22\x23\x24\x25\x26\x27\x28\x29\x2a\x2b\x2c\x2d\x2e\x2f\0\0\0\x03";
+
 /// A keytab of three entries of one name, version and weak enctype, one that MIT's programs do not see, nor any after
 /// it, and a hole.
 pub const BAD_KEYTAB: &[u8] = b"\x05\x02\

@@ -1,6 +1,6 @@
 //! The calls, with the text that each appends, and what a refused call may leave of it.
 
-use super::{listings, records, scripts, selections, texts};
+use super::{copies, listings, records, scripts, selections, texts};
 use krb_text::{etype_text, flag_letters, key_text, time_text};
 use refusing::{Refusing, refuse_each};
 use std::alloc::{Allocator, Global};
@@ -31,6 +31,7 @@ enum Call {
     Entries,
     Tickets,
     Findings,
+    Copied,
 }
 
 /// What a refused call leaves of its text.
@@ -143,7 +144,7 @@ const SCRIPTS: [Row; 2] = [
     (Call::CacheScript, Left::APrefix, b"svvc"),
 ];
 
-const SELECTIONS: [Row; 3] = [
+const SELECTIONS: [Row; 4] = [
     (
         Call::Entries,
         Left::Nothing,
@@ -161,6 +162,13 @@ weak 62 kvno 1 etype 23 a@R\n\
 clash 62 2 kvno 1 etype 23 a@R\n\
 hidden 92 kvno 1 etype 17 b@R\n\
 entries 4 free 25 holes 1\n",
+    ),
+    (
+        Call::Copied,
+        Left::Nothing,
+        b"removed 2 kvno 3 etype 17 host/a@R\n\
+copied 2 kvno 3 etype 17 host/a@R\n\
+copied 53 kvno 4 etype 17 host/a@R\n",
     ),
 ];
 
@@ -189,6 +197,7 @@ fn made<A: Allocator + Copy>(call: Call, alloc: A, out: &mut Vec<u8, A>) -> Opti
         Call::Entries => selections::entries(alloc, out),
         Call::Tickets => selections::tickets(alloc, out),
         Call::Findings => selections::findings(alloc, out),
+        Call::Copied => copies::copied(alloc, out),
     }
 }
 

@@ -1,0 +1,11 @@
+use Rattle.std.proofs.Common.{◌≡◌, ◌≤◌, ◌∙◌, length}
+use Rattle.std.proofs.lemmas.Bool.{le-leb}
+use Rattle.krb_driver.specs.Hints.{operand_text}
+use Rattle.krb_driver.proofs.reporting.hints.add_hints.Goals as goal
+
+-- the operand has room for the name
+pub returns-in-Some : goal.returns-in-Some
+returns-in-Some g c =
+    let is : c.as_slice.result.now ≡ operand_text c.args.file.now = c.as_slice.ensures.value ∙ c.in-Some.ensures {u = tt} in
+    let few : length (operand_text c.args.file.now) ≤ 256 = rw is at c.as_slice.ensures.fits in
+    rw (le-leb _ 256 few) (rw is at c.add_hints_for.ensures)

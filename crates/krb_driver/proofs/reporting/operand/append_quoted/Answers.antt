@@ -1,0 +1,18 @@
+use Rattle.std.proofs.Common.{arith, ℕ, List, ◌<◌, ap, length, length-append, take}
+use Rattle.std.specs.List.{flat_map}
+use Rattle.std.proofs.lemmas.List.Folds.{length-flat_map-take}
+use Rattle.krb_driver.specs.Hints.{quoted_byte}
+use Rattle.krb_driver.proofs.reporting.operand.append_quoted.Goals as goal
+
+-- the bytes up to this one are too many already
+pub returns-in_err-append : goal.returns-in_err-append
+returns-in_err-append c =
+    let name = c.args.name.now in
+    let i = c.bytes.byte-index in
+    let below : i < length name = omega arith in
+    let now = ap length c.bytes.invariant in
+    let parts = length-append c.args.operand.now.items (flat_map quoted_byte (take i name)) in
+    let up_to_here = length-flat_map-take quoted_byte name i 0 below in
+    let here = ap (λ (bytes : List ℕ). length bytes) c.quoted_byte.ensures in
+    let too_many = c.in_err-append.ensures {u = tt} in
+    rw c.from_residual.ensures (omega (arith, now, parts, up_to_here, here, too_many))
