@@ -132,7 +132,8 @@ CASES = [
     *unchanged("a keytab", b"\x05\x02", message(1, "c: not a cache (2)")),
     *unchanged("a bad header", b"\x05\x04\0", message(1, "c: not a cache (4)")),
     *unchanged("no default principal", b"\x05\x04\0\0", message(1, "c: not a cache (5)")),
-    *(Case(f"no file, {words}", ("ccremove", *words.split(), "no"), message(1, "no: no such file"), {"c": USUAL})
+    *(Case(f"{file}, {words}", ("ccremove", *words.split(), file), wanted, {"c": USUAL})
+      for file, wanted in (("no", message(1, "no: no such file")), (".", message(3, ".: cannot read")))
       for words in ("--expired", "-n --expired")),
     # Lines that are refused.
     *(Case(line, ("ccremove", *line.split()), BAD_LINE, {"c": MANY}) for line in (
