@@ -25,7 +25,7 @@ USUAL, MANY = 300, 1_000
 
 # What the words for files begin with, and what is there: a type that is taken off, another, or no type.
 FRONTS = ("", "", "", "FILE:", "WRFILE:", "./", "KCM:", "file:", "1:")
-NAMES = ("k", "j", "i", "é", "a b", "FILE:k", "1:k", "-k", "'" * 63 + "x")
+NAMES = ("k", "j", "i", "é", "a b", "FILE:k", "1:k", "-k", "'" * 64)
 
 CHECKED = Choices(REMOVED.names, REMOVED.versions[:5], enctypes=(3, 17, 23), timestamps=(0, 1, 2**32 - 1),
                   keys=(b"", b"x", b"y", b"y"))
