@@ -97,7 +97,7 @@ WRONG_BODIES = {
         "renames-a-locked-file": "a file that another program has locked is replaced",
         "renames-before-the-bytes": "the new file is renamed before it is written",
         "renames-before-the-sync": "the new file is renamed before it is on the disk",
-        "renames-to-another-path": "the new file is renamed to another path",
+        "renames-over-a-link": "a symbolic link is replaced, not the file that it leads to",
         "renames-without-comparing": "a file that changed meanwhile is replaced",
         "replaces-what-is-no-file": "what is held may be a directory or a device",
         "saves-in-place-without-comparing": "a file that changed meanwhile is written over in place",
