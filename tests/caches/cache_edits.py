@@ -2,7 +2,6 @@
 
 from dataclasses import replace
 
-from caches.cache_files import TOO_LARGE, sized
 from keytabs.edits import each_number, refused
 from keytabs.file_names import LIMIT
 from makers.cache_images import KRBTGT, Credential, Name, cache, config, offset
@@ -169,7 +168,7 @@ CASES = [
                     f"resume {LIMIT - 271}", "step 0"),
     lambda: no_room("just room", 136, [f"placed {LIMIT - 136}", f"gone {LIMIT - 272}"],
                     after=(PA_TYPE.removed(), THREE)),
-    # Files that are missing, too large or not a cache.
+    # Files that are missing or not a cache.
     *(edit(f"no file, {line!r}", None, line.encode(), message(1, "c: no such file"))
       for line in ("start\n", "", "config k - v\n")),
     edit("no file, and a faulty line", None, ["frob"], message(1, "line 1: fault 1")),
@@ -178,8 +177,6 @@ CASES = [
     edit("a keytab", b"\x05\x02", ["start"], message(1, "c: not a cache (2)")),
     edit("a cut header", b"\x05\x04\0", ["start"], message(1, "c: not a cache (4)")),
     edit("no default principal", b"\x05\x03", ["rewrite"], message(1, "c: not a cache (5)")),
-    lambda: edit("a file over the limit", sized(LIMIT + 1), ["cut 22"], TOO_LARGE),
-    over("a folder", "ccedit .", None, message(3, ".: cannot read"), given=b"start"),
     *(over(f"no folder, {line}", "ccedit no/c", None, message(1, "no/c: no such file"), given=line.encode())
       for line in ("start", "rewrite")),
 ]

@@ -3,9 +3,7 @@
 import os
 from dataclasses import replace
 
-from caches.cache_files import TOO_LARGE, sized
 from caches.cache_listings import of_host
-from keytabs.file_names import LIMIT
 from keytabs.removals import check_left_alone, check_mode
 from makers.cache_images import Credential, Name, cache, config, header_field, offset
 from makers.usual_caches import FIELDS, OFFSET, PA_TYPE, TICKET, USUAL, VERSION_3, config_ticket
@@ -134,16 +132,14 @@ CASES = [
     *unchanged("a keytab", b"\x05\x02", message(1, "c: not a cache (2)")),
     *unchanged("a bad header", b"\x05\x04\0", message(1, "c: not a cache (4)")),
     *unchanged("no default principal", b"\x05\x04\0\0", message(1, "c: not a cache (5)")),
-    *(lambda words=words: remove(f"a large file, {words}", sized(LIMIT + 1), words, TOO_LARGE) for words in ASKED),
     *(Case(f"{file}, {words}", ("ccremove", *words.split(), file), wanted, {"c": USUAL})
       for file, wanted in (("no", message(1, "no: no such file")), (".", message(3, ".: cannot read")))
-      for words in ("--expired", "-p c@R", "-n --expired")),
+      for words in ("--expired", "-n --expired")),
     # Lines that are refused.
     *(Case(line, ("ccremove", *line.split()), BAD_LINE, {"c": MANY}) for line in (
-        "c", "-n c", "-p", "-p b@R", "--expired", "-n --expired", "-p b@R -p b@R c", "-p b@R -p c@R c",
-        "-p b@R c -pb@R", "-p b c", "-p b@R@R c", "-p b@R/ c", "-p b@R\\ c", "-p b@R c more", "-x --expired c",
-        "-k old c", "-e 17 c", "--expired -n=yes c", "--expired=yes c", "--v1-big --expired c",
-        "--dry-run=yes --expired c", "-expired c", "--expire c")),
+        "-p b@R", "-n --expired", "-p b@R -p b@R c", "-p b@R -p c@R c", "-p b@R c -pb@R", "-p b@R@R c", "-p b@R/ c",
+        "-p b@R\\ c", "-p b@R c more", "-x --expired c", "-k old c", "-e 17 c", "--expired -n=yes c",
+        "--v1-big --expired c", "--dry-run=yes --expired c", "-expired c")),
 ]
 
 

@@ -4,9 +4,8 @@ import os
 from collections.abc import Callable
 from dataclasses import replace
 
-from caches.cache_files import sized
 from caches.cache_listings import of_host
-from keytabs.file_names import LIMIT, NOBODY
+from keytabs.file_names import LIMIT, check_unreadable
 from makers.cache_images import Credential, Name, cache, config, header_field, offset
 from makers.images import TWO
 from makers.usual_caches import OFFSET, PA_TYPE, TICKET, USUAL, VERSION_3, config_ticket
@@ -157,21 +156,9 @@ def check_places(report: Report, program: str) -> None:
             report.check("a pipe", faults + (["it was opened"] if opened else []))
 
 
-def check_unreadable(report: Report, program: str) -> None:
-    """Checks a cache that may not be read. Root can read every file, so root has another user run the program."""
-    options = {"user": NOBODY, "group": NOBODY, "extra_groups": []} if os.geteuid() == 0 else {}
-    with folder_of({"c": cache(TGT)}) as folder:
-        os.chmod(folder, 0o755)
-        os.chmod(os.path.join(folder, "c"), 0)
-        try:
-            report.compare("an unreadable cache", UNREAD, run(program, ("klist", "-s", "c"), folder, **options))
-        except PermissionError:
-            report.skip("an unreadable cache", "none but root may start the program")
-
-
 def check(report: Report, program: str) -> None:
     """Checks large files, and those that are not in a table."""
-    check_rows(report, program, [ask("a large file", sized(LIMIT + 1), NONE),
-                                 ask("the greatest file", cache(TGT, bytes(LIMIT - len(cache(TGT)))), VALID)])
-    for each in (check_silence, check_places, check_unreadable):
-        each(report, program)
+    check_rows(report, program, [ask("the greatest file", cache(TGT, bytes(LIMIT - len(cache(TGT)))), VALID)])
+    check_silence(report, program)
+    check_places(report, program)
+    check_unreadable(report, program, "-s", cache(TGT), UNREAD)

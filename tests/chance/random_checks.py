@@ -1,35 +1,41 @@
-"""Checks by `ktcheck` of random lists of files, with random options, compared with the model in each way to run it."""
+"""Checks by `ktcheck` of random lists of files, with random options, compared with the model in each way to run it;
+and of a thousand files."""
 
 import os
+import re
 from collections import Counter
-from collections.abc import Iterator
+from collections.abc import Iterator, Sequence
 from dataclasses import dataclass
 from random import Random
 
-from chance.random_choices import CHECKED
+from chance.random_choices import REMOVED
+from chance.random_keytabs import Choices
 from makers.images import TWO
 from models.check_model import FOLDER, File, Options, Placed, checked_files
 from models.name_model import Kind, named
 from models.named_runs import NEITHER
 from runs.harness import Outcome, Report, differences, folder_of
 from runs.random_runs import FEWEST, ONE_IN, Rounds
-from runs.terminal import WAYS
+from runs.terminal import EXPLAIN, WAYS
 from system.saving import write
 from words.phrases import FINDINGS
 
-# How many lists a short run checks.
-USUAL = 300
+# How many lists a short run checks, and how many files a long list has.
+USUAL, MANY = 300, 1_000
 
 # What the words for files begin with, and what is there: a type that is taken off, another, or no type.
 FRONTS = ("", "", "", "FILE:", "WRFILE:", "./", "KCM:", "file:", "1:")
-NAMES = ("k", "j", "i", "é", "a b", "FILE:k", "1:k")
+NAMES = ("k", "j", "i", "é", "a b", "FILE:k", "1:k", "-k", "'" * 63 + "x")
+
+CHECKED = Choices(REMOVED.names, REMOVED.versions[:5], enctypes=(3, 17, 23), timestamps=(0, 1, 2**32 - 1),
+                  keys=(b"", b"x", b"y", b"y"))
 
 MODES = (0o600, 0o600, 0o600, 0o640, 0o604, 0o666, 0o4600)
 
 # What has to occur among the results.
 KINDS = (*FINDINGS, "fault", "entries", "no such file", "cannot read", "not a keytab",
          *(f"status {status}" for status in (0, 1, 3)), "a label", "no label", "nothing is printed", "explained",
-         "only what is allowed")
+         "only what is allowed", "ktremove -n -k", "ktremove -n -e", "ktcopy", "two types", "no room for a hint")
 
 
 @dataclass(frozen=True)
@@ -54,13 +60,14 @@ class Checked:
             else:
                 write(path, place.image, place.mode)
 
-    def faults(self, program: str) -> list[str]:
-        """Runs it in each way, and returns its faults."""
+    def faults(self, program: str, ways: Sequence[str] = (*WAYS,)) -> list[str]:
+        """Runs it in these ways, and returns its faults."""
         words = ("ktcheck", *self.options.words(), "--", *self.words)
         found = []
         with folder_of({}) as folder:
             self.make(folder)
-            for way, (make, explains) in WAYS.items():
+            for way in ways:
+                make, explains = WAYS[way]
                 wanted = checked_files(self.those(), self.options, explains)
                 found += [f"{way}: {each}" for each in differences(wanted, make(program, words, folder))]
         return [f"{words}", *found] if found else []
@@ -78,6 +85,11 @@ class Checked:
             yield "nothing is printed"
         if explained.err != got.err:
             yield "explained"
+        yield from (each.decode() for each in re.findall(rb": krbfile (ktremove -n -.|ktcopy)", explained.err))
+        if b" -e 3 -e " in explained.err:
+            yield "two types"
+        if b": old: " in explained.err and b": krbfile ktremove -n -k" not in explained.err:
+            yield "no room for a hint"
         if got.status == 0 and checked_files(self.those()).status:
             yield "only what is allowed"
 
@@ -105,6 +117,20 @@ def random_check(random: Random) -> Checked:
     return Checked((*words,), options, places)
 
 
+def check_many(report: Report, program: str) -> None:
+    """Checks a thousand files: of all kinds, of those that are checked, and of those with nothing that counts."""
+    for greatest in (3, 1, 0):
+        random = Random(greatest)
+        made = random_check(random)
+        places = {**made.places, "k": File(TWO), "j": FOLDER}
+        alone = [Checked((front + name,), Options(), places) for front in FRONTS for name in NAMES]
+        words = [each.words[0] for each in alone if checked_files(each.those()).status <= greatest]
+        for options in (Options(), Options(is_quiet=True)):
+            those = Checked((*random.choices(words, k=MANY),), options, places)
+            found = those.faults(program, ("on a pipe", EXPLAIN))
+            report.check(f"{MANY} files, status {greatest} {options.words()}", found)
+
+
 def check_rounds(report: Report, program: str, numbers: range) -> None:
     """Checks the lists of these numbers."""
     seen: Counter[str] = Counter()
@@ -117,7 +143,8 @@ def check_rounds(report: Report, program: str, numbers: range) -> None:
 
 
 def check(report: Report, program: str) -> None:
-    """Checks a few lists, the same in each run."""
+    """Checks a few lists, the same in each run, and long ones."""
+    check_many(report, program)
     check_rounds(report, program, range(USUAL if report.is_proved else USUAL // ONE_IN))
 
 

@@ -1,4 +1,4 @@
-"""Look-ups, checks, removals and questions for valid tickets, compared with models of them. Names, versions and times
+"""Look-ups, removals and questions for valid tickets, compared with models of them. Names, versions and times
 are few, so many agree."""
 
 from collections.abc import Iterator
@@ -9,7 +9,7 @@ from random import Random
 from chance.random_caches import filled_cache, random_credential, with_damage
 from chance.random_keytabs import Choices
 from makers.cache_images import CONFIG_FIRST, CONFIG_REALM, Credential, Name, cache
-from models.cases import ccremove, klist_silent, ktcheck, ktfind, ktremove
+from models.cases import ccremove, klist_silent, ktfind, ktremove
 from models.reading import name_text
 from models.removal_model import OLD, Selection
 from models.ticket_removal_model import Selection as TicketSelection
@@ -21,8 +21,6 @@ FOUND = Choices(names=((b"a", b"R"), (b"a", b"b", b"R"), (b"a/b", b"R"), (b"", b
 REMOVED = Choices(names=((b"a", b"R"), (b"a", b"b", b"R"), (b"a/b", b"R"), (b"", b"R"), (b"R",)),
                   versions=(0, 1, 127, 128, 240, 241, 255, 256, 2**32 - 1), enctypes=(0, 17, 18, 23),
                   timestamps=(0, 1, 2, 1_700_000_000, 2**32 - 1))
-CHECKED = Choices(REMOVED.names, REMOVED.versions[:5], enctypes=(17, 18, 23), timestamps=(0, 1, 2**32 - 1),
-                  keys=(b"", b"x", b"y", b"y"))
 
 # The names of servers, some of which print alike.
 SERVERS = [Name((b"krbtgt", b"R")), Name((b"host", b"a")), Name((b"host", b"a"), name_type=3),
@@ -48,17 +46,6 @@ def random_look_up(random: Random) -> Iterator[CaseAt]:
 def kinds_of_look_up(case: Case) -> Iterator[str]:
     """Yields the kind of the result."""
     yield output(case) or "found"
-
-
-def random_check(random: Random) -> Iterator[CaseAt]:
-    """Yields a check of a keytab of a few parts."""
-    image, is_big = CHECKED.random_keytab(random)
-    yield partial(ktcheck, image, v1_big=is_big)
-
-
-def kinds_of_check(case: Case) -> Iterator[str]:
-    """Yields the first words of its lines."""
-    yield from {line.split()[0].decode() for line in case.wanted.out.splitlines()}
 
 
 def random_selection(random: Random) -> Selection:
@@ -132,8 +119,6 @@ def kinds_of_removal(case: Case) -> Iterator[str]:
 TOPICS = (
     Topic("random look-ups", random_look_up, kinds_of_look_up, ("found", "refused 1", "refused 9", "refused 10"),
           usual=300),
-    Topic("random check-ups", random_check, kinds_of_check,
-          ("mode", "weak", "hidden", "same", "clash", "old", "fault", "entries"), usual=300),
     Topic("random removals", random_removal, kinds_of_removal,
           ("removed", "nothing to do", "refused 1", "refused 9", "dry"), usual=300),
     Topic("random removals of tickets", random_ticket_removal, kinds_of_removal,

@@ -1,6 +1,6 @@
 """Keytabs that are cut, damaged or at their limit, through Python's module: scripts, and what they print."""
 
-from makers.images import HOST, TWO, keytab, old
+from makers.images import HOST, TWO, old
 
 # Cut, damaged and limited keytabs: the places and versions of the entries before the fault, the status
 # that ends the iteration there, and the fault.

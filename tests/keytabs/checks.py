@@ -3,13 +3,12 @@
 import os
 import stat
 
-from keytabs.file_names import LIMIT, TOO_LARGE
 from keytabs.finds import AES256, FIVE
 from keytabs.removals import B3, FOUR, versioned
 from makers.images import B, BIG, END, HOST, LITTLE, TWO, Entry, hole, keytab, old, record
 from models.check_model import checked
-from runs.harness import Case, Outcome, Report, folder_of, message, run
-from runs.rows import BAD_LINE, check_rows, over, printed
+from runs.harness import Case, Outcome, Report, folder_of, run
+from runs.rows import check_rows, over, printed
 
 # The smallest length that MIT's reader takes for the end.
 LONG = 32_768
@@ -69,8 +68,6 @@ ENCTYPES = (1, 2, 3, 4, 5, 6, 7, 8, 9, 16, 17, 18, 23, 24, 25)
 OF_WEAK = [f"{word} {2 + 45 * at} kvno {each} etype {each} a@R" for at, each in enumerate(ENCTYPES)
            for word in ["weak"] * (each in WEAK) + ["old"] * (each != ENCTYPES[-1])]
 
-FILES = {"k": b"xy", "c": b"\x05\x04"}
-
 # They run with new files readable by their owner only.
 ROWS = [
     # Each word, and entries without findings.
@@ -101,16 +98,6 @@ ROWS = [
     check_up("version 1, big-endian", old(HOST, B, order=BIG), "entries 2 free 0 holes 0", options="--v1-big"),
     check_up("version 1, big-endian, read as little", old(HOST, B, order=BIG), "fault 2 at 2",
              "entries 0 free 0 holes 0", status=1),
-    # Files that are not keytabs, and command lines that are refused.
-    Case("k", ("ktcheck", "k"), message(1, "k: not a keytab (2)"), FILES),
-    Case("c", ("ktcheck", "c"), message(1, "c: not a keytab (2)"), FILES),
-    Case("no file", ("ktcheck", "no"), message(1, "no: no such file"), FILES),
-    Case("a folder", ("ktcheck", "."), message(3, ".: cannot read"), FILES),
-    lambda: over("a large file", "ktcheck k", bytes(LIMIT + 1), TOO_LARGE),
-    *(Case(f"ktcheck {words}", ("ktcheck", *words.split()), BAD_LINE, FILES)
-      for words in ("-k k", "-n k", "--mode k", "-q=yes k", "--allow k", "--allow", "k --allow", "--allow x k",
-                    "--allow Weak k", "--allow weak,old k", "--allow entries k", "--allow fault k", "--allow= k",
-                    "--allow weak --allow x k")),
 ]
 
 

@@ -2,8 +2,7 @@
 
 from keytabs.listings import B_LINE, HOST_LINE, case, listed
 from makers.images import B, BIG, HOST, TWO, Entry, hole, keytab, old, record
-from runs.harness import Case, Outcome
-from runs.rows import over
+from runs.harness import Case
 
 # The names of the enctypes that have one.
 NAMES = {
@@ -73,8 +72,7 @@ B_ALL = b"   3 " + TIME + b"b@R" + ETYPE + B_KEY
 BYTES = bytes(range(256))
 
 CASES = [
-    # TWO with each set of columns, and no entry at all.
-    *(over(f"TWO with {letters!r}", f"klist -k{letters} k", TWO, Outcome(0, sample(letters))) for letters in SETS),
+    # No entry at all, with each set of columns; lines of words list TWO with each.
     *(case(f"no entry with {letters!r}", keytab(), letters=letters) for letters in SETS),
     # Whole lines with all columns, with faults of the file.
     case("a wide version and a quoted name",

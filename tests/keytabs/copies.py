@@ -6,8 +6,9 @@ A record of host/a@R takes 51 bytes with its length, one of b@R 45.
 from dataclasses import replace
 
 from keytabs import greatest
-from keytabs.file_names import LIMIT, sized
-from keytabs.finds import AES256, FIVE
+from keytabs.file_names import LIMIT
+from keytabs.finds import AES256, FIVE, NOT_FOUND
+from keytabs.removals import B3, FOUR, versioned
 from makers.images import B, BIG, END, HOST, TWO, Entry, hole, keytab, old, record
 from runs.harness import Case, Outcome, Report, message
 from runs.rows import BAD_LINE, check_rows, printed, words_of
@@ -19,7 +20,6 @@ Y = "kvno 3 etype 17 b@R"
 OTHER = replace(B, key=bytes(16))
 THIRD = replace(B, key=b"\xff" * 16)
 
-NOT_FOUND = message(1, "k: refused 9")
 FROM_DAMAGED, TO_DAMAGED = (message(1, f"{name}: refused 1") for name in "kt")
 
 # A name that version 1 cannot hold: its count of components would have 17 bits.
@@ -48,14 +48,6 @@ def select(options: str, source: bytes, *those: Entry) -> Case:
     return copy("selected", options, source, None, lines, image)
 
 
-def versioned(kvno: int, seconds: int) -> Entry:
-    """Returns an entry of a@R."""
-    return Entry((b"a",), timestamp=seconds, version8=kvno, version32=kvno)
-
-
-B3 = Entry((b"b",))
-# host/a@R of versions 3, 5 and 5, of enctypes 17, 18 and 17, and b@R.
-FOUR = keytab(HOST, AES256, FIVE, B3)
 ROTATED = [versioned(254, 1), versioned(255, 2), versioned(0, 3)]
 # Two names that print alike: no components, and an empty one.
 BARE = [Entry((), version8=1, version32=1), Entry((b"",), version8=2, version32=2)]
@@ -191,7 +183,6 @@ ORDER = [
     copy("nothing into a damaged keytab", "", keytab(), TWO[:-1], TO_DAMAGED),
     *(Case(f"{source} to {target}", ("ktcopy", source, target), wanted, {"k": TWO, "t": keytab(B)})
       for source, target, wanted in (
-          (".", "t", message(3, ".: cannot read")), ("k", ".", message(3, ".: cannot read")),
           ("no", ".", message(1, "no: no such file")), ("no/k", "t", message(1, "no/k: no such file")),
           ("k", "no/t", message(3, "no/t: cannot write")), ("k", "t.krbfile", message(3, "t.krbfile: cannot write")))),
     # One keytab for both.
@@ -209,22 +200,19 @@ ORDER = [
 ]
 
 REFUSED = (
-    "", "k", "k t u", "-n k", "--replace k", "-p b@R k", "-p", "-k", "-e", "k t -p", "-p b k t", "-p b@R@R k t",
-    "-p b@R/ k t", "-p= k t", "-p b@R -p b k t", "-k 3 -k 3 k t", "-k new -k new k t", "-k new -k 3 k t", "-k old k t",
-    "-k New k t", "-k any k t", "-k -1 k t", "-k 4294967296 k t", "-k=3 k t", "-k=new k t", "-e any k t",
-    "-e 65536 k t", "-e 17 -e any k t", "-e=17 k t", "-n=yes k t", "--replace=yes k t", "--repl k t",
-    "--v1-big=yes k t", "-x k t", "-r k t", "--expired k t", "-k new --age 3 k t", "-v1-big k t",
+    "-n k", "-p b@R k", "-p", "-k", "-e", "-p b@R@R k t", "-p b@R/ k t", "-p= k t", "-k 3 -k 3 k t",
+    "-k new -k 3 k t", "-k New k t", "-k any k t", "-k -1 k t", "-k 4294967296 k t", "-k=new k t", "-e any k t",
+    "-e 65536 k t", "-e=17 k t", "-n=yes k t", "--repl k t", "--v1-big=yes k t", "-r k t", "--expired k t",
+    "-k new --age 3 k t", "-v1-big k t",
 )
 
 
 def large() -> list[Case]:
-    """Returns copies of and into files that are as large as they may be, or larger."""
+    """Returns copies into a file that is as large as it may be."""
     longer = replace(B, key=bytes(17))
     full = keytab(OTHER, LIMIT - 2 - 45 - 4)
     tight = keytab(OTHER, record(HOST.spelled().ljust(LIMIT - 2 - 45 - 4, b"\0")))
     return [
-        copy("from a file that is too large", "", bytes(LIMIT + 1), TWO, message(1, "k: file too large")),
-        copy("to a file that is too large", "-n", TWO, sized(LIMIT + 1), message(1, "t: file too large")),
         copy("into a hole up to the limit", "", keytab(HOST), full, [f"copied 47 {X}"], tight),
         copy("no room", "", keytab(AES256), tight, message(1, "t: refused 3")),
         copy("no room for a longer key", "--replace", keytab(longer), tight, message(1, "t: refused 3")),

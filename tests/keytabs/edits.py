@@ -2,7 +2,7 @@
 
 from collections.abc import Callable
 
-from keytabs.file_names import LIMIT, sized
+from keytabs.file_names import LIMIT
 from makers.images import B, BIG, END, HOST, LITTLE, TWO, Entry, hole, keytab, old, record
 from runs.harness import Case, Outcome, message
 from runs.rows import over, printed
@@ -154,7 +154,7 @@ CASES = [
     edit("no file", None, ["rewrite"], ["rewritten 2"], keytab()),
     lambda: edit("too long in version 2", full_of_version_one(), ["resume 2", "rewrite", "resume 2"],
                  refused("walk 0 at 2", "refused 3", "walk 1 at 2")),
-    # Files that are missing, damaged, too large or not a keytab.
+    # Files that are missing, or not a keytab.
     edit("a new file", None, [ADD_B], ["placed 2"], keytab(B)),
     edit("no file, and nothing to save", None, ["start"], ["walk 0 at 2"]),
     edit("an empty script", TWO, [], []),
@@ -162,10 +162,7 @@ CASES = [
     edit("version 1", old(HOST), [ADD_B], ["placed 49"], old(HOST, B)),
     edit("version 1, big-endian", old(HOST, order=BIG), [ADD_B], ["placed 49"], old(HOST, B, order=BIG), "--v1-big"),
     edit("one byte", b"\x05", [ADD_B], message(1, "k: not a keytab (1)")),
-    edit("no keytab", b"\x05\x03", [ADD_B], message(1, "k: not a keytab (2)")),
-    lambda: edit("a file over the limit", sized(LIMIT + 1), ["cut 2"], message(1, "k: file too large")),
     file_is_full,
-    over("a folder", "ktedit .", None, message(3, ".: cannot read"), given=b"start"),
     over("no folder", "ktedit no/k", None, message(3, "no/k: cannot write"), given=[ADD_B]),
     over("no folder, and nothing to save", "ktedit no/k", None, ["walk 0 at 2"], given=b"start"),
 ]

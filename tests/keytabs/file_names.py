@@ -76,24 +76,20 @@ def check_pipe(report: Report, program: str) -> None:
     report.compare("a pipe in place of a file", Outcome(1, listed(b"fault 1 at 2")), got)
 
 
-def check_unreadable(report: Report, program: str) -> None:
+def check_unreadable(report: Report, program: str, option: str, image: bytes, wanted: Outcome) -> None:
     """Checks a file that may not be read. Root can read every file, so root has another user run the program."""
-    options = {}
-    if os.geteuid() == 0:
-        options = {"user": NOBODY, "group": NOBODY, "extra_groups": []}
-    with folder_of({"k": TWO}) as folder:
+    options = {"user": NOBODY, "group": NOBODY, "extra_groups": []} if os.geteuid() == 0 else {}
+    with folder_of({"k": image}) as folder:
         os.chmod(folder, 0o755)
         os.chmod(os.path.join(folder, "k"), 0)
         try:
-            got = run(program, ("klist", "-k", "k"), folder, **options)
+            report.compare("an unreadable file", wanted, run(program, ("klist", option, "k"), folder, **options))
         except PermissionError:
             report.skip("an unreadable file", "none but root may start the program")
-            return
-    report.compare("an unreadable file", message(3, "k: cannot read"), got)
 
 
 def check(report: Report, program: str) -> None:
     """Checks files that are not in a table."""
     check_odd_files(report, program, ("klist", "-k"), ODD)
     check_pipe(report, program)
-    check_unreadable(report, program)
+    check_unreadable(report, program, "-k", TWO, message(3, "k: cannot read"))

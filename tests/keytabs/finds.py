@@ -1,7 +1,6 @@
 """Look-ups by `ktfind`. Places are counted by hand, or from the lengths of the records before."""
 
 from keytabs import columns
-from keytabs.file_names import LIMIT, TOO_LARGE
 from makers.images import B, BIG, END, HOST, TWO, Entry, hole, keytab, old, record
 from runs.harness import Case, Outcome, message
 
@@ -154,8 +153,5 @@ CASES = [
     *(find(f"no keytab {image[:3]!r}", image, "0 0 b@R", message(1, "k: not a keytab (1)"))
       for image in (b"", b"\x05")),
     *(find(f"no keytab {image[:3]!r}", image, "0 0 b@R", message(1, "k: not a keytab (2)"))
-      for image in (b"\x05\x03" + TWO[2:], b"\x04\x02" + TWO[2:], b"xy")),
-    lambda: find("a large file", bytes(LIMIT + 1), "0 0 b@R", TOO_LARGE),
-    Case("no file", ("ktfind", "no", "0", "0", "b@R"), message(1, "no: no such file"), {"k": TWO}),
-    Case("a folder", ("ktfind", ".", "0", "0", "b@R"), message(3, ".: cannot read"), {"k": TWO}),
+      for image in (b"\x05\x03" + TWO[2:], b"\x04\x02" + TWO[2:])),
 ]

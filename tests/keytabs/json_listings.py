@@ -5,7 +5,7 @@ from dataclasses import replace
 from makers.cache_images import U, Name, cache, config
 from makers.images import BIG, HOST, TWO, Entry, keytab, old, record
 from makers.usual_caches import PA_TYPE, TICKET, USUAL, VERSION_3
-from runs.harness import Case, Outcome, message
+from runs.harness import Case, Outcome
 from runs.rows import BAD_LINE, over
 
 HOST_FRONT = (b'{"place":2,"principal":"host/a@R","kvno":3,"etype":17,'
@@ -101,9 +101,5 @@ CASES = [
          cache_text(default=b'"default_principal_hex":"7540fe"')),
     case("a key and a principal that are no UTF-8", "klist --json c", cache(NO_TEXT),
          cache_text(b"", b'{"place":22,"key_hex":"ff","principal_hex":"8061","value":"2"}')),
-    # Nothing is printed if no file is read.
-    over("no file", "klist --json -k k", None, message(1, "k: no such file")),
-    over("no keytab", "klist -k --json k", b"xyz", message(1, "k: not a keytab (2)")),
-    over("no cache", "klist --json c", b"", message(1, "c: not a cache (1)")),
     over("of both kinds", "klist --json -c -k k", TWO, BAD_LINE),
 ]

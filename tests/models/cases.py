@@ -106,10 +106,12 @@ def ktcheck(image: bytes, *, v1_big: bool = False) -> Case:
 
 
 @timeless
-def ktcheck_all(*, files: tuple[tuple[str, bytes | None], ...]) -> Case:
+def ktcheck_all(*, files: tuple[tuple[str, bytes | None], ...], explains: bool = False) -> Case:
     """Returns a check of several keytabs; None means no file."""
-    return Case(f"ktcheck of {len(files)} files", ("ktcheck", *(name for name, _ in files)),
-                check_model.checked_files(placed(files)), {name: image for name, image in files if image is not None})
+    words = (*first(explains), "ktcheck", *(name for name, _ in files))
+    wanted = check_model.checked_files(placed(files), explains=explains)
+    return Case(f"ktcheck of {len(files)} files", words, wanted,
+                {name: image for name, image in files if image is not None})
 
 
 def placed(files: tuple[tuple[str, bytes | None], ...]) -> list[check_model.Placed]:

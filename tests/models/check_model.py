@@ -1,21 +1,26 @@
 """What ktcheck finds in keytabs, by its rules: the output, the words that explain findings, and the status."""
 
 import os
+import re
 from collections.abc import Iterator, Sequence
 from dataclasses import dataclass, field
 
+from keytabs.columns import NAMES
 from models.keytab_model import Keytab
-from models.name_model import FileName
+from models.name_model import FileName, type_of
 from models.reading import KeytabEntry, no_keytab
 from models.removal_model import newest_versions
 from models.walks import LIMIT
 from runs.harness import Outcome
-from words.phrases import BEGINS_AS_CACHE, BEGINS_AS_NO_KEYTAB, CAUSES, FAULTS, FINDINGS, LARGE, SHORT
+from words.phrases import BEGINS_AS_CACHE, BEGINS_AS_NO_KEYTAB, CAUSES, FAULTS, FINDINGS, HINTS, LARGE, SHORT
 
 WEAK = {1, 2, 3, 4, 6, 8, 16, 23, 24}
 
 # Findings that make the status 1, unless they are allowed; a mode does if all users may read or write.
 WRONG = {"weak", "hidden", "same", "clash"}
+
+# A hint has no longer operand.
+LONGEST_OPERAND = 256
 
 # What is under a name in place of a file.
 FOLDER = "a folder"
@@ -56,6 +61,23 @@ def lines_of(those: list[tuple[int, KeytabEntry]]) -> list[bytes]:
         if entry.kvno != newest[entry.name]:
             lines.append(b"old " + at + tail)
     return lines
+
+
+def operand(name: bytes) -> bytes:
+    """Returns the name of a file as an operand on a shell's command line."""
+    front = b"./" if name.startswith(b"-") or type_of(name) else b""
+    quote = b"" if re.fullmatch(rb"[A-Za-z0-9_./:@%+,=-]*", name) else b"'"
+    return quote + front + name.replace(b"'", b"'\\''") + quote
+
+
+def hints(name: bytes, words: set[str], those: list[tuple[int, KeytabEntry]]) -> Iterator[bytes]:
+    """Yields the hints for words that were explained of a file with those entries."""
+    weak = sorted({entry.enctype for _, entry in those} & WEAK)
+    options = b" ".join(b"-e " + NAMES.get(each, b"%d" % each) for each in weak)
+    file = operand(name)
+    for word, hint in HINTS.items():
+        if word in words and len(file) <= LONGEST_OPERAND:
+            yield hint.encode().replace(b"-e ETYPE..", options).replace(b"FILE", file)
 
 
 @dataclass(frozen=True)
@@ -135,14 +157,11 @@ class Run:
         label = name + b": " if self.has_labels else b""
         self.out += b"".join(label + line + b"\n" for line in lines)
         self.status = max(self.status, 1 if counted or keytab.fault else 0)
-        self.explain(name, found, keytab.fault)
-
-    def explain(self, name: bytes, found: set[str], fault: tuple[int, int] | None) -> None:
-        """Prints the words of findings that were not printed before, and those of a fault."""
-        self.say(b"", *(f"{word}: {phrase}" for word, phrase in FINDINGS.items() if word in found - self.explained))
-        self.explained |= found
-        if fault:
-            self.say(b"", name + b": fault %d at %d" % fault, FAULTS[fault[0]])
+        new, self.explained = found - self.explained, self.explained | found
+        self.say(b"", *(f"{word}: {phrase}" for word, phrase in FINDINGS.items() if word in new))
+        if keytab.fault:
+            self.say(b"", name + b": fault %d at %d" % keytab.fault, FAULTS[keytab.fault[0]])
+        self.say(b"", *hints(name, new, keytab.live()))
 
 
 def why_no_keytab(image: bytes) -> tuple[int, str]:

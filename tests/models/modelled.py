@@ -16,6 +16,7 @@ from models.removal_model import OLD, Selection
 from models.ticket_removal_model import Selection as TicketSelection
 from runs.harness import Case, Outcome, message
 from runs.rows import text
+from runs.terminal import EXPLAIN
 
 # The time of a run's start, which new entries get.
 NOW = 1_700_000_000
@@ -74,15 +75,16 @@ def stages_of(files: dict[str, bytes], lines: list[bytes]) -> Iterator[Stage]:
 
 def stages_of_check(case: Case) -> Iterator[Stage]:
     """Yields the state before each file of ktcheck: what is printed of a file is gathered first."""
-    files = tuple((name, case.files.get(name)) for name in case.words[1:])
-    *before, _ = after_each(cases.placed(files))
+    explains = case.words[0] == EXPLAIN
+    files = tuple((name, case.files.get(name)) for name in case.words[1 + explains:])
+    *before, _ = after_each(cases.placed(files), explains=explains)
     return (Stage(got.out, got.err, case.files) for got in before)
 
 
 def modelled(case: Case) -> Modelled:
     """Returns a run of a command. If it ends early, output that is printed as the run goes may be a prefix, ktutil
     stops before a line or at its end, ktcheck before a file, and other commands do nothing."""
-    command, stages = case.words[0], iter([Stage(b"", b"", case.files)])
+    command, stages = case.words[case.words[0] == EXPLAIN], iter([Stage(b"", b"", case.files)])
     if command == "ktutil":
         stages = stages_of(case.files, case.stdin.splitlines(keepends=True))
     elif command == "ktcheck":

@@ -72,12 +72,6 @@ def unwritten(word: bytes) -> bytes | None:
     return spelled(LEAVE_OUT if front in Kind.KEYTAB.types else NOT_READ, front)
 
 
-def user_in(status: bytes) -> int | None:
-    """Returns the number of the real user, by the system's text about a process."""
-    found = re.search(rb"^Uid:\s+(\d+)", status, re.MULTILINE)
-    return int(found[1]) if found else None
-
-
 def default(kind: Kind, env: Mapping[str, bytes], user: int | None) -> FileName:
     """Returns the file of a line without one, for that user, if the number can be had."""
     value = env.get(kind.variable, b"")

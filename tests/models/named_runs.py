@@ -6,6 +6,7 @@ from dataclasses import dataclass, field, replace
 
 from caches.cache_listings import TICKET_LINE
 from keytabs.edits import ADD_C, C
+from keytabs.file_names import LIMIT
 from keytabs.ktutil_lines import TWO_LISTED
 from keytabs.listings import B_LINE, HOST_LINE
 from keytabs.listings import listed as listed_keytab
@@ -18,13 +19,14 @@ from models.check_model import FOLDER
 from models.name_model import FileName, Kind
 from runs.harness import Outcome
 from runs.rows import text
-from words.phrases import BEGINS_AS_NO_CACHE, BEGINS_AS_NO_KEYTAB, CAUSES
+from words.phrases import BEGINS_AS_NO_CACHE, BEGINS_AS_NO_KEYTAB, CAUSES, LARGE
 
 # Stands for the name in what is printed, and for the name as JSON has it.
 NAME, JSON = b"<name>", b'"<name in JSON>"'
 
-# A file that is neither a keytab nor a cache.
+# Files that are neither a keytab nor a cache, the second of which is too large.
 NEITHER = b"xy"
+LARGE_FILE = bytes(LIMIT + 1)
 NEITHERS = {Kind.KEYTAB: (b"keytab", BEGINS_AS_NO_KEYTAB), Kind.CACHE: (b"cache", BEGINS_AS_NO_CACHE)}
 
 # A ticket that is valid whenever a test runs.
@@ -117,6 +119,8 @@ class Command:
         if place == NEITHER:
             what, (number, why) = NEITHERS[self.kind]
             return self.failed(1, name.text + b": not a %s (%d)" % (what, number), why.encode())
+        if place == LARGE_FILE:
+            return self.failed(1, name.text + b": file too large", LARGE.encode())
         return Ended(0, self.shown(name, self.printed), after=self.after)
 
 

@@ -1,4 +1,7 @@
-"""Names of files that begin with a type, as every command takes them: what is read under each is written by hand."""
+"""Names of files that begin with a type, as every command takes them: what is read under each is written by hand.
+
+Every command is also given a folder, and files of neither kind.
+"""
 
 import os
 from collections.abc import Iterator
@@ -6,13 +9,14 @@ from dataclasses import dataclass
 
 from keytabs.ktutil_lines import TWO_LISTED, lines
 from makers.images import TWO, keytab
+from models.check_model import FOLDER
 from models.name_model import FileName, Kind
-from models.named_runs import COMMANDS, KLIST, KLIST_CACHE, NEITHER, Command, Ended
+from models.named_runs import COMMANDS, KLIST, KLIST_CACHE, LARGE_FILE, NEITHER, Command, Ended
 from runs.harness import Report, differences, files_in, folder_of
 from runs.rows import check_rows, shown, words_of
 from runs.terminal import EXPLAIN, WAYS
 from words.explained import Explained
-from words.phrases import BEGINS_AS_NO_KEYTAB, LEAVE_OUT, NOT_READ, code, line_fault
+from words.phrases import BEGINS_AS_NO_KEYTAB, LEAVE_OUT, NOT_READ, code, unknown
 
 # Names whose type is taken off, and the name that is left. A type is taken off once.
 TYPED = {
@@ -52,7 +56,7 @@ class Row:
     command: Command
     word: str
     name: FileName
-    place: bytes | None
+    place: bytes | str | None
 
     def path(self) -> str:
         """Returns where the file is in the folder."""
@@ -60,7 +64,7 @@ class Row:
 
     def files(self) -> dict[str, bytes]:
         """Returns the files before the run."""
-        there = {} if self.place is None else {self.path(): self.place}
+        there = {self.path(): self.place} if isinstance(self.place, bytes) else {}
         return {**decoys(self.word, self.path()), **self.command.beside, **there}
 
     def after(self, wanted: Ended) -> dict[str, bytes]:
@@ -70,6 +74,8 @@ class Row:
 
     def check(self, report: Report, program: str) -> None:
         """Runs it on a pipe, and with explanations."""
+        if report.leaves_out(len(self.place or b"")):
+            return
         word = os.fsencode(self.word)
         words, wanted = self.command.words(word), self.command.ended(self.name, self.place)
         for way in ("on a pipe", EXPLAIN):
@@ -78,7 +84,7 @@ class Row:
                 got = make(program, words, folder, self.command.stdin(word))
                 found = differences(wanted.outcome(explains), got)
                 found += [] if files_in(folder) == self.after(wanted) else ["other files"]
-            state = "missing" if self.place is None else "there"
+            state = "missing" if self.place is None else f"{self.place[:9]!r}"
             report.check(f"{shown(words)} of {self.word!r}, {state}, {way}", found)
 
 
@@ -104,6 +110,9 @@ def rows() -> Iterator[Row]:
         for word, front in others.items():
             # What is there is never read.
             yield Row(command, word, FileName(word.encode(), front.encode()), command.image)
+        # The folder of all, and files that are neither a keytab nor a cache.
+        yield Row(command, ".", FileName(b"."), FOLDER)
+        yield from (Row(command, "k", FileName(b"k"), place) for place in (NEITHER, LARGE_FILE))
         # Of a type alone nothing is left: no such file, and none is made.
         yield Row(command, "FILE:", FileName(b""), None)
 
@@ -130,8 +139,8 @@ def unwritten(word: str, phrase: str) -> Explained:
 
 # What comes before the name: the script, and of ktcopy the keytab that is copied from, with what is selected in it.
 ORDER = [
-    run_of("ktedit KCM:k", "line 2: fault 1", line_fault(1), stdin=b"start\nfrob\n"),
-    run_of("ccedit KCM:c", "line 1: fault 1", line_fault(1), stdin=b"frob\n"),
+    run_of("ktedit KCM:k", "line 2: fault 1", unknown("frob"), stdin=b"start\nfrob\n"),
+    run_of("ccedit KCM:c", "line 1: fault 1", unknown("frob"), stdin=b"frob\n"),
     run_of("ktedit KCM:k", "KCM:k: no such file", not_read("KCM:"), stdin=b"start\n"),
     run_of("ccedit KCM:c", "KCM:c: no such file", not_read("KCM:"), stdin=b"start\n"),
     run_of("ktcopy no KCM:t", "no: no such file"),

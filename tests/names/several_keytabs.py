@@ -10,8 +10,8 @@ from models.named_runs import NEITHER
 from runs.harness import Outcome, Report, folder_of, run
 from runs.rows import Line, shown, text, words_of
 from runs.terminal import EXPLAIN
-from words.explained import Explained
-from words.phrases import BEGINS_AS_NO_KEYTAB, CAUSES, FAULTS, FINDINGS, NOT_READ
+from words.explained import Explained, Output
+from words.phrases import BEGINS_AS_NO_KEYTAB, CAUSES, FAULTS, FINDINGS, HINTS, NOT_READ
 
 X = "kvno 3 etype 17 host/a@R"
 SOUND = "entries 2 free 0 holes 0"
@@ -44,7 +44,6 @@ OF_ALL = ["mode 644", *(f"{word} kvno 3 etype 23 host/a@R" for word in (
 FILES = {"k": TWO, "o": OLD, "w": WEAK, "s": SAME, "c": CLASH, "h": HIDDEN, "d": DAMAGED, "e": HOLES, "all": ALL,
          "x": NEITHER, "a:b": TWO, "FILE:k": WEAK, "two words": TWO}
 
-Output = tuple[tuple[str, str], ...]
 NO_KEYTAB = ("x: not a keytab (2)", BEGINS_AS_NO_KEYTAB[1])
 UNREAD = (".: cannot read", CAUSES["EISDIR"])
 MISSING = ("no: no such file", "")
@@ -68,9 +67,11 @@ def labelled(*those: tuple[str, list[str]]) -> list[str]:
     return [f"{name}: {line}" for name, lines in those for line in lines]
 
 
-def words(*findings: str) -> Output:
-    """Returns the words of findings."""
-    return tuple(("", f"{finding}: {FINDINGS[finding]}") for finding in findings)
+def words(file: str, *findings: str) -> Output:
+    """Returns the words of findings, and the hints for the file, whose weak entries have enctype 23."""
+    hints = (hint.replace("ETYPE..", "arcfour-hmac") for finding, hint in HINTS.items() if finding in findings)
+    told = (*(f"{finding}: {FINDINGS[finding]}" for finding in findings), *hints)
+    return tuple(("", line.replace("FILE", file)) for line in told)
 
 
 def fault(name: str) -> Output:
@@ -88,15 +89,15 @@ LABELS = [
     check_up("k e", labelled(SOUND_K, ("e", OF_HOLES))),
     check_up("FILE:k ./k WRFILE:k a:b -- e", labelled(SOUND_K, ("./k", [SOUND]), SOUND_K, ("a:b", [SOUND]),
                                                       ("e", OF_HOLES))),
-    check_up("FILE:FILE:k k", labelled(("FILE:k", W[1]), SOUND_K), *words("weak"), status=1),
+    check_up("FILE:FILE:k k", labelled(("FILE:k", W[1]), SOUND_K), *words("./FILE:k", "weak"), status=1),
     check_up(("two words", "k"), labelled(("two words", [SOUND]), SOUND_K)),
-    check_up("w o", labelled(W, O), *words("weak", "old"), status=1),
+    check_up("w o", labelled(W, O), *words("w", "weak"), *words("o", "old"), status=1),
     # A file that cannot be checked has its message, and the next goes on; the status is the greatest.
     check_up("no k", labelled(SOUND_K), MISSING, status=1),
     check_up("k no", labelled(SOUND_K), MISSING, status=1),
     check_up("no no", [], MISSING, MISSING, status=1),
     check_up("x . no k", labelled(SOUND_K), NO_KEYTAB, UNREAD, MISSING, status=3),
-    check_up(". k w", labelled(SOUND_K, W), UNREAD, *words("weak"), status=3),
+    check_up(". k w", labelled(SOUND_K, W), UNREAD, *words("w", "weak"), status=3),
     check_up("KCM:k FILE:k", labelled(SOUND_K), OTHER, status=1),
     check_up(("", "k", "FILE:"), labelled(SOUND_K), (": no such file", ""), (": no such file", ""), status=1),
     check_up("d k", labelled(("d", BROKEN), SOUND_K), *fault("d"), status=1),
@@ -104,29 +105,27 @@ LABELS = [
 
 TOLD = [
     # Words once a run, at the first file that has the finding, in their order; then the fault of that file, of each.
-    check_up("w w", labelled(*[W] * 2), *words("weak"), status=1),
-    check_up("o w s", labelled(O, W, S),
-             *words("old", "weak", "same"), status=1),
-    check_up("all k w", labelled(("all", OF_ALL), SOUND_K, W), *words(*FINDINGS), status=1),
-    check_up("s all", labelled(S, ("all", OF_ALL)), *words("same"),
-             *words(*(each for each in FINDINGS if each != "same")), status=1),
+    check_up("w w", labelled(*[W] * 2), *words("w", "weak"), status=1),
+    check_up("o w s", labelled(O, W, S), *words("o", "old"), *words("w", "weak"), *words("s", "same"), status=1),
+    check_up("all k w", labelled(("all", OF_ALL), SOUND_K, W), *words("all", *FINDINGS), status=1),
+    check_up("s all", labelled(S, ("all", OF_ALL)), *words("s", "same"),
+             *words("all", *(each for each in FINDINGS if each != "same")), status=1),
     check_up("d FILE:d", labelled(*[("d", BROKEN)] * 2), *fault("d"), *fault("d"), status=1),
     check_up("w d no w h", labelled(W, ("d", BROKEN), W, H),
-             *words("weak"), *fault("d"), MISSING, *words("hidden"), status=1),
+             *words("w", "weak"), *fault("d"), MISSING, *words("h", "hidden"), status=1),
 ]
 
 QUIET = [
     # A file without any other finding has no line; what is allowed, old, or a mode has one.
     check_up("-q k", []), check_up("k -q", []), check_up("-qq -q e k", []), check_up("-q -- k k", []),
-    check_up("-q o", O[1], *words("old")),
-    check_up("-q k o e", labelled(O), *words("old")),
+    check_up("-q o", O[1], *words("o", "old")),
+    check_up("-q k o e", labelled(O), *words("o", "old")),
     check_up("-q d", BROKEN, *fault("d"), status=1),
     check_up("-q k no x", [], MISSING, NO_KEYTAB, status=1),
     check_up("-q no", [], MISSING, status=1),
-    check_up("-q --allow weak w k", labelled(W), *words("weak")),
-    check_up("-q all", OF_ALL, *words(*FINDINGS), status=1),
+    check_up("-q --allow weak w k", labelled(W), *words("w", "weak")),
+    check_up("-q all", OF_ALL, *words("all", *FINDINGS), status=1),
 ]
-
 
 
 def allow(*findings: str) -> str:
@@ -138,14 +137,15 @@ def allowed() -> Iterator[Explained]:
     """Yields checks with some findings allowed: these have their lines, and only others count for the status."""
     for finding, (file, lines) in SINGLE.items():
         for other in FINDINGS:
-            yield check_up(f"{allow(other)} {file}", lines, *words(finding), status=int(finding not in (other, "old")))
+            status = int(finding not in (other, "old"))
+            yield check_up(f"{allow(other)} {file}", lines, *words(file, finding), status=status)
     for left_out in FINDINGS:
         others = allow(*(each for each in FINDINGS if each != left_out))
-        yield check_up(f"{others} all", OF_ALL, *words(*FINDINGS), status=int(left_out != "old"))
-    yield check_up(f"{allow(*FINDINGS)} all", OF_ALL, *words(*FINDINGS))
+        yield check_up(f"{others} all", OF_ALL, *words("all", *FINDINGS), status=int(left_out != "old"))
+    yield check_up(f"{allow(*FINDINGS)} all", OF_ALL, *words("all", *FINDINGS))
     yield check_up(f"{allow(*FINDINGS)} d", BROKEN, *fault("d"), status=1)
-    yield check_up("--allow=weak --allow=weak w k", labelled(W, SOUND_K), *words("weak"))
-    yield check_up(f"{allow(*FINDINGS)} w no", labelled(W), *words("weak"), MISSING, status=1)
+    yield check_up("--allow=weak --allow=weak w k", labelled(W, SOUND_K), *words("w", "weak"))
+    yield check_up(f"{allow(*FINDINGS)} w no", labelled(W), *words("w", "weak"), MISSING, status=1)
 
 
 CASES = [*LABELS, *TOLD, *QUIET, *allowed()]

@@ -10,12 +10,10 @@ from pages.documents import literals, read
 from pages.readme import check_session, parted
 from runs.harness import TOP, Report
 from words.completions import offered
+from words.mistakes import COMMANDS
 
 PAGE = "docs/krbfile.1"
 PAGES = (PAGE, "docs/krbfile.3")
-
-# The commands that a program may have.
-COMMANDS = ("klist", "ktfind", "ktedit", "ktremove", "ktcopy", "ktcheck", "ktutil", "ccedit", "ccremove")
 
 
 def check_form(report: Report) -> None:

@@ -1,7 +1,6 @@
 """The phrases of the manual page, of FORMATS, of the definitions and of Python's module are those of the table."""
 
 import glob
-import os
 import re
 
 from pages.documents import read
@@ -68,10 +67,11 @@ def check_formats(report: Report) -> None:
     report.check(f"the mistakes of {FORMATS}", missing)
 
 
-def check_clash(report: Report) -> None:
-    """Checks that the manual page and FORMATS have the phrase of ktcopy's clashes."""
-    missing = [page for page in (PAGE, FORMATS) if f"clash: {phrases.CLASH}" not in read(page)]
-    report.check("the phrase of a clash", missing)
+def check_both(report: Report) -> None:
+    """Checks that the manual page and FORMATS have the phrase of ktcopy's clashes, and the hints."""
+    for phrase in (f"clash: {phrases.CLASH}", *phrases.HINTS.values()):
+        missing = [page for page in (PAGE, FORMATS) if phrase not in read(page)]
+        report.check(f"the pages with: {phrase}", missing)
 
 
 def check_mistakes(report: Report) -> None:
@@ -110,7 +110,7 @@ def check(report: Report, program: str) -> None:
     """Reads the pages, the definitions and the module. The program is not run."""
     check_manual(report)
     check_formats(report)
-    check_clash(report)
+    check_both(report)
     check_mistakes(report)
     check_definitions(report)
     check_python(report)

@@ -40,6 +40,10 @@ EXPLAINED = [
     Case("a bad command line", (EXPLAIN, "frob"),
          Outcome(2, err=b"krbfile: bad command line\n"
                  b"krbfile: unknown command frob; see krbfile --help\n")),
+    Case("a finding with a hint", (EXPLAIN, "ktcheck", "k"),
+         Outcome(1, b"same 53 2 kvno 3 etype 17 host/a@R\nentries 2 free 0 holes 0\n",
+                 b"krbfile: same: this key stands there twice\n"
+                 b"krbfile: to have each once: krbfile ktcopy k NEW\n"), {"k": keytab(HOST, HOST)}),
 ]
 
 
@@ -85,10 +89,10 @@ def check(report: Report, program: str) -> None:
     before = os.umask(0o077)
     try:
         check_each_byte(report, program, SEVERAL, "stdout", "out")
+        for case in (FAULTY, *EXPLAINED):
+            check_each_byte(report, program, case, "stderr", "err")
     finally:
         os.umask(before)
-    for case in (FAULTY, *EXPLAINED):
-        check_each_byte(report, program, case, "stderr", "err")
     for action in (signal.SIG_DFL, signal.SIG_IGN):
         for taken in (0, 1, 20, 1000, 70_000):
             check_closed_pipe(report, program, taken, action)

@@ -12,10 +12,11 @@ from caches.cache_listings import TICKET_LINE
 from keytabs.listings import B_LINE, HOST_LINE
 from keytabs.listings import listed as listed_keytab
 from makers.cache_images import cache
-from makers.images import TWO
+from makers.images import HOST, TWO, keytab
 from makers.usual_caches import TICKET
 from models.cache_reading import listed
-from models.modelled import NO_MEMORY, NOW, Modelled, Stage, large, small
+from models.cases import ktcheck_all
+from models.modelled import NO_MEMORY, NOW, Modelled, Stage, large, modelled, rotated_keytab, small
 from runs.harness import Case, Outcome, Report, differences, message
 from runs.preload import Counted, Line, Preloaded, preloaded
 from runs.random_runs import Rounds
@@ -81,6 +82,12 @@ def command_lines(under: Preloaded) -> list[Modelled]:
             for words, outcome in wanted]
 
 
+def explained() -> Modelled:
+    """Returns a check that explains what it finds, with hints."""
+    files = (("a b", keytab(HOST, HOST)), ("r", rotated_keytab(4)), ("no", None))
+    return modelled(ktcheck_all(files=files, explains=True))
+
+
 def check_default(report: Report, under: Preloaded, line: Line, env: dict[str, str], wanted: Outcome) -> None:
     """Refuses the allocations of a line that leaves out the file. `klist -s` prints nothing."""
     no_memory = Outcome(4) if "-s" in line.words else NO_MEMORY
@@ -121,7 +128,7 @@ def check(report: Report, program: str) -> None:
         if under is None:
             return
         check_defaults(report, under)
-        for run in command_lines(under):
+        for run in (*command_lines(under), explained()):
             check_run(report, under, run, lambda requests: spread(requests, FEW))
         for run in small():
             check_run(report, under, run, lambda requests: spread(requests, FEW))

@@ -6,6 +6,7 @@ import shutil
 import subprocess
 
 from keytabs.columns import NAMES
+from pages.documents import read
 from runs.harness import TOP, Report, folder_of, run
 
 FOLDER = os.path.join(TOP, "completions")
@@ -14,12 +15,6 @@ ZSH = os.path.join(FOLDER, "_krbfile")
 FISH = os.path.join(FOLDER, "krbfile.fish")
 
 ETYPES = {name.decode() for name in NAMES.values()}
-
-
-def read(path: str) -> str:
-    """Returns a file's text."""
-    with open(path, encoding="ascii") as file:
-        return file.read()
 
 
 def part(text: str, heading: str) -> str:

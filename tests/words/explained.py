@@ -11,7 +11,7 @@ from keytabs.file_names import LIMIT
 from keytabs.ktutil_lines import FAULTS as TALK_FAULTS
 from keytabs.ktutil_lines import KEY
 from keytabs.scripts import FAULTS as LINE_FAULTS
-from makers.images import HOST, TWO, Entry, keytab, record
+from makers.images import HOST, TWO, keytab, record
 from runs.harness import Outcome, Report, differences, files_in, folder_of, message, run
 from runs.rows import Line, words_of
 from runs.terminal import EXPLAIN, WAYS, run_on_terminal
@@ -23,14 +23,17 @@ ADDENT = "addent -key -p host/a@R -k 3 -e 17\n"
 WRITE = f"{ADDENT}{KEY}\nwkt k\n".encode()
 CUT = TWO + b"\0\0\0"
 
+# Messages, each with its explanation or an empty text.
+Output = tuple[tuple[str, str], ...]
+
 
 @dataclass(frozen=True)
 class Explained:
-    """A run, and the messages on its error output, each with its explanation or an empty text."""
+    """A run, and the messages on its error output."""
 
     name: str
     words: Line
-    output: tuple[tuple[str, str], ...]
+    output: Output
     files: dict[str, bytes]
     stdin: bytes = b""
     status: int = 1
@@ -70,16 +73,9 @@ def case(name: str, line: str | Line, image: bytes | None, *output: tuple[str, s
     return Explained(name, words_of(line), output, {} if image is None else {file: image}, **more)
 
 
-def found(name: str, words: str, image: bytes, mode: int, *fault: str, status: int = 1) -> Explained:
-    """Returns a run of ktcheck: each printed word is explained once, and then the fault."""
-    return case(f"ktcheck: {name}", "ktcheck k", image, *(("", f"{word}: {FINDINGS[word]}") for word in words.split()),
-                *(("", line) for line in fault), status=status,
-                setting=lambda folder: os.chmod(os.path.join(folder, "k"), mode))
-
-
-def no_keytab(why: tuple[int, str]) -> tuple[str, str]:
+def no_keytab(why: tuple[int, str], name: str = "k") -> tuple[str, str]:
     """Returns the message about a file that is not a keytab."""
-    return f"k: not a keytab ({why[0]})", why[1]
+    return f"{name}: not a keytab ({why[0]})", why[1]
 
 
 def refused(name: str, line: str, image: bytes, number: int) -> Explained:
@@ -92,9 +88,9 @@ def refused_talk(name: str, at: int, image: bytes | None, number: int, stdin: by
     return case(name, "ktutil", image, (f"line {at}: refused {number}", f"line {at}: {code(number)}"), stdin=stdin)
 
 
-def faulty(line: str, number: int) -> Explained:
+def faulty(line: str, number: int, command: str = "ktedit", image: bytes = TWO) -> Explained:
     """Returns a run over a faulty line of a script."""
-    return case(f"ktedit: {line!r}", "ktedit k", TWO, (f"line 2: fault {number}", line_fault(number)),
+    return case(f"{command}: {line!r}", f"{command} k", image, (f"line 2: fault {number}", line_fault(number)),
                 stdin=f"start\n{line}\n".encode())
 
 
@@ -157,8 +153,6 @@ def link(target: str | bytes) -> Callable[[str], None]:
 
 DAMAGED = code(1)
 LISTED_CACHE, IS_CACHE, NO_KEYTAB = map(no_keytab, (LISTED_AS_KEYTAB, BEGINS_AS_CACHE, BEGINS_AS_NO_KEYTAB))
-WEAK = Entry((b"",), enctype=23)
-ALL_WORDS = keytab(WEAK, WEAK, Entry((b"",), enctype=23, key=bytes(16)), Entry((b"",), version8=4, version32=4))
 
 CASES = [
     # Files that are not keytabs, for each command.
@@ -184,13 +178,9 @@ CASES = [
                  f"addent -key -p {'x' * 65_536}@R -k 3 -e 17\n{KEY}\nwkt k\n".encode()),
     lambda: refused_talk("wkt to a full file", 3,
                          keytab(record(HOST.spelled() + bytes(LIMIT - 6 - len(HOST.spelled())))), 3, WRITE),
-    # Checks.
-    found("nothing", "", keytab(HOST), 0o600, status=0),
-    found("a group that may read", "mode", keytab(HOST), 0o640, status=0),
-    found("a damaged file", "", keytab(HOST, b"\0\0\0"), 0o600, "k: fault 1 at 53", FAULTS[1]),
-    found("the same key", "same", keytab(HOST, HOST), 0o600),
-    found("all words", " ".join(FINDINGS), ALL_WORDS, 0o644),
-    found("an old version", "old", keytab(HOST, Entry(version8=4, version32=4)), 0o600, status=0),
+    # A mode alone has its word, and no hint.
+    case("ktcheck: a group that may read", "ktcheck k", TWO, ("", f"mode: {FINDINGS['mode']}"), status=0,
+         setting=lambda folder: os.chmod(os.path.join(folder, "k"), 0o640)),
     # Faulty lines of scripts and of ktutil.
     *(faulty(line, number) for number, line in first_of_each(LINE_FAULTS).items()),
     *(faulty_talk(line, number) for number, line in first_of_each(TALK_FAULTS).items()),
@@ -204,13 +194,7 @@ CASES = [
     case("ktutil: two faults", "ktutil", None, talk_fault(2, 5), talk_fault(3, 1),
          stdin=f"{ADDENT}00\nx\n".encode()),
     # Files that are not read.
-    case("a missing file", "klist k", None, ("k: no such file", "")),
-    case("rkt of a missing file", "ktutil", None, ("k: no such file", "line 1: no such file"), stdin=b"rkt k\n"),
-    lambda: case("a large file", "klist -k k", bytes(LIMIT + 1), ("k: file too large", LARGE)),
-    lambda: case("a large file in ktutil", "ktutil", bytes(LIMIT + 1), ("k: file too large", f"line 1: {LARGE}"),
-                 stdin=b"rkt k\n"),
     lambda: case("a large script", "ktedit k", None, ("input too large", LARGE), stdin=bytes(LIMIT + 1)),
-    unread("a folder", ".", "EISDIR"),
     unread("a file as a folder", "k/x", "ENOTDIR"),
     unread("a long name", "x" * 256, "ENAMETOOLONG"),
     unread("a link to itself", "l", "ELOOP", setting=link("l")),

@@ -1,15 +1,12 @@
 """Each message about a cache with its explanation, on a pipe, on a terminal and by `--explain`."""
 
-from functools import partial
-
 from caches.cache_edits import long_ticket
 from caches.cache_scripts import FAULTS as LINE_FAULTS
 from keytabs.file_names import LIMIT
 from makers.cache_images import cache
 from makers.usual_caches import USUAL, VERSION_3
-from words.explained import Explained, case, first_of_each, in_the_way, reported
-from words.phrases import (BAD_DEFAULT, BAD_HEADER, BEGINS_AS_KEYTAB, BEGINS_AS_NO_CACHE, CAUSES, FAULTS, LARGE, SHORT,
-                           code, line_fault)
+from words.explained import Explained, case, faulty, first_of_each, in_the_way, refused, reported
+from words.phrases import BAD_DEFAULT, BAD_HEADER, BEGINS_AS_KEYTAB, BEGINS_AS_NO_CACHE, CAUSES, FAULTS, LARGE, SHORT
 
 # Commands that change a cache, each with its input.
 CHANGING = (("ccedit", b"cut 40\n"), ("ccremove -p krbtgt/R@R", b""))
@@ -23,18 +20,6 @@ def no_cache(image: bytes, why: tuple[int, str]) -> list[Explained]:
             for line, stdin in (("klist", b""), *CHANGING)]
 
 
-def refused(name: str, line: str, image: bytes, number: int) -> Explained:
-    """Returns a refused removal."""
-    return case(f"ccremove: {name}", f"ccremove {line} c", image, (f"c: refused {number}", code(number, "ccremove")),
-                file="c")
-
-
-def faulty(line: str, number: int) -> Explained:
-    """Returns a run over a faulty line of a script."""
-    return case(f"ccedit: {line!r}", "ccedit c", USUAL, (f"line 2: fault {number}", line_fault(number)), file="c",
-                stdin=f"start\n{line}\n".encode())
-
-
 def replies(name: str, image: bytes, script: bytes, refusals: tuple[int, ...], *faults: int) -> Explained:
     """Returns a run of ccedit whose replies have those numbers."""
     return case(f"replies of ccedit: {name}", "ccedit c", image, *reported("ccedit", refusals, *faults), file="c",
@@ -42,22 +27,14 @@ def replies(name: str, image: bytes, script: bytes, refusals: tuple[int, ...], *
 
 
 def files(line: str, stdin: bytes) -> list[Explained]:
-    """Returns runs over files that are not read or not saved."""
+    """Returns runs over files that are not saved."""
     way = {"stdin": stdin, "status": 3}
     return [
-        case(f"{line}: no file", f"{line} c", None, ("c: no such file", ""), stdin=stdin),
-        case(f"{line}: a folder", f"{line} .", None, (".: cannot read", CAUSES["EISDIR"]), **way),
         case(f"{line}: a name of saves", f"{line} c.krbfile", USUAL,
              ("c.krbfile: cannot write", CAUSES["name of saves"]), file="c.krbfile", **way),
         case(f"{line}: another's new file", f"{line} k", USUAL,
              ("k: cannot write", CAUSES["in the way"].replace("NAME", "k")), setting=in_the_way, **way),
     ]
-
-
-def large(line: str, stdin: bytes) -> Explained:
-    """Returns a run over a file that is too large."""
-    return case(f"{line}: a large file", f"{line} c", bytes(LIMIT + 1), ("c: file too large", LARGE), file="c",
-                stdin=stdin)
 
 
 CASES = [
@@ -70,16 +47,15 @@ CASES = [
     *no_cache(b"\x05\x03", BAD_DEFAULT),
     case("listed: fault 4 at 392", "klist k", CUT, ("", "k: fault 4 at 392"), ("", FAULTS[4])),
     # Refused removals.
-    refused("of nothing", "-p c@R", USUAL, 9),
-    refused("of nothing that has expired", "-p c@R --expired", USUAL, 9),
-    refused("from a damaged file", "--expired", CUT, 1),
-    refused("from version 3", "--expired", VERSION_3, 8),
+    refused("ccremove of nothing", "ccremove -p c@R", USUAL, 9),
+    refused("ccremove of nothing that has expired", "ccremove -p c@R --expired", USUAL, 9),
+    refused("ccremove from a damaged file", "ccremove --expired", CUT, 1),
+    refused("ccremove from version 3", "ccremove --expired", VERSION_3, 8),
     case("ccremove: nothing to do", "ccremove --expired c", cache(), file="c", status=0),
     # Faulty lines of scripts.
-    *(faulty(line, number) for number, line in first_of_each(LINE_FAULTS).items()),
-    # Files that are not read or not saved.
+    *(faulty(line, number, "ccedit", USUAL) for number, line in first_of_each(LINE_FAULTS).items()),
+    # Files that are not saved.
     *(each for line, stdin in CHANGING for each in files(line, stdin)),
-    *(partial(large, line, stdin) for line, stdin in CHANGING),
     lambda: case("ccedit: a large script", "ccedit c", None, ("input too large", LARGE), stdin=bytes(LIMIT + 1)),
     # Replies of ccedit.
     replies("places", USUAL, b"step 7\ncut 3\nresume 3\ncut 284\nstep 7\n", (4, 5, 6)),

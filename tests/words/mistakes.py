@@ -73,9 +73,13 @@ MISTAKES: dict[str, list[str | Line]] = {
     '"x" is no number of seconds': ["klist -s --for x k", "ktremove -k old --age x k"],
     '"4294967296" is no number of seconds': ["klist -s --for=4294967296 k", "ktremove -k old --age=4294967296 k"],
     "--allow needs a value": ["ktcheck k --allow", "ktcheck --allow -q k"],
-    **{f'"{word}" is no finding': [("ktcheck", "--allow", word, "k"), ("ktcheck", "--allow=old", f"--allow={word}")]
+    **{f'"{word}" is no finding': [("ktcheck", "--allow", word, "k"),
+                                   ("ktcheck", "--allow=old", f"--allow={word}", "k")]
        for word in ("", "x", "Weak", "weak,old", " weak", "fault", "entries")},
     "unknown option -q=yes": ["ktcheck -q=yes k"],
+    "unknown option -n": ["ktcheck -n k"],
+    "unknown option --mode": ["ktcheck --mode k"],
+    '"k" is no finding': ["ktcheck --allow k"],
     '"new" is no version': ["ktremove -k new k"],
     '"old" is no version': ["ktcopy -k old k t"],
     '"any" is no encryption type': ["ktremove -e 17 -e any k", "ktcopy -e 17 -e any k t", "ktfind k 0 any b@R"],

@@ -124,6 +124,13 @@ FINDINGS = {
     "mode": "users other than the owner may read or change this file",
 }
 
+# What can be done about findings, in the order in which it is told.
+HINTS = {
+    "old": "to see what would go: krbfile ktremove -n -k old FILE",
+    "weak": "to see what would go: krbfile ktremove -n -e ETYPE.. FILE",
+    "same": "to have each once: krbfile ktcopy FILE NEW",
+}
+
 # A clash of ktcopy.
 CLASH = "TO has another key for this name, version and type"
 
@@ -165,3 +172,8 @@ def code(number: int, command: str = "") -> str:
 def line_fault(number: int, command: str = "") -> str:
     """Returns what is wrong with a line of a script, or of ktutil."""
     return phrase_of(LINES, number, command)
+
+
+def unknown(word: str) -> str:
+    """Returns what is wrong with a line of a script whose first word is shown."""
+    return f'{line_fault(1)}: "{word}"'

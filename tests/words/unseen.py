@@ -12,7 +12,7 @@ from keytabs.ktutil_lines import ADDENT, KEY
 from makers.images import B, HOST, TWO, Entry, keytab, old
 from runs.rows import shown, text, words_of
 from words.explained import Explained, in_the_way
-from words.phrases import CAUSES, CLASH, UNSEEN, code
+from words.phrases import CAUSES, CLASH, UNSEEN, code, unknown
 
 # An entry that is hidden, the same with a key, a line that adds it, and how it is printed.
 HIDDEN = Entry((b"h",), timestamp=0, enctype=1, key=b"")
@@ -86,7 +86,7 @@ EDITS = [
     edit("a refusal", None, ["cut 3", ADD], 2, NOT_LIVE, status=1),
     edit("a refusal, seen", None, ["cut 3", ADD_B], None, NOT_LIVE, status=1),
     # Where nothing is saved it is not said.
-    edit("a faulty script", None, [ADD, "frob"], None, ("line 2: fault 1", "unknown first word"), status=1),
+    edit("a faulty script", None, [ADD, "frob"], None, ("line 2: fault 1", unknown("frob")), status=1),
     edit("not saved", TWO, [ADD], None, ("k: cannot write", CAUSES["in the way"].replace("NAME", "k")), status=3,
          out=b"", setting=in_the_way),
     edit("a damaged keytab", keytab(HIDDEN, b"\0"), [ADD], None, ("", f"refused 1: {code(1)}"), status=1),

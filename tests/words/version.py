@@ -8,13 +8,13 @@ from runs.rows import BAD_LINE, printed
 
 TOOLCHAIN = "logic dac8208d650f15bf"
 
-# `--version` is not an option of a command.
+# `--version` is not an option of a command, nor is `-V`.
 CASES = [
     *(Case(line, tuple(line.split()), printed(f"krbfile 1.0 (rattle {TOOLCHAIN})"))
       for line in ("--version", "-V", "--version klist", "-V klist -x")),
     *(Case(line, tuple(line.split()), BAD_LINE)
-      for line in ("klist --version", "klist -V k", "ktfind --version", "ktedit -V k", "ktutil --version",
-                   "ccedit -V c", "ccremove --version", "help --version", "--version=1", "--versio")),
+      for line in ("klist -V k", "ktfind --version", "ktedit -V k", "ktutil --version", "ccedit -V c",
+                   "ccremove --version", "help --version")),
 ]
 
 
