@@ -23,15 +23,16 @@ WRONG_BODIES = {
     },
     "krb_walk": {
         "copy-at-start": "a walk passes over a record that was added after it started",
-        "counting-cursor": "a cursor counts records, so a removal behind it skips one",
         "ends-early": "a walk ends at the first free cell",
-        "never-moves": "a step leaves its cursor where it was",
+        "never-moves": "a step leaves its cursor at the record that it gives",
         "refuses-free-place": "a walk is not resumed at a free cell",
-        "removal-moves-cursor": "a removal at a cursor moves it past the removed record",
-        "reset-cursors": "a rewrite puts cursors at the front",
+        "removal-moves-cursor": "a removal at a cursor, or before it, moves it",
         "restart-at-front": "the step after a removal begins at the front",
         "rounds-place": "a walk that is resumed within a record begins at that record",
         "stale-cursors": "a rewrite leaves cursors as they are",
+    },
+    "krb_cells": {
+        "refuses-free-place": "the place of a free cell counts as none",
     },
     "krb_keytab": {
         "any-enctype": "a look-up passes over the encryption type",
@@ -54,10 +55,8 @@ WRONG_BODIES = {
     "krb_ccache": {
         "config-left-live": "a new configuration value leaves the old one live",
         "cuts-out": "a removal takes the credential's bytes out of the image",
-        "refuses-free-place": "a walk is not resumed at a removed credential",
         "removed-by-the-endtime-alone": "a credential that has ended at 0 counts as removed",
-        "reuses-marked": "a credential is written over the last removed one, if that is of its size",
-        "rounds-place": "the number after a place counts as one",
+        "reuses-marked": "a credential is written over a removed one of its size",
         "trusts-the-header-beyond-the-file": "a header that the file cuts short is read as empty",
     },
     "krb_files": {
@@ -97,7 +96,7 @@ WRONG_BODIES = {
         "renames-a-locked-file": "a file that another program has locked is replaced",
         "renames-before-the-bytes": "the new file is renamed before it is written",
         "renames-before-the-sync": "the new file is renamed before it is on the disk",
-        "renames-to-another-path": "the new file is renamed to another path",
+        "renames-over-a-link": "a symbolic link is replaced, not the file that it leads to",
         "renames-without-comparing": "a file that changed meanwhile is replaced",
         "replaces-what-is-no-file": "what is held may be a directory or a device",
         "saves-in-place-without-comparing": "a file that changed meanwhile is written over in place",

@@ -1,4 +1,5 @@
 pub mod Moments
+pub mod Parts
 pub mod Pieces
 pub mod PlaceMoments
 pub mod Within

@@ -10,7 +10,7 @@ mod in_place;
 mod log;
 mod old;
 mod old_file;
-mod stale_file;
+pub mod stale_file;
 
 use crate::fault::DiskFault;
 use crate::lock::TakeLock;

@@ -1,10 +1,10 @@
 //! A save in place.
 
-ghost use Rattle.std.specs.Prelude.{◌≡◌, ◌∷◌, IfErr, IfOk, OnOk, OnErr, Some, string_bytes};
+ghost use Rattle.std.specs.Prelude.{◌≡◌, ◌∷◌, length, IfErr, IfOk, OnOk, OnErr, Some, string_bytes};
 ghost use Rattle.krb_disk.specs.Aftermaths.{IsRefused};
-ghost use Rattle.krb_disk.specs.Content.{Has, IsPatch, TurnsInto};
+ghost use Rattle.krb_disk.specs.Content.{AtEach, IsPatch, TurnsInto, Writes};
 ghost use Rattle.krb_disk.specs.PlaceStages.{HasFailed, IsAftermath, watched_in_place};
-ghost use Rattle.krb_disk.specs.declared.place_stage.PlaceStage.TheVariants.{Untouched, Quiet, Saved, Back, Lost};
+ghost use Rattle.krb_disk.specs.declared.place_stage.PlaceStage.TheVariants.{Untouched, Same, Quiet, Lengthened, Saved, Whole, Back, Lost};
 
 use crate::calls::{Calls, PlaceFile};
 use crate::deadline::{Deadline, MOST_TRIES};
@@ -15,14 +15,31 @@ use crate::patch::Patch;
 use crate::snapshot::Snapshot;
 use crate::target::Target;
 use crate::write_in_place::WriteInPlace;
-use krb_files::{Aftermath, Cause};
+use krb_files::Cause;
 use krb_wire::USUAL_LIMIT;
 use std::alloc::Allocator;
 use std::{io, rt};
 use wiping::Wiping;
 
-// Writes the new bytes over the old ones: first those past the old end, which are synced, so that no old byte is gone
-// where the new ones have no room.
+// Writes the new bytes past the old end and syncs them, so that no old byte is gone where the new ones have no room.
+fn lengthen<R: rt::Files>(
+    calls: &Calls<'_, R>,
+    file: &mut PlaceFile<R::File>,
+    patch: Patch<'_>,
+) -> io::Result<()>
+where
+    R::File: WriteInPlace,
+    requires { file.old.stage ≡ Quiet }
+    ensures ok { OnOk result (file.new.stage ≡ Lengthened) }
+    ensures err { OnErr result (file.new.stage ≡ Whole) }
+    ensures writes { OnOk result (AtEach (Writes patch.entry.after.now (length patch.entry.before.now) (length patch.entry.after.now))
+        (R.File.content file.old.file) (R.File.content file.new.file)) }
+{
+    calls.extend(file, patch)?;
+    calls.sync_in_place(file)
+}
+
+// Writes the new bytes: those past the old end, and then those over old ones.
 fn write<R: rt::Files, A: Allocator>(
     calls: &mut Calls<'_, R>,
     file: &mut PlaceFile<R::File>,
@@ -41,8 +58,7 @@ where
     ensures bytes { OnOk result (TurnsInto patch.entry.before.now patch.entry.after.now
         (R.File.content file.old.file) (R.File.content file.new.file)) }
 {
-    calls.extend(file, patch)?;
-    calls.sync_in_place(file)?;
+    lengthen(calls, file, patch)?;
     calls.overwrite(file, patch)?;
     calls.shorten(file, patch)?;
     calls.finish(file, target, patch.after)
@@ -89,14 +105,28 @@ where
     let Err(error) = write(calls, file, target, patch) else {
         return Ok(());
     };
-    let aftermath = match bring_back(calls, file, patch) {
-        Ok(()) => Aftermath::Restored,
-        Err(_) => Aftermath::Damaged,
-    };
+    let _ = bring_back(calls, file, patch);
     Err(Unsaved {
         why: DiskFault::Failed(Cause::from(&error)),
-        aftermath: Some(aftermath),
+        aftermath: Some(file.aftermath()),
     })
+}
+
+// Fails unless the file is still as it was loaded.
+fn compare<R: rt::Files + Alloc>(
+    calls: &Calls<'_, R>,
+    file: &mut PlaceFile<R::File>,
+    path: &str,
+    snapshot: &Snapshot<R::A>,
+) -> Result<(), DiskFault>
+    requires { file.old.stage ≡ Untouched }
+    ensures { OnOk result (file.new.stage ≡ Same) }
+{
+    if calls.compare_in_place(file, path, snapshot)? {
+        Ok(())
+    } else {
+        Err(DiskFault::Failed(Cause::Changed))
+    }
 }
 
 // Returns whether no program has the file locked. Fails unless it is still as it was loaded.
@@ -111,9 +141,7 @@ fn is_ready<R: rt::Files + rt::Clock + Alloc>(
     requires { file.old.stage ≡ Untouched }
     ensures { IfOk result (λ is. file.new.stage ≡ watched_in_place is) }
 {
-    if !calls.compare_in_place(file, path, snapshot)? {
-        return Err(DiskFault::Failed(Cause::Changed));
-    }
+    compare(calls, file, path, snapshot)?;
     calls.watch_in_place(file, found, deadline)
 }
 

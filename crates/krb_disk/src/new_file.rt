@@ -1,9 +1,10 @@
 //! The new file beside one to be saved. The program that created and locked it may change that one.
 
-ghost use Rattle.std.specs.Prelude.{◌≡◌, IfOk, IsTrue, string_bytes};
+ghost use Rattle.std.specs.Prelude.{◌≡◌, true, IfOk, IfSome, IsTrue, string_bytes};
 ghost use Rattle.krb_disk.specs.NewFile.{HoldsAt, IsHeldAt};
 ghost use Rattle.krb_disk.specs.declared.stage.Stage.TheVariants.{Made};
 
+use crate::calls::stale_file::StaleFile;
 use crate::calls::{Calls, NewFile};
 use crate::deadline::Deadline;
 use crate::fault::DiskFault;
@@ -39,6 +40,21 @@ pub fn remove_own<R: rt::Files + Alloc>(
     Ok(())
 }
 
+// Creates the new file at `path`, for its owner alone. Returns `None` if something is there.
+fn make_new<R: rt::Files + Alloc>(
+    calls: &Calls<'_, R>,
+    path: &str,
+) -> Result<Option<NewFile<String<R::A>, R::File>>, DiskFault>
+    ensures path { IfOk result (λ made. IfSome made (λ file. string_bytes file.path ≡ path.now)) }
+    ensures stage { IfOk result (λ made. IfSome made (λ file. file.stage ≡ Made)) }
+{
+    match calls.make(path, PRIVATE) {
+        Ok(file) => Ok(Some(file)),
+        Err(error) if error.kind() == ErrorKind::AlreadyExists => Ok(None),
+        Err(error) => Err(DiskFault::from(error)),
+    }
+}
+
 // Locks a file that was just created and duplicates its handle. Returns whether it is held then.
 fn lock_new<R: rt::Files + Alloc>(
     calls: &Calls<'_, R>,
@@ -56,9 +72,23 @@ where
     Ok(true)
 }
 
-// Locks a stale file and removes it, if no program has it locked. Returns whether to try again to create the new
-// file.
-fn remove_abandoned<R: rt::Files + Alloc>(
+// Removes a stale file that is locked, if a killed run left it.
+fn remove_abandoned<R: rt::Files>(
+    calls: &Calls<'_, R>,
+    file: &mut StaleFile<'_, R::File>,
+    users: Users,
+) -> io::Result<()>
+    requires { file.old.is_locked ≡ true }
+{
+    if calls.is_abandoned(file, users)? {
+        calls.remove_stale_file(file)?;
+    }
+    Ok(())
+}
+
+// Locks what may be a stale file, and removes it if a killed run left it. Returns whether to try again to create the
+// new file.
+fn clear_stale<R: rt::Files + Alloc>(
     calls: &Calls<'_, R>,
     path: &str,
     users: Users,
@@ -73,9 +103,7 @@ where
         Ok(false) => return Ok(true),
         Ok(true) => {}
     }
-    if calls.is_abandoned(&mut file, users)? {
-        calls.remove_stale_file(&file)?;
-    }
+    remove_abandoned(calls, &mut file, users)?;
     Ok(true)
 }
 
@@ -93,7 +121,7 @@ where
     if !users.may_have_left(found) {
         return Ok(false);
     }
-    match remove_abandoned(calls, path, users) {
+    match clear_stale(calls, path, users) {
         Err(error) if error.kind() == ErrorKind::NotFound => Ok(true),
         Err(error) if error.kind() == ErrorKind::PermissionDenied => Ok(false),
         cleared => cleared,
@@ -131,15 +159,11 @@ where
     R::File: TakeLock,
     ensures { IfOk result (λ attempt. HoldsAt path.now attempt) }
 {
-    let mut file = match calls.make(path, PRIVATE) {
-        Ok(file) => file,
-        Err(error) if error.kind() == ErrorKind::AlreadyExists => {
-            return match try_place(calls, path, owner, deadline)? {
-                true => Ok(Attempt::InUse),
-                false => Ok(Attempt::InTheWay),
-            };
-        }
-        Err(error) => return Err(DiskFault::from(error)),
+    let Some(mut file) = make_new(calls, path)? else {
+        return match try_place(calls, path, owner, deadline)? {
+            true => Ok(Attempt::InUse),
+            false => Ok(Attempt::InTheWay),
+        };
     };
     match lock_new(calls, &mut file) {
         Ok(true) => Ok(Attempt::Locked(file)),

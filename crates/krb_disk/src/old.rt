@@ -1,6 +1,6 @@
 //! The old file of a save: what is known of it from the hold on.
 
-ghost use Rattle.std.specs.Prelude.{◌≡◌, ◌≤◌, ◌↔◌, IfOk, IsErrOf, IsTrue, OnOk, OnErr, string_bytes, vec_len};
+ghost use Rattle.std.specs.Prelude.{◌≡◌, ◌≤◌, ◌↔◌, IfOk, IsErrOf, IsTrue, string_bytes, vec_len};
 ghost use Rattle.krb_disk.specs.Stages.{IsLoaded};
 ghost use Rattle.krb_disk.specs.declared.fault.ReadFault.TheVariants as ReadFault;
 ghost use Rattle.krb_disk.specs.declared.snapshot.Snapshot.TheVariants.{Nothing};

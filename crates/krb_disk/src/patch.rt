@@ -1,7 +1,10 @@
 //! The parts of a file that a save in place writes.
 
-ghost use Rattle.std.specs.Prelude.{◌≡◌, ℕ, ◌≤◌, ◌<◌, length, slice_get};
+ghost use Rattle.std.specs.Prelude.{◌≡◌, ℕ, ◌≤◌, ◌<◌, IsTrue, length, slice_get};
 ghost use Rattle.krb_disk.specs.Content.{IsPatch};
+
+/// How many bytes are compared at once.
+const PIECE: usize = 4_096;
 
 /// The bytes of a file before and after a save, and the places from which and up to which new ones are written over old ones:
 /// from the first that differs to the last one that does, among those that both have.
@@ -13,15 +16,49 @@ pub struct Patch<'a> {
     pub last: usize,
 }
 
+// Returns whether both have the same bytes from one place to another.
+fn is_same_part(old: &[u8], new: &[u8], from: usize, to: usize) -> bool
+    requires { (from ≤ to) × (to ≤ length old.now) × (to ≤ length new.now) }
+    ensures { IsTrue result → (i : ℕ) → from ≤ i → i < to → slice_get old.now i ≡ slice_get new.now i }
+{
+    old[from..to] == new[from..to]
+}
+
+// Returns how many of the first `most` bytes are alike, counted in whole pieces up to the first that differs.
+fn same_pieces(old: &[u8], new: &[u8], most: usize) -> usize
+    requires { (most ≤ length old.now) × (most ≤ length new.now) }
+    ensures within { result ≤ most }
+    ensures same { (i : ℕ) → i < result → slice_get old.now i ≡ slice_get new.now i }
+{
+    let mut at = 0;
+    while PIECE <= most - at && is_same_part(old, new, at, at + PIECE) {
+        at += PIECE;
+    }
+    at
+}
+
 // Returns how many of the first `most` bytes are alike before the first that differs.
 fn same_front(old: &[u8], new: &[u8], most: usize) -> usize
     requires { (most ≤ length old.now) × (most ≤ length new.now) }
     ensures within { result ≤ most }
     ensures same { (i : ℕ) → i < result → slice_get old.now i ≡ slice_get new.now i }
 {
-    let mut at = 0;
+    let mut at = same_pieces(old, new, most);
     while at < most && old[at] == new[at] {
         at += 1;
+    }
+    at
+}
+
+// Returns the place after the last of the pieces before `most` that differs, or less than a piece after `first`.
+fn after_last_piece(old: &[u8], new: &[u8], first: usize, most: usize) -> usize
+    requires { (first ≤ most) × (most ≤ length old.now) × (most ≤ length new.now) }
+    ensures within { (first ≤ result) × (result ≤ most) }
+    ensures same { (i : ℕ) → result ≤ i → i < most → slice_get old.now i ≡ slice_get new.now i }
+{
+    let mut at = most;
+    while PIECE <= at - first && is_same_part(old, new, at - PIECE, at) {
+        at -= PIECE;
     }
     at
 }
@@ -32,7 +69,7 @@ fn after_last(old: &[u8], new: &[u8], first: usize, most: usize) -> usize
     ensures within { (first ≤ result) × (result ≤ most) }
     ensures same { (i : ℕ) → result ≤ i → i < most → slice_get old.now i ≡ slice_get new.now i }
 {
-    let mut at = most;
+    let mut at = after_last_piece(old, new, first, most);
     while first < at && old[at - 1] == new[at - 1] {
         at -= 1;
     }

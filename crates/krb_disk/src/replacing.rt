@@ -52,6 +52,24 @@ where
     Err(DiskFault::Failed(Cause::InUse))
 }
 
+// Fails unless the new file is still ours and the old one is still as it was seen.
+fn compare<R: rt::Files + Alloc>(
+    calls: &Calls<'_, R>,
+    new_file: &mut NewFile<String<R::A>, R::File>,
+    old: &Old<R>,
+) -> Result<(), DiskFault>
+    requires synced { new_file.old.stage ≡ Synced (snapshot_file old.now.snapshot) }
+    requires beside { string_bytes new_file.old.path ≡ new_path (path_buf_bytes old.now.target.path) }
+    ensures stage { OnOk result (new_file.new ≡ record new_file.old { stage = Same (snapshot_file old.now.snapshot) }) }
+    ensures plain { OnOk result (IsPlainOrNone (snapshot_file old.now.snapshot)) }
+{
+    if calls.is_at_path(new_file)? && calls.compare(new_file, old.target.path(), &old.snapshot)? {
+        Ok(())
+    } else {
+        Err(DiskFault::Failed(Cause::Changed))
+    }
+}
+
 // Returns whether no program has locked the file to change it. Fails unless the new file is still ours and the file
 // is still as it was seen.
 fn is_ready<R: rt::Files + rt::Clock + Alloc>(
@@ -66,9 +84,7 @@ fn is_ready<R: rt::Files + rt::Clock + Alloc>(
         ≡ record new_file.old { stage = watched is (Same (snapshot_file old.now.snapshot)) }) }
     ensures plain { OnOk result (IsPlainOrNone (snapshot_file old.now.snapshot)) }
 {
-    if !calls.is_at_path(new_file)? || !calls.compare(new_file, old.target.path(), &old.snapshot)? {
-        return Err(DiskFault::Failed(Cause::Changed));
-    }
+    compare(calls, new_file, old)?;
     calls.watch(new_file, old.mount(), deadline)
 }
 

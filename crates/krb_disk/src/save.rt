@@ -3,7 +3,8 @@
 ghost use Rattle.std.specs.Prelude.{◌≡◌, Some, OnOk, string_bytes};
 ghost use Rattle.std.specs.Io.KnownBytes.{Appends};
 ghost use Rattle.krb_disk.specs.NewFile.{IsFilled};
-ghost use Rattle.krb_disk.specs.declared.stage.Stage.TheVariants.{Held, Written, Permitted, Synced};
+ghost use Rattle.krb_disk.specs.Stages.{IsDueMode};
+ghost use Rattle.krb_disk.specs.declared.stage.Stage.TheVariants.{Held, Written, Synced};
 
 use crate::calls::{Calls, NewFile};
 use crate::fault::DiskFault;
@@ -29,7 +30,21 @@ where
     Ok(())
 }
 
-// Sets the owner and the group of the new file as far as allowed, and the mode due after that.
+// Sets the mode due to the new file, and syncs it.
+fn permit_and_sync<R: rt::Files + Alloc>(
+    calls: &Calls<'_, R>,
+    file: &mut NewFile<String<R::A>, R::File>,
+    old: Option<Found>,
+    mode: u32,
+) -> Result<(), DiskFault>
+    requires { IsDueMode old file.old.stage mode }
+    ensures { OnOk result (file.new ≡ record file.old { stage = Synced old }) }
+{
+    calls.permit(file, old, mode)?;
+    Ok(calls.sync(file)?)
+}
+
+// Sets the owner and the group of the new file as far as allowed, and the mode due after that, and syncs it.
 fn inherit<R: rt::Files + Alloc>(
     calls: &Calls<'_, R>,
     file: &mut NewFile<String<R::A>, R::File>,
@@ -38,7 +53,7 @@ fn inherit<R: rt::Files + Alloc>(
 where
     R::File: SetOwner,
     requires { file.old.stage ≡ Written }
-    ensures { OnOk result (file.new ≡ record file.old { stage = Permitted (Some old) }) }
+    ensures { OnOk result (file.new ≡ record file.old { stage = Synced (Some old) }) }
 {
     give_owner(calls, file, &old)?;
     let new = calls.stat(file)?;
@@ -46,11 +61,11 @@ where
         owner: new.owner == old.owner,
         group: new.group == old.group,
     };
-    Ok(calls.permit(file, Some(old), new_mode(old.mode, has))?)
+    permit_and_sync(calls, file, Some(old), new_mode(old.mode, has))
 }
 
-// Sets the owner, the group and the mode of the new file.
-fn give_mode<R: rt::Files + Alloc>(
+// Sets the owner, the group and the mode of the new file, and syncs it.
+fn complete<R: rt::Files + Alloc>(
     calls: &Calls<'_, R>,
     file: &mut NewFile<String<R::A>, R::File>,
     old: Option<Found>,
@@ -58,11 +73,11 @@ fn give_mode<R: rt::Files + Alloc>(
 where
     R::File: SetOwner,
     requires { file.old.stage ≡ Written }
-    ensures { OnOk result (file.new ≡ record file.old { stage = Permitted old }) }
+    ensures { OnOk result (file.new ≡ record file.old { stage = Synced old }) }
 {
     match old {
         Some(old) => inherit(calls, file, old),
-        None => Ok(calls.permit(file, None, PRIVATE)?),
+        None => permit_and_sync(calls, file, None, PRIVATE),
     }
 }
 
@@ -81,6 +96,5 @@ where
     ensures stage { OnOk result (new.new.stage ≡ Synced old) }
 {
     calls.write(new, bytes)?;
-    give_mode(calls, new, old)?;
-    Ok(calls.sync(new)?)
+    complete(calls, new, old)
 }

@@ -1,7 +1,7 @@
 //! A snapshot of a held file.
 
-ghost use Rattle.std.specs.Prelude.{◌≡◌, IsTrue, IfOk, IfSome};
-ghost use Rattle.krb_disk.specs.Looks.{IsPlainOrNone};
+ghost use Rattle.std.specs.Prelude.{◌≡◌, ◌↔◌, IsTrue, IfOk, IfSome};
+ghost use Rattle.krb_disk.specs.Looks.{IsPlain, IsPlainOrNone, IsUnchanged};
 ghost use Rattle.krb_disk.specs.Stages.{IsLoaded, snapshot_file};
 
 use crate::fault::DiskFault;
@@ -21,6 +21,13 @@ pub enum Snapshot<A: Allocator> {
     Nothing,
     File(Found),
     Loaded(Found, Vec<u8, Wiping<A>>),
+}
+
+// Returns whether the old one is a plain file, and the new one is that file, unchanged.
+fn is_same_plain(old: &Found, new: &Found) -> bool
+    ensures { IsTrue result ↔ (IsPlain old.now × IsUnchanged old.now new.now) }
+{
+    old.is_file() && is_unchanged(old, new)
 }
 
 // Returns whether the open file is that file, unchanged, with these bytes.
@@ -85,10 +92,10 @@ impl<A: Allocator> Snapshot<A> {
     {
         match (self, looks.look(path)?) {
             (Snapshot::Nothing, None) => Ok(true),
-            (Snapshot::File(file), Some(found)) => Ok(file.is_file() && is_unchanged(file, &found)),
-            (Snapshot::Loaded(file, bytes), Some(found)) => Ok(
-                file.is_file() && is_unchanged(file, &found) && leads_to(looks, path, file, bytes)?,
-            ),
+            (Snapshot::File(file), Some(found)) => Ok(is_same_plain(file, &found)),
+            (Snapshot::Loaded(file, bytes), Some(found)) => {
+                Ok(is_same_plain(file, &found) && leads_to(looks, path, file, bytes)?)
+            }
             _ => Ok(false),
         }
     }

@@ -17,10 +17,12 @@ pub fn read_script<A: Allocator + Copy, L: ScriptLine<A>, R: Read>(
 ) -> Result<Vec<L, A>, RunError>
     ensures { GivesLines L.line_in input.old input.new (result_map (λ lines. lines.items) result) }
 {
-    match load(alloc, input, USUAL_LIMIT, 0) {
-        Ok(text) => parse_script(alloc, &text).map_err(|refusal| RunError::of_script(
-            refusal, &text,
-        )),
-        Err(fault) => Err(RunError::of_input(fault)),
+    let text = match load(alloc, input, USUAL_LIMIT, 0) {
+        Ok(text) => text,
+        Err(fault) => return Err(RunError::of_input(fault)),
+    };
+    match parse_script(alloc, &text) {
+        Ok(lines) => Ok(lines),
+        Err(refusal) => Err(RunError::of_script(refusal, &text)),
     }
 }

@@ -1,8 +1,8 @@
 //! The calls of a save in place.
 
-ghost use Rattle.std.specs.Prelude.{◌≡◌, ◌∷◌, ◌↔◌, length, IfOk, IsTrue, OnOk, OnErr, string_bytes};
+ghost use Rattle.std.specs.Prelude.{◌≡◌, ◌∷◌, ◌↔◌, length, IfOk, IsTrue, OnOk, OnErr, Some, string_bytes};
 ghost use Rattle.krb_disk.specs.Content.{AtEach, Cuts, IsPatch, Writes};
-ghost use Rattle.krb_disk.specs.PlaceStages.{IsToRestore, compared_in_place, synced_in_place, unsynced, torn_to, watched_in_place, IsToSync};
+ghost use Rattle.krb_disk.specs.PlaceStages.{IsAftermath, IsToRestore, compared_in_place, synced_in_place, unsynced, torn_to, watched_in_place, IsToSync};
 ghost use Rattle.krb_disk.specs.declared.place_stage.PlaceStage.TheVariants.{Untouched, Same, Quiet, Extended, Lengthened, Overwritten, Cut, Saved, Whole, Mixed, Torn, Trimmed, Lost};
 
 use super::log::Log;
@@ -16,6 +16,7 @@ use crate::place_stage::PlaceStage;
 use crate::snapshot::Snapshot;
 use crate::target::Target;
 use crate::write_in_place::WriteInPlace;
+use krb_files::Aftermath;
 use std::alloc::Allocator;
 use std::fs::OpenFile;
 use std::{io, rt};
@@ -26,6 +27,16 @@ impl<F> PlaceFile<F> {
         ensures { IsTrue result ↔ IsToRestore self.now.stage }
     {
         matches!(self.stage, PlaceStage::Mixed | PlaceStage::Torn)
+    }
+
+    /// Returns what a failed save has left.
+    pub fn aftermath(&self) -> Aftermath
+        ensures { IsAftermath self.now.stage (Some result) }
+    {
+        match self.stage {
+            PlaceStage::Back => Aftermath::Restored,
+            _ => Aftermath::Damaged,
+        }
     }
 }
 

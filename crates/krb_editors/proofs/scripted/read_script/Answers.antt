@@ -1,20 +1,19 @@
-use Rattle.std.proofs.Common.{◌≡◌, ◌⊎◌, inl, inr, ℕ, List, sym, ap, arith}
+use Rattle.std.proofs.Common.{◌≡◌, ◌⊎◌, inl, inr, ℕ, List, sym, ap, ◌∙◌, arith}
 use Rattle.std.specs.Prelude.{Result, Ok, Err}
-use Rattle.std.proofs.lemmas.Result.{err_from_is_err_and}
 use Rattle.krb_text.specs.declared.line_fault.LineFault.{LineFault}
 use Rattle.krb_text.specs.declared.script.ScriptRefusal.{ScriptRefusal}
 use Rattle.krb_text.specs.declared.script.ScriptRefusal.TheVariants as refusal
 use Rattle.krb_text.specs.Script.{ScriptFault, RefusesScript, script_by}
 use Rattle.krb_driver.specs.declared.error.RunError.{RunError}
-use Rattle.krb_driver.specs.declared.error.RunError.TheVariants.{FaultyLine, NoMemory}
+use Rattle.krb_driver.specs.declared.error.RunError.TheVariants.{NoMemory}
 use Rattle.krb_driver.specs.Loading.{result_map_err}
 use Rattle.krb_editors.specs.Scripted.{lines_in}
-use Rattle.krb_driver.specs.RunErrors.{script_error}
+use Rattle.krb_driver.specs.RunErrors.{line_error, script_error}
 use Rattle.krb_driver.proofs.Shown.{GivesInput-err, GivesInput-ok}
 use Rattle.krb_editors.proofs.scripted.read_script.Goals as goal
 
 -- a script is refused for its first fault, or memory ran out
-refused : {L : Type 0} (reads : List ℕ → Result L LineFault) (text : List ℕ) (why : ScriptRefusal) (given : Result (List L) RunError) → RefusesScript (script_by reads text) why → given ≡ Err (script_error why)
+refused : {L : Type 0} (reads : List ℕ → Result L LineFault) (text : List ℕ) (why : ScriptRefusal) (given : Result (List L) RunError) → RefusesScript (script_by reads text) why → given ≡ Err (script_error text why)
     → (given ≡ Err NoMemory) ⊎ (given ≡ lines_in reads (Ok text))
 refused reads text (refusal.Fault line kind) given is given_is = rw is (inr given_is)
 refused reads text refusal.NoMemory given is given_is = inl given_is
@@ -30,21 +29,22 @@ returns-in-Err g c =
     }
 
 -- the script was refused
-pub returns-in_err-parse_script-in-Ok : goal.returns-in_err-parse_script-in-Ok
-returns-in_err-parse_script-in-Ok g c =
-    let p = err_from_is_err_and c.from_residual.result c.from_residual.ensures.1 in
+pub returns : goal.returns
+returns g c =
     let text = c.in-Ok.text.items in
-    rw p.1 (record {
+    let why = c.in-Err-parse_script.refusal in
+    record {
       input = Ok text;
       read = GivesInput-ok c.args.input.now c.load.new.reader text c.in-Ok.ensures.ok (let within = c.in-Ok.ensures.within in let len = c.in-Ok.text.ok.0 in omega (arith, within, len)) c.in-Ok.ensures.failed c.in-Ok.ensures.taken;
-      given_is = refused g.L.ScriptLine.line_in text c.in_err-parse_script-in-Ok.field-0.0 (Err p.0) (rw c.deref.ensures.value at c.in_err-parse_script-in-Ok.ensures.err) (ap Err p.2);
-    })
+      given_is = refused g.L.ScriptLine.line_in text why (Err c.of_script.result) (rw c.deref.ensures.value at c.in-Err-parse_script.ensures.err)
+          (ap Err (c.of_script.ensures ∙ ap (λ (bytes : List ℕ). script_error bytes why) c.deref-in-Err-parse_script.ensures.value));
+    }
 
-pub returns-in_ok-parse_script-in-Ok : goal.returns-in_ok-parse_script-in-Ok
-returns-in_ok-parse_script-in-Ok g c =
+pub returns-in-Ok-parse_script : goal.returns-in-Ok-parse_script
+returns-in-Ok-parse_script g c =
     let text = c.in-Ok.text.items in
     record {
       input = Ok text;
       read = GivesInput-ok c.args.input.now c.load.new.reader text c.in-Ok.ensures.ok (let within = c.in-Ok.ensures.within in let len = c.in-Ok.text.ok.0 in omega (arith, within, len)) c.in-Ok.ensures.failed c.in-Ok.ensures.taken;
-      given_is = inr (sym (ap (result_map_err (λ (fault : ScriptFault). FaultyLine fault.line fault.kind)) (rw c.deref.ensures.value at c.in_ok-parse_script-in-Ok.ensures.ok)));
+      given_is = inr (sym (ap (result_map_err (λ (fault : ScriptFault). line_error text fault.line fault.kind)) (rw c.deref.ensures.value at c.in-Ok-parse_script.ensures.ok)));
     }
