@@ -23,10 +23,12 @@ WRONG_BODIES = {
     },
     "krb_walk": {
         "copy-at-start": "a walk passes over a record that was added after it started",
+        "counting-cursor": "a cursor counts records, so a removal before it skips one",
         "ends-early": "a walk ends at the first free cell",
         "never-moves": "a step leaves its cursor at the record that it gives",
         "refuses-free-place": "a walk is not resumed at a free cell",
         "removal-moves-cursor": "a removal at a cursor, or before it, moves it",
+        "reset-cursors": "a rewrite puts cursors at the front",
         "restart-at-front": "the step after a removal begins at the front",
         "rounds-place": "a walk that is resumed within a record begins at that record",
         "stale-cursors": "a rewrite leaves cursors as they are",
@@ -114,7 +116,9 @@ WRONG_BODIES = {
     },
     "krb_driver": {
         "a-failed-run-hides-what-its-save-left": "what a save left behind is not told of a run that failed",
+        "a-key-is-shown": "the first word of a script's line is shown though it may be a key",
         "a-letter-is-a-type": "one letter before a colon is a type",
+        "a-quote-ends-the-name": "a quote in the name of a file ends the operand of a hint",
         "an-option-is-named-by-its-letter": "an option that was typed by its long name is named by its letter",
         "holds-another-type": "a name of a type that is not read is held",
         "holds-no-file": "a command does not hold the file that it may change",
