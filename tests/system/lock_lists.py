@@ -29,12 +29,10 @@ MOUNTS = (b"24 1 0:37 / / rw,relatime - overlay overlay rw\n26 24 0:31 / /\xff r
 # A list without an end.
 ENDLESS = None
 
-# How many milliseconds pass before a wait ends, by the cause that is told then, and how many more at most.
+# How many milliseconds pass before a wait ends, by the cause that is told then, and how many more at most: where time
+# passes by sleeps alone, which is also the most that is slept for a lock that is there once, and by looks at the clock.
 WAITS = {"in use": 10_000, "in the way": 1_000}
-MORE = 2_000
-
-# The most that is slept for a lock that is there once.
-MOMENT = 100
+MOMENT, MORE = 100, 2_000
 
 # Waits that end: whether something that is not ours has the name of the new file, the list of locks, by how many
 # milliseconds each reading of the clock advances it, 0 if it cannot be read, and the cause.
@@ -90,7 +88,8 @@ def check_ends(report: Report, under: Preloaded) -> None:
         got = seen(under, {"locks": locks}, pace, is_taken)
         faults = differences(explained(UNSAVED, CAUSES[cause].replace("NAME", "k")), got.outcome)
         faults += [] if got.files == {"k": OLD} else ["other files"]
-        faults += [] if WAITS[cause] <= got.passed <= WAITS[cause] + MORE else [f"it took {got.passed} ms"]
+        most = WAITS[cause] + (MORE if pace else MOMENT)
+        faults += [] if WAITS[cause] <= got.passed <= most else [f"it took {got.passed} ms"]
         report.check(f"{locks} stays, {pace} ms a reading, {is_taken}", faults)
 
 
