@@ -11,8 +11,8 @@
  *   ZERO_SAVE=N          the Nth write to a file takes no byte
  *   ERROR=N              a call that fails has the error of that number, and not EIO
  *   MOST=N               each read and each write moves at most N bytes
- *   CLOCK=N              the clock has N seconds since 1970, as a signed 64-bit number
- *   FAIL_CLOCK=1         the clock cannot be read
+ *
+ * And those of seen.c, by which a program sees another clock, and other lists of the system.
  *
  * Only calls from the start of main on count, and of malloc, calloc and realloc only those by the
  * program's own code. The counts stand in a shared mapping, so they outlive the program however it
@@ -28,8 +28,9 @@
 #include <sys/mman.h>
 #include <sys/syscall.h>
 #include <sys/vfs.h>
-#include <time.h>
 #include <unistd.h>
+
+#include "preload.h"
 
 extern void *__libc_malloc(size_t);
 extern void *__libc_calloc(size_t, size_t);
@@ -43,19 +44,11 @@ struct calls {
 };
 
 static struct calls requests, inputs, reads, writes, saves;
-static uint64_t refuse_lasts, error, most, clock_seconds, fail_clock;
-
-struct counts {
-    uint64_t requests;
-    uint64_t reads;
-    uint64_t writes;
-    /* The calls that were not granted. */
-    uint64_t failures;
-};
+static uint64_t refuse_lasts, error, most;
 
 static struct counts unshared;
-static struct counts *counts = &unshared;
-static int in_main;
+struct counts *counts = &unshared;
+int in_main;
 static uintptr_t program_start, program_end;
 
 /* Finds where the program's own code lies: it is the first object. */
@@ -167,29 +160,7 @@ ssize_t pwrite64(int fd, const void *bytes, size_t size, off64_t at)
     return pwrite(fd, bytes, size, at);
 }
 
-int clock_gettime(clockid_t clock, struct timespec *time)
-{
-    if (!in_main || clock != CLOCK_REALTIME || (clock_seconds == 0 && !fail_clock))
-        return (int)syscall(SYS_clock_gettime, clock, time);
-    counts->failures += fail_clock;
-    errno = EINVAL;
-    time->tv_sec = (time_t)clock_seconds;
-    time->tv_nsec = 999999999;
-    return fail_clock ? -1 : 0;
-}
-
-/* MIT's programs read the clock by this call. */
-time_t time(time_t *seconds)
-{
-    struct timespec now;
-    time_t found = clock_gettime(CLOCK_REALTIME, &now) == 0 ? now.tv_sec : -1;
-    if (seconds)
-        *seconds = found;
-    return found;
-}
-
-/* Takes a number out of the environment; 0 where it is not there. */
-static uint64_t taken(const char *name)
+uint64_t taken(const char *name)
 {
     const char *text = getenv(name);
     uint64_t value = text ? strtoull(text, NULL, 10) : 0;
@@ -236,8 +207,7 @@ static int counted_main(int argc, char **argv, char **envp)
     saves.take_none = taken("ZERO_SAVE");
     error = taken("ERROR");
     most = taken("MOST");
-    clock_seconds = taken("CLOCK");
-    fail_clock = taken("FAIL_CLOCK");
+    take_seen();
     in_main = 1;
     int status = program_main(argc, argv, envp);
     in_main = 0;

@@ -1,4 +1,5 @@
-"""Runs of the program under a preloaded library (preload.c) that lets chosen C library calls fail."""
+"""Runs of the program under a preloaded library (preload.c, seen.c) that lets chosen C library calls fail, and shows
+other lists of the system."""
 from __future__ import annotations
 
 import os
@@ -12,7 +13,7 @@ from dataclasses import dataclass
 
 from runs.harness import Outcome, Report, files_in, folder_of, run
 
-SOURCE = os.path.join(os.path.dirname(os.path.abspath(__file__)), "preload.c")
+SOURCES = [os.path.join(os.path.dirname(os.path.abspath(__file__)), name) for name in ("preload.c", "seen.c")]
 
 # More calls of one kind than any run makes.
 MOST_CALLS = 10_000
@@ -34,12 +35,17 @@ class Line:
 
 @dataclass(frozen=True)
 class Counted:
-    """A run, the files after it, its allocations, and the number of its calls that failed or moved nothing."""
+    """A run, the files after it, its allocations, and the number of its calls that failed or moved nothing.
+
+    Where a pace is set also how many milliseconds it slept, and how many passed.
+    """
 
     outcome: Outcome
     files: dict[str, bytes]
     requests: int
     failures: int
+    slept: int = 0
+    passed: int = 0
 
 
 class Preloaded:
@@ -55,7 +61,7 @@ class Preloaded:
         return Preloaded(self.program, self.library, files)
 
     def run(self, line: Line, **settings: int | str) -> Counted | None:
-        """Makes a run with the settings that preload.c describes, and other variables; None if that was not loaded."""
+        """Makes a run with the settings that the sources describe, and other variables; None if that was not loaded."""
         with folder_of(self.files) as folder:
             return self.run_in(folder, line, **settings)
 
@@ -65,10 +71,10 @@ class Preloaded:
             env = {"LD_PRELOAD": self.library, "PRELOAD_COUNTS": counts.name}
             env.update((name, str(value)) for name, value in settings.items())
             outcome = run(self.program, line.words, folder, line.stdin, env=env)
-            if not (counted := counts.read(32)):
+            if not (counted := counts.read(48)):
                 return None
-            requests, _, _, failures = struct.unpack("=4Q", counted)
-            return Counted(outcome, files_in(folder), requests, failures)
+            requests, _, _, *others = struct.unpack("=6Q", counted)
+            return Counted(outcome, files_in(folder), requests, *others)
 
 
 def built_library(folder: str) -> str | None:
@@ -78,7 +84,7 @@ def built_library(folder: str) -> str | None:
     if compiler is None:
         return None
     library = os.path.join(folder, "preload.so")
-    words = [compiler, "-O2", "-Wall", "-shared", "-fPIC", "-o", library, SOURCE, "-ldl"]
+    words = [compiler, "-O2", "-Wall", "-shared", "-fPIC", "-o", library, *SOURCES, "-ldl"]
     return library if subprocess.run(words, check=False).returncode == 0 else None
 
 

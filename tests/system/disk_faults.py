@@ -1,14 +1,20 @@
-"""Saves that fail or are killed at each system call: the file is the old or the new one, whole."""
+"""Saves that fail or are killed at each system call: the file is the old or the new one, whole, and the cause is told."""
 
+import errno
 import os
+import re
 import signal
 import subprocess
 from collections.abc import Iterator
 from contextlib import contextmanager
 
+from clients.python_failures import FAILED
+from models.cases import IN_PLACE
 from runs.harness import Outcome, Report, differences, folder_of, message, run
 from runs.preload import Line
 from runs.system_calls import Call, calls_of, check_traced, traced
+from runs.terminal import EXPLAIN
+from system.placing import explained
 from system.saving import (
     GROUP,
     NEW,
@@ -19,12 +25,14 @@ from system.saving import (
     UNSAVED,
     USER,
     Owned,
+    Place,
     edit,
     owned,
     tree,
     tree_faults,
     write,
 )
+from words.phrases import AFTERMATHS, CAUSES
 
 LINE = Line(("ktedit", "k"), SCRIPT)
 
@@ -39,8 +47,11 @@ MODE = 0o640
 UNPRINTED = message(3, "cannot write output")
 KILLED = Outcome(-signal.SIGKILL)
 
-# The contents of the file after each outcome of a run in which one call failed.
-WANTED = {SAVED: NEW, UNREAD: OLD, UNSAVED: OLD, UNPRINTED: NEW}
+# How the traces begin of calls that have other names in FAILED.
+TRACES = {"open": r"open.*O_CREAT", "lstat": r'\w*stat\w*\(.*"k"'}
+
+# More than the number of any error of the system.
+MOST_ERRORS = 134
 
 
 def place(folder: str) -> None:
@@ -50,23 +61,37 @@ def place(folder: str) -> None:
     os.symlink(TARGET, os.path.join(folder, "k"))
 
 
-def calls_of_run(program: str) -> list[Call]:
+def alone(folder: str) -> None:
+    """Makes a file alone."""
+    write(os.path.join(folder, "k"), OLD)
+
+
+def calls_of_run(program: str, setting: Place, line: Line = LINE) -> list[Call]:
     """Returns the calls from the first that names the file, or none if they cannot be traced."""
     with folder_of({}) as folder:
-        place(folder)
-        outcome, lines = traced(program, LINE, folder)
+        setting(folder)
+        outcome, lines = traced(program, line, folder)
     return [*calls_of(lines, '"k"')] if outcome == SAVED else []
 
 
-def faults_of_failure(folder: str, outcome: Outcome) -> list[str]:
-    """Returns the faults after a run in which one call failed."""
-    if outcome not in WANTED:
-        return [f"{outcome}"]
-    wanted = {"k": TARGET, TARGET: WANTED[outcome]}
-    # A run that fails early does not reach the stale file of an earlier save.
-    if WANTED[outcome] == OLD and tree(folder) == {**wanted, NEW_NAME: REMAINS}:
-        return []
-    return tree_faults(wanted, folder)
+def ends(phrase: str) -> dict[Outcome, bytes]:
+    """Returns how a run may end of which a call fails, by the phrase for that, and what its file has then."""
+    failed = {UNREAD: OLD, UNSAVED: OLD, UNPRINTED: NEW}
+    return {SAVED: NEW, explained(UNSAVED, phrase, AFTERMATHS["restored"]): OLD,
+            **{explained(outcome, phrase): data for outcome, data in failed.items()}}
+
+
+def faults_of_failure(program: str, line: Line, call: Call, error: str) -> list[str]:
+    """Returns the faults of a run in which a call fails."""
+    with folder_of({}) as folder:
+        place(folder)
+        outcome, _ = traced(program, line, folder, *call.to(f"error={error}"))
+        left = tree(folder)
+    data = ends(CAUSES["owner" if call.name == "fchown" else error]).get(outcome)
+    # A run that fails early does not reach the stale file of an earlier save, nor does one that saves in place.
+    may_be = [{"k": TARGET, TARGET: data}] if IN_PLACE not in line.words else []
+    may_be += [{"k": TARGET, TARGET: data, NEW_NAME: REMAINS}] if data == OLD or IN_PLACE in line.words else []
+    return [] if left in may_be else [f"{outcome} and {left}"]
 
 
 def faults_of_kill(program: str, folder: str, outcome: Outcome) -> list[str]:
@@ -82,23 +107,57 @@ def faults_of_kill(program: str, folder: str, outcome: Outcome) -> list[str]:
     return faults + tree_faults({"k": TARGET, TARGET: NEW}, folder)
 
 
-def check_calls(report: Report, program: str) -> None:
-    """Lets each call fail in turn, and then kills the run at each."""
-    calls = calls_of_run(program)
-    names = {call.name for call in calls}
-    report.check("the calls of a save", [] if {"fsync", "rename"} <= names else [f"{names}"])
+def check_calls(report: Report, program: str, *options: str) -> None:
+    """Lets each call fail in turn: what is told is its cause."""
+    line = Line((EXPLAIN, "ktedit", *options, "k"), SCRIPT)
+    calls = calls_of_run(program, place, line)
+    missing = {"fsync", "pwrite64" if options else "rename"} - {call.name for call in calls}
+    report.check(f"the calls of {line}", sorted(missing))
     for call in calls:
         for error in ("EIO", "ENOSPC"):
-            with folder_of({}) as folder:
-                place(folder)
-                outcome, _ = traced(program, LINE, folder, *call.to(f"error={error}"))
-                faults = faults_of_failure(folder, outcome)
-            report.check(f"{call} fails with {error}", faults)
+            report.check(f"{call} of {line} fails with {error}", faults_of_failure(program, line, call, error))
+
+
+def check_both_ways(report: Report, program: str) -> None:
+    """Lets each call fail of a save that replaces, and of one in place."""
+    check_calls(report, program)
+    check_calls(report, program, IN_PLACE)
+
+
+def check_kills(report: Report, program: str) -> None:
+    """Kills the run at each call."""
+    for call in calls_of_run(program, place):
         with folder_of({}) as folder:
             place(folder)
             outcome, _ = traced(program, LINE, folder, *call.to("signal=KILL"))
             faults = faults_of_kill(program, folder, outcome)
         report.check(f"killed at {call}", faults)
+
+
+def check_causes(report: Report, program: str) -> None:
+    """Checks what is told of each error: the first call of that name fails with it."""
+    line = Line((EXPLAIN, *LINE.words), SCRIPT)
+    calls = calls_of_run(program, alone)
+    for name, errors in FAILED.items():
+        call = next(call for call in calls if re.match(TRACES.get(name, name), call.line))
+        for error, phrase in errors.items():
+            with folder_of({}) as folder:
+                alone(folder)
+                outcome, _ = traced(program, line, folder, *call.to(f"error={error}"))
+                faults = differences(explained(UNSAVED, phrase) if phrase else SAVED, outcome)
+                faults += tree_faults({"k": OLD if phrase else NEW}, folder)
+            report.check(f"{name} fails with {error}", faults)
+
+
+def check_missing(report: Report, program: str) -> None:
+    """Checks that of the errors of an opening only ENOENT means that there is no file. EINTR is tried again."""
+    for error in range(1, MOST_ERRORS):
+        if error != errno.EINTR:
+            with folder_of({"k": OLD}) as folder:
+                fail = ("-P", "k", "-e", f"inject=?open,?openat:error={error}")
+                outcome, _ = traced(program, Line(("klist", "-k", "k")), folder, *fail)
+            is_missing = error == errno.ENOENT
+            report.compare(f"error {error}", message(1, "k: no such file") if is_missing else UNREAD, outcome)
 
 
 @contextmanager
@@ -205,6 +264,6 @@ def check_no_proc(report: Report, program: str) -> None:
 def check(report: Report, program: str) -> None:
     """Runs this topic."""
     check_traced(report, program, "system calls that fail",
-                 check_calls, check_owner, check_lock, check_no_proc)
+                 check_both_ways, check_kills, check_causes, check_missing, check_owner, check_lock, check_no_proc)
     check_full_disk(report, program)
     check_fixed(report, program)

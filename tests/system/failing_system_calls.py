@@ -212,11 +212,19 @@ def hasty_renames(calls: list[Call], run: Modelled) -> list[str]:
     return found
 
 
+def unsynced_renames(calls: list[Call]) -> list[str]:
+    """Returns the renames after which the folder is not synced at once."""
+    lines = [call.line for call in calls]
+    return [line for at, line in enumerate(lines) if line.startswith("rename")
+            and not re.match(r'open.*"\.", .*\nfsync', "\n".join(lines[at + 1:at + 3]))]
+
+
 def calls_of_run(report: Report, program: str, run: Modelled, steps: list[Step]) -> list[Call]:
     """Returns the calls of a run, each of which has to belong to a step."""
     got, trace = traced_run(program, run)
     calls = [*calls_of(trace, first_text(run, steps))]
     report.check(f"the locks before a rename of {run.case.name}", hasty_renames(calls, run))
+    report.check(f"the sync after a rename of {run.case.name}", unsynced_renames(calls))
     is_wanted = steps_of(calls, steps) and run.is_whole(got.outcome, got.files)
     report.check(f"the system calls of {run.case.name}", [] if is_wanted else ["not as wanted"])
     return calls if is_wanted else []

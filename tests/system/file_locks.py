@@ -84,7 +84,7 @@ def check_no_waits(report: Report, program: str) -> None:
     """Checks that runs that change nothing wait for no lock, nor those that replace for one to read."""
     rows = [(case, lock, file) for case in LOCKING_NOTHING for lock in (FLOCK, TO_WRITE) for file in case.files]
     rows += [(case, TO_READ, file_of(case)) for case in PLACED]
-    rows += [(case, FLOCK, "k") for case in BOTH_WAYS if case.words[0] == "ktcopy"]
+    rows += [(case, lock, "k") for case in BOTH_WAYS if case.words[0] == "ktcopy" for lock in (FLOCK, TO_WRITE)]
     for case, lock, file in rows:
         faults, seconds = ended_beside(program, case, lock, file)
         faults += [] if seconds < AT_ONCE else [f"it took {seconds:.1f} seconds"]

@@ -68,6 +68,7 @@ REPLACED: list[tuple[str, bool, Place]] = [
 CHANGED: list[tuple[str, bool, Place]] = [
     ("another mode", True, at_name(lambda path: os.chmod(path, 0o640))),
     ("no bytes", True, at_name(lambda path: write(path, b""))),
+    ("another byte", True, at_name(lambda path: write(path, OLD[:-1] + b"\x01"))),
     ("a byte less", True, at_name(lambda path: write(path, OLD[:-1]))),
     ("an entry more", True, at_name(lambda path: write(path, keytab(B)))),
     ("another group", True, at_name(lambda path: os.chown(path, -1, USER))),

@@ -1,12 +1,7 @@
-//! Memory that is refused, files in memory, commands over them, and a disk whose calls are noted.
+//! Memory that is refused, files in memory, commands over them, and holds on the disk.
 
 mod checks;
 mod commands;
-mod disk;
 mod holds;
 mod images;
-mod in_place;
-mod locks;
 mod runs;
-mod saves;
-mod state;

@@ -21,15 +21,15 @@ pub enum ActionKind {
     /// A check of `k` and of `KCM:n`.
     Ktcheck,
     Ktedit,
-    /// A removal of the entry of `host/a@R`, or a dry run of it.
-    Ktremove(bool),
-    /// A copy of the entry of `host/a@R` from `k` into `n`, or a dry run of it.
-    Ktcopy(bool),
+    /// A removal of the entry of `host/a@R`.
+    Ktremove,
+    /// A copy of the entry of `host/a@R` from `k` into `n`.
+    Ktcopy,
     /// Whether there is a ticket that is valid.
     CheckTicket,
     Ccedit,
-    /// A removal of the tickets for `krbtgt/R@R`, or a dry run of it.
-    Ccremove(bool),
+    /// A removal of the tickets for `krbtgt/R@R`.
+    Ccremove,
     Ktutil,
 }
 
@@ -92,13 +92,13 @@ rewritten 92\nwalk 0 gave 47 next 92 kvno 3 etype 17 b@R\nwalk 0 end 92\n",
         ..COMMAND
     },
     Command {
-        action: ActionKind::Ktremove(false),
+        action: ActionKind::Ktremove,
         text: "removed 2 kvno 3 etype 17 host/a@R\n",
         left: REMOVED,
         ..COMMAND
     },
     Command {
-        action: ActionKind::Ktcopy(false),
+        action: ActionKind::Ktcopy,
         text: "copied 2 kvno 3 etype 17 host/a@R\n",
         name: "n",
         left: ADDED,
@@ -119,7 +119,7 @@ walk 0 gave 268 next 404 config pa_type(krbtgt/R@R)\nwalk 0 end 404\n",
         ..COMMAND
     },
     Command {
-        action: ActionKind::Ccremove(false),
+        action: ActionKind::Ccremove,
         text: "removed 22 krbtgt/R@R\n",
         name: "c",
         left: CACHE_REWRITTEN,
@@ -185,20 +185,20 @@ fn look_up(alloc: Global) -> Result<FindOptions<Global>, Fail> {
 }
 
 /// Returns the options of a removal of `host/a@R` of version 3 and enctype 17.
-fn removal(alloc: Global, dry_run: bool) -> Result<RemoveOptions<Global>, Fail> {
+fn removal(alloc: Global) -> Result<RemoveOptions<Global>, Fail> {
     Ok(RemoveOptions {
         selection: Selection {
             names: vec![in alloc; name(alloc, b"host/a@R")?]?,
             kvno: SelectedKvno::Exactly(3),
             enctypes: vec![in alloc; 17]?,
         },
-        dry_run,
+        dry_run: false,
         v1_order: Order::Little,
     })
 }
 
 /// Returns the options of a copy of the newest entries of `host/a@R`.
-fn copy(alloc: Global, dry_run: bool) -> Result<CopyOptions<Global>, Fail> {
+fn copy(alloc: Global) -> Result<CopyOptions<Global>, Fail> {
     Ok(CopyOptions {
         selection: Selection {
             names: vec![in alloc; name(alloc, b"host/a@R")?]?,
@@ -206,16 +206,16 @@ fn copy(alloc: Global, dry_run: bool) -> Result<CopyOptions<Global>, Fail> {
             enctypes: Vec::new(alloc),
         },
         replace: true,
-        dry_run,
+        dry_run: false,
         v1_order: Order::Little,
     })
 }
 
-fn tickets(alloc: Global, dry_run: bool) -> Result<TicketOptions<Global>, Fail> {
+fn tickets(alloc: Global) -> Result<TicketOptions<Global>, Fail> {
     Ok(TicketOptions {
         servers: vec![in alloc; name(alloc, b"krbtgt/R@R")?]?,
         expired: false,
-        dry_run,
+        dry_run: false,
     })
 }
 
@@ -233,7 +233,7 @@ impl ActionKind {
             ActionKind::KlistCache
             | ActionKind::CheckTicket
             | ActionKind::Ccedit
-            | ActionKind::Ccremove(_) => "c",
+            | ActionKind::Ccremove => "c",
             _ => "k",
         }
     }
@@ -266,9 +266,9 @@ impl ActionKind {
                 Action::Ktcheck(check(), vec![in alloc; keytab, other]?)
             }
             ActionKind::Ktedit => Action::Ktedit(Order::Little, keytab),
-            ActionKind::Ktremove(dry_run) => Action::Ktremove(removal(alloc, dry_run)?, keytab),
-            ActionKind::Ktcopy(dry_run) => Action::Ktcopy(
-                copy(alloc, dry_run)?,
+            ActionKind::Ktremove => Action::Ktremove(removal(alloc)?, keytab),
+            ActionKind::Ktcopy => Action::Ktcopy(
+                copy(alloc)?,
                 keytab,
                 named(FileKind::Keytab, "FILE:n"),
             ),
@@ -276,7 +276,7 @@ impl ActionKind {
                 Action::CheckTicket(TicketCheck { seconds: 0 }, Some(cache))
             }
             ActionKind::Ccedit => Action::Ccedit(cache),
-            ActionKind::Ccremove(dry_run) => Action::Ccremove(tickets(alloc, dry_run)?, cache),
+            ActionKind::Ccremove => Action::Ccremove(tickets(alloc)?, cache),
             ActionKind::Ktutil => Action::Ktutil(Order::Little, false),
         }))
     }

@@ -13,7 +13,7 @@ use std::process::Abort;
 use std::test::Fail;
 
 /// Runs an action over some files, with that input, and returns the exit status.
-pub fn respond_over<A: Allocator + Copy, F: Files, E: Write>(
+fn respond_over<A: Allocator + Copy, F: Files, E: Write>(
     alloc: A,
     action: &Result<Action<'_>, WordFault<'_>>,
     files: &mut F,

@@ -1,0 +1,107 @@
+"""Lists of locks that no system shows at will, and waits by a clock that passes at once.
+
+Each file has the number 0 on the device 0:0. That of its mount is 0:38, if that is known.
+"""
+
+import os
+
+from clients.python_failures import LOCK_LINES
+from runs.harness import Report, differences, folder_of
+from runs.preload import Counted, Line, Preloaded, preloaded
+from runs.terminal import EXPLAIN
+from system.failing_system_calls import READINGS
+from system.placing import explained
+from system.saving import NEW, OLD, SAVED, SCRIPT, UNSAVED
+from words.phrases import CAUSES
+
+LINE = Line((EXPLAIN, "ktedit", "k"), SCRIPT)
+
+# A lock to write on the file and one to read, which is not waited for, and the lock that another run has.
+LOCK = b"1: POSIX  ADVISORY  WRITE 12 00:00:0 0 EOF\n"
+NO_LOCK = b"1: POSIX  ADVISORY  READ 12 00:00:0 0 EOF\n"
+FLOCK = b"1: FLOCK  ADVISORY  WRITE 9 00:00:0 0 EOF\n"
+
+# What is told of an open file, which is on mount 25, and a list of mounts, one of which has a name that is not UTF-8.
+OPEN_FILE = b"pos:\t0\nflags:\t0100001\nmnt_id:\t25\nino:\t131\n"
+MOUNTS = (b"24 1 0:37 / / rw,relatime - overlay overlay rw\n26 24 0:31 / /\xff rw - tmpfs t1 rw\n"
+          b"25 24 0:38 / /tmp rw shared:2 - tmpfs t2 rw\n")
+
+# A list without an end.
+ENDLESS = None
+
+# How many milliseconds pass before a wait ends, by the cause that is told then, and how many more at most: where time
+# passes by sleeps alone, which is also the most that is slept for a lock that is there once, and by looks at the clock.
+WAITS = {"in use": 10_000, "in the way": 1_000}
+MOMENT, MORE = 100, 2_000
+
+# Waits that end: whether something that is not ours has the name of the new file, the list of locks, by how many
+# milliseconds each reading of the clock advances it, 0 if it cannot be read, and the cause.
+ENDS = (
+    (False, LOCK, 0, "in use"), (False, LOCK, 10, "in use"), (False, ENDLESS, 100, "in use"),
+    (True, FLOCK, 0, "in use"),
+    (True, b"", 0, "in the way"), (True, LOCK, 0, "in the way"), (True, b"", 100, "in the way"),
+)
+
+
+def seen(under: Preloaded, lists: dict[str, bytes | None], pace: int = 0, is_taken: bool = False) -> Counted:
+    """Makes a run to which the system shows those lists, and by whose clock time passes in that way."""
+    lists = {"locks": b"", "fdinfo": OPEN_FILE, "mountinfo": MOUNTS, **lists}
+    there = {name: data for name, data in lists.items() if data is not ENDLESS}
+    with folder_of(there) as proc, folder_of(under.files) as folder:
+        for name in lists.keys() - there.keys():
+            os.symlink("/dev/zero", os.path.join(proc, name))
+        if is_taken:
+            os.mkdir(os.path.join(folder, "k.krbfile"))
+        return under.run_in(folder, LINE, PROC=proc, PACE=pace)
+
+
+def faults_of_save(got: Counted, is_waited: bool) -> list[str]:
+    """Returns the faults of a run that saves, after a moment or at once."""
+    found = differences(SAVED, got.outcome) + ([] if got.files == {"k": NEW} else ["other files"])
+    is_due = 0 < got.slept <= MOMENT if is_waited else got.slept == 0
+    return found + ([] if is_due else [f"it slept for {got.slept} ms"])
+
+
+def check_readings(report: Report, under: Preloaded) -> None:
+    """Checks that a lock which one reading shows is waited for: most readings may miss it. So is a list too long."""
+    for nth in range(1, 2 * READINGS + 2):
+        got = seen(under, {str(nth): LOCK})
+        report.check(f"a lock in reading {nth}", faults_of_save(got, nth <= 2 * READINGS))
+    got = seen(under, {str(2 * READINGS): ENDLESS})
+    report.check("a list without an end, once", faults_of_save(got, True))
+
+
+def check_lines(report: Report, under: Preloaded) -> None:
+    """Checks each line: a lock to write on the file is waited for, on its device or that of its mount.
+
+    If that of its mount is not known, all devices without a disk count as one.
+    """
+    for line, (known, unknown) in LOCK_LINES.items():
+        for lists, is_waited in (({}, known), ({"fdinfo": b""}, unknown), ({"mountinfo": b""}, unknown)):
+            got = seen(under, {"1": line, **lists})
+            report.check(f"{line}, without {[*lists]}", faults_of_save(got, is_waited))
+
+
+def check_ends(report: Report, under: Preloaded) -> None:
+    """Checks how waits end: by the clock, or if it cannot be read by the sleeps, which add up to the same."""
+    for is_taken, locks, pace, cause in ENDS:
+        got = seen(under, {"locks": locks}, pace, is_taken)
+        faults = differences(explained(UNSAVED, CAUSES[cause].replace("NAME", "k")), got.outcome)
+        faults += [] if got.files == {"k": OLD} else ["other files"]
+        most = WAITS[cause] + (MORE if pace else MOMENT)
+        faults += [] if WAITS[cause] <= got.passed <= most else [f"it took {got.passed} ms"]
+        report.check(f"{locks} stays, {pace} ms a reading, {is_taken}", faults)
+
+
+def check_two_waits(report: Report, under: Preloaded) -> None:
+    """Checks that the wait before a save has its own ten seconds: there and before the load the readings take six."""
+    got = seen(under, {"locks": NO_LOCK}, pace=600)
+    faults = [] if got.passed > WAITS["in use"] else [f"it took {got.passed} ms"]
+    report.check("two long waits", faults + faults_of_save(got, False))
+
+
+def check(report: Report, program: str) -> None:
+    """Runs this topic."""
+    with preloaded(report, program, "lists of locks", {"k": OLD}) as under:
+        for each in (check_readings, check_lines, check_ends, check_two_waits) if under else ():
+            each(report, under)
