@@ -50,9 +50,6 @@ test_same m n e = grind arith
 
 -- ---- before a run
 
-no_clash : {P : Type 0} (b : Bool) → b ≡ true → b ≡ false → P
-no_clash b t f = let clash : true ≡ false = sym t ∙ f in absurd cc
-
 none_stays : (ys : List PlacedEntry) → list_any (is_kept []) (map as_found ys) ≡ false
 none_stays [] = refl
 none_stays (y ∷ ys) = none_stays ys

@@ -67,10 +67,6 @@ met_clash all xs before held x met known there y c of_y = clash_by all xs before
 
 -- ---- an entry that is copied
 
-cond_ap : {X Y : Type 0} (f : X → Y) (b : Bool) (x y : X) → f (cond b x y) ≡ cond b (f x) (f y)
-cond_ap f true x y = refl
-cond_ap f false x y = refl
-
 gone_by : (t s : Bool) (h : Held) (p : Held → Bool) (others : List Held) → p h ≡ s → s ≡ t → filter p others ≡ [] → filter p (cond (not t) (h ∷ others) others) ≡ []
 gone_by true s h p others is same ih = ih
 gone_by false s h p others is same ih = ap (λ (b : Bool). cond b (h ∷ filter p others) (filter p others)) (is ∙ same) ∙ ih
