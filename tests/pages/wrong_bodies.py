@@ -118,7 +118,6 @@ WRONG_BODIES = {
         "a-failed-run-hides-what-its-save-left": "what a save left behind is not told of a run that failed",
         "a-key-is-shown": "the first word of a script's line is shown though it may be a key",
         "a-letter-is-a-type": "one letter before a colon is a type",
-        "a-quote-ends-the-name": "a quote in the name of a file ends the operand of a hint",
         "an-option-is-named-by-its-letter": "an option that was typed by its long name is named by its letter",
         "holds-another-type": "a name of a type that is not read is held",
         "holds-no-file": "a command does not hold the file that it may change",
