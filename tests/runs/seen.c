@@ -4,7 +4,7 @@
  *   FAIL_CLOCK=1         the clock cannot be read
  *   PACE=N               a sleep ends at once; the monotonic clock advances by its length, and by N milliseconds with
  *                        each reading; if N is 0 it cannot be read
- *   PROC=FOLDER          an open of the list of locks, of the list of mounts, or of what is told of an open file opens
+ *   PROC=FOLDER          an open of the list of locks, of the list of mounts, or of the description of an open file opens
  *                        `locks`, `mountinfo` or `fdinfo` in that folder, and the Nth one of the list of locks `N`, if
  *                        that is there; and each file has the number 0 on the device 0:0
  */

@@ -1,4 +1,4 @@
-"""Saves that fail or are killed at each system call: the file is the old or the new one, whole, and the cause is told."""
+"""Saves that fail or are killed at each system call: the file is the old or the new one, whole, and the cause is reported."""
 
 import errno
 import os
@@ -108,7 +108,7 @@ def faults_of_kill(program: str, folder: str, outcome: Outcome) -> list[str]:
 
 
 def check_calls(report: Report, program: str, *options: str) -> None:
-    """Lets each call fail in turn: what is told is its cause."""
+    """Lets each call fail in turn: its cause is reported."""
     line = Line((EXPLAIN, "ktedit", *options, "k"), SCRIPT)
     calls = calls_of_run(program, place, line)
     missing = {"fsync", "pwrite64" if options else "rename"} - {call.name for call in calls}
@@ -135,7 +135,7 @@ def check_kills(report: Report, program: str) -> None:
 
 
 def check_causes(report: Report, program: str) -> None:
-    """Checks what is told of each error: the first call of that name fails with it."""
+    """Checks the cause that is reported for each error: the first call of that name fails with it."""
     line = Line((EXPLAIN, *LINE.words), SCRIPT)
     calls = calls_of_run(program, alone)
     for name, errors in FAILED.items():

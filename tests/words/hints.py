@@ -47,7 +47,7 @@ LONG = "x" * 254 + "'"
 
 
 def check_up(line: str | Line, files: dict[str, bytes], *told: str, status: int = 1, **more) -> Explained:
-    """Returns a run over files that are their owner's alone, and what is told: a finding stands for its words."""
+    """Returns a run over files that are their owner's alone, and the lines of its error output: a finding means its words."""
     words = ("ktcheck", *words_of(line))
     output = tuple(("", f"{each}: {FINDINGS[each]}" if each in FINDINGS else each) for each in told)
 
@@ -87,7 +87,7 @@ CASES = [
              f"{RC4}k"),
     check_up("k", {"k": ALL + b"\0"}, "weak", "same", "old", f"k: fault 1 at {len(ALL)}", FAULTS[1], f"{OLD}k",
              f"{RC4}k", f"{ONCE}k NEW"),
-    # The types of the first file alone, which is told of none if its name is too long.
+    # The types of the first file alone; it has no hint if its name is too long.
     check_up("k j", {"k": weak(3, 24), "j": weak(1, 23, 24)}, "weak", f"{SEE} -e 3 -e 24 k"),
     check_up((LONG, "j"), {LONG: weak(3), "j": ALL}, "weak", "same", "old", f"{OLD}j", f"{ONCE}j NEW"),
 ]

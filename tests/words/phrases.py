@@ -124,7 +124,7 @@ FINDINGS = {
     "mode": "users other than the owner may read or change this file",
 }
 
-# What can be done about findings, in the order in which it is told.
+# Hints for findings, in their order.
 HINTS = {
     "old": "to see what would go: krbfile ktremove -n -k old FILE",
     "weak": "to see what would go: krbfile ktremove -n -e ETYPE.. FILE",
