@@ -1,4 +1,4 @@
-"""Saves that fail or are killed at each system call: the file is the old or the new one, whole, and the cause is reported."""
+"""Saves that fail or are killed at each system call: the file is whole, old or new, and the cause reported."""
 
 import errno
 import os

@@ -21,7 +21,7 @@ LOCK = b"1: POSIX  ADVISORY  WRITE 12 00:00:0 0 EOF\n"
 NO_LOCK = b"1: POSIX  ADVISORY  READ 12 00:00:0 0 EOF\n"
 FLOCK = b"1: FLOCK  ADVISORY  WRITE 9 00:00:0 0 EOF\n"
 
-# The description of an open file, which is on mount 25, and a list of mounts, one of which has a name that is not UTF-8.
+# The description of an open file, on mount 25, and a list of mounts, one of which has a name that is not UTF-8.
 OPEN_FILE = b"pos:\t0\nflags:\t0100001\nmnt_id:\t25\nino:\t131\n"
 MOUNTS = (b"24 1 0:37 / / rw,relatime - overlay overlay rw\n26 24 0:31 / /\xff rw - tmpfs t1 rw\n"
           b"25 24 0:38 / /tmp rw shared:2 - tmpfs t2 rw\n")
@@ -29,7 +29,7 @@ MOUNTS = (b"24 1 0:37 / / rw,relatime - overlay overlay rw\n26 24 0:31 / /\xff r
 # A list without an end.
 ENDLESS = None
 
-# How many milliseconds pass before a wait ends, by the cause that is reported then, and how many more at most: where time
+# How many milliseconds pass before a wait ends, by the cause reported then, and how many more at most: where time
 # passes by sleeps alone, which is also the most that is slept for a lock that is there once, and by looks at the clock.
 WAITS = {"in use": 10_000, "in the way": 1_000}
 MOMENT, MORE = 100, 2_000

@@ -47,7 +47,7 @@ LONG = "x" * 254 + "'"
 
 
 def check_up(line: str | Line, files: dict[str, bytes], *told: str, status: int = 1, **more) -> Explained:
-    """Returns a run over files that are their owner's alone, and the lines of its error output: a finding means its words."""
+    """Returns a run over files that are their owner's alone, and what it has to report: a finding means its words."""
     words = ("ktcheck", *words_of(line))
     output = tuple(("", f"{each}: {FINDINGS[each]}" if each in FINDINGS else each) for each in told)
 
