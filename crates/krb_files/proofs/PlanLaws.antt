@@ -62,25 +62,25 @@ module _ {F R : Type 0} (trait : Ghosts F) (faults : Faults R) where
       }
 
   -- so do taking and ending a hold
-  pub turn-lasts : (held : Bool) (old new : F) → TurnsHold trait held old new → Lasts old new
+  pub turn-lasts : (held : Option (List ℕ)) (old new : F) → TurnsHold trait held old new → Lasts old new
   turn-lasts held old new turns =
       let is = turns.count in
       record { honest = turns.honest; same = λ h. turns.same; count = omega (arith, is) }
 
-  held-lasts : (held : Bool) (old new : F) → HeldIf trait held old new → Lasts old new
-  held-lasts true old new turns = turn-lasts true old new turns
-  held-lasts false old new is = lasts-none old new is
+  held-lasts : (held : Bool) (name : List ℕ) (old new : F) → HeldIf trait held name old new → Lasts old new
+  held-lasts true name old new turns = turn-lasts (Some name) old new turns
+  held-lasts false name old new is = lasts-none old new is
 
   pub leaves-lasts : (plan : Plan R) (old new : F) → Leaves trait plan old new → Lasts old new
   leaves-lasts (Ends r) old new is = lasts-none old new is
-  leaves-lasts (Holds true name plan) old new turns = turn-lasts false old new turns
+  leaves-lasts (Holds true name plan) old new turns = turn-lasts None old new turns
   leaves-lasts (Holds false name plan) old new is = lasts-none old new is
   leaves-lasts (Loads name then_) old new is = lasts-none old new is
 
   pub loaded-lasts : (plan : Plan R) (old : F) (answers : List Answer) (new : F) → Loaded trait plan old answers new → Lasts old new
   loaded-lasts (Ends r) old answers new l = lasts-none old new l.1
   loaded-lasts (Holds held name plan) old answers new (inl none) = lasts-none old new none.1
-  loaded-lasts (Holds held name plan) old answers new (inr l) = lasts-trans old l.0 new (held-lasts held old l.0 l.1.0) (loaded-lasts plan l.0 answers new l.1.1)
+  loaded-lasts (Holds held name plan) old answers new (inr l) = lasts-trans old l.0 new (held-lasts held name old l.0 l.1.0) (loaded-lasts plan l.0 answers new l.1.1)
   loaded-lasts (Loads name then_) old [] new l = lasts-none old new l
   loaded-lasts (Loads name then_) old (answer ∷ answers) new l =
       let first = l.1.0 in
@@ -146,7 +146,7 @@ module _ {F R : Type 0} (trait : Ghosts F) (faults : Faults R) where
   comes (Ends r) before old answers new h same l = inl refl
   comes (Holds held name plan) before old answers new h same (inl none) = subst (λ (xs : List Answer). Comes (follow before plan) old new (by faults plan xs)) (sym none.0) (comes-none plan before old new)
   comes (Holds held name plan) before old answers new h same (inr l) =
-      let first = held-lasts held old l.0 l.1.0 in
+      let first = held-lasts held name old l.0 l.1.0 in
       comes-later (follow before plan) (by faults plan answers) old l.0 new first.count (loaded-lasts plan l.0 answers new l.1.1).count
       (comes plan before l.0 answers new (first.honest h) (same-trans before (trait.file old) (trait.file l.0) same (first.same h)) l.1.1)
   comes (Loads name then_) before old [] new h same l = inr (inr (name, refl))

@@ -1,5 +1,5 @@
 -- What a load or a save of a file did.
-use Rattle.std.specs.Prelude.{◌≡◌, ◌⊎◌, ◌≤◌, ℕ, Bool, false, List, Result, Ok, Err, OnOk, OnErr}
+use Rattle.std.specs.Prelude.{◌≡◌, ◌⊎◌, ◌≤◌, ℕ, List, Option, None, Result, Ok, Err, OnOk, OnErr}
 use Rattle.krb_files.specs.declared.files.Files.{Ghosts}
 use Rattle.krb_files.specs.declared.files.LoadFault.{LoadFault}
 use Rattle.krb_files.specs.declared.files.LoadFault.TheVariants as load
@@ -15,9 +15,9 @@ most_bytes = 16777216
 abbrev pub Answer : Type 0
 Answer = Result (List ℕ) LoadFault
 
--- a hold began or ended, and nothing else changed
-pub record TurnsHold {F : Type 0} (trait : Ghosts F) (held : Bool) (old new : F) : Type 0 where
-  pub held_is : trait.is_held new ≡ held
+-- the hold of that name began, or none is on any more, and nothing else changed
+pub record TurnsHold {F : Type 0} (trait : Ghosts F) (held : Option (List ℕ)) (old new : F) : Type 0 where
+  pub held_is : trait.held new ≡ held
   pub honest : trait.is_honest old → trait.is_honest new
   pub same : SameFiles (trait.file old) (trait.file new)
   pub count : trait.failure_count new ≡ trait.failure_count old
@@ -29,7 +29,7 @@ module _ {F : Type 0} (trait : Ghosts F) (old : F) (name : List ℕ) where
     pub answered : trait.answers old name most_bytes answer new
     pub failed : answer ≡ Err load.Failed → CountsFailure (trait.failure_count old) (trait.failure_count new)
     pub count : trait.failure_count old ≤ trait.failure_count new
-    pub held : trait.is_held new ≡ trait.is_held old
+    pub held : trait.held new ≡ trait.held old
     pub honest : trait.is_honest old → trait.is_honest new
     pub same : trait.is_honest old → SameFiles (trait.file old) (trait.file new)
     pub is_what_is_there : trait.is_honest old → (answer ≡ Err load.Failed) ⊎ (answer ≡ Err load.NoMemory) ⊎ (answer ≡ loaded (trait.file old name) most_bytes)
@@ -39,7 +39,7 @@ module _ {F : Type 0} (trait : Ghosts F) (old : F) (name : List ℕ) where
     pub answered : trait.saves old name bytes answer new
     pub failed : answer ≡ Err save.Failed → CountsFailure (trait.failure_count old) (trait.failure_count new)
     pub count : trait.failure_count old ≤ trait.failure_count new
-    pub held : trait.is_held new ≡ false
+    pub held : trait.held new ≡ None
     pub honest : trait.is_honest old → trait.is_honest new
     pub sets : trait.is_honest old → OnOk answer (SetsFile (trait.file old) name bytes (trait.file new))
     pub same : trait.is_honest old → OnErr answer (SameFiles (trait.file old) (trait.file new))

@@ -1,5 +1,5 @@
 -- Files in memory.
-use Rattle.std.specs.Prelude.{◌≡◌, ◌⊎◌, ◌==◌, ◌||◌, ℕ, ◌+◌, ◌-◌, ◌^◌, List, [], ◌∷◌, Bool, true, false, if◌then◌else◌, find, map, Option, option_map, string_bytes, String, Vec, Result, Ok, Err, IsOk}
+use Rattle.std.specs.Prelude.{◌≡◌, ◌⊎◌, ◌==◌, ◌||◌, ℕ, ◌+◌, ◌-◌, ◌^◌, List, [], ◌∷◌, Bool, true, false, if◌then◌else◌, find, map, Option, None, option_map, string_bytes, String, Vec, Result, Ok, Err, IsOk}
 use Rattle.std.specs.Str.{bytes_eq}
 use Rattle.krb_files.specs.declared.files.LoadFault.{LoadFault}
 use Rattle.krb_files.specs.declared.files.LoadFault.TheVariants.{Failed, NoMemory}
@@ -21,17 +21,17 @@ with_file [] name bytes = (name, bytes) ∷ []
 with_file (file ∷ files) name bytes =
     if bytes_eq file.0 name then (file.0, bytes) ∷ files else file ∷ with_file files name bytes
 
--- files in memory: the files, which later call fails (counted from 1, 0 for none), how many failed, the mode of each file, and whether one is held
+-- files in memory: the files, which later call fails (counted from 1, 0 for none), how many failed, the mode of each file, and the name of the one that is held
 pub record Memory : Type 0 where
   pub files : List (List ℕ × List ℕ)
   pub failing : ℕ
   pub failures : ℕ
   pub mode : Option ℕ
-  pub is_held : Bool
+  pub held : Option (List ℕ)
 
 -- no file is held any more
 abbrev pub left : Memory → Memory
-left m = record m { is_held = false }
+left m = record m { held = None }
 
 -- the next call fails
 abbrev pub failing_next : Memory → Bool

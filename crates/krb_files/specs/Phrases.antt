@@ -1,9 +1,9 @@
 -- The phrases that state why a file was not loaded or saved, or a text not written.
 use Rattle.std.specs.Prelude.{ℕ, List, ◌++◌, codes, decimal, unsigned_abs}
 use Rattle.krb_files.specs.declared.aftermath.Aftermath.{Aftermath}
-use Rattle.krb_files.specs.declared.aftermath.Aftermath.TheVariants.{Restored, Damaged, LostChange}
+use Rattle.krb_files.specs.declared.aftermath.Aftermath.TheVariants.{Restored, Damaged, LostChange, Mixed}
 use Rattle.krb_files.specs.declared.cause.Cause.{Cause}
-use Rattle.krb_files.specs.declared.cause.Cause.TheVariants.{PermissionDenied, NoDirectory, NoFile, NotADirectory, IsADirectory, NotAPlainFile, TooManyLinks, BadLink, NoName, NoSpace, QuotaExceeded, ReadOnly, MountPoint, NameTooLong, FileTooLarge, InputOutput, Interrupted, BrokenPipe, InUse, Changed, NameOfSaves, InTheWay, OwnerNotKept, NoLock, System}
+use Rattle.krb_files.specs.declared.cause.Cause.TheVariants.{PermissionDenied, NoDirectory, NoFile, NotADirectory, IsADirectory, NotAPlainFile, TooManyLinks, BadLink, NoName, NoSpace, QuotaExceeded, ReadOnly, MountPoint, NameTooLong, FileTooLarge, InputOutput, Interrupted, BrokenPipe, InUse, Changed, OtherFile, NameOfSaves, InTheWay, OwnerNotKept, NoLock, System}
 use Rattle.krb_files.specs.declared.files.LoadFault.{LoadFault}
 use Rattle.krb_files.specs.declared.files.LoadFault.TheVariants as load
 use Rattle.krb_files.specs.declared.files.SaveFault.{SaveFault}
@@ -50,6 +50,7 @@ cause_phrase Interrupted = codes "interrupted"
 cause_phrase BrokenPipe = codes "broken pipe"
 cause_phrase InUse = codes "in use by another program"
 cause_phrase Changed = codes "changed by another program; nothing was saved"
+cause_phrase OtherFile = codes "another file has this name now"
 cause_phrase NameOfSaves = codes "a name that ends in .krbfile is kept for saves"
 cause_phrase InTheWay = codes "the name of its new file is taken"
 cause_phrase OwnerNotKept = codes "the owner cannot be kept"
@@ -64,5 +65,6 @@ cause_text cause = cause_phrase cause
 -- what a save left behind
 abbrev pub aftermath_phrase : Aftermath → List ℕ
 aftermath_phrase Restored = codes "the old bytes are back"
-aftermath_phrase Damaged = codes "the old bytes could not be written back; the file is damaged"
+aftermath_phrase Damaged = codes "the file may be damaged"
 aftermath_phrase LostChange = codes "a change of another program was lost"
+aftermath_phrase Mixed = codes "another program wrote at the same time; the file may be damaged"

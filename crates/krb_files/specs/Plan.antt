@@ -1,5 +1,5 @@
 -- Plans over files: which files are loaded, one after the other, and the outcome by their results.
-use Rattle.std.specs.Prelude.{◌≡◌, ◌⊎◌, ℕ, Bool, true, false, List, [], ◌∷◌, Some, if◌then◌else◌, Err}
+use Rattle.std.specs.Prelude.{◌≡◌, ◌⊎◌, ℕ, Bool, true, false, List, [], ◌∷◌, None, Some, if◌then◌else◌, Err}
 use Rattle.std.specs.Str.{bytes_eq}
 use Rattle.krb_files.specs.declared.files.Files.{Ghosts}
 use Rattle.krb_files.specs.declared.files.LoadFault.TheVariants as load
@@ -26,21 +26,21 @@ by faults (Loads name then_) (Err load.Failed ∷ answers) = faults.unread name
 by faults (Loads name then_) (Err load.NoMemory ∷ answers) = faults.spent name
 by faults (Loads name then_) (answer ∷ answers) = by faults (then_ answer) answers
 
--- a file was held if the flag is set, and otherwise nothing changed
-abbrev pub HeldIf : {F : Type 0} → Ghosts F → Bool → F → F → Type 0
-HeldIf trait true old new = TurnsHold trait true old new
-HeldIf trait false old new = new ≡ old
+-- the file of that name was to be held if the flag is set, and otherwise nothing changed
+abbrev pub HeldIf : {F : Type 0} → Ghosts F → Bool → List ℕ → F → F → Type 0
+HeldIf trait true name old new = TurnsHold trait (Some name) old new
+HeldIf trait false name old new = new ≡ old
 
 -- the loads of a plan, or the first of them, were done one after the other with these results, each after the holds that come before it in the plan
 abbrev pub Loaded : {F R : Type 0} → Ghosts F → Plan R → F → List Answer → F → Type 0
 Loaded trait (Ends r) old answers new = (answers ≡ []) × (new ≡ old)
-Loaded {F = F} trait (Holds held name plan) old answers new = ((answers ≡ []) × (new ≡ old)) ⊎ ((between : F) × (HeldIf trait held old between × Loaded trait plan between answers new))
+Loaded {F = F} trait (Holds held name plan) old answers new = ((answers ≡ []) × (new ≡ old)) ⊎ ((between : F) × (HeldIf trait held name old between × Loaded trait plan between answers new))
 Loaded trait (Loads name then_) old [] new = new ≡ old
 Loaded {F = F} trait (Loads name then_) old (answer ∷ answers) new = (between : F) × (LoadsFile trait old name answer between × Loaded trait (then_ answer) between answers new)
 
 -- the hold that the plan began with was ended, if it began with one; otherwise nothing changed
 abbrev pub Leaves : {F R : Type 0} → Ghosts F → Plan R → F → F → Type 0
-Leaves trait (Holds true name plan) old new = TurnsHold trait false old new
+Leaves trait (Holds true name plan) old new = TurnsHold trait None old new
 Leaves trait plan old new = new ≡ old
 
 -- the outcome of a plan over files whose bytes are known, if no call and no allocation fails

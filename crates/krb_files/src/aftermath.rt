@@ -8,12 +8,14 @@ use std::fmt;
 /// What a save left behind, beside what it returned.
 #[derive(Clone, Copy, Debug, PartialEq, Eq)]
 pub enum Aftermath {
-    /// The save in place failed, and the file has its old bytes again.
+    /// The save in place failed, and the old bytes that it may have written over are back.
     Restored,
-    /// The save in place failed, and so did the writing back of the old bytes.
+    /// The save in place failed, and an old byte that it may have written over may be gone.
     Damaged,
     /// The save replaced a file that another program had changed after it was compared.
     LostChange,
+    /// After the save in place the file did not have just the bytes that were written.
+    Mixed,
 }
 
 impl Aftermath {
@@ -23,8 +25,11 @@ impl Aftermath {
     {
         match self {
             Aftermath::Restored => "the old bytes are back",
-            Aftermath::Damaged => { "the old bytes could not be written back; the file is damaged" }
+            Aftermath::Damaged => "the file may be damaged",
             Aftermath::LostChange => "a change of another program was lost",
+            Aftermath::Mixed => {
+                "another program wrote at the same time; the file may be damaged"
+            }
         }
     }
 }

@@ -43,6 +43,8 @@ pub enum Cause {
     InUse,
     /// The file is not the one that was loaded, or was changed since.
     Changed,
+    /// After the save in place the name led to another file.
+    OtherFile,
     /// The file's own name is that of a new file of a save.
     NameOfSaves,
     /// Something that is not ours has the name of the new file.
@@ -80,6 +82,7 @@ impl Cause {
             Cause::BrokenPipe => "broken pipe",
             Cause::InUse => "in use by another program",
             Cause::Changed => "changed by another program; nothing was saved",
+            Cause::OtherFile => "another file has this name now",
             Cause::NameOfSaves => "a name that ends in .krbfile is kept for saves",
             Cause::InTheWay => "the name of its new file is taken",
             Cause::OwnerNotKept => "the owner cannot be kept",

@@ -1,6 +1,6 @@
 //! Files by name.
 
-ghost use Rattle.std.specs.Prelude.{◌≡◌, ◌≤◌, ◌⊎◌, ℕ, ◌-◌, ◌^◌, Bool, true, false, List, Option, Result, Ok, Err, OnOk, OnErr, IfOk, IfErr, IsErrOf};
+ghost use Rattle.std.specs.Prelude.{◌≡◌, ◌≤◌, ◌⊎◌, ℕ, ◌-◌, ◌^◌, Bool, true, List, Option, None, Some, Result, Ok, Err, OnOk, OnErr, IfOk, IfErr, IsErrOf};
 ghost use Rattle.krb_files.specs.Files.{FileMap, SameFiles, SetsFile, CountsFailure, answer_of, loaded};
 ghost use Rattle.krb_files.specs.Numbers.{load_number, save_number};
 ghost use Rattle.krb_files.specs.Phrases.{load_phrase, save_phrase};
@@ -89,6 +89,7 @@ impl fmt::Display for SaveFault {
 
 /// Files by name, loaded and saved as a whole. The clauses about their bytes hold if the files are honest.
 pub trait Files {
+    ghost use Rattle.krb_files.specs.declared.aftermath.Aftermath.{Aftermath};
     ghost use Rattle.krb_files.specs.declared.files.LoadFault.{LoadFault};
     ghost use Rattle.krb_files.specs.declared.files.SaveFault.{SaveFault};
 
@@ -111,13 +112,19 @@ pub trait Files {
     /// The permission bits of the file loaded last, if it is a plain file.
     ghost mode: { Self → Option ℕ };
 
-    /// Whether a file is held.
+    /// The name of the file that is to be held, if there is one: `hold` was called with it last.
+    ghost held: { Self → Option (List ℕ) };
+
+    /// Whether that file could be held. Otherwise its save fails.
     ghost is_held: { Self → Bool };
+
+    /// What the last save left behind, beside what it returned.
+    ghost aftermath: { Self → Option Aftermath };
 
     /// Keeps other programs from changing the file of that name until it is saved or released. If it cannot be held, or
     /// another program changes it all the same, the save fails.
     fn hold(&mut self, name: &str)
-        ensures held { is_held self.new ≡ true }
+        ensures held { held self.new ≡ Some name.now }
         ensures honest { is_honest self.old → is_honest self.new }
         ensures same { SameFiles (file self.old) (file self.new) }
         ensures count { failure_count self.new ≡ failure_count self.old }
@@ -125,11 +132,22 @@ pub trait Files {
 
     /// Releases the held file, if there is one, without saving it.
     fn release(&mut self)
-        ensures held { is_held self.new ≡ false }
+        ensures held { held self.new ≡ None }
         ensures honest { is_honest self.old → is_honest self.new }
         ensures same { SameFiles (file self.old) (file self.new) }
         ensures count { failure_count self.new ≡ failure_count self.old }
         ensures mode { mode self.new ≡ mode self.old };
+
+    /// Fails like the save to come if the file that is to be held could not be held.
+    fn check_hold(&mut self) -> Result<(), SaveFault>
+        ensures had { OnOk result (is_held self.old ≡ true) }
+        ensures held { held self.new ≡ held self.old }
+        ensures honest { is_honest self.old → is_honest self.new }
+        ensures same { SameFiles (file self.old) (file self.new) }
+        ensures mode { mode self.new ≡ mode self.old }
+        ensures failed { IsErrOf result SaveFault.Failed
+            → CountsFailure (failure_count self.old) (failure_count self.new) }
+        ensures count { failure_count self.old ≤ failure_count self.new };
 
     /// Returns the bytes of a file, if they are at most `limit`.
     fn load<A: Allocator>(
@@ -138,7 +156,7 @@ pub trait Files {
         name: &str,
         limit: u32,
     ) -> Result<Vec<u8, A>, LoadFault>
-        ensures held { is_held self.new ≡ is_held self.old }
+        ensures held { held self.new ≡ held self.old }
         ensures honest { is_honest self.old → is_honest self.new }
         ensures same { is_honest self.old → SameFiles (file self.old) (file self.new) }
         ensures answered { answers self.old name.now limit (answer_of result) self.new }
@@ -157,7 +175,7 @@ pub trait Files {
 
     /// Replaces or creates the file of that name, with these bytes. Ends the hold, even if the save fails.
     fn save(&mut self, name: &str, bytes: &[u8]) -> Result<(), SaveFault>
-        ensures held { is_held self.new ≡ false }
+        ensures held { held self.new ≡ None }
         ensures honest { is_honest self.old → is_honest self.new }
         ensures ok { is_honest self.old
             → OnOk result (SetsFile (file self.old) name.now bytes.now (file self.new)) }
@@ -183,8 +201,12 @@ pub trait Files {
         None
     }
 
-    /// Returns what the last save left behind, if that is to be told.
-    fn aftermath(&self) -> Option<Aftermath> {
+    /// Returns the path at which something that is not ours keeps the last save from making its new file, if known.
+    fn in_the_way(&self) -> Option<&str> {
         None
     }
+
+    /// Returns what the last save left behind, if that is to be told.
+    fn aftermath(&self) -> Option<Aftermath>
+        ensures { result ≡ aftermath self.now };
 }

@@ -4,6 +4,7 @@
 mod aftermath;
 mod cause;
 mod files;
+mod held_name;
 mod mem_files;
 mod output;
 mod reader;
@@ -14,6 +15,7 @@ mod writer;
 pub use aftermath::Aftermath;
 pub use cause::Cause;
 pub use files::{Files, LoadFault, SaveFault};
+pub use held_name::HeldName;
 pub use mem_files::MemFiles;
 pub use output::{OutFault, put};
 pub use reader::{append_read, load, next_read};

@@ -1,11 +1,13 @@
 //! Files in memory.
 
-ghost use Rattle.std.specs.Prelude.{◌≡◌, ◌⊎◌, ◌↔◌, true, false, None, Ok, IfOk, IfErr, IsErrOf, IsTrue, OnOk, OnErr, option_map, position, string_bytes};
+ghost use Rattle.std.specs.Prelude.{◌≡◌, ◌⊎◌, ◌↔◌, true, None, Some, Ok, IfOk, IfErr, IsErrOf, IsTrue, OnOk, OnErr, option_map, position, string_bytes};
 ghost use Rattle.std.specs.Str.{bytes_eq};
 ghost use Rattle.krb_files.specs.Files.{SetsFile, loaded};
 ghost use Rattle.krb_files.specs.MemFiles.{Memory, pairs_of, AnswersOf, SavesOf, FaultOf, file_in, with_file, failing_next, after_call, left};
 
+use crate::aftermath::Aftermath;
 use crate::files::{Files, LoadFault, SaveFault};
+use crate::held_name::HeldName;
 use std::alloc::{AllocError, Allocator};
 use std::marker::Model;
 
@@ -17,7 +19,7 @@ pub struct MemFiles<A: Allocator> {
     failing: u64,
     failures: u64,
     mode: Option<u32>,
-    is_held: bool,
+    held: HeldName,
 }
 
 impl<A: Allocator> Model for MemFiles<A> {
@@ -28,7 +30,7 @@ impl<A: Allocator> Model for MemFiles<A> {
       failing = m.failing;
       failures = m.failures;
       mode = m.mode;
-      is_held = m.is_held;
+      held = m.held.name;
     } };
 }
 
@@ -39,7 +41,7 @@ impl<A: Allocator> MemFiles<A> {
         ensures failing { result.failing ≡ 0 }
         ensures failures { result.failures ≡ 0 }
         ensures mode { result.mode ≡ None }
-        ensures held { result.is_held ≡ false }
+        ensures held { result.held ≡ None }
     {
         MemFiles {
             alloc,
@@ -47,7 +49,7 @@ impl<A: Allocator> MemFiles<A> {
             failing: 0,
             failures: 0,
             mode: None,
-            is_held: false,
+            held: HeldName::none(),
         }
     }
 
@@ -155,18 +157,29 @@ impl<A: Allocator + Copy> Files for MemFiles<A> {
 
     ghost mode = { λ m. m.mode };
 
-    ghost is_held = { λ m. m.is_held };
+    ghost held = { λ m. m.held };
 
-    fn hold(&mut self, _name: &str)
-        ensures { self.new ≡ record self.old { is_held = true } }
+    ghost is_held = { λ _. true };
+
+    ghost aftermath = { λ _. None };
+
+    fn hold(&mut self, name: &str)
+        ensures { self.new ≡ record self.old { held = Some name.now } }
     {
-        self.is_held = true;
+        self.held = HeldName::of(name.as_bytes());
     }
 
     fn release(&mut self)
         ensures { self.new ≡ left self.old }
     {
-        self.is_held = false;
+        self.held = HeldName::none();
+    }
+
+    fn check_hold(&mut self) -> Result<(), SaveFault>
+        ensures same { self.new ≡ self.old }
+        ensures ok { result ≡ Ok tt }
+    {
+        Ok(())
     }
 
     fn load<B: Allocator>(
@@ -196,7 +209,7 @@ impl<A: Allocator + Copy> Files for MemFiles<A> {
             (SetsFile (file_in self.old.files) name.now bytes.now (file_in self.new.files)) }
         ensures err { OnErr result (self.new.files ≡ self.old.files) }
     {
-        self.is_held = false;
+        self.held = HeldName::none();
         if self.fails() {
             return Err(SaveFault::Failed);
         }
@@ -212,5 +225,8 @@ impl<A: Allocator + Copy> Files for MemFiles<A> {
 
     fn mode(&self) -> Option<u32> {
         self.mode
+    }
+    fn aftermath(&self) -> Option<Aftermath> {
+        None
     }
 }
