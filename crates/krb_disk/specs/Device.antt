@@ -20,6 +20,11 @@ abbrev pub is_on_device : Device → Option Device → Device → Bool
 is_on_device own (Some mount) device = is_same_device device own || is_same_device device mount
 is_on_device own None device = is_same_device device own || ((device.major == 0) && (own.major == 0))
 
+-- an inode is the file's: it is the one in `stat` of the file, or that by which its locks are listed
+abbrev pub is_inode : ℕ → Option ℕ → ℕ → Bool
+is_inode own (Some listed) inode = (inode == own) || (inode == listed)
+is_inode own None inode = inode == own
+
 -- that place is, or may be, the file's: its inode, on a device that may be the file's
 abbrev pub is_place_of : Mounted → Place → Bool
-is_place_of file place = (place.inode == file.inode) && is_on_device file.device file.mount place.device
+is_place_of file place = is_inode file.inode file.listed.inode place.inode && is_on_device file.device file.listed.mount place.device

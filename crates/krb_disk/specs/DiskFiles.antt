@@ -16,12 +16,13 @@ use Rattle.krb_disk.specs.declared.looks.Found.{Found}
 use Rattle.krb_disk.specs.declared.old.Way.{Way}
 use Rattle.krb_disk.specs.declared.old.Way.TheVariants.{Replace, InPlace}
 
--- what contracts see of the files on a disk: how many calls failed, the cause of the last failure, the names and bytes of the saves that made all their calls, the last first, the permission bits of the file loaded last, whether one is held, whether only plain files are loaded, whether files are saved in place, and what the last save left behind
+-- what contracts see of the files on a disk: how many calls failed, the cause of the last failure, the names and bytes of the saves that made all their calls, the last first, the permission bits of the file loaded last, the name of the one to be held and whether that could be held, whether only plain files are loaded, whether files are saved in place, and what the last save left behind
 pub record Disk : Type 0 where
   pub failures : ℕ
   pub cause : Option Cause
   pub saved : List (List ℕ × List ℕ)
   pub mode : Option ℕ
+  pub held : Option (List ℕ)
   pub is_held : Bool
   pub only_plain : Bool
   pub in_place : Bool
@@ -29,7 +30,7 @@ pub record Disk : Type 0 where
 
 -- no file is held any more
 abbrev pub left : Disk → Disk
-left disk = record disk { is_held = false }
+left disk = record disk { held = None; is_held = false }
 
 -- files are saved in place
 abbrev pub is_in_place : Way → Bool
@@ -45,7 +46,8 @@ pub record Fails (old new : Disk) : Type 0 where
   pub counted : CountsFailure old.failures new.failures
   pub has_cause : IsSome new.cause
   pub unsaved : new.saved ≡ old.saved
-  pub held : new.is_held ≡ old.is_held
+  pub held : new.held ≡ old.held
+  pub is_held : new.is_held ≡ old.is_held
   pub plain : new.only_plain ≡ old.only_plain
   pub in_place : new.in_place ≡ old.in_place
 

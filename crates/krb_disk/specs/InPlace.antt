@@ -1,9 +1,9 @@
 -- A model of a file that is saved in place: what the calls of a save do to it, also where they fail, and what a crash leaves.
-use Rattle.std.specs.Prelude.{◌≡◌, ◌⊎◌, ℕ, ◌<◌, ◌≤◌, Bool, true, false, List, [], ◌∷◌, length, slice_get, Option}
-use Rattle.krb_disk.specs.Content.{Content, Has, Writes, Cuts, IsPatch}
+use Rattle.std.specs.Prelude.{◌≡◌, ◌⊎◌, ℕ, ◌<◌, ◌≤◌, nat_lt, Bool, true, false, List, [], ◌∷◌, length, slice_get, Option}
+use Rattle.krb_disk.specs.Content.{Content, Has, Writes, Cuts, CutsIf, IsPatch}
 use Rattle.krb_disk.specs.PlaceStages.{torn_to}
 use Rattle.krb_disk.specs.declared.place_stage.PlaceStage.{PlaceStage}
-use Rattle.krb_disk.specs.declared.place_stage.PlaceStage.TheVariants.{Untouched, Same, Quiet, Extended, Lengthened, Overwritten, Cut, Saved, Whole, Mixed, Torn, Trimmed, Back, Lost}
+use Rattle.krb_disk.specs.declared.place_stage.PlaceStage.TheVariants.{Untouched, Same, Quiet, Extended, Lengthened, Unmoved, Ready, Overwritten, Cut, Finished, Saved, Whole, Trimmed, Back, Left, Mixed, Torn, Refilled, Lacking, Cleared, Lost}
 
 -- a save in place: the old bytes, the new ones, and the places from which and up to which old ones are written over
 pub record PlaceSave : Type 0 where
@@ -12,15 +12,21 @@ pub record PlaceSave : Type 0 where
   pub first : ℕ
   pub last : ℕ
 
--- the calls on the old file, named as the methods of `Calls`
+-- the calls on the old file, named as the methods of `Calls` and `PlaceFile`
 pub data PlaceCall : Type 0 where
   Watch : PlaceCall
+  Pass : PlaceCall
   Extend : PlaceCall
   Sync : PlaceCall
+  Recompare : PlaceCall
+  Rewatch : PlaceCall
   Overwrite : PlaceCall
   Shorten : PlaceCall
   Finish : PlaceCall
+  Settle : PlaceCall
+  Confirm : PlaceCall
   Restore : PlaceCall
+  ClearRoom : PlaceCall
   CutBack : PlaceCall
 
 -- what happens to the file: it is compared, and is as it was loaded; a call does what it is to do, or fails; or another program writes to it
@@ -30,34 +36,51 @@ pub data Event : Type 0 where
   Fail : PlaceCall → Event
   Intrude : Event
 
--- a moment: the stage of the file, its bytes, those that it had since it was synced last, and whether this program alone wrote to it since the comparison
+-- a moment: the stage of the file, its bytes, those that it had since it was synced last, whether this program alone wrote to it since the comparison, and whether it was cut before its old bytes were back
 pub record PlaceMoment : Type 0 where
   pub stage : PlaceStage
   pub bytes : Content
   pub earlier : List Content
   pub alone : Bool
+  pub cleared : Bool
+
+-- the file grows, or gets shorter
+abbrev pub grows : PlaceSave → Bool
+grows save = nat_lt (length save.old) (length save.new)
+
+abbrev pub shrinks : PlaceSave → Bool
+shrinks save = nat_lt (length save.new) (length save.old)
 
 -- the stage at which a call is due, and those after it: if it does what it is to do, and if it fails
-abbrev pub Turns : PlaceCall → PlaceStage → PlaceStage → PlaceStage → Type 0
-Turns Watch s t u = (s ≡ Same) × (t ≡ Quiet) × (u ≡ Untouched)
-Turns Extend s t u = (s ≡ Quiet) × (t ≡ Extended) × (u ≡ Whole)
-Turns Sync Extended t u = (t ≡ Lengthened) × (u ≡ Whole)
-Turns Sync Trimmed t u = (t ≡ Back) × (u ≡ Lost)
-Turns Overwrite s t u = (s ≡ Lengthened) × (t ≡ Overwritten) × (u ≡ Mixed)
-Turns Shorten s t u = (s ≡ Overwritten) × (t ≡ Cut) × (u ≡ Torn)
-Turns Finish s t u = (s ≡ Cut) × (t ≡ Saved) × (u ≡ Torn)
-Turns Restore Mixed t u = (t ≡ Whole) × (u ≡ Lost)
-Turns Restore Torn t u = (t ≡ Whole) × (u ≡ Lost)
-Turns CutBack s t u = (s ≡ Whole) × (t ≡ Trimmed) × (u ≡ Lost)
-Turns call s t u = ⊥
+abbrev pub Turns : PlaceSave → PlaceCall → PlaceStage → PlaceStage → PlaceStage → Type 0
+Turns save Watch s t u = (s ≡ Same) × (t ≡ Quiet) × (u ≡ Untouched)
+Turns save Pass s t u = (s ≡ Quiet) × (t ≡ Ready) × (u ≡ Untouched) × (grows save ≡ false)
+Turns save Extend s t u = (s ≡ Quiet) × (t ≡ Extended) × (u ≡ Whole)
+Turns save Sync Extended t u = (t ≡ Lengthened) × (u ≡ Whole)
+Turns save Sync Refilled t u = (t ≡ Whole) × (u ≡ Lost)
+Turns save Sync Trimmed t u = (t ≡ Back) × (u ≡ Left)
+Turns save Recompare s t u = (s ≡ Lengthened) × (t ≡ Unmoved) × (u ≡ Whole)
+Turns save Rewatch s t u = (s ≡ Unmoved) × (t ≡ Ready) × ((u ≡ Whole) ⊎ (u ≡ Lengthened))
+Turns save Overwrite s t u = (s ≡ Ready) × (t ≡ Overwritten) × (u ≡ Mixed)
+Turns save Shorten s t u = (s ≡ Overwritten) × (t ≡ Cut) × (u ≡ Torn)
+Turns save Finish s t u = (s ≡ Cut) × (t ≡ Finished) × (u ≡ Torn)
+Turns save Settle s t u = (s ≡ Ready) × (t ≡ Finished) × (u ≡ Ready) × (save.first ≡ save.last) × (shrinks save ≡ false)
+Turns save Confirm s t u = (s ≡ Finished) × (t ≡ Saved) × (u ≡ Finished)
+Turns save Restore Mixed t u = (t ≡ Refilled) × (u ≡ Lacking)
+Turns save Restore Torn t u = (t ≡ Refilled) × (u ≡ Lacking)
+Turns save Restore Cleared t u = (t ≡ Refilled) × (u ≡ Lost)
+Turns save ClearRoom s t u = (s ≡ Lacking) × (t ≡ Cleared) × (u ≡ Lost) × (grows save ≡ true)
+Turns save CutBack s t u = (s ≡ Whole) × (t ≡ Trimmed) × (u ≡ Left)
+Turns save call s t u = ⊥
 
 -- what a call is to do at a place
 abbrev pub Makes : PlaceSave → PlaceStage → PlaceCall → ℕ → Option ℕ → Option ℕ → Type 0
 Makes save stage Extend = Writes save.new (length save.old) (length save.new)
 Makes save stage Overwrite = Writes save.new save.first save.last
-Makes save stage Shorten = Cuts (length save.new)
-Makes save stage Restore = Writes save.old save.first (torn_to (length save.old) save.last stage)
-Makes save stage CutBack = Cuts (length save.old)
+Makes save stage Shorten = CutsIf (shrinks save) (length save.new)
+Makes save stage Restore = Writes save.old save.first (torn_to (length save.old) (length save.new) save.last stage)
+Makes save stage ClearRoom = Cuts (length save.old)
+Makes save stage CutBack = CutsIf (grows save) (length save.old)
 Makes save stage call = λ i before after. after ≡ before
 
 -- the earlier bytes since the last sync, after a call
@@ -66,27 +89,35 @@ since Sync bytes earlier = []
 since Finish bytes earlier = []
 since call bytes earlier = bytes ∷ earlier
 
--- the file is compared, and has the old bytes
+-- whether it was cut before its old bytes were back, after a call
+abbrev pub clears : PlaceCall → Bool → Bool
+clears ClearRoom cleared = true
+clears call cleared = cleared
+
+-- the file is compared, and has the old bytes, which a crash would leave
 pub record Compares (save : PlaceSave) (m n : PlaceMoment) : Type 0 where
   pub due : m.stage ≡ Untouched
   pub has : Has save.old m.bytes
-  pub now : n ≡ record m { stage = Same; alone = true }
+  pub synced : m.earlier ≡ []
+  pub now : n ≡ record m { stage = Same; alone = true; cleared = false }
 
 -- a call does what it is to do at each place
 pub record Works (save : PlaceSave) (call : PlaceCall) (m n : PlaceMoment) : Type 0 where
   pub failed : PlaceStage
-  pub turns : Turns call m.stage n.stage failed
+  pub turns : Turns save call m.stage n.stage failed
   pub makes : (i : ℕ) → Makes save m.stage call i (m.bytes i) (n.bytes i)
   pub earlier : n.earlier ≡ since call m.bytes m.earlier
   pub alone : n.alone ≡ m.alone
+  pub cleared : n.cleared ≡ clears call m.cleared
 
 -- a call fails, and did at each place what it was to do, or nothing
 pub record Fails (save : PlaceSave) (call : PlaceCall) (m n : PlaceMoment) : Type 0 where
   pub done : PlaceStage
-  pub turns : Turns call m.stage done n.stage
+  pub turns : Turns save call m.stage done n.stage
   pub makes : (i : ℕ) → (n.bytes i ≡ m.bytes i) ⊎ Makes save m.stage call i (m.bytes i) (n.bytes i)
   pub earlier : n.earlier ≡ m.bytes ∷ m.earlier
   pub alone : n.alone ≡ m.alone
+  pub cleared : n.cleared ≡ clears call m.cleared
 
 -- another program writes what it likes
 pub record Intrudes (m n : PlaceMoment) : Type 0 where
@@ -121,12 +152,15 @@ HasOld save content = (i : ℕ) → i < length save.old → content i ≡ slice_
 abbrev pub HasEnd : PlaceSave → Content → Type 0
 HasEnd save content = (i : ℕ) → length save.old ≤ i → content i ≡ slice_get save.new i
 
--- each old byte is there, or the new end is, whatever a crash leaves; at the end the file has the new bytes, or after a failure the old ones
+-- whatever a crash leaves, each byte is the old or the new one of its place; of a file that grows each old byte is there, or the new end is, unless the old bytes had no room when they were written back
 pub record IsSafe (save : PlaceSave) (m : PlaceMoment) (left : Content) : Type 0 where
-  pub ordered : HasOld save m.bytes ⊎ HasEnd save left
-  pub lengthened : m.stage ≡ Lengthened → HasOld save left
+  pub either : (i : ℕ) → (left i ≡ slice_get save.old i) ⊎ (left i ≡ slice_get save.new i)
+  pub ordered : length save.old < length save.new → m.cleared ≡ false → HasOld save left ⊎ HasEnd save left
+  -- until old bytes may be written over, each is there; a save that is done left the new bytes, a restoring that is done the old ones
+  pub ready : m.stage ≡ Ready → HasOld save left
   pub saved : m.stage ≡ Saved → Has save.new left
   pub back : m.stage ≡ Back → Has save.old left
+  pub whole : m.stage ≡ Left → HasOld save left
 
 -- this holds after any events, and a crash, if no other program writes after the comparison
 abbrev pub EachMomentInPlaceIsSafe : Type 0

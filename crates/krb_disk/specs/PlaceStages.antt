@@ -1,48 +1,75 @@
 -- What is due at each stage of a save in place.
-use Rattle.std.specs.Prelude.{◌≡◌, ◌⊎◌, ℕ, Bool, true, false, Option, Some}
+use Rattle.std.specs.Prelude.{◌≡◌, ◌⊎◌, ℕ, nat_lt, if◌then◌else◌, Bool, true, false, Option, None, Some}
 use Rattle.krb_files.specs.declared.aftermath.Aftermath.{Aftermath}
-use Rattle.krb_files.specs.declared.aftermath.Aftermath.TheVariants.{Restored, Damaged}
+use Rattle.krb_files.specs.declared.aftermath.Aftermath.TheVariants.{Restored, Damaged, Mixed}
 use Rattle.krb_disk.specs.declared.place_stage.PlaceStage.{PlaceStage}
-use Rattle.krb_disk.specs.declared.place_stage.PlaceStage.TheVariants.{Untouched, Same, Quiet, Extended, Lengthened, Whole, Mixed, Torn, Trimmed, Back, Lost}
+use Rattle.krb_disk.specs.declared.place_stage.PlaceStage.TheVariants as place
 
--- the stage after the old file was compared
-abbrev pub compared_in_place : Bool → PlaceStage
-compared_in_place true = Same
-compared_in_place false = Untouched
+-- the old file is to be compared, before it is written to or after its new end was
+abbrev pub IsToCompare : PlaceStage → Type 0
+IsToCompare stage = (stage ≡ place.Untouched) ⊎ (stage ≡ place.Lengthened)
+
+-- the stage after it was compared
+abbrev pub compared_in_place : Bool → PlaceStage → PlaceStage
+compared_in_place true place.Lengthened = place.Unmoved
+compared_in_place false place.Lengthened = place.Whole
+compared_in_place true stage = place.Same
+compared_in_place false stage = place.Untouched
+
+-- it was just found as it is to be
+abbrev pub IsCompared : PlaceStage → Type 0
+IsCompared stage = (stage ≡ place.Same) ⊎ (stage ≡ place.Unmoved)
 
 -- the stage after the list of locks was read
-abbrev pub watched_in_place : Bool → PlaceStage
-watched_in_place true = Quiet
-watched_in_place false = Untouched
+abbrev pub watched_in_place : Bool → PlaceStage → PlaceStage
+watched_in_place true place.Unmoved = place.Ready
+watched_in_place false place.Unmoved = place.Lengthened
+watched_in_place true stage = place.Quiet
+watched_in_place false stage = place.Untouched
 
--- it is to be synced, before old bytes are written over or after they were brought back
+-- the stage before a comparison, from which a try begins anew
+abbrev pub before_look : PlaceStage → PlaceStage
+before_look place.Unmoved = place.Lengthened
+before_look place.Ready = place.Lengthened
+before_look stage = place.Untouched
+
+-- it is to be synced: with its new end, or with the old bytes, or with its old length
 abbrev pub IsToSync : PlaceStage → Type 0
-IsToSync stage = (stage ≡ Extended) ⊎ (stage ≡ Trimmed)
+IsToSync stage = (stage ≡ place.Extended) ⊎ ((stage ≡ place.Refilled) ⊎ (stage ≡ place.Trimmed))
 
 -- the stage after that
 abbrev pub synced_in_place : PlaceStage → PlaceStage
-synced_in_place Extended = Lengthened
-synced_in_place stage = Back
+synced_in_place place.Extended = place.Lengthened
+synced_in_place place.Refilled = place.Whole
+synced_in_place stage = place.Back
 
 -- and if it failed
 abbrev pub unsynced : PlaceStage → PlaceStage
-unsynced Extended = Whole
-unsynced stage = Lost
+unsynced place.Extended = place.Whole
+unsynced place.Refilled = place.Lost
+unsynced stage = place.Left
 
 -- old bytes may be gone
 abbrev pub IsToRestore : PlaceStage → Type 0
-IsToRestore stage = (stage ≡ Mixed) ⊎ (stage ≡ Torn)
+IsToRestore stage = (stage ≡ place.Mixed) ⊎ ((stage ≡ place.Torn) ⊎ (stage ≡ place.Cleared))
 
 -- the place up to which they may be: past the last that was written over only if the file was to be cut
-abbrev pub torn_to : ℕ → ℕ → PlaceStage → ℕ
-torn_to len last Torn = len
-torn_to len last stage = last
+abbrev pub torn_to : ℕ → ℕ → ℕ → PlaceStage → ℕ
+torn_to old new last place.Torn = if nat_lt new old then old else last
+torn_to old new last stage = last
+
+-- the stage if they were not written back
+abbrev pub unrestored : PlaceStage → PlaceStage
+unrestored place.Cleared = place.Lost
+unrestored stage = place.Lacking
 
 -- a call of the save failed
 abbrev pub HasFailed : PlaceStage → Type 0
-HasFailed stage = (stage ≡ Whole) ⊎ IsToRestore stage
+HasFailed stage = (stage ≡ place.Whole) ⊎ ((stage ≡ place.Mixed) ⊎ (stage ≡ place.Torn))
 
--- what a failed save left: its old bytes if they were brought back and synced, and otherwise perhaps others
+-- what a failed save left: it has its old bytes again, or they are there and perhaps more, or the new ones under no name of its own, or an old one may be gone
 abbrev pub IsAftermath : PlaceStage → Option Aftermath → Type 0
-IsAftermath Back aftermath = aftermath ≡ Some Restored
+IsAftermath place.Finished aftermath = aftermath ≡ None
+IsAftermath place.Back aftermath = (aftermath ≡ None) ⊎ (aftermath ≡ Some Restored)
+IsAftermath place.Left aftermath = (aftermath ≡ None) ⊎ (aftermath ≡ Some Mixed)
 IsAftermath stage aftermath = aftermath ≡ Some Damaged

@@ -1,5 +1,6 @@
 -- What is due at each stage of a new file.
 use Rattle.std.specs.Prelude.{◌≡◌, ℕ, Bool, true, false, List, ◌==◌, Option, None, Some}
+use Rattle.krb_disk.specs.declared.calls.OldFile.{OldFile}
 use Rattle.krb_disk.specs.declared.looks.Found.{Found}
 use Rattle.krb_disk.specs.declared.snapshot.Snapshot.{Snapshot}
 use Rattle.krb_disk.specs.declared.snapshot.Snapshot.TheVariants.{Nothing, File, Loaded}
@@ -46,6 +47,10 @@ IsFound Agreed = Unit {0}
 IsFound (Ours old) = Unit {0}
 IsFound Ended = Unit {0}
 IsFound _ = ⊥
+
+-- the old file is locked, or cannot be
+abbrev pub IsGuarded : {F : Type 0} → OldFile F → Type 0
+IsGuarded file = file.is_guarded ≡ true
 
 -- what was seen of the old file
 abbrev pub snapshot_file : {A : Type 0} → Snapshot A → Option Found

@@ -6,6 +6,7 @@ ghost use Rattle.krb_disk.specs.NewFile.{IsFilled};
 ghost use Rattle.krb_disk.specs.Stages.{private_mode, IsDueMode, IsFound, stood, synced};
 ghost use Rattle.krb_disk.specs.declared.stage.Stage.TheVariants.{Made, Locked, Agreed, Held, Written, Examined, Permitted};
 
+mod bring_back;
 mod in_place;
 mod log;
 mod old;
@@ -14,7 +15,7 @@ pub mod stale_file;
 
 use crate::fault::DiskFault;
 use crate::lock::TakeLock;
-use crate::looks::device::Device;
+use crate::looks::device::Listed;
 use crate::looks::same::is_same_file;
 use crate::looks::{Found, Looks};
 use crate::noted::Noted;
@@ -33,6 +34,8 @@ use std::rt;
 pub struct Calls<'a, R> {
     rt: &'a R,
     looks: Looks<'a, R>,
+    /// The file loaded last: a save does not take it for a stale one.
+    loaded: Option<Found>,
     /// The completed saves.
     saved: Log,
 }
@@ -54,15 +57,16 @@ pub struct OldFile<F> {
     file: F,
     /// Why it cannot be saved in place, if that is known.
     refused: Option<DiskFault>,
-    /// The device of its mount, if known.
-    mount: Option<Device>,
+    listed: Listed,
+    /// True once it is locked, or where it cannot be.
+    is_guarded: bool,
 }
 
 /// The old file while it is saved in place. Only these calls reach it.
 #[derive(Drop)]
 pub struct PlaceFile<F> {
     file: F,
-    mount: Option<Device>,
+    listed: Listed,
     stage: PlaceStage,
 }
 
@@ -88,7 +92,23 @@ impl<'a, R: rt::Files> Calls<'a, R> {
         Calls {
             rt,
             looks: Looks::new(rt),
+            loaded: None,
             saved: Log::new(),
+        }
+    }
+
+    /// Notes what was loaded.
+    pub fn note_loaded(&mut self, found: Found)
+        ensures { self.new.saved ≡ self.old.saved }
+    {
+        self.loaded = Some(found);
+    }
+
+    /// Returns whether that is the file loaded last.
+    pub fn spares(&self, found: &Found) -> bool {
+        match &self.loaded {
+            Some(loaded) => is_same_file(loaded, found),
+            None => false,
         }
     }
 

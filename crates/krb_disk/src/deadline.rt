@@ -24,10 +24,11 @@ pub const MOST_TRIES: u32 = 2000;
 /// The most tries after the first if something that is not ours is in the way.
 const FEW_TRIES: u32 = 200;
 
-/// A wait: when it began, and how many tries there were after the first.
-#[derive(Drop)]
+/// A wait: when it began, the most seconds of it, and how many tries there were after the first.
+#[derive(Clone, Copy, Drop)]
 pub struct Deadline {
     start: Option<Instant>,
+    most: u64,
     tries: u32,
 }
 
@@ -38,6 +39,20 @@ impl Deadline {
     {
         Deadline {
             start: looks.now(),
+            most: MOST_SECONDS,
+            tries: 0,
+        }
+    }
+
+    /// Returns the wait for one look: a second from now if this one was over before its first look, as when an open took
+    /// long.
+    pub fn for_look<R: rt::Clock>(&self, looks: &Looks<'_, R>) -> Deadline {
+        if self.tries > 0 || !self.is_over(looks) {
+            return *self;
+        }
+        Deadline {
+            start: looks.now(),
+            most: FEW_SECONDS,
             tries: 0,
         }
     }
@@ -57,7 +72,7 @@ impl Deadline {
 
     /// Returns whether its deadline passed, by the clock.
     pub fn is_over<R: rt::Clock>(&self, looks: &Looks<'_, R>) -> bool {
-        self.has_taken(looks, MOST_SECONDS)
+        self.has_taken(looks, self.most)
     }
 
     /// Sleeps before the next try, or fails with `InUse` if no try or no time is left.

@@ -1,6 +1,6 @@
 //! Files on a disk, by name.
 
-ghost use Rattle.std.specs.Prelude.{◌≡◌, ◌≤◌, ◌<◌, true, false, [], ◌∷◌, None, is_some, IfOk, OnOk, OnErr, IfErr, IsSome, IsTrue, vec_len};
+ghost use Rattle.std.specs.Prelude.{◌≡◌, ◌≤◌, ◌<◌, true, false, [], ◌∷◌, None, Some, is_ok, is_some, IfOk, OnOk, OnErr, IfErr, IsSome, IsTrue, vec_len};
 ghost use Rattle.krb_disk.specs.Aftermaths.{IsDone, IsRefused};
 ghost use Rattle.krb_disk.specs.DiskFiles.{Disk, Fails, CountsLoad, CountsSave, AnswersFromDisk, SavesToDisk, is_in_place, left};
 ghost use Rattle.krb_disk.specs.Faults.{load_fault, save_fault};
@@ -8,22 +8,24 @@ ghost use Rattle.krb_disk.specs.Looks.{IsPlain};
 
 use crate::calls::Calls;
 use crate::fault::{DiskFault, ReadFault, Unsaved};
-use crate::held::{Held, save_anew};
+use crate::held::{Held, NotHeld, save_anew};
+use crate::looks::limits::check_len;
 use crate::lock::TakeLock;
 use crate::looks::Found;
 use crate::number::Numbered;
 use crate::old::Way;
 use crate::owner::SetOwner;
 use crate::read::{read_file, read_plain};
+use crate::target::new_path_of;
 use crate::write_in_place::WriteInPlace;
-use krb_files::{Aftermath, Cause, Files, LoadFault, SaveFault};
+use krb_files::{Aftermath, Cause, Files, HeldName, LoadFault, SaveFault};
 use std::alloc::Allocator;
 use std::marker::Model;
 use std::rt;
 
 /// The files on a disk. Contracts assume nothing of their contents; they see how many calls failed, the cause of the
 /// last failure, which saves made all their calls, what the last one left behind, the mode of the file loaded last,
-/// whether one is held, whether only plain files are loaded, and whether files are saved in place. A load reads the
+/// which is to be held, whether only plain files are loaded, and whether files are saved in place. A load reads the
 /// whole file. A save writes a new file and renames it over the old one, so that whatever fails, the file is the old or
 /// the new one; or it writes over the old one. A held file is saved only if it is as it was when it was held or, later,
 /// loaded.
@@ -34,7 +36,12 @@ pub struct DiskFiles<'a, R: rt::Files + Alloc> {
     cause: Option<Cause>,
     /// The permission bits of the file loaded last, if it is a plain file.
     mode: Option<u32>,
+    /// The name of the file to be held, and the hold, or why it could not be held.
+    held_name: HeldName,
     held: Option<Held<R>>,
+    not_held: Option<NotHeld<R::A>>,
+    /// The path at which something is in the way of the last save.
+    in_the_way: Option<String<R::A>>,
     only_plain: bool,
     way: Way,
     /// What the last save left behind.
@@ -49,6 +56,7 @@ impl<'a, R: rt::Files + Alloc> Model for DiskFiles<'a, R> {
       cause = files.cause;
       saved = files.calls.saved.entries;
       mode = files.mode;
+      held = files.held_name.name;
       is_held = is_some files.held;
       only_plain = files.only_plain;
       in_place = is_in_place files.way;
@@ -62,14 +70,17 @@ impl<'a, R: rt::Files + Alloc> Model for DiskFiles<'a, R> {
 impl<'a, R: rt::Files + Alloc> DiskFiles<'a, R> {
     /// Returns the files that `rt` reaches, with no failed call yet.
     pub fn new(rt: &'a R) -> DiskFiles<'a, R>
-        ensures { result ≡ record { failures = 0; cause = None; saved = []; mode = None; is_held = false; only_plain = false; in_place = false; aftermath = None } }
+        ensures { result ≡ record { failures = 0; cause = None; saved = []; mode = None; held = None; is_held = false; only_plain = false; in_place = false; aftermath = None } }
     {
         DiskFiles {
             calls: Calls::new(rt),
             failures: 0,
             cause: None,
             mode: None,
+            held_name: HeldName::none(),
             held: None,
+            not_held: None,
+            in_the_way: None,
             only_plain: false,
             way: Way::Replace,
             aftermath: None,
@@ -96,7 +107,6 @@ impl<'a, R: rt::Files + Alloc> DiskFiles<'a, R> {
         ensures fails { Fails self.old self.new }
         ensures count { self.old.failures ≤ self.new.failures }
         ensures mode { self.new.mode ≡ self.old.mode }
-        ensures held { self.new.is_held ≡ self.old.is_held }
         ensures aftermath { self.new.aftermath ≡ self.old.aftermath }
     {
         self.failures = self.failures.saturating_add(1);
@@ -141,20 +151,44 @@ where
         ensures plain { IsTrue self.old.only_plain → IfOk result (λ read. IsPlain read.0) }
         ensures same { self.new ≡ self.old }
     {
+        let looks = self.calls.looks();
         if self.only_plain {
-            return read_plain(self.calls.looks(), alloc, name, limit);
+            return read_plain(looks, alloc, name, limit);
         }
-        match &mut self.held {
-            Some(held) => held.load(&self.calls, alloc, name, limit),
-            None => read_file(self.calls.looks(), alloc, name, limit),
+        match (&mut self.held, &self.not_held) {
+            (Some(held), _) => held.load(&self.calls, alloc, name, limit),
+            (None, Some(not_held)) => not_held.load(looks, alloc, name, limit),
+            (None, None) => read_file(looks, alloc, name, limit),
         }
     }
 
-    // Keeps a hold until the file is saved or released.
-    fn keep(&mut self, held: Held<R>)
-        ensures { self.new ≡ record self.old { is_held = true } }
+    // Keeps a hold until the file is saved or released, or why it could not be had.
+    fn keep(&mut self, name: &str, held: Result<Held<R>, NotHeld<R::A>>)
+        ensures { self.new ≡ record self.old { held = Some name.now; is_held = is_ok held } }
     {
-        self.held = Some(held);
+        self.held_name = HeldName::of(name.as_bytes());
+        match held {
+            Ok(held) => {
+                self.held = Some(held);
+                self.not_held = None;
+            }
+            Err(not_held) => {
+                self.held = None;
+                self.not_held = Some(not_held);
+            }
+        }
+    }
+
+    // Takes the hold, or why it could not be had, so that none is left.
+    fn take_hold(&mut self) -> Result<Option<Held<R>>, DiskFault>
+        ensures { self.new ≡ left self.old }
+    {
+        self.held_name = HeldName::none();
+        let not_held = self.not_held.take();
+        match (self.held.take(), not_held) {
+            (None, Some(not_held)) => Err(not_held.why),
+            (held, _) => Ok(held),
+        }
     }
 
     // Saves a file, which is held before if it was not. Returns what that left behind.
@@ -165,10 +199,35 @@ where
         ensures done { IfOk result IsDone }
         ensures refused { IfErr result IsRefused }
     {
-        match self.held.take() {
+        let held = self.take_hold()?;
+        if let Err(fault) = check_len(self.calls.looks(), bytes.len()) {
+            release(&self.calls, held);
+            return Err(Unsaved::from(fault));
+        }
+        match held {
             Some(held) => held.save(&mut self.calls, name, bytes, self.way),
             None => save_anew(&mut self.calls, name, bytes, self.way),
         }
+    }
+
+    // Notes what is in the way of a save that was refused by this fault.
+    fn note_in_the_way(&mut self, name: &str, fault: DiskFault)
+        ensures { self.new ≡ self.old }
+    {
+        self.in_the_way = match fault {
+            DiskFault::Failed(Cause::InTheWay) => new_path_of(self.calls.looks(), name),
+            _ => None,
+        };
+    }
+}
+
+// Ends a hold, if there is one.
+fn release<R: rt::Files + rt::Clock + Alloc>(calls: &Calls<'_, R>, held: Option<Held<R>>)
+where
+    R::File: SetOwner + TakeLock + Numbered + WriteInPlace,
+{
+    if let Some(held) = held {
+        held.release(calls);
     }
 }
 
@@ -188,21 +247,38 @@ where
 
     ghost mode = { λ disk. disk.mode };
 
+    ghost held = { λ disk. disk.held };
+
     ghost is_held = { λ disk. disk.is_held };
 
+    ghost aftermath = { λ disk. disk.aftermath };
+
     fn hold(&mut self, name: &str)
-        ensures { self.new ≡ record self.old { is_held = true } }
+        ensures { self.new ≡ record self.old { held = Some name.now; is_held = self.new.is_held; aftermath = None } }
     {
         self.release();
+        self.aftermath = None;
         let held = Held::take(&self.calls, name, self.way);
-        self.keep(held);
+        self.keep(name, held);
     }
 
     fn release(&mut self)
         ensures { self.new ≡ left self.old }
     {
-        if let Some(held) = self.held.take() {
-            held.release(&self.calls);
+        if let Ok(held) = self.take_hold() {
+            release(&self.calls, held);
+        }
+    }
+
+    fn check_hold(&mut self) -> Result<(), SaveFault> {
+        let checked = match (&self.held, &self.not_held) {
+            (Some(held), _) => held.check(),
+            (None, Some(not_held)) => Err(not_held.why),
+            (None, None) => Err(DiskFault::Failed(Cause::NoLock)),
+        };
+        match checked {
+            Ok(()) => Ok(()),
+            Err(fault) => Err(self.refuse_save(fault)),
         }
     }
 
@@ -218,6 +294,7 @@ where
         }
         match self.read(alloc, name, limit) {
             Ok((found, bytes)) => {
+                self.calls.note_loaded(found);
                 self.mode = found.permissions();
                 Ok(bytes)
             }
@@ -237,6 +314,7 @@ where
                 Ok(())
             }
             Err(unsaved) => {
+                self.note_in_the_way(name, unsaved.why);
                 self.aftermath = unsaved.aftermath;
                 Err(self.refuse_save(unsaved.why))
             }
@@ -257,9 +335,14 @@ where
         self.cause
     }
 
-    fn aftermath(&self) -> Option<Aftermath>
-        ensures { result ≡ self.now.aftermath }
-    {
+    fn in_the_way(&self) -> Option<&str> {
+        match &self.in_the_way {
+            Some(path) => Some(path.as_str()),
+            None => None,
+        }
+    }
+
+    fn aftermath(&self) -> Option<Aftermath> {
         self.aftermath
     }
 }

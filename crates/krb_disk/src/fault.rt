@@ -1,6 +1,7 @@
 //! Why a call on the disk failed.
 
 ghost use Rattle.std.specs.Prelude.{◌≡◌, None};
+ghost use Rattle.krb_disk.specs.Aftermaths.{IsRefused, IsUndone};
 ghost use Rattle.krb_disk.specs.Faults.{load_fault, save_fault};
 ghost use Rattle.krb_disk.specs.declared.fault.DiskFault.TheVariants.{NoMemory};
 ghost use Rattle.krb_disk.specs.declared.fault.ReadFault.TheVariants.{Disk};
@@ -29,6 +30,20 @@ pub enum ReadFault {
 pub struct Unsaved {
     pub why: DiskFault,
     pub aftermath: Option<Aftermath>,
+}
+
+impl Unsaved {
+    /// Returns why a save in place was not made, and what that left. If it left something, memory is not what is told.
+    pub fn leaving(why: DiskFault, aftermath: Option<Aftermath>) -> Unsaved
+        ensures refused { IsUndone aftermath → IsRefused result }
+        ensures left { result.aftermath ≡ aftermath }
+    {
+        let why = match (why, aftermath) {
+            (DiskFault::NoMemory, Some(_)) => DiskFault::Failed(Cause::Changed),
+            (why, _) => why,
+        };
+        Unsaved { why, aftermath }
+    }
 }
 
 impl From<DiskFault> for Unsaved {

@@ -1,4 +1,4 @@
-//! A held file, or why it is not held.
+//! A held file, or why a file is not held.
 
 ghost use Rattle.std.specs.Prelude.{◌≡◌, ◌≤◌, ◌∷◌, IfErr, IfOk, OnOk, OnErr, vec_len};
 ghost use Rattle.krb_disk.specs.Aftermaths.{IsDone, IsRefused};
@@ -20,15 +20,19 @@ use krb_files::{Aftermath, Cause};
 use std::alloc::Allocator;
 use std::rt;
 
-/// A held file, by how it is to be saved, or why it is not held.
+/// A held file, by how it is to be saved.
 #[derive(Drop)]
 pub enum Held<R: rt::Files + Alloc> {
     Replacing(Replacing<R>),
     InPlace(Old<R>),
-    /// Why the file is not held. It cannot be saved.
-    Refused(DiskFault),
-    /// This name is that of a pipe. It is not loaded either, since opening it may block for ever.
-    Pipe(String<R::A>),
+}
+
+/// Why a file is not held: it cannot be saved.
+#[derive(Drop)]
+pub struct NotHeld<A: Allocator> {
+    pub why: DiskFault,
+    /// The name of a pipe. It is not loaded either, since opening it may block for ever.
+    pipe: Option<String<A>>,
 }
 
 // Returns whether a name that could not be held, by this fault, leads to a pipe.
@@ -39,6 +43,38 @@ fn is_pipe<R: rt::Files>(looks: &Looks<'_, R>, name: &str, fault: DiskFault) -> 
             Err(_) => false,
         },
         _ => false,
+    }
+}
+
+impl<A: Allocator> NotHeld<A> {
+    // Returns why the file of that name is not held.
+    fn of<R: rt::Files + Alloc<A = A>>(looks: &Looks<'_, R>, name: &str, why: DiskFault) -> NotHeld<A> {
+        if !is_pipe(looks, name, why) {
+            return NotHeld { why, pipe: None };
+        }
+        match String::from_str(looks.alloc(), name) {
+            Ok(name) => NotHeld { why, pipe: Some(name) },
+            Err(_) => NotHeld { why: DiskFault::NoMemory, pipe: None },
+        }
+    }
+
+    /// Loads the file of that name, which is not held.
+    pub fn load<R: rt::Files, B: Allocator>(
+        &self,
+        looks: &Looks<'_, R>,
+        alloc: B,
+        name: &str,
+        limit: u32,
+    ) -> Result<(Found, Vec<u8, B>), ReadFault>
+        ensures { IfOk result (λ read. vec_len read.1 ≤ limit) }
+    {
+        match (&self.pipe, self.why) {
+            (Some(pipe), _) if pipe.as_str() == name => {
+                Err(ReadFault::Disk(DiskFault::Failed(Cause::NotAPlainFile)))
+            }
+            (_, DiskFault::NoMemory) => Err(ReadFault::Disk(DiskFault::NoMemory)),
+            _ => read_file(looks, alloc, name, limit),
+        }
     }
 }
 
@@ -95,8 +131,7 @@ where
         Way::InPlace => {
             let mut deadline = Deadline::new(calls.looks());
             let old = Old::hold(calls, target, way, &mut deadline)?;
-            save_in_place(calls, old, bytes)?;
-            Ok(None)
+            save_in_place(calls, old, bytes)
         }
     }
 }
@@ -106,17 +141,18 @@ where
     R::File: SetOwner + TakeLock + Numbered + WriteInPlace,
 {
     /// Holds the file of that name, or returns why it cannot be held.
-    pub fn take(calls: &Calls<'_, R>, name: &str, way: Way) -> Held<R> {
-        let fault = match hold(calls, name, way) {
-            Ok(held) => return held,
-            Err(fault) => fault,
+    pub fn take(calls: &Calls<'_, R>, name: &str, way: Way) -> Result<Held<R>, NotHeld<R::A>> {
+        hold(calls, name, way).map_err(|why| NotHeld::of(calls.looks(), name, why))
+    }
+
+    /// Fails if the file could not be saved, as far as that is known.
+    pub fn check(&self) -> Result<(), DiskFault> {
+        let Held::InPlace(old) = self else {
+            return Ok(());
         };
-        if !is_pipe(calls.looks(), name, fault) {
-            return Held::Refused(fault);
-        }
-        match String::from_str(calls.looks().alloc(), name) {
-            Ok(name) => Held::Pipe(name),
-            Err(_) => Held::Refused(DiskFault::NoMemory),
+        match &old.handle {
+            Some(file) => file.refused().map_or(Ok(()), Err),
+            None => Err(DiskFault::Failed(Cause::NoFile)),
         }
     }
 
@@ -133,10 +169,6 @@ where
         match self {
             Held::Replacing(hold) if hold.old.is_of(name) => hold.old.load(calls, alloc, limit),
             Held::InPlace(old) if old.is_of(name) => old.load(calls, alloc, limit),
-            Held::Pipe(pipe) if pipe.as_str() == name => {
-                Err(ReadFault::Disk(DiskFault::Failed(Cause::NotAPlainFile)))
-            }
-            Held::Refused(DiskFault::NoMemory) => Err(ReadFault::Disk(DiskFault::NoMemory)),
             _ => read_file(calls.looks(), alloc, name, limit),
         }
     }
@@ -164,19 +196,16 @@ where
                 save_anew(calls, name, bytes, way)
             }
             Held::InPlace(old) => {
-                if !old.is_of(name) {
-                    drop(old);
-                    return save_anew(calls, name, bytes, way);
+                if old.is_of(name) {
+                    return save_in_place(calls, old, bytes);
                 }
-                save_in_place(calls, old, bytes)?;
-                Ok(None)
+                drop(old);
+                save_anew(calls, name, bytes, way)
             }
-            Held::Refused(fault) => Err(Unsaved::from(fault)),
-            Held::Pipe(_) => Err(Unsaved::from(DiskFault::Failed(Cause::NotAPlainFile))),
         }
     }
 
-    /// Ends the hold, if there is one.
+    /// Ends the hold.
     pub fn release(self, calls: &Calls<'_, R>) {
         if let Held::Replacing(hold) = self {
             hold.release(calls);

@@ -4,9 +4,11 @@ ghost use Rattle.std.specs.Prelude.{◌≡◌, ◌↔◌, IsTrue, bit_and};
 ghost use Rattle.krb_disk.specs.DiskFiles.{permissions};
 
 pub mod device;
+pub mod limits;
+pub mod listed;
 pub mod locks;
-pub mod mounts;
 pub mod same;
+mod text;
 pub mod users;
 
 use std::fs::{self, Metadata, OpenFile};
@@ -56,6 +58,16 @@ impl Found {
             Some(self.mode % 0o10000)
         } else {
             None
+        }
+    }
+
+    /// Returns the same, longer by `count` bytes.
+    pub fn longer_by(&self, count: u64) -> Found
+        ensures { result ≡ record self.now { size = result.size } }
+    {
+        Found {
+            size: self.size.saturating_add(count),
+            ..*self
         }
     }
 

@@ -10,7 +10,7 @@ use crate::deadline::Deadline;
 use crate::fault::DiskFault;
 use crate::lock::TakeLock;
 use crate::looks::Found;
-use crate::looks::device::Mounted;
+use crate::looks::device::{Listed, Mounted};
 use crate::looks::locks::{LockKind, is_locked};
 use crate::looks::users::Users;
 use std::io::{self, ErrorKind};
@@ -81,7 +81,7 @@ fn remove_abandoned<R: rt::Files>(
     requires { file.old.is_locked ≡ true }
 {
     if calls.is_abandoned(file, users)? {
-        calls.remove_stale_file(file)?;
+        calls.remove_stale_file(file, users)?;
     }
     Ok(())
 }
@@ -118,7 +118,7 @@ where
     R::File: TakeLock,
 {
     let users = Users::of_run(calls.looks(), owner);
-    if !users.may_have_left(found) {
+    if !users.may_have_left(found) || calls.spares(found) {
         return Ok(false);
     }
     match clear_stale(calls, path, users) {
@@ -141,7 +141,7 @@ where
     let Some(found) = calls.looks().look(path)? else {
         return Ok(true);
     };
-    let place = Mounted::new(&found, None);
+    let place = Mounted::new(&found, Listed::unknown());
     Ok(
         clear_place(calls, path, &found, owner)?
             || is_locked(calls.looks(), &place, LockKind::WholeFile, deadline)?,

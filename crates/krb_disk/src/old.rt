@@ -1,7 +1,7 @@
 //! The old file of a save: what is known of it from the hold on.
 
-ghost use Rattle.std.specs.Prelude.{◌≡◌, ◌≤◌, ◌↔◌, IfOk, IsErrOf, IsTrue, string_bytes, vec_len};
-ghost use Rattle.krb_disk.specs.Stages.{IsLoaded};
+ghost use Rattle.std.specs.Prelude.{◌≡◌, ◌≤◌, ◌↔◌, IfOk, IfSome, IsErrOf, IsTrue, string_bytes, vec_len};
+ghost use Rattle.krb_disk.specs.Stages.{IsGuarded, IsLoaded};
 ghost use Rattle.krb_disk.specs.declared.fault.ReadFault.TheVariants as ReadFault;
 ghost use Rattle.krb_disk.specs.declared.snapshot.Snapshot.TheVariants.{Nothing};
 
@@ -10,15 +10,17 @@ use crate::deadline::{Deadline, MOST_TRIES};
 use crate::fault::{DiskFault, ReadFault};
 use crate::lock::TakeLock;
 use crate::looks::Found;
-use crate::looks::device::Device;
+use crate::looks::device::Listed;
 use crate::looks::locks::LockKind;
 use crate::number::Numbered;
 use crate::snapshot::Snapshot;
 use crate::target::Target;
 use krb_files::Cause;
+use krb_wire::USUAL_LIMIT;
 use std::alloc::Allocator;
 use std::io::ErrorKind;
 use std::rt;
+use wiping::Wiping;
 
 /// The old file of a save: of the programs that hold a file before they change it, only this one may change it.
 #[derive(Drop)]
@@ -63,6 +65,7 @@ fn lock_opened<R: rt::Files + rt::Clock + Alloc>(
 ) -> Result<Option<Opened<R::File>>, DiskFault>
 where
     R::File: TakeLock + Numbered,
+    ensures { IfOk result (λ tried. IfSome tried (λ opened. IfSome opened.handle IsGuarded)) }
 {
     if !calls.lock_old(&mut file, path) {
         return Ok(None);
@@ -70,8 +73,8 @@ where
     let Some(found) = calls.find_old(&file, path)? else {
         return Ok(None);
     };
-    calls.find_mount(&mut file)?;
-    if !calls.is_quiet(&found, file.mount(), way.awaited(), deadline)? {
+    calls.find_listed(&mut file)?;
+    if !calls.is_quiet(&found, file.listed(), way.awaited(), deadline)? {
         return Ok(None);
     }
     Ok(Some(Opened {
@@ -89,6 +92,7 @@ fn try_old<R: rt::Files + rt::Clock + Alloc>(
 ) -> Result<Option<Opened<R::File>>, DiskFault>
 where
     R::File: TakeLock + Numbered,
+    ensures { IfOk result (λ tried. IfSome tried (λ opened. IfSome opened.handle IsGuarded)) }
 {
     let Some(found) = calls.see(path)? else {
         return Ok(Some(Opened {
@@ -115,6 +119,7 @@ fn hold_old<R: rt::Files + rt::Clock + Alloc>(
 ) -> Result<Opened<R::File>, DiskFault>
 where
     R::File: TakeLock + Numbered,
+    ensures { IfOk result (λ opened. IfSome opened.handle IsGuarded) }
 {
     for _ in 0..=MOST_TRIES {
         if let Some(opened) = try_old(calls, path, way, deadline)? {
@@ -136,7 +141,8 @@ where
         way: Way,
         deadline: &mut Deadline,
     ) -> Result<Old<R>, DiskFault>
-        ensures { IfOk result (λ old. old.target ≡ target) }
+        ensures target { IfOk result (λ old. old.target ≡ target) }
+        ensures guarded { IfOk result (λ old. IfSome old.handle IsGuarded) }
     {
         let Opened { handle, found } = hold_old(calls, target.path(), way, deadline)?;
         Ok(Old {
@@ -197,11 +203,29 @@ impl<R: rt::Files + Alloc> Old<R> {
         }
     }
 
-    /// Returns the device of the file's mount, if known.
-    pub fn mount(&self) -> Option<Device> {
+    /// Loads a file that was held only, so that its bytes are known.
+    pub fn load_anew(&mut self, calls: &Calls<'_, R>) -> Result<(), DiskFault>
+        ensures { self.new.target ≡ self.old.target }
+    {
+        let Snapshot::File(_) = self.snapshot else {
+            return Ok(());
+        };
+        match self.read(calls, Wiping::new(calls.looks().alloc()), USUAL_LIMIT) {
+            Ok((found, bytes)) => {
+                self.snapshot = Snapshot::Loaded(found, bytes);
+                Ok(())
+            }
+            Err(ReadFault::Disk(fault)) => Err(fault),
+            Err(ReadFault::Missing) => Err(DiskFault::Failed(Cause::NoFile)),
+            Err(ReadFault::TooLarge) => Err(DiskFault::Failed(Cause::FileTooLarge)),
+        }
+    }
+
+    /// Returns how the locks of the file may be listed.
+    pub fn listed(&self) -> Listed {
         match &self.handle {
-            Some(file) => file.mount(),
-            None => None,
+            Some(file) => file.listed(),
+            None => Listed::unknown(),
         }
     }
 

@@ -1,6 +1,6 @@
 //! The parts of a file that a save in place writes.
 
-ghost use Rattle.std.specs.Prelude.{◌≡◌, ℕ, ◌≤◌, ◌<◌, IsTrue, length, slice_get};
+ghost use Rattle.std.specs.Prelude.{◌≡◌, ◌≢◌, ◌↔◌, ℕ, ◌≤◌, ◌<◌, ◌-◌, false, IsTrue, length, nat_lt, slice_get};
 ghost use Rattle.krb_disk.specs.Content.{IsPatch};
 
 /// How many bytes are compared at once.
@@ -42,6 +42,7 @@ fn same_front(old: &[u8], new: &[u8], most: usize) -> usize
     requires { (most ≤ length old.now) × (most ≤ length new.now) }
     ensures within { result ≤ most }
     ensures same { (i : ℕ) → i < result → slice_get old.now i ≡ slice_get new.now i }
+    ensures differs { result < most → slice_get old.now result ≢ slice_get new.now result }
 {
     let mut at = same_pieces(old, new, most);
     while at < most && old[at] == new[at] {
@@ -68,6 +69,7 @@ fn after_last(old: &[u8], new: &[u8], first: usize, most: usize) -> usize
     requires { (first ≤ most) × (most ≤ length old.now) × (most ≤ length new.now) }
     ensures within { (first ≤ result) × (result ≤ most) }
     ensures same { (i : ℕ) → result ≤ i → i < most → slice_get old.now i ≡ slice_get new.now i }
+    ensures differs { first < result → slice_get old.now (result - 1) ≢ slice_get new.now (result - 1) }
 {
     let mut at = after_last_piece(old, new, first, most);
     while first < at && old[at - 1] == new[at - 1] {
@@ -91,6 +93,35 @@ impl<'a> Patch<'a> {
             after,
             first,
             last,
+        }
+    }
+    /// Returns whether the file grows.
+    pub fn grows(&self) -> bool
+        ensures { result ≡ nat_lt (length self.now.before.now) (length self.now.after.now) }
+    {
+        self.before.len() < self.after.len()
+    }
+
+    /// Returns whether the file gets shorter.
+    pub fn shrinks(&self) -> bool
+        ensures { result ≡ nat_lt (length self.now.after.now) (length self.now.before.now) }
+    {
+        self.after.len() < self.before.len()
+    }
+
+    /// Returns whether no byte that both files have differs, and none is to be cut off.
+    pub fn is_done(&self) -> bool
+        ensures { IsTrue result ↔ ((self.now.first ≡ self.now.last)
+            × (nat_lt (length self.now.after.now) (length self.now.before.now) ≡ false)) }
+    {
+        self.first == self.last && !self.shrinks()
+    }
+
+    /// Returns the bytes past the old end.
+    pub fn end(&self) -> &'a [u8] {
+        match self.after.get(self.before.len()..) {
+            Some(end) => end,
+            None => &[],
         }
     }
 }

@@ -13,22 +13,36 @@ pub enum PlaceStage {
     Extended,
     /// And synced.
     Lengthened,
-    /// Then the others that differ were written.
+    /// And then it was found with just these bytes past the old ones.
+    Unmoved,
+    /// No program had it locked, and its new end, if there is one, is there: old bytes may be written over.
+    Ready,
+    /// Those that differ were written over.
     Overwritten,
-    /// Then it was cut to its new length.
+    /// Then it was cut to its new length, if that is less.
     Cut,
-    /// And synced: it is saved.
+    /// And synced: it has the new bytes.
+    Finished,
+    /// Then its name led to it: it is saved.
     Saved,
-    /// A call failed, and each old byte is there.
+    /// A call failed, or another program has it; each old byte is there, and perhaps more.
     Whole,
-    /// The write over old bytes failed.
-    Mixed,
-    /// The cut, or the sync after it, failed.
-    Torn,
-    /// After a failure it was cut to its old length.
+    /// Then it was cut to its old length.
     Trimmed,
     /// And synced: it has its old bytes.
     Back,
-    /// After a failure another call failed.
+    /// That failed: each old byte is there, and perhaps more.
+    Left,
+    /// The write over old bytes failed, or another program changed the length.
+    Mixed,
+    /// The cut, or the sync after it, failed.
+    Torn,
+    /// After that the old bytes were written back.
+    Refilled,
+    /// They were not: they have no room, perhaps.
+    Lacking,
+    /// Then it was cut to its old length, which gives room.
+    Cleared,
+    /// An old byte may be gone.
     Lost,
 }

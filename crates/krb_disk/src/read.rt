@@ -1,6 +1,6 @@
 //! Reads and compares files.
 
-ghost use Rattle.std.specs.Prelude.{◌≡◌, ◌≤◌, ◌++◌, IfOk, IfSome, IsTrue, vec_len};
+ghost use Rattle.std.specs.Prelude.{◌≡◌, ◌≤◌, ◌++◌, [], IfOk, IfSome, IsTrue, vec_len};
 ghost use Rattle.krb_disk.specs.Looks.{IsPlain};
 
 use crate::fault::{DiskFault, ReadFault};
@@ -88,18 +88,56 @@ fn without_front<'a>(bytes: &'a [u8], front: &[u8]) -> Option<&'a [u8]>
     if begin == front { Some(rest) } else { None }
 }
 
+/// Bytes in two parts, one after the other.
+#[derive(Clone, Copy)]
+pub struct Parts<'a> {
+    pub front: &'a [u8],
+    pub end: &'a [u8],
+}
+
+impl<'a> Parts<'a> {
+    /// Returns the bytes of one part.
+    pub fn of(front: &'a [u8]) -> Parts<'a>
+        ensures { result.front.now ++ result.end.now ≡ front.now }
+    {
+        Parts { front, end: &[] }
+    }
+
+    // Returns what follows `piece`, or `None` if the bytes do not begin with it.
+    fn without(self, piece: &[u8]) -> Option<Parts<'a>>
+        ensures { IfSome result (λ rest. self.entry.front.now ++ self.entry.end.now
+            ≡ piece.now ++ (rest.front.now ++ rest.end.now)) }
+    {
+        if piece.len() <= self.front.len() {
+            let front = without_front(self.front, piece)?;
+            return Some(Parts { front, end: self.end });
+        }
+        let rest = without_front(piece, self.front)?;
+        let end = without_front(self.end, rest)?;
+        Some(Parts { front: &[], end })
+    }
+
+    // Returns whether there are none.
+    fn is_empty(self) -> bool
+        ensures { IsTrue result → self.entry.front.now ++ self.entry.end.now ≡ [] }
+    {
+        self.front.is_empty() && self.end.is_empty()
+    }
+}
+
 /// Returns whether exactly these bytes are left to read in a file.
-pub fn has_bytes<F: Read>(file: &mut F, bytes: &[u8]) -> io::Result<bool>
-    ensures { IfOk result (λ has. IsTrue has → IfSome (F.remaining file.old) (λ left. left ≡ bytes.now)) }
+pub fn has_bytes<F: Read>(file: &mut F, bytes: Parts<'_>) -> io::Result<bool>
+    ensures { IfOk result (λ has. IsTrue has
+        → IfSome (F.remaining file.old) (λ left. left ≡ bytes.entry.front.now ++ bytes.entry.end.now)) }
 {
     let mut piece = [0; PIECE];
     let mut left = bytes;
-    for _ in 0..=bytes.len() {
+    for _ in 0..=bytes.front.len().saturating_add(bytes.end.len()) {
         let count = file.read(&mut piece)?;
         if count == 0 {
             return Ok(left.is_empty());
         }
-        match without_front(left, &piece[..count]) {
+        match left.without(&piece[..count]) {
             Some(rest) => left = rest,
             None => return Ok(false),
         }

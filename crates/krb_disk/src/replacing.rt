@@ -85,7 +85,7 @@ fn is_ready<R: rt::Files + rt::Clock + Alloc>(
     ensures plain { OnOk result (IsPlainOrNone (snapshot_file old.now.snapshot)) }
 {
     compare(calls, new_file, old)?;
-    calls.watch(new_file, old.mount(), deadline)
+    calls.watch(new_file, old.listed(), deadline)
 }
 
 // Fails if another program replaced or removed the new file, changed the file since it was seen, or keeps it locked

@@ -1,13 +1,13 @@
 //! A snapshot of a held file.
 
-ghost use Rattle.std.specs.Prelude.{◌≡◌, ◌↔◌, IsTrue, IfOk, IfSome};
+ghost use Rattle.std.specs.Prelude.{◌≡◌, ◌++◌, ◌↔◌, IsTrue, IfOk, IfSome};
 ghost use Rattle.krb_disk.specs.Looks.{IsPlain, IsPlainOrNone, IsUnchanged};
 ghost use Rattle.krb_disk.specs.Stages.{IsLoaded, snapshot_file};
 
 use crate::fault::DiskFault;
 use crate::looks::same::is_unchanged;
 use crate::looks::{Found, Looks, Opened};
-use crate::read::has_bytes;
+use crate::read::{Parts, has_bytes};
 use std::alloc::Allocator;
 use std::fs::OpenFile;
 use std::io::{self, Read};
@@ -34,10 +34,10 @@ fn is_same_plain(old: &Found, new: &Found) -> bool
 fn has_content<F: OpenFile + Read>(
     opened: &mut Opened<F>,
     file: &Found,
-    bytes: &[u8],
+    bytes: Parts<'_>,
 ) -> io::Result<bool>
     ensures { IfOk result (λ has. IsTrue has
-        → IfSome (F.remaining opened.old.file) (λ left. left ≡ bytes.now)) }
+        → IfSome (F.remaining opened.old.file) (λ left. left ≡ bytes.entry.front.now ++ bytes.entry.end.now)) }
 {
     Ok(is_unchanged(file, &opened.describe()?) && has_bytes(opened, bytes)?)
 }
@@ -47,7 +47,7 @@ fn leads_to<R: rt::Files>(
     looks: &Looks<'_, R>,
     path: &str,
     file: &Found,
-    bytes: &[u8],
+    bytes: Parts<'_>,
 ) -> io::Result<bool> {
     match looks.open(path)? {
         Some(mut opened) => has_content(&mut opened, file, bytes),
@@ -85,16 +85,22 @@ impl<A: Allocator> Snapshot<A> {
         }
     }
 
-    /// Returns whether this is still what is at `path`: nothing, or the same plain file. A symbolic link does not count
-    /// as the file that it leads to.
-    pub fn is_at<R: rt::Files>(&self, looks: &Looks<'_, R>, path: &str) -> Result<bool, DiskFault>
+    /// Returns whether this is still what is at `path`: nothing, or the same plain file, now with `end` behind its
+    /// bytes. A symbolic link does not count as the file that it leads to.
+    pub fn is_at<R: rt::Files>(
+        &self,
+        looks: &Looks<'_, R>,
+        path: &str,
+        end: &[u8],
+    ) -> Result<bool, DiskFault>
         ensures { IfOk result (λ is. IsTrue is → IsPlainOrNone (snapshot_file self.now)) }
     {
         match (self, looks.look(path)?) {
             (Snapshot::Nothing, None) => Ok(true),
             (Snapshot::File(file), Some(found)) => Ok(is_same_plain(file, &found)),
-            (Snapshot::Loaded(file, bytes), Some(found)) => {
-                Ok(is_same_plain(file, &found) && leads_to(looks, path, file, bytes)?)
+            (Snapshot::Loaded(file, front), Some(found)) => {
+                let file = file.longer_by(end.len() as u64);
+                Ok(is_same_plain(&file, &found) && leads_to(looks, path, &file, Parts { front, end })?)
             }
             _ => Ok(false),
         }

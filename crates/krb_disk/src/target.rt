@@ -94,6 +94,11 @@ pub fn find_target<R: rt::Files + Alloc>(
     Err(DiskFault::Failed(Cause::NoName))
 }
 
+/// Returns the path of the new file of a name, if it can be found.
+pub fn new_path_of<R: rt::Files + Alloc>(looks: &Looks<'_, R>, name: &str) -> Option<String<R::A>> {
+    find_target(looks, name).ok()?.new_path(looks.alloc()).ok()
+}
+
 // Returns the target at `path`, unless that is the name of a new file.
 fn target_at<A: Allocator>(
     alloc: A,

@@ -1,60 +1,78 @@
 //! The calls of a save in place.
 
-ghost use Rattle.std.specs.Prelude.{◌≡◌, ◌∷◌, ◌↔◌, length, IfOk, IsTrue, OnOk, OnErr, Some, string_bytes};
-ghost use Rattle.krb_disk.specs.Content.{AtEach, Cuts, IsPatch, Writes};
-ghost use Rattle.krb_disk.specs.PlaceStages.{IsAftermath, IsToRestore, compared_in_place, synced_in_place, unsynced, torn_to, watched_in_place, IsToSync};
-ghost use Rattle.krb_disk.specs.declared.place_stage.PlaceStage.TheVariants.{Untouched, Same, Quiet, Extended, Lengthened, Overwritten, Cut, Saved, Whole, Mixed, Torn, Trimmed, Lost};
+ghost use Rattle.std.specs.Prelude.{◌≡◌, ◌≤◌, ◌⊎◌, ◌∷◌, false, length, nat_lt, IfOk, OnOk, OnErr, Some, string_bytes};
+ghost use Rattle.krb_disk.specs.Aftermaths.{IsDone};
+ghost use Rattle.krb_disk.specs.Content.{AtEach, CutsIf, IsPatch, Writes};
+ghost use Rattle.krb_disk.specs.PlaceStages.{IsCompared, IsToCompare, IsToSync, before_look, compared_in_place, synced_in_place, unsynced, watched_in_place};
+ghost use Rattle.krb_disk.specs.declared.place_stage.PlaceStage.TheVariants.{Quiet, Extended, Ready, Overwritten, Cut, Finished, Saved, Whole, Mixed, Torn};
 
 use super::log::Log;
-use super::{Calls, PlaceFile};
+use super::{Calls, PlaceFile, describe};
 use crate::deadline::Deadline;
 use crate::fault::DiskFault;
 use crate::looks::Found;
 use crate::looks::locks::LockKind;
+use crate::looks::same::is_same_file;
 use crate::patch::Patch;
 use crate::place_stage::PlaceStage;
+use crate::read::{Parts, has_bytes};
 use crate::snapshot::Snapshot;
 use crate::target::Target;
 use crate::write_in_place::WriteInPlace;
-use krb_files::Aftermath;
+use krb_files::{Aftermath, Cause};
 use std::alloc::Allocator;
 use std::fs::OpenFile;
-use std::{io, rt};
+use std::io::{self, ErrorKind, Read, Seek};
+use std::rt;
 
 impl<F> PlaceFile<F> {
-    /// Returns whether old bytes may be gone.
-    pub fn may_lack_bytes(&self) -> bool
-        ensures { IsTrue result ↔ IsToRestore self.now.stage }
+    /// Nothing is to be written past the old end.
+    pub fn pass(&mut self, _patch: Patch<'_>)
+        requires due { self.old.stage ≡ Quiet }
+        requires ends { nat_lt (length _patch.before.now) (length _patch.after.now) ≡ false }
+        ensures { self.new ≡ record self.old { stage = Ready } }
     {
-        matches!(self.stage, PlaceStage::Mixed | PlaceStage::Torn)
+        self.stage = PlaceStage::Ready;
     }
 
-    /// Returns what a failed save has left.
-    pub fn aftermath(&self) -> Aftermath
-        ensures { IsAftermath self.now.stage (Some result) }
+    /// Nothing else is to be written: the file has the new bytes, and they are synced.
+    pub fn settle(&mut self, _patch: Patch<'_>)
+        requires due { self.old.stage ≡ Ready }
+        requires same { _patch.first ≡ _patch.last }
+        requires kept { nat_lt (length _patch.after.now) (length _patch.before.now) ≡ false }
+        ensures { self.new ≡ record self.old { stage = Finished } }
     {
-        match self.stage {
-            PlaceStage::Back => Aftermath::Restored,
-            _ => Aftermath::Damaged,
-        }
+        self.stage = PlaceStage::Finished;
     }
 }
 
 impl<R: rt::Files> Calls<'_, R> {
-    /// Returns whether the old file is still at `path`, as it was loaded.
+    /// Returns whether the old file is still at `path`, as it was loaded, or with `end` behind that once it was added.
     pub fn compare_in_place<A: Allocator>(
         &self,
         old: &mut PlaceFile<R::File>,
         path: &str,
         snapshot: &Snapshot<A>,
+        end: &[u8],
     ) -> Result<bool, DiskFault>
-        requires due { old.old.stage ≡ Untouched }
-        ensures same { OnErr result (old.new ≡ old.old) }
-        ensures stage { IfOk result (λ is. old.new ≡ record old.old { stage = compared_in_place is }) }
+        requires due { IsToCompare old.old.stage }
+        ensures stage { IfOk result (λ is. old.new ≡ record old.old { stage = compared_in_place is old.old.stage }) }
+        ensures err { OnErr result (old.new ≡ record old.old { stage = compared_in_place false old.old.stage }) }
     {
-        let is_same = snapshot.is_at(&self.looks, path)?;
+        let was_lengthened = old.stage == PlaceStage::Lengthened;
+        old.stage = if was_lengthened {
+            PlaceStage::Whole
+        } else {
+            PlaceStage::Untouched
+        };
+        let end = if was_lengthened { end } else { &[] };
+        let is_same = snapshot.is_at(&self.looks, path, end)?;
         if is_same {
-            old.stage = PlaceStage::Same;
+            old.stage = if was_lengthened {
+                PlaceStage::Unmoved
+            } else {
+                PlaceStage::Same
+            };
         }
         Ok(is_same)
     }
@@ -67,7 +85,8 @@ impl<R: rt::Files> Calls<'_, R> {
     {
         let (done, failed) = match old.stage {
             PlaceStage::Extended => (PlaceStage::Lengthened, PlaceStage::Whole),
-            _ => (PlaceStage::Back, PlaceStage::Lost),
+            PlaceStage::Refilled => (PlaceStage::Whole, PlaceStage::Lost),
+            _ => (PlaceStage::Back, PlaceStage::Left),
         };
         old.stage = failed;
         old.file.sync_all()?;
@@ -75,25 +94,71 @@ impl<R: rt::Files> Calls<'_, R> {
         Ok(())
     }
 
-    /// Syncs the old file, which has the new bytes. That completes the save.
-    pub fn finish<A: Allocator>(
-        &mut self,
-        old: &mut PlaceFile<R::File>,
-        target: &Target<A>,
-        bytes: &[u8],
-    ) -> io::Result<()>
+    /// Syncs the old file, which has the new bytes.
+    pub fn finish(&self, old: &mut PlaceFile<R::File>) -> io::Result<()>
         requires due { old.old.stage ≡ Cut }
-        ensures saved { OnOk result (self.new.saved.entries
-            ≡ (string_bytes target.now.name, bytes.now) ∷ self.old.saved.entries) }
-        ensures ok { OnOk result (old.new ≡ record old.old { stage = Saved }) }
-        ensures unsaved { OnErr result (self.new.saved.entries ≡ self.old.saved.entries) }
+        ensures ok { OnOk result (old.new ≡ record old.old { stage = Finished }) }
         ensures err { OnErr result (old.new ≡ record old.old { stage = Torn }) }
     {
         old.stage = PlaceStage::Torn;
         old.file.sync_all()?;
+        old.stage = PlaceStage::Finished;
+        Ok(())
+    }
+
+    /// Fails if the name leads to another file now, or to none. Otherwise the save is complete.
+    pub fn confirm<A: Allocator>(
+        &mut self,
+        old: &mut PlaceFile<R::File>,
+        target: &Target<A>,
+        bytes: &[u8],
+    ) -> Result<(), DiskFault>
+        requires due { old.old.stage ≡ Finished }
+        ensures saved { OnOk result (self.new.saved.entries
+            ≡ (string_bytes target.now.name, bytes.now) ∷ self.old.saved.entries) }
+        ensures unsaved { OnErr result (self.new.saved.entries ≡ self.old.saved.entries) }
+        ensures ok { OnOk result (old.new.stage ≡ Saved) }
+        ensures err { OnErr result (old.new.stage ≡ Finished) }
+    {
+        match self.looks.come_to(target.name()) {
+            Ok(named) if is_other_file(&old.file, &named) => {
+                return Err(DiskFault::Failed(Cause::OtherFile));
+            }
+            Err(error) if error.kind() == ErrorKind::NotFound => {
+                return Err(DiskFault::Failed(Cause::NoFile));
+            }
+            _ => {}
+        }
         old.stage = PlaceStage::Saved;
         self.saved = Log::with(&self.saved, target.name().as_bytes(), bytes);
         Ok(())
+    }
+}
+
+// Returns whether that is another file than the open one, as far as the system reports.
+fn is_other_file<F: OpenFile>(file: &F, named: &Found) -> bool {
+    match describe(file) {
+        Ok(opened) => !is_same_file(named, &opened),
+        Err(_) => false,
+    }
+}
+
+// Returns whether an open file has just these bytes.
+fn has_just<F: Read + Seek>(file: &mut F, bytes: &[u8]) -> io::Result<bool> {
+    file.rewind()?;
+    has_bytes(file, Parts::of(bytes))
+}
+
+impl<R: rt::Files> Calls<'_, R> {
+    /// Returns what a save left behind that another program wrote to meanwhile: the file does not have just the new bytes.
+    pub fn look_after(&self, old: &mut PlaceFile<R::File>, bytes: &[u8]) -> Option<Aftermath>
+        ensures done { IsDone result }
+        ensures stage { old.new.stage ≡ old.old.stage }
+    {
+        match has_just(&mut old.file, bytes) {
+            Ok(true) => None,
+            _ => Some(Aftermath::Mixed),
+        }
     }
 }
 
@@ -104,23 +169,22 @@ where
     /// Writes the new bytes past the old end.
     pub fn extend(&self, old: &mut PlaceFile<R::File>, patch: Patch<'_>) -> io::Result<()>
         requires due { old.old.stage ≡ Quiet }
+        requires grows { length patch.before.now ≤ length patch.after.now }
         ensures ok { OnOk result (old.new.stage ≡ Extended) }
         ensures err { OnErr result (old.new.stage ≡ Whole) }
         ensures writes { OnOk result (AtEach (Writes patch.entry.after.now (length patch.entry.before.now) (length patch.entry.after.now))
             (R.File.content old.old.file) (R.File.content old.new.file)) }
     {
         old.stage = PlaceStage::Whole;
-        let (from, to) = (patch.before.len(), patch.after.len());
-        if from < to {
-            old.file.write_part(patch.after, from, to)?;
-        }
+        old.file
+            .write_part(patch.after, patch.before.len(), patch.after.len())?;
         old.stage = PlaceStage::Extended;
         Ok(())
     }
 
     /// Writes the new bytes over the old ones, from the first that differs to the last.
     pub fn overwrite(&self, old: &mut PlaceFile<R::File>, patch: Patch<'_>) -> io::Result<()>
-        requires due { old.old.stage ≡ Lengthened }
+        requires due { old.old.stage ≡ Ready }
         requires patch { IsPatch patch.before.now patch.after.now patch.first patch.last }
         ensures ok { OnOk result (old.new.stage ≡ Overwritten) }
         ensures err { OnErr result (old.new.stage ≡ Mixed) }
@@ -135,51 +199,23 @@ where
         Ok(())
     }
 
-    /// Cuts the old file to its new length.
-    pub fn shorten(&self, old: &mut PlaceFile<R::File>, patch: Patch<'_>) -> io::Result<()>
+    /// Cuts the old file to its new length, if that is less. Fails if its length is not the old one any more.
+    pub fn shorten(&self, old: &mut PlaceFile<R::File>, patch: Patch<'_>) -> Result<(), DiskFault>
         requires due { old.old.stage ≡ Overwritten }
         ensures ok { OnOk result (old.new.stage ≡ Cut) }
-        ensures err { OnErr result (old.new.stage ≡ Torn) }
-        ensures cuts { OnOk result (AtEach (Cuts (length patch.entry.after.now))
+        ensures err { OnErr result ((old.new.stage ≡ Torn) ⊎ (old.new.stage ≡ Mixed)) }
+        ensures cuts { OnOk result (AtEach (CutsIf (nat_lt (length patch.entry.after.now) (length patch.entry.before.now)) (length patch.entry.after.now))
             (R.File.content old.old.file) (R.File.content old.new.file)) }
     {
-        old.stage = PlaceStage::Torn;
-        old.file.cut(patch.after.len())?;
+        old.stage = PlaceStage::Mixed;
+        if patch.shrinks() {
+            if describe(&old.file)?.size != patch.before.len() as u64 {
+                return Err(DiskFault::Failed(Cause::Changed));
+            }
+            old.stage = PlaceStage::Torn;
+            old.file.cut(patch.after.len())?;
+        }
         old.stage = PlaceStage::Cut;
-        Ok(())
-    }
-
-    /// Writes back the old bytes that may be gone.
-    pub fn restore(&self, old: &mut PlaceFile<R::File>, patch: Patch<'_>) -> io::Result<()>
-        requires due { IsToRestore old.old.stage }
-        requires patch { IsPatch patch.before.now patch.after.now patch.first patch.last }
-        ensures ok { OnOk result (old.new.stage ≡ Whole) }
-        ensures err { OnErr result (old.new.stage ≡ Lost) }
-        ensures writes { OnOk result (AtEach (Writes patch.entry.before.now patch.entry.first (torn_to (length patch.entry.before.now) patch.entry.last old.old.stage))
-            (R.File.content old.old.file) (R.File.content old.new.file)) }
-    {
-        let end = if old.stage == PlaceStage::Torn {
-            patch.before.len()
-        } else {
-            patch.last
-        };
-        old.stage = PlaceStage::Lost;
-        old.file.write_part(patch.before, patch.first, end)?;
-        old.stage = PlaceStage::Whole;
-        Ok(())
-    }
-
-    /// Cuts the old file to its old length.
-    pub fn cut_back(&self, old: &mut PlaceFile<R::File>, patch: Patch<'_>) -> io::Result<()>
-        requires due { old.old.stage ≡ Whole }
-        ensures ok { OnOk result (old.new.stage ≡ Trimmed) }
-        ensures err { OnErr result (old.new.stage ≡ Lost) }
-        ensures cuts { OnOk result (AtEach (Cuts (length patch.entry.before.now))
-            (R.File.content old.old.file) (R.File.content old.new.file)) }
-    {
-        old.stage = PlaceStage::Lost;
-        old.file.cut(patch.before.len())?;
-        old.stage = PlaceStage::Trimmed;
         Ok(())
     }
 }
@@ -189,18 +225,29 @@ impl<R: rt::Files + rt::Clock + Alloc> Calls<'_, R> {
     pub fn watch_in_place(
         &self,
         old: &mut PlaceFile<R::File>,
-        found: &Found,
+        snapshot: &Snapshot<R::A>,
         deadline: &Deadline,
     ) -> Result<bool, DiskFault>
-        requires due { old.old.stage ≡ Same }
-        ensures err { OnErr result (old.new ≡ record old.old { stage = Untouched }) }
-        ensures stage { IfOk result (λ is. old.new ≡ record old.old { stage = watched_in_place is }) }
+        requires due { IsCompared old.old.stage }
+        ensures err { OnErr result (old.new ≡ record old.old { stage = compared_in_place false (before_look old.old.stage) }) }
+        ensures stage { IfOk result (λ is. old.new ≡ record old.old { stage = watched_in_place is old.old.stage }) }
     {
-        old.stage = PlaceStage::Untouched;
-        let is_quiet = self.is_quiet(found, old.mount, LockKind::AnyRecord, deadline)?;
-        if is_quiet {
-            old.stage = PlaceStage::Quiet;
-        }
+        let was_lengthened = old.stage == PlaceStage::Unmoved;
+        old.stage = if was_lengthened {
+            PlaceStage::Whole
+        } else {
+            PlaceStage::Untouched
+        };
+        let is_quiet = match snapshot.file() {
+            Some(found) => self.is_quiet(&found, old.listed, LockKind::AnyRecord, deadline)?,
+            None => true,
+        };
+        old.stage = match (was_lengthened, is_quiet) {
+            (false, false) => PlaceStage::Untouched,
+            (false, true) => PlaceStage::Quiet,
+            (true, false) => PlaceStage::Lengthened,
+            (true, true) => PlaceStage::Ready,
+        };
         Ok(is_quiet)
     }
 }

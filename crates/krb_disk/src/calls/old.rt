@@ -13,7 +13,7 @@ use super::{Calls, NewFile};
 use crate::deadline::Deadline;
 use crate::fault::DiskFault;
 use crate::looks::Found;
-use crate::looks::device::{Device, Mounted};
+use crate::looks::device::{Listed, Mounted};
 use crate::looks::locks::{LockKind, is_locked};
 use crate::snapshot::Snapshot;
 use crate::stage::Stage;
@@ -49,7 +49,7 @@ impl<R: rt::Files + Alloc> Calls<'_, R> {
             → file.new ≡ record file.old { stage = Same (snapshot_file snapshot.now) }) }
         ensures plain { IfOk result (λ is. IsTrue is → IsPlainOrNone (snapshot_file snapshot.now)) }
     {
-        let is_same = snapshot.is_at(&self.looks, path)?;
+        let is_same = snapshot.is_at(&self.looks, path, &[])?;
         file.stage = if is_same {
             file.stage.compared()
         } else {
@@ -84,15 +84,15 @@ impl<R: rt::Files + Alloc> Calls<'_, R> {
 }
 
 impl<R: rt::Files + rt::Clock + Alloc> Calls<'_, R> {
-    /// Returns whether no program has or awaits a lock of that kind on a file of that mount.
+    /// Returns whether no program has or awaits a lock of that kind on a file.
     pub fn is_quiet(
         &self,
         file: &Found,
-        mount: Option<Device>,
+        listed: Listed,
         kind: LockKind,
         deadline: &Deadline,
     ) -> Result<bool, DiskFault> {
-        let file = Mounted::new(file, mount);
+        let file = Mounted::new(file, listed);
         Ok(!is_locked(&self.looks, &file, kind, deadline)?)
     }
 
@@ -100,13 +100,13 @@ impl<R: rt::Files + rt::Clock + Alloc> Calls<'_, R> {
     pub fn watch(
         &self,
         file: &mut NewFile<String<R::A>, R::File>,
-        mount: Option<Device>,
+        listed: Listed,
         deadline: &Deadline,
     ) -> Result<bool, DiskFault>
         ensures { IfOk result (λ is. file.new ≡ record file.old { stage = watched is file.old.stage }) }
     {
         let is_quiet = match file.stage {
-            Stage::Same(Some(old)) => self.is_quiet(&old, mount, LockKind::Record, deadline)?,
+            Stage::Same(Some(old)) => self.is_quiet(&old, listed, LockKind::Record, deadline)?,
             _ => true,
         };
         file.stage = file.stage.watched(is_quiet);

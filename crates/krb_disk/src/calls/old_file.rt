@@ -1,18 +1,18 @@
 //! The old file, open: its lock, and what is read of it.
 
-ghost use Rattle.std.specs.Prelude.{◌≡◌, ◌≤◌, IfOk, vec_len};
+ghost use Rattle.std.specs.Prelude.{◌≡◌, ◌≤◌, true, IfOk, vec_len};
 ghost use Rattle.krb_disk.specs.declared.place_stage.PlaceStage.TheVariants.{Untouched};
 
 use super::{Calls, OldFile, PlaceFile, describe};
 use crate::fault::{DiskFault, ReadFault};
 use crate::lock::TakeLock;
 use crate::looks::Found;
-use crate::looks::device::Device;
-use crate::looks::mounts::mount_device;
+use crate::looks::device::Listed;
+use crate::looks::listed::find_listed;
 use crate::looks::same::is_same_file;
 use crate::number::Numbered;
 use crate::place_stage::PlaceStage;
-use crate::read::{has_bytes, read_open};
+use crate::read::{Parts, has_bytes, read_open};
 use krb_files::Cause;
 use std::alloc::Allocator;
 use std::fs::{self, OpenOptions};
@@ -27,13 +27,19 @@ impl<F> OldFile<F> {
         OldFile {
             file,
             refused,
-            mount: None,
+            listed: Listed::unknown(),
+            is_guarded: false,
         }
     }
 
-    /// Returns the device of its mount, if known.
-    pub fn mount(&self) -> Option<Device> {
-        self.mount
+    /// Returns how its locks may be listed.
+    pub fn listed(&self) -> Listed {
+        self.listed
+    }
+
+    /// Returns why it cannot be saved in place, if that is known.
+    pub fn refused(&self) -> Option<DiskFault> {
+        self.refused
     }
 }
 
@@ -46,7 +52,7 @@ impl<F: Drop> OldFile<F> {
             Some(fault) => Err(fault),
             None => Ok(PlaceFile {
                 file: self.file,
-                mount: self.mount,
+                listed: self.listed,
                 stage: PlaceStage::Untouched,
             }),
         }
@@ -106,7 +112,7 @@ impl<R: rt::Files> Calls<'_, R> {
         if old.file.rewind().is_err() {
             return false;
         }
-        matches!(has_bytes(&mut old.file, bytes), Ok(false))
+        matches!(has_bytes(&mut old.file, Parts::of(bytes)), Ok(false))
     }
 }
 
@@ -122,7 +128,10 @@ where
 
     /// Locks the old file and returns whether it was free. Where it cannot be locked it counts as free, and cannot be
     /// saved in place.
-    pub fn lock_old(&self, old: &mut OldFile<R::File>, path: &str) -> bool {
+    pub fn lock_old(&self, old: &mut OldFile<R::File>, path: &str) -> bool
+        ensures { old.new.is_guarded ≡ true }
+    {
+        old.is_guarded = true;
         if let Ok(is_free) = old.file.take_lock() {
             return is_free;
         }
@@ -144,9 +153,11 @@ impl<R: rt::Files + Alloc> Calls<'_, R>
 where
     R::File: Numbered,
 {
-    /// Finds the device of the mount that the old file is on.
-    pub fn find_mount(&self, old: &mut OldFile<R::File>) -> Result<(), DiskFault> {
-        old.mount = mount_device(&self.looks, old.file.number())?;
+    /// Finds out how the locks of the old file may be listed.
+    pub fn find_listed(&self, old: &mut OldFile<R::File>) -> Result<(), DiskFault>
+        ensures { old.new.is_guarded ≡ old.old.is_guarded }
+    {
+        old.listed = find_listed(&self.looks, old.file.number())?;
         Ok(())
     }
 }

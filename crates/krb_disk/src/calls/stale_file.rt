@@ -1,9 +1,11 @@
 //! A stale file: what a killed run left at the path of a new file.
 
-ghost use Rattle.std.specs.Prelude.{◌≡◌, true, IfOk};
+ghost use Rattle.std.specs.Prelude.{◌≡◌, true, IfOk, IsSomeAnd, IsTrue};
+ghost use Rattle.krb_disk.specs.Looks.{MayBeLeft};
 
 use super::{Calls, describe, is_at_path};
 use crate::lock::TakeLock;
+use crate::looks::Found;
 use crate::looks::users::Users;
 use std::fs::{self, OpenOptions};
 use std::io::{self, ErrorKind};
@@ -15,8 +17,8 @@ pub struct StaleFile<'p, F> {
     path: &'p str,
     file: F,
     is_locked: bool,
-    /// True if it is locked and a killed run left it.
-    is_abandoned: bool,
+    /// What the system reported of it.
+    found: Option<Found>,
 }
 
 // Opens what may be a stale file: for writing, since the open then does not block on a pipe put there meanwhile, and
@@ -29,20 +31,24 @@ fn open_stale_file<R: rt::Files>(rt: &R, path: &str) -> io::Result<R::File> {
 }
 
 impl<R: rt::Files> Calls<'_, R> {
-    /// Returns whether a killed run left the open file.
+    /// Returns whether a killed run left the open file: it is not one that this run loaded.
     pub fn is_abandoned(&self, file: &mut StaleFile<'_, R::File>, users: Users) -> io::Result<bool>
         requires { file.old.is_locked ≡ true }
-        ensures { IfOk result (λ is. file.new.is_abandoned ≡ is) }
+        ensures locked { file.new.is_locked ≡ true }
+        ensures left { IfOk result (λ is. IsTrue is
+            → IsSomeAnd file.new.found (MayBeLeft users.owner users.this)) }
     {
         let found = describe(&file.file)?;
-        file.is_abandoned = users.may_have_left(&found)
-            && is_at_path(&self.looks, file.path, &file.file)?;
-        Ok(file.is_abandoned)
+        file.found = Some(found);
+        Ok(users.may_have_left(&found)
+            && !self.spares(&found)
+            && is_at_path(&self.looks, file.path, &file.file)?)
     }
 
     /// Removes the stale file.
-    pub fn remove_stale_file(&self, file: &StaleFile<'_, R::File>) -> io::Result<()>
-        requires abandoned { file.now.is_abandoned ≡ true }
+    pub fn remove_stale_file(&self, file: &StaleFile<'_, R::File>, _users: Users) -> io::Result<()>
+        requires locked { file.now.is_locked ≡ true }
+        requires left { IsSomeAnd file.now.found (MayBeLeft _users.owner _users.this) }
     {
         fs::remove_file(self.rt, file.path)
     }
@@ -58,7 +64,7 @@ where
             path,
             file: open_stale_file(self.rt, path)?,
             is_locked: false,
-            is_abandoned: false,
+            found: None,
         })
     }
 

@@ -1,7 +1,7 @@
 //! Devices, and the files on them.
 
 ghost use Rattle.std.specs.Prelude.{◌≡◌};
-ghost use Rattle.krb_disk.specs.Device.{device_number, is_on_device, is_place_of};
+ghost use Rattle.krb_disk.specs.Device.{device_number, is_inode, is_on_device, is_place_of};
 
 use crate::looks::Found;
 
@@ -19,12 +19,33 @@ pub struct Place {
     inode: u64,
 }
 
-/// A file by its device and inode, with the device of its mount, if known.
+/// How the locks of a file may be listed where `stat` reports other numbers: by the device of its mount, as on btrfs, and
+/// by another inode, as on an overlay. Each is none if it is unknown.
+#[derive(Clone, Copy, Drop)]
+pub struct Listed {
+    pub mount: Option<Device>,
+    pub inode: Option<u64>,
+}
+
+impl Listed {
+    /// Nothing is known.
+    pub fn unknown() -> Listed
+        ensures mount { result.mount ≡ None }
+        ensures inode { result.inode ≡ None }
+    {
+        Listed {
+            mount: None,
+            inode: None,
+        }
+    }
+}
+
+/// A file by its device and inode, and how its locks may be listed.
 #[derive(Clone, Copy, Drop)]
 pub struct Mounted {
     device: Device,
-    mount: Option<Device>,
     inode: u64,
+    listed: Listed,
 }
 
 // Parses a number in decimal or hexadecimal digits.
@@ -66,26 +87,36 @@ impl Place {
 }
 
 impl Mounted {
-    pub fn new(file: &Found, mount: Option<Device>) -> Mounted
+    pub fn new(file: &Found, listed: Listed) -> Mounted
         ensures device { result.device ≡ device_number file.now.device }
-        ensures mount { result.mount ≡ mount }
         ensures inode { result.inode ≡ file.now.inode }
+        ensures listed { result.listed ≡ listed }
     {
         Mounted {
             device: Device::of(file.device),
-            mount,
             inode: file.inode,
+            listed,
         }
     }
 
     // Returns whether that device is, or may be, the file's.
     fn is_on(&self, device: Device) -> bool
-        ensures { result ≡ is_on_device self.now.device self.now.mount device }
+        ensures { result ≡ is_on_device self.now.device self.now.listed.mount device }
     {
         let is_own = device.major == self.device.major && device.minor == self.device.minor;
-        match self.mount {
+        match self.listed.mount {
             Some(mount) => is_own || device.major == mount.major && device.minor == mount.minor,
             None => is_own || device.major == 0 && self.device.major == 0,
+        }
+    }
+
+    // Returns whether that inode is the file's.
+    fn has_inode(&self, inode: u64) -> bool
+        ensures { result ≡ is_inode self.now.inode self.now.listed.inode inode }
+    {
+        match self.listed.inode {
+            Some(listed) => inode == self.inode || inode == listed,
+            None => inode == self.inode,
         }
     }
 
@@ -95,6 +126,6 @@ impl Mounted {
     pub fn is_at(&self, place: Place) -> bool
         ensures { result ≡ is_place_of self.now place }
     {
-        place.inode == self.inode && self.is_on(place.device)
+        self.has_inode(place.inode) && self.is_on(place.device)
     }
 }

@@ -106,8 +106,9 @@ pub fn is_locked<R: rt::Files + rt::Clock + Alloc>(
     deadline: &Deadline,
 ) -> Result<bool, DiskFault> {
     let mut list = Vec::new(looks.alloc());
+    let deadline = deadline.for_look(looks);
     for _ in 0..READINGS {
-        if !read_list(looks, &mut list, deadline)? || has_lock(&list, kind, file) {
+        if !read_list(looks, &mut list, &deadline)? || has_lock(&list, kind, file) {
             return Ok(true);
         }
     }

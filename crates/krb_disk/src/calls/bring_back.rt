@@ -1,0 +1,123 @@
+//! The calls that bring the old bytes back after a save in place failed.
+
+ghost use Rattle.std.specs.Prelude.{◌≡◌, ◌⊎◌, ◌↔◌, true, length, nat_lt, IsTrue, OnOk, OnErr};
+ghost use Rattle.krb_disk.specs.Content.{AtEach, Cuts, CutsIf, IsPatch, Writes};
+ghost use Rattle.krb_disk.specs.PlaceStages.{IsToRestore, torn_to, unrestored};
+ghost use Rattle.krb_disk.specs.declared.place_stage.PlaceStage.TheVariants.{Lengthened, Whole, Mixed, Torn, Refilled, Lacking, Cleared, Trimmed, Left, Lost};
+
+use super::{Calls, PlaceFile, describe};
+use crate::patch::Patch;
+use crate::place_stage::PlaceStage;
+use crate::read::{Parts, has_bytes};
+use crate::write_in_place::WriteInPlace;
+use std::fs::OpenFile;
+use std::io::{self, Read, Seek, SeekFrom};
+use std::rt;
+
+impl<F> PlaceFile<F> {
+    /// Returns whether old bytes may have been written over or cut off.
+    pub fn may_lack_bytes(&self) -> bool
+        ensures { IsTrue result ↔ ((self.now.stage ≡ Mixed) ⊎ (self.now.stage ≡ Torn)) }
+    {
+        matches!(self.stage, PlaceStage::Mixed | PlaceStage::Torn)
+    }
+
+    /// The new end was added, but the save goes no further.
+    pub fn give_up(&mut self)
+        requires due { (self.old.stage ≡ Whole) ⊎ (self.old.stage ≡ Lengthened) }
+        ensures { self.new ≡ record self.old { stage = Whole } }
+    {
+        self.stage = PlaceStage::Whole;
+    }
+
+    /// What is past the old end stays.
+    pub fn leave(&mut self)
+        requires due { self.old.stage ≡ Whole }
+        ensures { self.new ≡ record self.old { stage = Left } }
+    {
+        self.stage = PlaceStage::Left;
+    }
+}
+
+// Returns whether what an open file has past the old end is a front of the new end.
+fn has_own_end<F: OpenFile + Read + Seek>(file: &mut F, patch: Patch<'_>) -> io::Result<bool> {
+    let len = describe(file)?.size;
+    let Ok(len) = usize::try_from(len) else {
+        return Ok(false);
+    };
+    let Some(end) = patch.after.get(patch.before.len()..len) else {
+        return Ok(false);
+    };
+    file.seek(SeekFrom::Start(patch.before.len() as u64))?;
+    has_bytes(file, Parts::of(end))
+}
+
+impl<R: rt::Files> Calls<'_, R> {
+    /// Returns whether nothing past the old end is another program's: it may be cut off.
+    pub fn owns_end(&self, old: &mut PlaceFile<R::File>, patch: Patch<'_>) -> bool
+        ensures { old.new.stage ≡ old.old.stage }
+    {
+        !patch.grows() || matches!(has_own_end(&mut old.file, patch), Ok(true))
+    }
+}
+
+impl<R: rt::Files> Calls<'_, R>
+where
+    R::File: WriteInPlace,
+{
+    /// Writes back the old bytes that may be gone.
+    pub fn restore(&self, old: &mut PlaceFile<R::File>, patch: Patch<'_>) -> io::Result<()>
+        requires due { IsToRestore old.old.stage }
+        requires patch { IsPatch patch.before.now patch.after.now patch.first patch.last }
+        ensures ok { OnOk result (old.new.stage ≡ Refilled) }
+        ensures err { OnErr result (old.new.stage ≡ unrestored old.old.stage) }
+        ensures writes { OnOk result (AtEach (Writes patch.entry.before.now patch.entry.first
+            (torn_to (length patch.entry.before.now) (length patch.entry.after.now) patch.entry.last old.old.stage))
+            (R.File.content old.old.file) (R.File.content old.new.file)) }
+    {
+        let end = if old.stage == PlaceStage::Torn && patch.shrinks() {
+            patch.before.len()
+        } else {
+            patch.last
+        };
+        old.stage = if old.stage == PlaceStage::Cleared {
+            PlaceStage::Lost
+        } else {
+            PlaceStage::Lacking
+        };
+        old.file.write_part(patch.before, patch.first, end)?;
+        old.stage = PlaceStage::Refilled;
+        Ok(())
+    }
+
+    /// Cuts the old file to its old length before its old bytes are back: the new end has the room that they need.
+    pub fn clear_room(&self, old: &mut PlaceFile<R::File>, patch: Patch<'_>) -> io::Result<()>
+        requires due { old.old.stage ≡ Lacking }
+        requires grows { nat_lt (length patch.before.now) (length patch.after.now) ≡ true }
+        ensures ok { OnOk result (old.new.stage ≡ Cleared) }
+        ensures err { OnErr result (old.new.stage ≡ Lost) }
+        ensures cuts { OnOk result (AtEach (Cuts (length patch.entry.before.now))
+            (R.File.content old.old.file) (R.File.content old.new.file)) }
+    {
+        old.stage = PlaceStage::Lost;
+        old.file.cut(patch.before.len())?;
+        old.stage = PlaceStage::Cleared;
+        Ok(())
+    }
+
+    /// Cuts the old file to its old length, if it was to grow.
+    pub fn cut_back(&self, old: &mut PlaceFile<R::File>, patch: Patch<'_>) -> io::Result<()>
+        requires due { old.old.stage ≡ Whole }
+        ensures ok { OnOk result (old.new.stage ≡ Trimmed) }
+        ensures err { OnErr result (old.new.stage ≡ Left) }
+        ensures cuts { OnOk result (AtEach (CutsIf (nat_lt (length patch.entry.before.now) (length patch.entry.after.now)) (length patch.entry.before.now))
+            (R.File.content old.old.file) (R.File.content old.new.file)) }
+    {
+        old.stage = PlaceStage::Left;
+        if patch.grows() {
+            old.file.cut(patch.before.len())?;
+        }
+        old.stage = PlaceStage::Trimmed;
+        Ok(())
+    }
+}
