@@ -5,6 +5,7 @@ pub mod Device
 pub mod Disk
 pub mod DiskFiles
 pub mod Faults
+pub mod Holding
 pub mod InPlace
 pub mod Looks
 pub mod Mode

@@ -4,6 +4,7 @@ ghost use Rattle.std.specs.Prelude.{◌≡◌, ◌≤◌, ◌<◌, true, false, 
 ghost use Rattle.krb_disk.specs.Aftermaths.{IsDone, IsRefused};
 ghost use Rattle.krb_disk.specs.DiskFiles.{Disk, Fails, CountsLoad, CountsSave, AnswersFromDisk, SavesToDisk, is_in_place, left};
 ghost use Rattle.krb_disk.specs.Faults.{load_fault, save_fault};
+ghost use Rattle.krb_disk.specs.Holding.{IsHeldAs, name_of};
 ghost use Rattle.krb_disk.specs.Looks.{IsPlain};
 
 use crate::calls::Calls;
@@ -63,8 +64,8 @@ impl<'a, R: rt::Files + Alloc> Model for DiskFiles<'a, R> {
       aftermath = files.aftermath;
     } };
 
-    // A counted failure has a cause.
-    ghost invariant = { λ files. 0 < files.failures → IsSome files.cause };
+    // A counted failure has a cause, and what is held is the file that was to be.
+    ghost invariant = { λ files. (0 < files.failures → IsSome files.cause) × IsHeldAs files.held_name.name files.held };
 }
 
 impl<'a, R: rt::Files + Alloc> DiskFiles<'a, R> {
@@ -164,6 +165,7 @@ where
 
     // Keeps a hold until the file is saved or released, or why it could not be had.
     fn keep(&mut self, name: &str, held: Result<Held<R>, NotHeld<R::A>>)
+        requires { IfOk held (λ held. name_of held ≡ name.now) }
         ensures { self.new ≡ record self.old { held = Some name.now; is_held = is_ok held } }
     {
         self.held_name = HeldName::of(name.as_bytes());

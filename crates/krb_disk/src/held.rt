@@ -2,6 +2,7 @@
 
 ghost use Rattle.std.specs.Prelude.{◌≡◌, ◌≤◌, ◌∷◌, IfErr, IfOk, OnOk, OnErr, vec_len};
 ghost use Rattle.krb_disk.specs.Aftermaths.{IsDone, IsRefused};
+ghost use Rattle.krb_disk.specs.Holding.{HasLoaded, name_of};
 
 use crate::calls::Calls;
 use crate::deadline::Deadline;
@@ -97,6 +98,7 @@ fn hold<R: rt::Files + rt::Clock + Alloc>(
 ) -> Result<Held<R>, DiskFault>
 where
     R::File: SetOwner + TakeLock + Numbered,
+    ensures { IfOk result (λ held. name_of held ≡ name.now) }
 {
     let target = find_target(calls.looks(), name)?;
     match way {
@@ -141,7 +143,9 @@ where
     R::File: SetOwner + TakeLock + Numbered + WriteInPlace,
 {
     /// Holds the file of that name, or returns why it cannot be held.
-    pub fn take(calls: &Calls<'_, R>, name: &str, way: Way) -> Result<Held<R>, NotHeld<R::A>> {
+    pub fn take(calls: &Calls<'_, R>, name: &str, way: Way) -> Result<Held<R>, NotHeld<R::A>>
+        ensures { IfOk result (λ held. name_of held ≡ name.now) }
+    {
         hold(calls, name, way).map_err(|why| NotHeld::of(calls.looks(), name, why))
     }
 
@@ -164,7 +168,9 @@ where
         name: &str,
         limit: u32,
     ) -> Result<(Found, Vec<u8, A>), ReadFault>
-        ensures { IfOk result (λ read. vec_len read.1 ≤ limit) }
+        ensures within { IfOk result (λ read. vec_len read.1 ≤ limit) }
+        ensures name { name_of self.new ≡ name_of self.old }
+        ensures loaded { name_of self.old ≡ name.now → IfOk result (λ read. HasLoaded read.0 read.1.items self.new) }
     {
         match self {
             Held::Replacing(hold) if hold.old.is_of(name) => hold.old.load(calls, alloc, limit),

@@ -1,0 +1,26 @@
+-- What a held file is.
+use Rattle.std.specs.Prelude.{◌≡◌, ℕ, List, Option, None, Some, string_bytes}
+use Rattle.std.specs.declared.clone.Clone as clone
+use Rattle.std.specs.declared.io.traits.Read as read
+use Rattle.std.specs.declared.io.traits.Seek as seek
+use Rattle.std.specs.declared.io.traits.Write as write
+use Rattle.krb_disk.specs.declared.held.Held.{Held}
+use Rattle.krb_disk.specs.declared.held.Held.TheVariants.{Replacing, InPlace}
+use Rattle.krb_disk.specs.declared.looks.Found.{Found}
+use Rattle.krb_disk.specs.Stages.{IsLoaded}
+
+module _ {R F D A : Type 0} {reads : read.Ghosts F} {writes : write.Ghosts F} {seeks : seek.Ghosts F} {lists : read.Ghosts D} {clones : clone.Ghosts A} where
+  -- the name that it was held by
+  abbrev pub name_of : Held R F D A reads writes seeks lists clones → List ℕ
+  name_of (Replacing hold) = string_bytes hold.old.target.name
+  name_of (InPlace old) = string_bytes old.target.name
+
+  -- what was loaded is what is compared before it is saved
+  abbrev pub HasLoaded : Found → List ℕ → Held R F D A reads writes seeks lists clones → Type 0
+  HasLoaded found bytes (Replacing hold) = IsLoaded found bytes hold.old.snapshot
+  HasLoaded found bytes (InPlace old) = IsLoaded found bytes old.snapshot
+
+  -- if a file is held, it is the one of that name
+  abbrev pub IsHeldAs : Option (List ℕ) → Option (Held R F D A reads writes seeks lists clones) → Type 0
+  IsHeldAs name None = Unit {0}
+  IsHeldAs name (Some held) = name ≡ Some (name_of held)
