@@ -233,9 +233,9 @@ cut_new_if save true b c shrink has end cut = λ i. elim (cases_lt i (length sav
 cut_new_if save false b c kept has end same = λ i.
     let le = ltb-false (length save.new) (length save.old) kept in
     elim (cases_lt i (length save.new)) [
-  | inl in_new ↦ same i ∙ has i in_new
-  | inr past ↦ same i ∙ end i (omega (arith, le))
-]
+      | inl in_new ↦ same i ∙ has i in_new
+      | inr past ↦ same i ∙ end i (omega (arith, le))
+    ]
 
 cut_front : (save : PlaceSave) (is : Bool) (b c : Content) → Fits save → HasOthers save b → SomeOf (CutsIf is (length save.new)) b c → HasFront save c
 cut_front save true b c fits has partly = λ i before.
@@ -405,8 +405,10 @@ worked save cleared Pass s t u b c cs fits known turns makes =
     rw turns.1 (each_of (Has save.old) (Grown save) (old_grown save turns.3) (c ∷ b ∷ cs) (same_has save.old b c is.0 makes, is))
 worked save cleared Extend s t u b c cs fits known turns makes =
     let is : Known save cleared Quiet b cs = rw turns.0 at known in
-    rw turns.1 ((extend_old save b c (old_old save b is.0) (some (Writes save.new (length save.old) (length save.new)) b c makes), extend_end save b c is.0 makes),
-    (each_of (Has save.old) (HasOld save) (old_old save) (b ∷ cs) is, each_of (Has save.old) (Either save) (old_either save) (b ∷ cs) is))
+    rw turns.1 (
+      (extend_old save b c (old_old save b is.0) (some (Writes save.new (length save.old) (length save.new)) b c makes), extend_end save b c is.0 makes),
+      (each_of (Has save.old) (HasOld save) (old_old save) (b ∷ cs) is, each_of (Has save.old) (Either save) (old_either save) (b ∷ cs) is),
+    )
 worked save cleared Sync Extended t u b c cs fits known turns makes = rw turns.0 (same_grown save b c known.0 makes, tt)
 worked save cleared Sync Refilled t u b c cs fits known turns makes =
     rw turns.0 ((same_old save b c known.0 makes, tt), (same_either save b c known.1.0.0 makes, tt))
@@ -422,8 +424,13 @@ worked save cleared Overwrite s t u b c cs fits known turns makes =
     let is : Known save cleared Ready b cs = rw turns.0 at known in
     let partly = some (Writes save.new save.first save.last) b c makes in
     let ended = each_of (Grown save) (Ended save) (grown_ended save) (b ∷ cs) is in
-    rw turns.1 (others save b c is.0.0 partly, (overwritten_new save b c fits is.0.0 is.0.1 makes,
-    ((write_either save save.new save.first save.last b c (inr refl) ended.0.0 partly, write_end save save.new save.first save.last b c fits.in_old is.0.1 partly), ended)))
+    rw turns.1 (
+      others save b c is.0.0 partly,
+      (
+        overwritten_new save b c fits is.0.0 is.0.1 makes,
+        ((write_either save save.new save.first save.last b c (inr refl) ended.0.0 partly, write_end save save.new save.first save.last b c fits.in_old is.0.1 partly), ended),
+      ),
+    )
 worked save cleared Shorten s t u b c cs fits known turns makes =
     let is : Known save cleared Overwritten b cs = rw turns.0 at known in
     rw turns.1 (cut_new_if save (shrinks save) b c refl is.1.0 is.1.1.0.1 makes, (cut_ended save (shrinks save) b c is.1.1.0 (some (CutsIf (shrinks save) (length save.new)) b c makes), is.1.1))
@@ -438,22 +445,39 @@ worked save cleared Confirm s t u b c cs fits known turns makes =
     rw turns.1 (same_has save.new b c is.0 makes, is)
 worked save cleared Restore Mixed t u b c cs fits known turns makes =
     let partly = some (Writes save.old save.first save.last) b c makes in
-    rw turns.0 (restored save b c known.0 makes, ((write_either save save.old save.first save.last b c (inl refl) known.1.0.0 partly, ended_either save (b ∷ cs) known.1),
-    λ uncleared. (write_end save save.old save.first save.last b c fits.in_old known.1.0.1 partly, ended_end save (b ∷ cs) known.1)))
+    rw turns.0 (
+      restored save b c known.0 makes,
+      (
+        (write_either save save.old save.first save.last b c (inl refl) known.1.0.0 partly, ended_either save (b ∷ cs) known.1),
+        λ uncleared. (write_end save save.old save.first save.last b c fits.in_old known.1.0.1 partly, ended_end save (b ∷ cs) known.1),
+      ),
+    )
 worked save cleared Restore Torn t u b c cs fits known turns makes =
     let to = torn_to (length save.old) (length save.new) save.last Torn in
     let partly = some (Writes save.old save.first to) b c makes in
-    rw turns.0 (restored_torn save (shrinks save) b c refl known.0 makes, ((write_either save save.old save.first to b c (inl refl) known.1.0.0 partly, ended_either save (b ∷ cs) known.1),
-    λ uncleared. (write_end save save.old save.first to b c (torn_within save (shrinks save) fits) known.1.0.1 partly, ended_end save (b ∷ cs) known.1)))
+    rw turns.0 (
+      restored_torn save (shrinks save) b c refl known.0 makes,
+      (
+        (write_either save save.old save.first to b c (inl refl) known.1.0.0 partly, ended_either save (b ∷ cs) known.1),
+        λ uncleared. (write_end save save.old save.first to b c (torn_within save (shrinks save) fits) known.1.0.1 partly, ended_end save (b ∷ cs) known.1),
+      ),
+    )
 worked save cleared Restore Cleared t u b c cs fits known turns makes =
     let partly = some (Writes save.old save.first save.last) b c makes in
-    rw turns.0 (restored save b c known.0 makes, ((write_either save save.old save.first save.last b c (inl refl) known.1.0.0 partly, known.1.0),
-    λ uncleared. absurd (true≢false (sym known.1.1 ∙ uncleared))))
+    rw turns.0 (
+      restored save b c known.0 makes,
+      (
+        (write_either save save.old save.first save.last b c (inl refl) known.1.0.0 partly, known.1.0),
+        λ uncleared. absurd (true≢false (sym known.1.1 ∙ uncleared)),
+      ),
+    )
 worked save cleared Restore s t u b c cs fits known turns makes = absurd turns
 worked save cleared ClearRoom s t u b c cs fits known turns makes =
     let is : Known save cleared Lacking b cs = rw turns.0 at known in
-    rw turns.1 (clear_others save b c (is.0.1 (not_shrinking save turns.3)) makes,
-    ((cut_back_either save true b c is.1.0.0 (some (CutsIf true (length save.old)) b c makes), ended_either save (b ∷ cs) is.1), refl))
+    rw turns.1 (
+      clear_others save b c (is.0.1 (not_shrinking save turns.3)) makes,
+      ((cut_back_either save true b c is.1.0.0 (some (CutsIf true (length save.old)) b c makes), ended_either save (b ∷ cs) is.1), refl),
+    )
 worked save cleared CutBack s t u b c cs fits known turns makes =
     let is : Known save cleared Whole b cs = rw turns.0 at known in
     rw turns.1 (cut_back save (grows save) b c refl is.0.0 is.1.0 makes, (is.0, is.1))
@@ -478,8 +502,10 @@ failed save cleared Sync Extended t u b c cs fits known turns makes =
 failed save cleared Sync Refilled t u b c cs fits known turns makes =
     rw turns.1 ((same_either save b c known.1.0.0 (still b c makes), known.1.0), λ uncleared. let ends = known.1.1 uncleared in (same_end save b c ends.0 (still b c makes), ends))
 failed save cleared Sync Trimmed t u b c cs fits known turns makes =
-    rw turns.1 ((same_old save b c (old_old save b known.0) (still b c makes), (old_old save b known.0, known.1.0)),
-    (same_either save b c (old_either save b known.0) (still b c makes), (old_either save b known.0, known.1.1)))
+    rw turns.1 (
+      (same_old save b c (old_old save b known.0) (still b c makes), (old_old save b known.0, known.1.0)),
+      (same_either save b c (old_either save b known.0) (still b c makes), (old_either save b known.0, known.1.1)),
+    )
 failed save cleared Sync s t u b c cs fits known turns makes = absurd turns
 failed save cleared Recompare s t u b c cs fits known turns makes =
     let is : Known save cleared Lengthened b cs = rw turns.0 at known in
@@ -508,13 +534,17 @@ failed save cleared Confirm s t u b c cs fits known turns makes =
     let is : Known save cleared Finished b cs = rw turns.0 at known in
     rw turns.2 (same_has save.new b c is.0 (still b c makes), is)
 failed save cleared Restore Mixed t u b c cs fits known turns makes =
-    rw turns.1 (others_gone save c fits (refill_others save save.last b c fits.in_old known.0 makes),
-    ((write_either save save.old save.first save.last b c (inl refl) known.1.0.0 makes, write_end save save.old save.first save.last b c fits.in_old known.1.0.1 makes), known.1))
+    rw turns.1 (
+      others_gone save c fits (refill_others save save.last b c fits.in_old known.0 makes),
+      ((write_either save save.old save.first save.last b c (inl refl) known.1.0.0 makes, write_end save save.old save.first save.last b c fits.in_old known.1.0.1 makes), known.1),
+    )
 failed save cleared Restore Torn t u b c cs fits known turns makes =
     let to = torn_to (length save.old) (length save.new) save.last Torn in
     let within = torn_within save (shrinks save) fits in
-    rw turns.1 (refill_gone save to b c within known.0 makes,
-    ((write_either save save.old save.first to b c (inl refl) known.1.0.0 makes, write_end save save.old save.first to b c within known.1.0.1 makes), known.1))
+    rw turns.1 (
+      refill_gone save to b c within known.0 makes,
+      ((write_either save save.old save.first to b c (inl refl) known.1.0.0 makes, write_end save save.old save.first to b c within known.1.0.1 makes), known.1),
+    )
 failed save cleared Restore Cleared t u b c cs fits known turns makes =
     rw turns.1 ((write_either save save.old save.first save.last b c (inl refl) known.1.0.0 makes, known.1.0), λ uncleared. absurd (true≢false (sym known.1.1 ∙ uncleared)))
 failed save cleared Restore s t u b c cs fits known turns makes = absurd turns

@@ -49,13 +49,23 @@ fn is_pipe<R: rt::Files>(looks: &Looks<'_, R>, name: &str, fault: DiskFault) -> 
 
 impl<A: Allocator> NotHeld<A> {
     // Returns why the file of that name is not held.
-    fn of<R: rt::Files + Alloc<A = A>>(looks: &Looks<'_, R>, name: &str, why: DiskFault) -> NotHeld<A> {
+    fn of<R: rt::Files + Alloc<A = A>>(
+        looks: &Looks<'_, R>,
+        name: &str,
+        why: DiskFault,
+    ) -> NotHeld<A> {
         if !is_pipe(looks, name, why) {
             return NotHeld { why, pipe: None };
         }
         match String::from_str(looks.alloc(), name) {
-            Ok(name) => NotHeld { why, pipe: Some(name) },
-            Err(_) => NotHeld { why: DiskFault::NoMemory, pipe: None },
+            Ok(name) => NotHeld {
+                why,
+                pipe: Some(name),
+            },
+            Err(_) => NotHeld {
+                why: DiskFault::NoMemory,
+                pipe: None,
+            },
         }
     }
 

@@ -110,7 +110,10 @@ impl<'a> Parts<'a> {
     {
         if piece.len() <= self.front.len() {
             let front = without_front(self.front, piece)?;
-            return Some(Parts { front, end: self.end });
+            return Some(Parts {
+                front,
+                end: self.end,
+            });
         }
         let rest = without_front(piece, self.front)?;
         let end = without_front(self.end, rest)?;

@@ -100,7 +100,10 @@ impl<A: Allocator> Snapshot<A> {
             (Snapshot::File(file), Some(found)) => Ok(is_same_plain(file, &found)),
             (Snapshot::Loaded(file, front), Some(found)) => {
                 let file = file.longer_by(end.len() as u64);
-                Ok(is_same_plain(&file, &found) && leads_to(looks, path, &file, Parts { front, end })?)
+                Ok(
+                    is_same_plain(&file, &found)
+                        && leads_to(looks, path, &file, Parts { front, end })?,
+                )
             }
             _ => Ok(false),
         }

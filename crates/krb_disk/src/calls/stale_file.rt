@@ -40,9 +40,11 @@ impl<R: rt::Files> Calls<'_, R> {
     {
         let found = describe(&file.file)?;
         file.found = Some(found);
-        Ok(users.may_have_left(&found)
-            && !self.spares(&found)
-            && is_at_path(&self.looks, file.path, &file.file)?)
+        Ok(
+            users.may_have_left(&found)
+                && !self.spares(&found)
+                && is_at_path(&self.looks, file.path, &file.file)?,
+        )
     }
 
     /// Removes the stale file.
