@@ -1,4 +1,4 @@
-//! A writer that keeps what it prints from changing a terminal.
+//! A writer that escapes control characters, so that a terminal in UTF-8 does not act on what it prints.
 #![tactic(auto)]
 
 mod escape;
