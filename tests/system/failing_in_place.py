@@ -9,7 +9,7 @@ import signal
 from collections.abc import Iterator
 
 from makers.images import B, HOST, keytab
-from models.cases import IN_PLACE, in_place
+from models.cases import IN_PLACE, in_place, ktedit
 from models.modelled import modelled
 from runs.harness import Case, Outcome, Report, differences, files_in, folder_of, run
 from runs.preload import MOST_CALLS, Line, Preloaded, preloaded
@@ -28,6 +28,9 @@ CUT = re.compile(r"ftruncate\(\d+, (\d+)\) ")
 # The calls that change the file, and how many bytes a write moves at most where it moves few.
 CHANGES = ("pwrite64", "ftruncate", "fsync")
 FEW = 7
+
+# A keytab of 100 KB of which one entry is removed.
+LARGE = ktedit(keytab(*[HOST] * 2_000), b"cut 51002\n", name="removes from a large file")
 
 ERRORS = ("EIO", "ENOSPC", "EDQUOT")
 KILLED = Outcome(-signal.SIGKILL)
@@ -73,7 +76,7 @@ def images(case: Case) -> tuple[bytes, bytes]:
 
 def check_order(report: Report, program: str) -> None:
     """Checks the order of the calls of each save, and that no file is made, truncated by its opening, or renamed."""
-    for case in map(in_place, PLACED):
+    for case in map(in_place, (*PLACED, LARGE)):
         with folder_of(case.files) as folder:
             outcome, trace = traced(program, Line(case.words, case.stdin), folder)
         before, after = images(case)

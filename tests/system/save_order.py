@@ -19,9 +19,11 @@ REMOVE = 'exec "$0" ktremove -p host/a@R d/k'
 # With the standard streams, and with the error output alone.
 RUNS = ((REMOVE, REMOVAL.wanted), (f"{REMOVE} <&- >&-", message(3, "cannot write output")))
 
-# The end of a save: the handle of the new file and that of its folder are named twice.
-END = re.compile(r'^fchmod\((\d+), .*^fsync\(\1\) += 0$.*^rename[^\n]*"d/k\.krbfile", [^\n]*"d/k"[^\n]* = 0\n'
-                 r'open[^\n]*"d", [^\n]* = (\d+)\nfsync\(\2\) += 0$', re.MULTILINE | re.DOTALL)
+# What has to be synced, each by its handle: the new file from its mode to the rename, and then its folder.
+SYNCS = {
+    "the new file": r'^fchmod\((\d+), .*^fsync\(\1\) += 0$.*^rename',
+    "its folder": r'^rename[^\n]*"d/k\.krbfile"[^\n]* = 0\nopen[^\n]*"d", [^\n]* = (\d+)\nfsync\(\1\) += 0$',
+}
 
 # A write of the new bytes, which begin as every keytab does, and the first number of a handle that is no stream.
 WRITE = re.compile(r'write\((\d+), "\\5\\2')
@@ -35,7 +37,8 @@ def check_save(report: Report, program: str, script: str, wanted: Outcome) -> No
         write(os.path.join(folder, "d", "k"), TWO)
         outcome, trace = traced("sh", Line(("-c", script, program)), folder)
         faults = differences(wanted, outcome) + tree_faults({"d": "d", "d/k": REMOVAL.files_after["k"]}, folder)
-    faults += [] if END.search("\n".join(trace)) else ["the new file or its folder is not synced in time"]
+    faults += [f"{what} is not synced in time" for what, calls in SYNCS.items()
+               if not re.search(calls, "\n".join(trace), re.MULTILINE | re.DOTALL)]
     handles = [int(found[1]) for found in map(WRITE.match, trace) if found]
     faults += [] if handles and min(handles) >= FIRST else [f"the new bytes are written by {handles}"]
     report.check(f"the order of a save: {script}", faults)
