@@ -94,7 +94,8 @@ samples:
 
 # The programs and libraries that the gate leaves are what is tested, so each crate is proved once. The gate would put
 # libraries of earlier checks back in their place, and it takes no folder that holds a link. A program that it took over
-# from an earlier run has no object file: then the static one is left out.
+# from an earlier run has no object file: then the static one is left out. The wrong bodies are tried even if a test
+# failed.
 test:
 	rm -f $(BUILT) $(BUILT).o $(STATIC) $(LINKER_NAME) $(ARCHIVE)
 	rm -rf crates/*/out/rlib
@@ -103,8 +104,7 @@ test:
 	$(MAKE) --no-print-directory $(BUILT)
 	-test ! -f $(BUILT).o || $(MAKE) --no-print-directory static
 	$(MAKE) --no-print-directory lib
-	tests/run
-	tests/wrong
+	tests/run; run=$$?; tests/wrong && exit $$run
 
 long-test: all
 	tests/long $(PROGRAM)

@@ -70,7 +70,8 @@ def number(kind: Any, value: int) -> Any:
 
 def sized(data: bytes) -> tuple[c_char_p, c_size_t]:
     """Returns bytes as a pointer and a length."""
-    data = data if isinstance(data, bytes) else bytes(memoryview(data))
+    # A subclass may have other ideas of its length, or of what `bytes` makes of it.
+    data = data if type(data) is bytes else memoryview(data).tobytes()
     return c_char_p(data), c_size_t(len(data))
 
 

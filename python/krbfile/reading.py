@@ -3,11 +3,13 @@ from __future__ import annotations
 
 import errno
 import os
+from ctypes import c_uint32
 from io import FileIO
 from typing import Optional, Union
 
 from krbfile import looks
 from krbfile.causes import reported
+from krbfile.library import number
 
 AnyPath = Union[str, bytes, "os.PathLike[str]", "os.PathLike[bytes]"]
 
@@ -55,7 +57,7 @@ def there(image: bytes | None, path: AnyPath) -> bytes:
 
 def load(path: AnyPath, limit: int) -> bytes:
     """Returns the bytes of a file, at most `limit` (0: 16 MiB)."""
-    limit = limit or USUAL_LIMIT
+    limit = number(c_uint32, limit).value or USUAL_LIMIT
     with reported("cannot read", os.fspath(path)):
         read = read_file(os.fsencode(path), limit)
     return there(within(read, path, limit), path)

@@ -93,7 +93,9 @@ class Store:
         self.close()
 
     def __del__(self) -> None:
-        self.close()
+        # One that was never made whole has no handle.
+        if getattr(self, "_handle", None):
+            self.close()
 
     @property
     def image(self) -> bytes:
@@ -113,6 +115,7 @@ class Store:
 
     def rewrite(self, cursors: Sequence[int] = ()) -> list[int]:
         """Rewrites all records without what was removed; returns the cursors carried along."""
-        carried = (c_uint32 * len(cursors))(*(number(c_uint32, cursor) for cursor in cursors))
-        self._change("rewrite", carried, c_size_t(len(cursors)))
+        numbers = [number(c_uint32, cursor) for cursor in cursors]
+        carried = (c_uint32 * len(numbers))(*numbers)
+        self._change("rewrite", carried, c_size_t(len(carried)))
         return list(carried)

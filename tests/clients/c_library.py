@@ -85,6 +85,12 @@ PROGRAM_RUNS = (
     (("ccedit", "c"), b"start\nconfig k - v\nstep 0\nrewrite\n"),
     (("ktutil",), b"rkt k\naddent -key -p c@R -k 3 -e 17\n000102030405060708090a0b0c0d0e0f\n"
                   b"l -k\nwkt j\n"),
+    (("ktcopy", "k", "new"), b""),
+    (("ktremove", "-p", "b@R", "k"), b""),
+    (("ktedit", "--in-place", "k"), ADDED.encode() + b"cut 98\n"),
+    (("ktcopy", "--in-place", "j", "k"), b""),
+    (("ccedit", "--in-place", "c"), b"config k - w\n"),
+    (("ccremove", "-p", "krbtgt/R@R", "c"), b""),
 )
 
 

@@ -1,4 +1,5 @@
-"""Keytabs that are cut, damaged or at their limit, through Python's module: scripts, and what they print."""
+"""Keytabs that are cut, damaged or at their limit, and strange arguments, through Python's module: scripts, and what
+they print."""
 
 from makers.images import HOST, TWO, old
 
@@ -51,8 +52,56 @@ with Keytab.open(image, limit=len(image)) as keytab:
         print(error.status, keytab.image == image, list(walk))
 """
 
+# Bytes of a class that tells another length.
+LONG = """
+from krbfile import Keytab
+import sys
 
-# HOST is at 2, B at 53, and the file has 98 bytes.
+class Long(bytes):
+    def __len__(self):
+        return 60_000
+
+image = sys.stdin.buffer.read()
+keytab = Keytab.open(Long(image))
+keytab.add(Long(b"c@R"), 1, 17, Long(bytes(16)))
+print(len(keytab.find(Long(b"c@R")).key), len(keytab.image) - len(image))
+"""
+
+# Cursors that become more whenever they are counted.
+GROWING = """
+from krbfile import Keytab
+import sys
+
+class Growing(list):
+    def __len__(self):
+        self.append(2)
+        return super().__len__()
+
+print(Keytab.open(sys.stdin.buffer.read()).rewrite(Growing([53])))
+"""
+
+# Limits that are none, of files.
+LIMITS = """
+from krbfile import Cache, Keytab
+
+for kind in (Keytab, Cache):
+    for limit in (-5, 2**32, "5"):
+        try:
+            kind.load("none", limit=limit)
+        except Exception as error:
+            print(type(error).__name__)
+"""
+
+# Stores that were never opened, of which one is not even made whole: they end without a word.
+UNMADE = """
+from krbfile import Keytab
+from krbfile.store import Store
+
+for make in (Store, Keytab, lambda: object.__new__(Keytab)):
+    print(type(make()).__name__)
+"""
+
+# HOST is at 2, B at 53, and the file has 98 bytes. An entry of c@R has 45.
 SCRIPTS = (
     ("damaged keytabs", DAMAGED, TWO, [
         "0 11",
@@ -71,4 +120,8 @@ SCRIPTS = (
         "11 12 12 13",
     ]),
     ("a rewrite that does not fit", TOO_LONG, old(HOST), ["2", "33 True []"]),
+    ("bytes of another length", LONG, TWO, ["16 45"]),
+    ("cursors that become more", GROWING, TWO, ["[53]"]),
+    ("limits that are none", LIMITS, b"", 2 * ["OverflowError", "OverflowError", "TypeError"]),
+    ("stores that were never opened", UNMADE, b"", ["Store", "Keytab", "Keytab"]),
 )

@@ -55,11 +55,11 @@ JOBS, MOMENT = 6, 0.3
 KINDS = (Kind(KTEDIT), Kind(KTEDIT, over_none=True, kills=True), Kind(BOTH, kills=True), Kind(KTEDIT, with_mit=True))
 
 
-def python_for(options: dict[str, object]) -> str | None:
-    """Returns a python that a run with these options may start, or None."""
+def python_for(options: dict[str, object], env: dict[str, str]) -> str | None:
+    """Returns a python that a run with these options may start and that can read what it needs, or None."""
     for path in PYTHONS:
         try:
-            if run(path, ("-c", ""), "/", **options).status == 0:
+            if run(path, ("-S", "-c", f"import krbfile; open({PROGRAM!r})"), "/", env=env, **options).status == 0:
                 return path
         except OSError:
             pass
@@ -76,10 +76,10 @@ def script(folder: str, name: str, text: str, mode: int = 0o755) -> str:
 @contextmanager
 def programs(program: str) -> Iterator[tuple[str, str]]:
     """Yields Python's module as a program, and one that is now this, now krbfile, by the number of the process."""
-    other = python_for(as_user()) if os.geteuid() == 0 else None
+    env = {name: surroundings("/bin")[name] for name in ("PYTHONPATH", "LD_LIBRARY_PATH")}
+    other = python_for(as_user(), env) if os.geteuid() == 0 else None
     with folder_of({}) as folder:
         os.chmod(folder, 0o755)
-        env = {name: surroundings("/bin")[name] for name in ("PYTHONPATH", "LD_LIBRARY_PATH")}
         env |= {"PYTHONPYCACHEPREFIX": os.path.join(folder, "cache"), "PYTHONDONTWRITEBYTECODE": ""}
         words = [*(f"{name}={shlex.quote(value)}" for name, value in env.items()), "exec",
                  shlex.quote(other or sys.executable), "-S", shlex.quote(PROGRAM)]
@@ -194,7 +194,7 @@ def check_locked_folder(report: Report, python: str) -> None:
     """Checks a folder in which no file may be made: a block that changes nothing needs no right to make one."""
     options = as_another(python)
     if options is None:
-        report.skip("a locked folder", "none but root may start Python")
+        report.skip("a locked folder", "none but root may start Python, or read the module and the library")
         return
     for what, words, wanted in (("changes", SCRIPT, UNSAVED), ("changes nothing", b"", Outcome(0))):
         with folder_of({"k": OLD}) as folder:

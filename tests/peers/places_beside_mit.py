@@ -1,17 +1,22 @@
-"""Saves in place beside MIT's programs, which lock a file to read it, and to add an entry to it."""
+"""Saves in place beside MIT's programs, which lock a file to read it, and to add an entry to it.
+
+A key that MIT's ktutil adds while a run writes stays, and the run tells of it.
+"""
 
 import os
 import subprocess
 import time
 
 from makers.images import B, HOST, Entry, keytab
-from models.cases import IN_PLACE
+from models.cases import IN_PLACE, in_place, ktedit
 from models.reading import read_image
 from peers.beside_mit import SURROUNDINGS, are_there
-from runs.harness import SECONDS, Outcome, Report, differences, folder_of
+from runs.harness import SECONDS, Case, Outcome, Report, differences, folder_of, run
 from runs.preload import Line
 from runs.system_calls import Halt, check_traced, halted
-from system.placing import ADD_LONG
+from system.failing_system_calls import READINGS
+from system.placing import ADD_LONG, explained, message_of, told
+from system.saving import unsaved
 
 # How long a run is watched that has to wait.
 MOMENT = 0.3
@@ -74,7 +79,37 @@ def check_peers(report: Report, program: str) -> None:
         report.check(f"beside MIT's {mits[0][0]}, {' '.join(options) or 'replacing'}", faults)
 
 
+def added_while(program: str, case: Case, halt: Halt) -> tuple[Outcome, list[bytes], Outcome]:
+    """Returns how a run ends that is halted while MIT's ktutil adds an entry, the names then, and how ktutil ends."""
+    (peer, line), _ = ADDS
+    theirs: list[Outcome] = []
+    with folder_of({**case.files, "j": keytab(Entry((b"b",)))}) as folder:
+
+        def add(folder: str) -> None:
+            theirs.append(run(peer, line.words, folder, line.stdin, env=SURROUNDINGS))
+
+        ours = halted(program, Line(case.words, case.stdin), folder, halt, add)
+        with open(os.path.join(folder, "k"), "rb") as file:
+            return ours, names_in(file.read()), theirs[0]
+
+
+def check_added(report: Report, program: str) -> None:
+    """Checks keys that MIT's ktutil adds while a run syncs what it wrote, or behind its last look for locks."""
+    synced, watched = Halt("fsync"), Halt("openat", 3 * READINGS, ("/proc/locks",))
+    longer, equal, shorter = (in_place(ktedit(image, script, name=name)) for image, script, name in (
+        (keytab(HOST), ADD_LONG, "adds"), (keytab(HOST), b"cut 2\n", "removes"),
+        (keytab(60, HOST), b"rewrite\n", "rewrites")))
+    refused = explained(unsaved(longer), message_of(longer, "mixed"))
+    rows = [(longer, synced, refused, [FIRST, OURS, MITS]), (longer, watched, told(longer, "mixed"), [FIRST, OURS, MITS]),
+            (equal, synced, told(equal, "mixed"), [MITS]), (shorter, synced, told(shorter, "mixed"), [FIRST, MITS])]
+    for case, halt, wanted, names in rows:
+        ours, found, theirs = added_while(program, case, halt)
+        faults = differences(wanted, ours) + ([] if found == names else [f"{found}, not {names}"])
+        faults += [f"{theirs}"] if theirs.status or theirs.err else []
+        report.check(f"MIT's ktutil adds behind {halt.calls} {halt.nth}: {case.name}", faults)
+
+
 def check(report: Report, program: str) -> None:
     """Runs this topic."""
     if are_there(report, "saves in place beside MIT's programs"):
-        check_traced(report, program, "saves in place beside MIT's programs", check_peers)
+        check_traced(report, program, "saves in place beside MIT's programs", check_peers, check_added)

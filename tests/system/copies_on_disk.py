@@ -12,6 +12,7 @@ from runs.harness import Outcome, Report, differences, folder_of, message, run
 from runs.rows import printed
 from runs.terminal import EXPLAIN
 from system.pipe_files import fed
+from system.placing import explained
 from system.saving import GROUP, USER, Owned, owned, tree, tree_faults, write
 from system.waits import AT_ONCE
 from words.phrases import CAUSES
@@ -199,8 +200,27 @@ def check_unwritable(report: Report, program: str) -> None:
     report.check("a keytab to copy from that may not be written", faults)
 
 
+def check_own_new_file(report: Report, program: str) -> None:
+    """Checks copies from a file that has the name of the new one, as a killed run leaves it: it stays as it is."""
+    rows = [(source, target, keytab(HOST), message(3, f"{target}: cannot write"))
+            for source, target in (("t.krbfile", "t"), ("./t.krbfile", "t"), ("link", "t"), ("t.krbfile", "to"))]
+    rows += [("t.krbfile", "t", CLASH, printed("clash 2 2 kvno 3 etype 17 b@R", status=1)),
+             ("t.krbfile", "t", keytab(HOST, B), Outcome(0))]
+    for source, target, before, wanted in rows:
+        ways = [((), wanted)]
+        if wanted.err:
+            ways.append(((EXPLAIN,), explained(wanted, CAUSES["in the way"].replace("NAME", "t"))))
+        for options, outcome in ways:
+            with folder_of({"t.krbfile": keytab(B), "t": before}) as folder:
+                os.symlink("t.krbfile", os.path.join(folder, "link"))
+                os.symlink("t", os.path.join(folder, "to"))
+                faults = differences(outcome, run(program, (*options, "ktcopy", source, target), folder))
+                faults += tree_faults({"t.krbfile": keytab(B), "t": before, "link": "t.krbfile", "to": "t"}, folder)
+            report.check(f"{' '.join(options)} from {source} into {target} of {len(before)} bytes", faults)
+
+
 def check(report: Report, program: str) -> None:
     """Runs this topic."""
     for each in (check_left, check_missing, check_owned, check_input, check_pipes, check_links, check_in_the_way,
-                 check_locks, check_held, check_output, check_unwritable):
+                 check_own_new_file, check_locks, check_held, check_output, check_unwritable):
         each(report, program)

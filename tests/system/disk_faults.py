@@ -47,6 +47,9 @@ MODE = 0o640
 UNPRINTED = message(3, "cannot write output")
 KILLED = Outcome(-signal.SIGKILL)
 
+# How a run in place ends whose last look fails, and what its file has then.
+UNSEEN = {explained(Outcome(1, SAVED.out), f"k: {AFTERMATHS['mixed']}"): NEW}
+
 # How the traces begin of calls that have other names in FAILED.
 TRACES = {"open": r"open.*O_CREAT", "lstat": r'\w*stat\w*\(.*"k"'}
 
@@ -77,8 +80,7 @@ def calls_of_run(program: str, setting: Place, line: Line = LINE) -> list[Call]:
 def ends(phrase: str) -> dict[Outcome, bytes]:
     """Returns how a run may end of which a call fails, by the phrase for that, and what its file has then."""
     failed = {UNREAD: OLD, UNSAVED: OLD, UNPRINTED: NEW}
-    return {SAVED: NEW, explained(UNSAVED, phrase, AFTERMATHS["restored"]): OLD,
-            **{explained(outcome, phrase): data for outcome, data in failed.items()}}
+    return {SAVED: NEW, **{explained(outcome, phrase): data for outcome, data in failed.items()}}
 
 
 def faults_of_failure(program: str, line: Line, call: Call, error: str) -> list[str]:
@@ -87,7 +89,8 @@ def faults_of_failure(program: str, line: Line, call: Call, error: str) -> list[
         place(folder)
         outcome, _ = traced(program, line, folder, *call.to(f"error={error}"))
         left = tree(folder)
-    data = ends(CAUSES["owner" if call.name == "fchown" else error]).get(outcome)
+    phrase = CAUSES["owner" if call.name == "fchown" else error]
+    data = (ends(phrase) | (UNSEEN if IN_PLACE in line.words else {})).get(outcome)
     # A run that fails early does not reach the stale file of an earlier save, nor does one that saves in place.
     may_be = [{"k": TARGET, TARGET: data}] if IN_PLACE not in line.words else []
     may_be += [{"k": TARGET, TARGET: data, NEW_NAME: REMAINS}] if data == OLD or IN_PLACE in line.words else []

@@ -1,23 +1,27 @@
 """Saves in place of which a system call fails, or that are killed at one.
 
-If a write, a cut or a sync fails, the old bytes are written back, and if that fails too, the message says so.
+Bytes past the old end are written and synced first, and the file is looked at once more before an old byte is written
+over. If a write, a cut or a sync fails, the old bytes are written back, and if that fails too, a message says so.
 """
 
 import os
 import re
 import signal
 from collections.abc import Iterator
+from dataclasses import replace
 
 from makers.images import B, HOST, keytab
-from models.cases import IN_PLACE, in_place
+from models.cases import IN_PLACE, in_place, ktedit, ktutil
 from models.modelled import modelled
 from runs.harness import Case, Outcome, Report, differences, files_in, folder_of, run
 from runs.preload import MOST_CALLS, Line, Preloaded, preloaded
+from runs.rows import shown
 from runs.system_calls import Call, calls_of, check_traced, traced
 from runs.terminal import EXPLAIN
 from system.failing_streams import Ends
-from system.failing_system_calls import PRINT, READ, Step, calls_of_run, check_failure, held, listed, lock, needed
-from system.placing import CUT_OFF, EQUAL, LONGER, MIXED, PLACED, SHORTER, changed, explained
+from system.failing_system_calls import (PRINT, READ, Step, calls_of_run, check_failure, held, listed, lock, looked,
+                                         needed)
+from system.placing import CUT_OFF, EQUAL, LONGER, MIXED, PLACED, SHORTER, TALK, changed, explained, images, message_of
 from system.saving import tree_faults, unsaved, write
 from words.phrases import AFTERMATHS, CAUSES
 
@@ -29,6 +33,9 @@ CUT = re.compile(r"ftruncate\(\d+, (\d+)\) ")
 CHANGES = ("pwrite64", "ftruncate", "fsync")
 FEW = 7
 
+# A keytab of 100 KB of which one entry is removed.
+LARGE = ktedit(keytab(*[HOST] * 2_000), b"cut 51002\n", name="removes from a large file")
+
 ERRORS = ("EIO", "ENOSPC", "EDQUOT")
 KILLED = Outcome(-signal.SIGKILL)
 
@@ -36,10 +43,15 @@ KILLED = Outcome(-signal.SIGKILL)
 Deed = tuple[int, ...]
 SYNC: Deed = ()
 
+# What it looks at meanwhile, and the looks before it goes on to write over old bytes, and last of all.
+LOOKS = {"name": r'\w*stat\w*\(AT_FDCWD, "[kct]"', "size": r"\w*stat\w*\(\d", "bytes": r'read\(\d+, "\\5',
+         "locks": r'open.*"/proc/locks"'}
+BEFORE, LAST = ("name", "size", "bytes", "locks"), ("name", "size", "bytes")
 
-def deeds_of(trace: list[str]) -> list[Deed]:
-    """Returns what a run did to its file."""
-    found = []
+
+def done_in(trace: list[str]) -> list[Deed | str]:
+    """Returns what a run did to its file, and at what it looked, each once in a row."""
+    found: list[Deed | str] = []
     for line in trace:
         if of_write := WRITE.match(line):
             size, at = map(int, of_write.groups())
@@ -48,7 +60,19 @@ def deeds_of(trace: list[str]) -> list[Deed]:
             found.append((int(of_cut[1]),))
         elif line.startswith("fsync("):
             found.append(SYNC)
+        else:
+            found += [look for look, call in LOOKS.items() if re.match(call, line) and found[-1:] != [look]]
     return found
+
+
+def deeds_of(trace: list[str]) -> list[Deed]:
+    """Returns what a run did to its file."""
+    return [each for each in done_in(trace) if isinstance(each, tuple)]
+
+
+def first_deed(done: list[Deed | str]) -> int:
+    """Returns how many looks come before the first deed."""
+    return next((at for at, each in enumerate(done) if isinstance(each, tuple)), len(done))
 
 
 def patch(before: bytes, after: bytes) -> tuple[int, int]:
@@ -57,90 +81,106 @@ def patch(before: bytes, after: bytes) -> tuple[int, int]:
     return (differing[0], differing[-1] + 1) if differing else (0, 0)
 
 
-def wanted_deeds(before: bytes, after: bytes) -> list[Deed]:
-    """Returns what a run has to do: bytes past the old end first, synced, then the others, the cut, and a sync."""
-    found = [(len(before), len(after)), SYNC] if len(after) > len(before) else []
+def wanted_deeds(before: bytes, after: bytes) -> list[Deed | str]:
+    """Returns what a run has to do from the comparison before it writes on. A cut follows a look at the length."""
     first, last = patch(before, after)
-    found += [(first, last)] if first < last else []
-    return [*found, (len(after),), SYNC]
-
-
-def images(case: Case) -> tuple[bytes, bytes]:
-    """Returns the file that a run changes, before and after it."""
-    name = changed(case)
-    return case.files[name], case.files_after[name]
+    over: list[Deed | str] = [(first, last)] if first < last else []
+    over += ["size", (len(after),)] if len(after) < len(before) else []
+    added = [(len(before), len(after)), SYNC, *BEFORE] if len(after) > len(before) else []
+    return [*BEFORE, *added, *over, *([SYNC] if over else []), *LAST]
 
 
 def check_order(report: Report, program: str) -> None:
     """Checks the order of the calls of each save, and that no file is made, truncated by its opening, or renamed."""
-    for case in map(in_place, PLACED):
+    for case in map(in_place, (*PLACED, LARGE)):
         with folder_of(case.files) as folder:
             outcome, trace = traced(program, Line(case.words, case.stdin), folder)
-        before, after = images(case)
-        wanted, got = wanted_deeds(before, after), deeds_of(trace)
-        # Where nothing is written past the old end there may be a sync of nothing.
-        is_wanted = got == wanted or (len(after) <= len(before) and got == [SYNC, *wanted])
-        faults = [] if is_wanted else [f"{got}, not {wanted}"]
+        done, wanted = done_in(trace), wanted_deeds(*images(case))
+        got = done[max(0, first_deed(done) - first_deed(wanted)):]
+        faults = [] if got == wanted else [f"{got}, not {wanted}"]
         strange = ("O_TRUNC", "O_CREAT", "rename", ".krbfile", "unlink")
         faults += [line for line in trace if any(word in line for word in strange)]
         report.check(f"the order of {case.name}", faults + differences(case.wanted, outcome))
 
 
 def run_failing(program: str, case: Case, *options: str) -> tuple[Outcome, dict[str, bytes], list[Call]]:
-    """Makes an explained run; returns its outcome, the files after it, and its calls that change the file."""
+    """Makes a run; returns its outcome, the files after it, and its calls that change the file."""
     with folder_of(case.files) as folder:
-        outcome, trace = traced(program, Line((EXPLAIN, *case.words), case.stdin), folder, *options)
+        outcome, trace = traced(program, Line(case.words, case.stdin), folder, *options)
         return outcome, files_in(folder), [call for call in calls_of(trace, "") if call.name in CHANGES]
 
 
-def both_fail(call: Call, back: Call, error: str) -> tuple[str, ...]:
-    """Returns the options by which a call fails, and then one that brings the old bytes back, of another error."""
-    if call.name == back.name:
-        return "-e", f"inject={call.name}:error={error}:when={call.nth}+"
-    return (*call.to(f"error={error}"), *back.to("error=EROFS"))
+def with_words(case: Case) -> Case:
+    """Returns the same run with words."""
+    return replace(case, words=(EXPLAIN, *case.words))
 
 
-def check_unsaved(report: Report, program: str, case: Case, call: Call, error: str) -> None:
-    """Lets a call that changes the file fail, and then also each of those that bring the old bytes back."""
-    refused = explained(unsaved(case), CAUSES[error])
-    got, files, calls = run_failing(program, case, *call.to(f"error={error}"))
-    faults = differences(explained(refused, AFTERMATHS["restored"]), got)
+def wanted_backs(case: Case, is_over: bool) -> list[str]:
+    """Returns the calls that bring the old bytes back, if some may have been written over or not."""
+    before, after = images(case)
+    cut = ["ftruncate"] if len(after) > len(before) else []
+    return [*(["pwrite64", "fsync"] if is_over else []), *cut, "fsync"]
+
+
+def check_unsaved(report: Report, program: str, case: Case, calls: list[Call], nth: int, error: str) -> list[Call]:
+    """Lets a call that changes the file fail, and returns the calls that bring the old bytes back."""
+    call, (before, _) = calls[nth], images(case)
+    deeds = deeds_of([each.line for each in calls[:nth + 1]])
+    is_over = any(deed != SYNC and deed[0] < len(before) for deed in deeds)
+    words = [CAUSES[error], *([AFTERMATHS["restored"]] if is_over else [])]
+    got, files, made = run_failing(program, with_words(case), *call.to(f"error={error}"))
+    backs = made[nth + 1:]
+    faults = differences(explained(unsaved(case), *words), got)
     faults += [] if files == case.files else ["the old bytes are not back"]
-    at = next(number for number, each in enumerate(calls) if "(INJECTED)" in each.line)
-    backs = calls[at + 1:]
-    faults += [] if [each.name for each in backs[-2:]] == ["ftruncate", "fsync"] else [f"{backs}"]
+    faults += [] if [back.name for back in backs] == wanted_backs(case, is_over) else [f"{backs}"]
     report.check(f"{call} fails with {error}: {case.name}", faults)
-    seen = set()
-    for back in backs:
-        if back.name not in seen:
-            got, files, _ = run_failing(program, case, *both_fail(call, back, error))
-            faults = differences(explained(refused, AFTERMATHS["damaged"]), got)
-            faults += [] if files.keys() == case.files.keys() else [f"{[*files]} are there"]
-            report.check(f"{call} fails with {error}, then {back}: {case.name}", faults)
-        seen.add(back.name)
+    return backs
+
+
+def both_fail(call: Call, back: Call) -> tuple[str, ...]:
+    """Returns the options by which a call fails, and then one that brings the old bytes back."""
+    if call.name == back.name:
+        return "-e", f"inject={call.name}:error=EIO:when={call.nth}+{back.nth - call.nth}"
+    return (*call.to("error=EIO"), *back.to("error=EROFS"))
+
+
+def check_lost(report: Report, program: str, case: Case, call: Call, back: Call, is_lost: bool) -> None:
+    """Lets a call fail, and then one that brings the old bytes back: if one of these may be lost, a message says so."""
+    damage = [message_of(case, "damaged")] if is_lost else []
+    for one, words in ((case, damage), (with_words(case), [CAUSES["EIO"], *damage])):
+        got, files, _ = run_failing(program, one, *both_fail(call, back))
+        faults = differences(explained(unsaved(case), *words), got)
+        faults += [] if files.keys() == case.files.keys() else [f"{[*files]} are there"]
+        is_there = files[changed(case)].startswith(images(case)[0])
+        faults += [] if is_lost or is_there else ["an old byte is lost"]
+        report.check(f"{call} fails, then {back}: {shown(one.words)}: {case.name}", faults)
 
 
 def check_failures(report: Report, program: str) -> None:
-    """Lets each call fail that changes the file."""
+    """Lets each call fail that changes the file, and then also each of those that bring the old bytes back."""
     for case in map(in_place, (LONGER, MIXED, EQUAL, SHORTER, CUT_OFF)):
         outcome, _, calls = run_failing(program, case)
         report.compare(f"no call fails: {case.name}", case.wanted, outcome)
-        for call in calls:
-            for error in ERRORS if case.name == in_place(MIXED).name else ERRORS[:1]:
-                check_unsaved(report, program, case, call, error)
+        for nth, call in enumerate(calls):
+            backs = [check_unsaved(report, program, case, calls, nth, error) for error in ERRORS][0]
+            # Old bytes are written back by the first two, if by any.
+            losing = backs[:2] if backs[:1] and backs[0].name == "pwrite64" else []
+            for back in backs:
+                check_lost(report, program, case, call, back, back in losing)
 
 
 def check_talk(report: Report, program: str) -> None:
-    """Checks lines of ktutil of which the first that writes fails: what it left is told once, and the next is saved."""
+    """Checks lines of ktutil of which one fails to write into a hole: what it left is told once, and the next is saved."""
+    files = {"j": keytab(B), "k": keytab(60, HOST)}
     talk = b"rkt j\nwkt k\nwkt k.krbfile\nwkt no\nwkt k\n"
     lines = ("k: cannot write", f"line 2: {CAUSES['EIO']}", f"line 2: {AFTERMATHS['restored']}",
              "k.krbfile: cannot write", f"line 3: {CAUSES['name of saves']}", "no: cannot write",
              f"line 4: {CAUSES['no file']}")
-    with folder_of({"j": keytab(B), "k": keytab(HOST)}) as folder:
+    with folder_of(files) as folder:
         line = Line((EXPLAIN, "ktutil", IN_PLACE), talk)
         outcome, _ = traced(program, line, folder, "-e", "inject=pwrite64:error=EIO:when=1")
         faults = differences(explained(Outcome(3), *lines), outcome)
-        faults += tree_faults({"j": keytab(B), "k": keytab(HOST, B)}, folder)
+        faults += tree_faults(ktutil(TALK, 0, files=files, name="adds").files_after, folder)
     report.check("a line of ktutil that fails in place", faults)
 
 
@@ -148,9 +188,11 @@ def steps() -> list[Step]:
     """Returns the steps of a run in place that changes old bytes and adds others."""
     stat = r'\w*stat\w*\(.*"k"'
     compared = [*needed(1, stat, r'open.*"k", O_RDONLY', r"\w*stat\w*\(\d", r"read\([1-9]"), Step(r"close", "")]
-    written = needed(1, r"pwrite64", r"fsync", r"pwrite64", r"ftruncate", r"fsync")
-    return [READ, *needed(1, stat), *lock("k", mode="O_RDWR"), *held(), *compared, *listed(), *written,
-            Step(r"close", ""), PRINT]
+    ready = [*compared, *listed()]
+    written = [*needed(1, r"pwrite64", r"fsync"), *ready, *needed(1, r"pwrite64", r"fsync")]
+    last = [Step(stat, ""), *(Step(call, "last look") for call in (r"\w*stat\w*\(\d", r"lseek", r"read\([1-9]"))]
+    return [READ, *needed(1, stat), *lock("k", mode="O_RDWR"), *held(), *looked("/proc/self/limits"), *ready, *written,
+            *last, Step(r"close", ""), PRINT]
 
 
 def check_steps(report: Report, program: str) -> None:

@@ -18,6 +18,7 @@ from runs.harness import Outcome, Report, differences, files_in, folder_of
 from runs.preload import Counted, Line
 from runs.system_calls import Call, calls_of, check_traced, traced
 from system.failing_streams import Ends, ends_in_output
+from system.placing import told
 
 ERRORS = ("EIO", "ENOSPC", "EACCES", "EPERM", "EINTR", "ENOMEM")
 
@@ -88,6 +89,7 @@ def held(nth: int = 1) -> list[Step]:
 
 def save(name: str, nth: int = 1, is_new: bool = False) -> list[Step]:
     """Returns the steps of a save. It is done even if the folder cannot be synced, or the old file be looked at."""
+    limits = looked("/proc/self/limits")
     stat = rf'\w*stat\w*\(.*"{name}'
     owner = [] if is_new else [Step(r"fchown", "owner", nth), *needed(nth, r"\w*stat\w*\(\d")]
     made = needed(nth, r"fchmod", r"fsync", r"\w*stat\w*\(\d", stat + r'\.krbfile"', stat + '"')
@@ -95,7 +97,7 @@ def save(name: str, nth: int = 1, is_new: bool = False) -> list[Step]:
     again = [] if is_new else [*again, Step(r"close", ""), *listed()]
     synced = [Step(pattern, "") for pattern in (r'open.*"\."', r"fsync", r"close")]
     seen = [] if is_new else [Step(pattern, "") for pattern in (r"lseek", r"read\([1-9]")]
-    return [*needed(nth, r"write\([3-9]"), *owner, *made, *again, *needed(nth, r"rename"), *synced, *seen,
+    return [*limits, *needed(nth, r"write\([3-9]"), *owner, *made, *again, *needed(nth, r"rename"), *synced, *seen,
             Step(r"close", "")]
 
 
@@ -157,6 +159,8 @@ def is_end_of_step(ends: Ends, step: Step, got: Counted) -> bool:
         return end in (ends.of_input(0), ends.of_input(len(ends.run.case.stdin)))
     if step.fails == "output":
         return ends_in_output(ends.run, got)
+    if step.fails == "last look":
+        return end == (told(ends.run.case, "mixed"), ends.run.after())
     found = ends.of_loads if step.fails == "load" else ends.of_saves
     return end == found[step.nth - 1]
 

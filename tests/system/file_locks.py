@@ -17,7 +17,7 @@ from runs.harness import Case, Report, differences, faults_of, files_in, folder_
 from runs.preload import Line
 from runs.system_calls import Halt, check_traced, halted, traced
 from runs.terminal import EXPLAIN
-from system.placing import ADD_LONG, EQUAL, LONGER, PLACED, explained
+from system.placing import ADD_LONG, EQUAL, LONGER, PLACED, SHORTER, explained
 from system.saving import HOLDING_NOTHING, SAVING_NOTHING, TGT, tree_faults, unsaved
 from system.waits import AT_ONCE, LEAST_WAIT, LONGEST_WAIT, faults_of_waiting, ofd_lock
 from words.phrases import CAUSES
@@ -184,8 +184,8 @@ def is_locked(path: str) -> bool:
 def check_held_to_end(report: Report, program: str) -> None:
     """Checks that the lock is held from before the load to the end of the save."""
     load, sync, cut = Halt("read", paths=("k",)), Halt("fsync"), Halt("ftruncate")
-    placed = in_place(LONGER)
-    for case, halt in ((LONGER, load), (LONGER, sync), (placed, load), (placed, sync), (placed, cut)):
+    placed, shorter = map(in_place, (LONGER, SHORTER))
+    for case, halt in ((LONGER, load), (LONGER, sync), (placed, load), (placed, sync), (shorter, cut), (shorter, sync)):
         with folder_of(case.files) as folder:
             found: list[bool] = []
             outcome = halted(program, Line(case.words, case.stdin), folder, halt,

@@ -3,6 +3,7 @@
 import os
 import resource
 import subprocess
+from contextlib import suppress
 from shlex import quote
 
 from makers.images import HOST, Entry, keytab
@@ -21,6 +22,12 @@ from words.phrases import AFTERMATHS, CAUSES
 FULL = keytab(*[HOST] * 79, Entry((b"x" * 14,)))
 TOO_MUCH = ktedit(FULL, SCRIPT, name="adds to a full page")
 LESS = ktedit(FULL, b"cut 2\n", name="removes from a full page")
+
+# A keytab whose hole takes no room on a disk, the room that is left there, and a script that adds 20,000 bytes to the
+# hole and 15,000 behind it.
+SPARSE = keytab(HOST, 200_000)
+SPARSE_FROM, ROOM = 100, 24_576
+INTO_BOTH = "".join(f"add 3 17 1 {'00' * 16} {'z' * length}@R\n" for length in (20_000, 15_000)).encode()
 
 
 def check_locked_folder(report: Report, program: str) -> None:
@@ -89,7 +96,7 @@ def on_full_disk(program: str, case: Case, wanted: Outcome, after: bytes) -> lis
 def check_full_disk(report: Report, program: str) -> None:
     """Checks that a save for which there is no room leaves the old bytes, and that one that needs none is made."""
     full = CAUSES["ENOSPC"]
-    rows = [(in_place(TOO_MUCH), explained(unsaved(TOO_MUCH), full, AFTERMATHS["restored"]), FULL),
+    rows = [(in_place(TOO_MUCH), explained(unsaved(TOO_MUCH), full), FULL),
             (LESS, explained(unsaved(LESS), full), FULL), (in_place(LESS), LESS.wanted, LESS.files_after["k"])]
     for case, wanted, after in rows:
         faults = on_full_disk(program, case, wanted, after)
@@ -100,17 +107,39 @@ def check_full_disk(report: Report, program: str) -> None:
 
 
 def check_limit(report: Report, program: str) -> None:
-    """Checks a file that may not become as long as it would: the part that was written is cut off again."""
+    """Checks a file that may not become as long as it would: the system would end a run that wrote so much."""
+    refused = explained(unsaved(LONGER), CAUSES["EFBIG"])
     for case in (LONGER, MIXED):
-        placed, most = in_place(case), len(case.files["k"]) + 10
-        wanted = explained(unsaved(placed), CAUSES["EFBIG"], AFTERMATHS["restored"])
-        with folder_of(case.files) as folder:
-            before = kept(os.path.join(folder, "k"))
-            got = run(program, (EXPLAIN, *placed.words), folder, case.stdin,
-                      preexec_fn=limit(resource.RLIMIT_FSIZE, most))
-            faults = differences(wanted, got) + tree_faults(dict(case.files), folder)
-            faults += [] if kept(os.path.join(folder, "k")) == before else ["not kept"]
-        report.check(f"no more than {most} bytes: {placed.name}", faults)
+        length = len(case.files_after["k"])
+        for one in (case, in_place(case)):
+            for most, wanted, after in ((length, case.wanted, case.files_after), (length - 1, refused, case.files)):
+                with folder_of(case.files) as folder:
+                    got = run(program, (EXPLAIN, *one.words), folder, case.stdin,
+                              preexec_fn=limit(resource.RLIMIT_FSIZE, most, is_spared=False))
+                    faults = differences(wanted, got) + tree_faults(dict(after), folder)
+                report.check(f"at most {most} bytes: {one.name}", faults)
+
+
+def check_sparse(report: Report, program: str) -> None:
+    """Checks a file with a hole that takes no room, on a disk with room for what is added behind it, but not for what
+    is written into it too: the old bytes have room again once the file is cut."""
+    with folder_of({}) as folder, mounted(folder, "-t", "tmpfs", "-o", "size=48k", "krbfile") as is_mounted:
+        if not is_mounted:
+            report.skip("a sparse file on a full disk", "none can be mounted")
+            return
+        path, fill = os.path.join(folder, "k"), os.path.join(folder, "fill")
+        write(path, SPARSE[:SPARSE_FROM])
+        with open(path, "r+b") as file:
+            file.truncate(len(SPARSE))
+        with suppress(OSError), open(fill, "wb", buffering=0) as file:
+            while file.write(bytes(4096)):
+                pass
+        os.truncate(fill, os.path.getsize(fill) - ROOM)
+        got = run(program, (EXPLAIN, "ktedit", IN_PLACE, "k"), folder, INTO_BOTH)
+        faults = differences(explained(UNSAVED, CAUSES["ENOSPC"], AFTERMATHS["restored"]), got)
+        with open(path, "rb") as file:
+            faults += [] if file.read() == SPARSE else ["the old bytes are not back"]
+    report.check("a sparse file on a full disk", faults)
 
 
 def check_read_only(report: Report, program: str) -> None:
@@ -163,6 +192,6 @@ def check_beside(report: Report, program: str) -> None:
 
 def check(report: Report, program: str) -> None:
     """Runs this topic."""
-    for each in (check_locked_folder, check_unwritable, check_mounted, check_full_disk, check_limit, check_read_only,
-                 check_names, check_beside):
+    for each in (check_locked_folder, check_unwritable, check_mounted, check_full_disk, check_limit, check_sparse,
+                 check_read_only, check_names, check_beside):
         each(report, program)

@@ -6,17 +6,18 @@ Each file has the number 0 on the device 0:0. That of its mount is 0:38, if that
 import os
 
 from clients.python_failures import LOCK_LINES
-from runs.harness import Report, differences, folder_of
+from models.cases import in_place
+from runs.harness import Case, Report, differences, folder_of
 from runs.preload import Counted, Line, Preloaded, preloaded
 from runs.terminal import EXPLAIN
 from system.failing_system_calls import READINGS
-from system.placing import explained
-from system.saving import NEW, OLD, SAVED, SCRIPT, UNSAVED
+from system.placing import EQUAL, explained
+from system.saving import ADD, OLD, SCRIPT, UNSAVED
 from words.phrases import CAUSES
 
 LINE = Line((EXPLAIN, "ktedit", "k"), SCRIPT)
 
-# A lock to write on the file and one to read, which is not waited for, and the lock that another run has.
+# A lock to write on the file and one to read, for which only a save in place waits, and the lock that another run has.
 LOCK = b"1: POSIX  ADVISORY  WRITE 12 00:00:0 0 EOF\n"
 NO_LOCK = b"1: POSIX  ADVISORY  READ 12 00:00:0 0 EOF\n"
 FLOCK = b"1: FLOCK  ADVISORY  WRITE 9 00:00:0 0 EOF\n"
@@ -34,6 +35,10 @@ ENDLESS = None
 WAITS = {"in use": 10_000, "in the way": 1_000}
 MOMENT, MORE = 100, 2_000
 
+# Saves, how often each looks for locks, and those that it waits for. In place one that makes the file longer looks
+# once more.
+LOOKS = ((ADD, 2, (LOCK,)), (in_place(EQUAL), 2, (LOCK, NO_LOCK)), (in_place(ADD), 3, (LOCK, NO_LOCK)))
+
 # Waits that end: whether something that is not ours has the name of the new file, the list of locks, by how many
 # milliseconds each reading of the clock advances it, 0 if it cannot be read, and the cause.
 ENDS = (
@@ -43,7 +48,8 @@ ENDS = (
 )
 
 
-def seen(under: Preloaded, lists: dict[str, bytes | None], pace: int = 0, is_taken: bool = False) -> Counted:
+def seen(under: Preloaded, lists: dict[str, bytes | None], pace: int = 0, is_taken: bool = False,
+         line: Line = LINE) -> Counted:
     """Makes a run to which the system shows those lists, and by whose clock time passes in that way."""
     lists = {"locks": b"", "fdinfo": OPEN_FILE, "mountinfo": MOUNTS, **lists}
     there = {name: data for name, data in lists.items() if data is not ENDLESS}
@@ -52,21 +58,24 @@ def seen(under: Preloaded, lists: dict[str, bytes | None], pace: int = 0, is_tak
             os.symlink("/dev/zero", os.path.join(proc, name))
         if is_taken:
             os.mkdir(os.path.join(folder, "k.krbfile"))
-        return under.run_in(folder, LINE, PROC=proc, PACE=pace)
+        return under.run_in(folder, line, PROC=proc, PACE=pace)
 
 
-def faults_of_save(got: Counted, is_waited: bool) -> list[str]:
+def faults_of_save(got: Counted, is_waited: bool, case: Case = ADD) -> list[str]:
     """Returns the faults of a run that saves, after a moment or at once."""
-    found = differences(SAVED, got.outcome) + ([] if got.files == {"k": NEW} else ["other files"])
+    found = differences(case.wanted, got.outcome) + ([] if got.files == case.files_after else ["other files"])
     is_due = 0 < got.slept <= MOMENT if is_waited else got.slept == 0
     return found + ([] if is_due else [f"it slept for {got.slept} ms"])
 
 
 def check_readings(report: Report, under: Preloaded) -> None:
     """Checks that a lock which one reading shows is waited for: most readings may miss it. So is a list too long."""
-    for nth in range(1, 2 * READINGS + 2):
-        got = seen(under, {str(nth): LOCK})
-        report.check(f"a lock in reading {nth}", faults_of_save(got, nth <= 2 * READINGS))
+    for case, looks, locks in LOOKS:
+        over, line = under.over(case.files), Line(case.words, case.stdin)
+        for lock in locks:
+            for nth in range(1, looks * READINGS + 2):
+                faults = faults_of_save(seen(over, {str(nth): lock}, line=line), nth <= looks * READINGS, case)
+                report.check(f"a lock to {lock.split()[3].decode()} in reading {nth}: {case.name}", faults)
     got = seen(under, {str(2 * READINGS): ENDLESS})
     report.check("a list without an end, once", faults_of_save(got, True))
 

@@ -1,6 +1,7 @@
-"""A save that replaces a file which another program has open, and changes between the comparison and the last look.
+"""A file that another program changes, by a handle that it has, after the comparison of a save.
 
-The change is lost, and words tell of it; output and status are as ever.
+If it is replaced, the change is lost. In place it is kept, unless the same bytes were written. Either is told, with words
+or without; the output is as ever.
 """
 
 import os
@@ -12,12 +13,13 @@ from makers.images import B, HOST, keytab
 from models.cases import in_place, ktutil
 from runs.harness import Case, Report, differences, folder_of
 from runs.preload import Line
+from runs.rows import shown
 from runs.system_calls import Halt, check_traced, halted
 from runs.terminal import EXPLAIN
 from system.failing_system_calls import READINGS
-from system.placing import PLACED, changed, explained
-from system.saving import tree_faults
-from words.phrases import AFTERMATHS, LEAVE_OUT, line_fault
+from system.placing import CUT_OFF, EQUAL, LONGER, MIXED, PLACED, SHORTER, changed, explained, images, message_of, told
+from system.saving import tree_faults, unsaved
+from words.phrases import AFTERMATHS, CAUSES, LEAVE_OUT, line_fault
 
 # A run of each command, and lines of ktutil of which the last ones are at fault and refused.
 TALK = ktutil(b"rkt j\nwkt k\nfrob\nwkt FILE:k\n", 0, files={"j": keytab(B), "k": keytab(HOST)},
@@ -27,11 +29,19 @@ CASES_OF_ALL = (*PLACED[-6:], TALK)
 # Where a run is halted: before its rename, at the last reading of the locks, and behind it.
 HALTS = {"before": Halt("openat", 2 * READINGS, ("/proc/locks",)), "behind": Halt("?rename,?renameat,?renameat2")}
 
+# And in place: when its bytes are written over, are cut off, and are synced, and at the last reading of the locks, which
+# one that grows makes once more.
+WRITTEN, CUT, SYNCED = Halt("pwrite64"), Halt("ftruncate"), Halt("fsync")
+WATCHED = Halt("openat", 3 * READINGS, ("/proc/locks",))
+
 Change = Callable[[BinaryIO], object]
+
+# What another program adds at the end.
+MORE = b"more"
 
 # What another program does to the file, by its handle, and whether that leaves other bytes.
 CHANGES: dict[str, tuple[Change, bool]] = {
-    "bytes at the end": (lambda file: file.seek(0, os.SEEK_END) and file.write(b"more"), True),
+    "bytes at the end": (lambda file: file.seek(0, os.SEEK_END) and file.write(MORE), True),
     "the last byte": (lambda file: file.seek(-1, os.SEEK_END) and file.write(b"\xff"), True),
     "no byte any more": (lambda file: file.truncate(0), True),
     "another mode": (lambda file: os.fchmod(file.fileno(), 0o640), False),
@@ -46,46 +56,97 @@ def changed_while(program: str, case: Case, halt: Halt, change: Change) -> list[
         return differences(case.wanted, got) + tree_faults(case.files_after, folder)
 
 
-def told(case: Case, is_lost: bool) -> Case:
-    """Returns an explained run that tells of a lost change, if there is one."""
-    lost = AFTERMATHS["lost change"]
-    words = (EXPLAIN, *case.words)
-    line = f"line 2: {lost}" if case.words[0] == "ktutil" else f"{changed(case)}: {lost}"
-    wanted = explained(replace(case.wanted, err=b""), *[line] * is_lost)
-    if case == TALK:
+def with_words(case: Case, aftermath: str) -> Case:
+    """Returns an explained run that tells what its save left."""
+    wanted = told(replace(case, wanted=replace(case.wanted, err=b"")), aftermath)
+    if case.words[0] == "ktutil" and case.wanted.err:
         wanted = explained(wanted, "line 3: fault 1", f"line 3: {line_fault(1, 'ktutil')}", "FILE:k: cannot write",
                            f"line 4: {LEAVE_OUT.replace('TYPE', 'FILE:')}")
-    return replace(case, words=words, wanted=wanted)
+    return replace(case, words=(EXPLAIN, *case.words), wanted=wanted)
+
+
+def both_ways(case: Case, aftermath: str) -> tuple[Case, Case]:
+    """Returns a run that tells what its save left, without words and with them."""
+    return replace(case, wanted=told(case, aftermath)), with_words(case, aftermath)
 
 
 def check_lost(report: Report, program: str) -> None:
-    """Checks that each command tells of a change that it loses, where words are shown, and else as ever."""
+    """Checks that each command tells of a change that it loses."""
     change, _ = CHANGES["bytes at the end"]
     for case in CASES_OF_ALL:
         for where, halt in HALTS.items():
-            report.check(f"lost {where} the rename: {case.name}", changed_while(program, case, halt, change))
-            report.check(f"lost {where} the rename, {EXPLAIN}: {case.name}",
-                         changed_while(program, told(case, True), halt, change))
+            for one in both_ways(case, "lost change"):
+                name = f"lost {where} the rename: {shown(one.words)}: {case.name}"
+                report.check(name, changed_while(program, one, halt, change))
 
 
 def check_kinds(report: Report, program: str) -> None:
     """Checks each kind of change: where the bytes are the same, nothing is told."""
     case = PLACED[0]
     for name, (change, is_lost) in CHANGES.items():
-        report.check(f"{name}, behind the rename",
-                     changed_while(program, told(case, is_lost), HALTS["behind"], change))
+        one = replace(case, wanted=told(case, "lost change")) if is_lost else case
+        report.check(f"{name}, behind the rename", changed_while(program, one, HALTS["behind"], change))
 
 
-def check_in_place(report: Report, program: str) -> None:
-    """Checks that a save in place tells of nothing that is done behind it."""
-    case = in_place(PLACED[0])
-    with folder_of(case.files) as folder, open(os.path.join(folder, "k"), "r+b", buffering=0) as file:
-        got = halted(program, Line((EXPLAIN, *case.words), case.stdin), folder, Halt("ftruncate"),
-                     lambda folder: file.seek(0, os.SEEK_END) and file.write(b"more"))
-        faults = differences(case.wanted, got) + tree_faults({"k": case.files_after["k"] + b"more"}, folder)
-    report.check("a change behind a save in place", faults)
+def with_more(case: Case) -> Case:
+    """Returns a run whose file then has more at its end too."""
+    name = changed(case)
+    return replace(case, files_after={**case.files_after, name: case.files_after[name] + MORE})
+
+
+def check_kept(report: Report, program: str) -> None:
+    """Checks that each command tells of a change of a file that it saves in place, and leaves it there."""
+    change, _ = CHANGES["bytes at the end"]
+    for case in map(in_place, CASES_OF_ALL):
+        before, after = images(case)
+        for one in both_ways(with_more(case), "mixed"):
+            report.check(f"more at the end: {shown(one.words)}: {case.name}",
+                         changed_while(program, one, WATCHED if len(after) > len(before) else SYNCED, change))
+
+
+def check_kinds_in_place(report: Report, program: str) -> None:
+    """Checks each kind of change of a file whose length stays: where the bytes are the same, nothing is told."""
+    case = in_place(EQUAL)
+    _, after = images(case)
+    left = {"bytes at the end": after + MORE, "the last byte": after[:-1] + b"\xff", "no byte any more": b""}
+    for name, (change, is_told) in CHANGES.items():
+        one = replace(case, wanted=told(case, "mixed") if is_told else case.wanted,
+                      files_after={"k": left.get(name, after)})
+        report.check(f"{name}, in place", changed_while(program, one, SYNCED, change))
+
+
+def check_refused(report: Report, program: str) -> None:
+    """Checks the looks before an old byte is written over or cut off: what another program wrote stays.
+
+    What was written is taken back, unless another program has written past the old end.
+    """
+    add, (before, longer), shorter = CHANGES["bytes at the end"][0], images(LONGER), SHORTER.files["k"]
+    old_byte: Change = lambda file: file.seek(len(before) - 1) and file.write(b"\xff")
+    rows = [(LONGER, SYNCED, add, longer + MORE, "mixed"),
+            (LONGER, SYNCED, CHANGES["no byte any more"][0], b"", "mixed"),
+            (LONGER, SYNCED, old_byte, before[:-1] + b"\xff", ""),
+            (SHORTER, WRITTEN, add, shorter + MORE, "restored")]
+    for case, halt, change, image, left in rows:
+        placed = in_place(case)
+        message = [message_of(placed, left)] if left == "mixed" else []
+        words = [CAUSES["changed"], *([AFTERMATHS[left]] if left == "restored" else [])]
+        for options, lines in (((), message), ((EXPLAIN,), [*words, *message])):
+            one = replace(placed, words=(*options, *placed.words), files_after={"k": image},
+                          wanted=explained(unsaved(placed), *lines))
+            report.check(f"refused, {image[-4:]}: {shown(one.words)}: {case.name}",
+                         changed_while(program, one, halt, change))
+
+
+def check_later(report: Report, program: str) -> None:
+    """Checks changes behind the second write, and behind the cut."""
+    change, _ = CHANGES["bytes at the end"]
+    for case, halt in ((MIXED, Halt("fsync", 2)), (SHORTER, CUT), (SHORTER, SYNCED), (CUT_OFF, CUT)):
+        placed = in_place(case)
+        one = replace(with_more(placed), wanted=told(placed, "mixed"))
+        report.check(f"more behind {halt.calls} {halt.nth}: {placed.name}", changed_while(program, one, halt, change))
 
 
 def check(report: Report, program: str) -> None:
     """Runs this topic."""
-    check_traced(report, program, "changes that are lost", check_lost, check_kinds, check_in_place)
+    check_traced(report, program, "changes behind a comparison", check_lost, check_kinds, check_kept,
+                 check_kinds_in_place, check_refused, check_later)

@@ -10,6 +10,7 @@ from models.copy_model import Request
 from models.removal_model import Selection
 from runs.harness import Case, Outcome
 from system.saving import ADD, TGT
+from words.phrases import AFTERMATHS
 
 # An entry that is longer than those of the keytab, and lines of ktutil that add one to the keytab `k`.
 ADD_LONG = b"add 3 17 1700000000 000102030405060708090a0b0c0d0e0f a/long/name@R\n"
@@ -38,9 +39,27 @@ def changed(case: Case) -> str:
     return next(name for name, data in case.files_after.items() if data != case.files.get(name))
 
 
+def images(case: Case) -> tuple[bytes, bytes]:
+    """Returns the file that a run changes, before and after it."""
+    name = changed(case)
+    return case.files[name], case.files_after[name]
+
+
 def explained(outcome: Outcome, *phrases: str) -> Outcome:
     """Returns the outcome of a run that also prints those lines."""
     return replace(outcome, err=outcome.err + "".join(f"krbfile: {each}\n" for each in phrases).encode())
+
+
+def message_of(case: Case, aftermath: str) -> str:
+    """Returns the message, with words or without, of what the first save of a run left."""
+    name = "line 2" if case.words[0] == "ktutil" else changed(case)
+    return f"{name}: {AFTERMATHS[aftermath]}"
+
+
+def told(case: Case, aftermath: str) -> Outcome:
+    """Returns the outcome of a run that saves and tells what that left."""
+    front = explained(Outcome(case.wanted.status or 1, case.wanted.out), message_of(case, aftermath))
+    return replace(front, err=front.err + case.wanted.err)
 
 
 def attributes(path: str) -> dict[str, bytes]:

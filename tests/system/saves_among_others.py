@@ -12,10 +12,16 @@ from runs.harness import Outcome, Report, differences, folder_of, message, run
 from runs.preload import Line
 from runs.rows import text
 from runs.system_calls import Halt, check_traced, halted
+from runs.terminal import EXPLAIN
+from system.placing import explained
 from system.saving import NEW, OLD, SAVED, SCRIPT, UNSAVED, Place, tree, tree_faults, write
+from words.phrases import CAUSES
 
 # A user who is not root.
 USER = 1234
+
+# A keytab that is not the one of the runs.
+B_ALONE = keytab(B)
 
 # The calls after which a run is halted, each under a name.
 HALTS = {
@@ -113,8 +119,27 @@ def check_changes(report: Report, program: str) -> None:
     for of in changed:
         for call in ("load", "writing", "syncing"):
             check_change(report, program, call, of)
-    for of in [*(of for of in REPLACED[:-2] if of[1]), *changed]:
+    replaced = [of for of in REPLACED[:-2] if of[1]]
+    for of in [*replaced, *changed]:
         check_change(report, program, "load", of, "--in-place")
+    for of in replaced:
+        check_change(report, program, "syncing", of, "--in-place")
+
+
+def check_names(report: Report, program: str) -> None:
+    """Checks that a save in place is refused whose file has lost its name when it is synced, also where it does not
+    grow, so that it was not looked at before."""
+    other = CAUSES["other file"]
+    changes = {"another file": (named("k", lambda path: write(path, B_ALONE)), other, B_ALONE),
+               "a link to another file": (named("k", lambda path: os.symlink("other", path)), other, "other"),
+               "no file any more": (at_name(os.remove), CAUSES["no file"], None)}
+    for what, (change, cause, after) in changes.items():
+        for options, words in (((), ()), ((EXPLAIN,), (cause,))):
+            with folder_of({"k": NEW, "other": B_ALONE}) as folder:
+                line = Line((*options, "ktedit", "--in-place", "k"), b"cut 2\n")
+                faults = differences(explained(UNSAVED, *words), halted(program, line, folder, HALTS["syncing"], change))
+                faults += tree_faults({"other": B_ALONE, **({"k": after} if after else {})}, folder)
+            report.check(f"{what}, behind the sync of a save in place {' '.join(options)}", faults)
 
 
 def check_led_elsewhere(report: Report, program: str) -> None:
@@ -202,5 +227,5 @@ def check_crossed_hold(report: Report, program: str) -> None:
 
 def check(report: Report, program: str) -> None:
     """Runs this topic."""
-    check_traced(report, program, "files that are changed meanwhile", check_changes,
+    check_traced(report, program, "files that are changed meanwhile", check_changes, check_names,
                  check_led_elsewhere, check_led, check_opened_anew, check_crossed, check_crossed_hold)
