@@ -11,7 +11,7 @@ from runs.harness import Report
 WRONG_BODIES = {
     "wiping": {
         "clears-too-little": "every second byte stays as it is",
-        "leaves-bytes-as-they-are": "a block of bytes goes back as it is",
+        "fills-with-ones": "each byte of a block becomes 1, not 0",
     },
     "krb_wire": {
         "32-bits-are-read-twice": "the rest after a number begins with that number",
