@@ -65,6 +65,7 @@ WRONG_BODIES = {
         "a-read-that-did-not-fail-is-told-as-failed": "an empty file is reported as one that cannot be read",
     },
     "krb_json": {
+        "controls-of-two-bytes-stay": "the characters U+0080 to U+009F are not escaped where no 7f stands beside them",
         "hexadecimal-under-the-plain-name": "bytes that are no text stand as hexadecimal under the text's name",
         "is-skey-at-1-alone": "`is_skey` is false for numbers above 1",
         "leaves-the-key-out": "an entry has no key where keys are asked for",
