@@ -1,6 +1,6 @@
 //! Escapes the control characters that stand as they are in JSON: 7f, and U+0080 to U+009F.
 
-ghost use Rattle.std.specs.Prelude.{◌≡◌, ℕ, List, [], ◌∷◌, ◌++◌, IfOk, OnOk, false, true, not};
+ghost use Rattle.std.specs.Prelude.{◌≡◌, ℕ, List, ◌∷◌, ◌++◌, IfOk, OnOk};
 ghost use Rattle.std.specs.List.{list_any};
 ghost use Rattle.krb_json.specs.Escaped.{escape, escaped, held, is_second, is_special};
 
