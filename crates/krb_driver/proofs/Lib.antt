@@ -4,5 +4,6 @@ pub mod Shown
 pub mod Making
 pub mod Running
 pub mod Words
+mod KeyStarts
 pub mod MatchLemmas
 mod FileNameLemmas

@@ -132,7 +132,7 @@ gives-unless trait old file gives refusal given new (inl o) = inl (record {
 gives-unless trait old file gives refusal given new (inr o) = inr (o.0, o.1, ap (unless_refused (λ code. (file.name.now, error.Refused code)) refusal) o.2)
 
 -- a file was held, or not
-pub makes_holds : {F : Type 0} (trait : Ghosts F) (old new : F) (held : Bool) (file : List ℕ) → HeldIf trait held old new → HoldsIf trait old held file new
+pub makes_holds : {F : Type 0} (trait : Ghosts F) (old new : F) (held : Bool) (file : List ℕ) → HeldIf trait held file old new → HoldsIf trait old held file new
 makes_holds trait old new held file holds = λ plan effect end made. record { answers = made.answers; loads = inr (new, (holds, made.loads)); made = made.made }
 
 -- what was made without a load
@@ -187,7 +187,7 @@ fairly-failed trait old file gives then_ Fair name why new (inr o) =
     (subst-fairly trait old new (Ends (other file)) (opens file gives then_) (fair_first gives Fair) (other file) (opens-other file gives then_ o.0)
     (record { makes = record { answers = []; loads = (refl, o.1); made = inr refl }; fair = inr tt }))
 
-pub fairly-holds : {F : Type 0} (trait : Ghosts F) (old new end : F) (held : Bool) (file : List ℕ) (plan : CommandPlan) (Fairly : List Answer → Type 0) (effect : Effect) → HeldIf trait held old new → MakesFairly trait new plan Fairly effect end → MakesFairly trait old (Holds held file plan) Fairly effect end
+pub fairly-holds : {F : Type 0} (trait : Ghosts F) (old new end : F) (held : Bool) (file : List ℕ) (plan : CommandPlan) (Fairly : List Answer → Type 0) (effect : Effect) → HeldIf trait held file old new → MakesFairly trait new plan Fairly effect end → MakesFairly trait old (Holds held file plan) Fairly effect end
 unfolding makes_holds
 fairly-holds trait old new end held file plan Fairly effect holds made =
     record { makes = makes_holds trait old new held file holds plan effect end made.makes; fair = made.fair }

@@ -11,7 +11,8 @@ use Rattle.krb_driver.specs.declared.error.RunError.TheVariants as error
 use Rattle.krb_files.specs.Loading.{Answer, SavesFile, TurnsHold}
 use Rattle.krb_driver.specs.ErrorOutput.{ErrorWatch}
 use Rattle.krb_driver.specs.Runs.{Run, Shows, Reports, ends_by}
-use Rattle.krb_driver.specs.RunErrors.{Ending, ending_status}
+use Rattle.krb_driver.specs.RunErrors.{Ending}
+use Rattle.krb_driver.specs.declared.reporting.details.Details.{Details}
 use Rattle.krb_driver.specs.declared.verdict.Verdict.{Verdict}
 use Rattle.krb_files.specs.Plan.{follow}
 use Rattle.krb_driver.specs.Commands.{Does, EndsCommand, Keeps, RunsCommand, Settles, ShowsEnd, ShowsPage, Takes}
@@ -112,7 +113,7 @@ module _ {F : Type 0} (trait : Ghosts F) (plan : Option ℕ → CommandPlan) (Fa
       same-trans (trait.file old) (trait.file d.between) (trait.file new) (lasts.same h) (settles-spared out out' ending spent trait d.between new (lasts.honest h) d.effect end d.settles shows)
 
 -- the release of the files keeps what was done
-keeps-left : {F : Type 0} (trait : Ghosts F) (plan : CommandPlan) (old done new : F) (end : Effect) → TurnsHold trait false done new → Keeps trait plan old done end → Keeps trait plan old new end
+keeps-left : {F : Type 0} (trait : Ghosts F) (plan : CommandPlan) (old done new : F) (end : Effect) → TurnsHold trait None done new → Keeps trait plan old done end → Keeps trait plan old new end
 keeps-left trait plan old done new end left (inl due) = inl (due.0, same-trans (files_after (trait.file old) (follow (trait.file old) plan)) (trait.file done) (trait.file new) due.1 left.same)
 keeps-left trait plan old done new end left (inr (inl failed)) =
     let is = left.count in
@@ -121,26 +122,28 @@ keeps-left trait plan old done new end left (inr (inl failed)) =
 keeps-left trait plan old done new end left (inr (inr spent)) = inr (inr (same-trans (trait.file old) (trait.file done) (trait.file new) spent.0 left.same, spent.1))
 
 -- a command did its work, released what it held, showed what is left to show, and its end was reported
-pub runs-shown : {F : Type 0} (trait : Ghosts F) (plan : Option ℕ → CommandPlan) (Fairly : List Answer → Type 0) (old done new : F) (out out' : Watch) (err err' : ErrorWatch) (status : ℕ) (end : Effect) (ending : Ending)
-    → Does trait plan Fairly old done end → TurnsHold trait false done new → ShowsEnd out out' ending end → Reports (about end) None ending err err' status → RunsCommand trait plan Fairly old new out out' err err' status
-runs-shown trait plan Fairly old done new out out' err err' status end ending d left shows reported = record {
+runs-shown : {F : Type 0} (trait : Ghosts F) (plan : Option ℕ → CommandPlan) (Fairly : List Answer → Type 0) (old done new : F) (out out' : Watch) (err err' : ErrorWatch) (status : ℕ) (end : Effect) (ending : Ending) (details : Details)
+    → Does trait plan Fairly old done end → TurnsHold trait None done new → ShowsEnd out out' ending end → Reports (about end) None details ending err err' status → details.aftermath ≡ trait.aftermath new
+    → RunsCommand trait plan Fairly old new out out' err err' status
+runs-shown trait plan Fairly old done new out out' err err' status end ending details d left shows reported told = record {
   end = end;
   ending = ending;
   done = done;
   does = d;
   left = left;
   shown = shows;
+  details = details;
   reported = reported;
+  told = told;
   honest = λ h. keeps-left trait (plan (trait.mode d.between)) old done new end left (does-keeps trait plan Fairly old done end d h);
   spared = λ spent h. same-trans (trait.file old) (trait.file done) (trait.file new) (does-spared trait plan Fairly old done end d h out out' ending spent shows) left.same;
   quiet = λ spent. quiet-end out out' ending spent end shows;
 }
 
 -- the same, with how it ended
-pub ends-shown : {F : Type 0} (trait : Ghosts F) (plan : Option ℕ → CommandPlan) (Fairly : List Answer → Type 0) (old done new : F) (out out' : Watch) (err err' : ErrorWatch) (status : ℕ) (end : Effect) (ending : Ending)
-    → Does trait plan Fairly old done end → TurnsHold trait false done new → ShowsEnd out out' ending end → Reports (about end) None ending err err' status → EndsCommand trait plan Fairly old new out out' err err' ending
+pub ends-shown : {F : Type 0} (trait : Ghosts F) (plan : Option ℕ → CommandPlan) (Fairly : List Answer → Type 0) (old done new : F) (out out' : Watch) (err err' : ErrorWatch) (status : ℕ) (end : Effect) (ending : Ending) (details : Details)
+    → Does trait plan Fairly old done end → TurnsHold trait None done new → ShowsEnd out out' ending end → Reports (about end) None details ending err err' status → details.aftermath ≡ trait.aftermath new
+    → EndsCommand trait plan Fairly old new out out' err err' (record { ending = ending; status = status })
 unfolding runs-shown
-ends-shown trait plan Fairly old done new out out' err err' status end ending d left shows reported = record {
-  runs = runs-shown trait plan Fairly old done new out out' err err' (ending_status ending) end ending d left shows (record { reports = reported.reports; status_is = refl });
-  ending_is = refl;
-}
+ends-shown trait plan Fairly old done new out out' err err' status end ending details d left shows reported told =
+    record { runs = runs-shown trait plan Fairly old done new out out' err err' status end ending details d left shows reported told; ending_is = refl }

@@ -1,6 +1,6 @@
 -- What is shown of a run, and what a reader gave.
-use Rattle.std.proofs.Common.{◌≡◌, ◌≢◌, ℕ, ◌<◌, List, [], ◌++◌, refl, sym, ap, subst}
-use Rattle.std.specs.Prelude.{◌+◌, ◌≤◌, ◌||◌, length, Bool, true, false, Option, None, Result, Ok, Err, is_ok, IfSome}
+use Rattle.std.proofs.Common.{◌≡◌, ◌≢◌, ℕ, ◌<◌, List, [], ◌++◌, refl, sym, ap, subst, arith}
+use Rattle.std.specs.Prelude.{◌+◌, max, ◌≤◌, ◌||◌, length, Bool, true, false, Option, None, Result, Ok, Err, is_ok, IfSome}
 use Rattle.std.proofs.lemmas.Bool.{true≢false}
 use Rattle.krb_files.specs.declared.files.LoadFault.{LoadFault}
 use Rattle.krb_files.specs.declared.files.LoadFault.TheVariants as load
@@ -10,10 +10,11 @@ use Rattle.krb_driver.specs.declared.verdict.Verdict.TheVariants.{Well}
 use Rattle.krb_files.specs.Loading.{most_bytes}
 use Rattle.krb_driver.specs.Input.{GivesInput}
 use Rattle.krb_driver.specs.Runs.{Writes, ReportsEnd}
-use Rattle.krb_files.specs.declared.cause.Cause.{Cause}
-use Rattle.krb_driver.specs.Words.{ending_words, own_text, words_if}
+use Rattle.krb_files.specs.declared.aftermath.Aftermath.{Aftermath}
+use Rattle.krb_driver.specs.declared.reporting.details.Details.{Details}
+use Rattle.krb_driver.specs.Words.{aftermath_text, ending_words, own_text, words_if}
 use Rattle.krb_driver.specs.ErrorOutput.{ErrorWatch}
-use Rattle.krb_driver.specs.RunErrors.{Ending, ending_message}
+use Rattle.krb_driver.specs.RunErrors.{Ending, aftermath_status, end_status, ending_message, ending_status}
 use Rattle.krb_files.specs.Reader.{Source, ConsumesAtMost, is_failed}
 
 -- nothing was to be written
@@ -25,18 +26,25 @@ words_if-nothing : (explains : Bool) → words_if explains [] ≡ []
 words_if-nothing true = refl
 words_if-nothing false = refl
 
--- nothing was to be reported of a run that went well
-pub ReportsEnd-nothing : (file : List ℕ) (line : Option ℕ) (err : ErrorWatch) → ReportsEnd file line (Ok Well) err err
-ReportsEnd-nothing file line err = record {
-  details = record { cause = None; aftermath = None };
-  writes = subst (λ (words : List ℕ). Writes err.to err.to (words ++ words)) (sym (words_if-nothing err.explains)) (Writes-nothing err.to);
+-- nothing was to be reported of a run that went well, and saved nothing
+pub ReportsEnd-nothing : (file : List ℕ) (line : Option ℕ) (details : Details) (err : ErrorWatch) → details.aftermath ≡ None → ReportsEnd file line details (Ok Well) err err
+ReportsEnd-nothing file line details err none = record {
+  writes = subst (λ (words : List ℕ). Writes err.to err.to (words ++ aftermath_text err.explains file line details.aftermath)) (sym (words_if-nothing err.explains))
+      (subst (λ (a : Option Aftermath). Writes err.to err.to (aftermath_text err.explains file line a)) (sym none) (Writes-nothing err.to));
   still = refl;
 }
 
+-- the exit status of a run whose save left nothing behind that is to be told
+pub end_status-none : (ending : Ending) (aftermath : Option Aftermath) → aftermath ≡ None → ending_status ending ≡ end_status ending aftermath
+end_status-none ending aftermath none =
+    let n = ending_status ending in
+    let same : n ≡ max n 0 = omega arith in
+    subst (λ (a : Option Aftermath). n ≡ max n (aftermath_status a)) (sym none) same
+
 -- a message was written, with the words that are shown
-pub Writes-words : (file : List ℕ) (line : Option ℕ) (cause : Option Cause) (ending : Ending) (err : ErrorWatch) (to : Watch) (words : List ℕ)
-    → Writes err.to to (ending_message file ending ++ words) → words ≡ words_if err.explains (ending_words file line cause ending) → Writes err.to to (own_text err.explains file line cause ending)
-Writes-words file line cause ending err to words writes are = subst (λ (w : List ℕ). Writes err.to to (ending_message file ending ++ w)) are writes
+pub Writes-words : (file : List ℕ) (line : Option ℕ) (details : Details) (ending : Ending) (err : ErrorWatch) (to : Watch) (words : List ℕ)
+    → Writes err.to to (ending_message file ending ++ words) → words ≡ words_if err.explains (ending_words file line details ending) → Writes err.to to (own_text err.explains file line details ending)
+Writes-words file line details ending err to words writes are = subst (λ (w : List ℕ). Writes err.to to (ending_message file ending ++ w)) are writes
 
 -- ---- what a reader gave
 

@@ -11,15 +11,17 @@ use Rattle.krb_driver.specs.declared.command.FileError.{FileError}
 use Rattle.krb_driver.specs.declared.command.Made.{Made}
 use Rattle.krb_driver.specs.declared.command.Made.TheVariants as made
 use Rattle.krb_driver.specs.declared.command.Output.{Output}
+use Rattle.krb_driver.specs.declared.command.RunEnd.{RunEnd}
 use Rattle.krb_driver.specs.declared.command.Ready.{Ready}
 use Rattle.krb_driver.specs.declared.command.Ready.TheVariants as ready
+use Rattle.krb_driver.specs.declared.reporting.details.Details.{Details}
 use Rattle.krb_driver.specs.declared.error.RunError.{RunError}
 use Rattle.krb_driver.specs.declared.file_name.FileName.{FileName}
 use Rattle.krb_driver.specs.declared.error.RunError.TheVariants as error
 use Rattle.krb_driver.specs.Effects.{CommandPlan, Effect, Fails, Displays, Saves, IsFailure, IsSpent, Page, about, faults, files_after, opens, saved_end, settled, text}
 use Rattle.krb_driver.specs.ErrorOutput.{ErrorWatch}
 use Rattle.krb_driver.specs.Runs.{Run, Shows, BreaksOff, Reports, ends_by}
-use Rattle.krb_driver.specs.RunErrors.{Ending, ending_status, error_of_name}
+use Rattle.krb_driver.specs.RunErrors.{Ending, error_of_name}
 
 -- ---- what is made of the files
 
@@ -114,15 +116,17 @@ abbrev pub Takes : Effect → Type 0
 Takes (Displays file page) = IsTrue page.takes
 Takes effect = ⊥
 
--- a run of a command: what it saves and prints and how it ends is a function of its calls' results; it then holds nothing
+-- a run of a command: what it saves and prints and how it ends is a function of its calls' results; it then holds nothing, and tells what its save left behind
 pub record RunsCommand {F : Type 0} (trait : Ghosts F) (plan : Option ℕ → CommandPlan) (Fairly : List Answer → Type 0) (old new : F) (out out' : Watch) (err err' : ErrorWatch) (status : ℕ) : Type 0 where
   pub end : Effect
   pub ending : Ending
   pub done : F
   pub does : Does trait plan Fairly old done end
-  pub left : TurnsHold trait false done new
+  pub left : TurnsHold trait None done new
   pub shown : ShowsEnd out out' ending end
-  pub reported : Reports (about end) None ending err err' status
+  pub details : Details
+  pub reported : Reports (about end) None details ending err err' status
+  pub told : details.aftermath ≡ trait.aftermath new
   -- over honest files
   pub honest : trait.is_honest old → Keeps trait (plan (trait.mode does.between)) old new end
   -- if memory runs out
@@ -130,9 +134,9 @@ pub record RunsCommand {F : Type 0} (trait : Ghosts F) (plan : Option ℕ → Co
   pub quiet : ending ≡ Err error.NoMemory → Shows (ends_by error.NoMemory) out out' ending ⊎ Takes end
 
 -- the same for a run that ended so
-pub record EndsCommand {F : Type 0} (trait : Ghosts F) (plan : Option ℕ → CommandPlan) (Fairly : List Answer → Type 0) (old new : F) (out out' : Watch) (err err' : ErrorWatch) (ending : Ending) : Type 0 where
-  pub runs : RunsCommand trait plan Fairly old new out out' err err' (ending_status ending)
-  pub ending_is : runs.ending ≡ ending
+pub record EndsCommand {F : Type 0} (trait : Ghosts F) (plan : Option ℕ → CommandPlan) (Fairly : List Answer → Type 0) (old new : F) (out out' : Watch) (err err' : ErrorWatch) (end : RunEnd) : Type 0 where
+  pub runs : RunsCommand trait plan Fairly old new out out' err err' end.status
+  pub ending_is : runs.ending ≡ end.ending
 
 -- that plan, whatever the mode of the file is
 unfoldable pub always : CommandPlan → Option ℕ → CommandPlan

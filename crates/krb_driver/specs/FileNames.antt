@@ -1,6 +1,6 @@
 -- The names of files, and their types.
 use Rattle.std.specs.Prelude.{◌≡◌, ℕ, ◌+◌, List, [], ◌∷◌, length, take, codes, Bool, not, ◌&&◌, ◌||◌, ◌==◌, nat_le, nat_lt, if◌then◌else◌, Option, None, Some, is_none, is_some, option_and_then, unwrap_or}
-use Rattle.std.specs.List.{list_any, position_from}
+use Rattle.std.specs.List.{flat_map, list_any, position_from}
 use Rattle.std.specs.Option.{option_or}
 use Rattle.krb_driver.specs.declared.file_name.FileName.{FileName}
 use Rattle.krb_driver.specs.declared.file_name.NameSource.{NameSource}
@@ -53,3 +53,11 @@ pub record IsNamed (kind : FileKind) (word : List ℕ) (source : NameSource) (fi
   pub name : file.name.now ≡ bare_name kind word
   pub other : file.is_other_type ≡ is_other_type kind word
   pub from : file.source ≡ source
+
+-- a byte of a file's name as messages show it: a newline is `\x0a`
+abbrev pub name_byte : ℕ → List ℕ
+name_byte b = if b == 10 then codes "\\x0a" else b ∷ []
+
+-- a file's name as messages, words and the fronts of lines show it, so that it makes no line of its own
+abbrev pub shown_name : List ℕ → List ℕ
+shown_name name = flat_map name_byte name

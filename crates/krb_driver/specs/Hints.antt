@@ -1,8 +1,11 @@
 -- Hints: the commands that show what can be done about findings.
-use Rattle.std.specs.Prelude.{◌≡◌, ℕ, ◌+◌, ◌<◌, ◌==◌, List, [], ◌∷◌, ◌++◌, length, codes, decimal, Bool, false, ◌||◌, if◌then◌else◌, nat_le, Option, None, Some, is_some, unwrap_or}
+use Rattle.std.specs.Prelude.{◌≡◌, ℕ, ◌+◌, ◌<◌, ◌==◌, List, [], ◌∷◌, ◌++◌, length, codes, decimal, Bool, false, not, ◌&&◌, ◌||◌, if◌then◌else◌, nat_le, Option, None, Some, is_some, unwrap_or}
 use Rattle.std.specs.Char.{is_ascii_alphanumeric}
 use Rattle.std.specs.List.{flat_map, list_all, list_any}
+use Rattle.krb_wire.specs.declared.format.Order.{Order}
+use Rattle.krb_wire.specs.declared.format.Order.TheVariants.{Big, Little}
 use Rattle.krb_text.specs.Etype.{etype_name_of}
+use Rattle.krb_cache_text.specs.Escape.{is_printable}
 use Rattle.krb_driver.specs.declared.verdict.Findings.{Findings}
 use Rattle.krb_driver.specs.FileNames.{type_of}
 use Rattle.krb_driver.specs.Messages.{line_if}
@@ -34,6 +37,10 @@ folder_for name = if is_option name || is_some (type_of name) then codes "./" el
 abbrev pub operand_text : List ℕ → List ℕ
 operand_text name = quote_for name ++ (folder_for name ++ (flat_map quoted_byte name ++ quote_for name))
 
+-- all shells read the byte alike: a printable one other than a backslash
+abbrev pub is_alike : ℕ → Bool
+is_alike b = is_printable b && not (b == 92)
+
 -- a text was appended to an operand, unless that would have more than 256 bytes
 abbrev pub Extends : List ℕ → List ℕ → List ℕ → Option (Unit {0}) → Type 0
 Extends old text new None = 256 < length old + length text
@@ -50,19 +57,36 @@ abbrev pub etype_option : Option ℕ → List ℕ
 etype_option None = []
 etype_option (Some etype) = codes " -e " ++ etype_word etype
 
+-- the flag for big-endian keytabs of version 1, if the check was given it
+abbrev pub order_flag : Order → List ℕ
+order_flag Big = codes " --v1-big"
+order_flag Little = []
+
+-- what the hints of ktremove begin with
+abbrev pub remove_head : List ℕ
+remove_head = codes "krbfile: to see what would go: krbfile ktremove"
+
+-- the dry run of ktremove, up to its options
+abbrev pub remove_command : Order → List ℕ
+remove_command order = remove_head ++ (order_flag order ++ codes " -n")
+
 -- the hint for weak enctypes, if that word is explained
 abbrev pub weak_hint : Findings → List ℕ → List ℕ
 weak_hint findings operand =
     line_if findings.words.weak
-    (codes "krbfile: to see what would go: krbfile ktremove -n" ++ (flat_map etype_option findings.weak_etypes.found ++ (codes " " ++ (operand ++ codes "\n"))))
+    (remove_command findings.v1_order ++ (flat_map etype_option findings.weak_etypes.found ++ (codes " " ++ (operand ++ codes "\n"))))
 
 -- the hints for a file that is this operand
 abbrev pub hints_for : Findings → List ℕ → List ℕ
 hints_for findings operand =
-    line_if findings.words.old (codes "krbfile: to see what would go: krbfile ktremove -n -k old " ++ (operand ++ codes "\n"))
+    line_if findings.words.old (remove_head ++ (order_flag findings.v1_order ++ (codes " -n -k old --age 86400 " ++ (operand ++ codes "\n"))))
     ++ (weak_hint findings operand
-    ++ line_if findings.words.same (codes "krbfile: to have each once: krbfile ktcopy " ++ (operand ++ codes " NEW\n")))
+    ++ line_if findings.words.same (codes "krbfile: to have each once: krbfile ktcopy" ++ (order_flag findings.v1_order ++ (codes " " ++ (operand ++ codes " NEW\n")))))
 
--- the hints for findings about a file, unless its operand has more than 256 bytes
+-- a file has hints: all shells read its name alike, which has at most 256 bytes as an operand
+abbrev pub has_hints : List ℕ → Bool
+has_hints file = list_all is_alike file && nat_le (length (operand_text file)) 256
+
+-- the hints for findings about a file, if it has some
 abbrev pub hint_words : List ℕ → Findings → List ℕ
-hint_words file findings = if nat_le (length (operand_text file)) 256 then hints_for findings (operand_text file) else []
+hint_words file findings = if has_hints file then hints_for findings (operand_text file) else []

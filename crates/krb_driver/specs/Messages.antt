@@ -1,5 +1,6 @@
 -- Lines for the error output.
 use Rattle.std.specs.Prelude.{ℕ, List, [], ◌++◌, codes, decimal, Bool, if◌then◌else◌, Option, None, Some}
+use Rattle.krb_driver.specs.FileNames.{shown_name}
 
 -- a message
 abbrev pub message : List ℕ → List ℕ
@@ -7,11 +8,11 @@ message what = codes "krbfile: " ++ (what ++ codes "\n")
 
 -- a message about a file
 abbrev pub file_message : List ℕ → List ℕ → List ℕ
-file_message file what = codes "krbfile: " ++ (file ++ (codes ": " ++ (what ++ codes "\n")))
+file_message file what = codes "krbfile: " ++ (shown_name file ++ (codes ": " ++ (what ++ codes "\n")))
 
 -- a message about a file, with a number between two texts
 abbrev pub file_number_message : List ℕ → List ℕ → ℕ → List ℕ → List ℕ
-file_number_message file before number after = codes "krbfile: " ++ (file ++ (codes ": " ++ (before ++ (decimal number ++ (after ++ codes "\n")))))
+file_number_message file before number after = codes "krbfile: " ++ (shown_name file ++ (codes ": " ++ (before ++ (decimal number ++ (after ++ codes "\n")))))
 
 -- a message about a line of the input, with a number at its end
 abbrev pub line_message : ℕ → List ℕ → ℕ → List ℕ

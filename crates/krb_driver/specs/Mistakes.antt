@@ -10,16 +10,12 @@ use Rattle.krb_driver.specs.declared.command_line.mistake.More.TheVariants as mo
 use Rattle.krb_driver.specs.declared.command_line.mistake.WordFault.{WordFault}
 use Rattle.krb_driver.specs.declared.command_line.mistake.WordFault.TheVariants as word
 use Rattle.krb_driver.specs.Messages.{message}
-use Rattle.krb_driver.specs.PieceTexts.{shown_word}
+use Rattle.krb_driver.specs.PieceTexts.{quoted_word, shown_word}
 use Rattle.krb_driver.specs.Words.{words_if}
 
 -- the text before each mistake
 abbrev pub mistake_head : List ℕ
 mistake_head = codes "krbfile: bad command line\nkrbfile: "
-
--- a word in quotes, and what is wrong with it
-abbrev pub quoted : List ℕ → List ℕ → List ℕ → List ℕ
-quoted word verb rest = codes "\"" ++ (shown_word word ++ (verb ++ rest))
 
 -- what is wrong with a command line, with its words as texts
 pub data MistakeParts : Type 0 where
@@ -79,11 +75,11 @@ mistake_line (Twice option) rest = shown_word option ++ (codes " is given twice"
 mistake_line (DoNotGoTogether option other) rest = shown_word option ++ (codes " does not go with " ++ (shown_word other ++ rest))
 mistake_line (ForKeytabs option) rest = shown_word option ++ (codes " is for keytabs; give -k" ++ rest)
 mistake_line (OnlyWith option other) rest = shown_word option ++ (codes " goes with " ++ (shown_word other ++ (codes " alone" ++ rest)))
-mistake_line (NoVersion word) rest = quoted word (codes "\" is no ") (codes "version" ++ rest)
-mistake_line (NoEtype word) rest = quoted word (codes "\" is no ") (codes "encryption type" ++ rest)
-mistake_line (NoSeconds word) rest = quoted word (codes "\" is no ") (codes "number of seconds" ++ rest)
-mistake_line (NoFinding word) rest = quoted word (codes "\" is no ") (codes "finding" ++ rest)
-mistake_line (BadName word fault) rest = quoted word (codes "\" has ") (name_fault_phrase fault ++ rest)
+mistake_line (NoVersion word) rest = quoted_word word ++ (codes " is no " ++ (codes "version" ++ rest))
+mistake_line (NoEtype word) rest = quoted_word word ++ (codes " is no " ++ (codes "encryption type" ++ rest))
+mistake_line (NoSeconds word) rest = quoted_word word ++ (codes " is no " ++ (codes "number of seconds" ++ rest))
+mistake_line (NoFinding word) rest = quoted_word word ++ (codes " is no " ++ (codes "finding" ++ rest))
+mistake_line (BadName word fault) rest = quoted_word word ++ (codes " has " ++ (name_fault_phrase fault ++ rest))
 mistake_line (NothingSelects options) rest = codes "nothing selects; give " ++ (shown_word options ++ rest)
 mistake_line LateExplain rest = codes "--explain stands before the command" ++ rest
 mistake_line NotText rest = codes "an argument is not UTF-8" ++ rest

@@ -1,9 +1,11 @@
 -- The errors that end a run: where they come from, their messages, and the exit status.
-use Rattle.std.specs.Prelude.{ℕ, List, [], Option, None, Some, Result, Ok, Err, codes}
+use Rattle.std.specs.Prelude.{ℕ, max, List, [], Option, None, Some, Result, Ok, Err, codes}
 use Rattle.krb_walk.specs.declared.refusal.Code.TheVariants.{NotFound}
 use Rattle.krb_walk.specs.Numbers.{code_number}
 use Rattle.krb_keytab.specs.Open.{open_fault_number}
 use Rattle.krb_ccache.specs.Open.{open_fault_number as cache_fault_number}
+use Rattle.krb_files.specs.declared.aftermath.Aftermath.{Aftermath}
+use Rattle.krb_files.specs.declared.aftermath.Aftermath.TheVariants.{LostChange, Mixed}
 use Rattle.krb_files.specs.declared.files.LoadFault.{LoadFault}
 use Rattle.krb_files.specs.declared.files.LoadFault.TheVariants as load
 use Rattle.krb_files.specs.declared.files.SaveFault.{SaveFault}
@@ -130,7 +132,17 @@ abbrev pub ending_message : List ℕ → Ending → List ℕ
 ending_message file (Ok verdict) = verdict_message file verdict
 ending_message file (Err error) = error_message file error
 
--- the exit status of the run
+-- the exit status of the run, but for what its save left behind
 abbrev pub ending_status : Ending → ℕ
 ending_status (Ok verdict) = verdict_status verdict
 ending_status (Err error) = error_status error
+
+-- the least exit status of a run whose save left this behind: not 0 if another program wrote beside it
+abbrev pub aftermath_status : Option Aftermath → ℕ
+aftermath_status (Some LostChange) = 1
+aftermath_status (Some Mixed) = 1
+aftermath_status other = 0
+
+-- the exit status of a run that ended so, and whose save left this behind
+abbrev pub end_status : Ending → Option Aftermath → ℕ
+end_status ending aftermath = max (ending_status ending) (aftermath_status aftermath)

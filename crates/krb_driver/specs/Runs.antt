@@ -6,7 +6,7 @@ use Rattle.krb_driver.specs.declared.error.RunError.{RunError}
 use Rattle.krb_driver.specs.declared.error.RunError.TheVariants.{OutputNotWritten, NoMemory}
 use Rattle.krb_driver.specs.declared.reporting.details.Details.{Details}
 use Rattle.krb_driver.specs.ErrorOutput.{ErrorWatch}
-use Rattle.krb_driver.specs.RunErrors.{Ending, ending_status}
+use Rattle.krb_driver.specs.RunErrors.{Ending, end_status}
 use Rattle.krb_driver.specs.Words.{ending_text}
 
 -- what a run prints, and how it ends
@@ -40,19 +40,19 @@ pub record Writes (old new : Watch) (text : List ℕ) : Type 0 where
 abbrev pub WritesOn : Watch → Watch → List ℕ → Type 0
 WritesOn old new text = (start : Watch) (before : List ℕ) → Writes start old before → Writes start new (before ++ text)
 
--- the end of a run over that file, or of a line of ktutil, was reported, with the words for some details of its calls
-pub record ReportsEnd (file : List ℕ) (line : Option ℕ) (ending : Ending) (err err' : ErrorWatch) : Type 0 where
-  pub details : Details
+-- the end of a run over that file, or of a line of ktutil, was reported, with the words for these details of its calls
+pub record ReportsEnd (file : List ℕ) (line : Option ℕ) (details : Details) (ending : Ending) (err err' : ErrorWatch) : Type 0 where
   pub writes : Writes err.to err'.to (ending_text err.explains file line details ending)
   pub still : err'.explains ≡ err.explains
 
--- the end was reported, and the exit status is that of the end
-pub record Reports (file : List ℕ) (line : Option ℕ) (ending : Ending) (err err' : ErrorWatch) (status : ℕ) : Type 0 where
-  pub reports : ReportsEnd file line ending err err'
-  pub status_is : status ≡ ending_status ending
+-- the end was reported, and the exit status is that of the end and of what the save left behind
+pub record Reports (file : List ℕ) (line : Option ℕ) (details : Details) (ending : Ending) (err err' : ErrorWatch) (status : ℕ) : Type 0 where
+  pub reports : ReportsEnd file line details ending err err'
+  pub status_is : status ≡ end_status ending details.aftermath
 
 -- what a run or a line prints was printed, and its end was reported
 pub record EndsRun (file : List ℕ) (line : Option ℕ) (due : Run) (out out' : Watch) (err err' : ErrorWatch) (status : ℕ) : Type 0 where
   pub ending : Ending
+  pub details : Details
   pub shows : Shows due out out' ending
-  pub reported : Reports file line ending err err' status
+  pub reported : Reports file line details ending err err' status

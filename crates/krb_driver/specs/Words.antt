@@ -1,5 +1,5 @@
 -- The words that explain what ended a run.
-use Rattle.std.specs.Prelude.{ℕ, List, [], ◌++◌, Bool, true, false, if◌then◌else◌, Option, None, Some, is_some, unwrap_or, Ok, Err, codes, decimal, unsigned_abs}
+use Rattle.std.specs.Prelude.{ℕ, List, [], ◌++◌, Bool, true, false, if◌then◌else◌, ◌||◌, Option, None, Some, is_some, option_map, unwrap_or, Ok, Err, codes, decimal, unsigned_abs}
 use Rattle.krb_walk.specs.declared.refusal.Code.{Code}
 use Rattle.krb_walk.specs.declared.refusal.Code.TheVariants.{Full, NotAPlace, NotLive}
 use Rattle.std.specs.List.{flat_map}
@@ -14,7 +14,7 @@ use Rattle.krb_ccache.specs.declared.open.CcOpenFault.{CcOpenFault}
 use Rattle.krb_ccache.specs.declared.open.CcOpenFault.TheVariants as cc
 use Rattle.krb_ccache.specs.Open.{open_fault_phrase as cc_phrase}
 use Rattle.krb_files.specs.declared.aftermath.Aftermath.{Aftermath}
-use Rattle.krb_files.specs.declared.aftermath.Aftermath.TheVariants.{LostChange}
+use Rattle.krb_files.specs.declared.aftermath.Aftermath.TheVariants.{Restored}
 use Rattle.krb_files.specs.declared.cause.Cause.{Cause}
 use Rattle.krb_files.specs.declared.cause.Cause.TheVariants.{InTheWay, System}
 use Rattle.krb_files.specs.Phrases.{aftermath_phrase, cause_phrase}
@@ -35,7 +35,7 @@ use Rattle.krb_driver.specs.declared.verdict.Findings.{Findings}
 use Rattle.krb_driver.specs.declared.verdict.Verdict.{Verdict}
 use Rattle.krb_driver.specs.declared.verdict.Verdict.TheVariants.{Well, HiddenFrom, Listed, Replied, Found, NothingToRemove, Clashed}
 use Rattle.krb_driver.specs.declared.first_word.FirstWord.{FirstWord}
-use Rattle.krb_driver.specs.FileNames.{type_of, untyped}
+use Rattle.krb_driver.specs.FileNames.{shown_name, type_of, untyped}
 use Rattle.krb_driver.specs.FirstWords.{word_text}
 use Rattle.krb_driver.specs.Hints.{hint_words}
 use Rattle.krb_driver.specs.Messages.{file_message, line_if, words_line, phrase_line}
@@ -110,23 +110,31 @@ type_in name = unwrap_or (type_of name) []
 
 -- the words for a name of a type that is not read
 abbrev pub type_words : Option ℕ → List ℕ → List ℕ
-type_words line name = words_line line (codes "only files are read, and this is " ++ (type_in name ++ codes "\n"))
+type_words line name = words_line line (codes "only files are read, and this is " ++ (shown_name (type_in name) ++ codes "\n"))
 
 -- the words for a name that begins with a type where a file is to be written
 abbrev pub typed_words : Option ℕ → List ℕ → List ℕ
 typed_words line name =
-    if is_some (untyped Keytab name) then words_line line (codes "leave out " ++ (type_in name ++ codes "\n")) else type_words line name
+    if is_some (untyped Keytab name) then words_line line (codes "leave out " ++ (shown_name (type_in name) ++ codes "\n")) else type_words line name
+
+-- the words for what keeps a save from making its new file, by its path if that is known
+abbrev pub way_words : List ℕ → Option ℕ → Option (List ℕ) → List ℕ
+way_words file line None = words_line line (shown_name file ++ codes ".krbfile is in the way\n")
+way_words file line (Some path) = words_line line (shown_name path ++ codes " is in the way\n")
 
 -- the words for the cause of a failed call, if it is known
-abbrev pub cause_words : List ℕ → Option ℕ → Option Cause → List ℕ
-cause_words file line None = []
-cause_words file line (Some InTheWay) = words_line line (file ++ codes ".krbfile is in the way\n")
-cause_words file line (Some (System number)) = words_line line (codes "error " ++ (decimal (unsigned_abs number) ++ codes "\n"))
-cause_words file line (Some cause) = phrase_line line (cause_phrase cause)
+abbrev pub cause_by : List ℕ → Option ℕ → Option (List ℕ) → Option Cause → List ℕ
+cause_by file line path None = []
+cause_by file line path (Some InTheWay) = way_words file line path
+cause_by file line path (Some (System number)) = words_line line (codes "error " ++ (decimal (unsigned_abs number) ++ codes "\n"))
+cause_by file line path (Some cause) = phrase_line line (cause_phrase cause)
+
+abbrev pub cause_words : List ℕ → Option ℕ → Details → List ℕ
+cause_words file line details = cause_by file line (option_map (λ path. path.now) details.in_the_way) details.cause
 
 -- the words for the fault that a listing reports, with the file's name and the fault's phrase
 abbrev pub listed_words : List ℕ → Fault → List ℕ
-listed_words file fault = codes "krbfile: " ++ (file ++ (codes ": fault " ++ (decimal (fault_number fault.kind) ++ (codes " at " ++ (decimal fault.place ++ (codes "\nkrbfile: " ++ (fault_phrase fault.kind ++ codes "\n")))))))
+listed_words file fault = codes "krbfile: " ++ (shown_name file ++ (codes ": fault " ++ (decimal (fault_number fault.kind) ++ (codes " at " ++ (decimal fault.place ++ (codes "\nkrbfile: " ++ (fault_phrase fault.kind ++ codes "\n")))))))
 
 -- the line for a refusal that replies report: its number and its phrase
 abbrev pub code_words : FileKind → Option Code → List ℕ
@@ -140,7 +148,7 @@ fault_words (Some kind) = codes "krbfile: fault " ++ (decimal (fault_number kind
 
 -- the words for an entry that was added and that MIT's programs do not see, as they see none from a place on
 abbrev pub hidden_words : List ℕ → Option ℕ → ℕ → List ℕ
-hidden_words file None place = codes "krbfile: " ++ (file ++ (codes ": MIT's programs see no entry from " ++ (decimal place ++ codes " on\n")))
+hidden_words file None place = codes "krbfile: " ++ (shown_name file ++ (codes ": MIT's programs see no entry from " ++ (decimal place ++ codes " on\n")))
 hidden_words file (Some line) place = codes "krbfile: line " ++ (decimal line ++ (codes ": MIT's programs see no entry from " ++ (decimal place ++ codes " on\n")))
 
 -- the same, if there is such an entry
@@ -176,28 +184,28 @@ abbrev pub unknown_words : FirstWord → List ℕ
 unknown_words word = codes "krbfile: " ++ (line_phrase UnknownWord ++ (codes ": \"" ++ (escaped_text (word_text word) ++ codes "\"\n")))
 
 -- the words that explain an error of a run over that file, or of that line of ktutil
-abbrev pub error_words : List ℕ → Option ℕ → Option Cause → RunError → List ℕ
-error_words file line cause error.InputTooLarge = phrase_line line too_large
-error_words file line cause error.InputNotRead = cause_words file line cause
-error_words file line cause (error.FaultyLine number fault) = phrase_line line (line_fault_phrase line fault)
-error_words file line cause (error.UnknownWord number word) = unknown_words word
-error_words file line cause (error.FromPassword number) = phrase_line line (codes "keys are not made from passwords here")
-error_words file line cause (error.AsksForHelp number) = phrase_line line (codes "see krbfile ktutil --help")
-error_words file line cause (error.LineRefused number code) = phrase_line line (keytab_phrase code)
-error_words file line cause (error.NoSuchFile source) = missing_words line source
-error_words file line cause (error.OtherType source) = type_words line file ++ source_words source
-error_words file line cause error.TypedName = typed_words line file
-error_words file line cause error.FileTooLarge = phrase_line line too_large
-error_words file line cause error.FileNotRead = cause_words file line cause
-error_words file line cause error.FileNotWritten = cause_words file line cause
-error_words file line cause (error.NotAKeytab why) = phrase_line line (no_keytab_phrase why.fault why.is_cache)
-error_words file line cause (error.NotAKeytabToList why) = phrase_line line (list_phrase why.fault why.is_cache)
-error_words file line cause (error.NotACache why) = phrase_line line (no_cache_phrase why.fault why.is_keytab)
-error_words file line cause (error.Refused code) = phrase_line line (keytab_phrase code)
-error_words file line cause error.NothingToCopy = phrase_line line (nothing_phrase Keytab)
-error_words file line cause error.OutputNotWritten = cause_words file line cause
-error_words file line cause error.ClockNotRead = phrase_line line (codes "the clock is before 1970 or after 2106, or failed")
-error_words file line cause error.NoMemory = []
+abbrev pub error_words : List ℕ → Option ℕ → Details → RunError → List ℕ
+error_words file line details error.InputTooLarge = phrase_line line too_large
+error_words file line details error.InputNotRead = cause_words file line details
+error_words file line details (error.FaultyLine number fault) = phrase_line line (line_fault_phrase line fault)
+error_words file line details (error.UnknownWord number word) = unknown_words word
+error_words file line details (error.FromPassword number) = phrase_line line (codes "keys are not made from passwords here")
+error_words file line details (error.AsksForHelp number) = phrase_line line (codes "see krbfile ktutil --help")
+error_words file line details (error.LineRefused number code) = phrase_line line (keytab_phrase code)
+error_words file line details (error.NoSuchFile source) = missing_words line source
+error_words file line details (error.OtherType source) = type_words line file ++ source_words source
+error_words file line details error.TypedName = typed_words line file
+error_words file line details error.FileTooLarge = phrase_line line too_large
+error_words file line details error.FileNotRead = cause_words file line details
+error_words file line details error.FileNotWritten = cause_words file line details
+error_words file line details (error.NotAKeytab why) = phrase_line line (no_keytab_phrase why.fault why.is_cache)
+error_words file line details (error.NotAKeytabToList why) = phrase_line line (list_phrase why.fault why.is_cache)
+error_words file line details (error.NotACache why) = phrase_line line (no_cache_phrase why.fault why.is_keytab)
+error_words file line details (error.Refused code) = phrase_line line (keytab_phrase code)
+error_words file line details error.NothingToCopy = phrase_line line (nothing_phrase Keytab)
+error_words file line details error.OutputNotWritten = cause_words file line details
+error_words file line details error.ClockNotRead = phrase_line line (codes "the clock is before 1970 or after 2106, or failed")
+error_words file line details error.NoMemory = []
 
 -- the words that explain the verdict of a run over that file
 abbrev pub verdict_words : List ℕ → Option ℕ → Verdict → List ℕ
@@ -210,9 +218,9 @@ verdict_words file line (Found findings) = found_words file findings
 verdict_words file line (Replied reported) = reported_words file reported
 
 -- the words that explain the end of a run
-abbrev pub ending_words : List ℕ → Option ℕ → Option Cause → Ending → List ℕ
-ending_words file line cause (Ok verdict) = verdict_words file line verdict
-ending_words file line cause (Err error) = error_words file line cause error
+abbrev pub ending_words : List ℕ → Option ℕ → Details → Ending → List ℕ
+ending_words file line details (Ok verdict) = verdict_words file line verdict
+ending_words file line details (Err error) = error_words file line details error
 
 -- words, if they are shown
 abbrev pub words_if : Bool → List ℕ → List ℕ
@@ -220,15 +228,27 @@ words_if true words = words
 words_if false words = []
 
 -- the message for the end of a run, and the words that explain it if they are shown
-abbrev pub own_text : Bool → List ℕ → Option ℕ → Option Cause → Ending → List ℕ
-own_text explains file line cause ending = ending_message file ending ++ words_if explains (ending_words file line cause ending)
+abbrev pub own_text : Bool → List ℕ → Option ℕ → Details → Ending → List ℕ
+own_text explains file line details ending = ending_message file ending ++ words_if explains (ending_words file line details ending)
 
--- the words for what a save left behind, if that is to be told
-abbrev pub aftermath_words : List ℕ → Option ℕ → Option Aftermath → List ℕ
-aftermath_words file line None = []
-aftermath_words file None (Some LostChange) = file_message file (aftermath_phrase LostChange)
-aftermath_words file line (Some aftermath) = phrase_line line (aftermath_phrase aftermath)
+-- ---- what a save left behind
 
--- the text that reports the end of a run: its message and its words, and at the end those for what its save left behind
+-- it is told where no words are shown too: all but that the old bytes are back
+abbrev pub is_message : Aftermath → Bool
+is_message Restored = false
+is_message aftermath = true
+
+-- the line that tells it
+abbrev pub aftermath_line : List ℕ → Option ℕ → Aftermath → List ℕ
+aftermath_line file None Restored = phrase_line None (aftermath_phrase Restored)
+aftermath_line file None aftermath = file_message file (aftermath_phrase aftermath)
+aftermath_line file (Some line) aftermath = phrase_line (Some line) (aftermath_phrase aftermath)
+
+-- the same, if it is to be told
+abbrev pub aftermath_text : Bool → List ℕ → Option ℕ → Option Aftermath → List ℕ
+aftermath_text explains file line None = []
+aftermath_text explains file line (Some aftermath) = words_if (explains || is_message aftermath) (aftermath_line file line aftermath)
+
+-- the text that reports the end of a run: its message and its words, and then what its save left behind
 abbrev pub ending_text : Bool → List ℕ → Option ℕ → Details → Ending → List ℕ
-ending_text explains file line details ending = own_text explains file line details.cause ending ++ words_if explains (aftermath_words file line details.aftermath)
+ending_text explains file line details ending = own_text explains file line details ending ++ aftermath_text explains file line details.aftermath

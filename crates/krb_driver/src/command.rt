@@ -1,18 +1,18 @@
 //! What a command is, and the driver that runs one.
 
 ghost use Rattle.std.specs.Prelude.{◌≡◌, ℕ, List, IsFalse};
-ghost use Rattle.krb_files.specs.Plan.{HeldIf};
-ghost use Rattle.krb_driver.specs.Commands.{Does, EndsCommand, HoldsIf, RunsCommand, ShowsEnd, output_page, made_effect, ready_end};
-ghost use Rattle.krb_driver.specs.Effects.{Page, about, can_hold};
-ghost use Rattle.krb_driver.specs.RunErrors.{ending_status};
+ghost use Rattle.krb_driver.specs.Commands.{Does, EndsCommand, RunsCommand, ShowsEnd, output_page, made_effect, ready_end};
+ghost use Rattle.krb_driver.specs.Effects.{Page, about};
+ghost use Rattle.krb_driver.specs.RunErrors.{aftermath_status, end_status, ending_status};
 
 use crate::error::RunError;
 use crate::file_name::FileName;
+use crate::holding::release;
 use crate::reporting::details::details_of;
 use crate::reporting::{report, show};
 use crate::streams::Streams;
 use crate::verdict::Verdict;
-use krb_files::{Files, Watched};
+use krb_files::{Aftermath, Files, Watched};
 use krb_wire::NoMemory;
 use std::alloc::Allocator;
 use std::io::{Read, Write};
@@ -57,6 +57,13 @@ impl<'a> From<NoMemory> for FileError<'a> {
 pub struct Output<A: Allocator> {
     pub text: Vec<u8, A>,
     pub verdict: Verdict,
+}
+
+/// How a run ended, and its exit status.
+#[derive(Clone, Copy)]
+pub struct RunEnd {
+    pub ending: Result<Verdict, RunError>,
+    pub status: u8,
 }
 
 /// What `Command::make` returns: what to show, or what to save.
@@ -139,17 +146,6 @@ pub trait Command<A: Allocator + Copy> {
             (made_effect Self.Shown.page (file self.now) result) files.new };
 }
 
-/// Holds the file of that name if `held`, unless the name is of another type.
-#[tactic(auto, using(crate::proofs::Making::makes_holds))]
-pub fn hold_if<F: Files>(held: bool, files: &mut F, file: FileName<'_>)
-    ensures held { HeldIf F.Files (can_hold held file.entry) files.old files.new }
-    ensures plans { HoldsIf F.Files files.old (can_hold held file.entry) file.entry.name.now files.new }
-{
-    if held && !file.is_other_type {
-        files.hold(file.name);
-    }
-}
-
 // Runs a command up to what it shows: makes it, and saves what it is to save.
 fn settle<'a, A: Allocator + Copy, C: Command<A>, F: Files>(
     alloc: A,
@@ -205,37 +201,55 @@ fn show_ready<A: Allocator + Copy, S: Show<A>, W: Write>(
     }
 }
 
-/// Runs a command, and returns how it ended. Releases the files before it prints anything, as the reader of the output
-/// may be slow. Reports errors on the error output; a failure to write there changes nothing else.
-pub fn run_to_end<A: Allocator + Copy, C: Command<A>, F: Files, R: Read, W: Write, E: Write>(
-    alloc: A,
-    command: &C,
-    files: &mut F,
-    streams: &mut Streams<R, W, E>,
-) -> Result<Verdict, RunError>
-    requires { IsFalse streams.old.out.failed }
-    ensures runs { EndsCommand F.Files (C.plan command.now) (C.fairly command.now) files.old files.new
-        streams.old.out streams.new.out streams.old.err streams.new.err result }
-    ensures input { streams.new.input ≡ streams.old.input }
-{
-    let ready = settle(alloc, command, files);
-    files.release();
-    let file = command.file();
-    let named = about(&ready, file);
-    let ending = show_ready(alloc, file, ready, &mut streams.out);
-    let details = details_of(&ending, files, &streams.out);
-    let _status = report(ending, named.as_bytes(), None, details, &mut streams.err);
-    ending
-}
-
-/// Returns the exit status of a run that ended so.
-pub fn status_of(ending: Result<Verdict, RunError>) -> u8
+// Returns the exit status of a run that ended so, but for what its save left behind.
+fn ending_status(ending: Result<Verdict, RunError>) -> u8
     ensures { result ≡ ending_status ending }
 {
     match ending {
         Ok(verdict) => verdict.status(),
         Err(error) => error.status(),
     }
+}
+
+// Returns the least exit status of a run whose save left that behind: not 0 if another program wrote beside it.
+fn aftermath_status(aftermath: Option<Aftermath>) -> u8
+    ensures { result ≡ aftermath_status aftermath }
+{
+    match aftermath {
+        Some(Aftermath::LostChange | Aftermath::Mixed) => 1,
+        _ => 0,
+    }
+}
+
+/// Returns the exit status of a run that ended so, and whose save left that behind.
+pub fn end_status(ending: Result<Verdict, RunError>, aftermath: Option<Aftermath>) -> u8
+    ensures { result ≡ end_status ending aftermath }
+{
+    ending_status(ending).max(aftermath_status(aftermath))
+}
+
+/// Runs a command, and returns how it ended and its exit status. Releases the files before it prints anything, as the
+/// reader of the output may be slow. Reports errors, and what the save left behind, on the error output; a failure to
+/// write there changes nothing else.
+pub fn run_to_end<A: Allocator + Copy, C: Command<A>, F: Files, R: Read, W: Write, E: Write>(
+    alloc: A,
+    command: &C,
+    files: &mut F,
+    streams: &mut Streams<R, W, E>,
+) -> RunEnd
+    requires { IsFalse streams.old.out.failed }
+    ensures runs { EndsCommand F.Files (C.plan command.now) (C.fairly command.now) files.old files.new
+        streams.old.out streams.new.out streams.old.err streams.new.err result }
+    ensures input { streams.new.input ≡ streams.old.input }
+{
+    let ready = settle(alloc, command, files);
+    release(files);
+    let file = command.file();
+    let named = about(&ready, file);
+    let ending = show_ready(alloc, file, ready, &mut streams.out);
+    let details = details_of(&ending, files, &streams.out);
+    let status = report(ending, named.as_bytes(), None, details, &mut streams.err);
+    RunEnd { ending, status }
 }
 
 /// Runs a command like `run_to_end`, and returns its exit status.
@@ -250,5 +264,5 @@ pub fn run<A: Allocator + Copy, C: Command<A>, F: Files, R: Read, W: Write, E: W
         streams.old.out streams.new.out streams.old.err streams.new.err result }
     ensures input { streams.new.input ≡ streams.old.input }
 {
-    status_of(run_to_end(alloc, command, files, streams))
+    run_to_end(alloc, command, files, streams).status
 }

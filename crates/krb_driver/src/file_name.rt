@@ -1,10 +1,12 @@
 //! The names of files: an operand may begin with a type, as in `FILE:/etc/krb5.keytab`.
 
-ghost use Rattle.std.specs.Prelude.{◌≡◌, ◌<◌, IfSome, false, length, option_copied, option_map};
+ghost use Rattle.std.specs.Prelude.{◌≡◌, ◌<◌, ◌++◌, IfSome, OnOk, false, length, option_copied, option_map};
 ghost use Rattle.std.specs.List.{list_any, position_from};
-ghost use Rattle.krb_driver.specs.FileNames.{IsNamed, has_type, is_colon, is_no_letter, is_type, stripped, type_of, untyped};
+ghost use Rattle.krb_driver.specs.FileNames.{IsNamed, has_type, is_colon, is_no_letter, is_type, name_byte, shown_name, stripped, type_of, untyped};
 
 use crate::verdict::FileKind;
+use krb_wire::NoMemory;
+use std::alloc::Allocator;
 
 /// Where the name of a file comes from.
 #[derive(Clone, Copy, Debug, PartialEq, Eq)]
@@ -123,4 +125,25 @@ impl<'a> FileName<'a> {
     {
         FileName { in_place, ..self }
     }
+}
+
+/// Returns a byte of a file's name as messages show it: a newline as `\x0a`, so that no name makes a line of its own.
+pub fn name_byte(byte: &u8) -> &[u8]
+    ensures { result.now ≡ name_byte byte.now }
+{
+    if *byte == b'\n' {
+        b"\\x0a"
+    } else {
+        std::slice::from_ref(byte)
+    }
+}
+
+/// Appends the name of a file as messages show it.
+pub fn append_name<A: Allocator>(name: &[u8], text: &mut Vec<u8, A>) -> Result<(), NoMemory>
+    ensures { OnOk result (text.new.items ≡ text.old.items ++ shown_name name.now) }
+{
+    'bytes: for byte in name {
+        text.extend_from_slice(name_byte(byte))?;
+    }
+    Ok(())
 }

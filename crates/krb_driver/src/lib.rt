@@ -6,13 +6,14 @@ mod command_line;
 mod error;
 mod file_name;
 mod first_word;
+mod holding;
 mod loading;
 mod opening;
 mod reporting;
 mod streams;
 mod verdict;
 
-pub use command::{Command, FileError, Made, Output, Show, hold_if, run, run_to_end, status_of};
+pub use command::{Command, FileError, Made, Output, RunEnd, Show, run, run_to_end};
 pub use command_line::matches::{
     Matches, first_value, spelled_name, spelled_names, spelled_seconds, times_given, typed,
     v1_order,
@@ -20,8 +21,9 @@ pub use command_line::matches::{
 pub use command_line::mistake::{BadLine, Mistake, More, WordFault};
 pub use command_line::words::{CommandName, CommandWords, DRY_RUN, IN_PLACE, V1_BIG, Word};
 pub use error::RunError;
-pub use file_name::{FileName, NameSource, type_of};
+pub use file_name::{FileName, NameSource, append_name, type_of};
 pub use first_word::FirstWord;
+pub use holding::{hold, hold_if, release};
 pub use loading::{NoKeytab, NotKeytab, load_keytab, load_or_new};
 pub use opening::{
     give_cache, give_or_empty, open_cache, open_keytab, open_listed, open_whole,

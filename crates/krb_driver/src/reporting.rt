@@ -6,6 +6,7 @@ pub(crate) mod error_output;
 mod explanation;
 mod found_words;
 mod hints;
+mod key_start;
 mod mistake_words;
 mod name_words;
 mod operand;
@@ -22,12 +23,12 @@ ghost use Rattle.krb_driver.specs.PieceTexts.{pieces_text};
 ghost use Rattle.krb_driver.specs.Runs.{Writes, WritesOn, Shows, Reports};
 ghost use Rattle.krb_driver.specs.RunErrors.{ending_message, error_message};
 ghost use Rattle.krb_driver.specs.Verdicts.{verdict_message};
-ghost use Rattle.krb_driver.specs.Words.{aftermath_words, ending_text, own_text, words_if};
+ghost use Rattle.krb_driver.specs.Words.{aftermath_text, own_text};
 
-use crate::command::status_of;
+use crate::command::end_status;
 use crate::error::RunError;
 use crate::loading::NotKeytab;
-use crate::reporting::aftermath_words::aftermath_words;
+use crate::reporting::aftermath_words::{aftermath_line, is_message};
 use crate::reporting::details::Details;
 use crate::reporting::error_output::ErrorOutput;
 use crate::reporting::found_words::report_findings;
@@ -36,7 +37,7 @@ use crate::reporting::reported_words::report_replies;
 use crate::reporting::words::ending_words;
 use crate::reporting::writing::{write_on, write_pieces};
 use crate::verdict::Verdict;
-use krb_files::{Aftermath, Cause, Watched, put};
+use krb_files::{Aftermath, Watched, put};
 use krb_text::LineFault;
 use krb_walk::Code;
 pub use mistake_words::report_word_fault;
@@ -188,10 +189,10 @@ fn report_end<E: Write>(
     ending: Result<Verdict, RunError>,
     file: &[u8],
     line: Option<u64>,
-    cause: Option<Cause>,
+    details: Details<'_>,
     err: &mut ErrorOutput<E>,
 )
-    ensures text { Writes err.old.to err.new.to (own_text err.old.explains file.now line cause ending) }
+    ensures text { Writes err.old.to err.new.to (own_text err.old.explains file.now line details.entry ending) }
     ensures still { err.new.explains ≡ err.old.explains }
 {
     let message = ending_message(ending, file);
@@ -205,7 +206,7 @@ fn report_end<E: Write>(
         _ => write_pieces(
             &mut err.to,
             &message,
-            &ending_words(ending, file, line, cause),
+            &ending_words(ending, file, line, details),
         ),
     }
 }
@@ -215,33 +216,33 @@ fn report_unless_well<E: Write>(
     ending: Result<Verdict, RunError>,
     file: &[u8],
     line: Option<u64>,
-    cause: Option<Cause>,
+    details: Details<'_>,
     err: &mut ErrorOutput<E>,
 )
-    ensures text { Writes err.old.to err.new.to (own_text err.old.explains file.now line cause ending) }
+    ensures text { Writes err.old.to err.new.to (own_text err.old.explains file.now line details.entry ending) }
     ensures still { err.new.explains ≡ err.old.explains }
 {
     match ending {
         Ok(Verdict::Well) => {}
-        _ => report_end(ending, file, line, cause, err),
+        _ => report_end(ending, file, line, details, err),
     }
 }
 
-// Tells what a save left behind, if that is to be told and `err` shows words.
+// Tells what a save left behind, if that is to be told and is a message, or `err` shows words.
 fn report_aftermath<E: Write>(
     aftermath: Option<Aftermath>,
     file: &[u8],
     line: Option<u64>,
     err: &mut ErrorOutput<E>,
 )
-    ensures text { WritesOn err.old.to err.new.to (words_if err.old.explains (aftermath_words file.now line aftermath)) }
+    ensures text { WritesOn err.old.to err.new.to (aftermath_text err.old.explains file.now line aftermath) }
     ensures still { err.new.explains ≡ err.old.explains }
 {
     let Some(aftermath) = aftermath else {
         return;
     };
-    if err.explains {
-        write_on(&mut err.to, &aftermath_words(aftermath, file, line));
+    if err.explains || is_message(aftermath) {
+        write_on(&mut err.to, &aftermath_line(aftermath, file, line));
     }
 }
 
@@ -251,13 +252,12 @@ pub fn report<E: Write>(
     ending: Result<Verdict, RunError>,
     file: &[u8],
     line: Option<u64>,
-    details: Details,
+    details: Details<'_>,
     err: &mut ErrorOutput<E>,
 ) -> u8
-    ensures reports { Reports file.now line ending err.old err.new result }
-    ensures text { Writes err.old.to err.new.to (ending_text err.old.explains file.now line details ending) }
+    ensures { Reports file.now line details.entry ending err.old err.new result }
 {
-    report_unless_well(ending, file, line, details.cause, err);
+    report_unless_well(ending, file, line, details, err);
     report_aftermath(details.aftermath, file, line, err);
-    status_of(ending)
+    end_status(ending, details.aftermath)
 }

@@ -5,6 +5,7 @@ ghost use Rattle.krb_driver.specs.Verdicts.{hiding, verdict_status};
 
 use crate::reporting::reported::Reported;
 use krb_walk::Fault;
+use krb_wire::Order;
 
 /// The kind of file that a run changes.
 #[derive(Clone, Copy)]
@@ -13,14 +14,15 @@ pub enum FileKind {
     Cache,
 }
 
-/// What was found about a keytab: which words are to be explained, which weak enctypes its entries have, the fault, and
-/// whether something is wrong.
+/// What was found about a keytab: which words are to be explained, which weak enctypes its entries have, the fault,
+/// whether something is wrong, and in which order a keytab of version 1 was read.
 #[derive(Clone, Copy)]
 pub struct Findings {
     pub words: krb_audit::FindingWords,
     pub weak_etypes: krb_audit::WeakEtypes,
     pub fault: Option<Fault>,
     pub is_wrong: bool,
+    pub v1_order: Order,
 }
 
 /// How a run that did its work ends. What it printed may report that something is wrong.

@@ -9,21 +9,24 @@ use std::io::Write;
 
 /// What the calls of a run, or of a line of ktutil, tell beside their results.
 #[derive(Clone, Copy)]
-pub struct Details {
+pub struct Details<'a> {
     /// Why a call failed, if one did and that is known.
     pub cause: Option<Cause>,
+    /// The path at which something that is not ours keeps a save from making its new file, if that is known.
+    pub in_the_way: Option<&'a str>,
     /// What the save left behind, if that is to be told.
     pub aftermath: Option<Aftermath>,
 }
 
-impl Details {
+impl<'a> Details<'a> {
     /// Returns the details of calls of which none was a save.
-    pub fn unsaved(cause: Option<Cause>) -> Details
+    pub fn unsaved(cause: Option<Cause>) -> Details<'a>
         ensures cause { result.cause ≡ cause }
         ensures aftermath { result.aftermath ≡ None }
     {
         Details {
             cause,
+            in_the_way: None,
             aftermath: None,
         }
     }
@@ -42,13 +45,16 @@ pub fn cause_of<F: Files, W: Write>(
 }
 
 /// Returns the details of a run that ended so: its cause, and what the last save of `files` left behind.
-pub fn details_of<F: Files, W: Write>(
+pub fn details_of<'a, F: Files, W: Write>(
     ending: &Result<Verdict, RunError>,
-    files: &F,
+    files: &'a F,
     out: &Watched<W>,
-) -> Details {
+) -> Details<'a>
+    ensures { result.aftermath ≡ F.Files.aftermath files.now }
+{
     Details {
         cause: cause_of(ending, files, out),
+        in_the_way: files.in_the_way(),
         aftermath: files.aftermath(),
     }
 }

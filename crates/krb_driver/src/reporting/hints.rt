@@ -1,21 +1,29 @@
 //! Hints: the commands that show what can be done about findings.
 
-ghost use Rattle.std.specs.Prelude.{◌≡◌, ◌++◌};
+ghost use Rattle.std.specs.Prelude.{◌≡◌, ◌++◌, codes};
 ghost use Rattle.std.specs.List.{flat_map};
-ghost use Rattle.krb_driver.specs.Hints.{etype_option, etype_word, hint_words, hints_for, weak_hint};
+ghost use Rattle.krb_driver.specs.Hints.{etype_option, etype_word, hint_words, hints_for, order_flag, remove_command, weak_hint};
 ghost use Rattle.krb_driver.specs.Messages.{line_if};
 ghost use Rattle.krb_driver.specs.PieceTexts.{piece_text, pieces_text};
 ghost use Rattle.krb_driver.specs.Underway.{Adds};
 
-use crate::reporting::operand::operand_of;
+use crate::reporting::operand::{are_alike, operand_of};
 use crate::reporting::piece::MessagePiece;
 use crate::reporting::writing::{Gathered, add_pieces};
 use crate::verdict::Findings;
 use krb_files::Watched;
 use krb_text::etype_name;
+use krb_wire::Order;
 use std::io::Write;
 
 const NONE: MessagePiece<'static> = MessagePiece::Text("");
+
+const TO_REMOVE: &str = "krbfile: to see what would go: krbfile ktremove";
+
+const TO_COPY: &str = "krbfile: to have each once: krbfile ktcopy";
+
+/// The pieces of a hint.
+type Hint<'a> = [MessagePiece<'a>; 5];
 
 // Returns an enctype as an operand: its name, or its number if it has none.
 fn etype_word(etype: u16) -> MessagePiece<'static>
@@ -45,24 +53,62 @@ fn add_etypes<E: Write>(etypes: &[Option<u16>], gathered: &mut Gathered, err: &m
     }
 }
 
-// Returns a hint, if its word was explained.
-fn hint_if<'a>(
-    is_explained: bool,
+// Returns the flag for big-endian keytabs of version 1, if the check was given it.
+fn order_flag(order: Order) -> &'static str
+    ensures { result.now ≡ order_flag order }
+{
+    match order {
+        Order::Big => " --v1-big",
+        Order::Little => "",
+    }
+}
+
+// Returns a hint: its head, up to the command's name, the flag of the check, and what comes before and after the operand.
+fn hint<'a>(
     head: &'static str,
+    order: Order,
+    options: &'static str,
     operand: &'a [u8],
     tail: &'static str,
-) -> [MessagePiece<'a>; 3]
-    ensures { pieces_text result ≡ line_if is_explained (head.now ++ (operand.now ++ tail.now)) }
+) -> Hint<'a>
+    ensures { pieces_text result ≡ head.now ++ (order_flag order ++ (options.now ++ (operand.now ++ tail.now))) }
 {
-    if is_explained {
-        [
-            MessagePiece::Text(head),
-            MessagePiece::Name(operand),
-            MessagePiece::Text(tail),
-        ]
-    } else {
-        [NONE, NONE, NONE]
-    }
+    [
+        MessagePiece::Text(head),
+        MessagePiece::Text(order_flag(order)),
+        MessagePiece::Text(options),
+        MessagePiece::Operand(operand),
+        MessagePiece::Text(tail),
+    ]
+}
+
+// Returns a hint if its word was explained, else nothing.
+fn hint_if<'a>(is_explained: bool, hint: Hint<'a>) -> Hint<'a>
+    ensures { pieces_text result ≡ line_if is_explained (pieces_text hint.entry) }
+{
+    if is_explained { hint } else { [NONE; 5] }
+}
+
+// Returns the dry run of ktremove, up to its options.
+fn remove_command(order: Order) -> [MessagePiece<'static>; 3]
+    ensures { pieces_text result ≡ remove_command order }
+{
+    [
+        MessagePiece::Text(TO_REMOVE),
+        MessagePiece::Text(order_flag(order)),
+        MessagePiece::Text(" -n"),
+    ]
+}
+
+// Returns the end of a hint: its operand.
+fn last_of<'a>(operand: &'a [u8]) -> [MessagePiece<'a>; 3]
+    ensures { pieces_text result ≡ codes " " ++ (operand.now ++ codes "\n") }
+{
+    [
+        MessagePiece::Text(" "),
+        MessagePiece::Operand(operand),
+        MessagePiece::Text("\n"),
+    ]
 }
 
 // Adds the hint for weak enctypes, if there is one.
@@ -77,10 +123,9 @@ fn add_weak_hint<E: Write>(
     if !findings.words.weak {
         return;
     }
-    let head = MessagePiece::Text("krbfile: to see what would go: krbfile ktremove -n");
-    add_pieces(&[head], gathered, err);
+    add_pieces(&remove_command(findings.v1_order), gathered, err);
     add_etypes(&findings.weak_etypes.found, gathered, err);
-    add_pieces(&hint_if(true, " ", operand, "\n"), gathered, err);
+    add_pieces(&last_of(operand), gathered, err);
 }
 
 // Adds the hints for a file that is this operand.
@@ -92,16 +137,15 @@ fn add_hints_for<E: Write>(
 )
     ensures { Adds err.old gathered.old.items err.new gathered.new.items (hints_for findings.now operand.now) }
 {
-    let to_remove = "krbfile: to see what would go: krbfile ktremove -n -k old ";
-    let to_copy = "krbfile: to have each once: krbfile ktcopy ";
-    let old = hint_if(findings.words.old, to_remove, operand, "\n");
-    let same = hint_if(findings.words.same, to_copy, operand, " NEW\n");
-    add_pieces(&old, gathered, err);
+    let order = findings.v1_order;
+    let old = hint(TO_REMOVE, order, " -n -k old --age 86400 ", operand, "\n");
+    let same = hint(TO_COPY, order, " ", operand, " NEW\n");
+    add_pieces(&hint_if(findings.words.old, old), gathered, err);
     add_weak_hint(findings, operand, gathered, err);
-    add_pieces(&same, gathered, err);
+    add_pieces(&hint_if(findings.words.same, same), gathered, err);
 }
 
-/// Adds the hints for findings about a file, unless its name is too long for them.
+/// Adds the hints for findings about a file, unless its name is too long for them, or shells read it in more than one way.
 pub fn add_hints<E: Write>(
     findings: &Findings,
     file: &[u8],
@@ -110,6 +154,9 @@ pub fn add_hints<E: Write>(
 )
     ensures { Adds err.old gathered.old.items err.new gathered.new.items (hint_words file.now findings.now) }
 {
+    if !are_alike(file) {
+        return;
+    }
     if let Some(operand) = operand_of(file) {
         add_hints_for(findings, operand.as_slice(), gathered, err);
     }

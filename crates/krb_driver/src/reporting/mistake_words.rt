@@ -2,8 +2,8 @@
 
 ghost use Rattle.std.specs.Prelude.{◌≡◌, ℕ, List, [], ◌++◌, codes, option_map};
 ghost use Rattle.krb_driver.specs.Messages.{message};
-ghost use Rattle.krb_driver.specs.Mistakes.{help_of, mistake_head, mistake_line, mistake_parts, mistake_words, more_words, quoted, word_status, word_text};
-ghost use Rattle.krb_driver.specs.PieceTexts.{pieces_before, pieces_text, shown_word};
+ghost use Rattle.krb_driver.specs.Mistakes.{help_of, mistake_head, mistake_line, mistake_parts, mistake_words, more_words, word_status, word_text};
+ghost use Rattle.krb_driver.specs.PieceTexts.{pieces_before, pieces_text, quoted_word, shown_word};
 ghost use Rattle.krb_driver.specs.Runs.{Writes};
 
 use crate::command_line::mistake::{BadLine, Mistake, More, WordFault};
@@ -59,14 +59,14 @@ fn after<'a>(word: &'a str, text: &'static str) -> Line<'a>
 // A word in quotes, and what is wrong with it, in two texts.
 fn quoted<'a>(word: &'a str, verb: &'static str, what: &'static str) -> Line<'a>
     ensures { (rest : List ℕ) → pieces_before result rest
-        ≡ mistake_head ++ quoted word.now verb.now (what.now ++ rest) }
+        ≡ mistake_head ++ (quoted_word word.now ++ (verb.now ++ (what.now ++ rest))) }
 {
     [
         HEAD,
-        MessagePiece::Text("\""),
-        MessagePiece::Word(word),
+        MessagePiece::Quoted(word),
         MessagePiece::Text(verb),
         MessagePiece::Text(what),
+        NONE,
     ]
 }
 
@@ -115,11 +115,11 @@ fn mistake_pieces(mistake: Mistake<'_>) -> Line<'_>
         Mistake::DoNotGoTogether(option, other) => apart(option, other),
         Mistake::ForKeytabs(option) => after(option, " is for keytabs; give -k"),
         Mistake::OnlyWith(option, other) => only_with(option, other),
-        Mistake::NoVersion(kvno) => quoted(kvno, "\" is no ", "version"),
-        Mistake::NoEtype(etype) => quoted(etype, "\" is no ", "encryption type"),
-        Mistake::NoSeconds(word) => quoted(word, "\" is no ", "number of seconds"),
-        Mistake::NoFinding(word) => quoted(word, "\" is no ", "finding"),
-        Mistake::BadName(name, fault) => quoted(name, "\" has ", fault.phrase()),
+        Mistake::NoVersion(kvno) => quoted(kvno, " is no ", "version"),
+        Mistake::NoEtype(etype) => quoted(etype, " is no ", "encryption type"),
+        Mistake::NoSeconds(word) => quoted(word, " is no ", "number of seconds"),
+        Mistake::NoFinding(word) => quoted(word, " is no ", "finding"),
+        Mistake::BadName(name, fault) => quoted(name, " has ", fault.phrase()),
         Mistake::NothingSelects(options) => before("nothing selects; give ", options),
         Mistake::LateExplain => alone("--explain stands before the command"),
         Mistake::NotText => alone("an argument is not UTF-8"),

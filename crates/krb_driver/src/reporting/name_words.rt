@@ -1,7 +1,7 @@
 //! The words about names of files, and about entries that MIT's programs do not see.
 
 ghost use Rattle.std.specs.Prelude.{◌≡◌, ◌++◌, codes, is_some};
-ghost use Rattle.krb_driver.specs.FileNames.{untyped};
+ghost use Rattle.krb_driver.specs.FileNames.{shown_name, untyped};
 ghost use Rattle.krb_driver.specs.PieceTexts.{piece_text, pieces_text};
 ghost use Rattle.krb_driver.specs.Words.{hidden_words, missing_words, source_words, type_in, type_words, typed_words};
 ghost use Rattle.krb_driver.specs.declared.verdict.FileKind.TheVariants.{Keytab};
@@ -37,7 +37,7 @@ pub fn missing_words<'a>(line: Option<u64>, source: NameSource) -> Explanation<'
 
 // Returns the type that a name begins with.
 fn type_in(name: &[u8]) -> MessagePiece<'_>
-    ensures { piece_text result ≡ type_in name.now }
+    ensures { piece_text result ≡ shown_name (type_in name.now) }
 {
     match type_of(name) {
         Some(kind) => MessagePiece::Name(kind),

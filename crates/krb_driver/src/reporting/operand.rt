@@ -2,7 +2,7 @@
 
 ghost use Rattle.std.specs.Prelude.{◌≡◌, ◌==◌, ◌<◌, length, MatchOption};
 ghost use Rattle.std.specs.List.{flat_map, list_all, list_any};
-ghost use Rattle.krb_driver.specs.Hints.{Extends, folder_for, is_plain, operand_text, quote_for, quoted_byte};
+ghost use Rattle.krb_driver.specs.Hints.{Extends, folder_for, is_alike, is_plain, operand_text, quote_for, quoted_byte};
 
 use crate::file_name::type_of;
 use arrayvec::ArrayVec;
@@ -56,6 +56,19 @@ fn quoted_byte(byte: &u8) -> &[u8]
     } else {
         std::slice::from_ref(byte)
     }
+}
+
+fn is_alike(byte: u8) -> bool
+    ensures { result ≡ is_alike byte }
+{
+    matches!(byte, b' '..=b'~') && byte != b'\\'
+}
+
+/// Returns whether all shells read a name alike.
+pub fn are_alike(name: &[u8]) -> bool
+    ensures { result ≡ list_all is_alike name.now }
+{
+    name.iter().all(|byte| is_alike(*byte))
 }
 
 // Appends a text, or returns `None` if the operand would be too long.

@@ -11,12 +11,17 @@ use arrayvec::ArrayVec;
 #[derive(Clone, Copy)]
 pub enum MessagePiece<'a> {
     Text(&'a str),
-    /// The name of a file.
+    /// The name of a file. A newline becomes `\x0a`.
     Name(&'a [u8]),
+    /// The name of a file as an operand, as it is.
+    Operand(&'a [u8]),
     /// In decimal.
     Number(u64),
-    /// A word of the command line. Each byte that is not printable becomes `\x` and two hex digits.
+    /// A word of the command line. Each byte that is not printable becomes `\x` and two hex digits, and what may be a key
+    /// is not shown.
     Word(&'a str),
+    /// The same in quotes, unless it has what may be a key.
+    Quoted(&'a str),
     /// A word of a script. Each byte that is not printable becomes `\x` and two hex digits, and a backslash is doubled.
     Escaped(FirstWord),
 }

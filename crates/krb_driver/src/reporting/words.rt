@@ -1,14 +1,15 @@
 //! The words that explain what ended a run.
 
-ghost use Rattle.std.specs.Prelude.{◌≡◌, [], ◌++◌, IfOk, IsFalse, codes, is_some};
+ghost use Rattle.std.specs.Prelude.{◌≡◌, [], ◌++◌, IfOk, IsFalse, codes, is_some, option_map};
 ghost use Rattle.krb_driver.specs.Messages.{phrase_line, words_line};
 ghost use Rattle.krb_driver.specs.PieceTexts.{piece_text, pieces_text};
 ghost use Rattle.krb_driver.specs.Verdicts.{is_itemized};
-ghost use Rattle.krb_driver.specs.Words.{cache_phrase, cause_words, ending_words, error_words, keytab_phrase, line_fault_phrase, list_phrase, listed_words, no_cache_phrase, no_keytab_phrase, nothing_phrase, refusal_phrase, unknown_words, verdict_words};
+ghost use Rattle.krb_driver.specs.Words.{cache_phrase, cause_words, ending_words, error_words, keytab_phrase, line_fault_phrase, list_phrase, listed_words, no_cache_phrase, no_keytab_phrase, nothing_phrase, refusal_phrase, unknown_words, verdict_words, way_words};
 
 use crate::error::RunError;
 use crate::first_word::FirstWord;
 use crate::loading::{NotCache, NotKeytab};
+use crate::reporting::details::Details;
 use crate::reporting::explanation::{Explanation, no_words, phrase, words};
 use crate::reporting::name_words::{hidden_words, missing_words, type_words, typed_words};
 use crate::reporting::piece::MessagePiece;
@@ -108,17 +109,31 @@ fn line_fault_phrase(line: Option<u64>, fault: LineFault) -> &'static str
     }
 }
 
-// Returns the words for the cause of a failed call, if it is known.
-fn cause_words(file: &[u8], line: Option<u64>, cause: Option<Cause>) -> Explanation<'_>
-    ensures { pieces_text result ≡ cause_words file.now line cause }
+// Returns the words for what keeps a save of `file` from making its new file, by its path if that is known.
+fn way_words<'a>(file: &'a [u8], line: Option<u64>, path: Option<&'a str>) -> Explanation<'a>
+    ensures { pieces_text result ≡ way_words file.now line (option_map (λ path. path.now) path.entry) }
 {
-    match cause {
-        None => no_words(),
-        Some(Cause::InTheWay) => words(
+    match path {
+        Some(path) => words(
+            line,
+            MessagePiece::Name(path.as_bytes()),
+            MessagePiece::Text(" is in the way"),
+        ),
+        None => words(
             line,
             MessagePiece::Name(file),
             MessagePiece::Text(".krbfile is in the way"),
         ),
+    }
+}
+
+// Returns the words for the cause of a failed call, if it is known.
+fn cause_words<'a>(file: &'a [u8], line: Option<u64>, details: Details<'a>) -> Explanation<'a>
+    ensures { pieces_text result ≡ cause_words file.now line details.entry }
+{
+    match details.cause {
+        None => no_words(),
+        Some(Cause::InTheWay) => way_words(file, line, details.in_the_way),
         Some(Cause::System(number)) => words(
             line,
             MessagePiece::Text("error "),
@@ -163,13 +178,13 @@ fn unknown_words<'a>(word: FirstWord) -> Explanation<'a>
 }
 
 // Returns the words that explain an error of a run over `file`, or of line `line` of ktutil.
-fn error_words(
+fn error_words<'a>(
     error: RunError,
-    file: &[u8],
+    file: &'a [u8],
     line: Option<u64>,
-    cause: Option<Cause>,
-) -> Explanation<'_>
-    ensures { pieces_text result ≡ error_words file.now line cause error }
+    details: Details<'a>,
+) -> Explanation<'a>
+    ensures { pieces_text result ≡ error_words file.now line details.entry error }
 {
     match error {
         RunError::InputTooLarge | RunError::FileTooLarge => phrase(line, TOO_LARGE),
@@ -187,7 +202,7 @@ fn error_words(
         RunError::InputNotRead
         | RunError::FileNotRead
         | RunError::FileNotWritten
-        | RunError::OutputNotWritten => cause_words(file, line, cause),
+        | RunError::OutputNotWritten => cause_words(file, line, details),
         RunError::NotAKeytab(why) => phrase(line, no_keytab_phrase(why)),
         RunError::NotAKeytabToList(why) => phrase(line, list_phrase(why)),
         RunError::NotACache(why) => phrase(line, no_cache_phrase(why)),
@@ -216,17 +231,17 @@ fn verdict_words(verdict: Verdict, file: &[u8], line: Option<u64>) -> Explanatio
 
 /// Returns the words that explain the end of a run over `file`, or of line `line` of ktutil. Not for replies and
 /// findings, which have more words than these.
-pub fn ending_words(
+pub fn ending_words<'a>(
     ending: Result<Verdict, RunError>,
-    file: &[u8],
+    file: &'a [u8],
     line: Option<u64>,
-    cause: Option<Cause>,
-) -> Explanation<'_>
+    details: Details<'a>,
+) -> Explanation<'a>
     requires { IfOk ending (λ verdict. IsFalse (is_itemized verdict)) }
-    ensures { pieces_text result ≡ ending_words file.now line cause ending }
+    ensures { pieces_text result ≡ ending_words file.now line details.entry ending }
 {
     match ending {
         Ok(verdict) => verdict_words(verdict, file, line),
-        Err(error) => error_words(error, file, line, cause),
+        Err(error) => error_words(error, file, line, details),
     }
 }

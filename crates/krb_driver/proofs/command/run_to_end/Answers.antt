@@ -1,5 +1,4 @@
-use Rattle.std.proofs.Common.{◌∙◌, false}
-use Rattle.krb_files.specs.Loading.{TurnsHold}
+use Rattle.std.proofs.Common.{◌∙◌}
 use Rattle.krb_driver.specs.Commands.{ready_end}
 use Rattle.krb_driver.proofs.Running.{ends-shown}
 use Rattle.krb_driver.proofs.command.run_to_end.Goals as goal
@@ -9,13 +8,6 @@ returns-clause-runs g c =
     let plan = g.C.Command.plan c.args.command.now in
     let page = g.C.Shown.Show.page in
     let end = ready_end page c.file-file.result.now c.settle-ready.result in
-    let left : TurnsHold g.F.Files false c.settle-ready.new.files c.release.new.self = record {
-      held_is = c.release.ensures.held;
-      honest = c.release.ensures.honest;
-      same = c.release.ensures.same;
-      count = c.release.ensures.count;
-      mode = c.release.ensures.mode;
-    } in
-    ends-shown g.F.Files plan (g.C.Command.fairly c.args.command.now) c.args.files.now c.settle-ready.new.files c.release.new.self c.args.streams.now.out c.show_ready-ending.new.out c.args.streams.now.err c.report-status.new.err c.report-status.result end c.show_ready-ending.result
-    (rw c.file-file.ensures c.settle-ready.ensures) left c.show_ready-ending.ensures
-    (rw (c.as_bytes.ensures.value ∙ c.about-named.ensures page) at c.report-status.ensures.reports)
+    ends-shown g.F.Files plan (g.C.Command.fairly c.args.command.now) c.args.files.now c.settle-ready.new.files c.release.new.files c.args.streams.now.out c.show_ready-ending.new.out c.args.streams.now.err c.report-status.new.err c.report-status.result end c.show_ready-ending.result c.details_of-details.result
+    (rw c.file-file.ensures c.settle-ready.ensures) c.release.ensures c.show_ready-ending.ensures
+    (rw (c.as_bytes.ensures.value ∙ c.about-named.ensures page) at c.report-status.ensures) c.details_of-details.ensures

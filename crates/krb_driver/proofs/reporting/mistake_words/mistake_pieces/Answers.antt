@@ -11,3 +11,12 @@ returns-in-BadName c = λ rest. rw (c.in-BadName.is, ← c.phrase.ensures) (c.qu
 
 pub returns-in-OnlyWith : goal.returns-in-OnlyWith
 returns-in-OnlyWith c = λ rest. rw c.in-OnlyWith.is (c.only_with.ensures rest)
+
+pub returns-in-NeedsValue : goal.returns-in-NeedsValue
+returns-in-NeedsValue c = λ rest. rw c.in-NeedsValue.is (c.after.ensures rest)
+
+pub returns-in-Twice : goal.returns-in-Twice
+returns-in-Twice c = λ rest. rw c.in-Twice.is (c.after-in-Twice.ensures rest)
+
+pub returns-in-VariableNotText : goal.returns-in-VariableNotText
+returns-in-VariableNotText c = λ rest. rw c.in-VariableNotText.is (c.after-in-VariableNotText.ensures rest)

@@ -2,7 +2,7 @@ use Rattle.std.proofs.Common.{arith, ◌<◌, ◌≤◌, length}
 use Rattle.std.proofs.lemmas.List.{take_all}
 use Rattle.krb_driver.specs.PieceTexts.{shown_byte}
 use Rattle.krb_driver.proofs.Pieces.{Adds-none, Adds-piece}
-use Rattle.krb_driver.proofs.reporting.writing.add_word.Goals as goal
+use Rattle.krb_driver.proofs.reporting.writing.add_shown.Goals as goal
 
 pub bytes-init : goal.bytes-init
 bytes-init g c = Adds-none _ _

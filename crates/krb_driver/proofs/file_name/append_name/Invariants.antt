@@ -1,0 +1,8 @@
+use Rattle.std.proofs.Common.{◌≡◌, ◌++◌, take}
+use Rattle.std.specs.List.{flat_map}
+use Rattle.krb_driver.specs.FileNames.{name_byte}
+use Rattle.krb_driver.proofs.file_name.append_name.Given as goal
+
+-- the bytes so far are appended
+abbrev pub invariant-bytes : goal.invariant-bytes
+invariant-bytes g l = l.text.items ≡ l.initial.text.items ++ flat_map name_byte (take l.byte-index l.name)
