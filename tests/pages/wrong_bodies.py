@@ -11,7 +11,7 @@ from runs.harness import Report
 WRONG_BODIES = {
     "wiping": {
         "clears-too-little": "every second byte stays as it is",
-        "leaves-bytes-as-they-are": "a block of bytes goes back as it is",
+        "fills-with-ones": "each byte of a block becomes 1, not 0",
     },
     "krb_wire": {
         "32-bits-are-read-twice": "the rest after a number begins with that number",
@@ -65,6 +65,7 @@ WRONG_BODIES = {
         "a-read-that-did-not-fail-is-told-as-failed": "an empty file is reported as one that cannot be read",
     },
     "krb_json": {
+        "controls-of-two-bytes-stay": "the characters U+0080 to U+009F are not escaped where no 7f stands beside them",
         "hexadecimal-under-the-plain-name": "bytes that are no text stand as hexadecimal under the text's name",
         "is-skey-at-1-alone": "`is_skey` is false for numbers above 1",
         "leaves-the-key-out": "an entry has no key where keys are asked for",
