@@ -6,7 +6,7 @@ use Rattle.krb_disk.specs.declared.place_stage.PlaceStage.{PlaceStage}
 use Rattle.krb_disk.specs.declared.place_stage.PlaceStage.TheVariants.{Untouched, Same, Quiet, Extended, Lengthened, Unmoved, Ready, Overwritten, Cut, Finished, Saved, Whole, Trimmed, Back, Left, Mixed, Torn, Refilled, Lacking, Cleared, Lost}
 use Rattle.krb_disk.specs.Content.{Content, Has, Writes, Cuts, CutsIf, IsPatch}
 use Rattle.krb_disk.specs.PlaceStages.{torn_to}
-use Rattle.krb_disk.specs.InPlace.{PlaceSave, PlaceCall, Watch, Pass, Extend, Sync, Recompare, Rewatch, Overwrite, Shorten, Finish, Settle, Confirm, Restore, ClearRoom, CutBack, Event, Compare, Do, Fail, Intrude, PlaceMoment, grows, shrinks, Turns, Makes, since, clears, Does, Leads, OneHas, IsLeft, HasOld, HasEnd, IsSafe}
+use Rattle.krb_disk.specs.InPlace.{PlaceSave, PlaceCall, Watch, Pass, Extend, Sync, Recompare, Rewatch, Overwrite, Shorten, Finish, Settle, Confirm, Restore, Recover, ClearRoom, CutBack, Event, Compare, Do, Fail, Intrude, PlaceMoment, grows, shrinks, Turns, Makes, since, clears, Does, Leads, OneHas, IsLeft, HasOld, HasEnd, IsSafe}
 
 -- what the patch of a save is
 abbrev Fits : PlaceSave → Type 0
@@ -374,6 +374,9 @@ new_others save b fits kept has = λ i in_old outside.
 new_gone : (save : PlaceSave) (b : Content) → Fits save → Has save.new b → Gone save b
 new_gone save b fits has = (new_front save b fits has, λ kept. new_others save b fits kept has)
 
+same_gone : (save : PlaceSave) (b c : Content) → Gone save b → All (λ i before after. after ≡ before) b c → Gone save c
+same_gone save b c gone same = (λ i before. same i ∙ gone.0 i before, λ kept. λ i in_old outside. same i ∙ gone.1 kept i in_old outside)
+
 -- a cut that failed leaves the bytes before those that are written over, and of a file that does not get shorter the others too
 cut_gone : (save : PlaceSave) (is : Bool) (b c : Content) → shrinks save ≡ is → Fits save → HasOthers save b → SomeOf (CutsIf is (length save.new)) b c → Gone save c
 cut_gone save true b c shrink fits has partly = (cut_front save true b c fits has partly, λ kept. absurd (true≢false (sym shrink ∙ kept)))
@@ -472,6 +475,11 @@ worked save cleared Restore Cleared t u b c cs fits known turns makes =
       ),
     )
 worked save cleared Restore s t u b c cs fits known turns makes = absurd turns
+worked save cleared Recover s t u b c cs fits known turns makes =
+    let is : Known save cleared Lacking b cs = rw turns.0 at known in
+    let same : All (λ i before after. after ≡ before) b c = λ i. (makes i).0 in
+    rw turns.1 ((λ i in_old. same i ∙ (makes i).1 in_old), ((same_either save b c is.1.0.0 same, ended_either save (b ∷ cs) is.1),
+    λ uncleared. (same_end save b c is.1.0.1 same, ended_end save (b ∷ cs) is.1)))
 worked save cleared ClearRoom s t u b c cs fits known turns makes =
     let is : Known save cleared Lacking b cs = rw turns.0 at known in
     rw turns.1 (
@@ -548,6 +556,10 @@ failed save cleared Restore Torn t u b c cs fits known turns makes =
 failed save cleared Restore Cleared t u b c cs fits known turns makes =
     rw turns.1 ((write_either save save.old save.first save.last b c (inl refl) known.1.0.0 makes, known.1.0), λ uncleared. absurd (true≢false (sym known.1.1 ∙ uncleared)))
 failed save cleared Restore s t u b c cs fits known turns makes = absurd turns
+failed save cleared Recover s t u b c cs fits known turns makes =
+    let is : Known save cleared Lacking b cs = rw turns.0 at known in
+    let same : All (λ i before after. after ≡ before) b c = λ i. elim (makes i) [ inl same ↦ same | inr looked ↦ looked.0 ] in
+    rw turns.2 (same_gone save b c is.0 same, ((same_either save b c is.1.0.0 same, same_end save b c is.1.0.1 same), is.1))
 failed save cleared ClearRoom s t u b c cs fits known turns makes =
     let is : Known save cleared Lacking b cs = rw turns.0 at known in
     rw turns.2 ((cut_back_either save true b c is.1.0.0 makes, ended_either save (b ∷ cs) is.1), λ uncleared. absurd (true≢false uncleared))

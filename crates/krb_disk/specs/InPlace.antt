@@ -26,6 +26,7 @@ pub data PlaceCall : Type 0 where
   Settle : PlaceCall
   Confirm : PlaceCall
   Restore : PlaceCall
+  Recover : PlaceCall
   ClearRoom : PlaceCall
   CutBack : PlaceCall
 
@@ -69,6 +70,7 @@ Turns save Confirm s t u = (s ≡ Finished) × (t ≡ Saved) × (u ≡ Finished)
 Turns save Restore Mixed t u = (t ≡ Refilled) × (u ≡ Lacking)
 Turns save Restore Torn t u = (t ≡ Refilled) × (u ≡ Lacking)
 Turns save Restore Cleared t u = (t ≡ Refilled) × (u ≡ Lost)
+Turns save Recover s t u = (s ≡ Lacking) × (t ≡ Refilled) × (u ≡ Lacking)
 Turns save ClearRoom s t u = (s ≡ Lacking) × (t ≡ Cleared) × (u ≡ Lost) × (grows save ≡ true)
 Turns save CutBack s t u = (s ≡ Whole) × (t ≡ Trimmed) × (u ≡ Left)
 Turns save call s t u = ⊥
@@ -79,6 +81,7 @@ Makes save stage Extend = Writes save.new (length save.old) (length save.new)
 Makes save stage Overwrite = Writes save.new save.first save.last
 Makes save stage Shorten = CutsIf (shrinks save) (length save.new)
 Makes save stage Restore = Writes save.old save.first (torn_to (length save.old) (length save.new) save.last stage)
+Makes save stage Recover = λ i before after. (after ≡ before) × (i < length save.old → before ≡ slice_get save.old i)
 Makes save stage ClearRoom = Cuts (length save.old)
 Makes save stage CutBack = CutsIf (grows save) (length save.old)
 Makes save stage call = λ i before after. after ≡ before

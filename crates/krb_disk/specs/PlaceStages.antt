@@ -63,6 +63,11 @@ abbrev pub unrestored : PlaceStage → PlaceStage
 unrestored place.Cleared = place.Lost
 unrestored stage = place.Lacking
 
+-- the stage after it was found that they are there, or not
+abbrev pub recovered : Bool → PlaceStage
+recovered true = place.Refilled
+recovered false = place.Lacking
+
 -- a call of the save failed
 abbrev pub HasFailed : PlaceStage → Type 0
 HasFailed stage = (stage ≡ place.Whole) ⊎ ((stage ≡ place.Mixed) ⊎ (stage ≡ place.Torn))

@@ -2,7 +2,7 @@
 
 ghost use Rattle.std.specs.Prelude.{◌≡◌, ◌⊎◌, ◌↔◌, true, length, nat_lt, IsTrue, OnOk, OnErr};
 ghost use Rattle.krb_disk.specs.Content.{AtEach, Cuts, CutsIf, IsPatch, Writes};
-ghost use Rattle.krb_disk.specs.PlaceStages.{IsToRestore, torn_to, unrestored};
+ghost use Rattle.krb_disk.specs.PlaceStages.{IsToRestore, recovered, torn_to, unrestored};
 ghost use Rattle.krb_disk.specs.declared.place_stage.PlaceStage.TheVariants.{Lengthened, Whole, Mixed, Torn, Refilled, Lacking, Cleared, Trimmed, Left, Lost};
 
 use super::{Calls, PlaceFile, describe};
@@ -39,17 +39,34 @@ impl<F> PlaceFile<F> {
     }
 }
 
+// Returns the front of the new end that an open file has room for past the old end, or `None` if it is shorter than that or
+// longer than the new bytes.
+fn end_within<'a, F: OpenFile>(file: &F, patch: Patch<'a>) -> io::Result<Option<&'a [u8]>> {
+    let len = describe(file)?.size;
+    let (old, new) = (patch.before.len() as u64, patch.after.len() as u64);
+    if len < old || len > old.max(new) {
+        return Ok(None);
+    }
+    Ok(patch.end().get(..(len - old) as usize))
+}
+
 // Returns whether what an open file has past the old end is a front of the new end.
 fn has_own_end<F: OpenFile + Read + Seek>(file: &mut F, patch: Patch<'_>) -> io::Result<bool> {
-    let len = describe(file)?.size;
-    let Ok(len) = usize::try_from(len) else {
-        return Ok(false);
-    };
-    let Some(end) = patch.after.get(patch.before.len()..len) else {
+    let Some(end) = end_within(file, patch)? else {
         return Ok(false);
     };
     file.seek(SeekFrom::Start(patch.before.len() as u64))?;
     has_bytes(file, Parts::of(end))
+}
+
+// Returns whether an open file has the old bytes, and then a front of the new end.
+fn has_old<F: OpenFile + Read + Seek>(file: &mut F, patch: Patch<'_>) -> io::Result<bool> {
+    let Some(end) = end_within(file, patch)? else {
+        return Ok(false);
+    };
+    file.rewind()?;
+    let front = patch.before;
+    has_bytes(file, Parts { front, end })
 }
 
 impl<R: rt::Files> Calls<'_, R> {
@@ -58,6 +75,18 @@ impl<R: rt::Files> Calls<'_, R> {
         ensures { old.new.stage ≡ old.old.stage }
     {
         !patch.grows() || matches!(has_own_end(&mut old.file, patch), Ok(true))
+    }
+
+    /// Returns whether each old byte is there, though they were not written back: none was written over.
+    pub fn recover(&self, old: &mut PlaceFile<R::File>, patch: Patch<'_>) -> bool
+        requires due { old.old.stage ≡ Lacking }
+        ensures { old.new.stage ≡ recovered result }
+    {
+        let has_old = matches!(has_old(&mut old.file, patch), Ok(true));
+        if has_old {
+            old.stage = PlaceStage::Refilled;
+        }
+        has_old
     }
 }
 

@@ -13,7 +13,8 @@ use krb_files::Aftermath;
 use std::io::{self, ErrorKind};
 use std::rt;
 
-// Writes back the old bytes that may be gone: if they have no room, after the file was cut to its old length.
+// Writes back the old bytes that may be gone, but where each is there. If they have no room, the file is cut to its old
+// length before.
 fn write_back<R: rt::Files>(
     calls: &Calls<'_, R>,
     file: &mut PlaceFile<R::File>,
@@ -26,13 +27,17 @@ where
     ensures ok { OnOk result (file.new.stage ≡ Refilled) }
     ensures err { OnErr result ((file.new.stage ≡ Lacking) ⊎ (file.new.stage ≡ Lost)) }
 {
-    match calls.restore(file, patch) {
-        Err(error) if has_no_room(&error) && patch.grows() && calls.owns_end(file, patch) => {
-            calls.clear_room(file, patch)?;
-            calls.restore(file, patch)
-        }
-        restored => restored,
+    let Err(error) = calls.restore(file, patch) else {
+        return Ok(());
+    };
+    if calls.recover(file, patch) {
+        return Ok(());
     }
+    if !has_no_room(&error) || !patch.grows() || !calls.owns_end(file, patch) {
+        return Err(error);
+    }
+    calls.clear_room(file, patch)?;
+    calls.restore(file, patch)
 }
 
 fn has_no_room(error: &io::Error) -> bool {
