@@ -478,8 +478,13 @@ worked save cleared Restore s t u b c cs fits known turns makes = absurd turns
 worked save cleared Recover s t u b c cs fits known turns makes =
     let is : Known save cleared Lacking b cs = rw turns.0 at known in
     let same : All (λ i before after. after ≡ before) b c = λ i. (makes i).0 in
-    rw turns.1 ((λ i in_old. same i ∙ (makes i).1 in_old), ((same_either save b c is.1.0.0 same, ended_either save (b ∷ cs) is.1),
-    λ uncleared. (same_end save b c is.1.0.1 same, ended_end save (b ∷ cs) is.1)))
+    rw turns.1 (
+      (λ i in_old. same i ∙ (makes i).1 in_old),
+      (
+        (same_either save b c is.1.0.0 same, ended_either save (b ∷ cs) is.1),
+        λ uncleared. (same_end save b c is.1.0.1 same, ended_end save (b ∷ cs) is.1),
+      ),
+    )
 worked save cleared ClearRoom s t u b c cs fits known turns makes =
     let is : Known save cleared Lacking b cs = rw turns.0 at known in
     rw turns.1 (

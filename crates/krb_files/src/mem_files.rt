@@ -226,6 +226,7 @@ impl<A: Allocator + Copy> Files for MemFiles<A> {
     fn mode(&self) -> Option<u32> {
         self.mode
     }
+
     fn aftermath(&self) -> Option<Aftermath> {
         None
     }
