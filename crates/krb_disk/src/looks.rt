@@ -18,6 +18,9 @@ use std::path::PathBuf;
 use std::time::{Duration, Instant};
 use std::{rt, thread};
 
+/// The bits of setuid and setgid.
+const SET_ID: u32 = 0o6000;
+
 /// What the system reports of a file, as `stat` does.
 #[derive(Clone, Copy, Drop)]
 pub struct Found {
@@ -61,11 +64,12 @@ impl Found {
         }
     }
 
-    /// Returns the same, longer by `count` bytes.
-    pub fn longer_by(&self, count: u64) -> Found
-        ensures { result ≡ record self.now { size = result.size } }
-    {
+    /// Returns what is to be found after `count` bytes were added: the same, but that the system clears the bits of setuid
+    /// and setgid when another user than root writes, as it did where `now` lacks them.
+    pub fn after_adding(&self, count: u64, now: &Found) -> Found {
+        let is_same_mode = (self.mode | SET_ID) == (now.mode | SET_ID);
         Found {
+            mode: if is_same_mode { now.mode } else { self.mode },
             size: self.size.saturating_add(count),
             ..*self
         }

@@ -99,11 +99,14 @@ impl<A: Allocator> Snapshot<A> {
             (Snapshot::Nothing, None) => Ok(true),
             (Snapshot::File(file), Some(found)) => Ok(is_same_plain(file, &found)),
             (Snapshot::Loaded(file, front), Some(found)) => {
-                let file = file.longer_by(end.len() as u64);
-                Ok(
-                    is_same_plain(&file, &found)
-                        && leads_to(looks, path, &file, Parts { front, end })?,
-                )
+                let is_plain = file.is_file();
+                let file = if end.is_empty() {
+                    *file
+                } else {
+                    file.after_adding(end.len() as u64, &found)
+                };
+                let bytes = Parts { front, end };
+                Ok(is_plain && is_same_plain(&file, &found) && leads_to(looks, path, &file, bytes)?)
             }
             _ => Ok(false),
         }
