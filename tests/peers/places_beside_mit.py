@@ -100,7 +100,8 @@ def check_added(report: Report, program: str) -> None:
         (keytab(HOST), ADD_LONG, "adds"), (keytab(HOST), b"cut 2\n", "removes"),
         (keytab(60, HOST), b"rewrite\n", "rewrites")))
     refused = explained(unsaved(longer), message_of(longer, "mixed"))
-    rows = [(longer, synced, refused, [FIRST, OURS, MITS]), (longer, watched, told(longer, "mixed"), [FIRST, OURS, MITS]),
+    rows = [(longer, synced, refused, [FIRST, OURS, MITS]),
+            (longer, watched, told(longer, "mixed"), [FIRST, OURS, MITS]),
             (equal, synced, told(equal, "mixed"), [MITS]), (shorter, synced, told(shorter, "mixed"), [FIRST, MITS])]
     for case, halt, wanted, names in rows:
         ours, found, theirs = added_while(program, case, halt)

@@ -170,7 +170,7 @@ def check_failures(report: Report, program: str) -> None:
 
 
 def check_talk(report: Report, program: str) -> None:
-    """Checks lines of ktutil of which one fails to write into a hole: what it left is told once, and the next is saved."""
+    """Checks lines of ktutil of which one fails to write into a hole: what it left is told once, and the next saves."""
     files = {"j": keytab(B), "k": keytab(60, HOST)}
     talk = b"rkt j\nwkt k\nwkt k.krbfile\nwkt no\nwkt k\n"
     lines = ("k: cannot write", f"line 2: {CAUSES['EIO']}", f"line 2: {AFTERMATHS['restored']}",
@@ -190,7 +190,7 @@ def steps() -> list[Step]:
     compared = [*needed(1, stat, r'open.*"k", O_RDONLY', r"\w*stat\w*\(\d", r"read\([1-9]"), Step(r"close", "")]
     ready = [*compared, *listed()]
     written = [*needed(1, r"pwrite64", r"fsync"), *ready, *needed(1, r"pwrite64", r"fsync")]
-    last = [Step(stat, ""), *(Step(call, "last look") for call in (r"\w*stat\w*\(\d", r"lseek", r"read\([1-9]"))]
+    last = [Step(stat, ""), Step(r"\w*stat\w*\(\d", ""), Step(r"lseek", "last look"), Step(r"read\([1-9]", "last look")]
     return [READ, *needed(1, stat), *lock("k", mode="O_RDWR"), *held(), *looked("/proc/self/limits"), *ready, *written,
             *last, Step(r"close", ""), PRINT]
 

@@ -1,7 +1,7 @@
 """A file that another program changes, by a handle that it has, after the comparison of a save.
 
-If it is replaced, the change is lost. In place it is kept, unless the same bytes were written. Either is told, with words
-or without; the output is as ever.
+If it is replaced, the change is lost. In place it is kept, unless the same bytes were written. Either is told, with
+words or without; the output is as ever.
 """
 
 import os
@@ -29,8 +29,8 @@ CASES_OF_ALL = (*PLACED[-6:], TALK)
 # Where a run is halted: before its rename, at the last reading of the locks, and behind it.
 HALTS = {"before": Halt("openat", 2 * READINGS, ("/proc/locks",)), "behind": Halt("?rename,?renameat,?renameat2")}
 
-# And in place: when its bytes are written over, are cut off, and are synced, and at the last reading of the locks, which
-# one that grows makes once more.
+# And in place: when its bytes are written over, cut off, and synced, and at the last reading of the locks of one
+# that grows.
 WRITTEN, CUT, SYNCED = Halt("pwrite64"), Halt("ftruncate"), Halt("fsync")
 WATCHED = Halt("openat", 3 * READINGS, ("/proc/locks",))
 

@@ -137,7 +137,8 @@ def check_names(report: Report, program: str) -> None:
         for options, words in (((), ()), ((EXPLAIN,), (cause,))):
             with folder_of({"k": NEW, "other": B_ALONE}) as folder:
                 line = Line((*options, "ktedit", "--in-place", "k"), b"cut 2\n")
-                faults = differences(explained(UNSAVED, *words), halted(program, line, folder, HALTS["syncing"], change))
+                got = halted(program, line, folder, HALTS["syncing"], change)
+                faults = differences(explained(UNSAVED, *words), got)
                 faults += tree_faults({"other": B_ALONE, **({"k": after} if after else {})}, folder)
             report.check(f"{what}, behind the sync of a save in place {' '.join(options)}", faults)
 
