@@ -73,6 +73,7 @@ WRONG_BODIES = {
     },
     "krb_audit": {
         "a-clash-is-not-wrong": "an entry whose key differs from one alike is not wrong",
+        "a-time-of-0-is-long-ago": "a newest version with the time 0 counts as old enough",
         "age-of-the-old-one": "the age that counts is that of the old entry, not of the newest",
         "expired-settings-are-asked-for": "the removal of what has expired takes configuration values too",
         "hidden-at-each": "each entry that ends MIT's reading is hidden, not the first alone",
@@ -138,6 +139,7 @@ WRONG_BODIES = {
         "saves-the-text": "what is printed is saved in the file's place",
     },
     "krb_readers": {
+        "a-missing-cache-is-enough": "a cache that is missing has a ticket to go on with",
         "a-service-ticket-is-enough": "another ticket is enough beside a ticket-granting ticket that has ended",
         "status-of-the-last": "the status of several keytabs is that of the last",
     },
@@ -148,12 +150,14 @@ WRONG_BODIES = {
     "krb_editors": {
         "a-dry-run-hides": "a dry run of ktcopy does not say what MIT's programs would not see",
         "a-dry-run-holds": "a dry run of ktremove holds the file",
+        "a-dry-run-saves": "a dry run of ccremove with --expired saves the cache",
         "a-refused-value-removes-the-old-one": "a configuration value that is refused removes the old one",
         "all-have-expired-without-a-clock": "every ticket has expired where the clock cannot be read",
         "an-input-that-was-read-is-told-as-failed": "an empty input is reported as one that cannot be read",
         "copies-past-a-clash": "what did not clash is saved though an entry clashed",
         "follows-no-rewrite": "an added entry is looked for where it was before a rewrite",
-        "new-over-TO": "the newest entries are those of the keytab that is copied to",
+        "new-over-TO": "an entry that is older than the newest of the keytab that is copied to is not new",
+        "nothing-of-a-version-is-well": "where nothing is asked for by its version or encryption type alone all is well",
         "removed-keys-stay-in-the-file": "the removed tickets stay in the file that is saved",
         "tells-of-removed-entries": "an entry that was removed again counts as added",
     },
