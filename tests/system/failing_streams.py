@@ -1,7 +1,8 @@
 """Each read and each write of each command fails, by several errors, or moves few bytes.
 
-The expected results are those of the models. An interrupted read or write counts as failed, but one in place is
-repeated. A file that was replaced is read once more, and nothing is said where that fails.
+The expected results are those of the models. An interrupted read or write counts as failed, but a write in place is
+repeated. A file that was replaced is read once more, and nothing is said where that fails; one that was saved in place
+is read once more too, and that is said.
 """
 
 from collections.abc import Iterable, Iterator
@@ -16,6 +17,7 @@ from models.modelled import NOW, Modelled, Stage, large, small
 from runs.harness import Outcome, Report, differences, message
 from runs.preload import MOST_CALLS, WHOLE, Counted, Line, Preloaded, preloaded
 from runs.random_runs import Rounds
+from system.placing import told
 
 ERRORS = (EINTR, EAGAIN, ENOSPC, ENOMEM, EACCES)
 
@@ -137,8 +139,9 @@ class Ends:
         if setting == "FAIL_INPUT":
             return end == self.of_input(given)
         if setting == "FAIL_READ":
-            # A file that is to be saved is read again before.
-            return end in self.of_loads or end in self.of_saves
+            # A file that is to be saved is read again before, and one that was saved in place after it too.
+            seen = [(told(self.run.case, "mixed"), self.run.after())] if IN_PLACE in self.run.case.words else []
+            return end in [*self.of_loads, *self.of_saves, *seen]
         if setting in ("FAIL_SAVE", "ZERO_SAVE"):
             return end in self.of_saves
         return ends_in_output(self.run, got)

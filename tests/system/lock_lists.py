@@ -27,6 +27,11 @@ OPEN_FILE = b"pos:\t0\nflags:\t0100001\nmnt_id:\t25\nino:\t131\n"
 MOUNTS = (b"24 1 0:37 / / rw,relatime - overlay overlay rw\n26 24 0:31 / /\xff rw - tmpfs t1 rw\n"
           b"25 24 0:38 / /tmp rw shared:2 - tmpfs t2 rw\n")
 
+# Lines that name the file by the inode of that description, on the device of the mount, on its own, and on another.
+INODE_LINES = {b"1: POSIX  ADVISORY  WRITE 12 00:26:131 0 EOF\n": (True, True),
+               b"1: POSIX  ADVISORY  WRITE 12 00:00:131 0 EOF\n": (True, True),
+               b"1: POSIX  ADVISORY  WRITE 12 fe:00:131 0 EOF\n": (False, False)}
+
 # A list without an end.
 ENDLESS = None
 
@@ -91,6 +96,14 @@ def check_lines(report: Report, under: Preloaded) -> None:
             report.check(f"{line}, without {[*lists]}", faults_of_save(got, is_waited))
 
 
+def check_inodes(report: Report, under: Preloaded) -> None:
+    """Checks lines that name the file by the inode of its description, where that can be read."""
+    for line, (known, unknown) in INODE_LINES.items():
+        for lists, is_waited in (({}, known), ({"mountinfo": b""}, unknown), ({"fdinfo": b""}, False)):
+            got = seen(under, {"1": line, **lists})
+            report.check(f"{line}, without {[*lists]}", faults_of_save(got, is_waited))
+
+
 def check_ends(report: Report, under: Preloaded) -> None:
     """Checks how waits end: by the clock, or if it cannot be read by the sleeps, which add up to the same."""
     for is_taken, locks, pace, cause in ENDS:
@@ -112,5 +125,5 @@ def check_two_waits(report: Report, under: Preloaded) -> None:
 def check(report: Report, program: str) -> None:
     """Runs this topic."""
     with preloaded(report, program, "lists of locks", {"k": OLD}) as under:
-        for each in (check_readings, check_lines, check_ends, check_two_waits) if under else ():
+        for each in (check_readings, check_lines, check_inodes, check_ends, check_two_waits) if under else ():
             each(report, under)
