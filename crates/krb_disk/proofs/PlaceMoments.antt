@@ -3,10 +3,10 @@ use Rattle.std.proofs.Common.{◌≡◌, ◌⊎◌, inl, inr, ℕ, ◌<◌, ◌�
 use Rattle.std.proofs.lemmas.Option.{slice_get_past}
 use Rattle.std.proofs.lemmas.Bool.{cases_lt, le-ltb, ltb-false, ltb-true, true≢false}
 use Rattle.krb_disk.specs.declared.place_stage.PlaceStage.{PlaceStage}
-use Rattle.krb_disk.specs.declared.place_stage.PlaceStage.TheVariants.{Untouched, Same, Quiet, Extended, Lengthened, Unmoved, Ready, Overwritten, Cut, Finished, Saved, Whole, Trimmed, Back, Left, Mixed, Torn, Refilled, Lacking, Cleared, Lost}
+use Rattle.krb_disk.specs.declared.place_stage.PlaceStage.TheVariants.{Untouched, Quiet, Same, Extended, Lengthened, Unlocked, Ready, Overwritten, Cut, Finished, Saved, Whole, Trimmed, Back, Left, Mixed, Torn, Refilled, Lacking, Cleared, Lost}
 use Rattle.krb_disk.specs.Content.{Content, Has, Writes, Cuts, CutsIf, IsPatch}
 use Rattle.krb_disk.specs.PlaceStages.{torn_to}
-use Rattle.krb_disk.specs.InPlace.{PlaceSave, PlaceCall, Watch, Pass, Extend, Sync, Recompare, Rewatch, Overwrite, Shorten, Finish, Settle, Confirm, Restore, Recover, ClearRoom, CutBack, Event, Compare, Do, Fail, Intrude, PlaceMoment, grows, shrinks, Turns, Makes, since, clears, Does, Leads, OneHas, IsLeft, HasOld, HasEnd, IsSafe}
+use Rattle.krb_disk.specs.InPlace.{PlaceSave, PlaceCall, Watch, Pass, Extend, Sync, Rewatch, Recompare, Overwrite, Shorten, Finish, Settle, Confirm, Restore, Recover, ClearRoom, CutBack, Event, Compare, Do, Fail, Intrude, PlaceMoment, grows, shrinks, Turns, Makes, since, clears, Does, Leads, OneHas, IsLeft, HasOld, HasEnd, IsSafe}
 
 -- what the patch of a save is
 abbrev Fits : PlaceSave → Type 0
@@ -51,12 +51,12 @@ HasNew save b = (i : ℕ) → i < length save.new → b i ≡ slice_get save.new
 
 -- what is known of the file at each stage, by whether it was cut before its old bytes were back: of its bytes, and of those since the last sync
 abbrev Known : PlaceSave → Bool → PlaceStage → Content → List Content → Type 0
-Known save cleared Untouched b cs = Each (Has save.old) (b ∷ cs)
+Known save cleared Untouched b cs = ⊥
+Known save cleared Quiet b cs = ⊥
 Known save cleared Same b cs = Each (Has save.old) (b ∷ cs)
-Known save cleared Quiet b cs = Each (Has save.old) (b ∷ cs)
 Known save cleared Extended b cs = Grown save b × (Each (HasOld save) cs × Each (Either save) cs)
 Known save cleared Lengthened b cs = Each (Grown save) (b ∷ cs)
-Known save cleared Unmoved b cs = Each (Grown save) (b ∷ cs)
+Known save cleared Unlocked b cs = Each (Grown save) (b ∷ cs)
 Known save cleared Ready b cs = Each (Grown save) (b ∷ cs)
 Known save cleared Overwritten b cs = HasOthers save b × (HasNew save b × Each (Ended save) (b ∷ cs))
 Known save cleared Cut b cs = Has save.new b × Each (Ended save) (b ∷ cs)
@@ -400,14 +400,12 @@ ended_end save = each_of (Ended save) (HasEnd save) (λ c e. e.1)
 -- what is known after a call that did what it is to do
 worked : (save : PlaceSave) (cleared : Bool) (call : PlaceCall) (s t u : PlaceStage) (b c : Content) (cs : List Content) → Fits save → Known save cleared s b cs
     → Turns save call s t u → All (Makes save s call) b c → Known save (clears call cleared) t c (since call b cs)
-worked save cleared Watch s t u b c cs fits known turns makes =
-    let is : Known save cleared Same b cs = rw turns.0 at known in
-    rw turns.1 (same_has save.old b c is.0 makes, is)
+worked save cleared Watch s t u b c cs fits known turns makes = let none : ⊥ = rw turns.0 at known in absurd none
 worked save cleared Pass s t u b c cs fits known turns makes =
-    let is : Known save cleared Quiet b cs = rw turns.0 at known in
+    let is : Known save cleared Same b cs = rw turns.0 at known in
     rw turns.1 (each_of (Has save.old) (Grown save) (old_grown save turns.3) (c ∷ b ∷ cs) (same_has save.old b c is.0 makes, is))
 worked save cleared Extend s t u b c cs fits known turns makes =
-    let is : Known save cleared Quiet b cs = rw turns.0 at known in
+    let is : Known save cleared Same b cs = rw turns.0 at known in
     rw turns.1 (
       (extend_old save b c (old_old save b is.0) (some (Writes save.new (length save.old) (length save.new)) b c makes), extend_end save b c is.0 makes),
       (each_of (Has save.old) (HasOld save) (old_old save) (b ∷ cs) is, each_of (Has save.old) (Either save) (old_either save) (b ∷ cs) is),
@@ -417,11 +415,11 @@ worked save cleared Sync Refilled t u b c cs fits known turns makes =
     rw turns.0 ((same_old save b c known.0 makes, tt), (same_either save b c known.1.0.0 makes, tt))
 worked save cleared Sync Trimmed t u b c cs fits known turns makes = rw turns.0 (same_has save.old b c known.0 makes, tt)
 worked save cleared Sync s t u b c cs fits known turns makes = absurd turns
-worked save cleared Recompare s t u b c cs fits known turns makes =
+worked save cleared Rewatch s t u b c cs fits known turns makes =
     let is : Known save cleared Lengthened b cs = rw turns.0 at known in
     rw turns.1 (same_grown save b c is.0 makes, is)
-worked save cleared Rewatch s t u b c cs fits known turns makes =
-    let is : Known save cleared Unmoved b cs = rw turns.0 at known in
+worked save cleared Recompare s t u b c cs fits known turns makes =
+    let is : Known save cleared Unlocked b cs = rw turns.0 at known in
     rw turns.1 (same_grown save b c is.0 makes, is)
 worked save cleared Overwrite s t u b c cs fits known turns makes =
     let is : Known save cleared Ready b cs = rw turns.0 at known in
@@ -498,14 +496,12 @@ worked save cleared CutBack s t u b c cs fits known turns makes =
 -- and after one that failed
 failed : (save : PlaceSave) (cleared : Bool) (call : PlaceCall) (s t u : PlaceStage) (b c : Content) (cs : List Content) → Fits save → Known save cleared s b cs
     → Turns save call s t u → SomeOf (Makes save s call) b c → Known save (clears call cleared) u c (b ∷ cs)
-failed save cleared Watch s t u b c cs fits known turns makes =
+failed save cleared Watch s t u b c cs fits known turns makes = let none : ⊥ = rw turns.0 at known in absurd none
+failed save cleared Pass s t u b c cs fits known turns makes =
     let is : Known save cleared Same b cs = rw turns.0 at known in
     rw turns.2 (same_has save.old b c is.0 (still b c makes), is)
-failed save cleared Pass s t u b c cs fits known turns makes =
-    let is : Known save cleared Quiet b cs = rw turns.0 at known in
-    rw turns.2 (same_has save.old b c is.0 (still b c makes), is)
 failed save cleared Extend s t u b c cs fits known turns makes =
-    let is : Known save cleared Quiet b cs = rw turns.0 at known in
+    let is : Known save cleared Same b cs = rw turns.0 at known in
     let old = each_of (Has save.old) (HasOld save) (old_old save) (b ∷ cs) is in
     let either = each_of (Has save.old) (Either save) (old_either save) (b ∷ cs) is in
     rw turns.2 ((extend_old save b c old.0 makes, old), (write_either save save.new (length save.old) (length save.new) b c (inr refl) either.0 makes, either))
@@ -520,15 +516,15 @@ failed save cleared Sync Trimmed t u b c cs fits known turns makes =
       (same_either save b c (old_either save b known.0) (still b c makes), (old_either save b known.0, known.1.1)),
     )
 failed save cleared Sync s t u b c cs fits known turns makes = absurd turns
-failed save cleared Recompare s t u b c cs fits known turns makes =
-    let is : Known save cleared Lengthened b cs = rw turns.0 at known in
-    rw turns.2 (grown_whole save b c cs is (still b c makes))
 failed save cleared Rewatch s t u b c cs fits known turns makes =
-    let is : Known save cleared Unmoved b cs = rw turns.0 at known in
+    let is : Known save cleared Lengthened b cs = rw turns.0 at known in
     elim turns.2 [
       | inl whole ↦ rw whole (grown_whole save b c cs is (still b c makes))
       | inr again ↦ rw again (same_grown save b c is.0 (still b c makes), is)
     ]
+failed save cleared Recompare s t u b c cs fits known turns makes =
+    let is : Known save cleared Unlocked b cs = rw turns.0 at known in
+    rw turns.2 (grown_whole save b c cs is (still b c makes))
 failed save cleared Overwrite s t u b c cs fits known turns makes =
     let is : Known save cleared Ready b cs = rw turns.0 at known in
     let ended = each_of (Grown save) (Ended save) (grown_ended save) (b ∷ cs) is in
@@ -618,12 +614,12 @@ left_has bytes cs left all is = λ i. one_of (λ j x. x ≡ slice_get bytes j) c
 
 -- each byte of each content is the old or the new one
 eithers : (save : PlaceSave) (cleared : Bool) (stage : PlaceStage) (b : Content) (cs : List Content) → Known save cleared stage b cs → Each (Either save) (b ∷ cs)
-eithers save cleared Untouched b cs known = each_of (Has save.old) (Either save) (old_either save) (b ∷ cs) known
+eithers save cleared Untouched b cs known = absurd known
 eithers save cleared Same b cs known = each_of (Has save.old) (Either save) (old_either save) (b ∷ cs) known
-eithers save cleared Quiet b cs known = each_of (Has save.old) (Either save) (old_either save) (b ∷ cs) known
+eithers save cleared Quiet b cs known = absurd known
 eithers save cleared Extended b cs known = (grown_either save b known.0, known.1.1)
 eithers save cleared Lengthened b cs known = each_of (Grown save) (Either save) (grown_either save) (b ∷ cs) known
-eithers save cleared Unmoved b cs known = each_of (Grown save) (Either save) (grown_either save) (b ∷ cs) known
+eithers save cleared Unlocked b cs known = each_of (Grown save) (Either save) (grown_either save) (b ∷ cs) known
 eithers save cleared Ready b cs known = each_of (Grown save) (Either save) (grown_either save) (b ∷ cs) known
 eithers save cleared Overwritten b cs known = ended_either save (b ∷ cs) known.1.1
 eithers save cleared Cut b cs known = ended_either save (b ∷ cs) known.1
@@ -645,12 +641,12 @@ abbrev Ordered : PlaceSave → List Content → Type 0
 Ordered save cs = Each (HasOld save) cs ⊎ Each (HasEnd save) cs
 
 ordered : (save : PlaceSave) (cleared : Bool) (stage : PlaceStage) (b : Content) (cs : List Content) → Known save cleared stage b cs → cleared ≡ false → Ordered save (b ∷ cs)
-ordered save cleared Untouched b cs known uncleared = inl (each_of (Has save.old) (HasOld save) (old_old save) (b ∷ cs) known)
+ordered save cleared Untouched b cs known uncleared = absurd known
 ordered save cleared Same b cs known uncleared = inl (each_of (Has save.old) (HasOld save) (old_old save) (b ∷ cs) known)
-ordered save cleared Quiet b cs known uncleared = inl (each_of (Has save.old) (HasOld save) (old_old save) (b ∷ cs) known)
+ordered save cleared Quiet b cs known uncleared = absurd known
 ordered save cleared Extended b cs known uncleared = inl (known.0.0, known.1.0)
 ordered save cleared Lengthened b cs known uncleared = inl (each_of (Grown save) (HasOld save) (λ c grown. grown.0) (b ∷ cs) known)
-ordered save cleared Unmoved b cs known uncleared = inl (each_of (Grown save) (HasOld save) (λ c grown. grown.0) (b ∷ cs) known)
+ordered save cleared Unlocked b cs known uncleared = inl (each_of (Grown save) (HasOld save) (λ c grown. grown.0) (b ∷ cs) known)
 ordered save cleared Ready b cs known uncleared = inl (each_of (Grown save) (HasOld save) (λ c grown. grown.0) (b ∷ cs) known)
 ordered save cleared Overwritten b cs known uncleared = inr (ended_end save (b ∷ cs) known.1.1)
 ordered save cleared Cut b cs known uncleared = inr (ended_end save (b ∷ cs) known.1)

@@ -3,7 +3,7 @@ use Rattle.std.specs.Prelude.{◌≡◌, ◌⊎◌, ℕ, ◌<◌, ◌≤◌, nat
 use Rattle.krb_disk.specs.Content.{Content, Has, Writes, Cuts, CutsIf, IsPatch}
 use Rattle.krb_disk.specs.PlaceStages.{torn_to}
 use Rattle.krb_disk.specs.declared.place_stage.PlaceStage.{PlaceStage}
-use Rattle.krb_disk.specs.declared.place_stage.PlaceStage.TheVariants.{Untouched, Same, Quiet, Extended, Lengthened, Unmoved, Ready, Overwritten, Cut, Finished, Saved, Whole, Trimmed, Back, Left, Mixed, Torn, Refilled, Lacking, Cleared, Lost}
+use Rattle.krb_disk.specs.declared.place_stage.PlaceStage.TheVariants.{Untouched, Quiet, Same, Extended, Lengthened, Unlocked, Ready, Overwritten, Cut, Finished, Saved, Whole, Trimmed, Back, Left, Mixed, Torn, Refilled, Lacking, Cleared, Lost}
 
 -- a save in place: the old bytes, the new ones, and the places from which and up to which old ones are written over
 pub record PlaceSave : Type 0 where
@@ -18,8 +18,8 @@ pub data PlaceCall : Type 0 where
   Pass : PlaceCall
   Extend : PlaceCall
   Sync : PlaceCall
-  Recompare : PlaceCall
   Rewatch : PlaceCall
+  Recompare : PlaceCall
   Overwrite : PlaceCall
   Shorten : PlaceCall
   Finish : PlaceCall
@@ -54,14 +54,14 @@ shrinks save = nat_lt (length save.new) (length save.old)
 
 -- the stage at which a call is due, and those after it: if it does what it is to do, and if it fails
 abbrev pub Turns : PlaceSave → PlaceCall → PlaceStage → PlaceStage → PlaceStage → Type 0
-Turns save Watch s t u = (s ≡ Same) × (t ≡ Quiet) × (u ≡ Untouched)
-Turns save Pass s t u = (s ≡ Quiet) × (t ≡ Ready) × (u ≡ Untouched) × (grows save ≡ false)
-Turns save Extend s t u = (s ≡ Quiet) × (t ≡ Extended) × (u ≡ Whole)
+Turns save Watch s t u = (s ≡ Untouched) × (t ≡ Quiet) × (u ≡ Untouched)
+Turns save Pass s t u = (s ≡ Same) × (t ≡ Ready) × (u ≡ Same) × (grows save ≡ false)
+Turns save Extend s t u = (s ≡ Same) × (t ≡ Extended) × (u ≡ Whole)
 Turns save Sync Extended t u = (t ≡ Lengthened) × (u ≡ Whole)
 Turns save Sync Refilled t u = (t ≡ Whole) × (u ≡ Lost)
 Turns save Sync Trimmed t u = (t ≡ Back) × (u ≡ Left)
-Turns save Recompare s t u = (s ≡ Lengthened) × (t ≡ Unmoved) × (u ≡ Whole)
-Turns save Rewatch s t u = (s ≡ Unmoved) × (t ≡ Ready) × ((u ≡ Whole) ⊎ (u ≡ Lengthened))
+Turns save Rewatch s t u = (s ≡ Lengthened) × (t ≡ Unlocked) × ((u ≡ Whole) ⊎ (u ≡ Lengthened))
+Turns save Recompare s t u = (s ≡ Unlocked) × (t ≡ Ready) × (u ≡ Whole)
 Turns save Overwrite s t u = (s ≡ Ready) × (t ≡ Overwritten) × (u ≡ Mixed)
 Turns save Shorten s t u = (s ≡ Overwritten) × (t ≡ Cut) × (u ≡ Torn)
 Turns save Finish s t u = (s ≡ Cut) × (t ≡ Finished) × (u ≡ Torn)
@@ -99,7 +99,7 @@ clears call cleared = cleared
 
 -- the file is compared, and has the old bytes, which a crash would leave
 pub record Compares (save : PlaceSave) (m n : PlaceMoment) : Type 0 where
-  pub due : m.stage ≡ Untouched
+  pub due : m.stage ≡ Quiet
   pub has : Has save.old m.bytes
   pub synced : m.earlier ≡ []
   pub now : n ≡ record m { stage = Same; alone = true; cleared = false }

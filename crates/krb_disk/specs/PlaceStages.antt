@@ -5,33 +5,37 @@ use Rattle.krb_files.specs.declared.aftermath.Aftermath.TheVariants.{Restored, D
 use Rattle.krb_disk.specs.declared.place_stage.PlaceStage.{PlaceStage}
 use Rattle.krb_disk.specs.declared.place_stage.PlaceStage.TheVariants as place
 
--- the old file is to be compared, before it is written to or after its new end was
-abbrev pub IsToCompare : PlaceStage → Type 0
-IsToCompare stage = (stage ≡ place.Untouched) ⊎ (stage ≡ place.Lengthened)
+-- the list of locks is to be read, before the old file is written to or after its new end was
+abbrev pub IsToWatch : PlaceStage → Type 0
+IsToWatch stage = (stage ≡ place.Untouched) ⊎ (stage ≡ place.Lengthened)
 
--- the stage after it was compared
-abbrev pub compared_in_place : Bool → PlaceStage → PlaceStage
-compared_in_place true place.Lengthened = place.Unmoved
-compared_in_place false place.Lengthened = place.Whole
-compared_in_place true stage = place.Same
-compared_in_place false stage = place.Untouched
-
--- it was just found as it is to be
-abbrev pub IsCompared : PlaceStage → Type 0
-IsCompared stage = (stage ≡ place.Same) ⊎ (stage ≡ place.Unmoved)
-
--- the stage after the list of locks was read
+-- the stage after that
 abbrev pub watched_in_place : Bool → PlaceStage → PlaceStage
-watched_in_place true place.Unmoved = place.Ready
-watched_in_place false place.Unmoved = place.Lengthened
+watched_in_place true place.Lengthened = place.Unlocked
+watched_in_place false place.Lengthened = place.Lengthened
 watched_in_place true stage = place.Quiet
 watched_in_place false stage = place.Untouched
 
--- the stage before a comparison, from which a try begins anew
-abbrev pub before_look : PlaceStage → PlaceStage
-before_look place.Unmoved = place.Lengthened
-before_look place.Ready = place.Lengthened
-before_look stage = place.Untouched
+-- no program had it locked just now
+abbrev pub IsWatched : PlaceStage → Type 0
+IsWatched stage = (stage ≡ place.Quiet) ⊎ (stage ≡ place.Unlocked)
+
+-- the stage after it was compared
+abbrev pub compared_in_place : Bool → PlaceStage → PlaceStage
+compared_in_place true place.Unlocked = place.Ready
+compared_in_place false place.Unlocked = place.Whole
+compared_in_place true stage = place.Same
+compared_in_place false stage = place.Untouched
+
+-- the stage after both looks, if another program did not have it
+abbrev pub looked : PlaceStage → PlaceStage
+looked place.Lengthened = place.Ready
+looked stage = place.Same
+
+-- and if a look failed, or it was not the same
+abbrev pub unlooked : PlaceStage → PlaceStage
+unlooked place.Lengthened = place.Whole
+unlooked stage = place.Untouched
 
 -- it is to be synced: with its new end, or with the old bytes, or with its old length
 abbrev pub IsToSync : PlaceStage → Type 0

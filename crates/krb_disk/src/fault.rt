@@ -33,13 +33,17 @@ pub struct Unsaved {
 }
 
 impl Unsaved {
-    /// Returns why a save in place was not made, and what that left. If it left something, memory is not what is told.
+    /// Returns why a save in place was not made, and what that left. Where another program wrote beside it, a part of it
+    /// may be there, and where it left something, memory is not what is told.
     pub fn leaving(why: DiskFault, aftermath: Option<Aftermath>) -> Unsaved
         ensures refused { IsUndone aftermath → IsRefused result }
         ensures left { result.aftermath ≡ aftermath }
     {
         let why = match (why, aftermath) {
-            (DiskFault::NoMemory, Some(_)) => DiskFault::Failed(Cause::Changed),
+            (DiskFault::NoMemory, Some(_)) => DiskFault::Failed(Cause::InUse),
+            (DiskFault::Failed(Cause::Changed), Some(Aftermath::Mixed)) => {
+                DiskFault::Failed(Cause::InUse)
+            }
             (why, _) => why,
         };
         Unsaved { why, aftermath }

@@ -1,10 +1,10 @@
 //! A save in place.
 
-ghost use Rattle.std.specs.Prelude.{◌≡◌, ◌⊎◌, ◌∷◌, true, false, length, IfErr, IfOk, OnOk, OnErr, string_bytes};
+ghost use Rattle.std.specs.Prelude.{◌≡◌, ◌⊎◌, ◌∷◌, length, IfErr, IfOk, IsFalse, IsTrue, OnOk, OnErr, string_bytes};
 ghost use Rattle.krb_disk.specs.Aftermaths.{IsDone, IsRefused};
 ghost use Rattle.krb_disk.specs.Content.{AtEach, IsPatch, Replaces, TurnsInto, Writes};
-ghost use Rattle.krb_disk.specs.PlaceStages.{HasFailed, IsAftermath, IsToCompare, compared_in_place, watched_in_place};
-ghost use Rattle.krb_disk.specs.declared.place_stage.PlaceStage.TheVariants.{Untouched, Quiet, Ready, Finished, Saved, Whole};
+ghost use Rattle.krb_disk.specs.PlaceStages.{HasFailed, IsAftermath, IsToWatch, looked, unlooked};
+ghost use Rattle.krb_disk.specs.declared.place_stage.PlaceStage.TheVariants.{Same, Ready, Finished, Saved, Whole};
 
 mod bring_back;
 
@@ -20,7 +20,7 @@ use krb_files::{Aftermath, Cause};
 use std::rt;
 
 // Returns whether no program has the file locked. Fails unless it is still as it was loaded, with `end` behind that once
-// it was added.
+// it was added. The bytes are compared last, as what another program writes before that is not lost.
 fn is_ready<R: rt::Files + rt::Clock + Alloc>(
     calls: &Calls<'_, R>,
     file: &mut PlaceFile<R::File>,
@@ -28,15 +28,18 @@ fn is_ready<R: rt::Files + rt::Clock + Alloc>(
     end: &[u8],
     deadline: &Deadline,
 ) -> Result<bool, DiskFault>
-    requires { IsToCompare file.old.stage }
-    ensures ok { IfOk result (λ is. file.new
-        ≡ record file.old { stage = watched_in_place is (compared_in_place true file.old.stage) }) }
-    ensures err { OnErr result (file.new ≡ record file.old { stage = compared_in_place false file.old.stage }) }
+    requires { IsToWatch file.old.stage }
+    ensures ready { IfOk result (λ is. IsTrue is → file.new ≡ record file.old { stage = looked file.old.stage }) }
+    ensures locked { IfOk result (λ is. IsFalse is → file.new ≡ file.old) }
+    ensures err { OnErr result (file.new ≡ record file.old { stage = unlooked file.old.stage }) }
 {
+    if !calls.watch_in_place(file, &old.snapshot, deadline)? {
+        return Ok(false);
+    }
     if !calls.compare_in_place(file, old.target.path(), &old.snapshot, end)? {
         return Err(DiskFault::Failed(Cause::Changed));
     }
-    calls.watch_in_place(file, &old.snapshot, deadline)
+    Ok(true)
 }
 
 // Waits until no program has the file locked. Fails if another program changed it since it was loaded.
@@ -47,11 +50,10 @@ fn check<R: rt::Files + rt::Clock + Alloc>(
     end: &[u8],
     deadline: &mut Deadline,
 ) -> Result<(), DiskFault>
-    requires { IsToCompare file.old.stage }
-    ensures ok { OnOk result (file.new
-        ≡ record file.old { stage = watched_in_place true (compared_in_place true file.old.stage) }) }
+    requires { IsToWatch file.old.stage }
+    ensures ok { OnOk result (file.new ≡ record file.old { stage = looked file.old.stage }) }
     ensures err { OnErr result ((file.new.stage ≡ file.old.stage)
-        ⊎ (file.new.stage ≡ compared_in_place false file.old.stage)) }
+        ⊎ (file.new.stage ≡ unlooked file.old.stage)) }
 {
     for _ in 0..=MOST_TRIES {
         if is_ready(calls, file, old, end, deadline)? {
@@ -73,7 +75,7 @@ fn lengthen<R: rt::Files + rt::Clock + Alloc>(
 ) -> Result<(), DiskFault>
 where
     R::File: WriteInPlace,
-    requires { file.old.stage ≡ Quiet }
+    requires { file.old.stage ≡ Same }
     ensures ok { OnOk result (file.new.stage ≡ Ready) }
     ensures err { OnErr result (file.new.stage ≡ Whole) }
     ensures writes { OnOk result (AtEach (Writes patch.entry.after.now (length patch.entry.before.now) (length patch.entry.after.now))
@@ -128,7 +130,7 @@ fn write<R: rt::Files + rt::Clock + Alloc>(
 ) -> Result<(), DiskFault>
 where
     R::File: WriteInPlace,
-    requires quiet { file.old.stage ≡ Quiet }
+    requires same { file.old.stage ≡ Same }
     requires patch { IsPatch patch.before.now patch.after.now patch.first patch.last }
     ensures ok { OnOk result (file.new.stage ≡ Finished) }
     ensures err { OnErr result (HasFailed file.new.stage) }
@@ -149,7 +151,7 @@ fn change<R: rt::Files + rt::Clock + Alloc>(
 ) -> Result<Option<Aftermath>, Unsaved>
 where
     R::File: WriteInPlace,
-    requires quiet { file.old.stage ≡ Quiet }
+    requires same { file.old.stage ≡ Same }
     requires patch { IsPatch patch.before.now patch.after.now patch.first patch.last }
     ensures stage { OnOk result (file.new.stage ≡ Saved) }
     ensures done { IfOk result IsDone }

@@ -5,17 +5,17 @@
 pub enum PlaceStage {
     /// Nothing of it is known.
     Untouched,
-    /// It was found as it was loaded.
-    Same,
-    /// And then no program had it locked.
+    /// No program had it locked.
     Quiet,
+    /// And then it was found as it was loaded.
+    Same,
     /// The bytes past its old end were written.
     Extended,
     /// And synced.
     Lengthened,
-    /// And then it was found with just these bytes past the old ones.
-    Unmoved,
-    /// No program had it locked, and its new end, if there is one, is there: old bytes may be written over.
+    /// And then no program had it locked.
+    Unlocked,
+    /// It was found with just these bytes past the old ones, or has none to be added: old bytes may be written over.
     Ready,
     /// Those that differ were written over.
     Overwritten,

@@ -3,8 +3,8 @@
 ghost use Rattle.std.specs.Prelude.{◌≡◌, ◌≤◌, ◌⊎◌, ◌∷◌, false, length, nat_lt, IfOk, OnOk, OnErr, Some, string_bytes};
 ghost use Rattle.krb_disk.specs.Aftermaths.{IsDone};
 ghost use Rattle.krb_disk.specs.Content.{AtEach, CutsIf, IsPatch, Writes};
-ghost use Rattle.krb_disk.specs.PlaceStages.{IsCompared, IsToCompare, IsToSync, before_look, compared_in_place, synced_in_place, unsynced, watched_in_place};
-ghost use Rattle.krb_disk.specs.declared.place_stage.PlaceStage.TheVariants.{Quiet, Extended, Ready, Overwritten, Cut, Finished, Saved, Whole, Mixed, Torn};
+ghost use Rattle.krb_disk.specs.PlaceStages.{IsToSync, IsToWatch, IsWatched, compared_in_place, synced_in_place, unlooked, unsynced, watched_in_place};
+ghost use Rattle.krb_disk.specs.declared.place_stage.PlaceStage.TheVariants.{Same, Extended, Ready, Overwritten, Cut, Finished, Saved, Whole, Mixed, Torn};
 
 use super::log::Log;
 use super::{Calls, PlaceFile, describe};
@@ -28,7 +28,7 @@ use std::rt;
 impl<F> PlaceFile<F> {
     /// Nothing is to be written past the old end.
     pub fn pass(&mut self, _patch: Patch<'_>)
-        requires due { self.old.stage ≡ Quiet }
+        requires due { self.old.stage ≡ Same }
         requires ends { nat_lt (length _patch.before.now) (length _patch.after.now) ≡ false }
         ensures { self.new ≡ record self.old { stage = Ready } }
     {
@@ -55,11 +55,11 @@ impl<R: rt::Files> Calls<'_, R> {
         snapshot: &Snapshot<A>,
         end: &[u8],
     ) -> Result<bool, DiskFault>
-        requires due { IsToCompare old.old.stage }
+        requires due { IsWatched old.old.stage }
         ensures stage { IfOk result (λ is. old.new ≡ record old.old { stage = compared_in_place is old.old.stage }) }
         ensures err { OnErr result (old.new ≡ record old.old { stage = compared_in_place false old.old.stage }) }
     {
-        let was_lengthened = old.stage == PlaceStage::Lengthened;
+        let was_lengthened = old.stage == PlaceStage::Unlocked;
         old.stage = if was_lengthened {
             PlaceStage::Whole
         } else {
@@ -69,7 +69,7 @@ impl<R: rt::Files> Calls<'_, R> {
         let is_same = snapshot.is_at(&self.looks, path, end)?;
         if is_same {
             old.stage = if was_lengthened {
-                PlaceStage::Unmoved
+                PlaceStage::Ready
             } else {
                 PlaceStage::Same
             };
@@ -168,7 +168,7 @@ where
 {
     /// Writes the new bytes past the old end.
     pub fn extend(&self, old: &mut PlaceFile<R::File>, patch: Patch<'_>) -> io::Result<()>
-        requires due { old.old.stage ≡ Quiet }
+        requires due { old.old.stage ≡ Same }
         requires grows { length patch.before.now ≤ length patch.after.now }
         ensures ok { OnOk result (old.new.stage ≡ Extended) }
         ensures err { OnErr result (old.new.stage ≡ Whole) }
@@ -221,23 +221,21 @@ where
 }
 
 impl<R: rt::Files + rt::Clock + Alloc> Calls<'_, R> {
-    /// Returns whether no program has or awaits a record lock on the old file that was compared, not even to read.
+    /// Returns whether no program has or awaits a record lock on the old file, not even to read.
     pub fn watch_in_place(
         &self,
         old: &mut PlaceFile<R::File>,
         snapshot: &Snapshot<R::A>,
         deadline: &Deadline,
     ) -> Result<bool, DiskFault>
-        requires due { IsCompared old.old.stage }
-        ensures err { OnErr result (old.new ≡ record old.old { stage = compared_in_place false (before_look old.old.stage) }) }
+        requires due { IsToWatch old.old.stage }
+        ensures err { OnErr result (old.new ≡ record old.old { stage = unlooked old.old.stage }) }
         ensures stage { IfOk result (λ is. old.new ≡ record old.old { stage = watched_in_place is old.old.stage }) }
     {
-        let was_lengthened = old.stage == PlaceStage::Unmoved;
-        old.stage = if was_lengthened {
-            PlaceStage::Whole
-        } else {
-            PlaceStage::Untouched
-        };
+        let was_lengthened = old.stage == PlaceStage::Lengthened;
+        if was_lengthened {
+            old.stage = PlaceStage::Whole;
+        }
         let is_quiet = match snapshot.file() {
             Some(found) => self.is_quiet(&found, old.listed, LockKind::AnyRecord, deadline)?,
             None => true,
@@ -246,7 +244,7 @@ impl<R: rt::Files + rt::Clock + Alloc> Calls<'_, R> {
             (false, false) => PlaceStage::Untouched,
             (false, true) => PlaceStage::Quiet,
             (true, false) => PlaceStage::Lengthened,
-            (true, true) => PlaceStage::Ready,
+            (true, true) => PlaceStage::Unlocked,
         };
         Ok(is_quiet)
     }
