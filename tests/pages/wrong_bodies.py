@@ -137,7 +137,6 @@ WRONG_BODIES = {
     "krb_editors": {
         "a-dry-run-hides": "a dry run of ktcopy does not say what MIT's programs would not see",
         "a-dry-run-holds": "a dry run of ktremove holds the file",
-        "a-dry-run-saves": "a dry run of ccremove with --expired saves the cache",
         "a-refused-value-removes-the-old-one": "a configuration value that is refused removes the old one",
         "all-have-expired-without-a-clock": "every ticket has expired where the clock cannot be read",
         "an-input-that-was-read-is-told-as-failed": "an empty input is reported as one that cannot be read",
