@@ -129,6 +129,10 @@ MET = [
          ["copied 46 kvno 3 etype 17 @R"], keytab(replace(OTHER, components=(b"",)), replace(B, components=()))),
 ]
 
+# As many entries as one keytab rarely has, each of another version, and where each stands.
+MANY = [replace(B, version8=kvno % 256, version32=kvno) for kvno in range(1, 1_501)]
+MANY_LINES = [f"{done} {2 + 45 * at} kvno {at + 1} etype 17 b@R" for at in range(1_500) for done in ("removed", "copied")]
+
 V1, V1_BIG = (old(HOST, B, order=order) for order in ("little", BIG))
 ODD = replace(B, name_type=7, timestamp=2**32 - 1, version8=255, enctype=65_535, key=b"k", version32=2**32 - 1)
 UNTYPED = keytab(*(replace(entry, name_type=0) for entry in (HOST, B)))
@@ -225,6 +229,8 @@ def large() -> list[Case]:
 
 CASES = [
     *SELECTED, *MET, *PLACED, *ORDER,
+    copy("many other keys", "--replace", keytab(*MANY), keytab(*(replace(one, key=bytes(16)) for one in MANY)),
+         MANY_LINES, keytab(*MANY)),
     *(Case(f"ktcopy {line}", ("ktcopy", *line.split()), BAD_LINE, {"k": TWO, "t": keytab(B)}) for line in REFUSED),
     *(Case(f"ktcopy {line}", ("ktcopy", *line), BAD_LINE, {"k": TWO}) for line in (
         ("k", b"\xff"), (b"\xff", "t"), ("-p", b"\xff@R", "k", "t"), ("k", "t", ""), ("-k", "", "k", "t"))),

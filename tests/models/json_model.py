@@ -1,6 +1,7 @@
 """What `klist --json` prints, computed from the rules of the format, as Python's JSON encoder spells it."""
 
 import json
+import re
 
 from keytabs.columns import NAMES
 from models.cache_reading import Credential, read_cache
@@ -68,9 +69,15 @@ def config_object(place: int, entry: Credential) -> dict[str, Value]:
     return {"place": place, **text_member("key", key), **about, **text_member("value", entry.ticket)}
 
 
-def spelled(value: Value) -> bytes:
+def spelled(value: Value) -> str:
+    """Returns the text of a value. Python's encoder leaves the control characters from U+007F on as they are."""
+    text = json.dumps(value, ensure_ascii=False, separators=(",", ":"))
+    return re.sub("[\x7f-\x9f]", lambda control: rf"\u{ord(control[0]):04x}", text)
+
+
+def line_of(value: Value) -> bytes:
     """Returns the text of an object, and a newline."""
-    return json.dumps(value, ensure_ascii=False, separators=(",", ":")).encode() + b"\n"
+    return spelled(value).encode() + b"\n"
 
 
 def keytab_json(image: bytes, v1_big: bool = False, shows_keys: bool = False) -> Outcome:
@@ -86,7 +93,7 @@ def keytab_json(image: bytes, v1_big: bool = False, shows_keys: bool = False) ->
         "entries": [entry_object(place, entry, shows_keys) for place, entry in those],
         **fault_member(fault),
     }
-    return Outcome(1 if fault else 0, spelled(listed))
+    return Outcome(1 if fault else 0, line_of(listed))
 
 
 def cache_json(image: bytes) -> Outcome:
@@ -104,4 +111,4 @@ def cache_json(image: bytes) -> Outcome:
         "config": [config_object(*each) for each in live if each[1].is_config()],
         **fault_member((4, cache.end) if cache.is_damaged else None),
     }
-    return Outcome(1 if cache.is_damaged else 0, spelled(listed))
+    return Outcome(1 if cache.is_damaged else 0, line_of(listed))

@@ -1,6 +1,5 @@
 """Commands over a file of any name: what each prints, and the file afterwards, where it is there or not."""
 
-import json
 import os
 from dataclasses import dataclass, field, replace
 
@@ -89,8 +88,8 @@ class Command:
 
     def shown(self, name: FileName, printed: bytes) -> bytes:
         """Returns an output over a file of that name."""
-        spelled = json.dumps(os.fsdecode(name.text), ensure_ascii=False)
-        return printed.replace(JSON, os.fsencode(spelled)).replace(NAME, name.text)
+        spelled = os.fsencode(json_model.spelled(os.fsdecode(name.text)))
+        return printed.replace(JSON, spelled).replace(NAME, name.text)
 
     def failed(self, status: int, line: bytes, *explained: bytes) -> Ended:
         """Returns the end of a run that fails: a message, and lines that explain it."""

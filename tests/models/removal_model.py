@@ -53,11 +53,15 @@ def newest_versions(entries: list[KeytabEntry]) -> dict[tuple[bytes, ...], int]:
 
 
 def long_renewed(entries: list[KeytabEntry], age: int | None, now: int) -> set[tuple[bytes, ...]]:
-    """Returns the names of whose newest version all entries are that many seconds old; all names without an age."""
+    """Returns the names of whose newest version all entries are that many seconds old; all names without an age.
+
+    A time of 0 says nothing of when.
+    """
     newest = newest_versions(entries)
     if age is None:
         return set(newest)
-    young = {one.name for one in entries if one.kvno == newest[one.name] and one.timestamp > now - age}
+    young = {one.name for one in entries
+             if one.kvno == newest[one.name] and (one.timestamp == 0 or one.timestamp > now - age)}
     return set(newest) - young
 
 

@@ -42,7 +42,7 @@ OF_ALL = ["mode 644", *(f"{word} kvno 3 etype 23 host/a@R" for word in (
 
 # The files of most rows, for their owner alone; `all` may be read by all users.
 FILES = {"k": TWO, "o": OLD, "w": WEAK, "s": SAME, "c": CLASH, "h": HIDDEN, "d": DAMAGED, "e": HOLES, "all": ALL,
-         "x": NEITHER, "a:b": TWO, "FILE:k": WEAK, "two words": TWO}
+         "x": NEITHER, "a:b": TWO, "FILE:k": WEAK, "two words": TWO, "a\nb": TWO}
 
 NO_KEYTAB = ("x: not a keytab (2)", BEGINS_AS_NO_KEYTAB[1])
 UNREAD = (".: cannot read", CAUSES["EISDIR"])
@@ -91,6 +91,8 @@ LABELS = [
                                                       ("e", OF_HOLES))),
     check_up("FILE:FILE:k k", labelled(("FILE:k", W[1]), SOUND_K), *words("./FILE:k", "weak"), status=1),
     check_up(("two words", "k"), labelled(("two words", [SOUND]), SOUND_K)),
+    # A name with a newline makes no line of its own.
+    check_up(("a\nb", "k", "no\nk"), labelled((r"a\x0ab", [SOUND]), SOUND_K), (r"no\x0ak: no such file", ""), status=1),
     check_up("w o", labelled(W, O), *words("w", "weak"), *words("o", "old"), status=1),
     # A file that cannot be checked has its message, and the next goes on; the status is the greatest.
     check_up("no k", labelled(SOUND_K), MISSING, status=1),

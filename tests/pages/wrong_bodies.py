@@ -11,7 +11,7 @@ from runs.harness import Report
 WRONG_BODIES = {
     "wiping": {
         "clears-too-little": "every second byte stays as it is",
-        "leaves-bytes-as-they-are": "a block of bytes goes back as it is",
+        "fills-with-ones": "each byte of a block becomes 1, not 0",
     },
     "krb_wire": {
         "32-bits-are-read-twice": "the rest after a number begins with that number",
@@ -66,12 +66,14 @@ WRONG_BODIES = {
         "a-read-that-did-not-fail-is-told-as-failed": "an empty file is reported as one that cannot be read",
     },
     "krb_json": {
+        "controls-of-two-bytes-stay": "the characters U+0080 to U+009F are not escaped where no 7f stands beside them",
         "hexadecimal-under-the-plain-name": "bytes that are no text stand as hexadecimal under the text's name",
         "is-skey-at-1-alone": "`is_skey` is false for numbers above 1",
         "leaves-the-key-out": "an entry has no key where keys are asked for",
     },
     "krb_audit": {
         "a-clash-is-not-wrong": "an entry whose key differs from one alike is not wrong",
+        "a-time-of-0-is-long-ago": "a newest version with the time 0 counts as old enough",
         "age-of-the-old-one": "the age that counts is that of the old entry, not of the newest",
         "expired-settings-are-asked-for": "the removal of what has expired takes configuration values too",
         "hidden-at-each": "each entry that ends MIT's reading is hidden, not the first alone",
@@ -134,6 +136,7 @@ WRONG_BODIES = {
         "saves-the-text": "what is printed is saved in the file's place",
     },
     "krb_readers": {
+        "a-missing-cache-is-enough": "a cache that is missing has a ticket to go on with",
         "a-service-ticket-is-enough": "another ticket is enough beside a ticket-granting ticket that has ended",
         "status-of-the-last": "the status of several keytabs is that of the last",
     },
@@ -144,12 +147,14 @@ WRONG_BODIES = {
     "krb_editors": {
         "a-dry-run-hides": "a dry run of ktcopy does not say what MIT's programs would not see",
         "a-dry-run-holds": "a dry run of ktremove holds the file",
+        "a-dry-run-saves": "a dry run of ccremove with --expired saves the cache",
         "a-refused-value-removes-the-old-one": "a configuration value that is refused removes the old one",
         "all-have-expired-without-a-clock": "every ticket has expired where the clock cannot be read",
         "an-input-that-was-read-is-told-as-failed": "an empty input is reported as one that cannot be read",
         "copies-past-a-clash": "what did not clash is saved though an entry clashed",
         "follows-no-rewrite": "an added entry is looked for where it was before a rewrite",
-        "new-over-TO": "the newest entries are those of the keytab that is copied to",
+        "new-over-TO": "an entry that is older than the newest of the keytab that is copied to is not new",
+        "nothing-of-a-version-is-well": "where nothing is asked for by its version or encryption type alone all is well",
         "removed-keys-stay-in-the-file": "the removed tickets stay in the file that is saved",
         "tells-of-removed-entries": "an entry that was removed again counts as added",
     },

@@ -25,7 +25,8 @@ use Rattle.krb_keytab.proofs.EntryLists.{listed_live, entries_of_cells}
 use Rattle.krb_audit.specs.declared.newest.Names.{Names}
 use Rattle.krb_audit.specs.Names.{kt_name}
 use Rattle.krb_audit.specs.Stamps.{first_number, AreKept}
-use Rattle.krb_audit.specs.Known.{HashedName, name_cmp, to_name, IsKnown, IsKnownUpTo}
+use Rattle.krb_audit.specs.Known.{HashedName, name_cmp, to_name, IsKnown}
+use Rattle.krb_audit.proofs.UpTo.{IsKnownUpTo}
 use Rattle.krb_audit.specs.Hash.{hash_of}
 use Rattle.krb_audit.proofs.FirstNumbers.{same_equiv, first_next}
 use Rattle.krb_audit.proofs.NameBytes.{same_bytes}

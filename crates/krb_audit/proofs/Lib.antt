@@ -1,3 +1,4 @@
+pub mod UpTo
 pub mod NameBytes
 pub mod FirstNumbers
 pub mod Keeping
@@ -8,6 +9,7 @@ pub mod YoungLemmas
 pub mod Octal
 pub mod CountsLemmas
 pub mod Numbers
+pub mod WeakNumbers
 pub mod FirstsLemmas
 pub mod FindingsLemmas
 pub mod NewestLemmas

@@ -11,7 +11,7 @@ use Rattle.krb_keytab.specs.Entry.{EntryParts, entry_at}
 use Rattle.krb_keytab.specs.Find.{PlacedEntry, placed_entries}
 use Rattle.krb_keytab.specs.Store.{KeytabState}
 use Rattle.krb_keytab.proofs.EntryLists.{entries_of_cells}
-use Rattle.krb_audit.specs.UpTo.{IsUpTo}
+use Rattle.krb_audit.proofs.UpTo.{IsUpTo}
 use Rattle.krb_audit.proofs.Keeping.{get_seam}
 
 -- before the first entry

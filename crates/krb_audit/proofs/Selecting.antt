@@ -11,7 +11,8 @@ use Rattle.krb_keytab.specs.Find.{PlacedEntry}
 use Rattle.krb_audit.specs.declared.selection.Selection.{Selection}
 use Rattle.krb_audit.specs.declared.selected.Selected.{Selected}
 use Rattle.krb_audit.specs.Selection.{is_named, has_selected_kvno}
-use Rattle.krb_audit.specs.Prepared.{selected_among, SelectsOf, SelectsUpTo}
+use Rattle.krb_audit.specs.Prepared.{selected_among, SelectsOf}
+use Rattle.krb_audit.proofs.UpTo.{SelectsUpTo}
 use Rattle.krb_audit.proofs.Passing.{passes}
 
 pub on_ok_both : {E P Q R : Type 0} (r : Result (Unit {0}) E) → (P → Q → R) → OnOk r P → OnOk r Q → OnOk r R

@@ -59,9 +59,13 @@ marks_of k before x = record {
 abbrev pub etype_among : List PlacedEntry → ℕ → Option ℕ
 etype_among xs etype = if list_any (λ x. x.1.enctype == etype) xs then Some etype else None
 
+-- the weak enctypes, rising
+abbrev pub weak_numbers : List ℕ
+weak_numbers = 1 ∷ 2 ∷ 3 ∷ 4 ∷ 6 ∷ 8 ∷ 16 ∷ 23 ∷ 24 ∷ []
+
 -- which of the weak enctypes some entries have, rising
 unfoldable pub weak_among : List PlacedEntry → WeakEtypes
-weak_among xs = record { found = map (etype_among xs) (1 ∷ 2 ∷ 3 ∷ 4 ∷ 6 ∷ 8 ∷ 16 ∷ 23 ∷ 24 ∷ []) }
+weak_among xs = record { found = map (etype_among xs) weak_numbers }
 
 -- an entry, and what is found about it
 abbrev pub Marked : Type 0

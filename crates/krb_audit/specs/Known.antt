@@ -1,5 +1,5 @@
--- What is known after the first entries of a keytab.
-use Rattle.std.specs.Prelude.{◌≡◌, ℕ, List, ◌++◌}
+-- What is known after some entries of a keytab.
+use Rattle.std.specs.Prelude.{◌≡◌, ℕ, List}
 use Rattle.std.specs.declared.cmp.Ordering.{Ordering}
 use Rattle.std.specs.Ordering.{nat_cmp, ordering_then}
 use denote.Ref.{Bor}
@@ -7,10 +7,7 @@ use Rattle.std.specs.Cmp.Lexicographic.{slice_cmp}
 use Rattle.std.specs.BTreeMap.{get_by}
 use Rattle.krb_wire.specs.declared.format.KtFormat.{KtFormat}
 use Rattle.krb_wire.specs.Spelling.{Parts, FitsKt}
-use Rattle.krb_keytab.specs.Find.{PlacedEntry, placed_entries}
-use Rattle.krb_keytab.specs.Entries.{entries_in}
-use Rattle.krb_keytab.specs.CellViews.{CellsFrom}
-use Rattle.krb_keytab.specs.Store.{KeytabState}
+use Rattle.krb_keytab.specs.Find.{PlacedEntry}
 use Rattle.krb_audit.specs.declared.newest.Names.{Names}
 use Rattle.krb_audit.specs.Hash.{hash_of}
 use Rattle.krb_audit.specs.Names.{kt_name}
@@ -32,9 +29,3 @@ to_name name y = ordering_then (nat_cmp (hash_of name) y.0) (slice_cmp nat_cmp n
 pub record IsKnown {A : Type 0} (f : KtFormat) (xs : List PlacedEntry) (names : Names A) : Type 0 where
   pub numbers : (p : Parts) → FitsKt f p → get_by (to_name (kt_name f p)) names.numbers ≡ first_number p xs
   pub kept : AreKept xs names.versions.firsts.items names.versions.stamps.items
-
--- that is known of the entries so far, and the entries of these cells are still to come
-pub record IsKnownUpTo {A : Type 0} (f : KtFormat) (k : KeytabState) (cells : CellsFrom) (names : Names A) : Type 0 where
-  pub before : List PlacedEntry
-  pub known : IsKnown f before names
-  pub all : before ++ entries_in cells.format cells.place cells.contents.cells ≡ placed_entries k

@@ -1,10 +1,12 @@
 -- Laws of the definitions.
-use Rattle.std.specs.Prelude.{◌≡◌, ℕ, List, true, false, Some}
-use Rattle.std.specs.List.{Contains}
+use Rattle.std.specs.Prelude.{◌≡◌, ◌==◌, ℕ, List, true, false, Some}
+use Rattle.std.specs.List.{Contains, list_any}
 use Rattle.krb_wire.specs.Spelling.{Parts}
 use Rattle.krb_wire.specs.SameName.{have_same_name}
 use Rattle.krb_keytab.specs.Entry.{EntryParts}
 use Rattle.krb_keytab.specs.Find.{PlacedEntry}
+use Rattle.krb_text.specs.Etype.{is_weak}
+use Rattle.krb_audit.specs.Findings.{weak_numbers}
 use Rattle.krb_audit.specs.Newest.{newest, is_old}
 
 -- the entry is one of the entries, at some place, and has that name
@@ -18,3 +20,7 @@ IsOfItsName = (name : Parts) (xs : List PlacedEntry) (e : EntryParts) → newest
 -- each entry's name has an entry that is not old
 abbrev pub KeepsEachName : Type 0
 KeepsEachName = (xs : List PlacedEntry) (x : PlacedEntry) → Contains xs x → (e : EntryParts) × HasEntry xs x.1.principal e × (is_old xs e ≡ false)
+
+-- an enctype is weak iff it is in the list
+abbrev pub AreTheWeak : Type 0
+AreTheWeak = (etype : ℕ) → is_weak etype ≡ list_any (λ weak. weak == etype) weak_numbers

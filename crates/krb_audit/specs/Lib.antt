@@ -9,7 +9,6 @@ pub mod Names
 pub mod Hash
 pub mod Stamps
 pub mod Known
-pub mod UpTo
 pub mod Young
 pub mod Prepared
 pub mod TicketText

@@ -13,7 +13,6 @@ use Rattle.krb_audit.specs.declared.selected.Selected.{Selected}
 use Rattle.krb_audit.specs.declared.selected.Prepared.{Prepared}
 use Rattle.krb_audit.specs.Selection.{is_named, has_selected_kvno, texts_of}
 use Rattle.krb_audit.specs.Stamps.{AreKept}
-use Rattle.krb_audit.specs.UpTo.{IsUpTo}
 use Rattle.krb_audit.specs.Young.{IsYoung}
 
 -- ---- versions
@@ -51,13 +50,3 @@ pub record SelectsOf {A B : Type 0} (s : Selection A) (now : ℕ) (xs some : Lis
   pub places : selected.places.items ≡ map (λ x. x.0) (selected_among s now xs some)
   pub text : selected.text.items ≡ flat_map removed_line (selected_among s now xs some)
   pub is_named : selected.is_named ≡ list_any (λ x. is_named s x.1) some
-
--- the selected ones of the first entries were added, and the others are still to come
-pub record SelectsUpTo {A B : Type 0} (s : Selection A) (now : ℕ) (xs rest : List PlacedEntry) (number : ℕ) (selected : Selected B) : Type 0 where
-  pub up_to : IsUpTo xs rest number
-  pub selects : SelectsOf s now xs up_to.before selected
-
--- those of the first entries that are selected were added, and the others are still to come
-pub record ListsUpTo {A : Type 0} (s : Selection A) (now : ℕ) (xs rest : List PlacedEntry) (number : ℕ) (listed : List PlacedEntry) : Type 0 where
-  pub up_to : IsUpTo xs rest number
-  pub listed_are : listed ≡ selected_among s now xs up_to.before

@@ -4,7 +4,6 @@ use Rattle.std.specs.List.{list_any}
 use Rattle.krb_wire.specs.Spelling.{Parts}
 use Rattle.krb_keytab.specs.Find.{PlacedEntry}
 use Rattle.krb_audit.specs.declared.young.Young.{Young}
-use Rattle.krb_audit.specs.UpTo.{IsUpTo}
 use Rattle.krb_audit.specs.Selection.{is_young_of}
 use Rattle.krb_audit.specs.Stamps.{first_number, AreKept}
 
@@ -17,9 +16,3 @@ pub record AreMarked (xs some : List PlacedEntry) (now seconds : ℕ) (marks : L
 pub record IsYoung {A : Type 0} (xs : List PlacedEntry) (now : ℕ) (young : Young A) : Type 0 where
   pub newest : AreKept xs young.newest.firsts.items young.newest.stamps.items
   pub marks : AreMarked xs xs now young.seconds young.marks.items
-
--- the first entries were considered, and the others are still to come
-pub record MarksUpTo {A : Type 0} (xs rest : List PlacedEntry) (now number : ℕ) (young : Young A) : Type 0 where
-  pub up_to : IsUpTo xs rest number
-  pub newest : AreKept xs young.newest.firsts.items young.newest.stamps.items
-  pub marks : AreMarked xs up_to.before now young.seconds young.marks.items

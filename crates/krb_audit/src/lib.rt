@@ -26,7 +26,7 @@ mod young;
 pub use finding_words::FindingWords;
 pub use findings::{CheckUp, check_up};
 pub use hash::hash_of;
-pub use laws::each_name_keeps_an_entry;
+pub use laws::{each_name_keeps_an_entry, hints_name_each_weak_etype};
 pub use mit::hides_added;
 pub use selected::{Selected, select, selected_entries};
 pub use selection::{SelectedKvno, Selection};

@@ -12,7 +12,7 @@ use krb_keytab::{EntryView, Keytab};
 use krb_wire::NoMemory;
 use std::alloc::Allocator;
 
-/// For each name in a keytab, whether an entry of its newest kvno is less than so many seconds old.
+/// For each name in a keytab, whether an entry of its newest kvno may be less than so many seconds old.
 #[derive(Drop)]
 pub struct Young<A: Allocator> {
     newest: NewestVersions<A>,
@@ -21,11 +21,12 @@ pub struct Young<A: Allocator> {
     marks: Vec<bool, A>,
 }
 
-// Returns whether an entry is less than `seconds` old.
+// Returns whether an entry may be less than `seconds` old. A time of 0 says nothing of when.
 fn is_young(now: u32, seconds: u32, entry: &EntryView<'_>) -> bool
     ensures { result ≡ is_young now seconds entry.now }
 {
-    u64::from(now) < u64::from(entry.timestamp()) + u64::from(seconds)
+    let timestamp = entry.timestamp();
+    timestamp == 0 || u64::from(now) < u64::from(timestamp) + u64::from(seconds)
 }
 
 // Returns a mark, or `None` if there is none of that number.
@@ -65,7 +66,7 @@ impl<A: Allocator> Young<A> {
         })
     }
 
-    // Returns whether the entry `number` is of its name's newest kvno, and less than so many seconds old.
+    // Returns whether the entry `number` is of its name's newest kvno, and may be less than so many seconds old.
     fn is_young_newest(&self, now: u32, number: usize, entry: &EntryView<'_>) -> bool
         ensures { (xs : List PlacedEntry) (x : PlacedEntry)
             → AreKept xs self.now.newest.firsts.items self.now.newest.stamps.items

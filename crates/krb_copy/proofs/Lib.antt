@@ -12,3 +12,4 @@ pub mod LawLemmas
 pub mod LawRuns
 pub mod Gone
 pub mod LawHistories
+pub mod NothingElse

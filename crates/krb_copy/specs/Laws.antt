@@ -1,11 +1,11 @@
 -- Laws of the definitions.
-use Rattle.std.specs.Prelude.{◌≡◌, ℕ, List, [], Bool, false, true, ◌==◌, Some, Ok}
+use Rattle.std.specs.Prelude.{◌≡◌, ℕ, List, [], ◌++◌, Bool, false, true, ◌==◌, Some, Ok}
 use Rattle.std.specs.List.{AllByRecursion, list_any}
 use Rattle.krb_walk.specs.declared.event.Event.{Event}
 use Rattle.krb_walk.specs.declared.event.Event.TheVariants.{Put, Cut}
 use Rattle.krb_walk.specs.History.{state_after}
 use Rattle.krb_keytab.specs.Entry.{EntryParts}
-use Rattle.krb_keytab.specs.Find.{PlacedEntry}
+use Rattle.krb_keytab.specs.Find.{PlacedEntry, placed_entries}
 use Rattle.krb_keytab.specs.Form.{IsEntry}
 use Rattle.krb_keytab.specs.Placed.{keytab_rules}
 use Rattle.krb_keytab.specs.Store.{KeytabState, entry_at_place}
@@ -61,3 +61,8 @@ IsInPlace k h = (e : EntryParts) × (entry_at_place k h.place ≡ Some e) × (ar
 abbrev pub GoesByItsEntries : Type 0
 GoesByItsEntries = (replace : Bool) (asked : List PlacedEntry) (k : KeytabState) (run : Run) → AreEntries asked → copy_run replace asked k ≡ Ok run
     → AllByRecursion (IsInPlace run.keytab) run.held × ((place : ℕ) (e : EntryParts) → entry_at_place run.keytab place ≡ Some e → list_any (λ h. h.place == place) run.held ≡ true)
+
+-- each entry of the keytab after a run has name, version, enctype and key of one that was there, or of one asked for
+abbrev pub NothingElse : Type 0
+NothingElse = (replace : Bool) (asked : List PlacedEntry) (k : KeytabState) (run : Run) → AreEntries asked → copy_run replace asked k ≡ Ok run
+    → (place : ℕ) (e : EntryParts) → entry_at_place run.keytab place ≡ Some e → list_any (λ x. are_same x.1 e) (placed_entries k ++ asked) ≡ true

@@ -1,6 +1,6 @@
 //! Laws of the definitions that the contracts cite.
 
-ghost use Rattle.krb_copy.specs.Laws.{AllStay, AreHistories, ChangesAreTold, GoesByItsEntries, HasEachAsked, OthersStay, SecondDoesNothing};
+ghost use Rattle.krb_copy.specs.Laws.{AllStay, AreHistories, ChangesAreTold, GoesByItsEntries, HasEachAsked, NothingElse, OthersStay, SecondDoesNothing};
 
 /// After a run in which no entry clashes, the keytab has each entry asked for, with its key, and a second run does
 /// nothing.
@@ -21,4 +21,9 @@ pub fn runs_are_histories()
     ensures history { AreHistories }
     ensures entries { GoesByItsEntries }
     ensures told { ChangesAreTold }
+{}
+
+/// After a run the keytab has no entry but those that it had before and those asked for.
+pub fn nothing_else_is_there()
+    ensures { NothingElse }
 {}

@@ -10,4 +10,6 @@ mod names;
 mod numbers;
 
 pub use copy::{Copied, copy_into};
-pub use laws::{entries_asked_for_are_there, others_stay, runs_are_histories};
+pub use laws::{
+    entries_asked_for_are_there, nothing_else_is_there, others_stay, runs_are_histories,
+};

@@ -4,11 +4,12 @@ use Rattle.std.proofs.lemmas.List.Sums.{fold-append}
 use Rattle.json.specs.Json.{Json, null, boolean, number, string, array, object, Items, no_items, item, Members, no_members, member}
 use Rattle.json.specs.Value.{items_of}
 use Rattle.json.specs.Token.{Token, begin_object, end_object, begin_array, end_array, key}
-use Rattle.json.specs.Print.{print, print_from, ends, ends_value}
+use Rattle.json.specs.Print.{print_from, ends, ends_value}
 use Rattle.json.specs.Tree.{json_tokens, items_tokens, members_tokens}
-use Rattle.json.proofs.Printed.Tokens.{print_from-append}
+use Rattle.krb_json.specs.Escaped.{escaped, text_of}
 use Rattle.krb_json.specs.Members.{Member, members_of, object_of, array_of}
 use Rattle.krb_json.specs.Pieces.{member_tokens, tokens_of, element_text, elements_text, head_tokens, between_tokens}
+use Rattle.krb_json.proofs.EscapedLemmas.{escaped-plain, text_from, text_from-append}
 
 -- ---- a value alone
 
@@ -31,36 +32,39 @@ mutual
   members_end c (member k j ms) = fold-append (λ _ t. ends t) false (json_tokens j) (members_tokens ms) ∙ members_end (fold (λ _ t. ends t) false (json_tokens j)) ms
 
 -- after another value, a comma comes first
-value_begins : (c : Bool) (v : Json) → print_from c (json_tokens v) ≡ element_text c v
+comma_begins : (v : Json) → print_from true (json_tokens v) ≡ 44 ∷ print_from false (json_tokens v)
 unfolding print_from
+comma_begins null = refl
+comma_begins (boolean true) = refl
+comma_begins (boolean false) = refl
+comma_begins (number s) = refl
+comma_begins (string s) = refl
+comma_begins (array js) = refl
+comma_begins (object ms) = refl
+
+value_begins : (c : Bool) (v : Json) → text_from c (json_tokens v) ≡ element_text c v
 value_begins false v = refl
-value_begins true null = refl
-value_begins true (boolean true) = refl
-value_begins true (boolean false) = refl
-value_begins true (number s) = refl
-value_begins true (string s) = refl
-value_begins true (array js) = refl
-value_begins true (object ms) = refl
+value_begins true v = ap escaped (comma_begins v) ∙ escaped-plain 44 (print_from false (json_tokens v)) refl refl
 
 -- ---- arrays
 
 -- there is no comma before the end of an array
-array_ends : (c : Bool) (ts : List Token) → print_from c (end_array ∷ ts) ≡ print (end_array ∷ ts)
+array_ends : (c : Bool) (ts : List Token) → text_from c (end_array ∷ ts) ≡ text_of (end_array ∷ ts)
 unfolding print_from
 array_ends true ts = refl
 array_ends false ts = refl
 
 -- the text of the elements, and of what follows them
-pub elements_print : (c : Bool) (vs : List Json) (ts : List Token) → print_from c (items_tokens (items_of vs) ++ ts) ≡ elements_text c vs ++ print (end_array ∷ ts)
+pub elements_print : (c : Bool) (vs : List Json) (ts : List Token) → text_from c (items_tokens (items_of vs) ++ ts) ≡ elements_text c vs ++ text_of (end_array ∷ ts)
 elements_print c [] ts = array_ends c ts
 elements_print c (v ∷ vs) ts =
     let rest = items_tokens (items_of vs) ++ ts in
-    ap (print_from c) (append_assoc (json_tokens v) (items_tokens (items_of vs)) ts)
-    ∙ print_from-append c (json_tokens v) rest
-    ∙ ap (λ b. print_from c (json_tokens v) ++ print_from b rest) (value_ends c v)
-    ∙ ap (λ l. print_from c (json_tokens v) ++ l) (elements_print true vs ts)
-    ∙ ap (λ l. l ++ (elements_text true vs ++ print (end_array ∷ ts))) (value_begins c v)
-    ∙ sym (append_assoc (element_text c v) (elements_text true vs) (print (end_array ∷ ts)))
+    ap (text_from c) (append_assoc (json_tokens v) (items_tokens (items_of vs)) ts)
+    ∙ text_from-append c (json_tokens v) rest
+    ∙ ap (λ b. text_from c (json_tokens v) ++ text_from b rest) (value_ends c v)
+    ∙ ap (λ l. text_from c (json_tokens v) ++ l) (elements_print true vs ts)
+    ∙ ap (λ l. l ++ (elements_text true vs ++ text_of (end_array ∷ ts))) (value_begins c v)
+    ∙ sym (append_assoc (element_text c v) (elements_text true vs) (text_of (end_array ∷ ts)))
 
 -- ---- members
 
@@ -89,17 +93,17 @@ head_is_open ms name = fold-append (λ _ t. ends t) false (tokens_of ms) (key na
 
 -- the text of an object with an array in it
 pub object_print : (ms ns : List Member) (name : List ℕ) (vs : List Json)
-    → print (json_tokens (object_of (ms ++ (name, array_of vs) ∷ ns))) ≡ print (head_tokens ms name) ++ (elements_text false vs ++ print (end_array ∷ members_tokens (members_of ns)))
+    → text_of (json_tokens (object_of (ms ++ (name, array_of vs) ∷ ns))) ≡ text_of (head_tokens ms name) ++ (elements_text false vs ++ text_of (end_array ∷ members_tokens (members_of ns)))
 object_print ms ns name vs =
     let rest = items_tokens (items_of vs) ++ members_tokens (members_of ns) in
-    ap print (split_at_array ms ns name vs)
-    ∙ print_from-append false (head_tokens ms name) rest
-    ∙ ap (λ b. print (head_tokens ms name) ++ print_from b rest) (head_is_open ms name)
-    ∙ ap (λ l. print (head_tokens ms name) ++ l) (elements_print false vs (members_tokens (members_of ns)))
+    ap text_of (split_at_array ms ns name vs)
+    ∙ text_from-append false (head_tokens ms name) rest
+    ∙ ap (λ b. text_of (head_tokens ms name) ++ text_from b rest) (head_is_open ms name)
+    ∙ ap (λ l. text_of (head_tokens ms name) ++ l) (elements_print false vs (members_tokens (members_of ns)))
 
 -- the text of the rest of an object, from the end of an array on, with another array in it
 pub rest_print : (ns : List Member) (name : List ℕ) (vs : List Json)
-    → print (end_array ∷ members_tokens (members_of ((name, array_of vs) ∷ ns))) ≡ print (between_tokens name) ++ (elements_text false vs ++ print (end_array ∷ members_tokens (members_of ns)))
+    → text_of (end_array ∷ members_tokens (members_of ((name, array_of vs) ∷ ns))) ≡ text_of (between_tokens name) ++ (elements_text false vs ++ text_of (end_array ∷ members_tokens (members_of ns)))
 rest_print ns name vs =
     let rest = items_tokens (items_of vs) ++ members_tokens (members_of ns) in
-    print_from-append false (between_tokens name) rest ∙ ap (λ l. print (between_tokens name) ++ l) (elements_print false vs (members_tokens (members_of ns)))
+    text_from-append false (between_tokens name) rest ∙ ap (λ l. text_of (between_tokens name) ++ l) (elements_print false vs (members_tokens (members_of ns)))

@@ -1,4 +1,8 @@
 pub mod Texts
+pub mod EscapedLemmas
+pub mod EscapedStrings
+pub mod EscapedNumbers
+pub mod EscapedReads
 pub mod Arrays
 pub mod Chains
 pub mod Sending

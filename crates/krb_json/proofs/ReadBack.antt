@@ -2,11 +2,9 @@
 use Rattle.std.proofs.Common.{◌≡◌, ℕ, ◌<◌, ◌≤◌, ◌^◌, Bool, true, false, cond, List, [], ◌∷◌, ◌++◌, codes, Option, None, Some, lit<, refl, arith, length}
 use Rattle.std.specs.Str.{is_utf8}
 use Rattle.json.specs.Json.{Json, string, document}
-use Rattle.json.specs.Print.{print}
-use Rattle.json.specs.Tree.{json_tokens, depth, items_depth, members_depth, HasNumbers, ItemsHaveNumbers, MembersHaveNumbers}
+use Rattle.json.specs.Tree.{depth, items_depth, members_depth, HasNumbers, ItemsHaveNumbers, MembersHaveNumbers}
 use Rattle.json.specs.Value.{items_of}
 use Rattle.json.proofs.Printed.Decimals.{IsNumber-decimal}
-use Rattle.json.proofs.Printed.Trees.{document-print}
 use Rattle.krb_wire.specs.declared.format.KtFormat.{KtFormat}
 use Rattle.krb_wire.specs.declared.format.KtFormat.TheVariants.{V1, V2}
 use Rattle.krb_wire.specs.Names.{name_text}
@@ -25,10 +23,12 @@ use Rattle.krb_ccache.specs.Store as cache
 use Rattle.krb_ccache.specs.Credential.{FitsTimes}
 use Rattle.krb_ccache.specs.Config.{ConfigParts}
 use Rattle.krb_text.specs.Etype.{etype_name_of}
+use Rattle.krb_json.specs.Escaped.{json_text}
 use Rattle.krb_json.specs.Members.{Member, members_of, etype_members, file_members, text_member, text_or_null, fault_value, digits_of}
 use Rattle.krb_json.specs.Keytab.{owner_members, key_members, entry_value, entry_values, keytab_value}
 use Rattle.krb_json.specs.Cache.{party_members, time_members, flag_members, size_members, about_member, ticket_value, config_value, ticket_values, config_values, cache_value}
 use Rattle.krb_json.specs.Pieces.{IsPlain, ArePlain}
+use Rattle.krb_json.proofs.EscapedReads.{document-text}
 
 -- ---- texts
 
@@ -180,11 +180,11 @@ version_small (V1 o) = lit< tt
 version_small V2 = lit< tt
 
 pub keytab_is_read : (file : List ℕ) (shows_keys : Bool) (k : KeytabState) → ArePlain (entry_values shows_keys k) → IsPlain (fault_value (fault_of (store_of k)))
-    → document (print (json_tokens (keytab_value file shows_keys k))) ≡ Some (keytab_value file shows_keys k)
+    → document (json_text (keytab_value file shows_keys k)) ≡ Some (keytab_value file shows_keys k)
 unfolding keytab_value file_members
 keytab_is_read file shows_keys k entries fault =
     let vs = entry_values shows_keys k in
-    document-print (keytab_value file shows_keys k)
+    document-text (keytab_value file shows_keys k)
     (tt, (tt, (IsNumber-decimal (version_byte k.format) (version_small k.format), (plain_numbers vs entries, (fault.numbers, tt)))))
     (omega (arith, plain_depth vs entries, fault.flat))
 
@@ -193,13 +193,13 @@ cache_version_small V3 = lit< tt
 cache_version_small V4 = lit< tt
 
 pub cache_is_read : (file : List ℕ) (k : CacheState) → ArePlain (ticket_values (placed_credentials k)) → ArePlain (config_values (placed_credentials k)) → IsPlain (fault_value (fault_of (cache.store_of k)))
-    → document (print (json_tokens (cache_value file k))) ≡ Some (cache_value file k)
+    → document (json_text (cache_value file k)) ≡ Some (cache_value file k)
 unfolding cache_value file_members
 cache_is_read file k tickets configs fault =
     let ts = ticket_values (placed_credentials k) in
     let cs = config_values (placed_credentials k) in
     let name = name_text k.principal in
-    document-print (cache_value file k) (
+    document-text (cache_value file k) (
       tt,
       (
         tt,

@@ -5,7 +5,6 @@ use Rattle.std.specs.List.{cons_option}
 use Rattle.std.proofs.lemmas.Result.{on_ok_weaker, on_err_weaker}
 use Rattle.json.specs.Json.{Json}
 use Rattle.json.specs.Token.{Token}
-use Rattle.json.specs.Print.{print}
 use Rattle.json.specs.Tree.{json_tokens}
 use Rattle.krb_text.specs.Gathered.{Passed, Gathers, Prints}
 use Rattle.krb_text.proofs.Passing.{passed_gather, passed_last, passed_fail, gathers_memory}
@@ -13,6 +12,7 @@ use Rattle.krb_files.specs.declared.output.OutFault.{OutFault}
 use Rattle.krb_files.specs.declared.output.OutFault.TheVariants.{NoMemory}
 use Rattle.krb_files.specs.Bytes.{Watch}
 use Rattle.krb_files.proofs.Prefixes.{Appends-trans, AppendsPrefix-longer, AppendsPrefix-none}
+use Rattle.krb_json.specs.Escaped.{text_of}
 use Rattle.krb_json.specs.Pieces.{comma_after, element_text, element_if, elements_text, IfPlain, ArePlain}
 
 elements_step : (after : Bool) (x : Option Json) (vs : List Json) → elements_text after (cons_option x vs) ≡ element_if after x ++ elements_text (is_some x || after) vs
@@ -27,10 +27,10 @@ gathers_if o p whole after x vs b more h e =
     passed_gather o p whole (element_if after x) (elements_text (is_some x || after) vs) b more split e
 
 -- the text of an element, after what was gathered
-pub element_behind : (after : Bool) (v : Json) (none tokens : List Token) (b more : List ℕ) → none ≡ [] → tokens ≡ none ++ json_tokens v → more ≡ b ++ (comma_after after ++ print tokens)
+pub element_behind : (after : Bool) (v : Json) (none tokens : List Token) (b more : List ℕ) → none ≡ [] → tokens ≡ none ++ json_tokens v → more ≡ b ++ (comma_after after ++ text_of tokens)
     → more ≡ b ++ element_text after v
 element_behind after v none tokens b more is_none is_tokens is_more =
-    is_more ∙ ap (λ t. b ++ (comma_after after ++ print t)) (is_tokens ∙ ap (λ t. t ++ json_tokens v) is_none)
+    is_more ∙ ap (λ t. b ++ (comma_after after ++ text_of t)) (is_tokens ∙ ap (λ t. t ++ json_tokens v) is_none)
 
 -- an element, if there is one, is plain, and so are those after it
 pub plain_if : (x : Option Json) (vs : List Json) → IfPlain x → ArePlain vs → ArePlain (cons_option x vs)

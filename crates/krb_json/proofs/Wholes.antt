@@ -2,7 +2,6 @@
 use Rattle.std.proofs.Common.{◌≡◌, ℕ, Bool, false, List, [], ◌∷◌, ◌++◌, codes, refl, sym, ap, ◌∙◌, append_assoc}
 use Rattle.json.specs.Json.{Json}
 use Rattle.json.specs.Token.{end_array}
-use Rattle.json.specs.Print.{print}
 use Rattle.json.specs.Tree.{json_tokens, members_tokens}
 use Rattle.krb_wire.specs.Names.{name_text}
 use Rattle.krb_wire.specs.Spelling.{version_byte}
@@ -10,29 +9,30 @@ use Rattle.krb_walk.specs.Store.{fault_of}
 use Rattle.krb_keytab.specs.Store.{KeytabState, store_of}
 use Rattle.krb_ccache.specs.Store.{CacheState, placed_credentials}
 use Rattle.krb_ccache.specs.Store as cache
+use Rattle.krb_json.specs.Escaped.{text_of}
 use Rattle.krb_json.specs.Members.{Member, members_of, object_of, array_of, text_member, fault_value, file_members}
 use Rattle.krb_json.specs.Keytab.{entry_values, keytab_value, keytab_json_text}
 use Rattle.krb_json.specs.Cache.{ticket_values, config_values, cache_value, cache_json_text}
 use Rattle.krb_json.specs.Pieces.{elements_text, head_tokens, between_tokens, tail_tokens, arrays_text}
 use Rattle.krb_json.proofs.Arrays.{object_print, rest_print, members_end_object}
 
-tail_print : (ns : List Member) → print (end_array ∷ members_tokens (members_of ns)) ≡ print (tail_tokens ns)
-tail_print ns = ap (λ l. print (end_array ∷ l)) (members_end_object ns)
+tail_print : (ns : List Member) → text_of (end_array ∷ members_tokens (members_of ns)) ≡ text_of (tail_tokens ns)
+tail_print ns = ap (λ l. text_of (end_array ∷ l)) (members_end_object ns)
 
 regroup_three : (a b c n : List ℕ) → (a ++ (b ++ c)) ++ n ≡ a ++ (b ++ (c ++ n))
 regroup_three a b c n = append_assoc a (b ++ c) n ∙ ap (λ l. a ++ l) (append_assoc b c n)
 
 -- an object with one array
 one_array : (ms ns : List Member) (name : List ℕ) (vs : List Json) (n : List ℕ)
-    → print (json_tokens (object_of (ms ++ (name, array_of vs) ∷ ns))) ++ n ≡ print (head_tokens ms name) ++ (elements_text false vs ++ (print (tail_tokens ns) ++ n))
+    → text_of (json_tokens (object_of (ms ++ (name, array_of vs) ∷ ns))) ++ n ≡ text_of (head_tokens ms name) ++ (elements_text false vs ++ (text_of (tail_tokens ns) ++ n))
 one_array ms ns name vs n =
-    ap (λ l. l ++ n) (object_print ms ns name vs ∙ ap (λ l. print (head_tokens ms name) ++ (elements_text false vs ++ l)) (tail_print ns))
-    ∙ regroup_three (print (head_tokens ms name)) (elements_text false vs) (print (tail_tokens ns)) n
+    ap (λ l. l ++ n) (object_print ms ns name vs ∙ ap (λ l. text_of (head_tokens ms name) ++ (elements_text false vs ++ l)) (tail_print ns))
+    ∙ regroup_three (text_of (head_tokens ms name)) (elements_text false vs) (text_of (tail_tokens ns)) n
 
 pub keytab_text : (file : List ℕ) (shows_keys : Bool) (k : KeytabState)
     → keytab_json_text file shows_keys k
-    ≡ print (head_tokens (file_members file (codes "keytab") (version_byte k.format)) (codes "entries"))
-    ++ (elements_text false (entry_values shows_keys k) ++ (print (tail_tokens ((codes "fault", fault_value (fault_of (store_of k))) ∷ [])) ++ codes "\n"))
+    ≡ text_of (head_tokens (file_members file (codes "keytab") (version_byte k.format)) (codes "entries"))
+    ++ (elements_text false (entry_values shows_keys k) ++ (text_of (tail_tokens ((codes "fault", fault_value (fault_of (store_of k))) ∷ [])) ++ codes "\n"))
 unfolding keytab_value
 keytab_text file shows_keys k =
     one_array (file_members file (codes "keytab") (version_byte k.format)) ((codes "fault", fault_value (fault_of (store_of k))) ∷ []) (codes "entries") (entry_values shows_keys k) (codes "\n")
@@ -42,22 +42,22 @@ regroup_five a b c d e n = simp append_assoc refl
 
 -- an object with two arrays, after a last member before them
 two_arrays : (ms : List Member) (m : Member) (ns : List Member) (one two : List ℕ) (vs ws : List Json) (n : List ℕ)
-    → print (json_tokens (object_of (ms ++ m ∷ (one, array_of vs) ∷ (two, array_of ws) ∷ ns))) ++ n
-    ≡ print (head_tokens (ms ++ m ∷ []) one) ++ ((elements_text false vs ++ (print (between_tokens two) ++ elements_text false ws)) ++ (print (tail_tokens ns) ++ n))
+    → text_of (json_tokens (object_of (ms ++ m ∷ (one, array_of vs) ∷ (two, array_of ws) ∷ ns))) ++ n
+    ≡ text_of (head_tokens (ms ++ m ∷ []) one) ++ ((elements_text false vs ++ (text_of (between_tokens two) ++ elements_text false ws)) ++ (text_of (tail_tokens ns) ++ n))
 two_arrays ms m ns one two vs ws n =
     let rest : List Member = (two, array_of ws) ∷ ns in
-    let head = print (head_tokens (ms ++ m ∷ []) one) in
-    let between = print (between_tokens two) in
+    let head = text_of (head_tokens (ms ++ m ∷ []) one) in
+    let between = text_of (between_tokens two) in
     ap (λ l. l ++ n)
-    (ap (λ l. print (json_tokens (object_of l))) (sym (append_assoc ms (m ∷ []) ((one, array_of vs) ∷ rest)))
+    (ap (λ l. text_of (json_tokens (object_of l))) (sym (append_assoc ms (m ∷ []) ((one, array_of vs) ∷ rest)))
     ∙ object_print (ms ++ m ∷ []) rest one vs
     ∙ ap (λ l. head ++ (elements_text false vs ++ l)) (rest_print ns two ws ∙ ap (λ l. between ++ (elements_text false ws ++ l)) (tail_print ns)))
-    ∙ regroup_five head (elements_text false vs) between (elements_text false ws) (print (tail_tokens ns)) n
+    ∙ regroup_five head (elements_text false vs) between (elements_text false ws) (text_of (tail_tokens ns)) n
 
 pub cache_text : (file : List ℕ) (k : CacheState)
     → cache_json_text file k
-    ≡ print (head_tokens (file_members file (codes "ccache") (cache.version_byte k.version) ++ text_member (codes "default_principal") (name_text k.principal) ∷ []) (codes "tickets"))
-    ++ (arrays_text k ++ (print (tail_tokens ((codes "fault", fault_value (fault_of (cache.store_of k))) ∷ [])) ++ codes "\n"))
+    ≡ text_of (head_tokens (file_members file (codes "ccache") (cache.version_byte k.version) ++ text_member (codes "default_principal") (name_text k.principal) ∷ []) (codes "tickets"))
+    ++ (arrays_text k ++ (text_of (tail_tokens ((codes "fault", fault_value (fault_of (cache.store_of k))) ∷ [])) ++ codes "\n"))
 unfolding cache_value
 cache_text file k =
     let xs = placed_credentials k in

@@ -1,8 +1,6 @@
 -- A credential cache as a JSON value, and as its text.
 use Rattle.std.specs.Prelude.{ℕ, ◌==◌, List, [], ◌∷◌, ◌++◌, length, codes, not, Option, None, Some, filter_map}
 use Rattle.json.specs.Json.{Json, null, boolean, string}
-use Rattle.json.specs.Print.{print}
-use Rattle.json.specs.Tree.{json_tokens}
 use Rattle.krb_wire.specs.Names.{name_text}
 use Rattle.krb_walk.specs.Store.{fault_of}
 use Rattle.krb_ccache.specs.declared.credential.times.Times.{Times}
@@ -12,6 +10,7 @@ use Rattle.krb_ccache.specs.Store.{CacheState, PlacedCredential, version_byte, s
 use Rattle.krb_text.specs.Flags.{flag_letters_of}
 use Rattle.krb_json.specs.declared.cache.Shown.{Shown}
 use Rattle.krb_json.specs.declared.cache.Shown.TheVariants.{Tickets, Configs}
+use Rattle.krb_json.specs.Escaped.{json_text}
 use Rattle.krb_json.specs.Members.{Member, object_of, array_of, number_of, text_member, etype_members, fault_value, file_members}
 
 -- a ticket's place, client and server
@@ -105,4 +104,4 @@ cache_value file k =
 
 -- its text, and a newline
 abbrev pub cache_json_text : List ℕ → CacheState → List ℕ
-cache_json_text file k = print (json_tokens (cache_value file k)) ++ codes "\n"
+cache_json_text file k = json_text (cache_value file k) ++ codes "\n"

@@ -1,13 +1,12 @@
 -- A keytab as a JSON value, and as its text.
 use Rattle.std.specs.Prelude.{ℕ, List, [], ◌∷◌, ◌++◌, map, codes, Bool, if◌then◌else◌}
 use Rattle.json.specs.Json.{Json}
-use Rattle.json.specs.Print.{print}
-use Rattle.json.specs.Tree.{json_tokens}
 use Rattle.krb_wire.specs.Names.{name_text}
 use Rattle.krb_wire.specs.Spelling.{version_byte}
 use Rattle.krb_walk.specs.Store.{fault_of}
 use Rattle.krb_keytab.specs.Find.{PlacedEntry, placed_entries}
 use Rattle.krb_keytab.specs.Store.{KeytabState, store_of}
+use Rattle.krb_json.specs.Escaped.{json_text}
 use Rattle.krb_json.specs.Members.{Member, object_of, array_of, number_of, digits_of, text_member, etype_members, fault_value, file_members}
 
 -- the key, if keys are shown
@@ -44,4 +43,4 @@ keytab_value file shows_keys k =
 
 -- its text, and a newline
 abbrev pub keytab_json_text : List ℕ → Bool → KeytabState → List ℕ
-keytab_json_text file shows_keys k = print (json_tokens (keytab_value file shows_keys k)) ++ codes "\n"
+keytab_json_text file shows_keys k = json_text (keytab_value file shows_keys k) ++ codes "\n"

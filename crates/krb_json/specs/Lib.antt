@@ -1,5 +1,6 @@
 -- What the contracts of this crate say.
 pub mod Members
+pub mod Escaped
 pub mod Keytab
 pub mod Cache
 pub mod Label

@@ -3,9 +3,9 @@ use Rattle.std.specs.Prelude.{ℕ, ◌≤◌, ⊤, List, [], ◌∷◌, ◌++◌
 use Rattle.std.specs.List.{AllByRecursion}
 use Rattle.json.specs.Json.{Json}
 use Rattle.json.specs.Token.{Token, begin_object, end_object, begin_array, end_array, key}
-use Rattle.json.specs.Print.{print}
 use Rattle.json.specs.Tree.{json_tokens, depth, HasNumbers}
 use Rattle.krb_ccache.specs.Store.{CacheState, PlacedCredential, placed_credentials}
+use Rattle.krb_json.specs.Escaped.{json_text, text_of}
 use Rattle.krb_json.specs.Members.{Member}
 use Rattle.krb_json.specs.Cache.{ticket_values, config_values}
 
@@ -23,7 +23,7 @@ comma_after is_after = if is_after then codes "," else []
 
 -- an element of an array, after others or as the first
 abbrev pub element_text : Bool → Json → List ℕ
-element_text is_after v = comma_after is_after ++ print (json_tokens v)
+element_text is_after v = comma_after is_after ++ json_text v
 
 -- elements of an array, after others or from the first on
 abbrev pub elements_text : Bool → List Json → List ℕ
@@ -49,7 +49,7 @@ tail_tokens ms = end_array ∷ (tokens_of ms ++ (end_object ∷ []))
 
 -- the text of a cache after its last ticket, up to its last configuration entry
 abbrev pub after_tickets : List PlacedCredential → List ℕ
-after_tickets xs = print (between_tokens (codes "config")) ++ elements_text false (config_values xs)
+after_tickets xs = text_of (between_tokens (codes "config")) ++ elements_text false (config_values xs)
 
 -- the text of a cache from its first ticket on, up to its last configuration entry
 abbrev pub arrays_text : CacheState → List ℕ

@@ -2,12 +2,11 @@
 
 ghost use Rattle.std.specs.Prelude.{◌≡◌, ◌++◌, [], ◌∷◌, Some, OnOk, IfOk, IsFalse, false, codes, is_some, ◌||◌};
 ghost use Rattle.json.specs.Json.{document};
-ghost use Rattle.json.specs.Print.{print};
-ghost use Rattle.json.specs.Tree.{json_tokens};
 ghost use Rattle.krb_wire.specs.Names.{name_text};
 ghost use Rattle.krb_ccache.specs.Config.{config_name};
 ghost use Rattle.krb_ccache.specs.Store.{version_byte, placed_credentials};
 ghost use Rattle.krb_text.specs.Gathered.{Gathers, Prints};
+ghost use Rattle.krb_json.specs.Escaped.{json_text, text_of};
 ghost use Rattle.krb_json.specs.Members.{file_members, text_member};
 ghost use Rattle.krb_json.specs.Cache.{shown_by, shown_values, ticket_values, config_values, cache_value, cache_json_text};
 ghost use Rattle.krb_json.specs.Pieces.{element_if, elements_text, head_tokens, between_tokens, arrays_text, IfPlain, ArePlain};
@@ -40,7 +39,7 @@ fn append_head<A: Allocator + Copy, B: Allocator>(
 ) -> Result<(), NoMemory>
     requires { piece.old ≡ [] }
     ensures text { OnOk result (gathered.new.items ≡ gathered.old.items
-        ++ print (head_tokens (file_members file.now (codes "ccache") (version_byte cache.now.state.version)
+        ++ text_of (head_tokens (file_members file.now (codes "ccache") (version_byte cache.now.state.version)
         ++ text_member (codes "default_principal") (name_text cache.now.state.principal) ∷ []) (codes "tickets"))) }
     ensures empty { OnOk result (piece.new ≡ []) }
 {
@@ -112,7 +111,7 @@ fn append_between<A: Allocator + Copy>(
 ) -> Result<(), NoMemory>
     requires { piece.old ≡ [] }
     ensures text { OnOk result (gathered.new.items
-        ≡ gathered.old.items ++ print (between_tokens (codes "config"))) }
+        ≡ gathered.old.items ++ text_of (between_tokens (codes "config"))) }
     ensures empty { OnOk result (piece.new ≡ []) }
 {
     piece.next_array("config")?;
@@ -151,7 +150,7 @@ pub fn cache_json<A: Allocator + Copy, B: Allocator, W: Write>(
     requires { IsFalse out.old.failed }
     ensures prints { Prints out.old out.new result (cache_json_text file.now cache.now.state) }
     // A reader parses the text as this value.
-    ensures reads_back { OnOk result (document (print (json_tokens (cache_value file.now cache.now.state)))
+    ensures reads_back { OnOk result (document (json_text (cache_value file.now cache.now.state))
         ≡ Some (cache_value file.now cache.now.state)) }
 {
     let mut gathered = room_to_gather(alloc)?;

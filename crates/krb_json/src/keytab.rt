@@ -2,10 +2,9 @@
 
 ghost use Rattle.std.specs.Prelude.{◌≡◌, ◌++◌, [], Some, OnOk, IsFalse, false, codes};
 ghost use Rattle.json.specs.Json.{document};
-ghost use Rattle.json.specs.Print.{print};
-ghost use Rattle.json.specs.Tree.{json_tokens};
 ghost use Rattle.krb_wire.specs.Spelling.{version_byte};
 ghost use Rattle.krb_text.specs.Gathered.{Gathers, Prints};
+ghost use Rattle.krb_json.specs.Escaped.{json_text, text_of};
 ghost use Rattle.krb_json.specs.Members.{file_members};
 ghost use Rattle.krb_json.specs.Keytab.{entry_values, keytab_value, keytab_json_text};
 ghost use Rattle.krb_json.specs.Pieces.{elements_text, head_tokens, ArePlain};
@@ -28,7 +27,7 @@ fn append_head<A: Allocator + Copy>(
 ) -> Result<(), NoMemory>
     requires { piece.old ≡ [] }
     ensures text { OnOk result (gathered.new.items ≡ gathered.old.items
-        ++ print (head_tokens (file_members file.now (codes "keytab") (version_byte format)) (codes "entries"))) }
+        ++ text_of (head_tokens (file_members file.now (codes "keytab") (version_byte format)) (codes "entries"))) }
     ensures empty { OnOk result (piece.new ≡ []) }
 {
     piece.begin_file(file, "keytab", format.version() as u64)?;
@@ -74,8 +73,8 @@ pub fn keytab_json<A: Allocator + Copy, B: Allocator, W: Write>(
     requires { IsFalse out.old.failed }
     ensures prints { Prints out.old out.new result (keytab_json_text file.now shows_keys keytab.now.state) }
     // A reader parses the text as this value.
-    ensures reads_back { OnOk result (document (print (json_tokens
-        (keytab_value file.now shows_keys keytab.now.state)))
+    ensures reads_back { OnOk result (document (json_text
+        (keytab_value file.now shows_keys keytab.now.state))
         ≡ Some (keytab_value file.now shows_keys keytab.now.state)) }
 {
     let mut gathered = room_to_gather(alloc)?;

@@ -4,6 +4,7 @@
 mod cache;
 mod config;
 mod entry;
+mod escape;
 mod head;
 mod keytab;
 mod label;

@@ -2,13 +2,14 @@
 
 ghost use Rattle.std.specs.Prelude.{◌≡◌, ◌++◌, [], ◌∷◌, OnOk, not};
 ghost use Rattle.json.specs.Token.{begin_object, end_object, begin_array, end_array, key, string, boolean, null};
-ghost use Rattle.json.specs.Print.{print};
 ghost use Rattle.krb_wire.specs.Names.{name_text};
 ghost use Rattle.krb_text.specs.Flags.{flag_letters_of};
+ghost use Rattle.krb_json.specs.Escaped.{text_of};
 ghost use Rattle.krb_json.specs.Label.{label_text};
 ghost use Rattle.krb_json.specs.Members.{number_of, digits_of, text_member, etype_members};
 ghost use Rattle.krb_json.specs.Pieces.{member_tokens, tokens_of, comma_after};
 
+use crate::escape::append_escaped;
 use crate::label::Label;
 use crate::put::{put_digits, put_text, text_in};
 use json::Writer;
@@ -62,7 +63,7 @@ impl<A: Allocator + Copy> Piece<A> {
         gathered: &mut Vec<u8, B>,
     ) -> Result<(), NoMemory>
         ensures text { OnOk result (gathered.new.items
-            ≡ gathered.old.items ++ (comma_after is_after ++ print self.old)) }
+            ≡ gathered.old.items ++ (comma_after is_after ++ text_of self.old)) }
         ensures empty { OnOk result (self.new ≡ []) }
     {
         if is_after {
@@ -70,7 +71,7 @@ impl<A: Allocator + Copy> Piece<A> {
         }
         let writer = mem::replace(&mut self.writer, Writer::new(Vec::new(self.alloc)));
         let mut text = writer.into_inner();
-        gathered.extend_from_slice(&text)?;
+        append_escaped(&text, gathered)?;
         text.clear();
         self.writer = Writer::new(text);
         Ok(())

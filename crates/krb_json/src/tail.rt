@@ -1,8 +1,8 @@
 //! The end of a file's object, which is written with what is gathered.
 
 ghost use Rattle.std.specs.Prelude.{◌≡◌, ◌++◌, [], ◌∷◌, OnOk, IsFalse, codes};
-ghost use Rattle.json.specs.Print.{print};
 ghost use Rattle.krb_text.specs.Gathered.{Prints};
+ghost use Rattle.krb_json.specs.Escaped.{text_of};
 ghost use Rattle.krb_json.specs.Members.{fault_value};
 ghost use Rattle.krb_json.specs.Pieces.{tail_tokens, IsPlain};
 
@@ -21,7 +21,7 @@ fn append_tail<A: Allocator + Copy>(
 ) -> Result<(), NoMemory>
     requires { piece.old ≡ [] }
     ensures text { OnOk result (gathered.new.items ≡ gathered.old.items
-        ++ (print (tail_tokens ((codes "fault", fault_value fault) ∷ [])) ++ codes "\n")) }
+        ++ (text_of (tail_tokens ((codes "fault", fault_value fault) ∷ [])) ++ codes "\n")) }
     ensures plain { OnOk result (IsPlain (fault_value fault)) }
 {
     piece.end_file(fault)?;
@@ -39,7 +39,7 @@ pub fn send_tail<A: Allocator + Copy, W: Write>(
     requires well { IsFalse out.old.failed }
     requires empty { piece.old ≡ [] }
     ensures prints { Prints out.old out.new result (gathered.old.items
-        ++ (print (tail_tokens ((codes "fault", fault_value fault) ∷ [])) ++ codes "\n")) }
+        ++ (text_of (tail_tokens ((codes "fault", fault_value fault) ∷ [])) ++ codes "\n")) }
     ensures plain { OnOk result (IsPlain (fault_value fault)) }
 {
     append_tail(fault, piece, gathered)?;

@@ -3,7 +3,7 @@ use Rattle.std.proofs.Common.{inl, inr, List, ◌∷◌, Bool, false, true, ◌|
 use Rattle.std.proofs.lemmas.Bool.{true≢false}
 use Rattle.krb_files.specs.declared.files.Files.{Ghosts}
 use Rattle.krb_driver.specs.declared.file_name.FileName.{FileName}
-use Rattle.krb_driver.specs.RunErrors.{Ending}
+use Rattle.krb_driver.specs.declared.command.RunEnd.{RunEnd}
 use Rattle.krb_readers.specs.declared.ktcheck.words.CheckOptions.{CheckOptions}
 use Rattle.krb_readers.specs.Ktcheck.{ChecksFile, ChecksOver, Round, is_last}
 
@@ -13,14 +13,14 @@ module _ {F : Type 0} (trait : Ghosts F) (o : CheckOptions) (is_named : Bool) wh
   Leads all rest first now = (end : Round F) → ChecksOver trait o is_named rest now end → ChecksOver trait o is_named all first end
 
   -- a file was checked, and others may come
-  pub one_more : (all rest : List FileName) (file : FileName) (first old new : Round F) (ending : Ending) → Leads all (file ∷ rest) first old → ChecksFile trait o is_named file old new ending
-      → IsFalse (is_last trait o is_named ending new) → Leads all rest first new
-  one_more all rest file first old new ending leads checks goes = λ end over. leads end (new, ending, checks, inr (goes, over))
+  pub one_more : (all rest : List FileName) (file : FileName) (first old new : Round F) (end : RunEnd) → Leads all (file ∷ rest) first old → ChecksFile trait o is_named file old new end
+      → IsFalse (is_last trait o is_named end.ending new) → Leads all rest first new
+  one_more all rest file first old new end leads checks goes = λ last over. leads last (new, end, checks, inr (goes, over))
 
   -- a file was checked, and it is the last
-  pub last_one : (all rest : List FileName) (file : FileName) (first old new : Round F) (ending : Ending) → Leads all (file ∷ rest) first old → ChecksFile trait o is_named file old new ending
-      → IsTrue (is_last trait o is_named ending new) → ChecksOver trait o is_named all first new
-  last_one all rest file first old new ending leads checks last = leads new (new, ending, checks, inl (last, refl))
+  pub last_one : (all rest : List FileName) (file : FileName) (first old new : Round F) (end : RunEnd) → Leads all (file ∷ rest) first old → ChecksFile trait o is_named file old new end
+      → IsTrue (is_last trait o is_named end.ending new) → ChecksOver trait o is_named all first new
+  last_one all rest file first old new end leads checks last = leads new (new, end, checks, inl (last, refl))
 
 -- neither of two holds
 pub second_fails : (a b : Bool) → IsFalse (a || b) → IsFalse b

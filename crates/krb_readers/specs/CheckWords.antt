@@ -1,8 +1,9 @@
 -- What the words of ktcheck ask for.
-use Rattle.std.specs.Prelude.{ℕ, List, codes, Bool, ◌||◌, if◌then◌else◌, Option, None, Some, slice_get}
+use Rattle.std.specs.Prelude.{ℕ, List, [], ◌∷◌, codes, Bool, if◌then◌else◌, Option, None, Some, slice_get}
 use Rattle.std.specs.List.{filter_map, list_any}
 use Rattle.std.specs.Str.{bytes_eq}
 use Rattle.krb_audit.specs.declared.finding_words.FindingWords.{FindingWords}
+use Rattle.krb_audit.specs.Report.{has_words}
 use Rattle.krb_readers.specs.declared.ktcheck.words.CheckOptions.{CheckOptions}
 use Rattle.krb_driver.specs.Matches.{Matched, v1_order}
 use Rattle.krb_driver.specs.Mistakes.{MistakeParts, NoFinding}
@@ -22,11 +23,9 @@ allowed_words words = record {
   mode = is_given words (codes "mode");
 }
 
--- a word is the name of a finding
+-- a word is the name of a finding: if it alone is given, a finding is allowed
 abbrev pub is_finding : List ℕ → Bool
-is_finding word =
-    bytes_eq word (codes "weak") || (bytes_eq word (codes "hidden") || (bytes_eq word (codes "same")
-    || (bytes_eq word (codes "clash") || (bytes_eq word (codes "old") || bytes_eq word (codes "mode")))))
+is_finding word = has_words (allowed_words (word ∷ []))
 
 -- the mistake in a word that is no finding
 abbrev pub bad_finding : List ℕ → Option MistakeParts

@@ -9,6 +9,7 @@ use Rattle.krb_files.specs.Plan.{Ends}
 use Rattle.krb_audit.specs.declared.finding_words.FindingWords.{FindingWords}
 use Rattle.krb_audit.specs.Findings.{weak_among}
 use Rattle.krb_audit.specs.Report.{has_words, joined, report, without, words_found, words_of, wrong_words}
+use Rattle.krb_driver.specs.declared.command.RunEnd.{RunEnd}
 use Rattle.krb_driver.specs.declared.error.RunError.TheVariants as error
 use Rattle.krb_driver.specs.declared.file_name.FileName.{FileName}
 use Rattle.krb_driver.specs.declared.verdict.Findings.{Findings}
@@ -18,7 +19,8 @@ use Rattle.krb_driver.specs.Commands.{EndsCommand, any}
 use Rattle.krb_driver.specs.Effects.{CommandPlan, Displays, Page, opens, text}
 use Rattle.krb_driver.specs.ErrorOutput.{ErrorWatch}
 use Rattle.krb_driver.specs.Opening.{keytab_in}
-use Rattle.krb_driver.specs.RunErrors.{Ending, ending_status}
+use Rattle.krb_driver.specs.FileNames.{shown_name}
+use Rattle.krb_driver.specs.RunErrors.{Ending}
 use Rattle.krb_readers.specs.declared.ktcheck.words.CheckOptions.{CheckOptions}
 
 -- ---- a file
@@ -38,6 +40,7 @@ findings_of o explained mode k = record {
   weak_etypes = weak_among (placed_entries k);
   fault = fault_of (store_of k);
   is_wrong = has_words (without (wrong_words mode k) o.allowed) || is_some (fault_of (store_of k));
+  v1_order = o.v1_order;
 }
 
 -- the verdict: `Well` if nothing is found
@@ -48,9 +51,9 @@ found_verdict o explained mode k = if is_well mode k then Well else Found (findi
 abbrev pub page_of : CheckOptions → List ℕ → FindingWords → Option ℕ → KeytabState → Page
 page_of o label explained mode k = text (printed o label mode k) (found_verdict o explained mode k)
 
--- the label of a file's lines: its name, if there are several files
+-- the label of a file's lines: its name, as it is shown in a line, if there are several files
 abbrev pub label_of : Bool → List ℕ → List ℕ
-label_of is_named name = if is_named then name ++ codes ": " else []
+label_of is_named name = if is_named then shown_name name ++ codes ": " else []
 
 -- a file is opened, and what is found about its keytab is printed
 abbrev pub plan_of : CheckOptions → Bool → FindingWords → FileName → Option ℕ → CommandPlan
@@ -79,10 +82,10 @@ is_spent ending = false
 
 module _ {F : Type 0} (trait : Ghosts F) (o : CheckOptions) (is_named : Bool) where
   -- a file was checked, and this is how that ended
-  pub record ChecksFile (file : FileName) (old new : Round F) (ending : Ending) : Type 0 where
-    pub runs : EndsCommand trait (plan_of o is_named old.explained file) any old.files new.files old.out new.out old.err new.err ending
-    pub explained : new.explained ≡ joined old.explained (explained_by ending)
-    pub worst : new.status ≡ max old.status (ending_status ending)
+  pub record ChecksFile (file : FileName) (old new : Round F) (end : RunEnd) : Type 0 where
+    pub runs : EndsCommand trait (plan_of o is_named old.explained file) any old.files new.files old.out new.out old.err new.err end
+    pub explained : new.explained ≡ joined old.explained (explained_by end.ending)
+    pub worst : new.status ≡ max old.status end.status
 
   -- no file comes after one if memory ran out, or the output failed
   abbrev pub is_last : Ending → Round F → Bool
@@ -92,8 +95,8 @@ module _ {F : Type 0} (trait : Ghosts F) (o : CheckOptions) (is_named : Bool) wh
   abbrev pub ChecksOver : List FileName → Round F → Round F → Type 0
   ChecksOver [] old new = new ≡ old
   ChecksOver (file ∷ files) old new =
-      (between : Round F) × (ending : Ending) × ChecksFile file old between ending
-      × ((IsTrue (is_last ending between) × (new ≡ between)) ⊎ (IsFalse (is_last ending between) × ChecksOver files between new))
+      (between : Round F) × (end : RunEnd) × ChecksFile file old between end
+      × ((IsTrue (is_last end.ending between) × (new ≡ between)) ⊎ (IsFalse (is_last end.ending between) × ChecksOver files between new))
 
 -- a run before its first file
 abbrev pub first_round : {F : Type 0} → F → Watch → ErrorWatch → Round F

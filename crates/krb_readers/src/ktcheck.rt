@@ -10,14 +10,13 @@ ghost use Rattle.krb_audit.specs.Findings.{weak_among};
 ghost use Rattle.krb_audit.specs.Report.{joined, report, words_found, wrong_words};
 ghost use Rattle.krb_driver.specs.Commands.{output_page, text_effect};
 ghost use Rattle.krb_driver.specs.Effects.{Displays, IsMade};
-ghost use Rattle.krb_driver.specs.RunErrors.{ending_status};
 ghost use Rattle.krb_readers.specs.Ktcheck.{ChecksAll, explained_by, found_verdict, is_spent, is_well, label_of, page_of};
 
 use crate::ktcheck::words::CheckOptions;
 use krb_audit::{CheckUp, FindingWords, check_up};
 use krb_driver::{
-    Command, FileError, FileName, Findings, Made, Output, RunError, Streams, Verdict, open_keytab,
-    run_to_end, status_of,
+    Command, FileError, FileName, Findings, Made, Output, RunEnd, RunError, Streams, Verdict,
+    append_name, open_keytab, run_to_end,
 };
 use krb_files::Files;
 use krb_keytab::Keytab;
@@ -65,6 +64,7 @@ fn verdict_of<A: Allocator>(
         weak_etypes: found.weak_etypes,
         fault,
         is_wrong: wrong.has_some() || fault.is_some(),
+        v1_order: options.v1_order,
     })
 }
 
@@ -92,7 +92,7 @@ fn label_of<A: Allocator>(alloc: A, command: &CheckFile<'_>) -> Result<Vec<u8, A
 {
     let mut label = Vec::new(alloc);
     if command.is_named {
-        label.extend_from_slice(command.file.name.as_bytes())?;
+        append_name(command.file.name.as_bytes(), &mut label)?;
         label.extend_from_slice(b": ")?;
     }
     Ok(label)
@@ -163,19 +163,19 @@ fn is_last(ending: Result<Verdict, RunError>, has_out_failed: bool) -> bool
 
 impl SoFar {
     // Returns what is known after a file.
-    fn after(self, ending: Result<Verdict, RunError>) -> SoFar
-        ensures explained { result.explained ≡ joined self.explained (explained_by ending) }
-        ensures status { result.status ≡ max self.status (ending_status ending) }
+    fn after(self, end: RunEnd) -> SoFar
+        ensures explained { result.explained ≡ joined self.explained (explained_by end.ending) }
+        ensures status { result.status ≡ max self.status end.status }
     {
         SoFar {
-            explained: self.explained.and(explained_by(ending)),
-            status: self.status.max(status_of(ending)),
+            explained: self.explained.and(explained_by(end.ending)),
+            status: self.status.max(end.status),
         }
     }
 }
 
 /// Prints what an administrator should know about keytabs, a file after the other, and returns the greatest status. With
-/// several files each line begins with the name of its file. Words explain each finding once, at the first file that has
+/// several files each line begins with the name of its file, without a newline. Words explain each finding once, at the first file that has
 /// it. Ends early if memory runs out or the output fails.
 pub fn run_ktcheck<A: Allocator + Copy, F: Files, R: Read, W: Write, E: Write>(
     alloc: A,
@@ -201,9 +201,9 @@ pub fn run_ktcheck<A: Allocator + Copy, F: Files, R: Read, W: Write, E: Write>(
             is_named,
             explained: so_far.explained,
         };
-        let ending = run_to_end(alloc, &command, files, streams);
-        so_far = so_far.after(ending);
-        if is_last(ending, streams.out.has_failed()) {
+        let end = run_to_end(alloc, &command, files, streams);
+        so_far = so_far.after(end);
+        if is_last(end.ending, streams.out.has_failed()) {
             return so_far.status;
         }
     }

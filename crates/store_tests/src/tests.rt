@@ -1,9 +1,11 @@
 mod calls;
+mod holes;
 mod made;
 mod memory;
 mod names;
 mod no_growth;
 mod readme;
+mod reads;
 mod records;
 mod runs;
 mod turns;

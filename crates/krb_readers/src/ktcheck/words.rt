@@ -84,7 +84,7 @@ fn allowed_words(words: &[&str]) -> FindingWords
 fn is_finding(word: &str) -> bool
     ensures { result ≡ is_finding word.now }
 {
-    matches!(word, "weak" | "hidden" | "same" | "clash" | "old" | "mode")
+    allowed_words(&[word]).has_some()
 }
 
 // Returns the mistake in a word that is no finding.

@@ -1,5 +1,6 @@
 //! Caches and their changes. Images are spelled out by hand.
 
+mod credentials;
 mod memory;
 
 use krb_ccache::{Ccache, Cred};
@@ -57,16 +58,21 @@ fn is_spelled(image: &[u8], parts: &[&[u8]]) -> bool {
     rest.is_empty()
 }
 
-// Returns the cache `CACHE` with that capacity.
-fn cache_in<A: Allocator>(alloc: A, room: usize) -> Result<Ccache<A>, Fail> {
+// Returns the cache of those parts with that capacity at least.
+fn cache_with<A: Allocator>(alloc: A, parts: &[&[u8]], room: usize) -> Result<Ccache<A>, Fail> {
     let mut image = Vec::with_capacity(alloc, room)?;
-    for part in CACHE {
+    for part in parts {
         image.extend_from_slice(part)?;
     }
     match Ccache::open(image, Limits::usual()) {
         Ok(cache) => Ok(cache),
         Err(_) => Err(Fail::from("no cache")),
     }
+}
+
+// Returns the cache `CACHE` with that capacity at least.
+fn cache_in<A: Allocator>(alloc: A, room: usize) -> Result<Ccache<A>, Fail> {
+    cache_with(alloc, CACHE, room)
 }
 
 // Returns a copy of the ticket at 40.

@@ -37,6 +37,32 @@ fn the_reads_of_a_load(rt: HostRuntime) {
     }
 }
 
+/// Returns which of a save, a load and a save are done.
+fn which_are_done<A: Allocator + Copy>(alloc: A, files: &mut MemFiles<A>) -> [bool; 3] {
+    let saved = files.save("k", b"old");
+    let loaded = files.load(alloc, "k", 3);
+    let saved_again = files.save("k", b"new");
+    [
+        saved == Ok(()),
+        matches!(loaded, Ok(bytes) if bytes.as_slice() == b"old".as_slice()),
+        saved_again == Ok(()),
+    ]
+}
+
+/// The first, the second, or none of the calls fails. Where the first save fails there is no file to load.
+#[test]
+fn a_call_that_is_set_to_fail(rt: HostRuntime) {
+    for (nth, wanted) in [
+        (0, [true, true, true]),
+        (1, [false, false, true]),
+        (2, [true, false, true]),
+    ] {
+        let mut files = MemFiles::of(rt.alloc(), Vec::new(rt.alloc()));
+        files.fail_at(nth);
+        assert!(rt; which_are_done(rt.alloc(), &mut files) == wanted);
+    }
+}
+
 /// Saves a file, saves it again, and loads it; then loads more bytes than were expected.
 fn save_and_load<A: Allocator + Copy>(alloc: A, bytes: &[u8]) -> Result<usize, LoadFault> {
     let mut files = MemFiles::of(alloc, Vec::new(alloc));

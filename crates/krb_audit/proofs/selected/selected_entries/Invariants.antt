@@ -1,6 +1,7 @@
 use Rattle.std.proofs.Common.{◌≡◌}
 use Rattle.krb_keytab.specs.Find.{placed_entries}
-use Rattle.krb_audit.specs.Prepared.{IsPrepared, ListsUpTo}
+use Rattle.krb_audit.specs.Prepared.{IsPrepared}
+use Rattle.krb_audit.proofs.UpTo.{ListsUpTo}
 use Rattle.krb_audit.proofs.selected.selected_entries.Given as goal
 
 -- the selected ones of the entries so far were added

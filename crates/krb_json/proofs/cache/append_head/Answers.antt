@@ -1,6 +1,6 @@
 use Rattle.std.proofs.Common.{codes, ap, ◌∙◌, ◌++◌}
 use Rattle.std.proofs.lemmas.Result.{on_ok_weaker}
-use Rattle.json.specs.Print.{print}
+use Rattle.krb_json.specs.Escaped.{text_of}
 use Rattle.krb_wire.specs.Names.{name_text}
 use Rattle.krb_ccache.specs.Store.{version_byte}
 use Rattle.krb_json.specs.Members.{file_members, text_member}
@@ -15,4 +15,4 @@ returns-clause-text g c =
     let tokens =
     head_written_more (file_members c.args.file.now (codes "ccache") (version_byte k.version)) (text_member (codes "default_principal") (name_text k.principal)) (codes "tickets") _ _ _ _
     c.requires begun named c.in_ok-begin_array.ensures in
-    on_ok_weaker c.append_to.result (λ text. text ∙ ap (λ t. c.args.gathered.now.items ++ print t) tokens) c.append_to.ensures.text
+    on_ok_weaker c.append_to.result (λ text. text ∙ ap (λ t. c.args.gathered.now.items ++ text_of t) tokens) c.append_to.ensures.text

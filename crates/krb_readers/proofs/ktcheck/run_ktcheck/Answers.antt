@@ -19,20 +19,20 @@ names-preserved g c =
     let first = first_round c.args.files.now c.args.streams.now.out c.args.streams.now.err in
     let old : Round g.row.F.Denot = record { files = c.names.files; out = c.names.streams.out; err = c.names.streams.err; explained = c.names.so_far.explained; status = c.names.so_far.status } in
     let new : Round g.row.F.Denot = record {
-      files = c.run_to_end-ending.new.files;
-      out = c.run_to_end-ending.new.streams.out;
-      err = c.run_to_end-ending.new.streams.err;
+      files = c.run_to_end-end.new.files;
+      out = c.run_to_end-end.new.streams.out;
+      err = c.run_to_end-end.new.streams.err;
       explained = c.after-so_far.result.explained;
       status = c.after-so_far.result.status;
     } in
-    let ending = c.run_to_end-ending.result in
+    let end = c.run_to_end-end.result in
     let leads = subst (λ (rest : List FileName). Leads g.F.Files o named names rest first old) (drop_more names i none (omega arith)) c.names.invariant.leads in
-    let goes : IsFalse (is_spent ending || new.out.failed) = ap (λ (b : Bool). is_spent ending || b) (sym c.has_failed.ensures) ∙ sym c.is_last.ensures ∙ c.if-is_last.false in
+    let goes : IsFalse (is_spent end.ending || new.out.failed) = ap (λ (b : Bool). is_spent end.ending || b) (sym c.has_failed.ensures) ∙ sym c.is_last.ensures ∙ c.if-is_last.false in
     record {
-      well = second_fails (is_spent ending) new.out.failed goes;
-      input = c.run_to_end-ending.ensures.input ∙ c.names.invariant.input;
-      leads = one_more g.F.Files o named names (drop (i + 1) names) (get_or names i none) first old new ending leads
-          (record { runs = c.run_to_end-ending.ensures.runs; explained = c.after-so_far.ensures.explained; worst = c.after-so_far.ensures.status }) goes;
+      well = second_fails (is_spent end.ending) new.out.failed goes;
+      input = c.run_to_end-end.ensures.input ∙ c.names.invariant.input;
+      leads = one_more g.F.Files o named names (drop (i + 1) names) (get_or names i none) first old new end leads
+          (record { runs = c.run_to_end-end.ensures.runs; explained = c.after-so_far.ensures.explained; worst = c.after-so_far.ensures.status }) goes;
     }
 
 pub returns-then-is_last-clause-checks : goal.returns-then-is_last-clause-checks
@@ -44,19 +44,19 @@ returns-then-is_last-clause-checks g c =
     let first = first_round c.args.files.now c.args.streams.now.out c.args.streams.now.err in
     let old : Round g.row.F.Denot = record { files = c.names.files; out = c.names.streams.out; err = c.names.streams.err; explained = c.names.so_far.explained; status = c.names.so_far.status } in
     let new : Round g.row.F.Denot = record {
-      files = c.run_to_end-ending.new.files;
-      out = c.run_to_end-ending.new.streams.out;
-      err = c.run_to_end-ending.new.streams.err;
+      files = c.run_to_end-end.new.files;
+      out = c.run_to_end-end.new.streams.out;
+      err = c.run_to_end-end.new.streams.err;
       explained = c.after-so_far.result.explained;
       status = c.after-so_far.result.status;
     } in
-    let ending = c.run_to_end-ending.result in
+    let end = c.run_to_end-end.result in
     let leads = subst (λ (rest : List FileName). Leads g.F.Files o named names rest first old) (drop_more names i none (omega arith)) c.names.invariant.leads in
-    let last : IsTrue (is_spent ending || new.out.failed) = ap (λ (b : Bool). is_spent ending || b) (sym c.has_failed.ensures) ∙ sym c.is_last.ensures ∙ c.if-is_last.true in
+    let last : IsTrue (is_spent end.ending || new.out.failed) = ap (λ (b : Bool). is_spent end.ending || b) (sym c.has_failed.ensures) ∙ sym c.is_last.ensures ∙ c.if-is_last.true in
     record {
       explained = new.explained;
-      over = last_one g.F.Files o named names (drop (i + 1) names) (get_or names i none) first old new ending leads
-          (record { runs = c.run_to_end-ending.ensures.runs; explained = c.after-so_far.ensures.explained; worst = c.after-so_far.ensures.status }) last;
+      over = last_one g.F.Files o named names (drop (i + 1) names) (get_or names i none) first old new end leads
+          (record { runs = c.run_to_end-end.ensures.runs; explained = c.after-so_far.ensures.explained; worst = c.after-so_far.ensures.status }) last;
     }
 
 pub returns-clause-checks : goal.returns-clause-checks

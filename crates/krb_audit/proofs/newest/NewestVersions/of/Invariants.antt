@@ -1,5 +1,5 @@
 use Rattle.std.proofs.Common.{◌≡◌}
-use Rattle.krb_audit.specs.Known.{IsKnownUpTo}
+use Rattle.krb_audit.proofs.UpTo.{IsKnownUpTo}
 use Rattle.krb_audit.proofs.newest.NewestVersions.of.Given as goal
 
 -- the entries so far are known

@@ -1,6 +1,6 @@
 use Rattle.std.proofs.Common.{◌≡◌}
 use Rattle.krb_keytab.specs.Find.{placed_entries}
-use Rattle.krb_audit.specs.Young.{MarksUpTo}
+use Rattle.krb_audit.proofs.UpTo.{MarksUpTo}
 use Rattle.krb_audit.proofs.young.Young.of.Given as goal
 
 -- the entries so far were considered

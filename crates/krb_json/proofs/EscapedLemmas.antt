@@ -1,0 +1,148 @@
+-- Escaped texts: byte by byte, and token by token.
+use Rattle.std.proofs.Common.{◌≡◌, ℕ, Bool, true, false, List, [], ◌∷◌, ◌++◌, length, take, fold, ◌≤◌, refl, sym, ap, subst, ◌∙◌, append_assoc, append-nil}
+use Rattle.std.specs.Prelude.{◌==◌, if◌then◌else◌}
+use Rattle.std.specs.List.{list_any}
+use Rattle.std.proofs.lemmas.Bool.{and_right, false≢true, ne_eqb, or_parts}
+use Rattle.std.proofs.lemmas.List.{take_all}
+use Rattle.json.specs.Token.{Token, begin_object, end_object, begin_array, end_array, key, string, number, boolean, null, bad}
+use Rattle.json.specs.Print.{print_from, quoted, ends, separator, token_text}
+use Rattle.krb_json.specs.Escaped.{escape, escaped, held, is_pair, is_second, is_special, single}
+
+-- ---- bytes
+
+-- a byte that is no c2 is by itself
+pub escaped-single : (b : ℕ) (rest : List ℕ) → (b == 194) ≡ false → escaped (b ∷ rest) ≡ single b ++ escaped rest
+unfolding escaped
+escaped-single b [] other = sym (append-nil (single b))
+escaped-single b (c ∷ rest) other = rw other refl
+
+-- a byte that needs no escape
+pub escaped-plain : (b : ℕ) (rest : List ℕ) → (b == 127) ≡ false → (b == 194) ≡ false → escaped (b ∷ rest) ≡ b ∷ escaped rest
+escaped-plain b rest delete first = escaped-single b rest first ∙ rw delete refl
+
+-- so is a c2 before any other byte than 80 to 9f
+pub escaped-first : (b : ℕ) (rest : List ℕ) → is_second b ≡ false → escaped (194 ∷ b ∷ rest) ≡ 194 ∷ escaped (b ∷ rest)
+unfolding escaped
+escaped-first b rest other = rw other refl
+
+pub escaped-pair : (b : ℕ) (rest : List ℕ) → is_second b ≡ true → escaped (194 ∷ b ∷ rest) ≡ escape b ++ escaped rest
+unfolding escaped
+escaped-pair b rest second = rw second refl
+
+-- before a byte that ends no pair a text may be cut
+pub escaped-cut : (text : List ℕ) (b : ℕ) (rest : List ℕ) → is_second b ≡ false → escaped (text ++ b ∷ rest) ≡ escaped text ++ escaped (b ∷ rest)
+unfolding escaped
+escaped-cut [] b rest other = refl
+escaped-cut (x ∷ []) b rest other = rw (and_right (x == 194) (is_second b) other) refl
+escaped-cut (x ∷ y ∷ text) b rest other =
+    let whole = escaped (text ++ b ∷ rest) in
+    elim (is_pair x y) as (λ p. (if p then escape y ++ whole else single x ++ escaped (y ∷ (text ++ b ∷ rest))) ≡ (if p then escape y ++ escaped text else single x ++ escaped (y ∷ text)) ++ escaped (b ∷ rest)) [
+      | true ↦ ap (λ l. escape y ++ l) (escaped-cut text b rest other) ∙ sym (append_assoc (escape y) (escaped text) (escaped (b ∷ rest)))
+      | false ↦ ap (λ l. single x ++ l) (escaped-cut (y ∷ text) b rest other) ∙ sym (append_assoc (single x) (escaped (y ∷ text)) (escaped (b ∷ rest)))
+    ]
+
+-- a text of bytes that need no escape is as it is
+pub escaped-none : (text : List ℕ) → list_any is_special text ≡ false → escaped text ≡ text
+unfolding escaped
+escaped-none [] none = refl
+escaped-none (b ∷ text) none =
+    let parts = or_parts (is_special b) (list_any is_special text) none in
+    let both = or_parts (b == 127) (b == 194) parts.0 in
+    escaped-plain b text both.0 both.1 ∙ ap (λ l. b ∷ l) (escaped-none text parts.1)
+
+-- ---- bytes that were added
+
+-- a text after an old one, and a rest
+joined : (old new text more rest : List ℕ) → new ≡ old ++ text → text ++ more ≡ rest → new ++ more ≡ old ++ rest
+joined old new text more rest e same = ap (λ l. l ++ more) e ∙ append_assoc old text more ∙ ap (λ l. old ++ l) same
+
+-- an escaped 7f
+pub added-delete : (b : ℕ) (old new rest : List ℕ) → b ≡ 127 → new ≡ old ++ escape b → new ++ escaped rest ≡ old ++ escaped (b ∷ rest)
+added-delete b old new rest is e =
+    subst (λ x. new ≡ old ++ escape x → new ++ escaped rest ≡ old ++ escaped (x ∷ rest)) (sym is) (λ f. joined old new (escape 127) _ _ f (sym (escaped-single 127 rest refl))) e
+
+-- a byte as it is
+pub added-plain : (b : ℕ) (old new rest : List ℕ) → (b ≡ 127 → ⊥) → (b ≡ 194 → ⊥) → new ≡ old ++ b ∷ [] → new ++ escaped rest ≡ old ++ escaped (b ∷ rest)
+added-plain b old new rest delete first e = joined old new (b ∷ []) _ _ e (sym (escaped-plain b rest (ne_eqb b 127 delete) (ne_eqb b 194 first)))
+
+-- a c2 that begins no pair
+pub added-first : (b : ℕ) (old new rest : List ℕ) → is_second b ≡ false → new ≡ old ++ 194 ∷ [] → new ++ escaped (b ∷ rest) ≡ old ++ escaped (194 ∷ b ∷ rest)
+added-first b old new rest other e = joined old new (194 ∷ []) _ _ e (sym (escaped-first b rest other))
+
+-- an escaped pair
+pub added-pair : (b : ℕ) (old new rest : List ℕ) → is_second b ≡ true → new ≡ old ++ escape b → new ++ escaped rest ≡ old ++ escaped (194 ∷ b ∷ rest)
+added-pair b old new rest second e = joined old new (escape b) _ _ e (sym (escaped-pair b rest second))
+
+-- at the end of a text, with or without a c2 that is held back
+pub ended-holding : (old out text : List ℕ) (holds : Bool) (i : ℕ) → holds ≡ true → length text ≤ i → ((rest : List ℕ) → out ++ escaped (held holds ++ rest) ≡ old ++ escaped (take i text ++ rest)) → out ++ 194 ∷ [] ≡ old ++ escaped text
+unfolding escaped
+ended-holding old out text true i is le h = h [] ∙ ap (λ t. old ++ escaped t) (append-nil (take i text) ∙ take_all i text le)
+ended-holding old out text false i is le h = absurd (false≢true is)
+
+pub ended : (old out text : List ℕ) (holds : Bool) (i : ℕ) → holds ≡ false → length text ≤ i → ((rest : List ℕ) → out ++ escaped (held holds ++ rest) ≡ old ++ escaped (take i text ++ rest)) → out ≡ old ++ escaped text
+unfolding escaped
+ended old out text false i is le h = sym (append-nil out) ∙ h [] ∙ ap (λ t. old ++ escaped t) (append-nil (take i text) ∙ take_all i text le)
+ended old out text true i is le h = absurd (false≢true (sym is))
+
+-- ---- tokens
+
+-- after a value's text the next may be cut off: it begins with a comma or a closing bracket
+after_value : (text : List ℕ) (ts : List Token) → escaped (text ++ print_from true ts) ≡ escaped text ++ escaped (print_from true ts)
+unfolding print_from escaped
+after_value text [] = ap escaped (append-nil text) ∙ sym (append-nil (escaped text))
+after_value text (begin_object ∷ ts) = escaped-cut text 44 _ refl
+after_value text (end_object ∷ ts) = escaped-cut text 125 _ refl
+after_value text (begin_array ∷ ts) = escaped-cut text 44 _ refl
+after_value text (end_array ∷ ts) = escaped-cut text 93 _ refl
+after_value text (key s ∷ ts) = escaped-cut text 44 _ refl
+after_value text (string s ∷ ts) = escaped-cut text 44 _ refl
+after_value text (number s ∷ ts) = escaped-cut text 44 _ refl
+after_value text (boolean b ∷ ts) = escaped-cut text 44 _ refl
+after_value text (null ∷ ts) = escaped-cut text 44 _ refl
+after_value text (bad ∷ ts) = escaped-cut text 44 _ refl
+
+-- so may any text after a byte that needs no escape
+after_plain : (text : List ℕ) (b : ℕ) (rest : List ℕ) → is_second b ≡ false → (b == 127) ≡ false → (b == 194) ≡ false → escaped ((text ++ b ∷ []) ++ rest) ≡ escaped (text ++ b ∷ []) ++ escaped rest
+unfolding escaped
+after_plain text b rest other delete first =
+    ap escaped (append_assoc text (b ∷ []) rest)
+    ∙ escaped-cut text b rest other
+    ∙ ap (λ l. escaped text ++ l) (escaped-plain b rest delete first)
+    ∙ sym (append_assoc (escaped text) (b ∷ []) (escaped rest))
+    ∙ ap (λ l. (escaped text ++ l) ++ escaped rest) (sym (escaped-plain b [] delete first))
+    ∙ ap (λ l. l ++ escaped rest) (sym (escaped-cut text b [] other))
+
+-- the text of a token may be cut off from that of the next
+next_token : (c : Bool) (t : Token) (ts : List Token) → escaped ((separator c t ++ token_text t) ++ print_from (ends t) ts) ≡ escaped (separator c t ++ token_text t) ++ escaped (print_from (ends t) ts)
+next_token c begin_object ts = after_plain (separator c begin_object) 123 _ refl refl refl
+next_token c end_object ts = after_value _ ts
+next_token c begin_array ts = after_plain (separator c begin_array) 91 _ refl refl refl
+next_token c end_array ts = after_value _ ts
+next_token c (key s) ts =
+    let text = separator c (key s) ++ quoted s in
+    let front : separator c (key s) ++ (quoted s ++ 58 ∷ []) ≡ text ++ 58 ∷ [] = sym (append_assoc (separator c (key s)) (quoted s) (58 ∷ [])) in
+    ap (λ l. escaped (l ++ print_from false ts)) front ∙ after_plain text 58 _ refl refl refl ∙ ap (λ l. escaped l ++ escaped (print_from false ts)) (sym front)
+next_token c (string s) ts = after_value _ ts
+next_token c (number s) ts = after_value _ ts
+next_token c (boolean b) ts = after_value _ ts
+next_token c null ts = after_value _ ts
+next_token c bad ts = after_value _ ts
+
+-- the text of tokens, after a value or not
+abbrev pub text_from : Bool → List Token → List ℕ
+text_from c ts = escaped (print_from c ts)
+
+-- the text of a token and that of those after it
+pub text_from-next : (c : Bool) (t : Token) (ts : List Token) → text_from c (t ∷ ts) ≡ escaped (separator c t ++ token_text t) ++ text_from (ends t) ts
+unfolding print_from
+text_from-next c t ts = ap escaped (sym (append_assoc (separator c t) (token_text t) (print_from (ends t) ts))) ∙ next_token c t ts
+
+pub text_from-append : (c : Bool) (ts us : List Token) → text_from c (ts ++ us) ≡ text_from c ts ++ text_from (fold (λ _ u. ends u) c ts) us
+unfolding print_from escaped
+text_from-append c [] us = refl
+text_from-append c (t ∷ ts) us =
+    let front = escaped (separator c t ++ token_text t) in
+    text_from-next c t (ts ++ us)
+    ∙ ap (λ l. front ++ l) (text_from-append (ends t) ts us)
+    ∙ sym (append_assoc front (text_from (ends t) ts) _)
+    ∙ ap (λ l. l ++ text_from (fold (λ _ u. ends u) (ends t) ts) us) (sym (text_from-next c t ts))

@@ -1,0 +1,47 @@
+-- The text of a value, in which no control character stands as it is.
+use Rattle.std.specs.Prelude.{ℕ, ◌==◌, List, [], ◌∷◌, ◌++◌, codes, Bool, ◌&&◌, ◌||◌, if◌then◌else◌, nat_le}
+use Rattle.hex.specs.Hex.{encode_lower}
+use Rattle.json.specs.Json.{Json}
+use Rattle.json.specs.Token.{Token}
+use Rattle.json.specs.Print.{print}
+use Rattle.json.specs.Tree.{json_tokens}
+
+-- a byte from 80 to 9f
+abbrev pub is_second : ℕ → Bool
+is_second b = nat_le 128 b && nat_le b 159
+
+-- two bytes that are one of the characters U+0080 to U+009F: c2, and the character's number
+abbrev pub is_pair : ℕ → ℕ → Bool
+is_pair a b = (a == 194) && is_second b
+
+-- the escape of a character: `\u00`, and its number in two hexadecimal digits
+abbrev pub escape : ℕ → List ℕ
+escape c = codes "\\u00" ++ encode_lower (c ∷ [])
+
+-- a byte of any other character: 7f is escaped
+abbrev pub single : ℕ → List ℕ
+single b = if b == 127 then escape b else b ∷ []
+
+-- a text of JSON in which 7f and the characters U+0080 to U+009F are escaped too
+unfoldable pub escaped : List ℕ → List ℕ
+escaped [] = []
+escaped (a ∷ []) = single a
+escaped (a ∷ b ∷ rest) = if is_pair a b then escape b ++ escaped rest else single a ++ escaped (b ∷ rest)
+
+-- the text of tokens
+abbrev pub text_of : List Token → List ℕ
+text_of ts = escaped (print ts)
+
+-- the text of a value
+abbrev pub json_text : Json → List ℕ
+json_text v = text_of (json_tokens v)
+
+-- ---- for private contracts
+
+-- what is held back
+abbrev pub held : Bool → List ℕ
+held holds = if holds then 194 ∷ [] else []
+
+-- a byte that may have to be escaped
+abbrev pub is_special : ℕ → Bool
+is_special b = (b == 127) || (b == 194)
