@@ -136,6 +136,7 @@ WRONG_BODIES = {
         "saves-the-text": "what is printed is saved in the file's place",
     },
     "krb_readers": {
+        "a-fault-is-not-wrong": "ktcheck has status 0 for a keytab with a fault",
         "a-missing-cache-is-enough": "a cache that is missing has a ticket to go on with",
         "a-service-ticket-is-enough": "another ticket is enough beside a ticket-granting ticket that has ended",
         "status-of-the-last": "the status of several keytabs is that of the last",
