@@ -62,6 +62,7 @@ WRONG_BODIES = {
         "trusts-the-header-beyond-the-file": "a header that the file cuts short is read as empty",
     },
     "krb_files": {
+        "a-failed-write-is-well": "a text of which a write failed counts as written",
         "a-read-that-did-not-fail-is-told-as-failed": "an empty file is reported as one that cannot be read",
     },
     "krb_json": {
@@ -118,20 +119,30 @@ WRONG_BODIES = {
     },
     "krb_driver": {
         "a-failed-run-hides-what-its-save-left": "what a save left behind is not told of a run that failed",
+        "a-hint-forgets-the-order": "a hint leaves out the order in which ktcheck read the keytab",
+        "a-hint-that-fish-reads-otherwise": "a hint has a name with a backslash, which fish reads otherwise than sh",
+        "a-hold-is-never-left": "a command holds its file while it prints",
         "a-key-is-shown": "the first word of a script's line is shown though it may be a key",
         "a-letter-is-a-type": "one letter before a colon is a type",
+        "a-lost-change-is-told-in-words-alone": "a lost change is not told where no words are shown",
+        "a-lost-change-is-well": "a run that lost another program's change has status 0",
+        "a-name-makes-a-line": "a newline in a file's name makes a line of a message",
+        "a-short-key-is-shown": "a word of sixteen hexadecimal digits is shown",
         "an-option-is-named-by-its-letter": "an option that was typed by its long name is named by its letter",
+        "holds-another-name": "another file is held than the one that is saved",
         "holds-another-type": "a name of a type that is not read is held",
         "holds-no-file": "a command does not hold the file that it may change",
         "makes-the-file-to-be-saved-in-place": "an empty keytab takes the place of a missing file to be saved in place",
         "saves-the-text": "what is printed is saved in the file's place",
     },
     "krb_readers": {
+        "a-fault-is-not-wrong": "ktcheck has status 0 for a keytab with a fault",
         "a-missing-cache-is-enough": "a cache that is missing has a ticket to go on with",
         "a-service-ticket-is-enough": "another ticket is enough beside a ticket-granting ticket that has ended",
         "status-of-the-last": "the status of several keytabs is that of the last",
     },
     "krb_commands": {
+        "klist-eats-the-input": "klist reads the standard input before it lists",
         "the-default-in-place-of-the-name": "the default name is taken though a name is given",
     },
     "krb_editors": {
@@ -151,6 +162,7 @@ WRONG_BODIES = {
         "a-list-tells-what-a-save-left": "a line that saves nothing tells what an earlier save left behind",
         "every-command-wants-a-password": "read_kt too is told that keys are not made from passwords",
         "saves-part": "write_kt saves what it added before a refusal",
+        "wkt-holds-nothing": "write_kt does not hold the file that it changes",
         "writes-under-a-type": "write_kt writes a file whose name begins with a type",
     },
     "krb_terminal": {

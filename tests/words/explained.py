@@ -155,6 +155,10 @@ DAMAGED = code(1)
 LISTED_CACHE, IS_CACHE, NO_KEYTAB = map(no_keytab, (LISTED_AS_KEYTAB, BEGINS_AS_CACHE, BEGINS_AS_NO_KEYTAB))
 
 CASES = [
+    # A newline in the name of a file makes no line of its own.
+    case("a missing file with a newline in its name", ("klist", "-k", "a\nb"), None, ("a\\x0ab: no such file", "")),
+    case("a cache with a newline in its name", ("ktfind", "a\nb", "0", "0", "b@R"), b"\5\4",
+         no_keytab(BEGINS_AS_CACHE, "a\\x0ab"), file="a\nb"),
     # Files that are not keytabs, for each command.
     case("klist -k of 05", "klist -k k", b"\x05", no_keytab(SHORT)),
     case("klist -k of 0503", "klist -k k", b"\x05\x03", LISTED_CACHE),

@@ -13,8 +13,9 @@ from runs.terminal import EXPLAIN
 from words.explained import Explained
 from words.phrases import FAULTS, FINDINGS
 
-SEE = "to see what would go: krbfile ktremove -n"
-OLD, RC4, ONCE = f"{SEE} -k old ", f"{SEE} -e arcfour-hmac ", "to have each once: krbfile ktcopy "
+REMOVE, COPY = "to see what would go: krbfile ktremove", "to have each once: krbfile ktcopy"
+SEE = f"{REMOVE} -n"
+OLD, RC4, ONCE = f"{SEE} -k old --age 86400 ", f"{SEE} -e arcfour-hmac ", f"{COPY} "
 
 # A keytab of the three findings that have hints, and what each of their commands prints.
 ALL = keytab(replace(HOST, enctype=23), B, B, FIVE)
@@ -29,12 +30,14 @@ EACH = f"{SEE} -e 1 -e 2 -e 3 -e 4 -e 6 -e 8 -e des3-cbc-sha1 -e arcfour-hmac -e
 # Words for files, and the operands of their hints.
 NAMES = {
     "k": "k", "./k": "./k", "AZaz09_-.:@%+,=": "AZaz09_-.:@%+,=", "C:k": "C:k", "./FILE:k": "./FILE:k",
-    "a b": "'a b'", "it's": "'it'\\''s'", "'": "''\\'''", "''a": "''\\'''\\''a'", 'a"b': "'a\"b'", "a\\": "'a\\'",
+    "a b": "'a b'", "it's": "'it'\\''s'", "'": "''\\'''", "''a": "''\\'''\\''a'", 'a"b': "'a\"b'",
     "$HOME": "'$HOME'", "`id`": "'`id`'", "k;id": "'k;id'", "*": "'*'", "~": "'~'", "#k": "'#k'", "!k": "'!k'",
-    "é": "'é'", "new\nline": "'new\nline'",
     "-k": "./-k", "--": "./--", "- k": "'./- k'", "-'": "'./-'\\'''",
     "FILE:FILE:k": "./FILE:k", "WRFILE:KCM:k": "./KCM:k", "FILE:ab:it's": "'./ab:it'\\''s'",
 }
+
+# Words for files whose names shells read in more than one way: they have no hints.
+READ_OTHERWISE = ("a\\", "a\\'; id #", "new\nline", "\n", "\t", "\x1f", "\x7f", "é", "\x80")
 
 # Such words whose operands have 256 bytes, as many as a hint's may have.
 LONGEST = {
@@ -76,7 +79,10 @@ def weak(*etypes: int) -> bytes:
 CASES = [
     # Names of files, and those that are too long for a hint by one byte.
     *(named(word, OLD + file, RC4 + file, f"{ONCE}{file} NEW") for word, file in {**NAMES, **LONGEST}.items()),
-    *(named(f"{word}x") for word in LONGEST), named("./" * 2_000 + "k"),
+    *(named(f"{word}x") for word in LONGEST), named("./" * 2_000 + "k"), *map(named, READ_OTHERWISE),
+    # The order of a keytab of version 1.
+    check_up("--v1-big k", {"k": ALL}, "weak", "same", "old", f"{REMOVE} --v1-big -n -k old --age 86400 k",
+             f"{REMOVE} --v1-big -n -e arcfour-hmac k", f"{COPY} --v1-big k NEW"),
     check_up("", {"a b": keytab(HOST, HOST)}, "same", f"{ONCE}'a b' NEW", options={"env": {"KRB5_KTNAME": "FILE:a b"}}),
     # Weak types, by rising number, each once.
     *(check_up("k", {"k": weak(17, number)}, "weak", f"{SEE} -e {name} k") for number, name in WEAK.items()),
@@ -87,6 +93,9 @@ CASES = [
              f"{RC4}k"),
     check_up("k", {"k": ALL + b"\0"}, "weak", "same", "old", f"k: fault 1 at {len(ALL)}", FAULTS[1], f"{OLD}k",
              f"{RC4}k", f"{ONCE}k NEW"),
+    # A newline in a name makes no line of its own.
+    check_up(("new\nline",), {"new\nline": keytab(weak(23)[2:], record(bytes(10)))}, "weak",
+             "new\\x0aline: fault 3 at 47", FAULTS[3]),
     # The types of the first file alone; it has no hint if its name is too long.
     check_up("k j", {"k": weak(3, 24), "j": weak(1, 23, 24)}, "weak", f"{SEE} -e 3 -e 24 k"),
     check_up((LONG, "j"), {LONG: weak(3), "j": ALL}, "weak", "same", "old", f"{OLD}j", f"{ONCE}j NEW"),
@@ -95,8 +104,8 @@ CASES = [
 
 def check(report: Report, program: str) -> None:
     """Has a shell run the commands of the hints, beside no other file."""
-    ascii_but_slash = "".join(map(chr, range(1, 128))).replace("/", "")
-    for word in (*NAMES, ascii_but_slash, "\n"):
+    printable = "".join(map(chr, range(32, 127))).replace("/", "").replace("\\", "")
+    for word in (*NAMES, printable):
         with folder_of({file_of(word): ALL}) as folder, folder_of({}) as programs:
             os.symlink(program, os.path.join(programs, "krbfile"))
             told = run(program, (EXPLAIN, "ktcheck", "--", word), folder).err.decode()

@@ -11,6 +11,11 @@ from words.explained import Explained
 
 MESSAGE = b"krbfile: bad command line\n"
 
+# A word that may be a key, what stands in its place, and a word that is too short for a key.
+KEY = "00112233445566778899aabbccddeeff"
+DIGITS = "a word of hexadecimal digits"
+SHORT = "0123456789abcde"
+
 # What is wrong, and lines with that mistake. If the line has a command, that command's help says more.
 MISTAKES: dict[str, list[str | Line]] = {
     "unknown command frob": ["frob", "help frob"],
@@ -102,6 +107,26 @@ MISTAKES: dict[str, list[str | Line]] = {
     '"b@R/x" has a / in the realm': ["ktfind k 0 0 b@R/x"],
 }
 
+# Lines with what may be a key, which is not shown, however it is given, and lines whose word is too short for that.
+HIDDEN: dict[str, list[str | Line]] = {
+    f"unknown command {DIGITS}": [KEY, f"{KEY} -k k", f"help {KEY}"],
+    f"unknown option --nosuch={DIGITS}": [f"klist --nosuch={KEY} k", f"ktremove --nosuch={KEY}@R k"],
+    f"unknown option --version={DIGITS}": [f"--version={KEY}"],
+    f"unknown option -n=p={DIGITS}": [f"ktremove -n=p={KEY} k"],
+    f"left over: {DIGITS}": [f"ktedit k {KEY}", f"ktfind k 0 0 b@R {KEY.upper()}", f"ktutil {KEY}"],
+    f"{DIGITS} is no version": [f"ktfind k {KEY} 0 b@R", f"ktremove -k {KEY} k", f"ktremove -k{KEY} k",
+                                f"ktremove -k={KEY} k", f"ktremove --kvno={KEY} k", f"ktremove --kvno {KEY}x k",
+                                f"ktcopy -nk{KEY} k t"],
+    f"{DIGITS} is no encryption type": [f"ktfind k 0 {KEY} b@R", f"ktremove -e{KEY} k", f"ktcopy --enctype={KEY} k t"],
+    f"{DIGITS} has no realm": [f"ktfind k 0 0 {KEY}", f"ktremove -p {KEY} k", f"ccremove --service={KEY}/x k"],
+    f"{DIGITS} has a second @": [f"ktremove -p {KEY}@R@S k"],
+    f"{DIGITS} is no number of seconds": [f"klist -s --for {KEY} k", f"ktremove -k old --age={KEY} k"],
+    f"{DIGITS} is no finding": [f"ktcheck --allow={KEY} k", f"ktcheck --allow {KEY} k"],
+    f"unknown command {SHORT}": [SHORT],
+    f'"{SHORT}" is no version': [f"ktfind k {SHORT} 0 b@R", f"ktremove --kvno={SHORT} k"],
+    f"unknown option --x{KEY}": [f"klist --x{KEY} k"],
+}
+
 # What is wrong, and what was meant as it seems.
 NEAR: dict[tuple[str, str], list[str | Line]] = {
     ("unknown command klis", "klist"): ["klis -k k", "help klis"],
@@ -142,7 +167,8 @@ def explained(line: str, phrase: str) -> Case:
 
 
 CASES = [
-    *(mistake(line, f"{phrase}; see {help_for(line)}") for phrase, lines in MISTAKES.items() for line in lines),
+    *(mistake(line, f"{phrase}; see {help_for(line)}") for phrase, lines in {**MISTAKES, **HIDDEN}.items()
+      for line in lines),
     *(mistake(line, f"{phrase}; see {help_for(line)}\nkrbfile: did you mean {meant}?")
       for (phrase, meant), lines in NEAR.items() for line in lines),
     mistake(("klist", "-k", b"\xff"), "an argument is not UTF-8; see krbfile --help"),

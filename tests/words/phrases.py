@@ -93,6 +93,7 @@ CAUSES = {
     "EPIPE": "broken pipe",
     "in use": "in use by another program",
     "changed": "changed by another program; nothing was saved",
+    "other file": "another file has this name now",
     "name of saves": "a name that ends in .krbfile is kept for saves",
     "in the way": "NAME.krbfile is in the way",
     "owner": "the owner cannot be kept",
@@ -110,8 +111,9 @@ LIBRARY_IN_THE_WAY = "the name of its new file is taken"
 # What a save left behind.
 AFTERMATHS = {
     "restored": "the old bytes are back",
-    "damaged": "the old bytes could not be written back; the file is damaged",
+    "damaged": "the file may be damaged",
     "lost change": "a change of another program was lost",
+    "mixed": "another program wrote at the same time; the file may be damaged",
 }
 
 # Findings of ktcheck, in the order in which they are explained.
@@ -126,7 +128,7 @@ FINDINGS = {
 
 # Hints for findings, in their order.
 HINTS = {
-    "old": "to see what would go: krbfile ktremove -n -k old FILE",
+    "old": "to see what would go: krbfile ktremove -n -k old --age 86400 FILE",
     "weak": "to see what would go: krbfile ktremove -n -e ETYPE.. FILE",
     "same": "to have each once: krbfile ktcopy FILE NEW",
 }

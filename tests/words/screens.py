@@ -81,7 +81,7 @@ RUNS = [
     named(("klist", "-k", FILE), b"krbfile: NAME: no such file\n"),
     named(("klist", "--json", "-k", FILE), b"krbfile: NAME: no such file\n", is_json=True),
     named(("ktcheck", FILE, FILE), b"krbfile: NAME: no such file\n"),
-    named(("ktcheck", FILE), b"krbfile: to have each once: krbfile ktcopy 'NAME' NEW\n", {FILE.decode(): keytab(B, B)}),
+    named(("ktcheck", FILE), b"krbfile: NAME: fault 1 at %d\n" % len(keytab(B)), {FILE.decode(): keytab(B) + b"\0"}),
     *long_names(b""),
     *long_names(b"a"),
 ]

@@ -176,21 +176,21 @@ module _ {F : Type 0} (trait : Ghosts F) (old new : F) (out out' : Watch) (err e
   ChecksKeytabs options default (file ∷ files) = ChecksAll trait options (file ∷ files) old new out out' err err' status
 
 module _ {F : Type 0} (trait : Ghosts F) (now : Option ℕ) (default : DefaultName) (input input' : Source) (old new : F) (out out' : Watch) (err err' : ErrorWatch) (status : ℕ) where
-  -- what an action does over the files, and over what the standard input gives
+  -- what an action does over the files, and over what the standard input gives: only scripts and the lines of ktutil are read
   abbrev pub EndsAction : Action → Type 0
-  EndsAction (Klist options file) = Lists trait old new out out' err err' status options (file_or file default)
+  EndsAction (Klist options file) = Lists trait old new out out' err err' status options (file_or file default) × (input' ≡ input)
   EndsAction (CheckTicket check file) = ChecksTickets trait old new out out' err err' status check now (file_or file default) × (input' ≡ input)
-  EndsAction (Ktfind options file) = RunsCommand trait (always (ktfind_plan options file)) any old new out out' err err' status
+  EndsAction (Ktfind options file) = RunsCommand trait (always (ktfind_plan options file)) any old new out out' err err' status × (input' ≡ input)
   EndsAction (Ktedit order file) = RunsScript trait old new out out' err err' status (ktedit_plan order file) (ktedit_fairly order file) event_in input input'
-  EndsAction (Ktcheck options names) = ChecksKeytabs trait old new out out' err err' status options default names.items
-  EndsAction (Ktremove options file) = RunsKtremove trait file options old new out out' err err' status (needed_time options.selection.kvno now)
-  EndsAction (Ktcopy options from to) = RunsCommand trait (always (ktcopy_plan options from to)) any old new out out' err err' status
+  EndsAction (Ktcheck options names) = ChecksKeytabs trait old new out out' err err' status options default names.items × (input' ≡ input)
+  EndsAction (Ktremove options file) = RunsKtremove trait file options old new out out' err err' status (needed_time options.selection.kvno now) × (input' ≡ input)
+  EndsAction (Ktcopy options from to) = RunsCommand trait (always (ktcopy_plan options from to)) any old new out out' err err' status × (input' ≡ input)
   EndsAction (Ktutil order in_place) = RunsKtutil trait order (unwrap_or now 0) input input' old new out out' err err' status
   EndsAction (Ccedit file) = RunsScript trait old new out out' err err' status (ccedit_plan file) ccedit_fairly cache_line_in input input'
-  EndsAction (Ccremove options file) = RunsCcremove trait file options old new out out' err err' status (ended_by options now)
-  EndsAction (Help text) = (new ≡ old) × EndsRun [] None (help_run (string_bytes text)) out out' err err' status
+  EndsAction (Ccremove options file) = RunsCcremove trait file options old new out out' err err' status (ended_by options now) × (input' ≡ input)
+  EndsAction (Help text) = (new ≡ old) × (input' ≡ input) × EndsRun [] None (help_run (string_bytes text)) out out' err err' status
 
   -- the action was run, or it was reported why there is none
   abbrev pub EndsParsed : Result Action WordFault → Type 0
   EndsParsed (Ok action) = EndsAction action
-  EndsParsed (Err fault) = EndsByWords trait old new out out' err err' status fault
+  EndsParsed (Err fault) = EndsByWords trait old new out out' err err' status fault × (input' ≡ input)

@@ -39,8 +39,9 @@ fn list<A: Allocator + Copy, F: Files, R: Read, W: Write, E: Write>(
     streams: &mut Streams<R, W, E>,
 ) -> u8
     requires { IsFalse streams.old.out.failed }
-    ensures { Lists F.Files files.old files.new streams.old.out streams.new.out streams.old.err streams.new.err result
+    ensures lists { Lists F.Files files.old files.new streams.old.out streams.new.out streams.old.err streams.new.err result
         options.now file.entry }
+    ensures input { streams.new.input ≡ streams.old.input }
 {
     match file {
         Ok(file) => run_klist(alloc, options, file, files, streams),
@@ -78,8 +79,9 @@ fn check_keytabs<A: Allocator + Copy, F: Files, R: Read, W: Write, E: Write>(
     streams: &mut Streams<R, W, E>,
 ) -> u8
     requires { IsFalse streams.old.out.failed }
-    ensures { ChecksKeytabs F.Files files.old files.new
+    ensures checks { ChecksKeytabs F.Files files.old files.new
         streams.old.out streams.new.out streams.old.err streams.new.err result options.now default.entry names.now }
+    ensures input { streams.new.input ≡ streams.old.input }
 {
     if !names.is_empty() {
         return run_ktcheck(alloc, options, names, files, streams);

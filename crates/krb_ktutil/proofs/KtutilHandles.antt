@@ -1,6 +1,6 @@
 -- A line was run by its plan, from its steps.
-use Rattle.std.proofs.Common.{◌≡◌, inl, inr, ℕ, true, false, List, [], ◌∷◌, ◌++◌, refl, sym, ap, subst, ◌∙◌}
-use Rattle.std.specs.Prelude.{Result, Ok, Err, IsOk}
+use Rattle.std.proofs.Common.{◌≡◌, inl, inr, ℕ, true, List, [], ◌∷◌, ◌++◌, refl, sym, ap, subst, ◌∙◌}
+use Rattle.std.specs.Prelude.{None, Some, Result, Ok, Err, IsOk}
 use Rattle.std.proofs.lemmas.Bool.{false≢true}
 use Rattle.std.proofs.lemmas.List.{append-nil}
 use Rattle.krb_wire.specs.declared.format.Order.{Order}
@@ -103,7 +103,7 @@ module _ {F : Type 0} (trait : Ghosts F) where
       (goes_finished (with_entries s (keytab_of s.order gives.answer)) between s new ending (subst (λ (r : Result KeytabState NoKeytab). Finishes (Ends (with_entries s r)) s new ending) (sym is) finishes))
 
   -- the same for a file that was held, and then released
-  pub handles_held : {s : KtutilState} {name : List ℕ} {then_ : Answer → LinePlan} {ending : LineEnd} (files held done files' : F) → TurnsHold trait true files held → Handles trait (Loads name then_) held done s s [] [] ending → TurnsHold trait false done files'
+  pub handles_held : {s : KtutilState} {name : List ℕ} {then_ : Answer → LinePlan} {ending : LineEnd} (files held done files' : F) → TurnsHold trait (Some name) files held → Handles trait (Loads name then_) held done s s [] [] ending → TurnsHold trait None done files'
       → Handles trait (Holds true name (Loads name then_)) files files' s s [] [] ending
   handles_held {s = s} {ending = ending} files held done files' holds handles leaves = record {
     answers = handles.answers;

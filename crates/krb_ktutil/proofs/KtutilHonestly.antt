@@ -7,6 +7,7 @@ use mathlib.Core.Path.{fun_ext}
 use Rattle.krb_files.specs.declared.aftermath.Aftermath.{Aftermath}
 use Rattle.krb_files.specs.declared.files.Files.{Ghosts}
 use Rattle.krb_ktutil.specs.declared.ktutil.line_end.LineEnd.{LineEnd}
+use Rattle.krb_driver.specs.declared.reporting.details.Details.{Details}
 use Rattle.krb_driver.specs.ErrorOutput.{ErrorWatch}
 use Rattle.krb_files.specs.Files.{FileMap, SameFiles}
 use Rattle.krb_files.specs.Plan.{follow}
@@ -20,11 +21,11 @@ use Rattle.krb_files.specs.declared.files.LoadFault.{LoadFault}
 use Rattle.krb_driver.specs.declared.error.RunError.TheVariants.{NoMemory}
 use Rattle.krb_ktutil.specs.InputLines.{lines_of}
 use Rattle.krb_ktutil.specs.KtutilCommand.{named_in}
-use Rattle.krb_ktutil.specs.KtutilTalk.{Talk, ending_of, line_run, goes_on, AreFirst, Continues, Stops, TalksOver}
-use Rattle.krb_ktutil.specs.KtutilDue.{TalkDue, quiet_run, last_due, due_after, talk_due, GivesLines, LeavesDueUnlessFailed, TalksHonestly}
-use Rattle.krb_driver.specs.Runs.{Run, ReportsEnd, EndsRun, Writes, ends_by}
-use Rattle.krb_driver.specs.Words.{aftermath_words, own_text, words_if}
-use Rattle.krb_driver.specs.RunErrors.{Ending, ending_status, input_error, error_status}
+use Rattle.krb_ktutil.specs.KtutilTalk.{Talk, ending_of, line_run, goes_on, AreFirst, Continues, HandlesLine, Stops, TalksOver}
+use Rattle.krb_ktutil.specs.KtutilDue.{TalkDue, ReportsDue, quiet_run, report_of, last_due, due_after, talk_due, GivesLines, LeavesDueUnlessFailed, TalksHonestly}
+use Rattle.krb_driver.specs.Runs.{Run, Reports, EndsRun, Writes, ends_by}
+use Rattle.krb_driver.specs.Words.{aftermath_text, own_text}
+use Rattle.krb_driver.specs.RunErrors.{Ending, end_status, input_error, error_status}
 use Rattle.krb_driver.proofs.Shown.{ReportsEnd-nothing}
 
 -- the outcome of a line, by its parts
@@ -41,12 +42,26 @@ talk_lasts trait now number (line ∷ lines) old new talked =
     let le' = others.1 in
     (λ h. others.0 (first.0 h), omega (arith, le, le'))
 
+-- the worst status so far, after a last one
+worst_last : (a status new : ℕ) → new ≡ max a status → new ≡ max a (max status 0)
+worst_last a status new is = omega (arith, is)
+
+-- only the line of a save tells what that left behind
+untold_by : {F : Type 0} (trait : Ghosts F) (now number : ℕ) (line : List ℕ) (old new : Talk F) (ending : LineEnd) (handles : HandlesLine trait now number line old new ending) → IsFalse (is_of_save ending) → handles.ends.details.aftermath ≡ None
+untold_by trait now number line old new ending handles other = handles.told ∙ ap (λ (b : Bool). if b then trait.aftermath new.files else None) other
+
+-- all is well, which is not reported
+nothing_due : (err : ErrorWatch) → ReportsDue (report_of [] None false quiet_run) err err 0
+nothing_due err =
+    let details : Details = record { cause = None; in_the_way = None; aftermath = None } in
+    record { details = details; reported = record { reports = ReportsEnd-nothing [] None details err refl; status_is = refl }; untold = λ other. refl }
+
 module _ {F : Type 0} (trait : Ghosts F) (now : ℕ) (final : Run) where
   -- what is due after a line with that outcome, and after those that follow, if it goes on
   abbrev NextDue : ℕ → List ℕ → List (List ℕ) → Bool → Outcome → FileMap → TalkDue
   NextDue number line more goes due files =
-      if goes then due_after (named_in line) (Some number) (line_run number line due.ending due.text) (talk_due final now (number + 1) more due.state files)
-      else last_due (named_in line) (Some number) (line_run number line due.ending due.text) files
+      if goes then due_after (named_in line) (Some number) (is_of_save due.ending) (line_run number line due.ending due.text) (talk_due final now (number + 1) more due.state files)
+      else last_due (named_in line) (Some number) (is_of_save due.ending) (line_run number line due.ending due.text) files
 
   due_by : (number : ℕ) (line : List ℕ) (more : List (List ℕ)) (old new : KtutilState) (files files' : F) (text : List ℕ) (ending : LineEnd)
       → ShowsDue trait (follow (trait.file files) (plan_of old now line)) files files' old new [] text ending → (goes : Bool) → goes_on ending ≡ goes
@@ -58,22 +73,30 @@ module _ {F : Type 0} (trait : Ghosts F) (now : ℕ) (final : Run) where
       ∙ ap (NextDue number line more (goes_on ending) came) (sym (fun_ext due.files_are))
       ∙ ap (λ (b : Bool). NextDue number line more b came (trait.file files')) is
 
-  worst_after : (a b run due status new : ℕ) → new ≡ max b due → b ≡ max a status → status ≡ run → new ≡ max a (max run due)
-  worst_after a b run due status new new_is b_is is = omega (arith, new_is, b_is, is)
+  worst_after : (a b status worst new : ℕ) → new ≡ max b worst → b ≡ max a status → new ≡ max a (max status worst)
+  worst_after a b status worst new new_is b_is = omega (arith, new_is, b_is)
+
+  -- the end of a line was reported
+  reported_by : (file : List ℕ) (which : Option ℕ) (saves : Bool) (run : Run) (status : ℕ) (old new : Talk F) (ends : EndsRun file which run old.out new.out old.err new.err status)
+      → (IsFalse saves → ends.details.aftermath ≡ None) → ends.ending ≡ run.ending → ReportsDue (report_of file which saves run) old.err new.err status
+  reported_by file which saves run status old new ends untold is =
+      record { details = ends.details; reported = subst (λ (e : Ending). Reports file which ends.details e old.err new.err status) is ends.reported; untold = untold }
 
   -- a line was run, and what is due after the following lines was left
-  leaves_after : (file : List ℕ) (which : Option ℕ) (run : Run) (status : ℕ) (old mid new : Talk F) (due : TalkDue) → EndsRun file which run old.out mid.out old.err mid.err status → IsFalse mid.out.failed → mid.status ≡ max old.status status
+  leaves_after : (file : List ℕ) (which : Option ℕ) (saves : Bool) (run : Run) (status : ℕ) (old mid new : Talk F) (due : TalkDue) (ends : EndsRun file which run old.out mid.out old.err mid.err status)
+      → (IsFalse saves → ends.details.aftermath ≡ None) → IsFalse mid.out.failed → mid.status ≡ max old.status status
       → trait.failure_count old.files ≤ trait.failure_count mid.files → trait.failure_count mid.files ≤ trait.failure_count new.files
-      → LeavesDueUnlessFailed trait due mid new → LeavesDueUnlessFailed trait (due_after file which run due) old new
-  leaves_after file which run status old mid new due ends well worst le le' (inl counts) = inl (count-trans (trait.failure_count old.files) (trait.failure_count mid.files) (trait.failure_count new.files) le le' counts)
-  leaves_after file which run status old mid new due ends well worst le le' (inr (inl failed)) = inr (inl failed)
-  leaves_after file which run status old mid new due ends well worst le le' (inr (inr leaves)) =
+      → LeavesDueUnlessFailed trait due mid new → LeavesDueUnlessFailed trait (due_after file which saves run due) old new
+  leaves_after file which saves run status old mid new due ends untold well worst le le' (inl counts) = inl (count-trans (trait.failure_count old.files) (trait.failure_count mid.files) (trait.failure_count new.files) le le' counts)
+  leaves_after file which saves run status old mid new due ends untold well worst le le' (inr (inl failed)) = inr (inl failed)
+  leaves_after file which saves run status old mid new due ends untold well worst le le' (inr (inr leaves)) =
       let done = ends.shows.done well in
       inr (inr (record {
         files = leaves.files;
         out = Appends-trans old.out.contents mid.out.contents new.out.contents run.out due.out done.0 leaves.out;
-        err = (mid.err, subst (λ (e : Ending). ReportsEnd file which e old.err mid.err) done.1 ends.reported.reports, leaves.err);
-        status = worst_after old.status mid.status (ending_status run.ending) due.status status new.status leaves.status worst (ends.reported.status_is ∙ ap ending_status done.1);
+        worst = max status leaves.worst;
+        err = (mid.err, status, leaves.worst, (reported_by file which saves run status old mid ends untold done.1, (leaves.err, refl)));
+        status = worst_after old.status mid.status status leaves.worst new.status leaves.status worst;
       }))
 
   -- a line was run and goes on
@@ -90,7 +113,7 @@ module _ {F : Type 0} (trait : Ghosts F) (now : ℕ) (final : Run) where
       elim honestly.comes [
         | inl shows ↦ subst (λ (d : TalkDue). LeavesDueUnlessFailed trait d old new)
             (sym (due_by number line more old.state mid.state old.files mid.files handles.text continues.ending shows true continues.goes_on))
-            (leaves_after (named_in line) (Some number) run handles.status old mid new others handles.ends continues.well handles.worst le le' rest)
+            (leaves_after (named_in line) (Some number) (is_of_save continues.ending) run handles.status old mid new others handles.ends (untold_by trait now number line old mid continues.ending handles) continues.well handles.worst le le' rest)
         | inr fails ↦ elim fails.why [
           | inl call ↦ inl (count-more (trait.failure_count old.files) (trait.failure_count mid.files) (trait.failure_count new.files) le' call.0)
           | inr spent ↦ absurd (false≢true (subst (λ (e : LineEnd). IsTrue (goes_on e)) spent continues.goes_on))
@@ -113,16 +136,18 @@ module _ {F : Type 0} (trait : Ghosts F) (now : ℕ) (final : Run) where
       (talk_honestly lines (number + 1) more mid last new talked.2 honestly.honest le (λ next is. rest next (omega (arith, is))))
 
   -- a line was the last: it left what was due, or the output failed
-  close_by : (file : List ℕ) (which : Option ℕ) (run : Run) (status : ℕ) (last end : Talk F) → EndsRun file which run last.out end.out last.err end.err status → end.status ≡ max last.status status
-      → (failed : Bool) → failed ≡ end.out.failed → LeavesDueUnlessFailed trait (last_due file which run (trait.file end.files)) last end
-  close_by file which run status last end ends worst true is = inr (inl (sym is))
-  close_by file which run status last end ends worst false is =
+  close_by : (file : List ℕ) (which : Option ℕ) (saves : Bool) (run : Run) (status : ℕ) (last end : Talk F) (ends : EndsRun file which run last.out end.out last.err end.err status)
+      → (IsFalse saves → ends.details.aftermath ≡ None) → end.status ≡ max last.status status
+      → (failed : Bool) → failed ≡ end.out.failed → LeavesDueUnlessFailed trait (last_due file which saves run (trait.file end.files)) last end
+  close_by file which saves run status last end ends untold worst true is = inr (inl (sym is))
+  close_by file which saves run status last end ends untold worst false is =
       let done = ends.shows.done (sym is) in
       inr (inr (record {
         files = λ name. refl;
         out = done.0;
-        err = (end.err, subst (λ (e : Ending). ReportsEnd file which e last.err end.err) done.1 ends.reported.reports, refl);
-        status = worst ∙ ap (max last.status) (ends.reported.status_is ∙ ap ending_status done.1);
+        worst = max status 0;
+        err = (end.err, status, 0, (reported_by file which saves run status last end ends untold done.1, ((refl, refl), refl)));
+        status = worst_last last.status status end.status worst;
       }))
 
   stop_honestly : (number : ℕ) (line : List ℕ) (more : List (List ℕ)) (last new : Talk F) (stops : Stops trait now number line last new)
@@ -133,26 +158,35 @@ module _ {F : Type 0} (trait : Ghosts F) (now : ℕ) (final : Run) where
       elim stops.why [
         | inl not ↦ subst (λ (d : TalkDue). LeavesDueUnlessFailed trait d last new)
             (sym (due_by number line more last.state new.state last.files new.files handles.text stops.ending due false not))
-            (close_by (named_in line) (Some number) (line_run number line stops.ending handles.text) handles.status last new handles.ends handles.worst new.out.failed refl)
+            (close_by (named_in line) (Some number) (is_of_save stops.ending) (line_run number line stops.ending handles.text) handles.status last new handles.ends (untold_by trait now number line last new stops.ending handles) handles.worst new.out.failed refl)
         | inr failed ↦ inr (inl failed)
       ]
 
 -- a line was the last because memory ran out: what was due after those before it was left, and that was reported
 spent_by : {F : Type 0} (trait : Ghosts F) (file : List ℕ) (which : Option ℕ) (run : Run) (status : ℕ) (last end : Talk F) (ends : EndsRun file which run last.out end.out last.err end.err status)
-    → ends.reported.reports.details.aftermath ≡ None → end.status ≡ max last.status status → run.out ≡ [] → run.ending ≡ Err NoMemory
-    → SameFiles (trait.file last.files) (trait.file end.files) → (failed : Bool) → failed ≡ end.out.failed → LeavesDueUnlessFailed trait (last_due [] None (ends_by NoMemory) (trait.file last.files)) last end
+    → ends.details.aftermath ≡ None → end.status ≡ max last.status status → run.out ≡ [] → run.ending ≡ Err NoMemory
+    → SameFiles (trait.file last.files) (trait.file end.files) → (failed : Bool) → failed ≡ end.out.failed → LeavesDueUnlessFailed trait (last_due [] None false (ends_by NoMemory) (trait.file last.files)) last end
 spent_by trait file which run status last end ends untold worst none memory same true is = inr (inl (sym is))
 spent_by trait file which run status last end ends untold worst none memory same false is =
     let done = ends.shows.done (sym is) in
     let spent = done.1 ∙ memory in
     let reports = ends.reported.reports in
-    let text = λ (e : Ending) (a : Option Aftermath). own_text last.err.explains file which reports.details.cause e ++ words_if last.err.explains (aftermath_words file which a) in
-    let writes = subst (λ (a : Option Aftermath). Writes last.err.to end.err.to (text (Err NoMemory) a)) untold (subst (λ (e : Ending). Writes last.err.to end.err.to (text e reports.details.aftermath)) spent reports.writes) in
+    let told = ends.details in
+    let details : Details = record { cause = told.cause; in_the_way = told.in_the_way; aftermath = None } in
+    let text = λ (e : Ending) (a : Option Aftermath). own_text last.err.explains file which told e ++ aftermath_text last.err.explains file which a in
+    let writes = subst (λ (a : Option Aftermath). Writes last.err.to end.err.to (text (Err NoMemory) a)) untold (subst (λ (e : Ending). Writes last.err.to end.err.to (text e told.aftermath)) spent reports.writes) in
+    let status_is = ends.reported.status_is ∙ ap (λ (e : Ending). end_status e told.aftermath) spent ∙ ap (end_status (Err NoMemory)) untold in
+    let due : ReportsDue (report_of [] None false (ends_by NoMemory)) last.err end.err status = record {
+      details = details;
+      reported = record { reports = record { writes = writes; still = reports.still }; status_is = status_is };
+      untold = λ other. refl;
+    } in
     inr (inr (record {
       files = same;
       out = subst (λ (text : List ℕ). Appends last.out.contents end.out.contents text) none done.0;
-      err = (end.err, record { details = record { cause = reports.details.cause; aftermath = None }; writes = writes; still = reports.still }, refl);
-      status = worst ∙ ap (max last.status) (ends.reported.status_is ∙ ap ending_status spent);
+      worst = max status 0;
+      err = (end.err, status, 0, (due, ((refl, refl), refl)));
+      status = worst_last last.status status end.status worst;
     }))
 
 -- the lines of an input after its first ones and a further one
@@ -168,7 +202,7 @@ before_last (Some bytes) lines line first = (line ∷ first.0, first.1 ∙ appen
 module _ {F : Type 0} (trait : Ghosts F) (now : ℕ) (given : Option (List ℕ)) (lines : List (List ℕ)) (first last : Talk F) (talked : TalksOver trait now 1 lines first last) where
   -- what was due after the lines was left
   leaves_final : (final : Run) (end : Talk F) → GivesLines given (lines ++ []) final → trait.failure_count last.files ≤ trait.failure_count end.files
-      → LeavesDueUnlessFailed trait (last_due [] None final (trait.file last.files)) last end → trait.is_honest first.files → TalksHonestly trait now given first end
+      → LeavesDueUnlessFailed trait (last_due [] None false final (trait.file last.files)) last end → trait.is_honest first.files → TalksHonestly trait now given first end
   leaves_final final end gives le leaves honest = record {
     lines = lines ++ [];
     final = final;
@@ -181,7 +215,8 @@ module _ {F : Type 0} (trait : Ghosts F) (now : ℕ) (given : Option (List ℕ))
       leaves_final quiet_run last (record { gives = inl (all, refl) }) (omega arith) (inr (inr (record {
         files = λ name. refl;
         out = Appends-nil last.out.contents;
-        err = (last.err, ReportsEnd-nothing [] None last.err, refl);
+        worst = 0;
+        err = (last.err, 0, 0, (nothing_due last.err, ((refl, refl), refl)));
         status = omega arith;
       })))
 
@@ -189,15 +224,19 @@ module _ {F : Type 0} (trait : Ghosts F) (now : ℕ) (given : Option (List ℕ))
   GivesLines-unread : (fault : LoadFault) → AreFirst lines given → GivesLines given (lines ++ []) (ends_by (input_error fault))
   GivesLines-unread fault are_first = record { gives = inr (subst (λ (l : List (List ℕ)). AreFirst l given) (sym (append-nil lines)) are_first, (fault, refl)) }
 
-  pub honest_unread : (fault : LoadFault) → AreFirst lines given → (err' : ErrorWatch) (status : ℕ) → ReportsEnd [] None (Err (input_error fault)) last.err err' → status ≡ max last.status (error_status (input_error fault)) → trait.is_honest first.files
+  pub honest_unread : (fault : LoadFault) → AreFirst lines given → (details : Details) (err' : ErrorWatch) (status : ℕ) → Reports [] None details (Err (input_error fault)) last.err err' (error_status (input_error fault)) → details.aftermath ≡ None
+      → status ≡ max last.status (error_status (input_error fault)) → trait.is_honest first.files
       → TalksHonestly trait now given first (record { files = last.files; state = last.state; out = last.out; err = err'; status = status })
-  honest_unread fault are_first err' status writes worst =
+  honest_unread fault are_first details err' status reported untold worst =
+      let own = error_status (input_error fault) in
+      let due : ReportsDue (report_of [] None false (ends_by (input_error fault))) last.err err' own = record { details = details; reported = reported; untold = λ other. untold } in
       leaves_final (ends_by (input_error fault)) (record { files = last.files; state = last.state; out = last.out; err = err'; status = status })
       (GivesLines-unread fault are_first) (omega arith) (inr (inr (record {
         files = λ name. refl;
         out = Appends-nil last.out.contents;
-        err = (err', writes, refl);
-        status = worst;
+        worst = max own 0;
+        err = (err', own, 0, (due, ((refl, refl), refl)));
+        status = worst_last last.status own status worst;
       })))
 
   -- a line was the last
@@ -218,6 +257,6 @@ module _ {F : Type 0} (trait : Ghosts F) (now : ℕ) (given : Option (List ℕ))
         }
         | inr fails ↦ leaves_final (ends_by NoMemory) end (GivesLines-unread load.NoMemory (before_last given lines line are_first)) le (elim fails.why [
           | inl call ↦ inl call.0
-          | inr spent ↦ spent_by trait (named_in line) (Some (length lines + 1)) run handles.status last end handles.ends (handles.told (ap is_of_save spent)) handles.worst fails.same (ap (ending_of (length lines + 1) line) spent) fails.same_files end.out.failed refl
+          | inr spent ↦ spent_by trait (named_in line) (Some (length lines + 1)) run handles.status last end handles.ends (untold_by trait now (length lines + 1) line last end stops.ending handles (ap is_of_save spent)) handles.worst fails.same (ap (ending_of (length lines + 1) line) spent) fails.same_files end.out.failed refl
         ]) honest
       ]

@@ -19,7 +19,8 @@ use Rattle.krb_ktutil.specs.Ktutil.{HandlesNext, RunsKtutil}
 use Rattle.krb_ktutil.specs.KtutilDue.{TalksHonestly}
 use Rattle.krb_ktutil.proofs.KtutilHonestly.{honest_after, honest_in_line, honest_unread}
 use Rattle.krb_files.specs.Reader.{Source, ConsumesAtMost, is_failed}
-use Rattle.krb_driver.specs.Runs.{ReportsEnd}
+use Rattle.krb_driver.specs.Runs.{Reports}
+use Rattle.krb_driver.specs.declared.reporting.details.Details.{Details}
 use Rattle.krb_files.proofs.Reading.{Consumes-trans}
 
 -- the input has these lines, which were run, and those that are to come
@@ -212,9 +213,9 @@ module _ {F : Type 0} (trait : Ghosts F) (now : ℕ) (order : Order) (files : F)
       (honest_in_line trait now first.left u.lines (first_talk order files out err) talk u.talked new.line talk' are_first stopped)
 
   -- the input was not read further
-  pub RunsKtutil-unread : (fault : LoadFault) (err' : ErrorWatch) (status : ℕ) → KeepsLines old new left last.left → IsWithin old → HasNoMore old new → last.failed ≡ (is_failed fault || first.failed) → fault ≢ Missing → (fault ≡ TooLarge → most_bytes < length new.read)
-      → ReportsEnd [] None (Err (input_error fault)) talk.err err' → status ≡ max talk.status (error_status (input_error fault)) → RunsKtutil trait order now first last files talk.files out talk.out err err' status
-  RunsKtutil-unread fault err' status keeps was no_more failed never too_large writes worst =
+  pub RunsKtutil-unread : (fault : LoadFault) (details : Details) (err' : ErrorWatch) (status : ℕ) → KeepsLines old new left last.left → IsWithin old → HasNoMore old new → last.failed ≡ (is_failed fault || first.failed) → fault ≢ Missing → (fault ≡ TooLarge → most_bytes < length new.read)
+      → Reports [] None details (Err (input_error fault)) talk.err err' (error_status (input_error fault)) → details.aftermath ≡ None → status ≡ max talk.status (error_status (input_error fault)) → RunsKtutil trait order now first last files talk.files out talk.out err err' status
+  RunsKtutil-unread fault details err' status keeps was no_more failed never too_large reported untold worst =
       let are_first = ToCome-first first.left u.lines new last.left (λ more has. u.to_come more (keeps more has)) in
       let consumes = grown first.left left last.left old.read new.read u.consumes grows in
       runs (record { files = talk.files; state = talk.state; out = talk.out; err = err'; status = status }) (inr (inr (record {
@@ -226,8 +227,10 @@ module _ {F : Type 0} (trait : Ghosts F) (now : ℕ) (order : Order) (files : F)
         first = are_first;
         never = never;
         too_large = λ e. too_long first.left last.left new.read consumes (too_large e);
-        writes = writes;
+        details = details;
+        writes = reported.reports;
+        untold = untold;
         worst = worst;
         files = refl;
         out = refl;
-      }))) (honest_unread trait now first.left u.lines (first_talk order files out err) talk u.talked fault are_first err' status writes worst)
+      }))) (honest_unread trait now first.left u.lines (first_talk order files out err) talk u.talked fault are_first details err' status reported untold worst)

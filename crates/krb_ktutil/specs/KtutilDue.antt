@@ -1,56 +1,67 @@
 -- What is due after the lines of ktutil if the files are honest.
-use Rattle.std.specs.Prelude.{◌≡◌, ◌⊎◌, ℕ, ◌+◌, max, IsTrue, List, [], ◌∷◌, ◌++◌, if◌then◌else◌, Option, None, Some, IfSome, Ok}
+use Rattle.std.specs.Prelude.{◌≡◌, ◌⊎◌, ℕ, ◌+◌, max, Bool, false, IsTrue, IsFalse, List, [], ◌∷◌, ◌++◌, if◌then◌else◌, Option, None, Some, IfSome, Ok}
 use Rattle.std.specs.Io.KnownBytes.{Appends}
 use Rattle.krb_files.specs.declared.files.Files.{Ghosts}
 use Rattle.krb_files.specs.declared.files.LoadFault.{LoadFault}
 use Rattle.krb_files.specs.Files.{FileMap, SameFiles, CountsFailure}
 use Rattle.krb_driver.specs.ErrorOutput.{ErrorWatch}
-use Rattle.krb_ktutil.specs.KtutilPlan.{KtutilState, plan_of}
+use Rattle.krb_driver.specs.declared.reporting.details.Details.{Details}
+use Rattle.krb_ktutil.specs.KtutilPlan.{KtutilState, is_of_save, plan_of}
 use Rattle.krb_files.specs.Plan.{follow}
 use Rattle.krb_ktutil.specs.KtutilHonest.{line_outcome, line_files}
 use Rattle.krb_ktutil.specs.InputLines.{lines_of}
 use Rattle.krb_ktutil.specs.KtutilCommand.{named_in}
 use Rattle.krb_ktutil.specs.KtutilTalk.{Talk, line_run, goes_on, AreFirst}
-use Rattle.krb_driver.specs.Runs.{Run, ReportsEnd, ends_by}
+use Rattle.krb_driver.specs.Runs.{Run, Reports, ends_by}
 use Rattle.krb_driver.specs.declared.verdict.Verdict.TheVariants.{Well}
-use Rattle.krb_driver.specs.RunErrors.{Ending, ending_status, input_error}
+use Rattle.krb_driver.specs.RunErrors.{Ending, input_error}
 
--- a report: an ending, the file that may be named, and the line
+-- a report: an ending, the file that may be named, the line, and whether that ended with its save
 pub record DueReport : Type 0 where
   pub file : List ℕ
   pub line : Option ℕ
   pub ending : Ending
+  pub saves : Bool
 
--- what lines come to: the files after them, what is printed, what is reported, in order, and the worst status
+-- what lines come to: the files after them, what is printed, and what is reported, in order
 pub record TalkDue : Type 0 where
   pub files : FileMap
   pub out : List ℕ
   pub reported : List DueReport
-  pub status : ℕ
+
+-- the report of a run of that line, which may name that file
+abbrev pub report_of : List ℕ → Option ℕ → Bool → Run → DueReport
+report_of file line saves run = record { file = file; line = line; ending = run.ending; saves = saves }
 
 -- one run, of that line, which may name that file, and no line after it
-abbrev pub last_due : List ℕ → Option ℕ → Run → FileMap → TalkDue
-last_due file line run files = record { files = files; out = run.out; reported = record { file = file; line = line; ending = run.ending } ∷ []; status = ending_status run.ending }
+abbrev pub last_due : List ℕ → Option ℕ → Bool → Run → FileMap → TalkDue
+last_due file line saves run files = record { files = files; out = run.out; reported = report_of file line saves run ∷ [] }
 
 -- one run, and then what is due after it
-abbrev pub due_after : List ℕ → Option ℕ → Run → TalkDue → TalkDue
-due_after file line run due = record { files = due.files; out = run.out ++ due.out; reported = record { file = file; line = line; ending = run.ending } ∷ due.reported; status = max (ending_status run.ending) due.status }
+abbrev pub due_after : List ℕ → Option ℕ → Bool → Run → TalkDue → TalkDue
+due_after file line saves run due = record { files = due.files; out = run.out ++ due.out; reported = report_of file line saves run ∷ due.reported }
 
 -- what is due after lines, run in order from that number up to one that is the last; `final` is due after all of them
 abbrev pub talk_due : Run → ℕ → ℕ → List (List ℕ) → KtutilState → FileMap → TalkDue
-talk_due final now number [] state files = last_due [] None final files
+talk_due final now number [] state files = last_due [] None false final files
 talk_due final now number (line ∷ lines) state files =
     let effect = follow files (plan_of state now line) in
     let due = line_outcome state effect in
     let run = line_run number line due.ending due.text in
     if goes_on due.ending
-    then due_after (named_in line) (Some number) run (talk_due final now (number + 1) lines due.state (line_files files effect))
-    else last_due (named_in line) (Some number) run (line_files files effect)
+    then due_after (named_in line) (Some number) (is_of_save due.ending) run (talk_due final now (number + 1) lines due.state (line_files files effect))
+    else last_due (named_in line) (Some number) (is_of_save due.ending) run (line_files files effect)
 
--- these endings were reported in order, each message whole unless the writer has failed
-abbrev pub ReportsInTurn : ErrorWatch → ErrorWatch → List DueReport → Type 0
-ReportsInTurn old new [] = new ≡ old
-ReportsInTurn old new (t ∷ others) = (between : ErrorWatch) × ReportsEnd t.file t.line t.ending old between × ReportsInTurn between new others
+-- an ending was reported, with that status, its message whole unless the writer has failed; only a line that ended with its save tells what that left behind
+pub record ReportsDue (due : DueReport) (old new : ErrorWatch) (status : ℕ) : Type 0 where
+  pub details : Details
+  pub reported : Reports due.file due.line details due.ending old new status
+  pub untold : IsFalse due.saves → details.aftermath ≡ None
+
+-- these endings were reported in order, and this is the worst of their statuses
+abbrev pub ReportsInTurn : ErrorWatch → ErrorWatch → List DueReport → ℕ → Type 0
+ReportsInTurn old new [] worst = (new ≡ old) × (worst ≡ 0)
+ReportsInTurn old new (t ∷ others) worst = (between : ErrorWatch) × (status : ℕ) × (rest : ℕ) × (ReportsDue t old between status × (ReportsInTurn between new others rest × (worst ≡ max status rest)))
 
 -- nothing is printed, and all is well
 abbrev pub quiet_run : Run
@@ -65,8 +76,9 @@ module _ {F : Type 0} (trait : Ghosts F) where
   pub record LeavesDue (due : TalkDue) (old new : Talk F) : Type 0 where
     pub files : SameFiles due.files (trait.file new.files)
     pub out : Appends old.out.contents new.out.contents due.out
-    pub err : ReportsInTurn old.err new.err due.reported
-    pub status : new.status ≡ max old.status due.status
+    pub worst : ℕ
+    pub err : ReportsInTurn old.err new.err due.reported worst
+    pub status : new.status ≡ max old.status worst
 
   -- a run left what was due, unless a file call failed, which is counted, or the output failed
   abbrev pub LeavesDueUnlessFailed : TalkDue → Talk F → Talk F → Type 0

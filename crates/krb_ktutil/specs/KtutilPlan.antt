@@ -18,6 +18,7 @@ use Rattle.krb_ktutil.specs.declared.ktutil.line_end.LineEnd.TheVariants as end
 use Rattle.krb_driver.specs.declared.loading.NoKeytab.{NoKeytab}
 use Rattle.krb_driver.specs.declared.loading.NoKeytab.TheVariants.{Load, Open}
 use Rattle.krb_driver.specs.Loading.{keytab_of, keytab_or_new, result_map}
+use Rattle.krb_driver.specs.declared.reporting.details.Details.{Details}
 use Rattle.krb_driver.specs.declared.verdict.FileKind.TheVariants.{Keytab}
 use Rattle.krb_driver.specs.FileNames.{bare_name, has_type, is_other_type}
 use Rattle.krb_audit.specs.Findings.{hides_added}
@@ -88,6 +89,10 @@ abbrev pub is_of_save : LineEnd → Bool
 is_of_save (end.Saved hidden) = true
 is_of_save (end.Save fault) = true
 is_of_save ending = false
+
+-- what is told of a line that ended so: what a save left behind only if that was the line's own
+abbrev pub told_by : LineEnd → Details → Details
+told_by ending details = record details { aftermath = if is_of_save ending then details.aftermath else None }
 
 -- the entries of a keytab are appended to the list; a damaged one is refused
 abbrev pub with_entries : KtutilState → Result KeytabState NoKeytab → LineEffect

@@ -1,5 +1,5 @@
 -- A run of ktutil, line by line.
-use Rattle.std.specs.Prelude.{◌≡◌, ◌≢◌, ◌⊎◌, ◌||◌, ℕ, ◌+◌, ◌<◌, max, take, Bool, true, false, IsTrue, IsFalse, List, [], ◌∷◌, ◌++◌, length, Option, None, Some, IfSome, Ok, Err}
+use Rattle.std.specs.Prelude.{◌≡◌, ◌≢◌, ◌⊎◌, ◌||◌, ℕ, ◌+◌, ◌<◌, max, take, Bool, true, false, IsTrue, IsFalse, List, [], ◌∷◌, ◌++◌, if◌then◌else◌, length, Option, None, Some, IfSome, Ok, Err}
 use Rattle.krb_wire.specs.declared.format.Order.{Order}
 use Rattle.krb_files.specs.declared.files.Files.{Ghosts}
 use Rattle.krb_files.specs.declared.files.LoadFault.{LoadFault}
@@ -10,6 +10,7 @@ use Rattle.krb_files.specs.Reader.{Source, is_failed}
 use Rattle.krb_ktutil.specs.declared.ktutil.line_end.LineEnd.{LineEnd}
 use Rattle.krb_ktutil.specs.declared.ktutil.line_end.LineEnd.TheVariants as end
 use Rattle.krb_driver.specs.declared.file_name.NameSource.TheVariants.{Word}
+use Rattle.krb_driver.specs.declared.reporting.details.Details.{Details}
 use Rattle.krb_driver.specs.declared.verdict.Verdict.TheVariants.{Well}
 use Rattle.krb_driver.specs.declared.error.RunError.TheVariants as error
 use Rattle.krb_driver.specs.Verdicts.{hiding}
@@ -77,7 +78,7 @@ module _ {F : Type 0} (trait : Ghosts F) (now : ℕ) where
     pub status : ℕ
     pub handled : Handles trait (plan_of old.state now line) old.files new.files old.state new.state [] text ending
     pub ends : EndsRun (named_in line) (Some number) (line_run number line ending text) old.out new.out old.err new.err status
-    pub told : IsFalse (is_of_save ending) → ends.reported.reports.details.aftermath ≡ None
+    pub told : ends.details.aftermath ≡ (if is_of_save ending then trait.aftermath new.files else None)
     pub worst : new.status ≡ max old.status status
 
   -- a line was run, and the next one may come
@@ -123,7 +124,9 @@ module _ {F : Type 0} (trait : Ghosts F) (now : ℕ) where
       pub read : List ℕ
       pub consumes : Consumes input.left input'.left read
       pub due : CutsOff lines (take most_bytes read) ⊎ IfSome input.left (λ bytes. lines_of bytes ≡ lines)
-      pub writes : ReportsEnd [] None (Err (input_error fault)) last.err end.err
+      pub details : Details
+      pub writes : ReportsEnd [] None details (Err (input_error fault)) last.err end.err
+      pub untold : details.aftermath ≡ None
       pub worst : end.status ≡ max last.status (error_status (input_error fault))
       pub files : end.files ≡ last.files
       pub out : end.out ≡ last.out

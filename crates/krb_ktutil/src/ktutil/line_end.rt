@@ -1,7 +1,7 @@
 //! How a line of ktutil ends.
 
-ghost use Rattle.std.specs.Prelude.{◌≡◌, None, if◌then◌else◌};
-ghost use Rattle.krb_ktutil.specs.KtutilPlan.{is_of_save, no_keytab_end, save_end};
+ghost use Rattle.std.specs.Prelude.{◌≡◌};
+ghost use Rattle.krb_ktutil.specs.KtutilPlan.{no_keytab_end, save_end, told_by};
 
 use krb_driver::{Details, NoKeytab, NotKeytab};
 use krb_files::{LoadFault, SaveFault};
@@ -53,12 +53,14 @@ pub fn save_end(hidden_from: Option<u32>, saved: Result<(), SaveFault>) -> LineE
 }
 
 /// Returns what is told of a line that ended so: what the last save left behind only if that was the line's own.
-pub fn details_to_tell(ending: LineEnd, details: Details) -> Details
-    ensures cause { result.cause ≡ details.cause }
-    ensures aftermath { result.aftermath ≡ (if is_of_save ending then details.aftermath else None) }
+pub fn details_to_tell<'a>(ending: LineEnd, details: Details<'a>) -> Details<'a>
+    ensures { result ≡ told_by ending details.entry }
 {
     match ending {
         LineEnd::Saved(_) | LineEnd::Save(_) => details,
-        _ => Details::unsaved(details.cause),
+        _ => Details {
+            aftermath: None,
+            ..details
+        },
     }
 }

@@ -1,8 +1,9 @@
-use Rattle.std.proofs.Common.{Bool, ap, refl, ◌∙◌}
+use Rattle.std.proofs.Common.{◌≡◌, Bool, ap, refl, sym, ◌∙◌}
 use Rattle.std.specs.Prelude.{◌||◌, max, Err}
 use Rattle.krb_files.specs.Reader.{is_failed}
 use Rattle.krb_ktutil.specs.KtutilTalk.{first_talk}
-use Rattle.krb_driver.specs.RunErrors.{error_status}
+use Rattle.krb_driver.specs.RunErrors.{end_status, error_status, input_error}
+use Rattle.krb_driver.proofs.Shown.{end_status-none}
 use Rattle.krb_ktutil.proofs.KtutilLemmas.{Underway-first, Underway-line, RunsKtutil-after, RunsKtutil-in_line, RunsKtutil-unread}
 use Rattle.krb_ktutil.proofs.ktutil.run_ktutil.Goals as goal
 
@@ -24,9 +25,13 @@ returns-in-Ok-false g c =
 -- it could not be read
 pub returns-in-Err : goal.returns-in-Err
 returns-in-Err g c =
+    let details = c.unsaved.result in
+    let why = input_error c.in-Err.fault in
+    let reported = rw c.of_input.ensures at c.report-status.ensures in
+    let is : error_status why ≡ end_status (Err why) details.aftermath = end_status-none (Err why) details.aftermath c.unsaved.ensures.aftermath in
     RunsKtutil-unread g.F.Files c.args.now c.args.v1_order c.args.files.now c.args.streams.now.out c.args.streams.now.err c.args.streams.now.input c.read_line.new.reader c.lines.lines c.read_line.new.self c.lines.input.left c.lines.number _ c.lines.invariant.2
-    c.in-Err.ensures.grows c.in-Err.ensures.within c.in-Err.fault c.report-status.new.err c.max.result c.in-Err.ensures.err c.lines.invariant.2.within c.in-Err.ensures.no_more (c.in-Err.ensures.failed ∙ ap (λ (b : Bool). is_failed c.in-Err.fault || b) c.lines.invariant.1) c.in-Err.ensures.never (λ e. c.in-Err.ensures.too_large (ap Err e)) (rw c.of_input.ensures at c.report-status.ensures.reports.reports)
-    (c.max.ensures ∙ ap (max c.lines.talk.status) (c.report-status.ensures.reports.status_is ∙ ap error_status c.of_input.ensures))
+    c.in-Err.ensures.grows c.in-Err.ensures.within c.in-Err.fault details c.report-status.new.err c.max.result c.in-Err.ensures.err c.lines.invariant.2.within c.in-Err.ensures.no_more (c.in-Err.ensures.failed ∙ ap (λ (b : Bool). is_failed c.in-Err.fault || b) c.lines.invariant.1) c.in-Err.ensures.never (λ e. c.in-Err.ensures.too_large (ap Err e))
+    (record { reports = reported.reports; status_is = is }) c.unsaved.ensures.aftermath (c.max.ensures ∙ ap (max c.lines.talk.status) (reported.status_is ∙ sym is))
 
 -- a line was the last
 pub returns-then-not-handle : goal.returns-then-not-handle

@@ -11,7 +11,9 @@ use super::Ktutil;
 use crate::ktutil::entries::{add_all, copy_entries};
 use crate::ktutil::line_end::{LineEnd, save_end};
 use krb_audit::hides_added;
-use krb_driver::{FileKind, FileName, NameSource, load_keytab, load_or_new, type_of};
+use krb_driver::{
+    FileKind, FileName, NameSource, hold, load_keytab, load_or_new, release, type_of,
+};
 use krb_files::Files;
 use krb_keytab::{Indexed, Keytab, NewEntry};
 use krb_walk::{Code, Refusal};
@@ -111,13 +113,14 @@ impl<A: Allocator + Copy> Ktutil<A> {
     }
 
     // Adds the list to a file, and holds it meanwhile.
+    #[tactic(auto, using(crate::proofs::KtutilHandles::handles_held))]
     fn write_file<F: Files>(&self, files: &mut F, name: &str) -> LineEnd
         ensures { Handles F.Files (Holds true name.now (writing_plan self.now name.now))
             files.old files.new self.now self.now [] [] result }
     {
-        files.hold(name);
+        hold(files, name);
         let ending = self.write_held(files, name);
-        files.release();
+        release(files);
         ending
     }
 

@@ -1,4 +1,8 @@
-use Rattle.std.proofs.Common.{refl}
+use Rattle.std.proofs.Common.{refl, ap, ◌∙◌}
+use Rattle.std.specs.Prelude.{if◌then◌else◌, Option, None}
+use Rattle.krb_files.specs.declared.aftermath.Aftermath.{Aftermath}
+use Rattle.krb_driver.specs.declared.reporting.details.Details.{Details}
+use Rattle.krb_ktutil.specs.KtutilPlan.{is_of_save}
 use Rattle.krb_ktutil.specs.KtutilTalk.{HandlesLine, Talk, goes_on}
 use Rattle.krb_ktutil.proofs.KtutilLemmas.{HandlesNext-by}
 use Rattle.krb_ktutil.proofs.ktutil.Talk.handle.Goals as goal
@@ -15,16 +19,10 @@ returns-clause-next g c =
       ends = record {
         ending = c.show-shown.result;
         shows = rw (c.deref.ensures.value, c.ending_of.ensures) at c.show-shown.ensures;
-        reported = record {
-          reports = record {
-            details = c.details_to_tell-details.result;
-            writes = rw c.file_word.ensures at c.report-status.ensures.text;
-            still = c.report-status.ensures.reports.reports.still;
-          };
-          status_is = c.report-status.ensures.reports.status_is;
-        };
+        details = c.details_to_tell-details.result;
+        reported = rw c.file_word.ensures at c.report-status.ensures;
       };
-      told = λ other. rw other at c.details_to_tell-details.ensures.aftermath;
+      told = ap (λ (d : Details). d.aftermath) c.details_to_tell-details.ensures ∙ ap (λ (a : Option Aftermath). if is_of_save c.line-ending.result then a else None) c.details_of.ensures;
       worst = c.max-self.ensures;
     } in
     rw c.goes_on.ensures (HandlesNext-by g.F.Files c.args.self.now.now c.args.number c.args.line.now old new c.line-ending.result handles (goes_on c.line-ending.result) c.has_failed.result refl c.has_failed.ensures)
