@@ -139,6 +139,7 @@ WRONG_BODIES = {
         "saves-the-text": "what is printed is saved in the file's place",
     },
     "krb_readers": {
+        "a-fault-is-not-wrong": "ktcheck has status 0 for a keytab with a fault",
         "a-missing-cache-is-enough": "a cache that is missing has a ticket to go on with",
         "a-service-ticket-is-enough": "another ticket is enough beside a ticket-granting ticket that has ended",
         "status-of-the-last": "the status of several keytabs is that of the last",
@@ -150,7 +151,6 @@ WRONG_BODIES = {
     "krb_editors": {
         "a-dry-run-hides": "a dry run of ktcopy does not say what MIT's programs would not see",
         "a-dry-run-holds": "a dry run of ktremove holds the file",
-        "a-dry-run-saves": "a dry run of ccremove with --expired saves the cache",
         "a-refused-value-removes-the-old-one": "a configuration value that is refused removes the old one",
         "all-have-expired-without-a-clock": "every ticket has expired where the clock cannot be read",
         "an-input-that-was-read-is-told-as-failed": "an empty input is reported as one that cannot be read",

@@ -8,6 +8,7 @@ use Rattle.krb_files.specs.Reader.{Source}
 use Rattle.krb_text.specs.declared.line_fault.LineFault.{LineFault}
 use Rattle.krb_text.specs.Script.{script_by}
 use Rattle.krb_driver.specs.declared.error.RunError.{RunError}
+use Rattle.krb_driver.specs.declared.reporting.details.Details.{Details}
 use Rattle.krb_driver.specs.declared.error.RunError.TheVariants.{NoMemory}
 use Rattle.krb_driver.specs.Commands.{RunsCommand}
 use Rattle.krb_driver.specs.Effects.{CommandPlan}
@@ -30,9 +31,9 @@ module _ {L : Type 0} (reads : List ℕ → Result L LineFault) where
     pub given_is : (given ≡ Err NoMemory) ⊎ (given ≡ lines_in input)
 
 module _ {F : Type 0} (trait : Ghosts F) (old new : F) (out out' : Watch) (err err' : ErrorWatch) (status : ℕ) where
-  -- an error ends the run before it does anything
+  -- an error ends the run before it does anything; there is no save that left something behind
   abbrev pub EndsBefore : RunError → Type 0
-  EndsBefore why = (new ≡ old) × ((out' ≡ out) × Reports [] None (Err why) err err' status)
+  EndsBefore why = (new ≡ old) × ((out' ≡ out) × ((details : Details) × ((details.aftermath ≡ None) × Reports [] None details (Err why) err err' status)))
 
   module _ {L : Type 0} (plan : List L → CommandPlan) (fairly : List L → List Answer → Type 0) where
     -- the command is run with the lines, or the error that there are none ends the run
