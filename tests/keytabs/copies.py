@@ -131,7 +131,8 @@ MET = [
 
 # As many entries as one keytab rarely has, each of another version, and where each stands.
 MANY = [replace(B, version8=kvno % 256, version32=kvno) for kvno in range(1, 1_501)]
-MANY_LINES = [f"{done} {2 + 45 * at} kvno {at + 1} etype 17 b@R" for at in range(1_500) for done in ("removed", "copied")]
+MANY_LINES = [f"{done} {2 + 45 * at} kvno {at + 1} etype 17 b@R"
+              for at in range(1_500) for done in ("removed", "copied")]
 
 V1, V1_BIG = (old(HOST, B, order=order) for order in ("little", BIG))
 ODD = replace(B, name_type=7, timestamp=2**32 - 1, version8=255, enctype=65_535, key=b"k", version32=2**32 - 1)

@@ -66,7 +66,7 @@ WRONG_BODIES = {
         "a-read-that-did-not-fail-is-told-as-failed": "an empty file is reported as one that cannot be read",
     },
     "krb_json": {
-        "controls-of-two-bytes-stay": "the characters U+0080 to U+009F are not escaped where no 7f stands beside them",
+        "controls-of-two-bytes-stay": "U+0080 to U+009F are not escaped if there is no 7f beside them",
         "hexadecimal-under-the-plain-name": "bytes that are no text stand as hexadecimal under the text's name",
         "is-skey-at-1-alone": "`is_skey` is false for numbers above 1",
         "leaves-the-key-out": "an entry has no key where keys are asked for",
@@ -157,7 +157,7 @@ WRONG_BODIES = {
         "copies-past-a-clash": "what did not clash is saved though an entry clashed",
         "follows-no-rewrite": "an added entry is looked for where it was before a rewrite",
         "new-over-TO": "an entry that is older than the newest of the keytab that is copied to is not new",
-        "nothing-of-a-version-is-well": "where nothing is asked for by its version or encryption type alone all is well",
+        "nothing-of-a-version-is-well": "nothing is asked for by a version or a type alone, and all is well",
         "removed-keys-stay-in-the-file": "the removed tickets stay in the file that is saved",
         "tells-of-removed-entries": "an entry that was removed again counts as added",
     },
