@@ -66,16 +66,6 @@ def last_service(entries):
     return ["0", "18", f"host/server{entries // 2 - 1:05d}.ad.test@AD.TEST"]
 
 
-def components(count):
-    """Returns names of COUNT components of 3 bytes in all, at most 65,535 in each name."""
-    made = [HEAD]
-    while count > 0:
-        here = min(count, 65_535)
-        made.append(record(b"R", [b"abc"] * here, 1, 17, bytes(16)))
-        count -= here
-    return b"".join(made)
-
-
 def holes(count):
     """Returns COUNT holes of one byte, with an entry before each tenth of them and one at the end."""
     entry = record(b"R", [b"host", b"a"], 1, 17, bytes(16))
@@ -88,11 +78,6 @@ def quoted(entries):
     return HEAD + record(b"R", [name], 1, 17, bytes(16)) * entries
 
 
-def empty(entries):
-    """Returns entries of 17 zero bytes: no components, no realm, no key."""
-    return HEAD + (struct.pack(">i", 17) + bytes(17)) * entries
-
-
 def holed(entries, roomy):
     """Returns services with a hole after each ten. From the entry ROOMY on one of ten holes has room for
     an added entry; the others are too small."""
@@ -102,11 +87,3 @@ def holed(entries, roomy):
         if number % 10 == 9:
             made.append(hole(100 if number >= roomy and number % 100 == 99 else 60))
     return b"".join(made)
-
-
-def places(image):
-    """Yields the place of each cell."""
-    at = len(HEAD)
-    while at < len(image):
-        yield at
-        at += 4 + abs(struct.unpack_from(">i", image, at)[0])
