@@ -85,9 +85,11 @@ def faults_of_members(path: str, name: str) -> list[str]:
         members = archive.getmembers()
     parts = [member.name.split("/") for member in members]
     faults = [] if parts == sorted(parts) and {part[0] for part in parts} == {name} else [f"{parts}"]
-    wrong = [member for member in members if (member.uid, member.gid, member.mtime) != (0, 0, TIME)
-             or not member.issym() and member.mode not in (0o755, 0o644) or member.issym() != member.name.endswith(LINK)]
-    return faults + [f"{member.name}: {member.mode:o}, {member.uid}, {member.mtime}" for member in wrong]
+    for each in members:
+        is_link = each.name == f"{name}/{LINK}"
+        if (each.uid, each.gid, each.mtime, each.issym()) != (0, 0, TIME, is_link) or each.mode not in (0o755, 0o644):
+            faults.append(f"{each.name}: {each.mode:o}, {each.uid}, {each.mtime}")
+    return faults
 
 
 def faults_of_version(folder: str, wanted: list[str]) -> list[str]:

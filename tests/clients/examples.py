@@ -121,8 +121,10 @@ def check_daily(report: Report, job: Job, programs: str) -> None:
 
 def check_removal(report: Report, job: Job, program: str, programs: str) -> None:
     """Runs the removal of old keys over a keytab that changed lately, and over those that did not."""
-    for sample, age, wanted in (("rotated.keytab", OLD_ENOUGH - 60, Outcome(0)), ("host.keytab", OLD_ENOUGH, Outcome(0)),
-                                ("rotated.keytab", OLD_ENOUGH, Outcome(0, REMOVED)), ("damaged.keytab", OLD_ENOUGH, None)):
+    for sample, age, wanted in (
+        ("rotated.keytab", OLD_ENOUGH - 60, Outcome(0)), ("host.keytab", OLD_ENOUGH, Outcome(0)),
+        ("rotated.keytab", OLD_ENOUGH, Outcome(0, REMOVED)), ("damaged.keytab", OLD_ENOUGH, None),
+    ):
         with root_of({"etc/krb5.keytab": sample}) as root:
             path = f"{root}/etc/krb5.keytab"
             os.utime(path, (0, time.time() - age - 5))

@@ -7,20 +7,14 @@ import shutil
 import subprocess
 from collections.abc import Iterator, Mapping
 from dataclasses import dataclass
-from random import Random
 
-from chance.random_names import random_word
 from makers.images import TWO
-from models.name_model import Kind, default, type_of
+from models.name_model import Kind, named, type_of
 from models.named_runs import CACHE
 from names.default_files import BAD
 from names.default_names import by_user, open_to_all, own_cache
 from peers.beside_mit import PATHS, are_there
 from runs.harness import SECONDS, Outcome, Report, folder_of, message
-from runs.random_runs import ONE_IN
-
-# How many random values each kind of file is named by.
-VALUES = 300
 
 # A user whose default cache no other topic makes.
 USER = 65_533
@@ -88,7 +82,7 @@ def faults_of(program: str, kind: Kind, value: bytes, files: dict[str, bytes]) -
     with folder_of(files) as folder:
         got = by_both(program, kind, folder, {kind.variable: value})
     theirs, ours = theirs_of(got[0]), ours_of(got[1])
-    name = default(kind, {kind.variable: value}, 0)
+    name = named(kind, value)
     wanted = Taken(name.text, os.path.normpath(os.fsdecode(name.text)) in files and not name.other)
     found = [] if ours == wanted else [f"{value}: ours took {ours}, not {wanted}"]
     if is_type_to_mit(kind, value) and type_of(value) not in kind.types:
@@ -115,20 +109,6 @@ def check_values(report: Report, program: str) -> None:
             for files in ({}, {name: IMAGES[kind] for name in names if "/" not in name}):
                 report.check(f"klist {kind.variable}={value!r} beside MIT's, {len(files)} files",
                              faults_of(program, kind, value.encode(), files))
-
-
-def check_random(report: Report, program: str, count: int) -> None:
-    """Checks random values, over a file that each should take or none."""
-    for kind in Kind:
-        wrong = []
-        for number in range(count):
-            random = Random(number)
-            value = random_word(random)
-            if value and b"\xff" not in value and b"\n" not in value:
-                name = os.fsdecode(default(kind, {kind.variable: value}, 0).text)
-                is_there = name != "" and random.random() < 0.7
-                wrong += faults_of(program, kind, value, {name: IMAGES[kind]} if is_there else {})
-        report.check(f"klist {kind.variable} of random values beside MIT's", wrong[:3])
 
 
 def check_different(report: Report, program: str) -> None:
@@ -184,7 +164,6 @@ def check(report: Report, program: str) -> None:
     """Runs this topic if MIT's klist is installed."""
     if are_there(report, "default files beside MIT's klist", ("klist",)):
         check_values(report, program)
-        check_random(report, program, VALUES if report.is_proved else VALUES // ONE_IN)
         check_different(report, program)
         check_defaults(report, program)
         check_another(report, program)
