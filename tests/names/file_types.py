@@ -1,5 +1,5 @@
-"""Names of files that begin with a type, as every command takes them by a word, and some by their variable: what is read
-under each is written by hand.
+"""Names of files that begin with a type, as every command takes them by a word, and some by their variable: what is
+read under each is written by hand.
 
 Every command is also given a folder, and files of neither kind. No other variable is looked at.
 """
@@ -41,8 +41,8 @@ OTHERS = {
 OTHERS_OF_CACHES = {"WRFILE:k": "WRFILE:", "WRFILE:FILE:k": "WRFILE:"}
 
 # Those that every command is tried with, by a word and by its variable.
-SOME = ("FILE:k", "FILE:FILE:k", "WRFILE:k", "WRFILE:FILE:k", "./FILE:k", "C:k", "1:k", 'ключ "\\:k', "KCM:", "KCM:k",
-        "file:k")
+SOME = ("FILE:k", "FILE:FILE:k", "WRFILE:k", "WRFILE:FILE:k", "./FILE:k", "C:k", "1:k", 'ключ "\\:k', "KCM:",
+        "KCM:k", "file:k")
 
 
 # No run looks at these, but for the variable of its kind where the file is left out.
