@@ -11,7 +11,7 @@ import keytabs
 import processes
 from tables import MEGA, Table, digits, error, less, ratio, shown
 
-LONGEST = 40  # seconds for one run of MIT's side; it does fewer operations if it would take longer
+LONGEST = 4000  # seconds that a run may take
 BUDGET = 8  # seconds for the runs of one side in one case, beyond the fewest
 FEWEST, MOST = 3, 101  # runs of one side in one case
 ADDED = 86  # bytes that an added entry takes
@@ -55,7 +55,7 @@ class Bench:
         shutil.copyfile(self.made, file)
         with open(file, "rb+") as copy:
             os.fsync(copy.fileno())
-        return how([self.sides[side], str(file), *words], self.setting.env, 100 * LONGEST, **more)
+        return how([self.sides[side], str(file), *words], self.setting.env, LONGEST, **more)
 
     def run(self, side, work):
         """Returns what a run used."""
@@ -67,16 +67,6 @@ class Bench:
     def noted(self, how, side, *words):
         """Returns what valgrind reports of a run."""
         return self.over_copy(how, side, *words, note=self.setting.folder / "note")
-
-    def shortened(self, work):
-        """Returns as many of MIT's operations as LONGEST allows, judged by the time of a few."""
-        few = work.fewer(5)
-        if few == work:
-            return work
-        each = (self.run("MIT", few).wall - self.run("MIT", work.none()).wall) / few.count()
-        if each * work.count() < LONGEST:
-            return work
-        return work.fewer(max(5, int(BUDGET / 3 / each)))
 
     def measure(self, side, work):
         """Returns the microseconds of each operation, their error, and a whole run's: next to each run is one without
@@ -110,11 +100,13 @@ def named(ours, theirs):
 
 
 def edit_cases(quick):
-    """Yields each keytab, as its entries and the first with room after it, with its operations."""
-    for entries in (1_000, 10_000) if quick else (1_000, 100_000):
-        most = 100 if quick else 4_000
-        yield entries, entries // 2, [Work(1), Work(most), Work(0, 1), Work(0, min(most, entries))]
-    yield entries, 0, [Work(1)]
+    """Yields each keytab, as its entries and the first with room after it, with its operations, and as many of each as
+    MIT's side does."""
+    most = 100 if quick else 4_000
+    for entries, additions, removals in ((1_000, 250, 1_000), (10_000 if quick else 100_000, 10, 5)):
+        yield entries, entries // 2, ((Work(1), 1), (Work(most), additions), (Work(0, 1), 1),
+                                      (Work(0, min(most, entries)), removals))
+    yield entries, 0, ((Work(1), 1),)
 
 
 def edit_rows(bench):
@@ -123,9 +115,9 @@ def edit_rows(bench):
         group = f"{entries:,} entries, room from {roomy:,} on"
         bench.made.write_bytes(keytabs.holed(entries, roomy))
         bench.compare(Work(50, 50))
-        for work in works:
+        for work, most in works:
             print(f"{group}: {work}", file=sys.stderr)
-            theirs = bench.shortened(work)
+            theirs = work.fewer(most)
             ours, mits = bench.measure("krbfile", work), bench.measure("MIT", theirs)
             yield group, [named(work, theirs), shown(*ours[:2]), shown(*mits[:2]), digits(ours[2])]
 

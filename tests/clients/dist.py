@@ -175,37 +175,29 @@ def repository() -> Iterator[str]:
         yield top
 
 
-def check_again(report: Report) -> None:
-    """Checks that what is up to date is neither proved, built nor packed again, and that all else is."""
-    with repository() as top:
-        first, again = (make(top, "dist", *TOOLS) for _ in range(2))
-        packed = [name for name in os.listdir(top) if name.startswith("krbfile-")]
-        report.check("make dist of what is built", [] if first.status == 0 and len(packed) == 1 else [f"{first}"])
-        report.compare("make dist again", Outcome(0, b"make: Nothing to be done for 'dist'.\n"), again)
-        for source, crates in (("c/krbfile.h", ()), (SOURCES[1], ("krbfile", "krb_c"))):
-            os.utime(os.path.join(top, source))
-            got = make(top, "--keep-going", "dist", *TOOLS)
-            is_done = (got.status == 0, b"\ntar " in got.out) == (not crates, not crates) and \
-                [*re.findall(rb"^proves (\w+)$", got.out, re.MULTILINE)] == [each.encode() for each in crates]
-            report.check(f"make dist after a change of {source}", [] if is_done else [f"{got}"])
-
-
-def check_install(report: Report) -> None:
-    """Checks what is installed where all is built, and that python3 finds it below its own prefix."""
+def check_made(report: Report) -> None:
+    """Checks what is installed where all is built, and that python3 finds it below its own prefix; that what is up to
+    date is neither proved, built nor packed again, and that all else is."""
     whole = {path for path in FILES if path.startswith(FOLDERS)} | {*MODULE}
     with repository() as top:
         for target, wanted in (("install-program", OF_PROGRAM), ("install", whole)):
             made = make(top, target, "DESTDIR=root", "PREFIX=/opt", "PYTHONDIR=/opt/python", *TOOLS)
             found = files_in(os.path.join(top, "root", "opt"))
-            faults = ([] if made.status == 0 else [f"{made}"]) + sorted(found.keys() ^ wanted)
-            report.check(f"make {target}", faults)
-        config = found.get("lib/pkgconfig/krbfile.pc", b"")
-        report.check("the prefix of make install", [] if config.startswith(b"prefix=/opt\n") else [f"{config}"])
+            is_set = target != "install" or found.get("lib/pkgconfig/krbfile.pc", b"").startswith(b"prefix=/opt\n")
+            report.check(f"make {target}", [f"{made}"] * (made.status != 0 or found.keys() != wanted or not is_set))
         got = run("python3", ("-c", "import sys; print(*sys.path, sys.prefix, sep='\\n')"), TOP)
         *folders, prefix = got.out.decode().splitlines()
         made = make(top, "--dry-run", "install", f"PREFIX={prefix}", *TOOLS)
-    put = re.findall(r"^mkdir -p (/.*)/krbfile$", made.out.decode(), re.MULTILINE)
-    report.check("python3 finds what is installed", [] if put and {*put} <= {*folders} else [f"{put}, {folders}"])
+        put = re.findall(r"^mkdir -p (/.*)/krbfile$", made.out.decode(), re.MULTILINE)
+        report.check("python3 finds what is installed", [] if put and {*put} <= {*folders} else [f"{put}, {folders}"])
+        for source, is_packed, *crates in (("README.md", True), ("", False), ("c/krbfile.h", True),
+                                           (SOURCES[1], False, b"krbfile", b"krb_c")):
+            if source:
+                os.utime(os.path.join(top, source))
+            got = make(top, "--keep-going", "dist", *TOOLS)
+            found = (got.status == 0, b"\ntar " in got.out, re.findall(rb"^proves (\w+)$", got.out, re.MULTILINE))
+            report.check(f"make dist after a change of {source or 'nothing'}",
+                         [] if found == (not crates, is_packed, crates) else [f"{got}"])
 
 
 def check(report: Report, _program: str) -> None:
@@ -213,8 +205,7 @@ def check(report: Report, _program: str) -> None:
     if shutil.which("make") is None:
         report.skip("the archive", "make is not there")
         return
-    check_again(report)
-    check_install(report)
+    check_made(report)
     if all(os.path.exists(os.path.join(TOP, name)) for name in BUILT):
         check_archive(report)
     else:
