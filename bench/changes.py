@@ -7,7 +7,7 @@ import sys
 import time
 from typing import NamedTuple, Optional
 
-import keytabs
+import images
 import processes
 from tables import MEGA, Table, digits, error, less, ratio, shown
 
@@ -113,7 +113,7 @@ def edit_rows(bench):
     """Yields an operation by each side, and krbfile's whole run for each operation."""
     for entries, roomy, works in edit_cases(bench.setting.quick):
         group = f"{entries:,} entries, room from {roomy:,} on"
-        bench.made.write_bytes(keytabs.holed(entries, roomy))
+        bench.made.write_bytes(images.holed(entries, roomy))
         bench.compare(Work(50, 50))
         for work, most in works:
             print(f"{group}: {work}", file=sys.stderr)
@@ -136,7 +136,7 @@ def cell_rows(bench):
             theirs = ours.fewer(fewer)
             name = f"{cells:,} cells, {named(ours, theirs)}"
             print(f"{group}: {name}", file=sys.stderr)
-            bench.made.write_bytes(keytabs.mixed(cells, fitting, ADDED))
+            bench.made.write_bytes(images.mixed(cells, fitting, ADDED))
             bench.compare(theirs)
             counts = bench.counted("krbfile", ours), bench.counted("MIT", theirs)
             yield group, [name, *(ratio(one, 1, "{:,.0f}") for one in counts), ratio(*counts[::-1], "{:,.0f}")]
@@ -151,7 +151,7 @@ def opened(setting):
     """Returns the table of what building the table of cells costs: a run that opens the keytab, beside one that only
     reads and writes its file."""
     bench, count = Bench(setting), 10_000 if setting.quick else 100_000
-    image = keytabs.mixed(count, 0, ADDED)
+    image = images.mixed(count, 0, ADDED)
     bench.made.write_bytes(image)
     row = [f"{count:,}"]
     for how, copied in (processes.instructions, 0), (processes.heap, len(image)):

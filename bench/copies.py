@@ -5,9 +5,10 @@ import os
 import shutil
 import statistics
 import sys
+from dataclasses import replace
 from typing import NamedTuple
 
-import keytabs
+import images
 import processes
 from tables import MEGA, Table, ratio
 
@@ -72,8 +73,8 @@ class Bench:
 def merges(krbfile, quick):
     """Yields two keytabs made one: ktcopy adds to the first, ktutil writes a third."""
     entries = 400 if quick else 4_000
-    whole, border = keytabs.services(2 * entries), len(keytabs.services(entries))
-    files = {"a": whole[:border], "b": keytabs.HEAD + whole[border:]}
+    whole, border = images.services(2 * entries), len(images.services(entries))
+    files = {"a": whole[:border], "b": images.HEAD + whole[border:]}
     for name, words in ("MIT's ktutil", [processes.mit("ktutil")[0]]), ("our ktutil", [krbfile, "ktutil"]):
         yield Case(f"two of {entries:,} made one; {name}", files, Side([krbfile, "ktcopy", "b", "a"], "a"),
                    Side(words, "c", MERGED), whole)
@@ -82,7 +83,7 @@ def merges(krbfile, quick):
 def beside_listing(krbfile, quick):
     """Yields a comparison of equal keytabs, and a copy into a missing one."""
     entries = 1_000 if quick else 100_000
-    whole, listing = keytabs.services(entries), Side([krbfile, "klist", "-k", "a"], "a")
+    whole, listing = images.services(entries), Side([krbfile, "klist", "-k", "a"], "a")
     yield Case(f"-n over two equal ones of {entries:,}; klist -k of one", {"a": whole, "b": whole},
                Side([krbfile, "ktcopy", "-n", "a", "b"], "b"), listing, whole)
     yield Case(f"{entries:,} into a missing file; klist -k", {"a": whole},
@@ -105,38 +106,26 @@ def ktcopy(setting):
                  rows(setting))
 
 
-def short(*, name=b"a", version=1, key=b"same"):
-    """Returns an entry of at most 33 bytes: half a million are a keytab."""
-    return keytabs.record(b"R", [name], version, 17, key)
-
-
-def of_another_name(number):
-    return short(name=base64.urlsafe_b64encode(number.to_bytes(3, "big")), key=b"k")
-
-
-def of_another_version(number):
-    return short(version=number + 1)
-
-
-def of_another_key(number):
-    return short(key=number.to_bytes(4, "big"))
-
-
-def short_keytab(entry, numbers):
-    image = keytabs.HEAD + b"".join(map(entry, numbers))
-    assert len(image) <= keytabs.LIMIT
+def short_keytab(entries):
+    """Returns a keytab of entries of at most 33 bytes: half a million fit."""
+    image = images.keytab(*entries)
+    assert len(image) <= images.LIMIT
     return image
 
 
 def largest_cases(count):
     """Yields a name and files, the status of a copy from a to b, and how many lines it prints."""
-    names, versions, keys = (short_keytab(entry, range(count))
-                             for entry in (of_another_name, of_another_version, of_another_key))
-    alike, others = keytabs.HEAD + short() * count, short_keytab(of_another_key, range(count, 2 * count))
-    yield "versions of one name, into a missing file", {"a": versions}, 0, count
-    yield "names, into a missing file", {"a": names}, 0, count
+    one, numbers = replace(images.SHORT, components=(b"a",), key=b"same"), range(1, count + 1)
+    yield "versions of one name, into a missing file", {"a": short_keytab(
+        replace(one, version8=number % 256, version32=number) for number in numbers)}, 0, count
+    yield "names, into a missing file", {"a": short_keytab(
+        replace(one, components=(base64.urlsafe_b64encode(number.to_bytes(3, "big")),), key=b"k")
+        for number in numbers)}, 0, count
+    alike = short_keytab([one] * count)
     yield "alike, into a file of the same", {"a": alike, "b": alike}, 0, 0
-    yield "that clash: one name and version, other keys", {"a": keys, "b": others}, 1, count
+    others = (short_keytab(replace(one, key=(first + number).to_bytes(4, "big")) for number in numbers)
+              for first in (0, count))
+    yield "that clash: one name and version, other keys", dict(zip("ab", others)), 1, count
 
 
 def largest_rows(setting):

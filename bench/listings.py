@@ -4,8 +4,7 @@ import statistics
 import sys
 from typing import NamedTuple, Optional
 
-import caches
-import keytabs
+import images
 import processes
 from tables import Table, ratio
 
@@ -24,20 +23,20 @@ class Group(NamedTuple):
     after: object = lambda size: []  # our words after the file's name
 
 
-SERVICES = keytabs.services, 200_000, 10_000
-TICKETS = caches.tickets, 50_000, 1_000
+SERVICES = images.services, 200_000, 10_000
+TICKETS = images.tickets, 50_000, 1_000
 KTLIST, CCLIST = ["klist", "-k"], ["klist", "-c"]
 TABLES = {  # the other side of each table, and its groups
     "keytabs": ("MIT", [
         Group("services", *SERVICES, KTLIST),
         Group("all columns", *SERVICES, [*KTLIST, "-t", "-K", "-e"]),
-        Group("holes", keytabs.holes, 3_000_000, 100_000, KTLIST),
-        Group("quoted names", keytabs.quoted, 550, 33, KTLIST),
+        Group("holes", images.holes, 3_000_000, 100_000, KTLIST),
+        Group("quoted names", images.quoted, 550, 33, KTLIST),
     ]),
     "commands": ("klist", [
-        Group("ktfind", *SERVICES, ["ktfind"], KTLIST, keytabs.last_service),
+        Group("ktfind", *SERVICES, ["ktfind"], KTLIST, images.last_service),
         Group("ktcheck", *SERVICES, ["ktcheck"], KTLIST),
-        Group("ktremove", keytabs.of_two_versions, 180_000, 10_000, ["ktremove", "-n", "-k", "old"], KTLIST),
+        Group("ktremove", images.of_two_versions, 180_000, 10_000, ["ktremove", "-n", "-k", "old"], KTLIST),
         Group("services as JSON", *SERVICES, [*KTLIST, "--json"], [*KTLIST, "-t", "-e"]),
         Group("ccremove", *TICKETS, ["ccremove", "-n", "--expired"], CCLIST),
         Group("tickets as JSON", *TICKETS, [*CCLIST, "--json"], [*CCLIST, "-e", "-f"]),
@@ -94,7 +93,7 @@ def table(name, setting):
         size = group.quick if setting.quick else group.size
         print(f"{group.name}, {size:,}", file=sys.stderr)
         length = bench.file.write_bytes(group.make(size))
-        assert length <= keytabs.LIMIT, (group.name, size, length)
+        assert length <= images.LIMIT, (group.name, size, length)
         ours = [setting.krbfile, *group.words, str(bench.file), *group.after(size)]
         theirs = [*front, *(group.others or group.words)[1:], str(bench.file)]
         times = bench.ms((ours, theirs), 3 if setting.quick else 9)
