@@ -2,18 +2,20 @@
 
 import base64
 import os
+import shutil
 import statistics
 import sys
-from typing import NamedTuple, Optional
+from dataclasses import replace
+from typing import NamedTuple
 
-import keytabs
+import images
 import processes
-from processes import Used
 from tables import MEGA, Table, ratio
-from talks import GROUND, Bench
 
+LONGEST = 1800  # seconds that a run may take
 RUNS = 9  # at most
 BUDGET = 10  # seconds for the runs of one side in one case
+GROUND = 2  # seconds of the processor up to which a run is also counted by valgrind
 MERGED = b"rkt a\nrkt b\nwkt c\nquit\n"
 
 
@@ -21,7 +23,7 @@ class Side(NamedTuple):
     """One side's words, the file that then has all entries, and its input."""
 
     words: list
-    left: Optional[str] = None
+    left: str
     input: bytes = b""
 
 
@@ -31,62 +33,48 @@ class Case(NamedTuple):
     name: str
     files: dict
     ours: Side
-    theirs: Optional[Side] = None
-    whole: Optional[bytes] = None
+    theirs: Side
+    whole: bytes
 
 
-class Cost(NamedTuple):
-    """The cost of one side."""
-
-    used: list  # by each run
-    memory: Optional[int]  # peak resident bytes
-    instructions: Optional[int]
-
-    def ms(self, part):
-        return statistics.median(getattr(one, part) for one in self.used) * 1000
-
-
-class Copies(Bench):
+class Bench:
     """The files of one case, and what a run prints."""
 
     def __init__(self, setting):
-        super().__init__(setting)
-        self.out, self.whole = setting.folder / "out", setting.folder / "whole"
+        self.setting = setting
+        self.work, self.note, self.out, self.input, self.whole = (
+            setting.folder / name for name in ("work", "note", "out", "input", "whole"))
 
-    def call(self, case, side, status=0, before=()):
-        """Makes a run with its output in a file, and returns what it used. It has to end with that status."""
-        with open(self.out, "wb") as out:
-            ended, used = self.run(case, side._replace(words=[*before, *side.words]), stdout=out)
-        if ended != status:
-            sys.exit(f"bench: {' '.join(side.words)}: status {ended}")
-        return used
-
-    def timed(self, case, side, status=0):
-        """Makes a run, and returns what it used and its peak resident bytes, if time(1) is there."""
-        time = "/usr/bin/time"
-        if not os.path.exists(time):
-            return self.call(case, side, status), None
-        used = self.call(case, side, status, [time, "-q", "-f", "%M", "-o", str(self.note)])
-        return used, int(self.note.read_text().split()[-1]) * 1024
+    def call(self, how, files, words, given=b"", **more):
+        """Makes a run by `how` over files that are made from scratch and on the disk, and returns its result."""
+        shutil.rmtree(self.work, ignore_errors=True)
+        self.work.mkdir()
+        for name, image in files.items():
+            (self.work / name).write_bytes(image)
+        os.sync()
+        self.input.write_bytes(given)
+        with open(self.input, "rb") as stdin, open(self.out, "wb") as out:
+            return how(words, self.setting.env, LONGEST, stdin=stdin, stdout=out, cwd=self.work, **more)
 
     def cost(self, case, side):
-        """Returns the cost of one side. It has to leave all entries."""
-        (_, memory), used, counted = self.timed(case, side), [], None
+        """Returns the milliseconds of one side, its instructions and its peak. It has to leave all entries."""
+        run = case.files, side.words, side.input
+        status, used, memory = self.call(processes.peak, *run, note=self.note)
         self.whole.write_bytes(case.whole)
-        if self.setting.listed(self.work / side.left) != self.setting.listed(self.whole):
-            sys.exit(f"bench: {' '.join(side.words)}: {side.left} has other entries")
-        while not used or (len(used) < RUNS and sum(one.wall for one in used) < BUDGET):
-            used.append(self.call(case, side))
-        if used[0].cpu < GROUND:
-            counted = self.run(case, side, processes.instructions, note=self.note)
-        return Cost(used, memory, counted)
+        if status or self.setting.listed(self.work / side.left) != self.setting.listed(self.whole):
+            sys.exit(f"bench: {' '.join(side.words)}: status {status}, or {side.left} has other entries")
+        found = []
+        while not found or (len(found) < RUNS and sum(one.wall for one in found) < BUDGET):
+            found.append(self.call(processes.run, *run)[1])
+        counted = self.call(processes.instructions, *run, note=self.note) if used.cpu < GROUND else None
+        return statistics.median(one.cpu for one in found) * 1000, counted, memory
 
 
 def merges(krbfile, quick):
     """Yields two keytabs made one: ktcopy adds to the first, ktutil writes a third."""
     entries = 400 if quick else 4_000
-    whole, border = keytabs.services(2 * entries), len(keytabs.services(entries))
-    files = {"a": whole[:border], "b": keytabs.HEAD + whole[border:]}
+    whole, border = images.services(2 * entries), len(images.services(entries))
+    files = {"a": whole[:border], "b": images.HEAD + whole[border:]}
     for name, words in ("MIT's ktutil", [processes.mit("ktutil")[0]]), ("our ktutil", [krbfile, "ktutil"]):
         yield Case(f"two of {entries:,} made one; {name}", files, Side([krbfile, "ktcopy", "b", "a"], "a"),
                    Side(words, "c", MERGED), whole)
@@ -95,86 +83,63 @@ def merges(krbfile, quick):
 def beside_listing(krbfile, quick):
     """Yields a comparison of equal keytabs, and a copy into a missing one."""
     entries = 1_000 if quick else 100_000
-    whole, listing = keytabs.services(entries), Side([krbfile, "klist", "-k", "a"], "a")
+    whole, listing = images.services(entries), Side([krbfile, "klist", "-k", "a"], "a")
     yield Case(f"-n over two equal ones of {entries:,}; klist -k of one", {"a": whole, "b": whole},
                Side([krbfile, "ktcopy", "-n", "a", "b"], "b"), listing, whole)
     yield Case(f"{entries:,} into a missing file; klist -k", {"a": whole},
                Side([krbfile, "ktcopy", "a", "b"], "b"), listing, whole)
 
 
-def beside(sides):
-    """Returns the cells of a row: our costs beside the other's."""
-    cells = []
-    for part in Used._fields:
-        times = [side.ms(part) for side in sides]
-        cells += [*(f"{time:,.1f}" for time in times), ratio(*times)]
-    counts = [side.instructions for side in sides]
-    cells += [*(ratio(count, MEGA, "{:,.1f}") for count in counts), ratio(*counts)]
-    return cells + [ratio(side.memory, MEGA, "{:,.1f}") for side in sides]
-
-
 def rows(setting):
-    """Yields a row for each case."""
-    bench, sizes = Copies(setting), (setting.krbfile, setting.quick)
+    """Yields a row for each case: our costs beside the other's."""
+    bench, sizes = Bench(setting), (setting.krbfile, setting.quick)
     for case in (*merges(*sizes), *beside_listing(*sizes)):
         print(case.name, file=sys.stderr)
-        yield None, [case.name, *beside([bench.cost(case, side) for side in (case.ours, case.theirs)])]
+        (ms, counted, memory), (other_ms, other_counted, _) = (bench.cost(case, it) for it in (case.ours, case.theirs))
+        yield None, [case.name, f"{ms:,.1f}", f"{other_ms:,.1f}", ratio(ms, other_ms),
+                     ratio(counted, MEGA, "{:,.1f}"), ratio(counted, other_counted), ratio(memory, MEGA, "{:,.1f}")]
 
 
 def ktcopy(setting):
     """Returns the table of copies beside other runs."""
-    return Table(["run; other", "ms", "other ms", "ms / other's", "cpu ms", "other cpu ms", "cpu / other's",
-                  "instr M", "other instr M", "instr / other's", "peak MB", "other peak MB"], rows(setting),
-                 [f"- medians of up to {RUNS} runs of each side"])
+    return Table(["run; other", "cpu ms", "other cpu ms", "cpu / other's", "instr M", "instr / other's", "peak MB"],
+                 rows(setting))
 
 
-def short(*, name=b"a", version=1, key=b"same"):
-    """Returns an entry of at most 33 bytes: half a million are a keytab."""
-    return keytabs.record(b"R", [name], version, 17, key)
-
-
-def of_another_name(number):
-    return short(name=base64.urlsafe_b64encode(number.to_bytes(3, "big")), key=b"k")
-
-
-def of_another_version(number):
-    return short(version=number + 1)
-
-
-def of_another_key(number):
-    return short(key=number.to_bytes(4, "big"))
-
-
-def short_keytab(entry, numbers):
-    image = keytabs.HEAD + b"".join(map(entry, numbers))
-    assert len(image) <= keytabs.LIMIT
+def short_keytab(entries):
+    """Returns a keytab of entries of at most 33 bytes: half a million fit."""
+    image = images.keytab(*entries)
+    assert len(image) <= images.LIMIT
     return image
 
 
-def largest_cases(quick):
+def largest_cases(count):
     """Yields a name and files, the status of a copy from a to b, and how many lines it prints."""
-    count = 1_000 if quick else 500_000
-    names, versions, keys = (short_keytab(entry, range(count))
-                             for entry in (of_another_name, of_another_version, of_another_key))
-    alike, others = keytabs.HEAD + short() * count, short_keytab(of_another_key, range(count, 2 * count))
-    yield f"{count:,} versions of one name, into a missing file", {"a": versions}, 0, count
-    yield f"{count:,} names, into a missing file", {"a": names}, 0, count
-    yield f"{count:,} alike, into a file of the same", {"a": alike, "b": alike}, 0, 0
-    yield f"{count:,} that clash: one name and version, other keys", {"a": keys, "b": others}, 1, count
+    one, numbers = replace(images.SHORT, components=(b"a",), key=b"same"), range(1, count + 1)
+    yield "versions of one name, into a missing file", {"a": short_keytab(
+        replace(one, version8=number % 256, version32=number) for number in numbers)}, 0, count
+    yield "names, into a missing file", {"a": short_keytab(
+        replace(one, components=(base64.urlsafe_b64encode(number.to_bytes(3, "big")),), key=b"k")
+        for number in numbers)}, 0, count
+    alike = short_keytab([one] * count)
+    yield "alike, into a file of the same", {"a": alike, "b": alike}, 0, 0
+    others = (short_keytab(replace(one, key=(first + number).to_bytes(4, "big")) for number in numbers)
+              for first in (0, count))
+    yield "that clash: one name and version, other keys", dict(zip("ab", others)), 1, count
 
 
 def largest_rows(setting):
     """Yields a row for each case, of a single run."""
-    bench, side = Copies(setting), Side([setting.krbfile, "ktcopy", "a", "b"])
-    for name, files, status, lines in largest_cases(setting.quick):
+    bench = Bench(setting)
+    for name, files, status, lines in largest_cases(1_000 if setting.quick else 500_000):
         print(name, file=sys.stderr)
-        used, memory = bench.timed(Case(name, files, side), side, status)
+        ended, used, memory = bench.call(processes.peak, files, [setting.krbfile, "ktcopy", "a", "b"], note=bench.note)
         printed = bench.out.read_bytes().count(b"\n")
-        if printed != lines:
-            sys.exit(f"bench: {name}: {printed:,} lines")
+        if (ended, printed) != (status, lines):
+            sys.exit(f"bench: {name}: status {ended}, {printed:,} lines")
         yield None, [name, *(f"{seconds:,.2f}" for seconds in used), ratio(memory, MEGA, "{:,.1f}"), f"{lines:,}"]
 
 
 def largest(setting):
     """Returns the table of copies of half a million entries."""
-    return Table(["run", "s", "cpu s", "peak MB", "lines"], largest_rows(setting), ["- one run each"])
+    return Table(["copy", "s", "cpu s", "peak MB", "lines"], largest_rows(setting))

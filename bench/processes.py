@@ -56,6 +56,15 @@ def run(words, env, longest, stdin=subprocess.DEVNULL, stdout=subprocess.DEVNULL
     return started.returncode, Used(seconds, used.ru_utime + used.ru_stime)
 
 
+def peak(words, env, longest, note, **streams):
+    """Makes a run, and returns its status, what it used, and its peak resident bytes if time(1) is there: a child of
+    Python would count Python's own."""
+    if not os.path.exists("/usr/bin/time"):
+        return *run(words, env, longest, **streams), None
+    status, used = run(["/usr/bin/time", "-q", "-f", "%M", "-o", str(note), *words], env, longest, **streams)
+    return status, used, int(Path(note).read_text().split()[-1]) * 1024
+
+
 def instructions(words, env, longest, note, **streams):
     """Returns the instructions that a program executes itself; the kernel's are not counted."""
     if shutil.which("valgrind") is None:

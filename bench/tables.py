@@ -30,11 +30,10 @@ def shown(value, error):
 
 
 class Table(NamedTuple):
-    """A heading, rows of cells, each with its group, and a note below."""
+    """A heading, and rows of cells, each with its group."""
 
     heading: list
     rows: object
-    notes: list = []
 
     def text(self):
         """Returns Markdown, with a line for each group."""
@@ -45,4 +44,4 @@ class Table(NamedTuple):
                 group = of
                 lines.append(f"| **{group}** |" + " |" * (len(self.heading) - 1))
             lines.append("| " + " | ".join(cells) + " |")
-        return "\n".join([*lines, "", *self.notes]).rstrip("\n")
+        return "\n".join(lines)

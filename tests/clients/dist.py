@@ -50,9 +50,6 @@ LINK = "lib/libkrbfile.so"
 FOLDERS = ("bin/", "include/", "lib/", "share/")
 OF_PROGRAM = {path for path in FILES if path.startswith(("bin/", "share/")) and not path.endswith(".3")}
 
-# What others run.
-PROGRAMS = ("bin/krbfile", "lib/libkrbfile.so.1")
-
 # 2026-01-01.
 TIME = 1_767_225_600
 
@@ -66,57 +63,41 @@ def make(top: str, *words: str, umask: int = -1, **more: str) -> Outcome:
     return run("make", words, top, env={**env, "LC_ALL": "C", **more}, umask=umask)
 
 
-def pack(folder: str, **surroundings) -> Outcome:
-    """Packs what is built, up to date or not, in a folder."""
-    as_built = [word for name in BUILT for word in ("-o", name)]
-    return make(TOP, *as_built, f"DIST={folder}", "dist", **surroundings)
+def bytes_of(path: str) -> bytes:
+    """Returns a file of the repository."""
+    with open(os.path.join(TOP, path), "rb") as file:
+        return file.read()
 
 
 def faults_of_files(folder: str) -> list[str]:
     """Returns the faults of an unpacked archive's files and of their sums."""
     found = files_in(folder)
     faults = sorted(found.keys() ^ FILES.keys())
-    for name, source in FILES.items():
-        if source is not None:
-            with open(os.path.join(TOP, source), "rb") as file:
-                faults += [] if found.get(name) == file.read() else [f"{name} is not {source}"]
+    faults += [f"{name} is not {it}" for name, it in FILES.items() if it and found.get(name) != bytes_of(it)]
     summed = re.findall(r"^[0-9a-f]{64}  (.*)$", found.get("SHA256SUMS", b"").decode(), re.MULTILINE)
-    if summed != sorted(found.keys() - {"SHA256SUMS", LINK}):
-        faults.append(f"sums of {summed}")
-    sums = run("sha256sum", ("--check", "--strict", "--quiet", "SHA256SUMS"), folder)
-    return faults + ([] if sums == Outcome(0) else [f"sums: {sums}"])
+    return faults + ([] if summed == sorted(found.keys() - {"SHA256SUMS", LINK}) else [f"sums of {summed}"])
 
 
 def faults_of_members(path: str, name: str) -> list[str]:
-    """Returns the faults of an archive's members: below one folder, in order, of one time, root's to write and all
-    others' to read."""
+    """Returns the members of an archive that are out of order, not below one folder, not root's, of another time, or
+    not for all to read; and what is a link."""
     with tarfile.open(path) as archive:
         members = archive.getmembers()
-    paths = [member.name.split("/") for member in members]
-    faults = [] if paths == sorted(paths) and {path[0] for path in paths} == {name} else [f"{paths}"]
-    for member in members:
-        inner = member.name.removeprefix(f"{name}/")
-        mode = 0o755 if member.isdir() or inner in PROGRAMS else 0o644
-        if (member.uid, member.gid, member.mtime) != (0, 0, TIME):
-            faults.append(f"{member.name} of {member.uid}:{member.gid} at {member.mtime}")
-        if member.issym() != (inner == LINK) or not member.issym() and member.mode != mode:
-            faults.append(f"{member.name} has mode {member.mode:o}")
+    parts = [member.name.split("/") for member in members]
+    faults = [] if parts == sorted(parts) and {part[0] for part in parts} == {name} else [f"{parts}"]
+    for each in members:
+        is_link = each.name == f"{name}/{LINK}"
+        if (each.uid, each.gid, each.mtime, each.issym()) != (0, 0, TIME, is_link) or each.mode not in (0o755, 0o644):
+            faults.append(f"{each.name}: {each.mode:o}, {each.uid}, {each.mtime}")
     return faults
 
 
-def check_version(report: Report, folder: str, name: str) -> None:
-    """Checks that the program, the module, pkg-config's file and the archive's name tell the same version."""
-    version = run(os.path.join(folder, "bin", "krbfile"), ("--version",), folder).out.decode().split()[:2]
-    wanted = name.split("-")[:2]
-    report.check("the version of the archive", [] if version == wanted else [f"{version}, not {wanted}"])
-    with open(os.path.join(folder, PROJECT), encoding="ascii") as file:
-        of_module = re.findall(r'^(?:name|version) = "(.*)"$', file.read(), re.MULTILINE)
-    report.check("the version of the archive's module", [] if of_module == wanted else [f"{of_module}"])
-    if shutil.which("pkg-config") is None:
-        report.skip("the version of the archive's library", "pkg-config is not there")
-        return
-    of_library = pkg_config(folder, "--modversion")
-    report.check("the version of the archive's library", [] if of_library == wanted[1:] else [f"{of_library}"])
+def faults_of_version(folder: str, wanted: list[str]) -> list[str]:
+    """Returns what tells another version than the archive's name: the program, the module or pkg-config's file."""
+    module = re.findall(r'^(?:name|version) = "(.*)"$', read(PROJECT), re.MULTILINE)
+    told = [run(os.path.join(folder, "bin", "krbfile"), ("--version",), folder).out.decode().split()[:2], module]
+    told += [["krbfile", *pkg_config(folder, "--modversion")]] if shutil.which("pkg-config") else []
+    return [f"{each}, not {wanted}" for each in told if each != wanted]
 
 
 def pkg_config(folder: str, *words: str) -> list[str]:
@@ -138,10 +119,9 @@ def check_library(report: Report, folder: str) -> None:
         return
     source = "".join(re.findall(r"```c\n(.*?)```", read(SHOWN), re.DOTALL))
     with folder_of({"list.c": source.encode()}) as at:
-        words = pkg_config(folder, "--cflags", "--libs")
-        report.compare("the archive's library", Outcome(0), run("cc", ("-o", "list", "list.c", *words), at))
-        listed = run(os.path.join(at, "list"), (), at, TWO, env=env)
-    report.compare("a program over the archive's library", wanted, listed)
+        build = " ".join(["cc -o list list.c", *pkg_config(folder, "--cflags", "--libs")])
+        report.compare("a program over the archive's library", wanted,
+                       run("sh", ("-c", f"{build} && ./list"), at, TWO, env=env))
 
 
 def check_installed(report: Report, folder: str, top: str) -> None:
@@ -157,26 +137,24 @@ def check_installed(report: Report, folder: str, top: str) -> None:
 
 
 def check_archive(report: Report) -> None:
-    """Packs what is built twice, and unpacks it."""
+    """Packs what is built twice, up to date or not, and unpacks it."""
+    as_built = [word for name in BUILT for word in ("-o", name)]
     with folder_of({}) as one, folder_of({}) as two:
-        for folder, surroundings in ((one, {}), (two, ELSEWHERE)):
-            made = pack(folder, **surroundings)
-            report.check("make dist", [] if made.status == 0 else [f"{made}"])
-        packed, again = files_in(one), files_in(two)
-        report.check("the archive made twice", [] if packed and packed == again else [f"{[*packed]}, {[*again]}"])
-        if not packed:
-            return
-        (archive,) = packed
-        report.check("the archive's name", [] if re.fullmatch(r"krbfile-[\d.]+-linux-x86_64\.tar\.gz", archive)
-                     else [archive])
-        name = archive.removesuffix(".tar.gz")
-        report.check("the archive's members", faults_of_members(os.path.join(one, archive), name))
-        top = os.path.join(one, name)
-        check_installed(report, one, top)
-        report.check("the archive's files", faults_of_files(top))
-        check_version(report, top, name)
-        check_library(report, top)
-        check_alone(report, "the archive's program", os.path.join(top, "bin", "krbfile"))
+        made = [make(TOP, *as_built, f"DIST={one}", "dist"), make(TOP, *as_built, f"DIST={two}", "dist", **ELSEWHERE)]
+        report.check("make dist", [f"{each}" for each in made if each.status != 0])
+        packed = files_in(one)
+        report.check("the archive made twice", [] if packed and packed == files_in(two) else [*packed])
+        for archive in packed:
+            name = archive.removesuffix(".tar.gz")
+            is_named = re.fullmatch(r"krbfile-[\d.]+-linux-x86_64\.tar\.gz", archive)
+            report.check("the archive's name", [] if is_named else [archive])
+            report.check("the archive's members", faults_of_members(os.path.join(one, archive), name))
+            top = os.path.join(one, name)
+            check_installed(report, one, top)
+            report.check("the archive's files", faults_of_files(top))
+            report.check("the versions in the archive", faults_of_version(top, name.split("-")[:2]))
+            check_library(report, top)
+            check_alone(report, "the archive's program", os.path.join(top, "bin", "krbfile"))
 
 
 @contextmanager
@@ -197,46 +175,29 @@ def repository() -> Iterator[str]:
         yield top
 
 
-def check_again(report: Report) -> None:
-    """Checks that what is up to date is neither proved, built nor packed again, and that all else is."""
-    with repository() as top:
-        first, again = (make(top, "dist", *TOOLS) for _ in range(2))
-        report.check("make dist of what is built", [] if first.status == 0 else [f"{first}"])
-        report.compare("make dist again", Outcome(0, b"make: Nothing to be done for 'dist'.\n"), again)
-        packed = [name for name in os.listdir(top) if name.startswith("krbfile-")]
-        report.check("make dist leaves the archive", [] if len(packed) == 1 else packed)
-        os.utime(os.path.join(top, "c", "krbfile.h"))
-        got = make(top, "dist", *TOOLS)
-        is_packed = got.status == 0 and b"\ntar " in got.out
-        report.check("make dist after a change of the header", [] if is_packed else [f"{got}"])
-        os.utime(os.path.join(top, SOURCES[1]))
-        got = make(top, "--keep-going", "dist", *TOOLS)
-        is_proved = got.status != 0 and b"\ntar " not in got.out and \
-            all(f"proves {crate}\n".encode() in got.out for crate in ("krbfile", "krb_c"))
-        report.check("make dist after a change of the program", [] if is_proved else [f"{got}"])
-
-
-def check_python_folder(report: Report) -> None:
-    """Checks that python3 finds what is installed below its own prefix."""
-    got = run("python3", ("-c", "import sys; print(*sys.path, sep='\\n'); print(sys.prefix)"), TOP)
-    *folders, prefix = got.out.decode().splitlines()
-    with repository() as top:
-        made = make(top, "--dry-run", "install", f"PREFIX={prefix}", *TOOLS)
-    found = re.findall(r"^mkdir -p (/.*)/krbfile$", made.out.decode(), re.MULTILINE)
-    report.check("python3 finds what is installed", [] if found and {*found} <= {*folders} else [f"{found}, {folders}"])
-
-
-def check_install(report: Report) -> None:
-    """Checks what is installed where all is built."""
+def check_made(report: Report) -> None:
+    """Checks what is installed where all is built, and that python3 finds it below its own prefix; that what is up to
+    date is neither proved, built nor packed again, and that all else is."""
     whole = {path for path in FILES if path.startswith(FOLDERS)} | {*MODULE}
     with repository() as top:
         for target, wanted in (("install-program", OF_PROGRAM), ("install", whole)):
             made = make(top, target, "DESTDIR=root", "PREFIX=/opt", "PYTHONDIR=/opt/python", *TOOLS)
             found = files_in(os.path.join(top, "root", "opt"))
-            faults = ([] if made.status == 0 else [f"{made}"]) + sorted(found.keys() ^ wanted)
-            report.check(f"make {target}", faults)
-        config = found.get("lib/pkgconfig/krbfile.pc", b"")
-        report.check("the prefix of make install", [] if config.startswith(b"prefix=/opt\n") else [f"{config}"])
+            is_set = target != "install" or found.get("lib/pkgconfig/krbfile.pc", b"").startswith(b"prefix=/opt\n")
+            report.check(f"make {target}", [f"{made}"] * (made.status != 0 or found.keys() != wanted or not is_set))
+        got = run("python3", ("-c", "import sys; print(*sys.path, sys.prefix, sep='\\n')"), TOP)
+        *folders, prefix = got.out.decode().splitlines()
+        made = make(top, "--dry-run", "install", f"PREFIX={prefix}", *TOOLS)
+        put = re.findall(r"^mkdir -p (/.*)/krbfile$", made.out.decode(), re.MULTILINE)
+        report.check("python3 finds what is installed", [] if put and {*put} <= {*folders} else [f"{put}, {folders}"])
+        for source, is_packed, *crates in (("README.md", True), ("", False), ("c/krbfile.h", True),
+                                           (SOURCES[1], False, b"krbfile", b"krb_c")):
+            if source:
+                os.utime(os.path.join(top, source))
+            got = make(top, "--keep-going", "dist", *TOOLS)
+            found = (got.status == 0, b"\ntar " in got.out, re.findall(rb"^proves (\w+)$", got.out, re.MULTILINE))
+            report.check(f"make dist after a change of {source or 'nothing'}",
+                         [] if found == (not crates, is_packed, crates) else [f"{got}"])
 
 
 def check(report: Report, _program: str) -> None:
@@ -244,9 +205,7 @@ def check(report: Report, _program: str) -> None:
     if shutil.which("make") is None:
         report.skip("the archive", "make is not there")
         return
-    check_again(report)
-    check_install(report)
-    check_python_folder(report)
+    check_made(report)
     if all(os.path.exists(os.path.join(TOP, name)) for name in BUILT):
         check_archive(report)
     else:

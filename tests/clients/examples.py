@@ -1,5 +1,6 @@
 """The jobs in examples/: their shell over the keytabs of a small root, systemd's and Ansible's look at the rest."""
 
+import json
 import os
 import re
 import shlex
@@ -30,7 +31,7 @@ FINDINGS = {
 
 # `find` takes days that have gone by, so more than 7 are 8. What is removed then, and what is left.
 OLD_ENOUGH = 8 * 86_400
-REMOVED = "removed 2 kvno 3 etype 17 host/a@R\n"
+REMOVED = b"removed 2 kvno 3 etype 17 host/a@R\n"
 LEFT = "KVNO Principal\n---- ---------\n   5 host/a@R\n   3 b@R\n"
 
 
@@ -89,11 +90,8 @@ def folder_with(program: str) -> Iterator[str]:
 # Keytabs of a host, in the order in which they are checked.
 HOSTS = {
     "no keytabs": {},
-    "a good keytab": {"etc/krb5.keytab": "host.keytab"},
     "good ones and old keys": {"etc/krb5.keytab": "rotated.keytab", "etc/a b/http.keytab": "other.keytab",
                                "var/lib/db/db.keytab": "old.keytab"},
-    "a weak key": {"etc/krb5.keytab": "mixed.keytab"},
-    "a key that stands there twice": {"etc/krb5.keytab": "host.keytab", "var/lib/db/db.keytab": "twice.keytab"},
     "a damaged keytab": {"etc/krb5.keytab": "damaged.keytab"},
     "several findings": {"etc/krb5.keytab": "twice.keytab", "etc/nfs.keytab": "other.keytab",
                          "etc/a b/http.keytab": "mixed.keytab", "var/lib/db/db.keytab": "host.keytab"},
@@ -101,24 +99,17 @@ HOSTS = {
 }
 
 
-def findings(root: str, keytabs: dict[str, str]) -> Outcome:
-    """Returns the outcome of a check of those keytabs, which are in the order of the patterns."""
-    printed = [f"{os.path.join(root, path)}\n{FINDINGS[sample]}" for path, sample in keytabs.items()
-            if sample in FINDINGS and path.endswith(".keytab")]
-    return Outcome(1 if printed else 0, "".join(printed).encode())
-
-
-def check_hosts(report: Report, job: Job, programs: str) -> None:
-    """Runs a daily check over the keytabs of each host."""
+def check_daily(report: Report, job: Job, programs: str) -> None:
+    """Runs a daily check over the keytabs of each host; over a keytab that all may read, over a file that is none, and
+    with a program that fails."""
     for name, keytabs in HOSTS.items():
         with root_of(keytabs) as root:
-            report.compare(f"{job.name}: {name}", findings(root, keytabs), job.run(root, programs))
-
-
-def check_odd(report: Report, job: Job, programs: str) -> None:
-    """Runs a daily check over a keytab that all may read, over a file that is none, and with a program that fails."""
+            printed = "".join(f"{root}/{path}\n{FINDINGS[sample]}" for path, sample in keytabs.items()
+                              if sample in FINDINGS and path.endswith(".keytab"))
+            wanted = Outcome(1 if printed else 0, printed.encode())
+            report.compare(f"{job.name}: {name}", wanted, job.run(root, programs))
     with root_of({"etc/krb5.keytab": "host.keytab"}) as root, folder_with("/bin/false") as failing:
-        path = os.path.join(root, "etc", "krb5.keytab")
+        path = f"{root}/etc/krb5.keytab"
         report.compare(f"{job.name}: a program that fails", Outcome(1, f"{path}\n".encode()), job.run(root, failing))
         os.chmod(path, 0o644)
         printed = f"{path}\nmode 644\nentries 2 free 0 holes 0\n"
@@ -129,27 +120,22 @@ def check_odd(report: Report, job: Job, programs: str) -> None:
 
 
 def check_removal(report: Report, job: Job, program: str, programs: str) -> None:
-    """Runs the removal of old keys over keytabs that changed lately, and over those that did not."""
-    for sample, age, wanted in (("rotated.keytab", OLD_ENOUGH, REMOVED), ("rotated.keytab", OLD_ENOUGH - 60, ""),
-                                ("host.keytab", OLD_ENOUGH, "")):
+    """Runs the removal of old keys over a keytab that changed lately, and over those that did not."""
+    for sample, age, wanted in (
+        ("rotated.keytab", OLD_ENOUGH - 60, Outcome(0)), ("host.keytab", OLD_ENOUGH, Outcome(0)),
+        ("rotated.keytab", OLD_ENOUGH, Outcome(0, REMOVED)), ("damaged.keytab", OLD_ENOUGH, None),
+    ):
         with root_of({"etc/krb5.keytab": sample}) as root:
-            path = os.path.join(root, "etc", "krb5.keytab")
-            changed = int(time.time()) - age - 5
-            os.utime(path, (changed, changed))
+            path = f"{root}/etc/krb5.keytab"
+            os.utime(path, (0, time.time() - age - 5))
             name = f"{job.name}: {sample} of {age} seconds"
-            report.compare(name, Outcome(0, wanted.encode()), job.run(root, programs))
-            if wanted:
+            report.compare(name, wanted or message(1, f"{path}: refused 1"), job.run(root, programs))
+            if wanted and wanted.out:
                 report.compare(f"{name}, again", Outcome(0), job.run(root, programs))
                 check_left(report, name, program, path)
             else:
                 with open(path, "rb") as file:
-                    is_same = file.read() == SAMPLES[sample] and os.stat(path).st_mtime == changed
-                report.check(f"{name}, left", [] if is_same else ["it has changed"])
-    with root_of({"etc/krb5.keytab": "damaged.keytab"}) as root:
-        path = os.path.join(root, "etc", "krb5.keytab")
-        os.utime(path, (0, 0))
-        wanted = message(1, f"{path}: refused 1")
-        report.compare(f"{job.name}: a damaged keytab", wanted, job.run(root, programs))
+                    report.check(f"{name}, left", [] if file.read() == SAMPLES[sample] else ["it has changed"])
 
 
 def check_left(report: Report, name: str, program: str, path: str) -> None:
@@ -172,43 +158,34 @@ def check_units(report: Report) -> None:
     report.check("the units of examples/", printed + ([f"status {done.returncode}"] if done.returncode else []))
 
 
-def play(root: str, *words: str) -> Outcome:
-    """Runs Ansible's play over this host, with a root for what it would use of the system's."""
-    places = {"program": f"{root}/krbfile", "keytab": f"{root}/etc/krb5.keytab", "archive": root,
-              "ansible_become": "false", "ansible_python_interpreter": sys.executable}
-    given = [word for name, place in places.items() for word in ("-e", f"{name}={place}")]
-    env = {**os.environ, "HOME": root, "ANSIBLE_NOCOLOR": "1", "ANSIBLE_LOCALHOST_WARNING": "0"}
-    return run("ansible-playbook", ("-c", "local", "-i", "localhost,", *given, "-e", f'{{"folders": ["{root}/etc"]}}',
-                                    *words, os.path.join(FOLDER, "keytabs.yml")), root, env=env)
-
-
 def check_play(report: Report, program: str) -> None:
-    """Lets Ansible read its play, and runs it over keytabs of this host: a good one, and a weak one beside that."""
+    """Runs Ansible's play over keytabs of this host: a good one, and a weak one beside that."""
     if shutil.which("ansible-playbook") is None:
         report.skip("Ansible's play of examples/", "ansible-playbook is not there")
         return
     with root_of({"etc/krb5.keytab": "rotated.keytab"}) as root:
-        got = play(root, "--syntax-check")
-        report.check("the syntax of Ansible's play", [] if got.status == 0 and not got.err else [f"{got}"])
-        os.mkdir(os.path.join(root, "bin"))
-        shutil.copy(program, os.path.join(root, "bin", "krbfile"))
-        path = os.path.join(root, "etc", "krb5.keytab")
-        os.utime(path, (0, 0))
-        got = play(root)
-        report.check("Ansible's play", [] if got.status == 0 and b"changed=2 " in got.out else [f"{got}"])
-        check_left(report, "Ansible's play", program, path)
-        write(os.path.join(root, "etc", "weak.keytab"), SAMPLES["mixed.keytab"])
-        got = play(root)
-        is_printed = got.status == 2 and b"changed=0 " in got.out and b"weak 53 kvno 3 etype 23 b@R" in got.out
-        report.check("Ansible's play over a weak key", [] if is_printed else [f"{got}"])
+        os.mkdir(f"{root}/bin")
+        shutil.copy(program, f"{root}/bin/krbfile")
+        os.utime(f"{root}/etc/krb5.keytab", (0, 0))
+        given = {"program": f"{root}/krbfile", "keytab": f"{root}/etc/krb5.keytab", "archive": root,
+                 "folders": [f"{root}/etc"], "ansible_become": False, "ansible_python_interpreter": sys.executable}
+        words = ("-c", "local", "-i", "localhost,", "-e", json.dumps(given), os.path.join(FOLDER, "keytabs.yml"))
+        env = {**os.environ, "HOME": root, "ANSIBLE_NOCOLOR": "1", "ANSIBLE_LOCALHOST_WARNING": "0"}
+        for status, *printed in ((0, b"changed=2 "), (2, b"changed=0 ", b"weak 53 kvno 3 etype 23 b@R")):
+            got = run("ansible-playbook", words, root, env=env)
+            is_right = got.status == status and all(each in got.out for each in printed)
+            report.check(f"Ansible's play ends with {status}", [] if is_right else [f"{got}"])
+            check_left(report, "Ansible's play", program, f"{root}/etc/krb5.keytab")
+            write(f"{root}/etc/weak.keytab", SAMPLES["mixed.keytab"])
 
 
 def check(report: Report, program: str) -> None:
-    """Runs this topic."""
+    """Runs this topic. cron and systemd have the same check."""
+    job, service = of_cron("check-keytabs.cron"), of_systemd("check-keytabs.service")
+    is_same = (" ".join(service.shell.split()), service.env) == (job.shell, job.env)
+    report.check("the service of examples/ is the job", [] if is_same else [f"{service}, not {job}"])
     with folder_with(program) as programs:
-        for job in (of_cron("check-keytabs.cron"), of_systemd("check-keytabs.service")):
-            check_hosts(report, job, programs)
-            check_odd(report, job, programs)
+        check_daily(report, job, programs)
         check_removal(report, of_cron("remove-old-keys.cron"), program, programs)
     check_units(report)
     check_play(report, program)

@@ -1,11 +1,10 @@
-"""Which file a word names, and which one a line without a word: by the rules for types of names and for defaults."""
+"""Which file a word, or the value of a variable, names: by the rules for types of names."""
 
 import re
-from collections.abc import Mapping
-from dataclasses import dataclass, replace
+from dataclasses import dataclass
 from enum import Enum
 
-from words.phrases import DEFAULT, LEAVE_OUT, NAMED, NOT_READ
+from words.phrases import LEAVE_OUT, NOT_READ
 
 # A type: two or more letters before the first colon.
 TYPE = re.compile(rb"[A-Za-z]{2,}:")
@@ -43,10 +42,6 @@ class FileName:
         return [self.text + b": no such file", *explained, *([self.source.encode()] if self.source else [])]
 
 
-class NoName(Exception):
-    """A default cannot be had, and so the line is bad, for the reason that it has as text."""
-
-
 def spelled(phrase: str, type_of_name: bytes) -> bytes:
     """Returns a phrase about a type."""
     return phrase.encode().replace(b"TYPE", type_of_name)
@@ -70,19 +65,3 @@ def unwritten(word: bytes) -> bytes | None:
     if not front:
         return None
     return spelled(LEAVE_OUT if front in Kind.KEYTAB.types else NOT_READ, front)
-
-
-def default(kind: Kind, env: Mapping[str, bytes], user: int | None) -> FileName:
-    """Returns the file of a line without one, for that user, if the number can be had."""
-    value = env.get(kind.variable, b"")
-    if value:
-        try:
-            value.decode()
-        except UnicodeDecodeError:
-            raise NoName(f"{kind.variable} is not UTF-8") from None
-        return replace(named(kind, value), source=NAMED.replace("VARIABLE", kind.variable))
-    if kind is Kind.KEYTAB:
-        return FileName(b"/etc/krb5.keytab", source=DEFAULT)
-    if user is None:
-        raise NoName("no FILE")
-    return FileName(b"/tmp/krb5cc_%d" % user, source=DEFAULT)

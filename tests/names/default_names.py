@@ -7,16 +7,18 @@ from contextlib import contextmanager, nullcontext
 from dataclasses import dataclass
 
 from keytabs.file_names import NOBODY
-from makers.cache_images import cache
 from makers.images import TWO
-from models.named_runs import CACHE, NEITHER, VALID
-from names.default_files import BAD, CCNAME, KEYTAB, KTNAME, cache_listed, keytab_listed
-from runs.harness import Outcome, Report, folder_of, message, run
+from models.name_model import FileName, Kind
+from models.named_runs import CACHE, COMMANDS, KLIST, KLIST_CACHE, NEITHER, Command, Ended
+from names.default_files import BAD, CCNAME, KTNAME
+from runs.harness import Report, folder_of, run
 from runs.namespaces import STATUS, can_mount, run_within
 from runs.rows import shown, words_of
 from runs.terminal import EXPLAIN
 from system.saving import write
-from words.phrases import BEGINS_AS_NO_KEYTAB, DEFAULT
+from words.phrases import DEFAULT
+
+KEYTAB = FileName(b"/etc/krb5.keytab", source=DEFAULT)
 
 # A user whom no system has, and the name of that user's cache.
 USER = 4_000_123_456
@@ -30,9 +32,14 @@ UNKNOWN = {
     "an empty text": b"", "no line": b"Name:\tkrbfile\nGid:\t9\t9\t9\t9\n", "no number": b"Uid:\n",
     "no number of a user": b"Uid:\tx\t0\t0\t0\n", "a line of another name": b"xUid:\t5\t5\t5\t5\n",
 }
-# The same by mounts: a file that cannot be read, and no file.
-UNREAD = {STATUS: "/proc/$$/mem"}
-NO_PROC = "/proc"
+
+# Environments in which the default is taken: none, an empty value, and a value for the other kind.
+UNNAMED = {Kind.KEYTAB: ({}, {KTNAME: ""}, {CCNAME: "c"}), Kind.CACHE: ({}, {CCNAME: ""}, {KTNAME: "c"})}
+
+
+def cache_of(user: int) -> FileName:
+    """Returns the default cache of a user."""
+    return FileName(OWN.format(user).encode(), source=DEFAULT)
 
 
 @contextmanager
@@ -59,15 +66,25 @@ class System:
     folder: str
     mounts: dict[str, str]
 
-    def compare(self, report: Report, program: str, name: str, line: str, wanted: Outcome, *explained: str,
+    def compare(self, report: Report, program: str, name: str, line: str | Command, wanted: Ended,
                 env: dict[str, str | bytes] | None = None) -> None:
-        """Compares the outcome of a line, and what explains its message."""
-        env = {"PATH": os.environ["PATH"], **(env or {})}
-        err = wanted.err + "".join(f"krbfile: {each}\n" for each in explained).encode()
-        for first, err in (((), wanted.err), ((EXPLAIN,), err)):
-            words = (*first, *words_of(line))
+        """Compares the end of a line, or of a command that leaves out its file, and what explains its message."""
+        for explains in (False, True):
+            words = (*[EXPLAIN] * explains, *(line.words(None) if isinstance(line, Command) else words_of(line)))
+            env = {"PATH": os.environ["PATH"], **(env or {})}
             got = run_within(program, words, self.folder, self.mounts, env=env)
-            report.compare(f"{name}: {shown(words)}", Outcome(wanted.status, wanted.out, err), got)
+            report.compare(f"{name}, {env}: {shown(words)}", wanted.outcome(explains), got)
+
+    def check_default(self, report: Report, program: str, file: FileName, kind: Kind, place: bytes | None) -> None:
+        """Checks each command that may leave out its file, over what is under the default name: its image, if that
+        is a good one."""
+        for command in (each for each in COMMANDS if each.has_default and each.kind is kind):
+            image = command.image if place in (TWO, CACHE) else place
+            if kind is Kind.CACHE and image is not None:
+                write(os.fsdecode(file.text), image)
+            for env in UNNAMED[kind]:
+                self.compare(report, program, f"{file.text}, {len(image or b'')} bytes", command,
+                             command.ended(file, image), env)
 
 
 @contextmanager
@@ -83,62 +100,43 @@ def other_system(keytab: bytes | None, status: bytes | None = None,
         yield System(folder, {"/etc": etc, **status_file, **(mounts or {})})
 
 
-def check_keytabs(report: Report, program: str) -> None:
-    """Checks the default keytab."""
-    lines = {"klist -k": Outcome(0, keytab_listed(KEYTAB)), "ktcheck": Outcome(0, b"entries 2 free 0 holes 0\n"),
-             "ktcheck -q": Outcome(0)}
-    missing = message(1, f"{KEYTAB}: no such file")
-    with other_system(TWO) as full, other_system(None) as empty, other_system(NEITHER) as wrong:
-        for name, env in (("none is named", {}), ("an empty name", {KTNAME: ""}), ("a cache is named", {CCNAME: "c"})):
-            for line, wanted in lines.items():
-                full.compare(report, program, f"the default keytab, {name}", line, wanted, env=env)
-                empty.compare(report, program, f"no default keytab, {name}", line, missing, DEFAULT, env=env)
-        wrong.compare(report, program, "a file that is no keytab", "ktcheck", message(1, f"{KEYTAB}: not a keytab (2)"),
-                      BEGINS_AS_NO_KEYTAB[1])
-
-
-def check_caches(report: Report, program: str) -> None:
-    """Checks the default cache, whose name has the number of the real user."""
-    with own_cache(USER, CACHE) as path, other_system(None, OF_USER.format(USER).encode()) as place:
-        if path is None:
-            report.skip("a default cache", f"there is one of user {USER}")
-            return
-        for name, env in (("none is named", {}), ("an empty name", {CCNAME: ""}), ("a keytab is named", {KTNAME: "c"})):
-            place.compare(report, program, name, "klist", Outcome(0, cache_listed(path)), env=env)
-            place.compare(report, program, name, "klist -s", Outcome(1), env=env)
-            write(path, cache(VALID))
-            place.compare(report, program, name, "klist -s", Outcome(0), env=env)
-            write(path, CACHE)
-    for user in (0, USER + 1, 2**32 - 2):
-        path = OWN.format(user)
-        if not os.path.lexists(path):
-            with other_system(None, OF_USER.format(user).encode()) as place:
-                place.compare(report, program, f"user {user}", "klist", message(1, f"{path}: no such file"), DEFAULT)
-                place.compare(report, program, f"user {user}", "klist -s", Outcome(1))
+def check_defaults(report: Report, program: str) -> None:
+    """Checks the default keytab, and the default cache, whose name has the number of the real user."""
+    for place in (TWO, NEITHER, None):
+        with other_system(place) as system:
+            system.check_default(report, program, KEYTAB, Kind.KEYTAB, place)
+    with other_system(None, OF_USER.format(USER).encode()) as system:
+        for image in (CACHE, NEITHER):
+            with own_cache(USER, image) as path:
+                if path is None:
+                    report.skip("a default cache", f"there is one of user {USER}")
+                    return
+                system.check_default(report, program, cache_of(USER), Kind.CACHE, image)
+    for user in (0, USER, 2**32 - 2):
+        with other_system(None, OF_USER.format(user).encode()) as system:
+            if not os.path.lexists(OWN.format(user)):
+                system.check_default(report, program, cache_of(user), Kind.CACHE, None)
 
 
 def check_unknown(report: Report, program: str) -> None:
     """Checks that a line which leaves out the cache is bad if the user's number cannot be had, and no other line."""
     ways = [(name, {"status": status}) for name, status in UNKNOWN.items()]
-    ways.append(("an unreadable text", {"mounts": UNREAD}))
+    ways.append(("an unreadable text", {"mounts": {STATUS: "/proc/$$/mem"}}))
     with folder_of({}) as none:
         if report.is_proved:
-            ways.append(("no text", {"mounts": {NO_PROC: none}}))
+            ways.append(("no text", {"mounts": {"/proc": none}}))
         else:
             report.skip("a run without /proc", "the program is not proved: its checks read there")
         for name, way in ways:
-            with other_system(TWO, **way) as place:
-                check_without_number(report, program, name, place)
-
-
-def check_without_number(report: Report, program: str, name: str, place: System) -> None:
-    """Checks lines whose user has no number."""
-    for line in ("klist", "klist -c", "klist --json", "klist -s"):
-        place.compare(report, program, name, line, message(2, BAD), "no FILE; see krbfile klist --help")
-    place.compare(report, program, name, "klist c", Outcome(0, cache_listed("c")))
-    place.compare(report, program, name, "klist", Outcome(0, cache_listed("c")), env={CCNAME: "c"})
-    place.compare(report, program, name, "klist -k", Outcome(0, keytab_listed(KEYTAB)))
-    place.compare(report, program, name, "klist -x", message(2, BAD), "unknown option -x; see krbfile klist --help")
+            with other_system(TWO, **way) as system:
+                for line, why in (*((line, "no FILE") for line in ("klist", "klist -c", "klist --json", "klist -s")),
+                                  ("klist -x", "unknown option -x")):
+                    bad = Ended(2, messages=((BAD.encode(), f"{why}; see krbfile klist --help".encode()),))
+                    system.compare(report, program, name, line, bad)
+                there = KLIST_CACHE.ended(FileName(b"c"), CACHE)
+                system.compare(report, program, name, "klist c", there)
+                system.compare(report, program, name, "klist", there, {CCNAME: "c"})
+                system.compare(report, program, name, "klist -k", KLIST.ended(KEYTAB, TWO))
 
 
 def users(program: str, folder: str) -> Iterator[tuple[str, tuple[str, ...], int, str]]:
@@ -172,20 +170,20 @@ def check_users(report: Report, program: str) -> None:
         report.skip("default caches of other users", "none but root may run as another, by setpriv")
     with folder_of({}) as folder:
         for name, front, user, copy in users(program, folder) if has_setpriv else ():
-            is_made = user not in (os.getuid(), 0)
-            with own_cache(user, CACHE) if is_made else nullcontext(OWN.format(user)) as path:
-                if path is None or not is_made and os.path.lexists(path):
+            image = CACHE if user not in (os.getuid(), 0) else None
+            with own_cache(user, image) if image else nullcontext(OWN.format(user)) as path:
+                if path is None or image is None and os.path.lexists(path):
                     report.skip(f"the default cache of {name}", "it is there")
                     continue
                 first, *rest = [*front, copy, "klist"]
                 got = run(first, rest, folder, env={"PATH": os.environ["PATH"]})
-                wanted = Outcome(0, cache_listed(path)) if is_made else message(1, f"{path}: no such file")
+                wanted = KLIST_CACHE.ended(cache_of(user), image).outcome(False)
                 report.compare(f"the default cache of {name}", wanted, got)
 
 
 def check(report: Report, program: str) -> None:
     """Runs this topic."""
     if can_mount(report, "default files beside other folders"):
-        for each in (check_keytabs, check_caches, check_unknown):
-            each(report, program)
+        check_defaults(report, program)
+        check_unknown(report, program)
     check_users(report, program)

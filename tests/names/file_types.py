@@ -1,11 +1,14 @@
-"""Names of files that begin with a type, as every command takes them: what is read under each is written by hand.
+"""Names of files that begin with a type, as every command takes them by a word, and some by their variable: what is
+read under each is written by hand.
 
-Every command is also given a folder, and files of neither kind.
+Every command is also given a folder, and files of neither kind. No other variable is looked at.
 """
 
 import os
 from collections.abc import Iterator
-from dataclasses import dataclass
+from dataclasses import dataclass, replace
+from functools import partial
+from itertools import product
 
 from keytabs.ktutil_lines import TWO_LISTED, lines
 from makers.images import TWO, keytab
@@ -16,7 +19,7 @@ from runs.harness import Report, differences, files_in, folder_of
 from runs.rows import check_rows, shown, words_of
 from runs.terminal import EXPLAIN, WAYS
 from words.explained import Explained
-from words.phrases import BEGINS_AS_NO_KEYTAB, LEAVE_OUT, NOT_READ, code, unknown
+from words.phrases import BEGINS_AS_NO_KEYTAB, LEAVE_OUT, NAMED, NOT_READ, code, unknown
 
 # Names whose type is taken off, and the name that is left. A type is taken off once.
 TYPED = {
@@ -27,7 +30,7 @@ OF_KEYTABS = {"WRFILE:k": "k", "WRFILE:FILE:k": "FILE:k", "WRFILE:WRFILE:k": "WR
 
 # Names without a type: it has two letters or more, and nothing but letters, before the first colon.
 UNTYPED = ("./FILE:k", "./KCM:k", "C:k", "f:FILE:k", ":k", ":FILE:k", "1:k", "k1:k", "X509:k", "a b:k", " FILE:k",
-           "FILE :k", "FILE\t:k", "-FILE:k", "FI_LE:k", "é:k", "ключ:k", "FILE", "KCM", "FILE;k")
+           "FILE :k", "%{uid}", "FILE\t:k", "-FILE:k", "FI_LE:k", "é:k", 'ключ "\\:k', "FILE", "KCM", "FILE;k")
 
 # Names of other types, and the type.
 OTHERS = {
@@ -37,8 +40,13 @@ OTHERS = {
 }
 OTHERS_OF_CACHES = {"WRFILE:k": "WRFILE:", "WRFILE:FILE:k": "WRFILE:"}
 
-# Those that every command is tried with.
-SOME = ("FILE:k", "FILE:FILE:k", "WRFILE:k", "WRFILE:FILE:k", "./FILE:k", "C:k", "1:k", "KCM:", "KCM:k", "file:k")
+# Those that every command is tried with, by a word and by its variable.
+SOME = ("FILE:k", "FILE:FILE:k", "WRFILE:k", "WRFILE:FILE:k", "./FILE:k", "C:k", "1:k", 'ключ "\\:k', "KCM:",
+        "KCM:k", "file:k")
+
+
+# No run looks at these, but for the variable of its kind where the file is left out.
+IGNORED = {"KRB5_CLIENT_KTNAME": b"\xff", **{kind.variable: b"\xff" for kind in Kind}}
 
 
 def decoys(word: str, name: str) -> dict[str, bytes]:
@@ -51,12 +59,13 @@ def decoys(word: str, name: str) -> dict[str, bytes]:
 
 @dataclass(frozen=True)
 class Row:
-    """A command over a word, the file that it names, and what is there."""
+    """A command over a word, or over the value of its variable; the file that it names, and what is there."""
 
     command: Command
     word: str
     name: FileName
     place: bytes | str | None
+    is_variable: bool = False
 
     def path(self) -> str:
         """Returns where the file is in the folder."""
@@ -76,45 +85,47 @@ class Row:
         """Runs it on a pipe, and with explanations."""
         if report.leaves_out(len(self.place or b"")):
             return
-        word = os.fsencode(self.word)
-        words, wanted = self.command.words(word), self.command.ended(self.name, self.place)
+        word, variable = os.fsencode(self.word), self.command.kind.variable
+        env = {**IGNORED, variable: word} if self.is_variable else IGNORED
+        name = replace(self.name, source=NAMED.replace("VARIABLE", variable)) if self.is_variable else self.name
+        words, wanted = self.command.words(None if self.is_variable else word), self.command.ended(name, self.place)
         for way in ("on a pipe", EXPLAIN):
             make, explains = WAYS[way]
             with folder_of(self.files()) as folder:
-                got = make(program, words, folder, self.command.stdin(word))
+                got = make(program, words, folder, self.command.stdin(word), env=env)
                 found = differences(wanted.outcome(explains), got)
                 found += [] if files_in(folder) == self.after(wanted) else ["other files"]
             state = "missing" if self.place is None else f"{self.place[:9]!r}"
-            report.check(f"{shown(words)} of {self.word!r}, {state}, {way}", found)
+            report.check(f"{shown(words)} of {self.word!r}, {self.is_variable}, {state}, {way}", found)
 
 
 def names_of(command: Command) -> tuple[dict[str, str], dict[str, str]]:
-    """Returns the names that a command is tried with, each with the name that is read, and those of types that are not
-    read, with the type: the listings get all."""
-    is_keytab, gets_all = command.kind is Kind.KEYTAB, command in (KLIST, KLIST_CACHE)
-    read = {**TYPED, **(OF_KEYTABS if is_keytab else {}), **{name: name for name in UNTYPED}}
-    others = {**OTHERS, **({} if is_keytab else OTHERS_OF_CACHES)}
-    if gets_all:
-        return read, others
-    read, others = ({word: those[word] for word in SOME if word in those} for those in (read, others))
-    return read, others
+    """Returns the names that a command may be tried with, each with the name that is read, and those of types that are
+    not read, with the type."""
+    is_keytab = command.kind is Kind.KEYTAB
+    return ({**TYPED, **(OF_KEYTABS if is_keytab else {}), **{name: name for name in UNTYPED}},
+            {**OTHERS, **({} if is_keytab else OTHERS_OF_CACHES)})
 
 
 def rows() -> Iterator[Row]:
-    """Yields each command over its names, where the file is there and where it is not."""
-    for command in COMMANDS:
-        read, others = names_of(command)
-        for word, name in read.items():
-            if command.can_take(word.encode()):
-                yield from (Row(command, word, FileName(name.encode()), place) for place in (command.image, None))
-        for word, front in others.items():
-            # What is there is never read.
-            yield Row(command, word, FileName(word.encode(), front.encode()), command.image)
+    """Yields each command over its names, where the file is there and where it is not: the listings over all."""
+    for command, is_variable in product(COMMANDS, (False, True)):
+        if is_variable and not command.has_default:
+            continue
+        gets_all = command in (KLIST, KLIST_CACHE) and not is_variable
+        row, (read, others) = partial(Row, command, is_variable=is_variable), names_of(command)
+        for word in (*read, *others) if gets_all else SOME:
+            if word in others:
+                # What is there is never read.
+                yield row(word, FileName(word.encode(), others[word].encode()), command.image)
+            elif word in read and command.can_take(word.encode()):
+                yield from (row(word, FileName(read[word].encode()), place) for place in (command.image, None))
         # The folder of all, and files that are neither a keytab nor a cache.
-        yield Row(command, ".", FileName(b"."), FOLDER)
-        yield from (Row(command, "k", FileName(b"k"), place) for place in (NEITHER, LARGE_FILE))
-        # Of a type alone nothing is left: no such file, and none is made.
-        yield Row(command, "FILE:", FileName(b""), None)
+        yield row(".", FileName(b"."), FOLDER)
+        yield from (row("k", FileName(b"k"), place) for place in (NEITHER, LARGE_FILE))
+        # Of a type alone nothing is left, as of an empty word: no such file, and none is made.
+        yield from (row(word, FileName(b""), None) for word in ("FILE:", "")
+                    if word or command.has_default and not is_variable)
 
 
 def run_of(line: str, what: str, *explained: str, files: dict[str, bytes] | None = None, stdin: bytes = b"",

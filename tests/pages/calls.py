@@ -1,11 +1,12 @@
-"""The page of each crate has each public call that may be refused, and names clauses and tests that exist."""
+"""The page of each crate, `crates/NAME/CALLING.md`: its calls are those of the sources, each that may be refused has a
+row, the rows name clauses and tests that exist, and its code is proved."""
 
 import glob
 import os
 import re
-from collections import Counter
 
 from pages.documents import read
+from pages.readme import is_part_of, lines_of
 from runs.harness import TOP, Report
 
 LIBRARY = ("krb_wire", "krb_walk", "krb_cells", "krb_keytab", "krb_ccache",
@@ -25,11 +26,8 @@ Calls = dict[str, str]
 
 def shown(crate: str) -> set[str]:
     """Returns what a crate re-exports."""
-    names: set[str] = set()
-    root = read(f"crates/{crate}/src/lib.rt")
-    for group, name in re.findall(r"pub use [\w:]+::(?:\{([^}]*)\}|(\w+));", root):
-        names |= {part.strip() for part in (group or name).split(",")}
-    return names
+    uses = re.findall(r"pub use [\w:]+::(?:\{([^}]*)\}|(\w+));", read(f"crates/{crate}/src/lib.rt"))
+    return {part.strip() for group, name in uses for part in (group or name).split(",")}
 
 
 def owner_of(line: str) -> tuple[str, bool]:
@@ -69,34 +67,22 @@ def calls_in(text: str, names: set[str], is_open: bool) -> Calls:
 
 
 def calls_of(crate: str) -> Calls:
-    """Returns the public calls of a crate, including those that it re-exports."""
+    """Returns the public calls that belong on the page of a crate, including those that it re-exports."""
     found: Calls = {}
-    for part in (crate, *PARTS.get(crate, ())):
+    for part, exporter in (*((part, crate) for part in (crate, *PARTS.get(crate, ()))),
+                           *((other, other) for other in WITHOUT_PAGE.get(crate, ()))):
         source = os.path.join(TOP, "crates", part, "src")
         for path in glob.glob(os.path.join(source, "**", "*.rt"), recursive=True):
             is_open = os.path.relpath(path, source).startswith("laws" + os.sep)
-            found |= calls_in(read(path), shown(crate), is_open)
+            found |= calls_in(read(path), shown(exporter), is_open)
     return found
 
 
-def calls_on_page(crate: str) -> Calls:
-    """Returns the public calls that belong on the page of a crate."""
-    found = calls_of(crate)
-    for other in WITHOUT_PAGE.get(crate, ()):
-        found |= calls_of(other)
-    return found
-
-
-def page_of(crate: str) -> str:
-    """Returns the path of a crate's page."""
-    return os.path.join("crates", crate, "CALLING.md")
-
-
-def rows_of(crate: str) -> list[list[str]]:
-    """Returns the cells of the rows of both tables on a crate's page, which follow the list of its calls."""
-    _, tables = read(page_of(crate)).split("\n## Calls\n")
-    return [[cell.strip() for cell in line[1:-1].split("|")]
-            for line in tables.splitlines() if line.startswith("| `")]
+def signature(name: str, contract: str) -> str:
+    """Returns a function on one line, named with its type, without its clauses."""
+    head = re.split(r"\n\s*(?:requires|ensures|where|//|\{)|\s*\{|;", contract)[0]
+    head = re.sub(r"\s+", " ", head).replace("( ", "(").replace(", )", ")").strip()
+    return re.sub(r"^(?:pub )?(?:const )?fn \w+", f"fn {name}", head)
 
 
 def quoted(cell: str) -> list[str]:
@@ -104,55 +90,51 @@ def quoted(cell: str) -> list[str]:
     return re.findall(r"`([^`]+)`", cell)
 
 
-def may_be_refused(contract: str) -> bool:
-    """Whether a call returns an `Option` or a `Result`."""
-    return re.search(r"-> (?:Option|Result)<", contract) is not None
-
-
-def faults_of_names(calls: Calls, rows: list[list[str]]) -> list[str]:
-    """Returns the faults of the rows: each call that may be refused has one, each is of calls, and long or short."""
-    named = Counter(name for row in rows for name in quoted(row[0]))
-    wrong = [f"{name} has no row" for name, contract in sorted(calls.items())
-             if may_be_refused(contract) and name not in named]
-    wrong += [f"{name} is no call" for name in sorted(named) if name not in calls]
-    wrong += [f"{name} has {count} rows" for name, count in named.items() if count > 1]
-    return wrong + [f"{row[0]} has {len(row)} cells" for row in rows if len(row) not in (2, 3, 6)]
-
-
-def faults_of_clauses(calls: Calls, rows: list[list[str]]) -> list[str]:
-    """Returns wrong clauses: a long row's last cell but one, and a short one's third, name clauses of its calls."""
-    wrong = []
+def faults_of_rows(calls: Calls, tables: str) -> list[str]:
+    """Returns the faults of a page's tables. Each call that may be refused has one row, of two, three or six cells. A
+    long row's last cell but one, and a short one's third, name clauses; a long row's last cell names tests: functions,
+    each after its file below `crates`, or files of the repository."""
+    rows = [[cell.strip() for cell in line[1:-1].split("|")] for line in tables.splitlines() if line.startswith("| `")]
+    named = [name for row in rows for name in quoted(row[0])]
+    refused = [name for name, contract in calls.items() if re.search(r"-> (?:Option|Result)<", contract)]
+    wrong = [f"{name} has {named.count(name)} rows" for name in sorted({*named, *refused}) if named.count(name) != 1]
+    wrong += [f"{name} is no call" for name in named if name not in calls]
     for row in rows:
-        for name in quoted(row[0]):
-            for clause in quoted(row[4] if len(row) == 6 else "".join(row[2:])):
-                if f"ensures {clause} {{" not in calls.get(name, ""):
-                    wrong.append(f"{name} has no clause {clause}")
+        wrong += [] if len(row) in (2, 3, 6) else [f"{row[0]} has {len(row)} cells"]
+        clauses = quoted(row[4] if len(row) == 6 else "".join(row[2:]))
+        wrong += [f"{name} has no clause {clause}" for name in quoted(row[0]) for clause in clauses
+                  if f"ensures {clause} {{" not in calls.get(name, "")]
+        tests = quoted(row[5]) if len(row) == 6 else []
+        wrong += [f"no test {test}" for test in tests if not is_test(test)]
+        wrong += [f"{row[0]} has no test"] if len(row) == 6 and not tests else []
     return wrong
 
 
 def is_test(test: str) -> bool:
-    """Whether a test exists: a function, after its file below `crates`, or a file of the repository."""
+    """Whether a test exists."""
     path, _, name = test.partition(": ")
     if name:
         return f"fn {name}(" in read(os.path.join("crates", path.replace("/", "/src/", 1)))
     return os.path.isfile(os.path.join(TOP, path))
 
 
-def faults_of_tests(crate: str, rows: list[list[str]]) -> list[str]:
-    """Returns wrong tests: the last cell of a long row names them."""
+def faults_of_code(crate: str, page: str) -> list[str]:
+    """Returns the pieces of code on a page that are not in the last file named before them."""
     wrong = []
-    for row in rows:
-        tests = quoted(row[5]) if len(row) == 6 else []
-        wrong += [f"{crate}: no test {test}" for test in tests if not is_test(test)]
-        if len(row) == 6 and not tests:
-            wrong.append(f"{crate}: {row[0]} has no test")
+    parts = re.split(r"```rust\n(.*?)```", page, flags=re.DOTALL)
+    for at in range(1, len(parts), 2):
+        path = re.findall(r"\]\(([\w./]+\.rt)\)", "".join(parts[:at:2]))[-1]
+        if not is_part_of(lines_of(parts[at]), lines_of(read(os.path.join("crates", crate, path)))):
+            wrong.append(f"{parts[at].splitlines()[0]} .. is not in {path}")
     return wrong
 
 
 def check(report: Report, program: str) -> None:
-    """Compares the tables with the sources. The program is not run."""
+    """Compares the pages with the sources. The program is not run."""
     for crate in LIBRARY:
-        calls, rows = calls_on_page(crate), rows_of(crate)
-        report.check(f"the calls of {crate}", faults_of_names(calls, rows))
-        report.check(f"the clauses of {crate}", faults_of_clauses(calls, rows))
-        report.check(f"the tests of {crate}", faults_of_tests(crate, rows))
+        page, calls = read(os.path.join("crates", crate, "CALLING.md")), calls_of(crate)
+        known = {signature(name, contract) for name, contract in calls.items()}
+        lists = "".join(re.findall(r"```text\n(.*?)```", page, re.DOTALL)).splitlines()
+        report.check(f"the calls on the page of {crate}", [line for line in lists if line not in known])
+        report.check(f"the tables on the page of {crate}", faults_of_rows(calls, page.partition("\n## Calls\n")[2]))
+        report.check(f"the code on the page of {crate}", faults_of_code(crate, page))

@@ -1,4 +1,5 @@
-"""The map has each crate in its place, each link in a document leads to a file, and TRUST names what exists."""
+"""The map has each crate in its place and a reason for each library, each link in a document leads to a file, and TRUST
+names what exists."""
 
 import glob
 import os
@@ -8,6 +9,9 @@ from runs.harness import TOP, Report
 
 MAP = os.path.join("docs", "DESIGN.md")
 TRUST = os.path.join("docs", "TRUST.md")
+
+# The libraries that the program is written over.
+MEANT = ("byteorder", "clap", "hex", "jiff", "thiserror")
 
 
 def read(path: str) -> str:
@@ -21,18 +25,28 @@ def literals(path: str) -> list[str]:
     return re.findall(r"^\.Bd -literal.*\n((?s:.*?))^\.Ed$", read(path), re.MULTILINE)
 
 
-def crates() -> list[list[str]]:
-    """Returns the crates of each paragraph of crates.txt."""
-    return [re.findall(r"^(\w+)(?: staticlib)?:", part, re.MULTILINE) for part in read("crates.txt").split("\n\n")]
+def sources(*patterns: str) -> str:
+    """Returns the files of those patterns one after the other."""
+    return "".join(read(path) for pattern in patterns for path in glob.glob(pattern, root_dir=TOP, recursive=True))
 
 
 def check_map(report: Report) -> None:
-    """Checks that the first paragraph's crates are the rows of the map, in order; it names all others below."""
-    rows = re.findall(r"^\| `(krb\w+)` \|", read(MAP), re.MULTILINE)
-    own, *others = crates()
+    """Checks that the first paragraph's crates are the rows of the map, in order; it names all others below, and the
+    libraries of the program besides those that it is meant to use, and uses."""
+    uses = re.compile(r"^(\w+)(?: staticlib)?:(.*)$", re.MULTILINE)
+    first, text = read("crates.txt").split("\n\n")[0], read(MAP)
+    below = {crate: those.split() for crate, those in uses.findall(read("crates.txt"))}
+    rows, own = re.findall(r"^\| `(krb\w+)` \|", text, re.MULTILINE), [crate for crate, _ in uses.findall(first)]
     report.check("the rows of the map", [] if rows == own else [f"{rows}, not {own}"])
-    missing = [name for part in others for name in part if f"`{name}`" not in read(MAP)]
-    report.check("the other crates of the map", missing)
+    program = ["krbfile"]
+    for crate in program:
+        program += [each for each in below[crate] if each in below and each not in program]
+    libraries = {each for crate in program for each in below[crate]} - {*below}
+    used = {each for each in MEANT for crate in program
+            if each in below[crate] and re.search(rf"\b{each}::", sources(f"crates/{crate}/src/**/*.rt"))}
+    report.check("the libraries of the program", sorted({*MEANT} - used))
+    others = {*below, *libraries} - {*own, *MEANT}
+    report.check("the other crates and libraries of the map", sorted(it for it in others if f"`{it}`" not in text))
 
 
 def anchors(path: str) -> set[str]:
@@ -62,10 +76,9 @@ def cells_of_tables(text: str, column: int) -> str:
 def check_trust(report: Report) -> None:
     """Checks that what carries a promise is named in the sources, and that each test exists."""
     proved, _, tested = read(TRUST).partition("\n## What only tests show\n")
-    sources = "".join(read(path) for pattern in ("crates/*/src/**/*.rt", "crates/*/specs/**/*.antt")
-                      for path in glob.glob(pattern, root_dir=TOP, recursive=True))
+    known = sources("crates/*/src/**/*.rt", "crates/*/specs/**/*.antt")
     names = re.findall(r"`(?:\w+::)?(\w*[A-Za-z])`", cells_of_tables(proved, -1))
-    report.check("the names in TRUST", sorted(set(names) - set(re.findall(r"\w+", sources))))
+    report.check("the names in TRUST", sorted(set(names) - set(re.findall(r"\w+", known))))
     there = [os.path.basename(path) for top in ("tests", "crates/program_tests")
              for path in glob.glob(f"{top}/**/*.*", root_dir=TOP, recursive=True)]
     tests = re.findall(r"(\w+\.(?:py|rt|c))\b", cells_of_tables(tested, -1))

@@ -15,18 +15,11 @@ SHOWN = "README.md"
 LIBRARY = os.path.join(TOP, "lib", "libkrbfile.so.1")
 PROVED = "crates/store_tests/src/tests/readme.rt"
 
-
 # Keytabs in /etc by samples, what cron mails of them, and the status. Without any the shell leaves the pattern.
-WEAK = ["weak 53 kvno 3 etype 23 b@R", "entries 2 free 0 holes 0"]
 IN_CRON = [
-    ({"a.keytab": "host.keytab"}, [], 0),
-    ({"a.keytab": "host.keytab", "b.keytab": "other.keytab", "c.keytab": "old.keytab"}, [], 0),
-    ({"a.keytab": "mixed.keytab"}, WEAK, 1),
-    ({"a.keytab": "host.keytab", "b.keytab": "mixed.keytab"}, [f"ETC/b.keytab: {line}" for line in WEAK], 1),
-    ({"a.keytab": "rotated.keytab", "b.keytab": "host.keytab", "c": "mixed.keytab"},
-     ["ETC/a.keytab: old 2 kvno 3 etype 17 host/a@R", "ETC/a.keytab: entries 3 free 0 holes 0"], 0),
-    ({"a.keytab": "damaged.keytab", "b.keytab": "host.keytab"},
-     ["ETC/a.keytab: fault 2 at 53", "ETC/a.keytab: entries 1 free 0 holes 0"], 1),
+    ({"a.keytab": "host.keytab", "b.keytab": "old.keytab", "c": "mixed.keytab"}, [], 0),
+    ({"a.keytab": "host.keytab", "b.keytab": "mixed.keytab"},
+     ["ETC/b.keytab: weak 53 kvno 3 etype 23 b@R", "ETC/b.keytab: entries 2 free 0 holes 0"], 1),
     ({}, ["krbfile: ETC/*.keytab: no such file"], 1),
 ]
 

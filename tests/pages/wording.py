@@ -41,37 +41,28 @@ def causes() -> set[str]:
     return {re.sub(r"^\.No (\w+) Ar (\w+)", lambda it: f"{it[1]} {it[2].upper()}", line) for line in lines}
 
 
-def findings() -> set[tuple[str, str]]:
-    """Returns the words of the manual page's findings, each with the line after it."""
-    return set(re.findall(r"^\.It Ic (\w+) .*\n(.*):$", read(PAGE), re.MULTILINE))
-
-
 def check_manual(report: Report) -> None:
     """Compares the lists of the manual page."""
-    for heading, wanted in LISTS.items():
-        report.check(f"the manual page: {heading.splitlines()[0]}", sorted(map(str, wanted ^ list_after(heading))))
-    report.check("the manual page: causes", sorted(causes() ^ set(phrases.CAUSES.values())))
-    report.check("the manual page: findings", sorted(map(str, findings() ^ set(phrases.FINDINGS.items()))))
-    alone = [line.rstrip(";") for line in read(PAGE).splitlines()]
-    missing = {phrases.LARGE, phrases.CLOCK}.difference(alone)
-    report.check("the manual page: other phrases", sorted(missing))
+    lists = {heading.splitlines()[0]: wanted ^ list_after(heading) for heading, wanted in LISTS.items()}
+    lists["causes"] = causes() ^ set(phrases.CAUSES.values())
+    found = re.findall(r"^\.It Ic (\w+) .*\n(.*):$", read(PAGE), re.MULTILINE)
+    lists["findings"] = set(found) ^ set(phrases.FINDINGS.items())
+    lists["other phrases"] = {phrases.LARGE, phrases.CLOCK}.difference(re.split(";?\n", read(PAGE)))
+    for name, wrong in lists.items():
+        report.check(f"the manual page: {name}", sorted(map(str, wrong)))
 
 
 def check_formats(report: Report) -> None:
-    """Compares the library's phrases in FORMATS, and its list of mistakes."""
+    """Compares the library's phrases in FORMATS, and its list of mistakes; both pages have the phrase of ktcopy's
+    clashes, and the hints."""
     codes = read(FORMATS).partition("\n## Codes\n")[2].partition("\n## ")[0]
     rows = re.findall(r"^\| (\d+) \|.*\| ([^|]+) \|$", codes, re.MULTILINE)
     found = {int(number): phrase for number, phrase in rows}
     report.check(f"the codes of {FORMATS}", [] if found == phrases.LIBRARY_CODES else [f"{found}"])
     missing = [each for each in phrases.MISTAKES if f"`{each}`" not in read(FORMATS)]
-    report.check(f"the mistakes of {FORMATS}", missing)
-
-
-def check_both(report: Report) -> None:
-    """Checks that the manual page and FORMATS have the phrase of ktcopy's clashes, and the hints."""
-    for phrase in (f"clash: {phrases.CLASH}", *phrases.HINTS.values()):
-        missing = [page for page in (PAGE, FORMATS) if phrase not in read(page)]
-        report.check(f"the pages with: {phrase}", missing)
+    missing += [f"{page}: {phrase}" for phrase in (f"clash: {phrases.CLASH}", *phrases.HINTS.values())
+                for page in (PAGE, FORMATS) if phrase not in read(page)]
+    report.check(f"the mistakes of {FORMATS}, the clashes and hints of both pages", missing)
 
 
 def check_mistakes(report: Report) -> None:
@@ -110,7 +101,6 @@ def check(report: Report, program: str) -> None:
     """Reads the pages, the definitions and the module. The program is not run."""
     check_manual(report)
     check_formats(report)
-    check_both(report)
     check_mistakes(report)
     check_definitions(report)
     check_python(report)

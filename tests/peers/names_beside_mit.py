@@ -4,37 +4,27 @@ differences named here."""
 import os
 import re
 import shutil
-import subprocess
 from collections.abc import Iterator, Mapping
 from dataclasses import dataclass
-from random import Random
 
-from chance.random_names import random_word
 from makers.images import TWO
-from models.name_model import Kind, default, type_of
+from models.name_model import Kind, named, type_of
 from models.named_runs import CACHE
 from names.default_files import BAD
 from names.default_names import by_user, open_to_all, own_cache
-from peers.beside_mit import PATHS, are_there
-from runs.harness import SECONDS, Outcome, Report, folder_of, message
-from runs.random_runs import ONE_IN
-
-# How many random values each kind of file is named by.
-VALUES = 300
+from peers.beside_mit import SURROUNDINGS, are_there
+from runs.harness import Outcome, Report, folder_of, message, run
 
 # A user whose default cache no other topic makes.
 USER = 65_533
 
-# The environment of both: MIT's has no configuration.
-PLAIN = {"PATH": PATHS, "KRB5_CONFIG": os.devnull, "LC_ALL": "C", "TZ": "UTC"}
-
 WORDS = {Kind.CACHE: (), Kind.KEYTAB: ("-k",)}
 IMAGES = {Kind.CACHE: CACHE, Kind.KEYTAB: TWO}
 
-# The name of the file in what each prints: where it lists, and where there is none.
-NAMED = re.compile(rb"(?:Ticket cache|Keytab name): FILE:(.*)\n")
-MISSING = re.compile(rb"klist: .*(?:\(filename: (.*)\)|Key table file '(.*)' not found)", re.DOTALL)
-OURS_MISSING = re.compile(rb"krbfile: (.*): (?:no such file|cannot read)\n", re.DOTALL)
+# The name of the file in what each prints: where there is none, and where it is listed.
+MISSING = re.compile(rb"klist: .*(?:\(filename: (.*)\)|Key table file '(.*)' not found)|"
+                     rb"krbfile: (.*): (?:no such file|cannot read)\n", re.DOTALL)
+LISTED = re.compile(rb"(?:Ticket cache|Keytab name): FILE:(.*)\n")
 
 # What MIT's reads of a configuration file, and ours does not.
 CONFIGURATION = b"[libdefaults]\ndefault_ccache_name = FILE:c\ndefault_keytab_name = FILE:k\n"
@@ -52,17 +42,10 @@ class Taken:
     is_listed: bool
 
 
-def theirs_of(got: Outcome) -> Taken:
-    """Returns what MIT's klist took. It prints the name of a keytab before it opens that."""
-    found = (NAMED.match(got.out) or [b"", None])[1]
-    missing = MISSING.match(got.err)
-    return Taken(found if missing is None else missing[1] if missing[1] is not None else missing[2], got.status == 0)
-
-
-def ours_of(got: Outcome) -> Taken:
-    """Returns what our klist took."""
-    found = NAMED.match(got.out) or OURS_MISSING.fullmatch(got.err)
-    return Taken(found[1] if found else None, got.status == 0)
+def taken_of(got: Outcome) -> Taken:
+    """Returns what a klist took. MIT's prints the name of a keytab before it opens that."""
+    found = MISSING.match(got.err) or LISTED.match(got.out)
+    return Taken(found[found.lastindex] if found else None, got.status == 0)
 
 
 def by_both(program: str, kind: Kind, folder: str, env: Mapping[str, str | bytes],
@@ -70,9 +53,8 @@ def by_both(program: str, kind: Kind, folder: str, env: Mapping[str, str | bytes
     """Returns the outcomes of both, by words before the program's name."""
     outcomes = []
     for words in (("klist", *WORDS[kind]), (program, "klist", *WORDS[kind])):
-        done = subprocess.run([*front, *words], cwd=folder, env=PLAIN | env, capture_output=True, timeout=SECONDS,
-                              stdin=subprocess.DEVNULL, check=False)
-        outcomes.append(Outcome(done.returncode, done.stdout, done.stderr))
+        first, *rest = (*front, *words)
+        outcomes.append(run(first, rest, folder, env=SURROUNDINGS | env))
     return outcomes[0], outcomes[1]
 
 
@@ -87,8 +69,8 @@ def faults_of(program: str, kind: Kind, value: bytes, files: dict[str, bytes]) -
     """Returns the faults of both over a value of the variable. Ours takes for a type only two letters or more."""
     with folder_of(files) as folder:
         got = by_both(program, kind, folder, {kind.variable: value})
-    theirs, ours = theirs_of(got[0]), ours_of(got[1])
-    name = default(kind, {kind.variable: value}, 0)
+    theirs, ours = map(taken_of, got)
+    name = named(kind, value)
     wanted = Taken(name.text, os.path.normpath(os.fsdecode(name.text)) in files and not name.other)
     found = [] if ours == wanted else [f"{value}: ours took {ours}, not {wanted}"]
     if is_type_to_mit(kind, value) and type_of(value) not in kind.types:
@@ -117,34 +99,16 @@ def check_values(report: Report, program: str) -> None:
                              faults_of(program, kind, value.encode(), files))
 
 
-def check_random(report: Report, program: str, count: int) -> None:
-    """Checks random values, over a file that each should take or none."""
-    for kind in Kind:
-        wrong = []
-        for number in range(count):
-            random = Random(number)
-            value = random_word(random)
-            if value and b"\xff" not in value and b"\n" not in value:
-                name = os.fsdecode(default(kind, {kind.variable: value}, 0).text)
-                is_there = name != "" and random.random() < 0.7
-                wrong += faults_of(program, kind, value, {name: IMAGES[kind]} if is_there else {})
-        report.check(f"klist {kind.variable} of random values beside MIT's", wrong[:3])
-
-
-def check_different(report: Report, program: str) -> None:
-    """Checks the other differences: an empty value, a configuration file, what is no text, and a keytab in memory."""
+def check_defaults(report: Report, program: str) -> None:
+    """Checks the defaults of this user, and the other differences: an empty value, a configuration file, what is no
+    text, and a keytab in memory."""
     with folder_of({"k": TWO, "c": CACHE, "\udcff": TWO, "conf": CONFIGURATION}) as folder:
-        rows = [
-            ("an empty value", Kind.KEYTAB, {"KRB5_KTNAME": ""}, b"", b"/etc/krb5.keytab"),
-            ("an empty value", Kind.CACHE, {"KRB5CCNAME": ""}, b"", b"/tmp/krb5cc_%d" % os.getuid()),
-            ("a configuration file", Kind.KEYTAB, {"KRB5_CONFIG": "conf"}, b"k", b"/etc/krb5.keytab"),
-            ("a configuration file", Kind.CACHE, {"KRB5_CONFIG": "conf"}, b"c", b"/tmp/krb5cc_%d" % os.getuid()),
-        ]
-        for name, kind, env, to_mit, to_us in rows:
-            got = by_both(program, kind, folder, env)
-            taken = (theirs_of(got[0]).name, ours_of(got[1]).name)
-            report.check(f"MIT's klist is otherwise: {name}, {kind.variable}",
-                         [] if taken == (to_mit, to_us) else [f"{taken} are taken"])
+        for kind, own, configured in ((Kind.KEYTAB, b"/etc/krb5.keytab", b"k"),
+                                      (Kind.CACHE, b"/tmp/krb5cc_%d" % os.getuid(), b"c")):
+            for env, to_mit in (({}, own), ({kind.variable: ""}, b""), ({"KRB5_CONFIG": "conf"}, configured)):
+                taken = [taken_of(each).name for each in by_both(program, kind, folder, env)]
+                report.check(f"klist with {env} beside MIT's, {kind.variable}",
+                             [] if taken == [to_mit, own] else [f"{taken} are taken"])
         for value, wanted in ((b"\xff", message(2, BAD)), (b"MEMORY:k", message(1, "MEMORY:k: no such file"))):
             theirs, ours = by_both(program, Kind.KEYTAB, folder, {"KRB5_KTNAME": value})
             found = [] if theirs.status == 0 and ours == wanted else [f"{theirs}, {ours}"]
@@ -161,30 +125,19 @@ def check_another(report: Report, program: str) -> None:
         if path is None:
             report.skip(what, "it is there")
             return
-        theirs, ours = by_both(open_to_all(program, folder), Kind.CACHE, folder, {}, by_user(USER))
         wanted = Taken(path.encode(), True)
-        report.check(what, [] if theirs_of(theirs) == ours_of(ours) == wanted else [f"{theirs}, {ours}"])
+        got = [*map(taken_of, by_both(open_to_all(program, folder), Kind.CACHE, folder, {}, by_user(USER)))]
+        report.check(what, [] if got == [wanted] * 2 else [f"{got}"])
         # A run with the rights of another than its real user: MIT's looks at no environment.
-        theirs, ours = by_both(program, Kind.CACHE, folder, {"KRB5CCNAME": "no"}, ("setpriv", f"--ruid={USER}"))
-        taken = (theirs_of(theirs), ours_of(ours))
+        front = ("setpriv", f"--ruid={USER}")
+        got = [*map(taken_of, by_both(program, Kind.CACHE, folder, {"KRB5CCNAME": "no"}, front))]
         report.check("MIT's klist is otherwise: the rights of another user",
-                     [] if taken == (wanted, Taken(b"no", False)) else [f"{taken} are taken"])
-
-
-def check_defaults(report: Report, program: str) -> None:
-    """Checks the defaults of this user."""
-    for kind in Kind:
-        with folder_of({}) as folder:
-            theirs, ours = by_both(program, kind, folder, {})
-            found = [] if theirs_of(theirs) == ours_of(ours) else [f"MIT's took {theirs}, ours {ours}"]
-            report.check(f"the default beside MIT's: {kind.variable}", found)
+                     [] if got == [wanted, Taken(b"no", False)] else [f"{got}"])
 
 
 def check(report: Report, program: str) -> None:
     """Runs this topic if MIT's klist is installed."""
     if are_there(report, "default files beside MIT's klist", ("klist",)):
         check_values(report, program)
-        check_random(report, program, VALUES if report.is_proved else VALUES // ONE_IN)
-        check_different(report, program)
         check_defaults(report, program)
         check_another(report, program)

@@ -4,6 +4,7 @@ import os
 import re
 import shutil
 import subprocess
+from collections.abc import Iterator
 
 from keytabs.columns import NAMES
 from pages.documents import read
@@ -33,10 +34,8 @@ def offered(program: str, command: str) -> tuple[set[str], set[str]]:
 
 def by_bash(*words: str) -> set[str]:
     """Returns the words that bash completes the last word of a line to."""
-    script = 'source "$0"; COMP_WORDS=("$@"); COMP_CWORD=$(($# - 1)); _krbfile; ' \
-             'printf "%s\\n" "${COMPREPLY[@]}"'
-    done = subprocess.run(["bash", "-c", script, BASH, "krbfile", *words], capture_output=True,
-                          text=True, check=True)
+    script = 'source "$0"; COMP_WORDS=("$@"); COMP_CWORD=$(($# - 1)); _krbfile; printf "%s\\n" "${COMPREPLY[@]}"'
+    done = subprocess.run(["bash", "-c", script, BASH, "krbfile", *words], capture_output=True, text=True, check=True)
     return set(done.stdout.split())
 
 
@@ -61,62 +60,46 @@ def by_fish(command: str) -> set[str]:
     return found
 
 
-def compare(report: Report, name: str, wanted: set[str], got: set[str]) -> None:
-    """Reports words that are completed and do not exist, and those that exist and are not completed."""
-    report.check(f"completion: {name}", sorted(wanted ^ got))
+# Lines in bash, and what completes the last word.
+LINES = {
+    ("klist", "-k", "--v"): {"--v1-big"},
+    ("klist", ""): set(),
+    ("ktfind", "--v1-big", "k", "0", ""): ETYPES,
+    ("ktremove", "k", "-e", ""): ETYPES,
+    ("ktremove", "-k", ""): {"old"},
+    ("ccremove", "c", "--e"): {"--expired"},
+    ("ccremove", "--expired", ""): set(),
+}
 
 
-def check_bash(report: Report, program: str) -> None:
-    """Runs the function of bash."""
-    if shutil.which("bash") is None:
-        report.skip("completion by bash", "bash is not there")
-        return
-    commands, options = offered(program, "")
-    compare(report, "the first word in bash", commands | options, by_bash(""))
-    for command in sorted(commands - {"help"}):
-        options = offered(program, command)[1]
-        compare(report, f"{command} in bash", options, by_bash(command, "-"))
-        compare(report, f"{command} k in bash", options, by_bash(command, "k", "-"))
-        compare(report, f"--explain {command} in bash", options, by_bash("--explain", command, "-"))
-    compare(report, "--v in bash", {"--v1-big"}, by_bash("klist", "-k", "--v"))
-    compare(report, "a file in bash", set(), by_bash("klist", ""))
-    compare(report, "encryption types in bash", ETYPES, by_bash("ktfind", "--v1-big", "k", "0", ""))
-    compare(report, "encryption types to remove in bash", ETYPES, by_bash("ktremove", "k", "-e", ""))
-    compare(report, "versions to remove in bash", {"old"}, by_bash("ktremove", "-k", ""))
-    compare(report, "--e in bash", {"--expired"}, by_bash("ccremove", "c", "--e"))
-    compare(report, "a cache in bash", set(), by_bash("ccremove", "--expired", ""))
-
-
-def check_texts(report: Report, program: str) -> None:
-    """Reads the texts for zsh and fish, which need not be installed."""
-    commands, options = offered(program, "")
-    compare(report, "options in zsh", options, by_zsh(""))
-    compare(report, "options in fish", options, by_fish(""))
-    for command in sorted(commands - {"help"}):
-        options = offered(program, command)[1]
-        compare(report, f"{command} in zsh", options, by_zsh(command))
-        compare(report, f"{command} in fish", options, by_fish(command))
-    named = {"zsh": re.findall(r"^    '(\w+):", read(ZSH), re.MULTILINE),
-             "fish": re.findall(r"-n \$at -a (\w+)", read(FISH))}
-    for shell, names in named.items():
-        compare(report, f"commands in {shell}", commands, set(names))
-    for shell, path in (("zsh", ZSH), ("fish", FISH)):
-        missing = {name for name in ETYPES if name not in read(path)}
-        compare(report, f"encryption types in {shell}", set(), missing)
-
-
-def check_spelling(report: Report) -> None:
-    """Has each installed shell read its file."""
-    for shell, path in (("bash", BASH), ("zsh", ZSH), ("fish", FISH)):
-        if shutil.which(shell) is None:
-            report.skip(f"what {shell} says of its completions", f"{shell} is not there")
-            continue
-        done = subprocess.run([shell, "-n", path], capture_output=True, text=True, check=False)
-        report.check(f"what {shell} says of its completions", done.stderr.splitlines())
+def completed(has_bash: bool, command: str) -> Iterator[tuple[str, set[str]]]:
+    """Yields what completes a command's options, or the first word, by shell. zsh and fish need not be installed."""
+    if has_bash:
+        for words in ((command, "-"), (command, "k", "-"), ("--explain", command, "-")) if command else ():
+            yield f"{words} in bash", by_bash(*words)
+        if not command:
+            yield "the first word in bash", by_bash("")
+    # Their texts have the commands once.
+    own = {"zsh": r"^    '(\w+):", "fish": r"-n \$at -a (\w+)"}
+    for shell, path, options in (("zsh", ZSH, by_zsh(command)), ("fish", FISH, by_fish(command))):
+        names = set() if command else set(re.findall(own[shell], read(path), re.MULTILINE))
+        yield f"{command} in {shell}", options | names
 
 
 def check(report: Report, program: str) -> None:
-    """Runs this topic."""
-    check_bash(report, program)
-    check_texts(report, program)
-    check_spelling(report)
+    """Compares what help lists with what is completed, and has each installed shell read its file."""
+    has_bash = shutil.which("bash") is not None
+    commands, _ = offered(program, "")
+    for command in sorted({"", *commands} - {"help"}):
+        named, options = offered(program, command)
+        for name, got in completed(has_bash, command):
+            report.check(f"completion: {name}", sorted((named | options) ^ got))
+    for words, wanted in LINES.items() if has_bash else ():
+        report.check(f"completion: {words} in bash", sorted(wanted ^ by_bash(*words)))
+    for shell, path in (("bash", BASH), ("zsh", ZSH), ("fish", FISH)):
+        report.check(f"encryption types in {shell}", [name for name in sorted(ETYPES) if name not in read(path)])
+        if shutil.which(shell) is None:
+            report.skip(f"completions of {shell}", f"{shell} is not there")
+            continue
+        done = subprocess.run([shell, "-n", path], capture_output=True, text=True, check=False)
+        report.check(f"what {shell} says of its completions", done.stderr.splitlines())
