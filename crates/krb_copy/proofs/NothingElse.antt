@@ -11,9 +11,9 @@ use Rattle.krb_keytab.specs.Entry.{EntryParts}
 use Rattle.krb_keytab.specs.Find.{PlacedEntry, placed_entries}
 use Rattle.krb_keytab.specs.Store.{KeytabState, entry_at_place}
 use Rattle.krb_keytab.specs.Changes.{put_result, without}
-use Rattle.krb_copy.specs.Twins.{are_same, are_twins}
+use Rattle.krb_copy.specs.Twins.{are_same}
 use Rattle.krb_copy.specs.Copying.{Held, Run, Step, There, Clash, Copy, as_copied, as_found, copy_run, go_on, has_lines, run_added, run_after, run_over, run_start, step_of, with_copy}
-use Rattle.krb_copy.specs.Laws.{IsInPlace, NothingElse}
+use Rattle.krb_copy.specs.Laws.{NothingElse}
 use Rattle.krb_copy.proofs.Alike.{same_equiv}
 use Rattle.krb_copy.proofs.Gone.{goes_by_its_entries}
 use Rattle.krb_copy.proofs.LawLemmas.{AreThere, all_append}
