@@ -94,14 +94,14 @@ def added_while(program: str, case: Case, halt: Halt) -> tuple[Outcome, list[byt
 
 
 def check_added(report: Report, program: str) -> None:
-    """Checks keys that MIT's ktutil adds while a run syncs what it wrote, or behind its last look for locks."""
-    synced, watched = Halt("fsync"), Halt("openat", 3 * READINGS, ("/proc/locks",))
+    """Checks keys that MIT's ktutil adds between a run's looks, while it syncs what it wrote, or behind the last look."""
+    watched, synced, compared = Halt("openat", 2 * READINGS, ("/proc/locks",)), Halt("fsync"), Halt("lseek", 2)
     longer, equal, shorter = (in_place(ktedit(image, script, name=name)) for image, script, name in (
         (keytab(HOST), ADD_LONG, "adds"), (keytab(HOST), b"cut 2\n", "removes"),
         (keytab(60, HOST), b"rewrite\n", "rewrites")))
     refused = explained(unsaved(longer), message_of(longer, "mixed"))
-    rows = [(longer, synced, refused, [FIRST, OURS, MITS]),
-            (longer, watched, told(longer, "mixed"), [FIRST, OURS, MITS]),
+    rows = [(longer, watched, unsaved(longer), [FIRST, MITS]), (longer, synced, refused, [FIRST, OURS, MITS]),
+            (longer, compared, told(longer, "mixed"), [FIRST, OURS, MITS]),
             (equal, synced, told(equal, "mixed"), [MITS]), (shorter, synced, told(shorter, "mixed"), [FIRST, MITS])]
     for case, halt, wanted, names in rows:
         ours, found, theirs = added_while(program, case, halt)

@@ -46,7 +46,7 @@ SYNC: Deed = ()
 # What it looks at meanwhile, and the looks before it goes on to write over old bytes, and last of all.
 LOOKS = {"name": r'\w*stat\w*\(AT_FDCWD, "[kct]"', "size": r"\w*stat\w*\(\d", "bytes": r'read\(\d+, "\\5',
          "locks": r'open.*"/proc/locks"'}
-BEFORE, LAST = ("name", "size", "bytes", "locks"), ("name", "size", "bytes")
+BEFORE, LAST = ("locks", "name", "size", "bytes"), ("name", "size", "bytes")
 
 
 def done_in(trace: list[str]) -> list[Deed | str]:
@@ -122,11 +122,15 @@ def wanted_backs(case: Case, is_over: bool) -> list[str]:
     return [*(["pwrite64", "fsync"] if is_over else []), *cut, "fsync"]
 
 
+def is_written_over(case: Case, calls: list[Call]) -> bool:
+    """Returns whether some of these calls writes over old bytes, or cuts them off."""
+    end = len(images(case)[0])
+    return any(deed != SYNC and deed[0] < end for deed in deeds_of([call.line for call in calls]))
+
+
 def check_unsaved(report: Report, program: str, case: Case, calls: list[Call], nth: int, error: str) -> list[Call]:
     """Lets a call that changes the file fail, and returns the calls that bring the old bytes back."""
-    call, (before, _) = calls[nth], images(case)
-    deeds = deeds_of([each.line for each in calls[:nth + 1]])
-    is_over = any(deed != SYNC and deed[0] < len(before) for deed in deeds)
+    call, is_over = calls[nth], is_written_over(case, calls[:nth + 1])
     words = [CAUSES[error], *([AFTERMATHS["restored"]] if is_over else [])]
     got, files, made = run_failing(program, with_words(case), *call.to(f"error={error}"))
     backs = made[nth + 1:]
@@ -144,16 +148,25 @@ def both_fail(call: Call, back: Call) -> tuple[str, ...]:
     return (*call.to("error=EIO"), *back.to("error=EROFS"))
 
 
-def check_lost(report: Report, program: str, case: Case, call: Call, back: Call, is_lost: bool) -> None:
-    """Lets a call fail, and then one that brings the old bytes back: if one of these may be lost, a message says so."""
-    damage = [message_of(case, "damaged")] if is_lost else []
-    for one, words in ((case, damage), (with_words(case), [CAUSES["EIO"], *damage])):
+def check_lost(report: Report, program: str, case: Case, call: Call, back: Call, left: str) -> None:
+    """Lets a call fail, and then one that brings the old bytes back: what that leaves is told, if an old byte may be lost
+    without words too."""
+    damage = [message_of(case, "damaged")] if left == "damaged" else []
+    told = [AFTERMATHS["restored"]] if left == "restored" else damage
+    for one, words in ((case, damage), (with_words(case), [CAUSES["EIO"], *told])):
         got, files, _ = run_failing(program, one, *both_fail(call, back))
         faults = differences(explained(unsaved(case), *words), got)
         faults += [] if files.keys() == case.files.keys() else [f"{[*files]} are there"]
         is_there = files[changed(case)].startswith(images(case)[0])
-        faults += [] if is_lost or is_there else ["an old byte is lost"]
+        faults += [] if damage or is_there else ["an old byte is lost"]
         report.check(f"{call} fails, then {back}: {shown(one.words)}: {case.name}", faults)
+
+
+def left_behind(backs: list[Call], back: Call, is_over: bool) -> str:
+    """Returns what a failing call of those that bring old bytes back leaves: the first two write these back, if any do."""
+    if backs[0].name != "pwrite64" or back not in backs[:2]:
+        return ""
+    return "damaged" if is_over or back == backs[1] else "restored"
 
 
 def check_failures(report: Report, program: str) -> None:
@@ -163,10 +176,9 @@ def check_failures(report: Report, program: str) -> None:
         report.compare(f"no call fails: {case.name}", case.wanted, outcome)
         for nth, call in enumerate(calls):
             backs = [check_unsaved(report, program, case, calls, nth, error) for error in ERRORS][0]
-            # Old bytes are written back by the first two, if by any.
-            losing = backs[:2] if backs[:1] and backs[0].name == "pwrite64" else []
+            is_over = is_written_over(case, calls[:nth])
             for back in backs:
-                check_lost(report, program, case, call, back, back in losing)
+                check_lost(report, program, case, call, back, left_behind(backs, back, is_over))
 
 
 def check_talk(report: Report, program: str) -> None:
@@ -188,7 +200,7 @@ def steps() -> list[Step]:
     """Returns the steps of a run in place that changes old bytes and adds others."""
     stat = r'\w*stat\w*\(.*"k"'
     compared = [*needed(1, stat, r'open.*"k", O_RDONLY', r"\w*stat\w*\(\d", r"read\([1-9]"), Step(r"close", "")]
-    ready = [*compared, *listed()]
+    ready = [*listed(), *compared]
     written = [*needed(1, r"pwrite64", r"fsync"), *ready, *needed(1, r"pwrite64", r"fsync")]
     last = [Step(stat, ""), Step(r"\w*stat\w*\(\d", ""), Step(r"lseek", "last look"), Step(r"read\([1-9]", "last look")]
     return [READ, *needed(1, stat), *lock("k", mode="O_RDWR"), *held(), *looked("/proc/self/limits"), *ready, *written,

@@ -32,7 +32,7 @@ HALTS = {"before": Halt("openat", 2 * READINGS, ("/proc/locks",)), "behind": Hal
 # And in place: when its bytes are written over, cut off, and synced, and at the last reading of the locks of one
 # that grows.
 WRITTEN, CUT, SYNCED = Halt("pwrite64"), Halt("ftruncate"), Halt("fsync")
-WATCHED = Halt("openat", 3 * READINGS, ("/proc/locks",))
+COMPARED = Halt("lseek", 2)
 
 Change = Callable[[BinaryIO], object]
 
@@ -101,7 +101,7 @@ def check_kept(report: Report, program: str) -> None:
         before, after = images(case)
         for one in both_ways(with_more(case), "mixed"):
             report.check(f"more at the end: {shown(one.words)}: {case.name}",
-                         changed_while(program, one, WATCHED if len(after) > len(before) else SYNCED, change))
+                         changed_while(program, one, COMPARED if len(after) > len(before) else SYNCED, change))
 
 
 def check_kinds_in_place(report: Report, program: str) -> None:
@@ -129,7 +129,7 @@ def check_refused(report: Report, program: str) -> None:
     for case, halt, change, image, left in rows:
         placed = in_place(case)
         message = [message_of(placed, left)] if left == "mixed" else []
-        words = [CAUSES["changed"], *([AFTERMATHS[left]] if left == "restored" else [])]
+        words = [CAUSES["in use" if left == "mixed" else "changed"], *([AFTERMATHS[left]] if left == "restored" else [])]
         for options, lines in (((), message), ((EXPLAIN,), [*words, *message])):
             one = replace(placed, words=(*options, *placed.words), files_after={"k": image},
                           wanted=explained(unsaved(placed), *lines))
