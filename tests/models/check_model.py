@@ -22,6 +22,10 @@ WRONG = {"weak", "hidden", "same", "clash"}
 # A hint has no longer operand.
 LONGEST_OPERAND = 256
 
+# The bytes of a name that all shells read alike, and the command of a hint.
+ALIKE = re.compile(rb"[ -\[\]-~]*")
+COMMAND = re.compile("(krbfile kt[a-z]+)")
+
 # What is under a name in place of a file.
 FOLDER = "a folder"
 
@@ -70,14 +74,15 @@ def operand(name: bytes) -> bytes:
     return quote + front + name.replace(b"'", b"'\\''") + quote
 
 
-def hints(name: bytes, words: set[str], those: list[tuple[int, KeytabEntry]]) -> Iterator[bytes]:
-    """Yields the hints for words that were explained of a file with those entries."""
+def hints(name: bytes, words: set[str], those: list[tuple[int, KeytabEntry]], v1_big: bool) -> Iterator[bytes]:
+    """Yields the hints for words that were explained of a file with those entries, if shells read its name alike."""
     weak = sorted({entry.enctype for _, entry in those} & WEAK)
     options = b" ".join(b"-e " + NAMES.get(each, b"%d" % each) for each in weak)
     file = operand(name)
     for word, hint in HINTS.items():
-        if word in words and len(file) <= LONGEST_OPERAND:
-            yield hint.encode().replace(b"-e ETYPE..", options).replace(b"FILE", file)
+        if word in words and len(file) <= LONGEST_OPERAND and ALIKE.fullmatch(name):
+            line = COMMAND.sub(r"\1 --v1-big", hint) if v1_big else hint
+            yield line.encode().replace(b"-e ETYPE..", options).replace(b"FILE", file)
 
 
 @dataclass(frozen=True)
@@ -134,16 +139,16 @@ class Run:
         if name.other or place is None:
             self.fail(1, *name.missing())
         elif place == FOLDER:
-            self.fail(3, name.text + b": cannot read", CAUSES["EISDIR"])
+            self.fail(3, name.shown + b": cannot read", CAUSES["EISDIR"])
         elif len(place.image) > LIMIT:
-            self.fail(1, name.text + b": file too large", LARGE)
+            self.fail(1, name.shown + b": file too large", LARGE)
         elif no_keytab(place.image):
             number, why = why_no_keytab(place.image)
-            self.fail(1, name.text + b": not a keytab (%d)" % number, why)
+            self.fail(1, name.shown + b": not a keytab (%d)" % number, why)
         else:
-            self.check_keytab(name.text, place)
+            self.check_keytab(name, place)
 
-    def check_keytab(self, name: bytes, file: File) -> None:
+    def check_keytab(self, name: FileName, file: File) -> None:
         """Checks a keytab."""
         keytab = Keytab(file.image, self.options.v1_big)
         holes = [len(cell.data) for cell in keytab.cells if not cell.is_live]
@@ -154,14 +159,14 @@ class Run:
         lines += [b"fault %d at %d" % keytab.fault] if keytab.fault else []
         if lines or not self.options.is_quiet:
             lines.append(b"entries %d free %d holes %d" % (len(keytab.live()), sum(holes), len(holes)))
-        label = name + b": " if self.has_labels else b""
+        label = name.shown + b": " if self.has_labels else b""
         self.out += b"".join(label + line + b"\n" for line in lines)
         self.status = max(self.status, 1 if counted or keytab.fault else 0)
         new, self.explained = found - self.explained, self.explained | found
         self.say(b"", *(f"{word}: {phrase}" for word, phrase in FINDINGS.items() if word in new))
         if keytab.fault:
-            self.say(b"", name + b": fault %d at %d" % keytab.fault, FAULTS[keytab.fault[0]])
-        self.say(b"", *hints(name, new, keytab.live()))
+            self.say(b"", name.shown + b": fault %d at %d" % keytab.fault, FAULTS[keytab.fault[0]])
+        self.say(b"", *hints(name.text, new, keytab.live(), self.options.v1_big))
 
 
 def why_no_keytab(image: bytes) -> tuple[int, str]:

@@ -36,10 +36,15 @@ class FileName:
     other: bytes = b""
     source: str = ""
 
+    @property
+    def shown(self) -> bytes:
+        """The name as messages show it: no newline of it makes a line."""
+        return self.text.replace(b"\n", b"\\x0a")
+
     def missing(self) -> list[bytes]:
         """Returns the message where it is not there, and the lines that explain it."""
         explained = [spelled(NOT_READ, self.other)] if self.other else []
-        return [self.text + b": no such file", *explained, *([self.source.encode()] if self.source else [])]
+        return [self.shown + b": no such file", *explained, *([self.source.encode()] if self.source else [])]
 
 
 def spelled(phrase: str, type_of_name: bytes) -> bytes:

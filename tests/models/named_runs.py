@@ -114,12 +114,12 @@ class Command:
         if name.other or place is None:
             return self.missing(name)
         if place == FOLDER:
-            return self.failed(3, name.text + b": cannot read", CAUSES["EISDIR"].encode())
+            return self.failed(3, name.shown + b": cannot read", CAUSES["EISDIR"].encode())
         if place == NEITHER:
             what, (number, why) = NEITHERS[self.kind]
-            return self.failed(1, name.text + b": not a %s (%d)" % (what, number), why.encode())
+            return self.failed(1, name.shown + b": not a %s (%d)" % (what, number), why.encode())
         if place == LARGE_FILE:
-            return self.failed(1, name.text + b": file too large", LARGE.encode())
+            return self.failed(1, name.shown + b": file too large", LARGE.encode())
         return Ended(0, self.shown(name, self.printed), after=self.after)
 
 
