@@ -43,7 +43,7 @@ def by_zsh(command: str) -> set[str]:
     """Returns the options that the text for zsh has for a command, or for none."""
     text = read(ZSH)
     case = rf"^ +{command}\)(?s:(.*?));;" if command else r"^_arguments -C ((?:.*\\\n)*.*)"
-    own = re.search(case, text, re.MULTILINE).group(1)
+    own = (re.search(case, text, re.MULTILINE) or ["", ""])[1]
     for name, value in re.findall(r"^(\w+)=((?:.*\n    )*.*)", text, re.MULTILINE):
         own = own.replace(f"${name}", value)
     return {option for item in re.findall(r"'(?:(?:\(.*?\)|\*)')?(\S+?)'?\[", own)
