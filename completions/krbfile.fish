@@ -1,5 +1,8 @@
 # Completion of krbfile's command lines for fish.
 
+set -l etypes 'des3-cbc-sha1 aes128-cts-hmac-sha1-96 aes256-cts-hmac-sha1-96 aes128-cts-hmac-sha256-128
+    aes256-cts-hmac-sha384-192 arcfour-hmac camellia128-cts-cmac camellia256-cts-cmac'
+
 # Whether the word to come is the third operand of ktfind.
 function __krbfile_wants_etype
     set -l words (string match --invert -- '-*' (commandline -opc))
@@ -41,9 +44,7 @@ complete -c krbfile -n '__fish_seen_subcommand_from ktremove' -s k -l kvno -x -a
 complete -c krbfile -n '__fish_seen_subcommand_from ktremove' -l age -x -d 'With -k old: replaced for so many seconds'
 complete -c krbfile -n '__fish_seen_subcommand_from ktcopy' -l replace -d 'Replace entries that have another key'
 complete -c krbfile -n '__fish_seen_subcommand_from ktcopy' -s k -l kvno -x -a new -d 'Entries of that version'
-complete -c krbfile -n '__fish_seen_subcommand_from ktremove ktcopy' -s e -l enctype -x -d 'Entries of that encryption type' \
-    -a 'des3-cbc-sha1 aes128-cts-hmac-sha1-96 aes256-cts-hmac-sha1-96 aes128-cts-hmac-sha256-128
-    aes256-cts-hmac-sha384-192 arcfour-hmac camellia128-cts-cmac camellia256-cts-cmac'
+complete -c krbfile -n '__fish_seen_subcommand_from ktremove ktcopy' -s e -l enctype -x -d 'Entries of that encryption type' -a "$etypes"
 
 complete -c krbfile -n '__fish_seen_subcommand_from ktcheck' -s q -l quiet -d 'Print no counts of a file without findings'
 complete -c krbfile -n '__fish_seen_subcommand_from ktcheck' -l allow -x -a 'weak hidden same clash old mode' \
@@ -56,6 +57,4 @@ complete -c krbfile -n '__fish_seen_subcommand_from klist ktfind ktedit ktremove
 complete -c krbfile -n '__fish_seen_subcommand_from ktedit ktremove ktcopy ktutil ccedit ccremove' -l in-place -d 'Write the file where it stands, and make no new one'
 complete -c krbfile -n '__fish_seen_subcommand_from klist ktfind ktedit ktremove ktcopy ktcheck ccedit ccremove' -F
 
-complete -c krbfile -n __krbfile_wants_etype -a 'des3-cbc-sha1 aes128-cts-hmac-sha1-96
-    aes256-cts-hmac-sha1-96 aes128-cts-hmac-sha256-128 aes256-cts-hmac-sha384-192 arcfour-hmac
-    camellia128-cts-cmac camellia256-cts-cmac'
+complete -c krbfile -n __krbfile_wants_etype -a "$etypes"

@@ -68,6 +68,9 @@ LINES = {
     ("ktfind", "--v1-big", "k", "0", ""): ETYPES,
     ("ktremove", "k", "-e", ""): ETYPES,
     ("ktremove", "-k", ""): {"old"},
+    ("ktcopy", "--kvno", ""): {"new"},
+    ("ktcopy", "--enctype", "aes256-cts-hmac-sha1"): {"aes256-cts-hmac-sha1-96"},
+    ("ktcheck", "--allow", ""): {"weak", "hidden", "same", "clash", "old", "mode"},
     ("ccremove", "c", "--e"): {"--expired"},
     ("ccremove", "--expired", ""): set(),
 }
