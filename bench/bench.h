@@ -34,13 +34,8 @@ static inline void write_file(const char *file, krbf_bytes image) {
     must(!fsync(to) && !close(to), "the file is not written");
 }
 
-/* Room for one more of a size after that many. */
-static inline void *with_room(void *those, size_t count, size_t size) {
-    if (count == 0 || (count >= 1024 && (count & (count - 1)) == 0))
-        those = realloc(those, (count ? 2 * count : 1024) * size);
-    must(those != NULL, "out of memory");
-    return those;
-}
+/* The most records that a file may have. */
+enum { MOST = 1 << 18 };
 
 static inline unsigned number_in(const char *word) {
     return (unsigned)strtoul(word, NULL, 10);

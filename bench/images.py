@@ -38,7 +38,8 @@ def services(entries):
 def of_two_versions(entries):
     """Returns that many entries: services, and then the same services with the next version."""
     half = entries // 2
-    return keytab(*(of_server(at % half, at % half % 300 + 1 + at // half, 18, key_of(at, 32)) for at in range(entries)))
+    return keytab(*(of_server(at % half, at % half % 300 + 1 + at // half, 18, key_of(at, 32))
+                    for at in range(entries)))
 
 
 def mixed(cells, fitting, size):

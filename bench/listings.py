@@ -103,3 +103,16 @@ def table(name, setting):
                             ratio(bench.peak(ours), length, "{:.2f}")]))
     return Table(["file", "cpu ms", f"{other} cpu ms", f"cpu / {other}'s", f"instr / {other}'s", "instr / byte",
                   "peak / bytes"], rows)
+
+
+def points(setting):
+    """Returns the processor times of one listing by its entries, from which plot draws."""
+    bench, rows = Bench(setting), []
+    fronts = [*bench.front("MIT"), "-k"], [*bench.front("klist"), "-k"], bench.front("least")
+    for entries in (step * 10**power for power in range(1, 6) for step in (1, 2, 5)):
+        if entries <= (1_000 if setting.quick else 200_000):
+            print(f"{entries:,} entries", file=sys.stderr)
+            bench.file.write_bytes(images.services(entries))
+            times = bench.ms([[*front, str(bench.file)] for front in fronts], 51 if entries <= 2_000 else 11)
+            rows.append((None, [f"{entries:,}", *(f"{ms:.3f}" for ms in times)]))
+    return Table(["entries", "MIT klist -k", "krbfile klist -k", "least program"], rows)

@@ -8,7 +8,7 @@
 
 static krb5_context context;
 static krb5_keytab keytab;
-static krb5_keytab_entry *entries;
+static krb5_keytab_entry entries[MOST];
 
 /* Adds the entry of that number, as edits.c makes it; libkrb5 sets its time. */
 static void add(unsigned number) {
@@ -28,7 +28,7 @@ static size_t all_entries(void) {
     size_t count = 0;
     must(!krb5_kt_start_seq_get(context, keytab, &cursor), "start_seq_get");
     for (;; count++) {
-        entries = with_room(entries, count, sizeof *entries);
+        must(count < MOST, "too many entries");
         if ((code = krb5_kt_next_entry(context, keytab, &entries[count], &cursor)))
             break;
     }

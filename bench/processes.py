@@ -8,6 +8,7 @@ import subprocess
 import sys
 import threading
 import time
+from functools import partial
 from pathlib import Path
 from typing import NamedTuple
 
@@ -65,23 +66,18 @@ def peak(words, env, longest, note, **streams):
     return status, used, int(Path(note).read_text().split()[-1]) * 1024
 
 
-def instructions(words, env, longest, note, **streams):
-    """Returns the instructions that a program executes itself; the kernel's are not counted."""
+def ground(tool, pattern, words, env, longest, note, **streams):
+    """Returns the greatest number that a tool of valgrind notes of a run."""
     if shutil.which("valgrind") is None:
         return None
-    grind = ["valgrind", "--tool=callgrind", "--callgrind-out-file=/dev/null", f"--log-file={note}"]
-    run(grind + words, env, longest, **streams)
-    found = re.search(r"Collected : (\d+)", Path(note).read_text())
-    return int(found.group(1)) if found else None
+    run(["valgrind", *(word.format(note) for word in tool), *words], env, longest, **streams)
+    return max(map(int, re.findall(pattern, Path(note).read_text())), default=None)
 
 
-def heap(words, env, longest, note, **streams):
-    """Returns the most bytes that a program has allocated by malloc at any time."""
-    if shutil.which("valgrind") is None:
-        return None
-    grind = ["valgrind", "--tool=massif", "--peak-inaccuracy=0.0", f"--massif-out-file={note}"]
-    run(grind + words, env, longest, **streams)
-    return max(map(int, re.findall(r"mem_heap_B=(\d+)", Path(note).read_text())))
+# The instructions that a program executes itself, without the kernel's; the most bytes that it has from malloc.
+instructions = partial(ground, ("--tool=callgrind", "--callgrind-out-file=/dev/null", "--log-file={}"),
+                       r"Collected : (\d+)")
+heap = partial(ground, ("--tool=massif", "--peak-inaccuracy=0.0", "--massif-out-file={}"), r"mem_heap_B=(\d+)")
 
 
 def mit(program):

@@ -5,7 +5,7 @@ _krbfile() {
     local etypes='des3-cbc-sha1 aes128-cts-hmac-sha1-96 aes256-cts-hmac-sha1-96
         aes128-cts-hmac-sha256-128 aes256-cts-hmac-sha384-192 arcfour-hmac
         camellia128-cts-cmac camellia256-cts-cmac'
-    local word=${COMP_WORDS[COMP_CWORD]} command='' options='' operands=0 first=1 at
+    local word=${COMP_WORDS[COMP_CWORD]} command='' options='' offered='' operands=0 first=1 at
     ((COMP_CWORD > 1)) && [[ ${COMP_WORDS[1]} == --explain ]] && first=2
     ((COMP_CWORD > first)) && command=${COMP_WORDS[first]}
     for ((at = first + 1; at < COMP_CWORD; at++)); do
@@ -24,20 +24,15 @@ _krbfile() {
         ccedit) options='--in-place' ;;
         ccremove) options='-n --dry-run -p --service --expired --in-place' ;;
     esac
-    COMPREPLY=()
-    if [[ $word == -* || $command == '' || $command == help ]]; then
-        COMPREPLY=($(compgen -W "$options --help -h" -- "$word"))
-    elif [[ $command == ktremove && ${COMP_WORDS[COMP_CWORD - 1]} == @(-k|--kvno) ]]; then
-        COMPREPLY=($(compgen -W old -- "$word"))
-    elif [[ $command == ktcopy && ${COMP_WORDS[COMP_CWORD - 1]} == @(-k|--kvno) ]]; then
-        COMPREPLY=($(compgen -W new -- "$word"))
-    elif [[ $command == ktcheck && ${COMP_WORDS[COMP_CWORD - 1]} == --allow ]]; then
-        COMPREPLY=($(compgen -W 'weak hidden same clash old mode' -- "$word"))
-    elif [[ $command == @(ktremove|ktcopy) && ${COMP_WORDS[COMP_CWORD - 1]} == @(-e|--enctype) ]]; then
-        COMPREPLY=($(compgen -W "$etypes" -- "$word"))
-    elif [[ $command == ktfind ]] && ((operands == 2)); then
-        COMPREPLY=($(compgen -W "$etypes" -- "$word"))
-    fi
+    case "$command ${COMP_WORDS[COMP_CWORD - 1]}" in
+        'ktremove -k' | 'ktremove --kvno') offered=old ;;
+        'ktcopy -k' | 'ktcopy --kvno') offered=new ;;
+        'ktcheck --allow') offered='weak hidden same clash old mode' ;;
+        'ktremove -e' | 'ktremove --enctype' | 'ktcopy -e' | 'ktcopy --enctype') offered=$etypes ;;
+        'ktfind '*) ((operands == 2)) && offered=$etypes ;;
+    esac
+    [[ $word == -* || $command == '' || $command == help ]] && offered="$options --help -h"
+    COMPREPLY=($(compgen -W "$offered" -- "$word"))
 }
 
 # Where nothing is offered, the names of files are.

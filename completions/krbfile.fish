@@ -1,5 +1,8 @@
 # Completion of krbfile's command lines for fish.
 
+set -l etypes 'des3-cbc-sha1 aes128-cts-hmac-sha1-96 aes256-cts-hmac-sha1-96 aes128-cts-hmac-sha256-128
+    aes256-cts-hmac-sha384-192 arcfour-hmac camellia128-cts-cmac camellia256-cts-cmac'
+
 # Whether the word to come is the third operand of ktfind.
 function __krbfile_wants_etype
     set -l words (string match --invert -- '-*' (commandline -opc))
@@ -35,23 +38,18 @@ complete -c krbfile -n '__fish_seen_subcommand_from klist' -l json -d 'Print all
 complete -c krbfile -n '__fish_seen_subcommand_from klist' -s s -l silent -d 'Print nothing; status 0 if there is a ticket to go on with'
 complete -c krbfile -n '__fish_seen_subcommand_from klist' -l for -x -d 'With -s: seconds that the ticket is valid for'
 
-complete -c krbfile -n '__fish_seen_subcommand_from ktremove' -s n -l dry-run -d 'Save nothing'
-complete -c krbfile -n '__fish_seen_subcommand_from ktremove' -s p -l principal -x -d 'Entries of that principal'
+complete -c krbfile -n '__fish_seen_subcommand_from ktremove ktcopy ccremove' -s n -l dry-run -d 'Save nothing'
+complete -c krbfile -n '__fish_seen_subcommand_from ktremove ktcopy' -s p -l principal -x -d 'Entries of that principal'
 complete -c krbfile -n '__fish_seen_subcommand_from ktremove' -s k -l kvno -x -a old -d 'Entries of that version'
 complete -c krbfile -n '__fish_seen_subcommand_from ktremove' -l age -x -d 'With -k old: replaced for so many seconds'
-complete -c krbfile -n '__fish_seen_subcommand_from ktcopy' -s n -l dry-run -d 'Save nothing'
 complete -c krbfile -n '__fish_seen_subcommand_from ktcopy' -l replace -d 'Replace entries that have another key'
-complete -c krbfile -n '__fish_seen_subcommand_from ktcopy' -s p -l principal -x -d 'Entries of that principal'
 complete -c krbfile -n '__fish_seen_subcommand_from ktcopy' -s k -l kvno -x -a new -d 'Entries of that version'
-complete -c krbfile -n '__fish_seen_subcommand_from ktremove ktcopy' -s e -l enctype -x -d 'Entries of that encryption type' \
-    -a 'des3-cbc-sha1 aes128-cts-hmac-sha1-96 aes256-cts-hmac-sha1-96 aes128-cts-hmac-sha256-128
-    aes256-cts-hmac-sha384-192 arcfour-hmac camellia128-cts-cmac camellia256-cts-cmac'
+complete -c krbfile -n '__fish_seen_subcommand_from ktremove ktcopy' -s e -l enctype -x -d 'Entries of that encryption type' -a "$etypes"
 
 complete -c krbfile -n '__fish_seen_subcommand_from ktcheck' -s q -l quiet -d 'Print no counts of a file without findings'
 complete -c krbfile -n '__fish_seen_subcommand_from ktcheck' -l allow -x -a 'weak hidden same clash old mode' \
     -d 'Findings that do not count for the status'
 
-complete -c krbfile -n '__fish_seen_subcommand_from ccremove' -s n -l dry-run -d 'Save nothing'
 complete -c krbfile -n '__fish_seen_subcommand_from ccremove' -s p -l service -x -d 'Tickets for that service'
 complete -c krbfile -n '__fish_seen_subcommand_from ccremove' -l expired -d 'Tickets that have expired'
 
@@ -59,6 +57,4 @@ complete -c krbfile -n '__fish_seen_subcommand_from klist ktfind ktedit ktremove
 complete -c krbfile -n '__fish_seen_subcommand_from ktedit ktremove ktcopy ktutil ccedit ccremove' -l in-place -d 'Write the file where it stands, and make no new one'
 complete -c krbfile -n '__fish_seen_subcommand_from klist ktfind ktedit ktremove ktcopy ktcheck ccedit ccremove' -F
 
-complete -c krbfile -n __krbfile_wants_etype -a 'des3-cbc-sha1 aes128-cts-hmac-sha1-96
-    aes256-cts-hmac-sha1-96 aes128-cts-hmac-sha256-128 aes256-cts-hmac-sha384-192 arcfour-hmac
-    camellia128-cts-cmac camellia256-cts-cmac'
+complete -c krbfile -n __krbfile_wants_etype -a "$etypes"

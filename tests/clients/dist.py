@@ -1,4 +1,4 @@
-"""What `make dist` packs, the same bytes each time, with a program that runs alone; and what `make install` puts."""
+"""What `make dist` packs, the same bytes each time, with the static program; and what `make install` puts."""
 
 import os
 import re
@@ -12,7 +12,6 @@ from makers.images import TWO
 from pages.documents import read
 from pages.readme import SHOWN
 from runs.harness import TOP, Outcome, Report, files_in, folder_of, run
-from system.static import check_alone
 
 # What is packed besides text, the sources that it is built of, and tools that build it, each by its name in Makefile.
 BUILT = ("bin/krbfile-static", "lib/libkrbfile.a", "lib/libkrbfile.so.1")
@@ -45,6 +44,9 @@ FILES = {
     "share/zsh/site-functions/_krbfile": "completions/_krbfile",
 }
 LINK = "lib/libkrbfile.so"
+
+# What others run.
+PROGRAMS = ("bin/krbfile", "lib/libkrbfile.so.1")
 
 # What is installed of them besides the module, and what belongs to the program alone.
 FOLDERS = ("bin/", "include/", "lib/", "share/")
@@ -79,15 +81,16 @@ def faults_of_files(folder: str) -> list[str]:
 
 
 def faults_of_members(path: str, name: str) -> list[str]:
-    """Returns the members of an archive that are out of order, not below one folder, not root's, of another time, or
-    not for all to read; and what is a link."""
+    """Returns the members of an archive that are out of order, not below one folder, not root's, of another time or
+    mode, or links."""
     with tarfile.open(path) as archive:
         members = archive.getmembers()
     parts = [member.name.split("/") for member in members]
     faults = [] if parts == sorted(parts) and {part[0] for part in parts} == {name} else [f"{parts}"]
     for each in members:
-        is_link = each.name == f"{name}/{LINK}"
-        if (each.uid, each.gid, each.mtime, each.issym()) != (0, 0, TIME, is_link) or each.mode not in (0o755, 0o644):
+        is_link = each.name.endswith(LINK)
+        mode = 0o755 if each.isdir() or is_link or each.name.endswith(PROGRAMS) else 0o644
+        if (each.uid, each.gid, each.mtime, each.mode, each.issym()) != (0, 0, TIME, mode, is_link):
             faults.append(f"{each.name}: {each.mode:o}, {each.uid}, {each.mtime}")
     return faults
 
@@ -154,7 +157,6 @@ def check_archive(report: Report) -> None:
             report.check("the archive's files", faults_of_files(top))
             report.check("the versions in the archive", faults_of_version(top, name.split("-")[:2]))
             check_library(report, top)
-            check_alone(report, "the archive's program", os.path.join(top, "bin", "krbfile"))
 
 
 @contextmanager

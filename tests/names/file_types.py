@@ -96,7 +96,8 @@ class Row:
                 found = differences(wanted.outcome(explains), got)
                 found += [] if files_in(folder) == self.after(wanted) else ["other files"]
             state = "missing" if self.place is None else f"{self.place[:9]!r}"
-            report.check(f"{shown(words)} of {self.word!r}, {self.is_variable}, {state}, {way}", found)
+            source = variable if self.is_variable else "a word"
+            report.check(f"{shown(words)} of {self.word!r} by {source}, {state}, {way}", found)
 
 
 def names_of(command: Command) -> tuple[dict[str, str], dict[str, str]]:

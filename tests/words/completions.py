@@ -42,10 +42,11 @@ def by_bash(*words: str) -> set[str]:
 def by_zsh(command: str) -> set[str]:
     """Returns the options that the text for zsh has for a command, or for none."""
     text = read(ZSH)
-    case = rf"^ +{command}\)\n(?s:(.*?));;" if command else r"^_arguments -C ((?:.*\\\n)*.*)"
-    own = re.search(case, text, re.MULTILINE).group(1)
-    everywhere = re.search(r"^options=(.*)", text, re.MULTILINE).group(1)
-    return {option for item in re.findall(r"'(?:(?:\(.*?\)|\*)')?(\S+?)'?\[", everywhere + own)
+    case = rf"^ +{command}\)(?s:(.*?));;" if command else r"^_arguments -C ((?:.*\\\n)*.*)"
+    own = (re.search(case, text, re.MULTILINE) or ["", ""])[1]
+    for name, value in re.findall(r"^(\w+)=((?:.*\n    )*.*)", text, re.MULTILINE):
+        own = own.replace(f"${name}", value)
+    return {option for item in re.findall(r"'(?:(?:\(.*?\)|\*)')?(\S+?)'?\[", own)
             for option in item.strip("{}*").split(",")}
 
 
@@ -67,6 +68,9 @@ LINES = {
     ("ktfind", "--v1-big", "k", "0", ""): ETYPES,
     ("ktremove", "k", "-e", ""): ETYPES,
     ("ktremove", "-k", ""): {"old"},
+    ("ktcopy", "--kvno", ""): {"new"},
+    ("ktcopy", "--enctype", "aes256-cts-hmac-sha1"): {"aes256-cts-hmac-sha1-96"},
+    ("ktcheck", "--allow", ""): {"weak", "hidden", "same", "clash", "old", "mode"},
     ("ccremove", "c", "--e"): {"--expired"},
     ("ccremove", "--expired", ""): set(),
 }
