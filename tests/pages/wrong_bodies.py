@@ -145,6 +145,8 @@ WRONG_BODIES = {
         "status-of-the-last": "the status of several keytabs is that of the last",
     },
     "krb_commands": {
+        "all-are-saved-in-place": "each command writes its file where it stands",
+        "ccremove-needs-no-clock": "the clock is not read for tickets that have expired",
         "klist-eats-the-input": "klist reads the standard input before it lists",
         "the-default-in-place-of-the-name": "the default name is taken though a name is given",
     },
