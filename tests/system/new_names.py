@@ -20,6 +20,7 @@ from system.saving import (
     as_another,
     edit,
     run_over,
+    stands,
     tree,
     tree_faults,
     unsaved,
@@ -76,15 +77,6 @@ STRANGE: list[tuple[str, Make]] = [
     ("another name of a file", lambda path: os.link(beside(path, "other"), path)),
     ("another name of the file", lambda path: os.link(own(path), path)),
 ]
-
-
-def stands(folder: str) -> dict[str, tuple[object, ...]]:
-    """Returns the contents of a folder, with owners, modes and times."""
-    found = {}
-    for name, data in tree(folder).items():
-        own = os.lstat(os.path.join(folder, name))
-        found[name] = (data, own.st_ino, own.st_mode, own.st_uid, own.st_nlink, own.st_mtime_ns)
-    return found
 
 
 def faults_in_the_way(

@@ -9,7 +9,7 @@ from makers.images import HOST, keytab
 from makers.usual_caches import USUAL
 from models.cases import ccedit, ccremove, ktedit
 from models.ticket_removal_model import Selection
-from runs.harness import Case, Outcome, message, run
+from runs.harness import Case, Outcome, Report, differences, folder_of, message, run
 
 # The script of each run, and the file before and after it.
 SCRIPT = b"add 3 17 1700000000 000102030405060708090a0b0c0d0e0f host/a@R\n"
@@ -24,7 +24,7 @@ UNREAD = message(3, "k: cannot read")
 USER = 65_534
 GROUP = 54_321
 
-Place = Callable[[str], None]
+Place = Callable[[str], object]
 
 # Runs that change a file, those that take no hold, and those that take one and then have nothing to save. None depends
 # on the clock.
@@ -47,6 +47,26 @@ def run_over(program: str, case: Case, folder: str, name: str = "", **options: o
 def unsaved(case: Case, name: str = "") -> Outcome:
     """Returns the outcome if that file is not saved."""
     return message(3, f"{name or case.words[-1]}: cannot write")
+
+
+def check_over(report: Report, program: str, case: Case, *places: Place, **options: object) -> None:
+    """Checks a case in a folder where more is made before the run: what the case does not change stays as it is."""
+    with folder_of(case.files) as folder:
+        for place in places:
+            place(folder)
+        wanted = {**tree(folder), **(case.files_after or {})}
+        faults = differences(case.wanted, run(program, case.words, folder, case.stdin, **options))
+        report.check(case.name, faults + tree_faults(wanted, folder))
+
+
+def at(name: str, make: Callable[[str], object]) -> Place:
+    """Returns what makes something under that name."""
+    return lambda folder: make(os.path.join(folder, name))
+
+
+def link(name: str, text: str) -> Place:
+    """Returns what makes a link of that name and text."""
+    return at(name, lambda path: os.symlink(text, path))
 
 
 def edit(
@@ -102,6 +122,15 @@ def tree_faults(wanted: dict[str, object], folder: str) -> list[str]:
     got = tree(folder)
     names = sorted(set(wanted) | set(got))
     return [f"{name} is {got.get(name)!r}" for name in names if got.get(name) != wanted.get(name)]
+
+
+def stands(folder: str) -> dict[str, tuple[object, ...]]:
+    """Returns the contents of a folder, with owners, modes and times."""
+    found = {}
+    for name, data in tree(folder).items():
+        own = os.lstat(os.path.join(folder, name))
+        found[name] = (data, own.st_ino, own.st_mode, own.st_uid, own.st_nlink, own.st_mtime_ns)
+    return found
 
 
 @dataclass(frozen=True)
