@@ -2,7 +2,9 @@
 
 import os
 
-from models.cases import ktedit
+from makers.images import TWO, keytab
+from models.cases import ktcopy, ktedit
+from models.copy_model import Request
 from runs.harness import Case, Report, differences, folder_of, message, run
 from system.saving import (
     ADD,
@@ -31,6 +33,10 @@ from system.saving import (
     write,
 )
 
+# Runs that make a file, and copies over a keytab, and over a file of no bytes.
+MADE, COPIED = ktedit(None, SCRIPT, name="adds"), ktcopy(TWO, None, request=Request(), name="adds")
+COPIES = tuple(ktcopy(TWO, target, request=Request(), name=f"into {len(target)} bytes") for target in (keytab(), b""))
+
 # Modes of files that are replaced by their owner.
 MODES = (0o400, 0o600, 0o640, 0o664, 0o604, 0o6755)
 
@@ -49,34 +55,34 @@ def check_owned(report: Report, name: str, program: str, old: Owned, new: Owned,
     report.check(f"{name}, mode {old.mode:o}: {case.name}", faults)
 
 
-def check_new_files(report: Report, program: str) -> None:
+def check_new_files(report: Report, program: str, cases: tuple[Case, ...] = (MADE,)) -> None:
     """Checks that a new file is readable by its owner only, whatever the umask."""
-    for umask in (0, 0o022, 0o077, 0o777):
-        with folder_of({}) as folder:
-            faults = differences(SAVED, edit(program, folder, umask=umask))
-            faults += tree_faults({"k": NEW}, folder)
-            mode = owned(os.path.join(folder, "k")).mode
-            if mode != 0o600:
-                faults.append(f"mode {mode:o}")
-        report.check(f"a new file under the umask {umask:o}", faults)
+    for case in cases:
+        for umask in (0, 0o022, 0o077, 0o777):
+            with folder_of(case.files) as folder:
+                faults = differences(case.wanted, run_over(program, case, folder, umask=umask))
+                faults += tree_faults(case.files_after, folder)
+                mode = owned(os.path.join(folder, case.words[-1])).mode
+            faults += [] if mode == 0o600 else [f"mode {mode:o}"]
+            report.check(f"a new file under the umask {umask:o}: {case.name}", faults)
 
 
-def check_own_files(report: Report, program: str) -> None:
+def check_own_files(report: Report, program: str, cases: tuple[Case, ...] = CHANGES) -> None:
     """Checks that an owner who is in a file's group saves it with its mode."""
-    for case in CHANGES:
+    for case in cases:
         for mode in MODES:
             here = Owned(mode, os.geteuid(), os.getegid())
             check_owned(report, "an own file", program, here, here, case, umask=0o077)
 
 
-def check_others_files(report: Report, program: str) -> None:
+def check_others_files(report: Report, program: str, cases: tuple[Case, ...] = CHANGES) -> None:
     """Checks that root keeps owner and group, and that others give no user more rights than the old file did."""
     if os.geteuid() != 0 or as_another(program) is None:
         report.skip("files of others", "none but root may make them, or start the program")
         return
     for mode in MODES:
         theirs = Owned(mode, USER, GROUP)
-        for case in CHANGES:
+        for case in cases:
             check_owned(report, "a user's file saved by root", program, theirs, theirs, case)
         inside = as_user((GROUP,))
         check_owned(report, "a user's file in one of its groups", program, theirs, theirs, **inside)
@@ -134,16 +140,16 @@ def check_links(report: Report, program: str) -> None:
             report.check(f"save over {name}", faults + tree_faults(wanted, folder))
 
 
-def check_hard_links(report: Report, program: str) -> None:
+def check_hard_links(report: Report, program: str, cases: tuple[Case, ...] = CHANGES) -> None:
     """Checks that a link is followed, a hard link is broken, a stale file is removed, and all else stays."""
-    for case in CHANGES:
-        (name, before), (after,) = *case.files.items(), case.files_after.values()
-        with folder_of({"file": before, "file.krbfile": b"left", "file.new": b"strange"}) as folder:
+    for case in cases:
+        name = case.words[-1]
+        others = {each: data for each, data in case.files.items() if each != name}
+        with folder_of({**others, "file": case.files[name], "file.krbfile": b"left", "file.new": b"new"}) as folder:
             os.symlink("file", os.path.join(folder, name))
             os.link(os.path.join(folder, "file"), os.path.join(folder, "other"))
-            faults = differences(case.wanted, run_over(program, case, folder))
-            wanted = {name: "file", "file": after, "other": before, "file.new": b"strange"}
-            faults += tree_faults(wanted, folder)
+            wanted = {**tree(folder), "file": case.files_after[name], "file.krbfile": None}
+            faults = differences(case.wanted, run_over(program, case, folder)) + tree_faults(wanted, folder)
         report.check(f"a file of two names behind a link: {case.name}", faults)
 
 
@@ -207,11 +213,8 @@ def check_locked_folder(report: Report, program: str) -> None:
 
 def check(report: Report, program: str) -> None:
     """Runs this topic."""
-    check_new_files(report, program)
-    check_own_files(report, program)
-    check_others_files(report, program)
-    check_links(report, program)
-    check_hard_links(report, program)
-    check_broken_links(report, program)
-    check_removed(report, program)
-    check_locked_folder(report, program)
+    check_new_files(report, program, (MADE, COPIED))
+    for each in (check_own_files, check_others_files, check_hard_links):
+        each(report, program, (*CHANGES, *COPIES))
+    for each in (check_links, check_broken_links, check_removed, check_locked_folder):
+        each(report, program)

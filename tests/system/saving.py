@@ -49,14 +49,19 @@ def unsaved(case: Case, name: str = "") -> Outcome:
     return message(3, f"{name or case.words[-1]}: cannot write")
 
 
-def check_over(report: Report, program: str, case: Case, *places: Place, **options: object) -> None:
-    """Checks a case in a folder where more is made before the run: what the case does not change stays as it is."""
+def faults_over(program: str, case: Case, *places: Place, **options: object) -> list[str]:
+    """Returns the faults of a case in a folder where more is made before: what it does not change stays as it is."""
     with folder_of(case.files) as folder:
         for place in places:
             place(folder)
         wanted = {**tree(folder), **(case.files_after or {})}
         faults = differences(case.wanted, run(program, case.words, folder, case.stdin, **options))
-        report.check(case.name, faults + tree_faults(wanted, folder))
+        return faults + tree_faults(wanted, folder)
+
+
+def check_over(report: Report, program: str, case: Case, *places: Place, **options: object) -> None:
+    """Checks a case in a folder where more is made before."""
+    report.check(case.name, faults_over(program, case, *places, **options))
 
 
 def at(name: str, make: Callable[[str], object]) -> Place:
