@@ -10,7 +10,7 @@ from contextlib import contextmanager
 
 from clients.python_failures import FAILED
 from models.cases import IN_PLACE
-from runs.harness import Outcome, Report, differences, folder_of, message, run
+from runs.harness import Outcome, Report, differences, folder_of, message
 from runs.preload import Line
 from runs.system_calls import Call, calls_of, check_traced, traced
 from runs.terminal import EXPLAIN
@@ -174,46 +174,6 @@ def mounted(folder: str, *words: str) -> Iterator[bool]:
             subprocess.run(["umount", folder], check=True)
 
 
-def check_full_disk(report: Report, program: str) -> None:
-    """Checks a disk that has room for the old file and for another's `k.new`, which both stay."""
-    talk = b"rkt k.new\nwkt k\n"
-    for files, size in (({"k": OLD}, 4), ({"k": OLD, "k.new": NEW}, 8)):
-        with folder_of({}) as folder, mounted(
-            folder, "-t", "tmpfs", "-o", f"size={size}k", "krbfile"
-        ) as is_mounted:
-            for name, data in files.items():
-                write(os.path.join(folder, name), data)
-            faults = differences(UNSAVED, edit(program, folder))
-            if "k.new" in files:
-                faults += differences(UNSAVED, run(program, ("ktutil",), folder, talk))
-            faults += tree_faults(dict(files), folder)
-        if is_mounted:
-            report.check(f"a full disk with {len(files)} files", faults)
-        else:
-            report.skip("a full disk", "none can be mounted")
-
-
-def check_fixed(report: Report, program: str) -> None:
-    """Checks that a file that is mounted over itself is not replaced, nor any on a read-only disk."""
-    with folder_of({"k": OLD}) as folder:
-        path = os.path.join(folder, "k")
-        with mounted(path, "--bind", path) as is_mounted:
-            faults = differences(UNSAVED, edit(program, folder)) + tree_faults({"k": OLD}, folder)
-        if not is_mounted:
-            report.skip("files that are mounted", "none can be")
-            return
-    report.check("a file that is mounted", faults)
-    with folder_of({}) as folder, mounted(folder, "-t", "tmpfs", "krbfile"):
-        write(os.path.join(folder, "k"), OLD)
-        subprocess.run(["mount", "-o", "remount,ro", folder], check=True)
-        faults = differences(UNSAVED, edit(program, folder))
-        faults += differences(message(3, "n: cannot write"), edit(program, folder, "n"))
-        faults += differences(Outcome(0, b"walk 0 at 2\n"),
-                              run(program, ("ktedit", "k"), folder, b"start\n"))
-        faults += tree_faults({"k": OLD}, folder)
-    report.check("a disk that is read-only", faults)
-
-
 def check_owner(report: Report, program: str) -> None:
     """Checks that an owner who may not be set narrows the mode; any other failure of fchown refuses the save."""
     narrow = ("EPERM", "EACCES", "ENOSYS", "EOPNOTSUPP", "EINVAL")
@@ -268,5 +228,3 @@ def check(report: Report, program: str) -> None:
     """Runs this topic."""
     check_traced(report, program, "system calls that fail",
                  check_both_ways, check_kills, check_causes, check_missing, check_owner, check_lock, check_no_proc)
-    check_full_disk(report, program)
-    check_fixed(report, program)

@@ -1,11 +1,13 @@
 """What a save leaves on the disk: the new file's mode, owner and group, links, and nothing else."""
 
 import os
+from dataclasses import replace
 
 from makers.images import TWO, keytab
-from models.cases import ktcopy, ktedit
+from models.cases import in_place, ktcopy, ktedit
 from models.copy_model import Request
 from runs.harness import Case, Report, differences, folder_of, message, run
+from system.placing import PLACED
 from system.saving import (
     ADD,
     CHANGES,
@@ -24,7 +26,7 @@ from system.saving import (
     Place,
     as_another,
     as_user,
-    edit,
+    check_over,
     owned,
     run_over,
     tree,
@@ -133,11 +135,8 @@ def check_links(report: Report, program: str) -> None:
         ("a chain of 40 links", links_to(*long_chain(40))),
     ]
     for name, place in cases:
-        with folder_of({}) as folder:
-            place(folder)
-            wanted = {**tree(folder), "t/k": NEW}
-            faults = differences(SAVED, edit(program, folder))
-            report.check(f"save over {name}", faults + tree_faults(wanted, folder))
+        case = Case(f"save over {name}", ("ktedit", "k"), SAVED, files_after={"t/k": NEW}, stdin=SCRIPT)
+        check_over(report, program, case, place)
 
 
 def check_hard_links(report: Report, program: str, cases: tuple[Case, ...] = CHANGES) -> None:
@@ -162,11 +161,7 @@ def check_broken_links(report: Report, program: str) -> None:
         ("a chain of 41 links", links_to(*long_chain(41)), UNREAD),
     ]
     for name, place, outcome in cases:
-        with folder_of({}) as folder:
-            place(folder)
-            wanted = tree(folder)
-            faults = differences(outcome, edit(program, folder))
-            report.check(f"save over {name}", faults + tree_faults(wanted, folder))
+        check_over(report, program, Case(f"save over {name}", ("ktedit", "k"), outcome, stdin=SCRIPT), place)
 
 
 def check_removed(report: Report, program: str) -> None:
@@ -188,8 +183,15 @@ def check_removed(report: Report, program: str) -> None:
                 report.check(f"save over {name} after {deed}", faults + tree_faults(files, folder))
 
 
+def lock_folder(folder: str) -> None:
+    """Lets all write the files of a folder, and none but root make one there."""
+    for each in os.scandir(folder):
+        os.chmod(each, 0o666)
+    os.chmod(folder, 0o555)
+
+
 def check_locked_folder(report: Report, program: str) -> None:
-    """Checks a folder in which no file may be made. What saves nothing needs no right to make one.
+    """Checks a folder in which no file may be made. What saves nothing, or in place, needs no right to make one.
 
     Root may make files in each, so another user runs the program.
     """
@@ -199,16 +201,10 @@ def check_locked_folder(report: Report, program: str) -> None:
         return
     scripts = [ktedit(before, script, name=f"{script[-6:-1]!r} over {before}")
                for before in (OLD, None) for script in (SCRIPT, WALK, b"cut 3\n", WALK + b"cut 2\n")]
-    for case in (*CHANGES[1:], *scripts, *HOLDING_NOTHING, *SAVING_NOTHING):
-        with folder_of(case.files) as folder:
-            for name in case.files:
-                os.chmod(os.path.join(folder, name), 0o666)
-            os.chmod(folder, 0o555)
-            wanted = case.wanted if case.files == case.files_after else unsaved(case)
-            faults = differences(wanted, run_over(program, case, folder, **options))
-            faults += tree_faults(dict(case.files), folder)
-            os.chmod(folder, 0o755)
-        report.check(f"a locked folder: {case.name}", faults)
+    cases = [case if case.files == case.files_after else replace(case, wanted=unsaved(case), files_after=case.files)
+             for case in (*CHANGES[1:], *scripts, *HOLDING_NOTHING, *SAVING_NOTHING)]
+    for case in (*cases, *map(in_place, PLACED)):
+        check_over(report, program, replace(case, name=f"a locked folder: {case.name}"), lock_folder, **options)
 
 
 def check(report: Report, program: str) -> None:

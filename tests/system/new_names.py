@@ -6,6 +6,7 @@ A stale file of a killed run is removed. Anything else stays as it is, and then 
 import os
 from collections.abc import Callable
 from concurrent.futures import ThreadPoolExecutor
+from dataclasses import replace
 
 from makers.images import B, HOST, keytab
 from runs.harness import Case, Outcome, Report, differences, folder_of, message, run
@@ -15,14 +16,17 @@ from system.saving import (
     NEW,
     OLD,
     SAVED,
+    SCRIPT,
     USER,
     WALK,
     as_another,
-    edit,
+    at,
+    check_over,
+    link,
+    renamed,
     run_over,
     stands,
     tree,
-    tree_faults,
     unsaved,
     write,
 )
@@ -135,14 +139,10 @@ def check_stale_files(report: Report, program: str) -> None:
         cases += [("of a user's", {"k": OLD}, owned_by(USER), USER, user),
                   ("of a user's, beside root's file", {"k": OLD}, owned_by(USER), 0, user)]
     for name, files, make, owner, options in cases:
-        with folder_of(files) as folder:
-            for each in files:
-                os.chown(os.path.join(folder, each), owner, -1)
-            make(os.path.join(folder, NEW_FILE))
-            os.chmod(folder, 0o777)
-            faults = differences(SAVED, edit(program, folder, **options))
-            faults += tree_faults({"k": NEW}, folder)
-        report.check(f"what a killed run left, {name}", faults)
+        case = Case(f"what a killed run left, {name}", ADD.words, SAVED, files, {"k": NEW, NEW_FILE: None}, SCRIPT)
+        owners = (at(each, lambda path, owner=owner: os.chown(path, owner, -1)) for each in files)
+        open_to_all = at(".", lambda path: os.chmod(path, 0o777))
+        check_over(report, program, case, *owners, at(NEW_FILE, make), open_to_all, **options)
 
 
 def check_strangers(report: Report, program: str) -> None:
@@ -172,19 +172,13 @@ def check_own_names(report: Report, program: str) -> None:
     """Checks that a file with the name of a new one can be walked over, but not changed, also through a link."""
     for name in (NEW_FILE, ".krbfile", "k.krbfile.krbfile", "./k.krbfile", "link", "dangling"):
         path = "t.krbfile" if name == "link" else os.path.normpath(name)
-        is_there = name != "dangling"
-        with folder_of({path: OLD} if is_there else {}) as folder:
-            os.symlink("t.krbfile", os.path.join(folder, "link"))
-            os.symlink("no.krbfile", os.path.join(folder, "dangling"))
-            wanted = tree(folder)
-            unsaved = message(3, f"{name}: cannot write")
-            faults = differences(unsaved, edit(program, folder, name))
-            talk = f"addent -key -p a@R -k 1 -e 1\n00\nwkt {name}\n".encode()
-            faults += differences(unsaved, run(program, ("ktutil",), folder, talk))
-            if is_there:
-                faults += differences(WALKED, run(program, ("ktedit", name), folder, WALK))
-            faults += tree_faults(wanted, folder)
-        report.check(f"save as {name}, which has a new file's name", faults)
+        files = {} if name == "dangling" else {path: OLD}
+        unsaved, talk = message(3, f"{name}: cannot write"), f"addent -key -p a@R -k 1 -e 1\n00\nwkt {name}\n"
+        rows = [(("ktedit", name), SCRIPT, unsaved), (("ktutil",), talk.encode(), unsaved)]
+        rows += [(("ktedit", name), WALK, WALKED)] if files else []
+        for words, given, wanted in rows:
+            case = Case(f"{given[:6]} as {name}, which has a new file's name", words, wanted, files, stdin=given)
+            check_over(report, program, case, link("link", "t.krbfile"), link("dangling", "no.krbfile"))
 
 
 def check_places(report: Report, program: str) -> None:
@@ -201,23 +195,18 @@ def check_places(report: Report, program: str) -> None:
         ("", message(3, ": cannot write")),
     ]
     for name, outcome in cases:
-        with folder_of({".krbfile": b"other", ".new": b"other"}) as folder:
-            wanted = tree(folder)
-            if outcome == SAVED:
-                wanted[os.path.normpath(name)] = NEW
-            faults = differences(outcome, edit(program, folder, name))
-            report.check(f"save as {name[:20]!r}", faults + tree_faults(wanted, folder))
+        after = {os.path.normpath(name): NEW} if outcome == SAVED else None
+        check_over(report, program, Case(f"save as {name[:20]!r}", ("ktedit", name), outcome,
+                                         {".krbfile": b"other", ".new": b"other"}, after, SCRIPT))
 
 
 def check_no_names(report: Report, program: str) -> None:
     """Checks that files with the name of a new one, or a name too long for a new one, are not changed."""
     for case in CHANGES:
         for name in (f"{case.words[-1]}.krbfile", "x" * 248):
-            with folder_of({name: data for data in case.files.values()}) as folder:
-                wanted = tree(folder)
-                faults = differences(unsaved(case, name), run_over(program, case, folder, name))
-                faults += tree_faults(wanted, folder)
-            report.check(f"{name[:9]} has no new file: {case.name}", faults)
+            one = renamed(case, name)
+            check_over(report, program, replace(one, name=f"{name[:9]} has no new file: {case.name}",
+                                                wanted=unsaved(one), files_after=one.files))
 
 
 def check(report: Report, program: str) -> None:

@@ -3,7 +3,7 @@
 import os
 import stat
 from collections.abc import Callable
-from dataclasses import dataclass
+from dataclasses import dataclass, replace
 
 from makers.images import HOST, keytab
 from makers.usual_caches import USUAL
@@ -42,6 +42,14 @@ SAVING_NOTHING = (ccedit(USUAL, b"cut 3\n", name="is refused"), ccremove(USUAL, 
 def run_over(program: str, case: Case, folder: str, name: str = "", **options: object) -> Outcome:
     """Makes a run of a case over the file of that name, by default the case's."""
     return run(program, (*case.words[:-1], name or case.words[-1]), folder, case.stdin, **options)
+
+
+def renamed(case: Case, name: str) -> Case:
+    """Returns the same run over a file of another name."""
+    last = case.words[-1]
+    files, after = ({name if each == last else each: data for each, data in those.items()}
+                    for those in (case.files, case.files_after))
+    return replace(case, words=(*case.words[:-1], name), files=files, files_after=after)
 
 
 def unsaved(case: Case, name: str = "") -> Outcome:
