@@ -15,23 +15,8 @@ from runs.preload import Line
 from runs.system_calls import Call, calls_of, check_traced, traced
 from runs.terminal import EXPLAIN
 from system.placing import explained
-from system.saving import (
-    GROUP,
-    NEW,
-    OLD,
-    SAVED,
-    SCRIPT,
-    UNREAD,
-    UNSAVED,
-    USER,
-    Owned,
-    Place,
-    edit,
-    owned,
-    tree,
-    tree_faults,
-    write,
-)
+from system.saving import (GROUP, NEW, OLD, SAVED, SCRIPT, UNREAD, UNSAVED, USER, Owned, Place, edit, owned, tree,
+                           tree_faults, write)
 from words.phrases import AFTERMATHS, CAUSES
 
 LINE = Line(("ktedit", "k"), SCRIPT)

@@ -8,32 +8,9 @@ from models.cases import in_place, ktcopy, ktedit
 from models.copy_model import Request
 from runs.harness import Case, Report, differences, folder_of, message, run
 from system.placing import PLACED
-from system.saving import (
-    ADD,
-    CHANGES,
-    GROUP,
-    HOLDING_NOTHING,
-    NEW,
-    OLD,
-    SAVED,
-    SAVING_NOTHING,
-    SCRIPT,
-    UNREAD,
-    UNSAVED,
-    USER,
-    WALK,
-    Owned,
-    Place,
-    as_another,
-    as_user,
-    check_over,
-    owned,
-    run_over,
-    tree,
-    tree_faults,
-    unsaved,
-    write,
-)
+from system.saving import (ADD, CHANGES, GROUP, HOLDING_NOTHING, NEW, OLD, SAVED, SAVING_NOTHING, SCRIPT, UNREAD,
+                           UNSAVED, USER, WALK, Owned, Place, as_another, as_user, check_over, owned, run_over, tree,
+                           tree_faults, unsaved, write)
 
 # Runs that make a file, and copies over a keytab, and over a file of no bytes.
 MADE, COPIED = ktedit(None, SCRIPT, name="adds"), ktcopy(TWO, None, request=Request(), name="adds")

@@ -8,7 +8,6 @@ import os
 import re
 import signal
 from collections.abc import Iterator
-from dataclasses import replace
 
 from makers.images import B, HOST, keytab
 from models.cases import IN_PLACE, in_place, ktedit, ktutil
@@ -21,7 +20,8 @@ from runs.terminal import EXPLAIN
 from system.failing_streams import Ends
 from system.failing_system_calls import (PRINT, READ, Step, calls_of_run, check_failure, held, listed, lock, looked,
                                          needed)
-from system.placing import CUT_OFF, EQUAL, LONGER, MIXED, PLACED, SHORTER, TALK, changed, explained, images, message_of
+from system.placing import (CUT_OFF, EQUAL, LONGER, MIXED, PLACED, SHORTER, TALK, changed, explained, images,
+                            message_of, with_words)
 from system.saving import tree_faults, unsaved, write
 from words.phrases import AFTERMATHS, CAUSES
 
@@ -110,11 +110,6 @@ def run_failing(program: str, case: Case, *options: str) -> tuple[Outcome, dict[
         return outcome, files_in(folder), [call for call in calls_of(trace, "") if call.name in CHANGES]
 
 
-def with_words(case: Case) -> Case:
-    """Returns the same run with words."""
-    return replace(case, words=(EXPLAIN, *case.words))
-
-
 def wanted_backs(case: Case, is_over: bool) -> list[str]:
     """Returns the calls that bring the old bytes back, if some may have been written over or not."""
     before, after = images(case)
@@ -149,8 +144,8 @@ def both_fail(call: Call, back: Call) -> tuple[str, ...]:
 
 
 def check_lost(report: Report, program: str, case: Case, call: Call, back: Call, left: str) -> None:
-    """Lets a call fail, and then one that brings the old bytes back: what that leaves is told, if an old byte may be lost
-    without words too."""
+    """Lets a call fail, and then one that brings the old bytes back: what that leaves is told, if an old byte may be
+    lost without words too."""
     damage = [message_of(case, "damaged")] if left == "damaged" else []
     told = [AFTERMATHS["restored"]] if left == "restored" else damage
     for one, words in ((case, damage), (with_words(case), [CAUSES["EIO"], *told])):
@@ -163,7 +158,7 @@ def check_lost(report: Report, program: str, case: Case, call: Call, back: Call,
 
 
 def left_behind(backs: list[Call], back: Call, is_over: bool) -> str:
-    """Returns what a failing call of those that bring old bytes back leaves: the first two write these back, if any do."""
+    """Returns what a failing call of those that bring old bytes back leaves: the first two write these, if any do."""
     if backs[0].name != "pwrite64" or back not in backs[:2]:
         return ""
     return "damaged" if is_over or back == backs[1] else "restored"

@@ -10,26 +10,8 @@ from dataclasses import replace
 
 from makers.images import B, HOST, keytab
 from runs.harness import Case, Outcome, Report, differences, folder_of, message, run
-from system.saving import (
-    ADD,
-    CHANGES,
-    NEW,
-    OLD,
-    SAVED,
-    SCRIPT,
-    USER,
-    WALK,
-    as_another,
-    at,
-    check_over,
-    link,
-    renamed,
-    run_over,
-    stands,
-    tree,
-    unsaved,
-    write,
-)
+from system.saving import (ADD, CHANGES, NEW, OLD, SAVED, SCRIPT, USER, WALK, as_another, at, check_over, link, renamed,
+                           run_over, stands, tree, unsaved, write)
 
 # Another user who is not root.
 STRANGER = 1234

@@ -14,10 +14,8 @@ from contextlib import ExitStack, contextmanager
 
 from runs.harness import Case, Report, differences, folder_of
 from system.disk_faults import mounted
-from system.saving import (
-    ADD, CHANGES, HOLDING_NOTHING, NEW, OLD, SAVED, SAVING_NOTHING, UNSAVED, edit, run_over, tree, tree_faults,
-    unsaved, write,
-)
+from system.saving import (ADD, CHANGES, HOLDING_NOTHING, NEW, OLD, SAVED, SAVING_NOTHING, UNSAVED, edit, run_over,
+                           tree, tree_faults, unsaved, write)
 
 # More locks than fit in one read of the system's list, and enough of them to make the list slow.
 MANY = 300
