@@ -5,18 +5,19 @@ import os
 import subprocess
 import time
 from concurrent.futures import ThreadPoolExecutor
-from contextlib import ExitStack
-from dataclasses import replace
+from functools import partial
 
 from makers.images import B, HOST, TWO, keytab
+from models.cases import ktcopy
+from models.copy_model import Request
 from runs.harness import Case, Outcome, Report, differences, folder_of, message, run
 from runs.rows import Line, printed, words_of
 from runs.terminal import EXPLAIN
 from system.file_locks import CLASH
 from system.pipe_files import fed
 from system.placing import explained
-from system.saving import Place, at, check_over, faults_over, link, tree_faults
-from system.waits import AT_ONCE
+from system.saving import Place, at, check_over, link, tree_faults
+from system.waits import AT_ONCE, faults_while_held
 from words.phrases import CAUSES
 
 COPY = ("ktcopy", "k", "t")
@@ -87,10 +88,8 @@ def check_pipes(report: Report, program: str) -> None:
 
 def check_streams(report: Report, program: str) -> None:
     """Checks a file as standard input, and that a keytab is saved before an output that fails."""
-    with folder_of({"k": TWO}) as folder:
-        words = ("-c", 'exec "$0" ktcopy /dev/stdin t < k', program)
-        faults = differences(COPIED, run("sh", words, folder)) + tree_faults({"k": TWO, "t": TWO}, folder)
-    report.check("a file as standard input", faults)
+    line = ("-c", 'exec "$0" ktcopy /dev/stdin t < k', program)
+    check_over(report, "sh", copy("a file as standard input", line, {"k": TWO}, after=TWO))
     with open("/dev/full", "wb") as full:
         case = copy("an output that fails", COPY, {"k": TWO}, message(3, "cannot write output"), TWO)
         check_over(report, program, case, stdout=full)
@@ -111,20 +110,12 @@ def check_locks(report: Report, program: str) -> None:
 
 def check_held(report: Report, program: str) -> None:
     """Checks that a keytab that another run holds is not saved, and that a run with nothing to save ends as alone."""
-    files = {"k": TWO, "t": keytab(HOST), "t.krbfile": b"other"}
-    save = copy("a held keytab to copy into: something to save", COPY, files, message(3, "t: cannot write"))
-    cases = [save, *(replace(save, name=f"{name} for a held keytab", words=words, files={**files, "t": target},
-                             wanted=wanted) for name, words, target, wanted in (
-        ("nothing to save", COPY, TWO, Outcome(0)),
-        ("a clash", COPY, CLASH, printed("clash 53 2 kvno 3 etype 17 b@R", status=1)),
-        ("a dry run", ("ktcopy", "-n", "k", "t"), keytab(), COPIED)))]
-    with ExitStack() as stack, ThreadPoolExecutor(len(cases)) as pool:
-        def hold(folder: str) -> None:
-            file = stack.enter_context(open(os.path.join(folder, "t.krbfile"), "rb"))
-            fcntl.flock(file, fcntl.LOCK_EX)
-
-        for case, faults in zip(cases, pool.map(lambda case: faults_over(program, case, hold), cases)):
-            report.check(case.name, faults)
+    rows = ((keytab(HOST), False, "saves"), (TWO, False, "has nothing to save"), (CLASH, False, "clashes"),
+            (keytab(), True, "only prints"))
+    cases = [ktcopy(TWO, target, request=Request(is_dry=is_dry), name=name) for target, is_dry, name in rows]
+    with ThreadPoolExecutor(len(cases)) as pool:
+        for case, faults in zip(cases, pool.map(partial(faults_while_held, program), cases)):
+            report.check(f"a held keytab to copy into: {case.name}", faults)
 
 
 def check(report: Report, program: str) -> None:

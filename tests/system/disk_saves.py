@@ -6,7 +6,7 @@ from dataclasses import replace
 from makers.images import TWO, keytab
 from models.cases import in_place, ktcopy, ktedit
 from models.copy_model import Request
-from runs.harness import Case, Report, differences, folder_of, message, run
+from runs.harness import Case, Report, differences, folder_of, message
 from system.placing import PLACED
 from system.saving import (ADD, CHANGES, GROUP, HOLDING_NOTHING, NEW, OLD, SAVED, SAVING_NOTHING, SCRIPT, UNREAD,
                            UNSAVED, USER, WALK, Owned, Place, as_another, as_user, check_over, owned, run_over, tree,
@@ -154,10 +154,9 @@ def check_removed(report: Report, program: str) -> None:
     for name in ("/dev/fd/7", "/proc/self/fd/7"):
         for deed, files, outcome in cases:
             wanted = outcome if outcome == SAVED else message(3, f"{name}: cannot write")
-            with folder_of({"d": OLD}) as folder:
-                words = ("-c", f'exec 7<d; {deed}; exec "$0" ktedit {name}', program)
-                faults = differences(wanted, run("sh", words, folder, SCRIPT))
-                report.check(f"save over {name} after {deed}", faults + tree_faults(files, folder))
+            words = ("-c", f'exec 7<d; {deed}; exec "$0" ktedit {name}', program)
+            after = {"d": None, **files}
+            check_over(report, "sh", Case(f"save over {name} after {deed}", words, wanted, {"d": OLD}, after, SCRIPT))
 
 
 def lock_folder(folder: str) -> None:

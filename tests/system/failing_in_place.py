@@ -15,14 +15,14 @@ from models.modelled import modelled
 from runs.harness import Case, Outcome, Report, differences, files_in, folder_of, run
 from runs.preload import MOST_CALLS, Line, Preloaded, preloaded
 from runs.rows import shown
-from runs.system_calls import Call, calls_of, check_traced, traced
+from runs.system_calls import Call, calls_of, check_traced, traced, under_strace
 from runs.terminal import EXPLAIN
 from system.failing_streams import Ends
 from system.failing_system_calls import (PRINT, READ, Step, calls_of_run, check_failure, held, listed, lock, looked,
                                          needed)
 from system.placing import (CUT_OFF, EQUAL, LONGER, MIXED, PLACED, SHORTER, TALK, changed, explained, images,
                             message_of, with_words)
-from system.saving import tree_faults, unsaved, write
+from system.saving import check_over, tree_faults, unsaved, write
 from words.phrases import AFTERMATHS, CAUSES
 
 # A write of a part, with its length and place, and a cut, with the length that is left.
@@ -183,12 +183,9 @@ def check_talk(report: Report, program: str) -> None:
     lines = ("k: cannot write", f"line 2: {CAUSES['EIO']}", f"line 2: {AFTERMATHS['restored']}",
              "k.krbfile: cannot write", f"line 3: {CAUSES['name of saves']}", "no: cannot write",
              f"line 4: {CAUSES['no file']}")
-    with folder_of(files) as folder:
-        line = Line((EXPLAIN, "ktutil", IN_PLACE), talk)
-        outcome, _ = traced(program, line, folder, "-e", "inject=pwrite64:error=EIO:when=1")
-        faults = differences(explained(Outcome(3), *lines), outcome)
-        faults += tree_faults(ktutil(TALK, 0, files=files, name="adds").files_after, folder)
-    report.check("a line of ktutil that fails in place", faults)
+    case = Case("a line of ktutil that fails in place", (EXPLAIN, "ktutil", IN_PLACE), explained(Outcome(3), *lines),
+                files, ktutil(TALK, 0, files=files, name="adds").files_after, talk)
+    check_over(report, "strace", under_strace(program, case, "-e", "inject=pwrite64:error=EIO:when=1"))
 
 
 def steps() -> list[Step]:

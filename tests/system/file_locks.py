@@ -16,10 +16,10 @@ from models.removal_model import Selection
 from runs.harness import Case, Report, differences, faults_of, files_in, folder_of, run
 from runs.preload import Line
 from runs.rows import BAD_LINE
-from runs.system_calls import Halt, check_traced, halted, traced
+from runs.system_calls import Halt, check_traced, halted, traced, under_strace
 from runs.terminal import EXPLAIN
-from system.placing import ADD_LONG, EQUAL, LONGER, PLACED, SHORTER, explained
-from system.saving import HOLDING_NOTHING, OLD, SAVING_NOTHING, TGT, WALK, stands, tree_faults, unsaved
+from system.placing import ADD_LONG, EQUAL, LONGER, PLACED, SHORTER, explained, refused, with_words
+from system.saving import HOLDING_NOTHING, OLD, SAVING_NOTHING, TGT, WALK, check_over, stands, tree_faults, unsaved
 from system.waits import AT_ONCE, LEAST_WAIT, LONGEST_WAIT, faults_of_waiting, ofd_lock
 from words.phrases import CAUSES
 
@@ -179,13 +179,9 @@ def check_without(report: Report, program: str) -> None:
     rows = [*((LONGER, error, ":when=2+") for error in ("ENOLCK", "EOPNOTSUPP", "EBADF")),
             *((placed, error, "") for error in ("ENOLCK", "EOPNOTSUPP", "EBADF", "EIO"))]
     for case, error, when in rows:
-        wanted = explained(unsaved(case), CAUSES["ENOLCK"]) if case is placed else case.wanted
-        with folder_of(case.files) as folder:
-            line = Line((EXPLAIN, *case.words), case.stdin)
-            outcome, _ = traced(program, line, folder, "-e", f"inject=flock:error={error}{when}")
-            faults = differences(wanted, outcome)
-            faults += tree_faults(case.files if case is placed else case.files_after, folder)
-        report.check(f"no lock can be had, {error}: {case.name}", faults)
+        one = refused(case, "ENOLCK") if case is placed else with_words(case)
+        one = replace(one, name=f"no lock can be had, {error}: {case.name}")
+        check_over(report, "strace", under_strace(program, one, "-e", f"inject=flock:error={error}{when}"))
 
 
 def check_other_handle(report: Report, program: str) -> None:

@@ -9,9 +9,10 @@ from concurrent.futures import ThreadPoolExecutor
 from dataclasses import replace
 
 from makers.images import B, HOST, keytab
-from runs.harness import Case, Outcome, Report, differences, folder_of, message, run
-from system.saving import (ADD, CHANGES, NEW, OLD, SAVED, SCRIPT, USER, WALK, as_another, at, check_over, link, renamed,
-                           run_over, stands, tree, unsaved, write)
+from models.cases import ktedit, ktutil
+from runs.harness import Case, Outcome, Report, message
+from system.saving import (ADD, CHANGES, NEW, OLD, SAVED, SCRIPT, USER, WALK, as_another, at, check_over, faults_over,
+                           link, renamed, unsaved, write)
 
 # Another user who is not root.
 STRANGER = 1234
@@ -65,22 +66,15 @@ STRANGE: list[tuple[str, Make]] = [
 ]
 
 
-def faults_in_the_way(
-    program: str, make: Make, mode: int, owner: int | None, case: Case = ADD, **options: object
-) -> list[str]:
+def faults_in_the_way(program: str, make: Make, mode: int, owner: int | None, case: Case = ADD, **options) -> list[str]:
     """Returns the faults of a run with something in place of its new file, in a folder of that mode."""
-    with folder_of({"other": b"other"}) as folder:
-        path = os.path.join(folder, case.words[-1])
-        if owner is not None:
-            write(path, *case.files.values())
-            os.chown(path, owner, -1)
-        make(f"{path}.krbfile")
-        os.chmod(folder, mode)
-        wanted = stands(folder)
-        faults = differences(unsaved(case), run_over(program, case, folder, **options))
-        if stands(folder) != wanted:
-            faults.append(f"{tree(folder)} are there, or are not as they were")
-        return faults
+    files = {"other": b"other"}
+    places = [at(f"{case.words[-1]}.krbfile", make), at(".", lambda path: os.chmod(path, mode))]
+    if owner is not None:
+        files |= case.files
+        places.insert(0, at(case.words[-1], lambda path: os.chown(path, owner, -1)))
+    case = replace(case, wanted=unsaved(case), files=files, files_after=None)
+    return faults_over(program, case, *places, **options)
 
 
 def check_strange(report: Report, program: str) -> None:
@@ -129,7 +123,8 @@ def check_stale_files(report: Report, program: str) -> None:
 
 def check_strangers(report: Report, program: str) -> None:
     """Checks that a stranger's `k.new` stays as it is."""
-    runs = [(("ktedit", "k"), b"cut 2\n"), (("ktutil",), b"rkt k.new\nwkt k\n")]
+    files = {"k": keytab(HOST), "k.new": keytab(B)}
+    runs = (ktedit(files["k"], b"cut 2\n"), ktutil(b"rkt k.new\nwkt k\n", 0, files=files))
     makes: list[tuple[str, Make]] = [
         ("a keytab", lambda path: write(path, keytab(B))),
         ("a keytab that may not be written", lambda path: write(path, keytab(B), 0o400)),
@@ -137,17 +132,10 @@ def check_strangers(report: Report, program: str) -> None:
         ("another name", lambda path: os.link(beside(path, "other"), path)),
     ]
     for what, make in makes:
-        for words, text in runs:
-            with folder_of({"k": keytab(HOST), "other": keytab(B)}) as folder:
-                make(os.path.join(folder, "k.new"))
-                wanted = stands(folder)
-                got = run(program, words, folder, text)
-                found = stands(folder)
-            faults = [] if got.status == 0 else [f"{got}"]
-            if found.pop("k") == wanted.pop("k"):
-                faults.append("the file is as before")
-            faults += [] if found == wanted else [f"{[*found]} are there, or are not as they were"]
-            report.check(f"{what} as k.new: {' '.join(words)}", faults)
+        for case in runs:
+            case = replace(case, name=f"{what} as k.new: {case.name}", files={"k": files["k"], "other": files["k.new"]},
+                           files_after={"k": case.files_after["k"]})
+            check_over(report, program, case, at("k.new", make))
 
 
 def check_own_names(report: Report, program: str) -> None:

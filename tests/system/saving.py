@@ -58,12 +58,16 @@ def unsaved(case: Case, name: str = "") -> Outcome:
 
 
 def faults_over(program: str, case: Case, *places: Place, **options: object) -> list[str]:
-    """Returns the faults of a case in a folder where more is made before: what it does not change stays as it is."""
+    """Returns the faults of a case in a folder where more is made before: what it does not change stays as it was."""
     with folder_of(case.files) as folder:
         for place in places:
             place(folder)
+        before = stands(folder)
         wanted = {**tree(folder), **(case.files_after or {})}
         faults = differences(case.wanted, run(program, case.words, folder, case.stdin, **options))
+        after = stands(folder)
+        faults += [f"{name} is not as it was" for name, own in before.items()
+                   if own[0] == wanted[name] != "d" and own != after.get(name)]
         return faults + tree_faults(wanted, folder)
 
 
@@ -82,9 +86,7 @@ def link(name: str, text: str) -> Place:
     return at(name, lambda path: os.symlink(text, path))
 
 
-def edit(
-    program: str, folder: str, name: str = "k", script: bytes = SCRIPT, **options: object
-) -> Outcome:
+def edit(program: str, folder: str, name: str = "k", script: bytes = SCRIPT, **options: object) -> Outcome:
     """Makes a run of a script, by default one that adds an entry, over the file of that name."""
     return run(program, ("ktedit", name), folder, script, **options)
 
