@@ -1,4 +1,5 @@
-"""Files that can be saved in place only, as none can be made beside them or take their name, and long names."""
+"""Files that can be saved in place only, as none can be made beside them or take their name, disks that are full or
+read-only, and long names."""
 
 import os
 import resource
