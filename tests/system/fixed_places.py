@@ -72,24 +72,29 @@ WALK_OVER, MAKE = ktedit(OLD, b"start\n", name="walks"), renamed(ktedit(None, SC
 READ_ONLY = (*(refused(case, "EROFS") for case in (ADD, in_place(ADD), MAKE)), WALK_OVER, in_place(WALK_OVER))
 
 
+def check_on_disk(report: Report, program: str, what: str, case: Case, is_read_only: bool) -> bool:
+    """Checks a row on a disk of its own, and returns whether one can be mounted."""
+    size = f"size={4 * (len(case.files) + is_read_only)}k"
+    with folder_of({}) as folder, mounted(folder, "-t", "tmpfs", "-o", size, "krbfile") as is_mounted:
+        if not is_mounted:
+            report.skip(what, "none can be mounted")
+            return False
+        for name, data in case.files.items():
+            write(os.path.join(folder, name), data)
+        before = [kept(os.path.join(folder, name)) for name in case.files]
+        if is_read_only:
+            subprocess.run(["mount", "-o", "remount,ro", folder], check=True)
+        faults = differences(case.wanted, run(program, case.words, folder, case.stdin))
+        faults += [] if [kept(os.path.join(folder, name)) for name in case.files] == before else ["not kept"]
+        faults += tree_faults(case.files if case.files_after is None else case.files_after, folder)
+    report.check(f"{what}: {case.name}", faults)
+    return True
+
+
 def check_disks(report: Report, program: str) -> None:
-    """Checks each of those rows on a disk of its own."""
-    for case in (*FULL_DISKS, *READ_ONLY):
-        what = "a disk that is read-only" if case in READ_ONLY else "a full disk"
-        size = f"size={4 * (len(case.files) + (case in READ_ONLY))}k"
-        with folder_of({}) as folder, mounted(folder, "-t", "tmpfs", "-o", size, "krbfile") as is_mounted:
-            if not is_mounted:
-                report.skip(what, "none can be mounted")
-                continue
-            for name, data in case.files.items():
-                write(os.path.join(folder, name), data)
-            before = [kept(os.path.join(folder, name)) for name in case.files]
-            if case in READ_ONLY:
-                subprocess.run(["mount", "-o", "remount,ro", folder], check=True)
-            faults = differences(case.wanted, run(program, case.words, folder, case.stdin))
-            faults += [] if [kept(os.path.join(folder, name)) for name in case.files] == before else ["not kept"]
-            faults += tree_faults(case.files if case.files_after is None else case.files_after, folder)
-        report.check(f"{what}: {case.name}", faults)
+    """Checks each of those rows, unless no such disk can be mounted."""
+    all(check_on_disk(report, program, "a full disk", case, False) for case in FULL_DISKS)
+    all(check_on_disk(report, program, "a disk that is read-only", case, True) for case in READ_ONLY)
 
 
 def check_limit(report: Report, program: str) -> None:
