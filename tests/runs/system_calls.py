@@ -9,9 +9,9 @@ import tempfile
 import time
 from collections import Counter
 from collections.abc import Callable, Iterator
-from dataclasses import dataclass
+from dataclasses import dataclass, replace
 
-from runs.harness import SECONDS, Outcome, Report, run
+from runs.harness import SECONDS, Case, Outcome, Report, run
 from runs.preload import Line
 
 # A line of a trace that begins a system call.
@@ -48,6 +48,12 @@ def traced(program: str, line: Line, folder: str, *options: str) -> tuple[Outcom
                  *line.words)
         outcome = run("strace", words, folder, line.stdin)
         return outcome, trace.read().splitlines()
+
+
+def under_strace(program: str, case: Case, *options: str) -> Case:
+    """Returns the run of strace, with those options, that makes that run."""
+    words = ("-o", os.devnull, "-e", "quiet=all", "-e", f"trace={CALLS}", *options, program, *case.words)
+    return replace(case, words=words)
 
 
 def calls_of(lines: list[str], first: str) -> Iterator[Call]:

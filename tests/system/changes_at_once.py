@@ -6,6 +6,7 @@ What each reports as saved is there afterwards, and readers meanwhile see a whol
 import os
 import tempfile
 import threading
+from dataclasses import dataclass
 from functools import partial
 from random import Random
 
@@ -16,7 +17,7 @@ from runs.harness import Report, folder_of, run
 from runs.random_runs import Rounds
 from runs.storms import Run, rage
 from system.saving import tree, write
-from system.storm_kinds import KINDS, MANY, Kind, change, removes
+from system.storm_kinds import COPIES, KINDS, MANY, PLACES, Kind, change, removes
 
 # The names by which the runs call the file, and the contents of the folder at the end.
 PATHS = ("k", "./k", "link")
@@ -138,5 +139,14 @@ def check_kinds(kinds: tuple[Kind, ...], report: Report, program: str, seeds: ra
                 report.check(f"{kind}, round {seed}", storm(program, kind, seed).found[:3])
 
 
-TOPIC = Rounds(partial(check_kinds, KINDS), usual=2, share=2_000)
-check, check_long = TOPIC.check, TOPIC.check_long
+@dataclass(frozen=True)
+class Storms(Rounds):
+    """Storms of some kinds, under a name."""
+
+    name: str = ""
+
+
+# Storms of one command or two; of ktcopy, also beside ktedit, ktremove and MIT's ktutil; and those in which some runs
+# save in place and others replace the file, and some of those that replace it are killed.
+TOPICS = tuple(Storms(partial(check_kinds, kinds), usual=usual, share=2_000, name=f"{what}_at_once")
+               for what, kinds, usual in (("changes", KINDS, 2), ("copies", COPIES, 2), ("places", PLACES, 1)))

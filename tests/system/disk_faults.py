@@ -10,28 +10,13 @@ from contextlib import contextmanager
 
 from clients.python_failures import FAILED
 from models.cases import IN_PLACE
-from runs.harness import Outcome, Report, differences, folder_of, message, run
+from runs.harness import Case, Outcome, Report, differences, folder_of, message
 from runs.preload import Line
-from runs.system_calls import Call, calls_of, check_traced, traced
+from runs.system_calls import Call, calls_of, check_traced, traced, under_strace
 from runs.terminal import EXPLAIN
 from system.placing import explained
-from system.saving import (
-    GROUP,
-    NEW,
-    OLD,
-    SAVED,
-    SCRIPT,
-    UNREAD,
-    UNSAVED,
-    USER,
-    Owned,
-    Place,
-    edit,
-    owned,
-    tree,
-    tree_faults,
-    write,
-)
+from system.saving import (GROUP, NEW, OLD, SAVED, SCRIPT, UNREAD, UNSAVED, USER, Owned, Place, at, check_over, edit,
+                           owned, tree, tree_faults, write)
 from words.phrases import AFTERMATHS, CAUSES
 
 LINE = Line(("ktedit", "k"), SCRIPT)
@@ -139,17 +124,13 @@ def check_kills(report: Report, program: str) -> None:
 
 def check_causes(report: Report, program: str) -> None:
     """Checks the cause that is reported for each error: the first call of that name fails with it."""
-    line = Line((EXPLAIN, *LINE.words), SCRIPT)
     calls = calls_of_run(program, alone)
     for name, errors in FAILED.items():
         call = next(call for call in calls if re.match(TRACES.get(name, name), call.line))
         for error, phrase in errors.items():
-            with folder_of({}) as folder:
-                alone(folder)
-                outcome, _ = traced(program, line, folder, *call.to(f"error={error}"))
-                faults = differences(explained(UNSAVED, phrase) if phrase else SAVED, outcome)
-                faults += tree_faults({"k": OLD if phrase else NEW}, folder)
-            report.check(f"{name} fails with {error}", faults)
+            case = Case(f"{name} fails with {error}", (EXPLAIN, *LINE.words),
+                        explained(UNSAVED, phrase) if phrase else SAVED, {}, None if phrase else {"k": NEW}, SCRIPT)
+            check_over(report, "strace", under_strace(program, case, *call.to(f"error={error}")), alone)
 
 
 def check_missing(report: Report, program: str) -> None:
@@ -172,46 +153,6 @@ def mounted(folder: str, *words: str) -> Iterator[bool]:
     finally:
         if mount.returncode == 0:
             subprocess.run(["umount", folder], check=True)
-
-
-def check_full_disk(report: Report, program: str) -> None:
-    """Checks a disk that has room for the old file and for another's `k.new`, which both stay."""
-    talk = b"rkt k.new\nwkt k\n"
-    for files, size in (({"k": OLD}, 4), ({"k": OLD, "k.new": NEW}, 8)):
-        with folder_of({}) as folder, mounted(
-            folder, "-t", "tmpfs", "-o", f"size={size}k", "krbfile"
-        ) as is_mounted:
-            for name, data in files.items():
-                write(os.path.join(folder, name), data)
-            faults = differences(UNSAVED, edit(program, folder))
-            if "k.new" in files:
-                faults += differences(UNSAVED, run(program, ("ktutil",), folder, talk))
-            faults += tree_faults(dict(files), folder)
-        if is_mounted:
-            report.check(f"a full disk with {len(files)} files", faults)
-        else:
-            report.skip("a full disk", "none can be mounted")
-
-
-def check_fixed(report: Report, program: str) -> None:
-    """Checks that a file that is mounted over itself is not replaced, nor any on a read-only disk."""
-    with folder_of({"k": OLD}) as folder:
-        path = os.path.join(folder, "k")
-        with mounted(path, "--bind", path) as is_mounted:
-            faults = differences(UNSAVED, edit(program, folder)) + tree_faults({"k": OLD}, folder)
-        if not is_mounted:
-            report.skip("files that are mounted", "none can be")
-            return
-    report.check("a file that is mounted", faults)
-    with folder_of({}) as folder, mounted(folder, "-t", "tmpfs", "krbfile"):
-        write(os.path.join(folder, "k"), OLD)
-        subprocess.run(["mount", "-o", "remount,ro", folder], check=True)
-        faults = differences(UNSAVED, edit(program, folder))
-        faults += differences(message(3, "n: cannot write"), edit(program, folder, "n"))
-        faults += differences(Outcome(0, b"walk 0 at 2\n"),
-                              run(program, ("ktedit", "k"), folder, b"start\n"))
-        faults += tree_faults({"k": OLD}, folder)
-    report.check("a disk that is read-only", faults)
 
 
 def check_owner(report: Report, program: str) -> None:
@@ -241,32 +182,25 @@ def check_lock(report: Report, program: str) -> None:
     for error in ("EOPNOTSUPP", "ENOSYS", "ENOLCK", "EIO"):
         for left in ({}, {"k.krbfile": b"left"}):
             is_saved = error in ("EOPNOTSUPP", "ENOSYS") and not left
-            with folder_of({"k": OLD, **left}) as folder:
-                outcome, _ = traced(program, LINE, folder, "-e", f"inject=flock:error={error}")
-                faults = differences(SAVED if is_saved else UNSAVED, outcome)
-                faults += tree_faults({"k": NEW if is_saved else OLD, **left}, folder)
-            report.check(f"no lock can be taken: {error}, {len(left)} new files", faults)
+            case = Case(f"no lock can be taken: {error}, {len(left)} new files", LINE.words,
+                        SAVED if is_saved else UNSAVED, {"k": OLD, **left}, {"k": NEW} if is_saved else None, SCRIPT)
+            check_over(report, "strace", under_strace(program, case, "-e", f"inject=flock:error={error}"))
 
 
 def check_no_proc(report: Report, program: str) -> None:
     """Checks that a save works without /proc, but then accepts a stale file of the file's own owner only."""
     fail = "inject=?openat,?open,?statx,?newfstatat,?stat:error=ENOENT"
-    left = {"k.krbfile": b"left"}
-    cases = [("/proc/locks", {}, os.geteuid(), SAVED), ("/proc/self", left, os.geteuid(), SAVED),
-             ("/proc/self", left, USER, UNSAVED)]
-    for path, left, owner, wanted in cases if os.geteuid() == 0 else cases[:-1]:
-        with folder_of({"k": OLD, **left}) as folder:
-            if owner is not None:
-                os.chown(os.path.join(folder, "k"), owner, -1)
-            outcome, _ = traced(program, LINE, folder, "-P", path, "-e", fail)
-            faults = differences(wanted, outcome)
-            faults += tree_faults({"k": NEW} if wanted == SAVED else {"k": OLD, **left}, folder)
-        report.check(f"{path} cannot be reached, the file is of {owner}", faults)
+    left, after, me = {"k.krbfile": b"left"}, {"k": NEW, "k.krbfile": None}, os.geteuid()
+    rows = [("/proc/locks", {}, me, SAVED, after), ("/proc/self", left, me, SAVED, after),
+            ("/proc/self", left, USER, UNSAVED, None)]
+    for path, left, owner, wanted, after in rows if me == 0 else rows[:-1]:
+        case = Case(f"{path} cannot be reached, the file is of {owner}", LINE.words, wanted, {"k": OLD, **left}, after,
+                    SCRIPT)
+        check_over(report, "strace", under_strace(program, case, "-P", path, "-e", fail),
+                   at("k", lambda path, owner=owner: os.chown(path, owner, -1)))
 
 
 def check(report: Report, program: str) -> None:
     """Runs this topic."""
     check_traced(report, program, "system calls that fail",
                  check_both_ways, check_kills, check_causes, check_missing, check_owner, check_lock, check_no_proc)
-    check_full_disk(report, program)
-    check_fixed(report, program)

@@ -1,35 +1,20 @@
 """What a save leaves on the disk: the new file's mode, owner and group, links, and nothing else."""
 
 import os
+from dataclasses import replace
 
-from models.cases import ktedit
-from runs.harness import Case, Report, differences, folder_of, message, run
-from system.saving import (
-    ADD,
-    CHANGES,
-    GROUP,
-    HOLDING_NOTHING,
-    NEW,
-    OLD,
-    SAVED,
-    SAVING_NOTHING,
-    SCRIPT,
-    UNREAD,
-    UNSAVED,
-    USER,
-    WALK,
-    Owned,
-    Place,
-    as_another,
-    as_user,
-    edit,
-    owned,
-    run_over,
-    tree,
-    tree_faults,
-    unsaved,
-    write,
-)
+from makers.images import TWO, keytab
+from models.cases import in_place, ktcopy, ktedit
+from models.copy_model import Request
+from runs.harness import Case, Report, differences, folder_of, message
+from system.placing import PLACED
+from system.saving import (ADD, CHANGES, GROUP, HOLDING_NOTHING, NEW, OLD, SAVED, SAVING_NOTHING, SCRIPT, UNREAD,
+                           UNSAVED, USER, WALK, Owned, Place, as_another, as_user, check_over, owned, run_over, tree,
+                           tree_faults, unsaved, write)
+
+# Runs that make a file, and copies over a keytab, and over a file of no bytes.
+MADE, COPIED = ktedit(None, SCRIPT, name="adds"), ktcopy(TWO, None, request=Request(), name="adds")
+COPIES = tuple(ktcopy(TWO, target, request=Request(), name=f"into {len(target)} bytes") for target in (keytab(), b""))
 
 # Modes of files that are replaced by their owner.
 MODES = (0o400, 0o600, 0o640, 0o664, 0o604, 0o6755)
@@ -49,34 +34,34 @@ def check_owned(report: Report, name: str, program: str, old: Owned, new: Owned,
     report.check(f"{name}, mode {old.mode:o}: {case.name}", faults)
 
 
-def check_new_files(report: Report, program: str) -> None:
+def check_new_files(report: Report, program: str, cases: tuple[Case, ...] = (MADE,)) -> None:
     """Checks that a new file is readable by its owner only, whatever the umask."""
-    for umask in (0, 0o022, 0o077, 0o777):
-        with folder_of({}) as folder:
-            faults = differences(SAVED, edit(program, folder, umask=umask))
-            faults += tree_faults({"k": NEW}, folder)
-            mode = owned(os.path.join(folder, "k")).mode
-            if mode != 0o600:
-                faults.append(f"mode {mode:o}")
-        report.check(f"a new file under the umask {umask:o}", faults)
+    for case in cases:
+        for umask in (0, 0o022, 0o077, 0o777):
+            with folder_of(case.files) as folder:
+                faults = differences(case.wanted, run_over(program, case, folder, umask=umask))
+                faults += tree_faults(case.files_after, folder)
+                mode = owned(os.path.join(folder, case.words[-1])).mode
+            faults += [] if mode == 0o600 else [f"mode {mode:o}"]
+            report.check(f"a new file under the umask {umask:o}: {case.name}", faults)
 
 
-def check_own_files(report: Report, program: str) -> None:
+def check_own_files(report: Report, program: str, cases: tuple[Case, ...] = CHANGES) -> None:
     """Checks that an owner who is in a file's group saves it with its mode."""
-    for case in CHANGES:
+    for case in cases:
         for mode in MODES:
             here = Owned(mode, os.geteuid(), os.getegid())
             check_owned(report, "an own file", program, here, here, case, umask=0o077)
 
 
-def check_others_files(report: Report, program: str) -> None:
+def check_others_files(report: Report, program: str, cases: tuple[Case, ...] = CHANGES) -> None:
     """Checks that root keeps owner and group, and that others give no user more rights than the old file did."""
     if os.geteuid() != 0 or as_another(program) is None:
         report.skip("files of others", "none but root may make them, or start the program")
         return
     for mode in MODES:
         theirs = Owned(mode, USER, GROUP)
-        for case in CHANGES:
+        for case in cases:
             check_owned(report, "a user's file saved by root", program, theirs, theirs, case)
         inside = as_user((GROUP,))
         check_owned(report, "a user's file in one of its groups", program, theirs, theirs, **inside)
@@ -127,23 +112,20 @@ def check_links(report: Report, program: str) -> None:
         ("a chain of 40 links", links_to(*long_chain(40))),
     ]
     for name, place in cases:
-        with folder_of({}) as folder:
-            place(folder)
-            wanted = {**tree(folder), "t/k": NEW}
-            faults = differences(SAVED, edit(program, folder))
-            report.check(f"save over {name}", faults + tree_faults(wanted, folder))
+        case = Case(f"save over {name}", ("ktedit", "k"), SAVED, files_after={"t/k": NEW}, stdin=SCRIPT)
+        check_over(report, program, case, place)
 
 
-def check_hard_links(report: Report, program: str) -> None:
+def check_hard_links(report: Report, program: str, cases: tuple[Case, ...] = CHANGES) -> None:
     """Checks that a link is followed, a hard link is broken, a stale file is removed, and all else stays."""
-    for case in CHANGES:
-        (name, before), (after,) = *case.files.items(), case.files_after.values()
-        with folder_of({"file": before, "file.krbfile": b"left", "file.new": b"strange"}) as folder:
+    for case in cases:
+        name = case.words[-1]
+        others = {each: data for each, data in case.files.items() if each != name}
+        with folder_of({**others, "file": case.files[name], "file.krbfile": b"left", "file.new": b"new"}) as folder:
             os.symlink("file", os.path.join(folder, name))
             os.link(os.path.join(folder, "file"), os.path.join(folder, "other"))
-            faults = differences(case.wanted, run_over(program, case, folder))
-            wanted = {name: "file", "file": after, "other": before, "file.new": b"strange"}
-            faults += tree_faults(wanted, folder)
+            wanted = {**tree(folder), "file": case.files_after[name], "file.krbfile": None}
+            faults = differences(case.wanted, run_over(program, case, folder)) + tree_faults(wanted, folder)
         report.check(f"a file of two names behind a link: {case.name}", faults)
 
 
@@ -156,11 +138,7 @@ def check_broken_links(report: Report, program: str) -> None:
         ("a chain of 41 links", links_to(*long_chain(41)), UNREAD),
     ]
     for name, place, outcome in cases:
-        with folder_of({}) as folder:
-            place(folder)
-            wanted = tree(folder)
-            faults = differences(outcome, edit(program, folder))
-            report.check(f"save over {name}", faults + tree_faults(wanted, folder))
+        check_over(report, program, Case(f"save over {name}", ("ktedit", "k"), outcome, stdin=SCRIPT), place)
 
 
 def check_removed(report: Report, program: str) -> None:
@@ -176,14 +154,20 @@ def check_removed(report: Report, program: str) -> None:
     for name in ("/dev/fd/7", "/proc/self/fd/7"):
         for deed, files, outcome in cases:
             wanted = outcome if outcome == SAVED else message(3, f"{name}: cannot write")
-            with folder_of({"d": OLD}) as folder:
-                words = ("-c", f'exec 7<d; {deed}; exec "$0" ktedit {name}', program)
-                faults = differences(wanted, run("sh", words, folder, SCRIPT))
-                report.check(f"save over {name} after {deed}", faults + tree_faults(files, folder))
+            words = ("-c", f'exec 7<d; {deed}; exec "$0" ktedit {name}', program)
+            after = {"d": None, **files}
+            check_over(report, "sh", Case(f"save over {name} after {deed}", words, wanted, {"d": OLD}, after, SCRIPT))
+
+
+def lock_folder(folder: str) -> None:
+    """Lets all write the files of a folder, and none but root make one there."""
+    for each in os.scandir(folder):
+        os.chmod(each, 0o666)
+    os.chmod(folder, 0o555)
 
 
 def check_locked_folder(report: Report, program: str) -> None:
-    """Checks a folder in which no file may be made. What saves nothing needs no right to make one.
+    """Checks a folder in which no file may be made. What saves nothing, or in place, needs no right to make one.
 
     Root may make files in each, so another user runs the program.
     """
@@ -193,25 +177,16 @@ def check_locked_folder(report: Report, program: str) -> None:
         return
     scripts = [ktedit(before, script, name=f"{script[-6:-1]!r} over {before}")
                for before in (OLD, None) for script in (SCRIPT, WALK, b"cut 3\n", WALK + b"cut 2\n")]
-    for case in (*CHANGES[1:], *scripts, *HOLDING_NOTHING, *SAVING_NOTHING):
-        with folder_of(case.files) as folder:
-            for name in case.files:
-                os.chmod(os.path.join(folder, name), 0o666)
-            os.chmod(folder, 0o555)
-            wanted = case.wanted if case.files == case.files_after else unsaved(case)
-            faults = differences(wanted, run_over(program, case, folder, **options))
-            faults += tree_faults(dict(case.files), folder)
-            os.chmod(folder, 0o755)
-        report.check(f"a locked folder: {case.name}", faults)
+    cases = [case if case.files == case.files_after else replace(case, wanted=unsaved(case), files_after=case.files)
+             for case in (*CHANGES[1:], *scripts, *HOLDING_NOTHING, *SAVING_NOTHING)]
+    for case in (*cases, *map(in_place, PLACED)):
+        check_over(report, program, replace(case, name=f"a locked folder: {case.name}"), lock_folder, **options)
 
 
 def check(report: Report, program: str) -> None:
     """Runs this topic."""
-    check_new_files(report, program)
-    check_own_files(report, program)
-    check_others_files(report, program)
-    check_links(report, program)
-    check_hard_links(report, program)
-    check_broken_links(report, program)
-    check_removed(report, program)
-    check_locked_folder(report, program)
+    check_new_files(report, program, (MADE, COPIED))
+    for each in (check_own_files, check_others_files, check_hard_links):
+        each(report, program, (*CHANGES, *COPIES))
+    for each in (check_links, check_broken_links, check_removed, check_locked_folder):
+        each(report, program)

@@ -8,7 +8,6 @@ import os
 import re
 import signal
 from collections.abc import Iterator
-from dataclasses import replace
 
 from makers.images import B, HOST, keytab
 from models.cases import IN_PLACE, in_place, ktedit, ktutil
@@ -16,13 +15,14 @@ from models.modelled import modelled
 from runs.harness import Case, Outcome, Report, differences, files_in, folder_of, run
 from runs.preload import MOST_CALLS, Line, Preloaded, preloaded
 from runs.rows import shown
-from runs.system_calls import Call, calls_of, check_traced, traced
+from runs.system_calls import Call, calls_of, check_traced, traced, under_strace
 from runs.terminal import EXPLAIN
 from system.failing_streams import Ends
 from system.failing_system_calls import (PRINT, READ, Step, calls_of_run, check_failure, held, listed, lock, looked,
                                          needed)
-from system.placing import CUT_OFF, EQUAL, LONGER, MIXED, PLACED, SHORTER, TALK, changed, explained, images, message_of
-from system.saving import tree_faults, unsaved, write
+from system.placing import (CUT_OFF, EQUAL, LONGER, MIXED, PLACED, SHORTER, TALK, changed, explained, images,
+                            message_of, with_words)
+from system.saving import check_over, tree_faults, unsaved, write
 from words.phrases import AFTERMATHS, CAUSES
 
 # A write of a part, with its length and place, and a cut, with the length that is left.
@@ -110,11 +110,6 @@ def run_failing(program: str, case: Case, *options: str) -> tuple[Outcome, dict[
         return outcome, files_in(folder), [call for call in calls_of(trace, "") if call.name in CHANGES]
 
 
-def with_words(case: Case) -> Case:
-    """Returns the same run with words."""
-    return replace(case, words=(EXPLAIN, *case.words))
-
-
 def wanted_backs(case: Case, is_over: bool) -> list[str]:
     """Returns the calls that bring the old bytes back, if some may have been written over or not."""
     before, after = images(case)
@@ -149,8 +144,8 @@ def both_fail(call: Call, back: Call) -> tuple[str, ...]:
 
 
 def check_lost(report: Report, program: str, case: Case, call: Call, back: Call, left: str) -> None:
-    """Lets a call fail, and then one that brings the old bytes back: what that leaves is told, if an old byte may be lost
-    without words too."""
+    """Lets a call fail, and then one that brings the old bytes back: what that leaves is told, if an old byte may be
+    lost without words too."""
     damage = [message_of(case, "damaged")] if left == "damaged" else []
     told = [AFTERMATHS["restored"]] if left == "restored" else damage
     for one, words in ((case, damage), (with_words(case), [CAUSES["EIO"], *told])):
@@ -163,7 +158,7 @@ def check_lost(report: Report, program: str, case: Case, call: Call, back: Call,
 
 
 def left_behind(backs: list[Call], back: Call, is_over: bool) -> str:
-    """Returns what a failing call of those that bring old bytes back leaves: the first two write these back, if any do."""
+    """Returns what a failing call of those that bring old bytes back leaves: the first two write these, if any do."""
     if backs[0].name != "pwrite64" or back not in backs[:2]:
         return ""
     return "damaged" if is_over or back == backs[1] else "restored"
@@ -188,12 +183,9 @@ def check_talk(report: Report, program: str) -> None:
     lines = ("k: cannot write", f"line 2: {CAUSES['EIO']}", f"line 2: {AFTERMATHS['restored']}",
              "k.krbfile: cannot write", f"line 3: {CAUSES['name of saves']}", "no: cannot write",
              f"line 4: {CAUSES['no file']}")
-    with folder_of(files) as folder:
-        line = Line((EXPLAIN, "ktutil", IN_PLACE), talk)
-        outcome, _ = traced(program, line, folder, "-e", "inject=pwrite64:error=EIO:when=1")
-        faults = differences(explained(Outcome(3), *lines), outcome)
-        faults += tree_faults(ktutil(TALK, 0, files=files, name="adds").files_after, folder)
-    report.check("a line of ktutil that fails in place", faults)
+    case = Case("a line of ktutil that fails in place", (EXPLAIN, "ktutil", IN_PLACE), explained(Outcome(3), *lines),
+                files, ktutil(TALK, 0, files=files, name="adds").files_after, talk)
+    check_over(report, "strace", under_strace(program, case, "-e", "inject=pwrite64:error=EIO:when=1"))
 
 
 def steps() -> list[Step]:

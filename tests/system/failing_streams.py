@@ -158,7 +158,7 @@ def ends_in_output(run: Modelled, got: Counted) -> bool:
 def faults_of_call(
     over: Preloaded, ends: Ends, setting: str, nth: int, most: int, error: int
 ) -> tuple[list[str], bool, bool]:
-    """Returns the faults of a run in which that call fails, whether the call was made, and whether it changed nothing."""
+    """Returns the faults of a run where that call fails, whether it was made, and whether the run changed nothing."""
     run = ends.run
     settings = {setting: nth, "MOST": most, "ERROR": error}
     got = over.run(Line(run.case.words, run.case.stdin), CLOCK=NOW, **settings)

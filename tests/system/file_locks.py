@@ -9,36 +9,50 @@ from dataclasses import replace
 
 from makers.images import B, HOST, TWO, keytab
 from makers.usual_caches import USUAL
-from models.cases import (ccedit, ccremove, in_place, klist, klist_cache, klist_json, ktcheck, ktcopy, ktedit, ktfind,
-                          ktremove, ktutil)
+from models.cases import (ccedit, ccremove, in_place, klist, klist_cache, klist_cache_json, klist_json, ktcheck, ktcopy,
+                          ktedit, ktfind, ktremove, ktutil)
 from models.copy_model import Request
 from models.removal_model import Selection
 from runs.harness import Case, Report, differences, faults_of, files_in, folder_of, run
 from runs.preload import Line
-from runs.system_calls import Halt, check_traced, halted, traced
+from runs.rows import BAD_LINE
+from runs.system_calls import Halt, check_traced, halted, traced, under_strace
 from runs.terminal import EXPLAIN
-from system.placing import ADD_LONG, EQUAL, LONGER, PLACED, SHORTER, explained
-from system.saving import HOLDING_NOTHING, SAVING_NOTHING, TGT, tree_faults, unsaved
+from system.placing import ADD_LONG, EQUAL, LONGER, PLACED, SHORTER, explained, refused, with_words
+from system.saving import HOLDING_NOTHING, OLD, SAVING_NOTHING, TGT, WALK, check_over, stands, tree_faults, unsaved
 from system.waits import AT_ONCE, LEAST_WAIT, LONGEST_WAIT, faults_of_waiting, ofd_lock
 from words.phrases import CAUSES
 
 # A run of each command that changes a file, in both ways.
 BOTH_WAYS = [way for case in PLACED[-6:] for way in (case, in_place(case))]
 
-# Runs that take no lock: those that list, dry runs, and a line of ktutil that reads.
+# A keytab that clashes with one of both, and scripts that can change nothing.
+CLASH = keytab(replace(B, key=b"other"))
+SCRIPTS = (b"", b"# none\n", WALK, b"resume 2\n", b"start\nfrob\n")
+
+# Runs that take no lock: those that list, such scripts, dry runs, copies of nothing, and lines of ktutil that read.
 LOCKING_NOTHING = (
-    klist(TWO), klist_json(TWO), klist_cache(USUAL), ktcheck(TWO), ktfind(TWO, name=(b"b", b"R")), *HOLDING_NOTHING,
+    klist(TWO), klist_json(TWO), klist_cache(USUAL), klist_cache_json(USUAL), ktcheck(TWO),
+    ktfind(TWO, name=(b"b", b"R")), *(ktedit(OLD, script, name=f"{script}") for script in SCRIPTS), *HOLDING_NOTHING,
+    ktcopy(TWO, CLASH, request=Request(is_dry=True), name="tells of a clash"),
+    ktcopy(TWO[:-1], keytab(HOST), request=Request(), name="has a damaged source"),
+    ktcopy(b"", keytab(HOST), request=Request(), name="has no keytab as source"),
+    ktcopy(TWO, keytab(HOST), request=Request(Selection((b"c@R",))), name="finds none"),
+    Case("ktcopy is at fault", ("ktcopy", "-k", "old", "k", "t"), BAD_LINE, {"k": TWO, "t": keytab(HOST)}),
     *(way for case in (ktremove(TWO, selection=Selection((b"b@R",)), is_dry=True, name="tells"),
                        ccremove(USUAL, 0, selection=TGT, is_dry=True, name="tells"),
                        ktcopy(TWO, keytab(HOST), request=Request(is_dry=True), name="tells"),
-                       ktutil(b"rkt k\nl\n", 0, files={"k": TWO}, name="reads"),
+                       ktutil(b"rkt k\nl\ndelent 1\n", 0, files={"k": TWO}, name="reads"),
                        ccedit(USUAL, b"start\n", name="walks")) for way in (case, in_place(case))),
 )
 
 # Runs that lock their file and then have nothing to save.
 LEAVING = (*SAVING_NOTHING, ktedit(TWO, b"cut 3\n", name="is refused"),
            ktremove(TWO, selection=Selection((b"c@R",)), name="finds none"),
-           ktcopy(keytab(B), TWO, request=Request(), name="has it already"))
+           *(ktcopy(source, target, request=Request(), is_same=target is None, name=name) for source, target, name in (
+               (keytab(B), TWO, "has it already"), (TWO, TWO, "has all already"), (TWO, CLASH, "clashes"),
+               (keytab(), keytab(HOST), "has nothing to copy"), (keytab(), b"", "has nothing for no bytes"),
+               (TWO, TWO[:-1], "has a damaged target"), (TWO, None, "copies a keytab into itself"))))
 
 # Kinds of locks: of a whole file, and record locks.
 FLOCK, TO_READ, TO_WRITE = "a flock", "a lock to read", "a lock to write"
@@ -56,11 +70,21 @@ def file_of(case: Case) -> str:
     return "t" if "t" in case.files else "c" if "c" in case.files else "k"
 
 
+def set_back(folder: str) -> dict[str, tuple[object, ...]]:
+    """Sets the times of a folder and of its files back, and returns how these stand."""
+    for path in (folder, *(each.path for each in os.scandir(folder))):
+        os.utime(path, (1, 1))
+    return stands(folder)
+
+
 def waited_for(program: str, case: Case, lock: str) -> list[str]:
-    """Returns the faults of a run that has to wait for a lock of its file."""
+    """Returns the faults of a run that has to wait for a lock of its file. If it saves nothing, it writes none."""
     with folder_of(case.files) as folder, open(os.path.join(folder, file_of(case)), "r+b") as file:
+        before = set_back(folder)
         LOCKS[lock](file)
-        return faults_of_waiting(program, folder, file.close, case)
+        faults = faults_of_waiting(program, folder, file.close, case)
+        is_written = case.files_after == case.files and stands(folder) != before
+        return faults + (["a file was written"] if is_written else [])
 
 
 def check_waits(report: Report, program: str) -> None:
@@ -74,14 +98,20 @@ def check_waits(report: Report, program: str) -> None:
 def ended_beside(program: str, case: Case, lock: str, file: str) -> tuple[list[str], float]:
     """Returns the faults of a run while another program has a lock of a file, and how long it took."""
     with folder_of(case.files) as folder, open(os.path.join(folder, file), "r+b") as locked:
+        before = set_back(folder)
         LOCKS[lock](locked)
         begun = time.monotonic()
         got = run(program, case.words, folder, case.stdin)
-        return faults_of(case, got, files_in(folder)), time.monotonic() - begun
+        seconds, faults = time.monotonic() - begun, faults_of(case, got, files_in(folder))
+        is_changed = case in LOCKING_NOTHING and (os.stat(folder).st_mtime != 1 or stands(folder) != before)
+        return faults + (["the folder, or a file, was changed"] if is_changed else []), seconds
 
 
 def check_no_waits(report: Report, program: str) -> None:
-    """Checks that runs that change nothing wait for no lock, nor those that replace for one to read."""
+    """Checks that runs that change nothing wait for no lock, nor those that replace for one to read.
+
+    They make no file beside theirs either, not even one that is removed again.
+    """
     rows = [(case, lock, file) for case in LOCKING_NOTHING for lock in (FLOCK, TO_WRITE) for file in case.files]
     rows += [(case, TO_READ, file_of(case)) for case in PLACED]
     rows += [(case, lock, "k") for case in BOTH_WAYS if case.words[0] == "ktcopy" for lock in (FLOCK, TO_WRITE)]
@@ -149,13 +179,9 @@ def check_without(report: Report, program: str) -> None:
     rows = [*((LONGER, error, ":when=2+") for error in ("ENOLCK", "EOPNOTSUPP", "EBADF")),
             *((placed, error, "") for error in ("ENOLCK", "EOPNOTSUPP", "EBADF", "EIO"))]
     for case, error, when in rows:
-        wanted = explained(unsaved(case), CAUSES["ENOLCK"]) if case is placed else case.wanted
-        with folder_of(case.files) as folder:
-            line = Line((EXPLAIN, *case.words), case.stdin)
-            outcome, _ = traced(program, line, folder, "-e", f"inject=flock:error={error}{when}")
-            faults = differences(wanted, outcome)
-            faults += tree_faults(case.files if case is placed else case.files_after, folder)
-        report.check(f"no lock can be had, {error}: {case.name}", faults)
+        one = refused(case, "ENOLCK") if case is placed else with_words(case)
+        one = replace(one, name=f"no lock can be had, {error}: {case.name}")
+        check_over(report, "strace", under_strace(program, one, "-e", f"inject=flock:error={error}{when}"))
 
 
 def check_other_handle(report: Report, program: str) -> None:

@@ -1,20 +1,22 @@
-"""Files that can be saved in place only, as none can be made beside them or take their name, and long names."""
+"""Files that can be saved in place only, as none can be made beside them or take their name, disks that are full or
+read-only, and long names."""
 
 import os
 import resource
 import subprocess
 from contextlib import suppress
+from dataclasses import replace
 from shlex import quote
 
 from makers.images import HOST, Entry, keytab
 from models.cases import IN_PLACE, in_place, ktedit
-from runs.harness import Case, Outcome, Report, differences, folder_of, run
+from runs.harness import Case, Report, differences, folder_of, run
 from runs.limits import limit
 from runs.namespaces import can_mount, run_within
 from runs.terminal import EXPLAIN
 from system.disk_faults import mounted
-from system.placing import EQUAL, LONGER, MIXED, PLACED, changed, explained, kept
-from system.saving import (NEW, OLD, SAVED, SCRIPT, UNSAVED, WALK, as_another, run_over, tree, tree_faults, unsaved,
+from system.placing import EQUAL, LONGER, MIXED, PLACED, changed, explained, kept, refused, with_words
+from system.saving import (ADD, NEW, OLD, SCRIPT, UNSAVED, WALK, as_another, at, check_over, renamed, tree_faults,
                            write)
 from words.phrases import AFTERMATHS, CAUSES
 
@@ -30,38 +32,16 @@ SPARSE_FROM, ROOM = 100, 24_576
 INTO_BOTH = "".join(f"add 3 17 1 {'00' * 16} {'z' * length}@R\n" for length in (20_000, 15_000)).encode()
 
 
-def check_locked_folder(report: Report, program: str) -> None:
-    """Checks a folder in which no file may be made, by another user than root."""
-    options = as_another(program)
-    if options is None:
-        report.skip("saves in place in a locked folder", "none but root may start the program")
-        return
-    for case in PLACED:
-        placed = in_place(case)
-        with folder_of(case.files) as folder:
-            for name in case.files:
-                os.chmod(os.path.join(folder, name), 0o666)
-            os.chmod(folder, 0o555)
-            faults = differences(placed.wanted, run(program, placed.words, folder, case.stdin, **options))
-            faults += tree_faults(case.files_after, folder)
-        report.check(f"a locked folder: {placed.name}", faults)
-
-
 def check_unwritable(report: Report, program: str) -> None:
     """Checks that a file that may not be written is loaded as ever, and that only its save is refused."""
     options = as_another(program)
     if options is None:
         report.skip("files that may not be written", "none but root may start the program")
         return
-    walk = ktedit(EQUAL.files["k"], WALK, name="walks")
-    for case in map(in_place, (EQUAL, walk)):
-        wanted = case.wanted if case.files == case.files_after else explained(unsaved(case), CAUSES["EACCES"])
-        with folder_of(case.files) as folder:
-            os.chmod(os.path.join(folder, "k"), 0o444)
-            os.chmod(folder, 0o777)
-            got = run(program, (EXPLAIN, *case.words), folder, case.stdin, **options)
-            faults = differences(wanted, got) + tree_faults(dict(case.files), folder)
-        report.check(f"a file that may not be written: {case.name}", faults)
+    walk = in_place(ktedit(EQUAL.files["k"], WALK, name="walks over a file that may not be written"))
+    for case in (refused(in_place(EQUAL), "EACCES"), with_words(walk)):
+        check_over(report, program, case, at("k", lambda path: os.chmod(path, 0o444)),
+                   at(".", lambda path: os.chmod(path, 0o777)), **options)
 
 
 def check_mounted(report: Report, program: str) -> None:
@@ -70,54 +50,60 @@ def check_mounted(report: Report, program: str) -> None:
         return
     for case in (EQUAL, MIXED):
         for one in (case, in_place(case)):
-            is_saved = IN_PLACE in one.words
-            wanted = one.wanted if is_saved else explained(unsaved(one), CAUSES["EBUSY"])
+            row = with_words(one) if IN_PLACE in one.words else refused(one, "EBUSY")
             with folder_of({"k": b"under", "over": case.files["k"]}) as folder:
                 before = kept(os.path.join(folder, "over"))
                 mounts = {quote(os.path.join(folder, "k")): os.path.join(folder, "over")}
-                got = run_within(program, (EXPLAIN, *one.words), folder, mounts, stdin=case.stdin)
-                faults = differences(wanted, got)
+                faults = differences(row.wanted, run_within(program, row.words, folder, mounts, stdin=case.stdin))
                 faults += [] if kept(os.path.join(folder, "over")) == before else ["not kept"]
-                over = case.files_after["k"] if is_saved else case.files["k"]
-                faults += tree_faults({"k": b"under", "over": over}, folder)
+                faults += tree_faults({"k": b"under", "over": row.files_after["k"]}, folder)
             report.check(f"a mount over the file: {one.name}", faults)
 
 
-def on_full_disk(program: str, case: Case, wanted: Outcome, after: bytes) -> list[str] | None:
-    """Returns the faults of a run on a disk of one page, which its file takes; None if none can be mounted."""
-    with folder_of({}) as folder, mounted(folder, "-t", "tmpfs", "-o", "size=4k", "krbfile") as is_mounted:
-        write(os.path.join(folder, "k"), FULL)
-        before = kept(os.path.join(folder, "k"))
-        faults = differences(wanted, run(program, (EXPLAIN, *case.words), folder, case.stdin))
-        faults += [] if kept(os.path.join(folder, "k")) == before else ["not kept"]
-        return faults + tree_faults({"k": after}, folder) if is_mounted else None
+# Rows over a disk whose files take each of its pages. A save for which there is no room leaves the old bytes, also
+# another's `k.new`; one that needs none is made.
+TWO_FILES = {"k": OLD, "k.new": NEW}
+FULL_DISKS = (refused(in_place(TOO_MUCH), "ENOSPC"), refused(LESS, "ENOSPC"), in_place(LESS), refused(ADD, "ENOSPC"),
+              replace(refused(ADD, "ENOSPC"), files=TWO_FILES, files_after=TWO_FILES),
+              Case("ktutil writes what it has read", ("ktutil",), UNSAVED, TWO_FILES, stdin=b"rkt k.new\nwkt k\n"))
+
+# Rows over one that is read-only: a file there is loaded, and only its save is refused.
+WALK_OVER, MAKE = ktedit(OLD, b"start\n", name="walks"), renamed(ktedit(None, SCRIPT, name="adds"), "n")
+READ_ONLY = (*(refused(case, "EROFS") for case in (ADD, in_place(ADD), MAKE)), WALK_OVER, in_place(WALK_OVER))
 
 
-def check_full_disk(report: Report, program: str) -> None:
-    """Checks that a save for which there is no room leaves the old bytes, and that one that needs none is made."""
-    full = CAUSES["ENOSPC"]
-    rows = [(in_place(TOO_MUCH), explained(unsaved(TOO_MUCH), full), FULL),
-            (LESS, explained(unsaved(LESS), full), FULL), (in_place(LESS), LESS.wanted, LESS.files_after["k"])]
-    for case, wanted, after in rows:
-        faults = on_full_disk(program, case, wanted, after)
-        if faults is None:
-            report.skip("saves in place on a full disk", "none can be mounted")
-            return
-        report.check(f"a full disk: {case.name}", faults)
+def check_on_disk(report: Report, program: str, what: str, case: Case, is_read_only: bool) -> bool:
+    """Checks a row on a disk of its own, and returns whether one can be mounted."""
+    size = f"size={4 * (len(case.files) + is_read_only)}k"
+    with folder_of({}) as folder, mounted(folder, "-t", "tmpfs", "-o", size, "krbfile") as is_mounted:
+        if not is_mounted:
+            report.skip(what, "none can be mounted")
+            return False
+        for name, data in case.files.items():
+            write(os.path.join(folder, name), data)
+        before = [kept(os.path.join(folder, name)) for name in case.files]
+        if is_read_only:
+            subprocess.run(["mount", "-o", "remount,ro", folder], check=True)
+        faults = differences(case.wanted, run(program, case.words, folder, case.stdin))
+        faults += [] if [kept(os.path.join(folder, name)) for name in case.files] == before else ["not kept"]
+        faults += tree_faults(case.files if case.files_after is None else case.files_after, folder)
+    report.check(f"{what}: {case.name}", faults)
+    return True
+
+
+def check_disks(report: Report, program: str) -> None:
+    """Checks each of those rows, unless no such disk can be mounted."""
+    all(check_on_disk(report, program, "a full disk", case, False) for case in FULL_DISKS)
+    all(check_on_disk(report, program, "a disk that is read-only", case, True) for case in READ_ONLY)
 
 
 def check_limit(report: Report, program: str) -> None:
     """Checks a file that may not become as long as it would: the system would end a run that wrote so much."""
-    refused = explained(unsaved(LONGER), CAUSES["EFBIG"])
-    for case in (LONGER, MIXED):
+    for case in (LONGER, MIXED, in_place(LONGER), in_place(MIXED)):
         length = len(case.files_after["k"])
-        for one in (case, in_place(case)):
-            for most, wanted, after in ((length, case.wanted, case.files_after), (length - 1, refused, case.files)):
-                with folder_of(case.files) as folder:
-                    got = run(program, (EXPLAIN, *one.words), folder, case.stdin,
-                              preexec_fn=limit(resource.RLIMIT_FSIZE, most, is_spared=False))
-                    faults = differences(wanted, got) + tree_faults(dict(after), folder)
-                report.check(f"at most {most} bytes: {one.name}", faults)
+        for most, one in ((length, with_words(case)), (length - 1, refused(case, "EFBIG"))):
+            check_over(report, program, replace(one, name=f"at most {most} bytes: {case.name}"),
+                       preexec_fn=limit(resource.RLIMIT_FSIZE, most, is_spared=False))
 
 
 def check_sparse(report: Report, program: str) -> None:
@@ -142,39 +128,14 @@ def check_sparse(report: Report, program: str) -> None:
     report.check("a sparse file on a full disk", faults)
 
 
-def check_read_only(report: Report, program: str) -> None:
-    """Checks that a file on a disk that is read-only is loaded, and only its save is refused."""
-    with folder_of({}) as folder, mounted(folder, "-t", "tmpfs", "krbfile") as is_mounted:
-        if not is_mounted:
-            report.skip("saves in place on a disk that is read-only", "none can be mounted")
-            return
-        write(os.path.join(folder, "k"), OLD)
-        subprocess.run(["mount", "-o", "remount,ro", folder], check=True)
-        rows = [(SCRIPT, explained(UNSAVED, CAUSES["EROFS"])),
-                (b"start\n", Outcome(0, b"walk 0 at 2\n"))]
-        for script, wanted in rows:
-            faults = differences(wanted, run(program, (EXPLAIN, "ktedit", IN_PLACE, "k"), folder, script))
-            faults += tree_faults({"k": OLD}, folder)
-            report.check(f"a disk that is read-only: {script[:5]} in place", faults)
-
-
 def check_names(report: Report, program: str) -> None:
     """Checks long names, under which no new file fits, and those of new files, which stay refused."""
-    for case in PLACED:
-        name = changed(case)
-        if name == case.words[-1]:
-            for length in (248, 255):
-                long = "x" * length
-                with folder_of({**case.files, long: case.files[name]}) as folder:
-                    faults = differences(case.wanted, run_over(program, in_place(case), folder, long))
-                    faults += tree_faults({**case.files, long: case.files_after[name]}, folder)
-                report.check(f"a name of {length} bytes: {case.name}", faults)
-            own = f"{name}.krbfile"
-            with folder_of({**case.files, own: case.files[name]}) as folder:
-                wanted = explained(unsaved(case, own), CAUSES["name of saves"])
-                got = run(program, (EXPLAIN, *in_place(case).words[:-1], own), folder, case.stdin)
-                faults = differences(wanted, got) + tree_faults({**case.files, own: case.files[name]}, folder)
-            report.check(f"{own} in place: {case.name}", faults)
+    for case in map(in_place, PLACED):
+        if changed(case) == case.words[-1]:
+            rows = [renamed(case, "x" * length) for length in (248, 255)]
+            rows.append(refused(renamed(case, f"{changed(case)}.krbfile"), "name of saves"))
+            for one in rows:
+                check_over(report, program, replace(one, name=f"a name of {len(one.words[-1])} bytes: {case.name}"))
 
 
 def check_beside(report: Report, program: str) -> None:
@@ -182,16 +143,11 @@ def check_beside(report: Report, program: str) -> None:
     makes = {"a folder": os.mkdir, "a pipe": os.mkfifo, "a link to the file": lambda path: os.symlink("k", path),
              "what a killed run left": lambda path: write(path, b"left")}
     for what, make in makes.items():
-        with folder_of({"k": OLD}) as folder:
-            make(os.path.join(folder, "k.krbfile"))
-            wanted = {**tree(folder), "k": NEW}
-            faults = differences(SAVED, run(program, ("ktedit", IN_PLACE, "k"), folder, SCRIPT))
-            faults += tree_faults(wanted, folder)
-        report.check(f"{what} in the new file's place, in place", faults)
+        case = replace(in_place(ADD), name=f"{what} in the new file's place, in place")
+        check_over(report, program, case, at("k.krbfile", make))
 
 
 def check(report: Report, program: str) -> None:
     """Runs this topic."""
-    for each in (check_locked_folder, check_unwritable, check_mounted, check_full_disk, check_limit, check_sparse,
-                 check_read_only, check_names, check_beside):
+    for each in (check_unwritable, check_mounted, check_disks, check_limit, check_sparse, check_names, check_beside):
         each(report, program)

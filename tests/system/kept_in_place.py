@@ -6,9 +6,9 @@ from collections.abc import Iterator
 from contextlib import suppress
 
 from models.cases import in_place
-from runs.harness import Case, Report, differences, faults_of, files_in, folder_of, run
+from runs.harness import Case, Report, faults_of, files_in, folder_of, run
 from system.placing import PLACED, changed, kept
-from system.saving import GROUP, USER, tree
+from system.saving import GROUP, USER
 
 # The tags of an access list's entries, and the number of those that name nobody.
 OWNER, NAMED, OWN_GROUP, MASK, OTHERS = 1, 2, 4, 16, 32
@@ -80,21 +80,9 @@ def check_kept(report: Report, program: str, case: Case, attributes: dict[str, b
     report.check(f"{placed.name}, with {[*attributes]}", faults + faults_of(placed, got, after))
 
 
-def check_as_replaced(report: Report, program: str, case: Case) -> None:
-    """Checks that the same run without `--in-place` prints and leaves the same."""
-    found = []
-    for one in (case, in_place(case)):
-        with folder_of(case.files) as folder:
-            found.append((run(program, one.words, folder, case.stdin), tree(folder)))
-    (replaced, files), (placed, files_in_place) = found
-    faults = differences(replaced, placed) + ([] if files == files_in_place else ["other files"])
-    report.check(f"as without --in-place: {case.name}", faults)
-
-
 def check(report: Report, program: str) -> None:
     """Runs this topic."""
     those = [*kinds(report)]
     for case in PLACED:
-        check_as_replaced(report, program, case)
         for attributes in those:
             check_kept(report, program, case, attributes)

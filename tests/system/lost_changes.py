@@ -129,7 +129,8 @@ def check_refused(report: Report, program: str) -> None:
     for case, halt, change, image, left in rows:
         placed = in_place(case)
         message = [message_of(placed, left)] if left == "mixed" else []
-        words = [CAUSES["in use" if left == "mixed" else "changed"], *([AFTERMATHS[left]] if left == "restored" else [])]
+        words = [CAUSES["in use" if left == "mixed" else "changed"]]
+        words += [AFTERMATHS[left]] if left == "restored" else []
         for options, lines in (((), message), ((EXPLAIN,), [*words, *message])):
             one = replace(placed, words=(*options, *placed.words), files_after={"k": image},
                           wanted=explained(unsaved(placed), *lines))

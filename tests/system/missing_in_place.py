@@ -1,18 +1,14 @@
 """A missing file is not made in place, and a name that leads to no plain file ends as without `--in-place`."""
 
-import os
-
 from keytabs.ktutil_lines import KEY
 from keytabs.scripts import FAULTS as LINE_FAULTS
 from makers.images import B, HOST, TWO, keytab
 from makers.usual_caches import USUAL
 from models.cases import IN_PLACE
-from runs.harness import Outcome, Report, differences, folder_of, run
-from runs.rows import words_of
+from runs.harness import Case, Report, differences, folder_of, message, run
+from runs.rows import printed, words_of
 from runs.terminal import EXPLAIN
-from system.pipe_files import RUNS as OVER_PIPES
-from system.pipe_files import fed
-from system.saving import SCRIPT, tree, tree_faults
+from system.saving import SCRIPT, check_over, link, tree_faults
 from words.explained import Explained
 from words.phrases import BEGINS_AS_CACHE, CAUSES, LEAVE_OUT, NOT_READ, code, line_fault
 
@@ -85,16 +81,12 @@ CASES = [
 
 def check_links(report: Report, program: str) -> None:
     """Checks links to no file, and one to a file, which is saved where it is."""
-    rows = [("a link to nothing", "no", Outcome(1, err=b"krbfile: l: no such file\n"), keytab(B)),
-            ("a link into no folder", "no/k", Outcome(1, err=b"krbfile: l: no such file\n"), keytab(B)),
-            ("a link to a file", "k", Outcome(0, b"placed 47\n"), keytab(B, HOST))]
-    for name, target, wanted, after in rows:
-        with folder_of({"k": keytab(B)}) as folder:
-            os.symlink(target, os.path.join(folder, "l"))
-            there = {**tree(folder), "k": after}
-            faults = differences(wanted, run(program, ("ktedit", IN_PLACE, "l"), folder, SCRIPT))
-            faults += tree_faults(there, folder)
-        report.check(f"{name}, in place", faults)
+    missing = message(1, "l: no such file")
+    for name, target, wanted, after in (("a link to nothing", "no", missing, keytab(B)),
+                                        ("a link into no folder", "no/k", missing, keytab(B)),
+                                        ("a link to a file", "k", printed("placed 47"), keytab(B, HOST))):
+        case = Case(f"{name}, in place", ("ktedit", IN_PLACE, "l"), wanted, {"k": keytab(B)}, {"k": after}, SCRIPT)
+        check_over(report, program, case, link("l", target))
 
 
 def check_no_files(report: Report, program: str) -> None:
@@ -109,19 +101,7 @@ def check_no_files(report: Report, program: str) -> None:
             report.check(f"as without --in-place: {' '.join(words)}, {name}", faults)
 
 
-def check_pipes(report: Report, program: str) -> None:
-    """Checks that a pipe is not opened."""
-    for words, stdin, name, place in OVER_PIPES:
-        wanted = Outcome(3, err=f"krbfile: {name}: cannot read\nkrbfile: {place}{CAUSES['no plain file']}\n".encode())
-        with folder_of({}) as folder:
-            os.symlink("k", os.path.join(folder, "link"))
-            with fed(os.path.join(folder, "k")) as opened:
-                faults = differences(wanted, run(program, (EXPLAIN, words[0], IN_PLACE, *words[1:]), folder, stdin))
-                faults += ["it was opened"] if opened else []
-        report.check(f"a pipe is not changed in place: {' '.join(words)}", faults)
-
-
 def check(report: Report, program: str) -> None:
     """Runs what is not in the table."""
-    for each in (check_links, check_no_files, check_pipes):
-        each(report, program)
+    check_links(report, program)
+    check_no_files(report, program)

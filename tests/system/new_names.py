@@ -6,25 +6,13 @@ A stale file of a killed run is removed. Anything else stays as it is, and then 
 import os
 from collections.abc import Callable
 from concurrent.futures import ThreadPoolExecutor
+from dataclasses import replace
 
 from makers.images import B, HOST, keytab
-from runs.harness import Case, Outcome, Report, differences, folder_of, message, run
-from system.saving import (
-    ADD,
-    CHANGES,
-    NEW,
-    OLD,
-    SAVED,
-    USER,
-    WALK,
-    as_another,
-    edit,
-    run_over,
-    tree,
-    tree_faults,
-    unsaved,
-    write,
-)
+from models.cases import ktedit, ktutil
+from runs.harness import Case, Outcome, Report, message
+from system.saving import (ADD, CHANGES, NEW, OLD, SAVED, SCRIPT, USER, WALK, as_another, at, check_over, faults_over,
+                           link, renamed, unsaved, write)
 
 # Another user who is not root.
 STRANGER = 1234
@@ -78,31 +66,15 @@ STRANGE: list[tuple[str, Make]] = [
 ]
 
 
-def stands(folder: str) -> dict[str, tuple[object, ...]]:
-    """Returns the contents of a folder, with owners, modes and times."""
-    found = {}
-    for name, data in tree(folder).items():
-        own = os.lstat(os.path.join(folder, name))
-        found[name] = (data, own.st_ino, own.st_mode, own.st_uid, own.st_nlink, own.st_mtime_ns)
-    return found
-
-
-def faults_in_the_way(
-    program: str, make: Make, mode: int, owner: int | None, case: Case = ADD, **options: object
-) -> list[str]:
+def faults_in_the_way(program: str, make: Make, mode: int, owner: int | None, case: Case = ADD, **options) -> list[str]:
     """Returns the faults of a run with something in place of its new file, in a folder of that mode."""
-    with folder_of({"other": b"other"}) as folder:
-        path = os.path.join(folder, case.words[-1])
-        if owner is not None:
-            write(path, *case.files.values())
-            os.chown(path, owner, -1)
-        make(f"{path}.krbfile")
-        os.chmod(folder, mode)
-        wanted = stands(folder)
-        faults = differences(unsaved(case), run_over(program, case, folder, **options))
-        if stands(folder) != wanted:
-            faults.append(f"{tree(folder)} are there, or are not as they were")
-        return faults
+    files = {"other": b"other"}
+    places = [at(f"{case.words[-1]}.krbfile", make), at(".", lambda path: os.chmod(path, mode))]
+    if owner is not None:
+        files |= case.files
+        places.insert(0, at(case.words[-1], lambda path: os.chown(path, owner, -1)))
+    case = replace(case, wanted=unsaved(case), files=files, files_after=None)
+    return faults_over(program, case, *places, **options)
 
 
 def check_strange(report: Report, program: str) -> None:
@@ -143,19 +115,16 @@ def check_stale_files(report: Report, program: str) -> None:
         cases += [("of a user's", {"k": OLD}, owned_by(USER), USER, user),
                   ("of a user's, beside root's file", {"k": OLD}, owned_by(USER), 0, user)]
     for name, files, make, owner, options in cases:
-        with folder_of(files) as folder:
-            for each in files:
-                os.chown(os.path.join(folder, each), owner, -1)
-            make(os.path.join(folder, NEW_FILE))
-            os.chmod(folder, 0o777)
-            faults = differences(SAVED, edit(program, folder, **options))
-            faults += tree_faults({"k": NEW}, folder)
-        report.check(f"what a killed run left, {name}", faults)
+        case = Case(f"what a killed run left, {name}", ADD.words, SAVED, files, {"k": NEW, NEW_FILE: None}, SCRIPT)
+        owners = (at(each, lambda path, owner=owner: os.chown(path, owner, -1)) for each in files)
+        open_to_all = at(".", lambda path: os.chmod(path, 0o777))
+        check_over(report, program, case, *owners, at(NEW_FILE, make), open_to_all, **options)
 
 
 def check_strangers(report: Report, program: str) -> None:
     """Checks that a stranger's `k.new` stays as it is."""
-    runs = [(("ktedit", "k"), b"cut 2\n"), (("ktutil",), b"rkt k.new\nwkt k\n")]
+    files = {"k": keytab(HOST), "k.new": keytab(B)}
+    runs = (ktedit(files["k"], b"cut 2\n"), ktutil(b"rkt k.new\nwkt k\n", 0, files=files))
     makes: list[tuple[str, Make]] = [
         ("a keytab", lambda path: write(path, keytab(B))),
         ("a keytab that may not be written", lambda path: write(path, keytab(B), 0o400)),
@@ -163,36 +132,23 @@ def check_strangers(report: Report, program: str) -> None:
         ("another name", lambda path: os.link(beside(path, "other"), path)),
     ]
     for what, make in makes:
-        for words, text in runs:
-            with folder_of({"k": keytab(HOST), "other": keytab(B)}) as folder:
-                make(os.path.join(folder, "k.new"))
-                wanted = stands(folder)
-                got = run(program, words, folder, text)
-                found = stands(folder)
-            faults = [] if got.status == 0 else [f"{got}"]
-            if found.pop("k") == wanted.pop("k"):
-                faults.append("the file is as before")
-            faults += [] if found == wanted else [f"{[*found]} are there, or are not as they were"]
-            report.check(f"{what} as k.new: {' '.join(words)}", faults)
+        for case in runs:
+            case = replace(case, name=f"{what} as k.new: {case.name}", files={"k": files["k"], "other": files["k.new"]},
+                           files_after={"k": case.files_after["k"]})
+            check_over(report, program, case, at("k.new", make))
 
 
 def check_own_names(report: Report, program: str) -> None:
     """Checks that a file with the name of a new one can be walked over, but not changed, also through a link."""
     for name in (NEW_FILE, ".krbfile", "k.krbfile.krbfile", "./k.krbfile", "link", "dangling"):
         path = "t.krbfile" if name == "link" else os.path.normpath(name)
-        is_there = name != "dangling"
-        with folder_of({path: OLD} if is_there else {}) as folder:
-            os.symlink("t.krbfile", os.path.join(folder, "link"))
-            os.symlink("no.krbfile", os.path.join(folder, "dangling"))
-            wanted = tree(folder)
-            unsaved = message(3, f"{name}: cannot write")
-            faults = differences(unsaved, edit(program, folder, name))
-            talk = f"addent -key -p a@R -k 1 -e 1\n00\nwkt {name}\n".encode()
-            faults += differences(unsaved, run(program, ("ktutil",), folder, talk))
-            if is_there:
-                faults += differences(WALKED, run(program, ("ktedit", name), folder, WALK))
-            faults += tree_faults(wanted, folder)
-        report.check(f"save as {name}, which has a new file's name", faults)
+        files = {} if name == "dangling" else {path: OLD}
+        unsaved, talk = message(3, f"{name}: cannot write"), f"addent -key -p a@R -k 1 -e 1\n00\nwkt {name}\n"
+        rows = [(("ktedit", name), SCRIPT, unsaved), (("ktutil",), talk.encode(), unsaved)]
+        rows += [(("ktedit", name), WALK, WALKED)] if files else []
+        for words, given, wanted in rows:
+            case = Case(f"{given[:6]} as {name}, which has a new file's name", words, wanted, files, stdin=given)
+            check_over(report, program, case, link("link", "t.krbfile"), link("dangling", "no.krbfile"))
 
 
 def check_places(report: Report, program: str) -> None:
@@ -209,23 +165,18 @@ def check_places(report: Report, program: str) -> None:
         ("", message(3, ": cannot write")),
     ]
     for name, outcome in cases:
-        with folder_of({".krbfile": b"other", ".new": b"other"}) as folder:
-            wanted = tree(folder)
-            if outcome == SAVED:
-                wanted[os.path.normpath(name)] = NEW
-            faults = differences(outcome, edit(program, folder, name))
-            report.check(f"save as {name[:20]!r}", faults + tree_faults(wanted, folder))
+        after = {os.path.normpath(name): NEW} if outcome == SAVED else None
+        check_over(report, program, Case(f"save as {name[:20]!r}", ("ktedit", name), outcome,
+                                         {".krbfile": b"other", ".new": b"other"}, after, SCRIPT))
 
 
 def check_no_names(report: Report, program: str) -> None:
     """Checks that files with the name of a new one, or a name too long for a new one, are not changed."""
     for case in CHANGES:
         for name in (f"{case.words[-1]}.krbfile", "x" * 248):
-            with folder_of({name: data for data in case.files.values()}) as folder:
-                wanted = tree(folder)
-                faults = differences(unsaved(case, name), run_over(program, case, folder, name))
-                faults += tree_faults(wanted, folder)
-            report.check(f"{name[:9]} has no new file: {case.name}", faults)
+            one = renamed(case, name)
+            check_over(report, program, replace(one, name=f"{name[:9]} has no new file: {case.name}",
+                                                wanted=unsaved(one), files_after=one.files))
 
 
 def check(report: Report, program: str) -> None:

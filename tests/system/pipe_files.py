@@ -1,10 +1,13 @@
-"""A run that is to change a file does not open a pipe of that name, so that it does not wait for a writer."""
+"""A run that is to change a file, in either way, does not open a pipe of that name, so that it does not wait for a
+writer."""
 
 import os
 import threading
 from collections.abc import Iterator
 from contextlib import contextmanager, suppress
 
+from makers.images import TWO
+from models.cases import IN_PLACE
 from runs.harness import Outcome, Report, differences, folder_of, run
 from runs.terminal import EXPLAIN
 from system.saving import OLD, SCRIPT, tree_faults
@@ -12,11 +15,13 @@ from words.phrases import CAUSES
 
 ADDENT = b"addent -key -p a@R -k 1 -e 17\n000102030405060708090a0b0c0d0e0f\n"
 
-# Runs that are to change the file named last: their words, their input, and where explanations are printed.
+# Runs that are to change a pipe: their words, their input, the name that they give it, and where explanations are
+# printed.
 RUNS = (
     (("ktedit", "k"), SCRIPT, "k", ""),
     (("ktremove", "-k", "3", "k"), b"", "k", ""),
     (("ktremove", "-k", "3", "link"), b"", "link", ""),
+    (("ktcopy", "two", "k"), b"", "k", ""),
     (("ccedit", "k"), b"cut 40\n", "k", ""),
     (("ccremove", "--expired", "k"), b"", "k", ""),
     (("ktutil",), ADDENT + b"wkt k\n", "k", "line 3: "),
@@ -45,13 +50,14 @@ def fed(path: str) -> Iterator[list[bool]]:
 
 def check(report: Report, program: str) -> None:
     """Runs this topic."""
-    for words, stdin, name, place in RUNS:
+    for (command, *rest), stdin, name, place in RUNS:
         output = f"krbfile: {name}: cannot read\nkrbfile: {place}{CAUSES['no plain file']}\n"
-        with folder_of({}) as folder:
-            os.symlink("k", os.path.join(folder, "link"))
-            with fed(os.path.join(folder, "k")) as opened:
-                got = run(program, (EXPLAIN, *words), folder, stdin)
-                faults = differences(Outcome(3, err=output.encode()), got)
-                faults += ["it was opened"] if opened else []
-                faults += tree_faults({"k": "p", "link": "k"}, folder)
-        report.check(f"a pipe is not changed: {' '.join(words)}", faults)
+        for options in ((), (IN_PLACE,)):
+            with folder_of({"two": TWO}) as folder:
+                os.symlink("k", os.path.join(folder, "link"))
+                with fed(os.path.join(folder, "k")) as opened:
+                    got = run(program, (EXPLAIN, command, *options, *rest), folder, stdin)
+                    faults = differences(Outcome(3, err=output.encode()), got)
+                    faults += ["it was opened"] if opened else []
+                    faults += tree_faults({"k": "p", "link": "k", "two": TWO}, folder)
+            report.check(f"a pipe is not changed: {' '.join((command, *options, *rest))}", faults)

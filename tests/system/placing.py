@@ -9,8 +9,9 @@ from models.cases import ccedit, ccremove, ktcopy, ktedit, ktremove, ktutil
 from models.copy_model import Request
 from models.removal_model import Selection
 from runs.harness import Case, Outcome
-from system.saving import ADD, TGT
-from words.phrases import AFTERMATHS
+from runs.terminal import EXPLAIN
+from system.saving import ADD, TGT, unsaved
+from words.phrases import AFTERMATHS, CAUSES
 
 # An entry that is longer than those of the keytab, and lines of ktutil that add one to the keytab `k`.
 ADD_LONG = b"add 3 17 1700000000 000102030405060708090a0b0c0d0e0f a/long/name@R\n"
@@ -48,6 +49,16 @@ def images(case: Case) -> tuple[bytes, bytes]:
 def explained(outcome: Outcome, *phrases: str) -> Outcome:
     """Returns the outcome of a run that also prints those lines."""
     return replace(outcome, err=outcome.err + "".join(f"krbfile: {each}\n" for each in phrases).encode())
+
+
+def with_words(case: Case) -> Case:
+    """Returns the same run, with its messages explained."""
+    return replace(case, words=(EXPLAIN, *case.words))
+
+
+def refused(case: Case, cause: str) -> Case:
+    """Returns a run of which the file is not saved, for that cause, which is explained."""
+    return replace(with_words(case), wanted=explained(unsaved(case), CAUSES[cause]), files_after=case.files)
 
 
 def message_of(case: Case, aftermath: str) -> str:

@@ -4,18 +4,19 @@ import fcntl
 import os
 import threading
 from collections.abc import Callable
+from dataclasses import replace
+from functools import partial
 
 from keytabs.edits import ADD_B
 from makers.images import B, keytab
+from models.cases import in_place, ktedit
 from models.script_model import edited
-from runs.harness import Outcome, Report, differences, folder_of, message, run
+from runs.harness import Case, Outcome, Report, differences, folder_of, message
 from runs.preload import Line
 from runs.rows import text
 from runs.system_calls import Halt, check_traced, halted
-from runs.terminal import EXPLAIN
-from system.placing import explained
-from system.saving import NEW, OLD, SAVED, SCRIPT, UNSAVED, Place, tree, tree_faults, write
-from words.phrases import CAUSES
+from system.placing import refused
+from system.saving import NEW, OLD, SAVED, SCRIPT, UNSAVED, Place, at, edit, link, tree, tree_faults, write
 
 # A user who is not root.
 USER = 1234
@@ -51,9 +52,7 @@ def named(name: str, make: Callable[[str], None]) -> Place:
     return change
 
 
-def at_name(do: Callable[[str], None]) -> Place:
-    """Returns a change of the file `k`."""
-    return lambda folder: do(os.path.join(folder, "k"))
+at_name = partial(at, "k")
 
 
 # What replaces the file after it was loaded, or found to be missing, and whether there was one. The last ones replace
@@ -126,80 +125,75 @@ def check_changes(report: Report, program: str) -> None:
         check_change(report, program, "syncing", of, "--in-place")
 
 
+def check_while(report: Report, program: str, case: Case, call: str, change: Place, *places: Place) -> None:
+    """Checks a case that is halted after a system call while a change is made."""
+    with folder_of(case.files) as folder:
+        for place in places:
+            place(folder)
+        got = halted(program, Line(case.words, case.stdin), folder, HALTS[call], change)
+        faults = differences(case.wanted, got) + tree_faults(case.files_after, folder)
+    report.check(f"{case.name}, behind the {call} of {' '.join(case.words)}", faults)
+
+
+def added(name: str, wanted: Outcome, files: dict[str, bytes], after: dict[str, object], *options: str) -> Case:
+    """Returns a run that adds an entry, and what is in its folder then."""
+    return Case(name, ("ktedit", *options, "k"), wanted, files, after, SCRIPT)
+
+
 def check_names(report: Report, program: str) -> None:
     """Checks that a save in place is refused whose file has lost its name when it is synced, also where it does not
     grow, so that it was not looked at before."""
-    other = CAUSES["other file"]
-    changes = {"another file": (named("k", lambda path: write(path, B_ALONE)), other, B_ALONE),
-               "a link to another file": (named("k", lambda path: os.symlink("other", path)), other, "other"),
-               "no file any more": (at_name(os.remove), CAUSES["no file"], None)}
+    case = in_place(ktedit(NEW, b"cut 2\n"))
+    changes = {"another file": (named("k", lambda path: write(path, B_ALONE)), "other file", {"k": B_ALONE}),
+               "a link to another file": (named("k", lambda path: os.symlink("other", path)), "other file",
+                                          {"k": "other"}),
+               "no file any more": (at_name(os.remove), "no file", {})}
     for what, (change, cause, after) in changes.items():
-        for options, words in (((), ()), ((EXPLAIN,), (cause,))):
-            with folder_of({"k": NEW, "other": B_ALONE}) as folder:
-                line = Line((*options, "ktedit", "--in-place", "k"), b"cut 2\n")
-                got = halted(program, line, folder, HALTS["syncing"], change)
-                faults = differences(explained(UNSAVED, *words), got)
-                faults += tree_faults({"other": B_ALONE, **({"k": after} if after else {})}, folder)
-            report.check(f"{what}, behind the sync of a save in place {' '.join(options)}", faults)
+        for one in (replace(case, wanted=UNSAVED), refused(case, cause)):
+            one = replace(one, name=what, files={"k": NEW, "other": B_ALONE}, files_after={"other": B_ALONE, **after})
+            check_while(report, program, one, "syncing", change)
 
 
 def check_led_elsewhere(report: Report, program: str) -> None:
     """Checks a link that changes: the file that was loaded is saved, and no other gets its keys."""
-    places = {"another link": lambda path: os.symlink("other", path),
-              "a file": lambda path: write(path, OLD, 0o644)}
     for call in ("opening", "load", "writing", "syncing"):
-        for what, make in places.items():
-            with folder_of({"file": OLD, "other": OLD}) as folder:
-                os.symlink("file", os.path.join(folder, "k"))
-                faults = differences(SAVED, edited_while(program, folder, call, named("k", make)))
-                there = {"file": NEW, "other": OLD, "k": OLD if what == "a file" else "other"}
-                faults += tree_faults(there, folder)
-            report.check(f"{what} in place of a link, behind the {call} of a run", faults)
+        for what, left, make in (("another link", "other", lambda path: os.symlink("other", path)),
+                                 ("a file", OLD, lambda path: write(path, OLD, 0o644))):
+            case = added(f"{what} in place of a link", SAVED, {"file": OLD, "other": OLD},
+                         {"file": NEW, "other": OLD, "k": left})
+            check_while(report, program, case, call, named("k", make), link("k", "file"))
 
 
 def check_led(report: Report, program: str) -> None:
     """Checks that a file that others save, make or remove while a link to it is followed is saved."""
-    changes = [
-        ("another file", {"file": OLD}, named("file", lambda path: write(path, OLD))),
-        ("a file where none was", {}, named("file", lambda path: write(path, OLD))),
-        ("no file any more", {"file": OLD}, lambda folder: os.remove(os.path.join(folder, "file"))),
-    ]
-    for what, files, change in changes:
-        with folder_of(files) as folder:
-            os.symlink("file", os.path.join(folder, "k"))
-            faults = differences(SAVED, edited_while(program, folder, "look", change))
-            faults += tree_faults({"k": "file", "file": NEW}, folder)
-        report.check(f"{what} at the end of a link, behind a look at it", faults)
+    make = named("file", lambda path: write(path, OLD))
+    for what, files, change in (("another file", {"file": OLD}, make), ("a file where none was", {}, make),
+                                ("no file any more", {"file": OLD}, at("file", os.remove))):
+        case = added(f"{what} at the end of a link", SAVED, files, {"k": "file", "file": NEW})
+        check_while(report, program, case, "look", change, link("k", "file"))
 
 
 def check_opened_anew(report: Report, program: str) -> None:
     """Checks that a run whose file is replaced before it has locked it loads and saves the one that is there then."""
     outcome, image = edited(keytab(B), SCRIPT)
     other, none = named("k", lambda path: write(path, keytab(B))), at_name(os.remove)
-    changes = [("another file", (), outcome, {"k": image}, other), ("no file any more", (), SAVED, {"k": NEW}, none),
-               ("another file", ("--in-place",), outcome, {"k": image}, other),
-               ("no file any more", ("--in-place",), message(1, "k: no such file"), {}, none)]
-    for what, options, wanted, after, change in changes:
-        with folder_of({"k": OLD}) as folder:
-            faults = differences(wanted, edited_while(program, folder, "opening", change, *options))
-            faults += tree_faults(after, folder)
-        report.check(f"{what}, behind the opening of a run {' '.join(options)}", faults)
+    missing = message(1, "k: no such file")
+    for what, change, options, wanted, after in (("another file", other, (), outcome, {"k": image}),
+                                                 ("no file any more", none, (), SAVED, {"k": NEW}),
+                                                 ("another file", other, ("--in-place",), outcome, {"k": image}),
+                                                 ("no file any more", none, ("--in-place",), missing, {})):
+        check_while(report, program, added(what, wanted, {"k": OLD}, after, *options), "opening", change)
 
 
 def check_crossed(report: Report, program: str) -> None:
     """Checks a run that is overtaken while it makes its new file, or looks at a stale one."""
     wanted, image = edited(keytab(B), SCRIPT)
-    for call, files in (("making", {}), ("making", {"k.krbfile": b"left"}),
-                        ("finding", {"k.krbfile": b"left"})):
-        with folder_of({"k": OLD, **files}) as folder:
-            others: list[Outcome] = []
+    for call, files in (("making", {}), ("making", {"k.krbfile": b"left"}), ("finding", {"k.krbfile": b"left"})):
+        def save(folder: str) -> None:
+            report.compare("who overtakes a run", SAVED, edit(program, folder, script=text([ADD_B])))
 
-            def save(folder: str) -> None:
-                others.append(run(program, ("ktedit", "k"), folder, text([ADD_B])))
-
-            faults = differences(wanted, edited_while(program, folder, call, save))
-            faults += differences(SAVED, others[0]) + tree_faults({"k": image}, folder)
-        report.check(f"overtaken behind the {call} of a new file, beside {len(files)}", faults)
+        case = added(f"overtaken beside {len(files)}", wanted, {"k": OLD, **files}, {"k": image})
+        check_while(report, program, case, call, save)
 
 
 def check_crossed_hold(report: Report, program: str) -> None:

@@ -3,13 +3,13 @@
 import os
 import stat
 from collections.abc import Callable
-from dataclasses import dataclass
+from dataclasses import dataclass, replace
 
 from makers.images import HOST, keytab
 from makers.usual_caches import USUAL
 from models.cases import ccedit, ccremove, ktedit
 from models.ticket_removal_model import Selection
-from runs.harness import Case, Outcome, message, run
+from runs.harness import Case, Outcome, Report, differences, folder_of, message, run
 
 # The script of each run, and the file before and after it.
 SCRIPT = b"add 3 17 1700000000 000102030405060708090a0b0c0d0e0f host/a@R\n"
@@ -24,7 +24,7 @@ UNREAD = message(3, "k: cannot read")
 USER = 65_534
 GROUP = 54_321
 
-Place = Callable[[str], None]
+Place = Callable[[str], object]
 
 # Runs that change a file, those that take no hold, and those that take one and then have nothing to save. None depends
 # on the clock.
@@ -44,14 +44,49 @@ def run_over(program: str, case: Case, folder: str, name: str = "", **options: o
     return run(program, (*case.words[:-1], name or case.words[-1]), folder, case.stdin, **options)
 
 
+def renamed(case: Case, name: str) -> Case:
+    """Returns the same run over a file of another name."""
+    last = case.words[-1]
+    files, after = ({name if each == last else each: data for each, data in those.items()}
+                    for those in (case.files, case.files_after))
+    return replace(case, words=(*case.words[:-1], name), files=files, files_after=after)
+
+
 def unsaved(case: Case, name: str = "") -> Outcome:
     """Returns the outcome if that file is not saved."""
     return message(3, f"{name or case.words[-1]}: cannot write")
 
 
-def edit(
-    program: str, folder: str, name: str = "k", script: bytes = SCRIPT, **options: object
-) -> Outcome:
+def faults_over(program: str, case: Case, *places: Place, **options: object) -> list[str]:
+    """Returns the faults of a case in a folder where more is made before: what it does not change stays as it was."""
+    with folder_of(case.files) as folder:
+        for place in places:
+            place(folder)
+        before = stands(folder)
+        wanted = {**tree(folder), **(case.files_after or {})}
+        faults = differences(case.wanted, run(program, case.words, folder, case.stdin, **options))
+        after = stands(folder)
+        faults += [f"{name} is not as it was" for name, own in before.items()
+                   if own[0] == wanted[name] != "d" and own != after.get(name)]
+        return faults + tree_faults(wanted, folder)
+
+
+def check_over(report: Report, program: str, case: Case, *places: Place, **options: object) -> None:
+    """Checks a case in a folder where more is made before."""
+    report.check(case.name, faults_over(program, case, *places, **options))
+
+
+def at(name: str, make: Callable[[str], object]) -> Place:
+    """Returns what makes something under that name."""
+    return lambda folder: make(os.path.join(folder, name))
+
+
+def link(name: str, text: str) -> Place:
+    """Returns what makes a link of that name and text."""
+    return at(name, lambda path: os.symlink(text, path))
+
+
+def edit(program: str, folder: str, name: str = "k", script: bytes = SCRIPT, **options: object) -> Outcome:
     """Makes a run of a script, by default one that adds an entry, over the file of that name."""
     return run(program, ("ktedit", name), folder, script, **options)
 
@@ -102,6 +137,15 @@ def tree_faults(wanted: dict[str, object], folder: str) -> list[str]:
     got = tree(folder)
     names = sorted(set(wanted) | set(got))
     return [f"{name} is {got.get(name)!r}" for name in names if got.get(name) != wanted.get(name)]
+
+
+def stands(folder: str) -> dict[str, tuple[object, ...]]:
+    """Returns the contents of a folder, with owners, modes and times."""
+    found = {}
+    for name, data in tree(folder).items():
+        own = os.lstat(os.path.join(folder, name))
+        found[name] = (data, own.st_ino, own.st_mode, own.st_uid, own.st_nlink, own.st_mtime_ns)
+    return found
 
 
 @dataclass(frozen=True)

@@ -14,10 +14,8 @@ from contextlib import ExitStack, contextmanager
 
 from runs.harness import Case, Report, differences, folder_of
 from system.disk_faults import mounted
-from system.saving import (
-    ADD, CHANGES, HOLDING_NOTHING, NEW, OLD, SAVED, SAVING_NOTHING, UNSAVED, edit, run_over, tree, tree_faults,
-    unsaved, write,
-)
+from system.saving import (ADD, CHANGES, HOLDING_NOTHING, NEW, OLD, SAVED, SAVING_NOTHING, UNSAVED, edit, run_over,
+                           tree, tree_faults, unsaved, write)
 
 # More locks than fit in one read of the system's list, and enough of them to make the list slow.
 MANY = 300
@@ -134,15 +132,17 @@ def faults_of_giving_up(program: str, folder: str) -> list[str]:
 
 
 def faults_while_held(program: str, case: Case) -> list[str]:
-    """Returns the faults of a run while another holds the cache."""
-    files = {**case.files, "c.krbfile": b"other"}
-    with folder_of(files) as folder, open(os.path.join(folder, "c.krbfile"), "rb") as file:
+    """Returns the faults of a run while another holds its file."""
+    new = f"{case.words[-1]}.krbfile"
+    files = {**case.files, new: b"other"}
+    with folder_of(files) as folder, open(os.path.join(folder, new), "rb") as file:
         fcntl.flock(file, fcntl.LOCK_EX)
         begun = time.monotonic()
         got = run_over(program, case, folder)
         waited = time.monotonic() - begun
-        faults = differences(unsaved(case) if case in CHANGES else case.wanted, got) + tree_faults(files, folder)
-    is_in_time = (waited <= AT_ONCE) == (case in HOLDING_NOTHING)
+        wanted = case.wanted if case.files == case.files_after else unsaved(case)
+        faults = differences(wanted, got) + tree_faults(files, folder)
+    is_in_time = (waited <= AT_ONCE) == (case in HOLDING_NOTHING or "-n" in case.words)
     return faults + ([] if is_in_time else [f"it took {waited:.1f} seconds"])
 
 
