@@ -74,8 +74,7 @@ CASES = [
     remove("of a service", MANY, "-p host/a@R", [AT_392, AT_606], left(TGT, PA_TYPE, LATER)),
     remove("of another", MANY, "-p krbtgt/R@R", [AT_40, AT_284], left(PA_TYPE, HOST, LATER_HOST)),
     remove("expired ones", MANY, "--expired", [AT_40, AT_392], left(PA_TYPE, LATER, LATER_HOST)),
-    remove("expired ones of a service", MANY, "--expired -p host/a@R", [AT_392],
-           left(TGT, PA_TYPE, LATER, LATER_HOST)),
+    remove("expired ones of a service", MANY, "--expired -p host/a@R", [AT_392], left(TGT, PA_TYPE, LATER, LATER_HOST)),
     remove("by another text of the name", MANY, r"-p \host/a@R", [AT_392, AT_606], left(TGT, PA_TYPE, LATER)),
     remove("a value that begins with =", MANY, "-p=host/a@R", NOT_FOUND),
     remove("a dry run", MANY, "-n -p host/a@R", [AT_392, AT_606]),
@@ -153,8 +152,7 @@ def check_keys(report: Report, program: str) -> None:
             with open(os.path.join(folder, "c"), "rb") as file:
                 after = file.read()
         found = [key for key in (oldest, OLD_KEY, NEW_KEY) if key in after]
-        report.check(f"keys, {words}",
-                     [] if (got.status, found) == (0, kept) else [f"{found} are left by {got}"])
+        report.check(f"keys, {words}", [] if (got.status, found) == (0, kept) else [f"{found} are left by {got}"])
 
 
 def check(report: Report, program: str) -> None:

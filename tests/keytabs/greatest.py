@@ -74,8 +74,7 @@ def listings() -> list[Case]:
     keys = keytab(*[Entry(key=bytes(LONGEST), version32=None)] * 255)
     lines = (b"   3 host/a@R (0x" + b"00" * LONGEST + b")\n") * 255
     return [
-        over("klist, the most entries", "klist -k k", filled(least()),
-             Outcome(0, KLIST_HEADING + b"   0 @\n" * COUNT)),
+        over("klist, the most entries", "klist -k k", filled(least()), Outcome(0, KLIST_HEADING + b"   0 @\n" * COUNT)),
         over("klist, the most holes", "klist -k k", most_holes(), Outcome(0, KLIST_HEADING)),
         over("klist, one entry of 65,535 components", "klist -k k", filled(of_many()),
              Outcome(0, KLIST_HEADING + b"   3 " + many_quoted(b"\\/") + b"@R\n")),

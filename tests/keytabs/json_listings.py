@@ -52,13 +52,11 @@ WIDE = keytab(Entry((b"a",), version32=2**32 - 1, enctype=65_535, timestamp=2**3
 WIDE_TEXT = (b'{"place":2,"principal":"a@R","kvno":4294967295,"etype":65535,"etype_name":null,'
              b'"timestamp":4294967295')
 USUAL_TEXT = cache_text(TICKET_TEXT, PA_TYPE_TEXT)
-SKEY = replace(TICKET, is_skey=2, renew_till=9, flags=0, enctype=0, ticket=b"",
-               addresses=((2, b"abcd"), (2, b"")))
+SKEY = replace(TICKET, is_skey=2, renew_till=9, flags=0, enctype=0, ticket=b"", addresses=((2, b"abcd"), (2, b"")))
 SKEY_TEXT = (b'{"place":22,"client":"u@R","server":"krbtgt/R@R","authtime":1700000000,'
              b'"starttime":0,"endtime":1700036000,"renew_till":9,"flags":"","flags_value":0,'
              b'"etype":0,"etype_name":null,"is_skey":true,"addresses":2,"ticket_length":0}')
-LOW = "".join({8: r"\b", 9: r"\t", 10: r"\n", 12: r"\f", 13: r"\r"}.get(byte, rf"\u{byte:04x}")
-              for byte in range(32))
+LOW = "".join({8: r"\b", 9: r"\t", 10: r"\n", 12: r"\f", 13: r"\r"}.get(byte, rf"\u{byte:04x}") for byte in range(32))
 NO_TEXT = replace(PA_TYPE, server=replace(PA_TYPE.server, components=(
     PA_TYPE.server.components[0], b"\xff", b"\x80a")))
 

@@ -49,8 +49,7 @@ class Filled:
 
     def places_of(self, server: bytes) -> list[int]:
         """Returns the places of the live tickets for a server."""
-        return [place for place, output in self.cache().live()
-                if output.tail().endswith(b" " + server)]
+        return [place for place, output in self.cache().live() if output.tail().endswith(b" " + server)]
 
     def remove(self, server: bytes) -> None:
         """Removes the tickets for a server with ccremove."""

@@ -189,14 +189,12 @@ CASES = [
     *(faulty(line, number) for number, line in first_of_each(LINE_FAULTS).items()),
     *(faulty_talk(line, number) for number, line in first_of_each(TALK_FAULTS).items()),
     faulty_talk("rkt \udcff", 8),
-    *(faulty_talk(line, 1, SEE_HELP)
-      for line in ("?", "help", "lr", "list_requests", " help\tlist")),
+    *(faulty_talk(line, 1, SEE_HELP) for line in ("?", "help", "lr", "list_requests", " help\tlist")),
     *(faulty_talk(line, 1) for line in ("HELP", "helps", "\\?")),
     *(faulty_talk(line, 2, NO_PASSWORDS)
       for line in ("addent -password -p b@R -k 3 -e 17", "add_entry -p b@R -k 3 -e 17 -password")),
     *(faulty_talk(line, 2) for line in ("rkt -password k", "addent -Password -p b@R -k 3 -e 17", "l -password")),
-    case("ktutil: two faults", "ktutil", None, talk_fault(2, 5), talk_fault(3, 1),
-         stdin=f"{ADDENT}00\nx\n".encode()),
+    case("ktutil: two faults", "ktutil", None, talk_fault(2, 5), talk_fault(3, 1), stdin=f"{ADDENT}00\nx\n".encode()),
     # Files that are not read.
     lambda: case("a large script", "ktedit k", None, ("input too large", LARGE), stdin=bytes(LIMIT + 1)),
     unread("a file as a folder", "k/x", "ENOTDIR"),

@@ -210,8 +210,7 @@ def check_good_lines(report: Report, program: str) -> None:
         words = ("klist", "-k", "--", EXPLAIN)
         found = run(program, words, folder)
         report.compare("a file called --explain", Outcome(0, found.out), found)
-        report.compare("a file called --explain, on a terminal", found,
-                       run_on_terminal(program, words, folder))
+        report.compare("a file called --explain, on a terminal", found, run_on_terminal(program, words, folder))
 
 
 def check(report: Report, program: str) -> None:
