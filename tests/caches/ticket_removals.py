@@ -8,7 +8,7 @@ from keytabs.removals import check_left_alone, check_mode
 from makers.cache_images import Credential, Name, cache, config, header_field, offset
 from makers.usual_caches import FIELDS, OFFSET, PA_TYPE, TICKET, USUAL, VERSION_3, config_ticket
 from runs.harness import Case, Outcome, Report, folder_of, message, run
-from runs.rows import BAD_LINE, over
+from runs.rows import over
 
 NOT_FOUND = message(1, "c: refused 9")
 DAMAGED = message(1, "c: refused 1")
@@ -134,11 +134,6 @@ CASES = [
     *(Case(f"{file}, {words}", ("ccremove", *words.split(), file), wanted, {"c": USUAL})
       for file, wanted in (("no", message(1, "no: no such file")), (".", message(3, ".: cannot read")))
       for words in ("--expired", "-n --expired")),
-    # Lines that are refused.
-    *(Case(line, ("ccremove", *line.split()), BAD_LINE, {"c": MANY}) for line in (
-        "-p b@R", "-n --expired", "-p b@R -p b@R c", "-p b@R -p c@R c", "-p b@R c -pb@R", "-p b@R@R c", "-p b@R/ c",
-        "-p b@R\\ c", "-p b@R c more", "-x --expired c", "-k old c", "-e 17 c", "--expired -n=yes c",
-        "--v1-big --expired c", "--dry-run=yes --expired c", "-expired c")),
 ]
 
 

@@ -10,7 +10,7 @@ from makers.cache_images import Credential, Name, cache, config, header_field, o
 from makers.images import TWO
 from makers.usual_caches import OFFSET, PA_TYPE, TICKET, USUAL, VERSION_3, config_ticket
 from runs.harness import Case, Outcome, Report, differences, folder_of, run
-from runs.rows import BAD_LINE, Line, check_rows, shown, words_of
+from runs.rows import check_rows, words_of
 from runs.terminal import runs_with_words
 from system.pipe_files import fed
 
@@ -100,25 +100,12 @@ LASTING = ["-s", "-c -s", "-sc", "-s -s", "-s --for 0", "-s --for=0", "--for 0 -
 # After these seconds none is left: the clock and they come to more than the greatest time, or to more than 32 bits.
 TOO_LONG = ["-s --for 4294967295", "--for=4294967295 -s", "-s --for 3000000000"]
 
-REFUSED: list[str | Line] = [
-    "klist -s c c", "klist -s -k c", "klist -sk c", "klist -k -s c", "klist -s --json c",
-    "klist --json c -s", "klist -se c", "klist -s -f c", "klist -C -s c", "klist -st c", "klist -sK c",
-    "klist -s --v1-big c", "klist -s=yes c", "klist --for 3 c", "klist -c --for=3 c", "klist -k --for 3 c",
-    "klist --json --for 3 c", "klist -s --for 3 --for 3 c", "klist -s --for=3 --for 4 c", "klist -s --for c",
-    "klist -s c --for", "klist -s --for x c", "klist -s --for= c", "klist -s --for -1 c",
-    "klist -s --for +1 c", "klist -s --for 1.5 c", "klist -s --for 1h c", "klist -s --for 0x3 c",
-    "klist -s --for 4294967296 c", "klist -s --for 00000000003 c", "klist -s --fo 3 c", "klist -s -for 3 c",
-    ("klist", "-s", "--for", "", "c"), ("klist", "-s", "--for", " 3", "c"), ("klist", "-s", b"\xff"),
-    ("klist", "-s", "c", ""),
-]
-
 CASES = [
     *(ask(name, cache(*those), wanted) for name, those, wanted in TICKETS),
     *(ask(name, image, wanted) for name, image, wanted in FILES),
     *(ask("for a while", cache(TGT), VALID, options) for options in LASTING),
     *(ask("for too long", cache(TGT), NONE, options) for options in TOO_LONG),
     ask("a ticket that ends too soon", cache(HOST, replace(OVER, endtime=2**31)), NONE, "-s --for 2147483648"),
-    *(Case(shown(line), words_of(line), BAD_LINE, {"c": cache(TGT)}) for line in REFUSED),
 ]
 
 

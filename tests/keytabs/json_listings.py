@@ -6,7 +6,7 @@ from makers.cache_images import U, Name, cache, config
 from makers.images import BIG, HOST, TWO, Entry, keytab, old, record
 from makers.usual_caches import PA_TYPE, TICKET, USUAL, VERSION_3
 from runs.harness import Case, Outcome
-from runs.rows import BAD_LINE, over
+from runs.rows import over
 
 HOST_FRONT = (b'{"place":2,"principal":"host/a@R","kvno":3,"etype":17,'
               b'"etype_name":"aes128-cts-hmac-sha1-96","timestamp":1700000000')
@@ -105,5 +105,4 @@ CASES = [
          cache_text(default=b'"default_principal_hex":"7540fe"')),
     case("a key and a principal that are no UTF-8", "klist --json c", cache(NO_TEXT),
          cache_text(b"", b'{"place":22,"key_hex":"ff","principal_hex":"8061","value":"2"}')),
-    over("of both kinds", "klist --json -c -k k", TWO, BAD_LINE),
 ]

@@ -7,7 +7,7 @@ from keytabs import greatest
 from keytabs.finds import AES256, DAMAGED, FIVE, NOT_FOUND
 from makers.images import BIG, END, HOST, LITTLE, TWO, Entry, hole, keytab, old, record
 from runs.harness import Case, Outcome, Report, folder_of, message, run
-from runs.rows import BAD_LINE, over
+from runs.rows import over
 
 B3 = Entry((b"b",))
 
@@ -143,14 +143,6 @@ CASES = [
     remove("a damaged keytab, nothing old", TWO[:-1], "-k old", DAMAGED),
     remove("a damaged keytab, a dry run", TWO[:-1], "-n -e 17", DAMAGED),
     Case("no file, a dry run", ("ktremove", "-n", "-k", "old", "no"), message(1, "no: no such file"), {"k": TWO}),
-    # Lines that are refused.
-    *(Case(line, ("ktremove", *line.split()), BAD_LINE, {"k": FOUR})
-      for line in ("-p", "-p b@R", "-e 17", "-p b@R -p b k", "-k 3 -k 3 k", "-k old -k old k", "-k -1 k",
-                   "-k 4294967296 k", "-k Old k", "-k= k", "-e any k", "-e 65536 k", "-p b@R@R k", "-p b@R/ k",
-                   "-p b@R k more", "-p= k", "-nk=old k", "-x -k old k", "-k old -n=yes k", "--dry-run=yes -k old k",
-                   "-K old k", "--age 3 k", "-e 17 --age 3 k", "-k new --age 3 k", "-k old --age k", "-k old --age",
-                   "-k old --age= k", "-k old --age -1 k", "-k old --age +1 k", "-k old --age 1d k",
-                   "-k old --age 00000000003 k", "-k old --ag 3 k", "-k old -age 3 k")),
     greatest.most_of_one_name, greatest.many_long_names,
 ]
 

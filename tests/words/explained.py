@@ -247,7 +247,8 @@ CACHES = [
     listed("klist k", 4, CUT_CACHE, 392),
     # Refused removals.
     *(refused(f"ccremove {words}", image, number) for words, image, number in (
-        ("-p c@R", USUAL, 9), ("-p c@R --expired", USUAL, 9), ("--expired", CUT_CACHE, 1), ("--expired", VERSION_3, 8))),
+        ("-p c@R", USUAL, 9), ("-p c@R --expired", USUAL, 9), ("--expired", CUT_CACHE, 1),
+        ("--expired", VERSION_3, 8))),
     case("ccremove: nothing to do", "ccremove --expired k", cache(), status=0),
     # Faulty lines of scripts.
     *(faulty(line, number, "ccedit", USUAL) for number, line in first_of_each(CACHE_FAULTS).items()),
