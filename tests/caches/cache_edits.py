@@ -167,15 +167,12 @@ CASES = [
                     f"resume {LIMIT - 271}", "step 0"),
     lambda: no_room("just room", 136, [f"placed {LIMIT - 136}", f"gone {LIMIT - 272}"],
                     after=(PA_TYPE.removed(), THREE)),
-    # Files that are missing or not a cache.
+    # Files that are missing. Those that are not a cache are among the messages that are explained.
     *(edit(f"no file, {line!r}", None, line.encode(), message(1, "c: no such file"))
       for line in ("start\n", "", "config k - v\n")),
     edit("no file, and a faulty line", None, ["frob"], message(1, "line 1: fault 1")),
     edit("an empty script", USUAL, [], []),
-    edit("an empty file", b"", ["start"], message(1, "c: not a cache (1)")),
-    edit("a keytab", b"\x05\x02", ["start"], message(1, "c: not a cache (2)")),
-    edit("a cut header", b"\x05\x04\0", ["start"], message(1, "c: not a cache (4)")),
-    edit("no default principal", b"\x05\x03", ["rewrite"], message(1, "c: not a cache (5)")),
+    edit("an empty file, and nothing to save", b"", ["start"], message(1, "c: not a cache (1)")),
     *(over(f"no folder, {line}", "ccedit no/c", None, message(1, "no/c: no such file"), given=line.encode())
       for line in ("start", "rewrite")),
 ]

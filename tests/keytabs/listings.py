@@ -57,8 +57,7 @@ LATE = Entry(version8=0, version32=256)
 LATE_LINE = b" 256 host/a@R"
 
 CASES = [
-    # Whole entries, one after the other.
-    case("two entries", TWO, HOST_LINE, B_LINE),
+    # Whole entries, one after the other. TWO, which lines of words list, has them in the order of the file.
     case("two entries in the other order", keytab(B, HOST), B_LINE, HOST_LINE),
     case("the same entry twice", keytab(B, B), B_LINE, B_LINE),
     case("no entry", keytab()),
@@ -117,7 +116,6 @@ CASES = [
     case("version 1, little-endian, read as big", old(HOST, LATE), b"fault 2 at 2", options="--v1-big"),
     case("version 1 with a hole", old(6, B), B_LINE),
     case("version 1 without a component", old(Entry(())), b"   3 @R"),
-    case("version 2 under --v1-big", TWO, HOST_LINE, B_LINE, options="--v1-big"),
     case("count 0 in version 2", keytab(record(bytes(17))), b"   0 @"),
     case("count 0 in version 1", old(record(bytes(17), LITTLE)), b"fault 3 at 2"),
     # Files that do not begin as a keytab.

@@ -1,5 +1,7 @@
-"""Command lines: bundled, repeated and late options, help, and lines that are refused."""
+"""Command lines: bundled, repeated, late and long options, help, the version, and lines that are refused."""
 
+import shutil
+import subprocess
 from dataclasses import replace
 from itertools import permutations
 
@@ -7,9 +9,10 @@ from caches.cache_listings import CONFIG_LINE, ETYPE_LINE, FLAGS_LINE, TICKET_LI
 from keytabs.columns import sample
 from makers.cache_images import cache
 from makers.images import B, TWO, keytab
+from makers.samples import folder_of_samples
 from makers.usual_caches import OFFSET, PA_TYPE, TICKET, USUAL
 from models.cache_reading import listed
-from runs.harness import Case, Outcome, message
+from runs.harness import Case, Outcome, Report, files_in, message, run
 from runs.rows import BAD_LINE, Help, Line, over, printed, shown, words_of
 
 # Lines that are refused, beside keytabs `k` and `t` and a cache `c`, and that are not among the mistakes.
@@ -144,6 +147,29 @@ HELP = [
 ]
 
 
+# Lines with letters, and with long names.
+LONG = {
+    "klist -ktKe host.keytab": ["klist --keytab --times --keys --enctypes host.keytab",
+                                "klist host.keytab --enctypes -tK --keytab"],
+    "klist -cfeC krb5cc_0": ["klist --cache --flags --enctypes --config krb5cc_0", "klist --config -fe krb5cc_0"],
+    "klist -s krb5cc_1": ["klist --silent krb5cc_1", "klist krb5cc_1 --cache --silent"],
+    "klist -s krb5cc_0": ["klist --silent krb5cc_0"],
+    "ktremove -n -k old rotated.keytab": ["ktremove --dry-run --kvno old rotated.keytab",
+                                          "ktremove --kvno=old -n rotated.keytab"],
+    "ktremove -p b@R -e 17 -e 23 mixed.keytab": ["ktremove --principal b@R --enctype=17 -e23 mixed.keytab",
+                                                 "ktremove --enctype 17 --enctype 23 --principal=b@R mixed.keytab"],
+    "ktremove -p=b@R host.keytab": ["ktremove --principal==b@R host.keytab"],
+    "ktcopy -n -p b@R -k new rotated.keytab other.keytab":
+        ["ktcopy --dry-run --principal=b@R --kvno=new rotated.keytab other.keytab"],
+    "ktcopy -e aes128-cts-hmac-sha1-96 rotated.keytab other.keytab":
+        ["ktcopy --enctype aes128-cts-hmac-sha1-96 rotated.keytab other.keytab"],
+    "ccremove -n -p host/a@R krb5cc_1": ["ccremove --dry-run --service host/a@R krb5cc_1",
+                                         "ccremove --service=host/a@R -n krb5cc_1"],
+    "ktcheck -q host.keytab mixed.keytab": ["ktcheck --quiet host.keytab mixed.keytab"],
+}
+
+TOOLCHAIN = "logic dac8208d650f15bf"
+
 FILES = {"k": TWO, "t": keytab(B), "c": USUAL}
 GONE = printed("removed 40 krbtgt/R@R")
 # The lines below a ticket have one order, whatever that of the options is.
@@ -175,5 +201,39 @@ CASES = [
     case("klist -e k", message(1, "k: not a cache (2)")), case("klist -ke c", message(1, "c: not a keytab (2)")),
     *(over(f"order: {options}", ("klist", *options, "c"), cache(replace(TICKET, renew_till=1)),
            Outcome(0, listed(b"u@R", TICKET_LINE, *UNDER))) for options in permutations(("-e", "-f", "-C"))),
+    *(case(line, printed(f"krbfile 1.0 (rattle {TOOLCHAIN})"))
+      for line in ("--version", "-V", "--version klist", "-V klist -x")),
     *(Help(line, help_text) for lines, help_text in HELP for line in lines),
 ]
+
+
+def outcome(program: str, line: str) -> tuple[Outcome, dict[str, bytes]]:
+    """Runs a line beside sample files, and returns the files afterwards too."""
+    with folder_of_samples() as folder:
+        return run(program, line.split(), folder), files_in(folder)
+
+
+def check_long(report: Report, program: str) -> None:
+    """Runs each line with letters, and then with long names."""
+    for line, others in LONG.items():
+        wanted, after = outcome(program, line)
+        for other in others:
+            got, files = outcome(program, other)
+            report.compare(f"krbfile {other}", wanted, got)
+            report.check(f"the files after krbfile {other}", [] if files == after else [f"{sorted(files)}"])
+
+
+def check_toolchain(report: Report) -> None:
+    """Compares the toolchain's name with what it prints of itself, after the name of its kit."""
+    if shutil.which("rt") is None:
+        report.skip("the toolchain of the version", "rt is not there")
+        return
+    output = subprocess.run(["rt", "version"], capture_output=True, text=True, check=False).stdout
+    named = output.strip().partition(" ")[2]
+    report.check("the toolchain of the version", [] if named == TOOLCHAIN else [f"it is {output!r}"])
+
+
+def check(report: Report, program: str) -> None:
+    """Checks what is not in a table."""
+    check_long(report, program)
+    check_toolchain(report)

@@ -239,7 +239,8 @@ CHANGING = (("ccedit", b"cut 40\n"), ("ccremove -p krbtgt/R@R", b""))
 
 CACHES = [
     # Files that are not caches, and a damaged one, as a listing reports them.
-    *(case(f"{line} of {image.hex()}", f"{line} k", image, (f"k: not a cache ({number})", phrase), stdin=stdin)
+    *(case(f"{line} of {image.hex()}", f"{line} k", image, (f"k: not a cache ({number})", phrase), stdin=stdin,
+           after={"k": image})
       for image, (number, phrase) in (
           (b"", SHORT), (b"\x05\x01", BEGINS_AS_KEYTAB), (b"\x05\x02", BEGINS_AS_KEYTAB),
           (b"\x04\x04", BEGINS_AS_NO_CACHE), (b"\x05\x04\x00", BAD_HEADER), (b"\x05\x03", BAD_DEFAULT))
