@@ -45,13 +45,6 @@ def no_room(name: str, room: int, wanted: Outcome | list[str], *script: str,
     return edit(name, cache(ticket, PA_TYPE), [SET_3, *script], wanted, cache(ticket, *after) if after else None)
 
 
-def full() -> Case:
-    """Returns a script over a cache of the greatest size."""
-    ticket = long_ticket(LIMIT - 22)
-    return edit("no room for a value", cache(ticket), ["config k - v", "cut 22"], refused("refused 3", "gone 22"),
-                cache(ticket.removed()))
-
-
 # The usual cache without its ticket, and rewritten.
 GONE = cache(TICKET.removed(), PA_TYPE, TICKET.removed(), fields=FIELDS)
 ANEW = cache(TICKET, PA_TYPE, fields=OFFSET)
@@ -160,7 +153,8 @@ CASES = [
     edit("version 3, damaged", VERSION_3[:129], ["cut 20", "cut 3", "config k - v", "rewrite", "resume 20", "step 0"],
          refused(*["refused 8"] * 3, "refused 1", "walk 0 at 20", "walk 0 fault 4 at 20")),
     edit("damaged", USUAL[:391], ["cut 40", "cut 3", "config k - v", SET_3, "rewrite"], refused(*["refused 1"] * 5)),
-    full,
+    lambda: edit("no room for a value", cache(long_ticket(LIMIT - 22)), ["config k - v", "cut 22"],
+                 refused("refused 3", "gone 22"), cache(long_ticket(LIMIT - 22).removed())),
     lambda: no_room("a byte too little room, and the old value stays", 135,
                     refused("refused 3", f"walk 0 at {LIMIT - 271}",
                             f"walk 0 gave {LIMIT - 271} next {LIMIT - 135} config pa_type(krbtgt/R@R)"),

@@ -51,11 +51,6 @@ def configured(name: str, cell: Credential, *lines: bytes) -> Case:
     return case(f"configuration, {name}", cache(cell, TICKET), *lines, TICKET_LINE, columns="C")
 
 
-def header(name: str, fields: bytes) -> Case:
-    """Returns a listing of a cache whose header those fields fill."""
-    return case(f"header, {name}", cache(TICKET, fields=fields), TICKET_LINE)
-
-
 def no_cache(name: str, image: bytes, why: int) -> Case:
     """Returns a listing of a file that is not a cache."""
     return over(f"no cache: {name}", "klist c", image, message(1, f"c: not a cache ({why})"))
@@ -173,13 +168,14 @@ CASES = [
     case("configuration entries without -C", cache(config(b"k", b"v"), TICKET, PA_TYPE), TICKET_LINE, FLAGS_LINE,
          columns="f"),
     # Headers with one time offset, several or none.
-    header("an offset", offset(300, 54_321)),
-    header("two offsets", offset(5, 0) + offset(9, 0)),
-    header("an offset of 4 bytes", header_field(1, bytes(4))),
-    header("a field without a value", header_field(7, b"")),
-    header("unknown tags", FIELD + header_field(65_535, bytes(40))),
-    header("300 fields", b"".join(header_field(tag, b"x" * tag) for tag in range(300))),
-    header("a field of 65,531 bytes", header_field(3, bytes(65_531))),
+    *(case(f"header, {name}", cache(TICKET, fields=fields), TICKET_LINE) for name, fields in (
+        ("an offset", offset(300, 54_321)),
+        ("two offsets", offset(5, 0) + offset(9, 0)),
+        ("an offset of 4 bytes", header_field(1, bytes(4))),
+        ("a field without a value", header_field(7, b"")),
+        ("unknown tags", FIELD + header_field(65_535, bytes(40))),
+        ("300 fields", b"".join(header_field(tag, b"x" * tag) for tag in range(300))),
+        ("a field of 65,531 bytes", header_field(3, bytes(65_531))))),
     # Bytes that do not begin a credential: what precedes them is listed, what follows is not.
     case("a byte after the last credential", USUAL + b"\0", TICKET_LINE, b"fault 4 at 392"),
     case("a byte after the last, -C", USUAL + b"\0", TICKET_LINE, CONFIG_LINE, b"fault 4 at 392", columns="C"),

@@ -57,8 +57,7 @@ def of_enctypes(name: str, numbers) -> Case:
 SETS = ["", "t", "e", "K", "te", "tK", "eK", "teK"]
 HOST_ALL = b"   3 " + TIME + b"host/a@R" + ETYPE + HOST_KEY
 B_ALL = b"   3 " + TIME + b"b@R" + ETYPE + B_KEY
-KEYS = [(bytes(range(256)) * 256)[:length]
-        for length in (*range(70), 255, 256, 4_095, 4_096, 32_767, 32_768, 65_535)]
+KEYS = [(bytes(range(256)) * 256)[:length] for length in (*range(70), 255, 256, 4_095, 4_096, 32_767, 32_768, 65_535)]
 
 CASES = [
     # No entry at all, with each set of columns; lines of words list TWO with each.

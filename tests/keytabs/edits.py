@@ -71,13 +71,6 @@ def full_of_version_one() -> bytes:
     return front + old(Entry(key=bytes(LIMIT - len(front) - 4 - bare), version32=None))[2:]
 
 
-def file_is_full() -> Case:
-    """Returns a script over a keytab of the greatest size, which takes an entry only in place of another."""
-    large = record(B.spelled() + bytes(LIMIT - 2 - 4 - 47 - 4 - 41))
-    return edit("the file is full", keytab(HOST, large), [ADD_B, "cut 2", ADD_B],
-                refused("refused 3", "gone 2", "placed 2"), keytab(record(B.spelled() + bytes(6)), large))
-
-
 CASES = [
     # Walks over an unchanged keytab.
     edit("a walk to the end and on", TWO, ["start", *["step 0"] * 4],
@@ -160,7 +153,10 @@ CASES = [
     edit("version 1", old(HOST), [ADD_B], ["placed 49"], old(HOST, B)),
     edit("version 1, big-endian", old(HOST, order=BIG), [ADD_B], ["placed 49"], old(HOST, B, order=BIG), "--v1-big"),
     edit("one byte", b"\x05", [ADD_B], message(1, "k: not a keytab (1)")),
-    file_is_full,
+    # A keytab of the greatest size takes an entry only in place of another.
+    lambda: edit("the file is full", keytab(HOST, record(B.spelled().ljust(LIMIT - 57, b"\0"))),
+                 [ADD_B, "cut 2", ADD_B], refused("refused 3", "gone 2", "placed 2"),
+                 keytab(record(B.spelled() + bytes(6)), record(B.spelled().ljust(LIMIT - 57, b"\0")))),
     over("no folder", "ktedit no/k", None, message(3, "no/k: cannot write"), given=[ADD_B]),
     over("no folder, and nothing to save", "ktedit no/k", None, ["walk 0 at 2"], given=b"start"),
 ]

@@ -125,16 +125,11 @@ def many_long_names() -> Case:
         *(Entry((b"x" * 200, b"%05d" % number), version32=None) for number in range(60_000))), [])
 
 
-def keys_of_one_name(count: int) -> list[Entry]:
-    """Returns entries of one name, version and enctype, each with a key of its own."""
-    return [replace(LEAST, key=b"%07d" % number) for number in range(count)]
-
-
 def copies() -> list[Case]:
     """Returns copies between keytabs in which many entries meet many: each pair of them would take too long."""
     count = 400_000
     names = keytab(*(Entry((b"x" * 200, b"%05d" % number)) for number in range(60_000)))
-    keys, line = keys_of_one_name(count), b"kvno 0 etype 0 @\n"
+    keys, line = [replace(LEAST, key=b"%07d" % number) for number in range(count)], b"kvno 0 etype 0 @\n"
     one, size = replace(LEAST, key=b"another"), len(record(keys[0].spelled()))
     many, places = keytab(*keys), range(2, 2 + count * size, size)
     clashes = b"".join(b"clash %d 2 " % place + line for place in places)

@@ -17,8 +17,7 @@ B_KEY = b',"key_hex":"101112131415161718191a1b1c1d1e1f"'
 
 TICKET_END = (b'"authtime":1700000000,"starttime":0,"endtime":1700036000,"renew_till":0,'
               b'"flags":"FRIA","flags_value":1088421888,"etype":17,'
-              b'"etype_name":"aes128-cts-hmac-sha1-96","is_skey":false,"addresses":0,'
-              b'"ticket_length":3}')
+              b'"etype_name":"aes128-cts-hmac-sha1-96","is_skey":false,"addresses":0,"ticket_length":3}')
 TICKET_TEXT = b'{"place":40,"client":"u@R","server":"krbtgt/R@R",' + TICKET_END
 PA_TYPE_TEXT = b'{"place":148,"key":"pa_type","principal":"krbtgt/R@R","value":"2"}'
 
@@ -49,8 +48,7 @@ def value(name: str, data: bytes, wanted: bytes) -> Case:
 
 PLAIN = keytab_text(HOST_FRONT + b"}", B_FRONT + b"}")
 WIDE = keytab(Entry((b"a",), version32=2**32 - 1, enctype=65_535, timestamp=2**32 - 1, key=b""))
-WIDE_TEXT = (b'{"place":2,"principal":"a@R","kvno":4294967295,"etype":65535,"etype_name":null,'
-             b'"timestamp":4294967295')
+WIDE_TEXT = (b'{"place":2,"principal":"a@R","kvno":4294967295,"etype":65535,"etype_name":null,"timestamp":4294967295')
 USUAL_TEXT = cache_text(TICKET_TEXT, PA_TYPE_TEXT)
 SKEY = replace(TICKET, is_skey=2, renew_till=9, flags=0, enctype=0, ticket=b"", addresses=((2, b"abcd"), (2, b"")))
 SKEY_TEXT = (b'{"place":22,"client":"u@R","server":"krbtgt/R@R","authtime":1700000000,'

@@ -12,8 +12,7 @@ from models.reading import KeytabEntry
 from runs.harness import SECONDS, Report
 
 # A line of MIT's klist or ktutil that lists an entry, without its slot.
-LINE = re.compile(rb" *(\d+) (\d\d/\d\d/\d\d \d\d:\d\d:\d\d) +(.*)"
-                  rb" \((?:DEPRECATED:)?(\S+)\)  ?\(0x([0-9a-f]*)\) *")
+LINE = re.compile(rb" *(\d+) (\d\d/\d\d/\d\d \d\d:\d\d:\d\d) +(.*) \((?:DEPRECATED:)?(\S+)\)  ?\(0x([0-9a-f]*)\) *")
 
 # The prompt of MIT's ktutil, which it prints into a pipe too.
 PROMPT = b"ktutil:  "
