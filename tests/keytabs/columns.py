@@ -1,5 +1,7 @@
 """Listings with times, enctypes and keys. The expected results are written by hand."""
 
+from collections.abc import Iterable
+
 from keytabs.listings import B_LINE, HOST_LINE, case, listed
 from makers.images import B, BIG, HOST, TWO, Entry, hole, keytab, old, record
 from runs.harness import Case
@@ -48,7 +50,7 @@ def sample(letters: str) -> bytes:
     return listed(*(b"   3 " + time + name + etype + key for name, key in names), letters=letters)
 
 
-def of_enctypes(name: str, numbers) -> Case:
+def of_enctypes(name: str, numbers: Iterable[int]) -> Case:
     """Returns a listing of entries of those enctypes."""
     lines = (b"   3 a@R (%s)" % NAMES.get(number, b"etype %d" % number) for number in numbers)
     return case(name, keytab(*(Entry((b"a",), enctype=number, key=b"") for number in numbers)), *lines, letters="e")
