@@ -1,7 +1,6 @@
 """`klist -s`: whether a cache has a ticket to go on with, which the status alone says."""
 
 import os
-from collections.abc import Callable
 from dataclasses import replace
 
 from caches.cache_listings import of_host
@@ -108,18 +107,10 @@ CASES = [
     ask("a ticket that ends too soon", cache(HOST, replace(OVER, endtime=2**31)), NONE, "-s --for 2147483648"),
 ]
 
-
-def symlink(target: str) -> Callable[[str], None]:
-    """Returns a function that makes a link."""
-    return lambda path: os.symlink(target, path)
-
-
-# What stands under a name, beside a cache `c`, and the outcome.
-PLACES: dict[str, tuple[Callable[[str], object] | None, Outcome]] = {
-    "no": (None, NONE), "no/c": (None, NONE), "c/x": (None, UNREAD), "folder": (os.mkdir, UNREAD),
-    "link": (symlink("c"), VALID), "nowhere": (symlink("no"), NONE), "itself": (symlink("itself"), UNREAD),
-    "device": (symlink("/dev/null"), UNREAD), "way": (symlink("folder"), UNREAD), "x" * 256: (None, UNREAD),
-}
+# Links beside a cache `c` and a folder, and the outcomes of names there.
+LINKS = {"link": "c", "nowhere": "no", "itself": "itself", "device": "/dev/null", "way": "folder"}
+PLACES = {"no": NONE, "no/c": NONE, "c/x": UNREAD, "folder": UNREAD, "link": VALID, "nowhere": NONE, "itself": UNREAD,
+          "device": UNREAD, "way": UNREAD, "x" * 256: UNREAD}
 
 
 def check_silence(report: Report, program: str) -> None:
@@ -133,10 +124,10 @@ def check_silence(report: Report, program: str) -> None:
 def check_places(report: Report, program: str) -> None:
     """Checks names that lead to no plain file, a pipe among them, which is not opened."""
     with folder_of({"c": cache(TGT)}) as folder:
-        for name, (make, wanted) in PLACES.items():
-            if make:
-                make(os.path.join(folder, name))
-        for name, (_, wanted) in PLACES.items():
+        os.mkdir(os.path.join(folder, "folder"))
+        for name, target in LINKS.items():
+            os.symlink(target, os.path.join(folder, name))
+        for name, wanted in PLACES.items():
             report.compare(f"a name: {name[:20]}", wanted, run(program, ("klist", "-s", name), folder))
         with fed(os.path.join(folder, "pipe")) as opened:
             faults = differences(UNREAD, run(program, ("klist", "-s", "pipe"), folder))

@@ -178,4 +178,4 @@ def check(report: Report, program: str) -> None:
     if are_there(report, "keytabs beside MIT's programs"):
         for each in (check_read, check_same, check_reads, check_hidden):
             each(report, program)
-    check_in_realm(report, "copies used by MIT's programs", lambda made: check_used(report, program, made))
+    check_in_realm(report, program, "copies used by MIT's programs", check_used)

@@ -159,9 +159,5 @@ def check_version_3(report: Report, program: str, made: Realm) -> None:
 
 def check(report: Report, program: str) -> None:
     """Runs this topic if MIT's programs are installed."""
-
-    def checks(made: Realm) -> None:
-        for each in (check_removed, check_cut, check_expired, check_values, check_version_3):
-            each(report, program, made)
-
-    check_in_realm(report, "changes of caches beside MIT's programs", checks)
+    check_in_realm(report, program, "changes of caches beside MIT's programs", check_removed, check_cut, check_expired,
+                   check_values, check_version_3)

@@ -158,11 +158,6 @@ def link(target: str | bytes) -> Callable[[str], None]:
     return lambda folder: os.symlink(target, os.path.join(os.fsencode(folder), b"l"))
 
 
-def open_to_group(folder: str) -> None:
-    """Lets the group read the keytab."""
-    os.chmod(os.path.join(folder, "k"), 0o640)
-
-
 KEYTABS = [
     # A newline in the name of a file makes no line of its own.
     case("a missing file with a newline in its name", ("klist", "-k", "a\nb"), None, ("a\\x0ab: no such file", "")),
@@ -189,7 +184,7 @@ KEYTABS = [
     lambda: talk(WRITE, keytab(record(HOST.spelled().ljust(LIMIT - 6, b"\0"))), (3, "refused 3", code(3))),
     # A mode alone has its word, and no hint.
     case("ktcheck: a group that may read", "ktcheck k", TWO, ("", f"mode: {FINDINGS['mode']}"), status=0,
-         setting=open_to_group),
+         setting=lambda folder: os.chmod(os.path.join(folder, "k"), 0o640)),
     # Faulty lines of scripts and of ktutil.
     *(faulty(line, number) for number, line in first_of_each(LINE_FAULTS).items()),
     *(faulty_talk(line, number) for number, line in first_of_each(TALK_FAULTS).items()),
