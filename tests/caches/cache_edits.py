@@ -45,13 +45,6 @@ def no_room(name: str, room: int, wanted: Outcome | list[str], *script: str,
     return edit(name, cache(ticket, PA_TYPE), [SET_3, *script], wanted, cache(ticket, *after) if after else None)
 
 
-def full() -> Case:
-    """Returns a script over a cache of the greatest size."""
-    ticket = long_ticket(LIMIT - 22)
-    return edit("no room for a value", cache(ticket), ["config k - v", "cut 22"], refused("refused 3", "gone 22"),
-                cache(ticket.removed()))
-
-
 # The usual cache without its ticket, and rewritten.
 GONE = cache(TICKET.removed(), PA_TYPE, TICKET.removed(), fields=FIELDS)
 ANEW = cache(TICKET, PA_TYPE, fields=OFFSET)
@@ -113,8 +106,7 @@ CASES = [
     edit("a configuration entry", USUAL, ["cut 148"], ["gone 148"],
          cache(TICKET, PA_TYPE.removed(), TICKET.removed(), fields=FIELDS)),
     edit("of more fields", cache(LISTS), ["cut 22"], ["gone 22"], cache(LISTS.removed())),
-    edit("nothing stands there", USUAL, ["cut 3", "cut 284", "cut 392", "cut 4294967295"],
-         refused(*["refused 5"] * 4)),
+    edit("nothing stands there", USUAL, ["cut 3", "cut 284", "cut 392", "cut 4294967295"], refused(*["refused 5"] * 4)),
     edit("removed twice", USUAL, ["cut 40", "cut 40"], refused("gone 40", "refused 5"), GONE),
     edit("some refused, some done", USUAL, ["resume 285", "resume 284", "step 0", "cut 40"],
          refused("refused 4", "walk 0 at 284", "walk 0 end 392", "gone 40"), GONE),
@@ -161,22 +153,20 @@ CASES = [
     edit("version 3, damaged", VERSION_3[:129], ["cut 20", "cut 3", "config k - v", "rewrite", "resume 20", "step 0"],
          refused(*["refused 8"] * 3, "refused 1", "walk 0 at 20", "walk 0 fault 4 at 20")),
     edit("damaged", USUAL[:391], ["cut 40", "cut 3", "config k - v", SET_3, "rewrite"], refused(*["refused 1"] * 5)),
-    full,
+    lambda: edit("no room for a value", cache(long_ticket(LIMIT - 22)), ["config k - v", "cut 22"],
+                 refused("refused 3", "gone 22"), cache(long_ticket(LIMIT - 22).removed())),
     lambda: no_room("a byte too little room, and the old value stays", 135,
                     refused("refused 3", f"walk 0 at {LIMIT - 271}",
                             f"walk 0 gave {LIMIT - 271} next {LIMIT - 135} config pa_type(krbtgt/R@R)"),
                     f"resume {LIMIT - 271}", "step 0"),
     lambda: no_room("just room", 136, [f"placed {LIMIT - 136}", f"gone {LIMIT - 272}"],
                     after=(PA_TYPE.removed(), THREE)),
-    # Files that are missing or not a cache.
+    # Files that are missing. Those that are not a cache are among the messages that are explained.
     *(edit(f"no file, {line!r}", None, line.encode(), message(1, "c: no such file"))
       for line in ("start\n", "", "config k - v\n")),
     edit("no file, and a faulty line", None, ["frob"], message(1, "line 1: fault 1")),
     edit("an empty script", USUAL, [], []),
-    edit("an empty file", b"", ["start"], message(1, "c: not a cache (1)")),
-    edit("a keytab", b"\x05\x02", ["start"], message(1, "c: not a cache (2)")),
-    edit("a cut header", b"\x05\x04\0", ["start"], message(1, "c: not a cache (4)")),
-    edit("no default principal", b"\x05\x03", ["rewrite"], message(1, "c: not a cache (5)")),
+    edit("an empty file, and nothing to save", b"", ["start"], message(1, "c: not a cache (1)")),
     *(over(f"no folder, {line}", "ccedit no/c", None, message(1, "no/c: no such file"), given=line.encode())
       for line in ("start", "rewrite")),
 ]

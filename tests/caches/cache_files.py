@@ -10,39 +10,26 @@ from models.cache_reading import listed
 from runs.harness import Case, Outcome, Report, message
 from runs.rows import check_rows, over
 
-TOO_LARGE = message(1, "c: file too large")
-
 
 def sized(size: int) -> bytes:
     """Returns a cache of that size, with one long ticket."""
     return cache(replace(TICKET, ticket=bytes(size - len(cache(replace(TICKET, ticket=b""))))))
 
 
-def there(name: str) -> Case:
-    """Returns a listing of a cache of that name, whatever the name looks like."""
-    return over(f"cache name {name!r}", ("klist", "--", name), USUAL,
-                Outcome(0, listed(b"u@R", TICKET_LINE, name=name.encode())))
-
-
-def missing(name: str) -> Case:
-    """Returns a listing of a missing cache."""
-    return over(f"missing cache {name!r}", ("klist", "--", name), None, message(1, f"{name}: no such file"))
-
-
-CASES = [*map(there, NAMES), *map(missing, ("c", "a c", "no/c", ""))]
+# Caches of names of all kinds, and missing ones.
+CASES = [
+    *(over(f"cache name {name!r}", ("klist", "--", name), USUAL,
+           Outcome(0, listed(b"u@R", TICKET_LINE, name=name.encode()))) for name in NAMES),
+    *(over(f"missing cache {name!r}", ("klist", "--", name), None, message(1, f"{name}: no such file"))
+      for name in ("c", "a c", "no/c", "")),
+]
 
 
 def sizes() -> list[Case]:
     """Returns listings of the greatest cache that is read, and of one that is a byte longer."""
-    return [
-        over("a cache of 16777216 bytes", "klist -- c", sized(LIMIT), Outcome(0, listed(b"u@R", TICKET_LINE))),
-        over("a cache of 16777217 bytes", "klist -- c", sized(LIMIT + 1), TOO_LARGE),
-    ]
-
-
-def listing(name: str, cells: bytes, *lines: bytes) -> Case:
-    """Returns a listing with configuration entries."""
-    return over(name, "klist -C c", cache(cells), Outcome(0, listed(b"u@R", *lines)))
+    return [over(f"a cache of {size} bytes", "klist -- c", sized(size), wanted)
+            for size, wanted in ((LIMIT, Outcome(0, listed(b"u@R", TICKET_LINE))),
+                                 (LIMIT + 1, message(1, "c: file too large")))]
 
 
 def large() -> list[Case]:
@@ -51,13 +38,12 @@ def large() -> list[Case]:
     client = Name((), count=count).spelled() + bytes(4 * count)
     smallest = Credential(Name((), b""), Name((), b""), 0, None, b"", 0, 0, 0, flags=0, ticket=b"")
     line = b"1970-01-01T00:00:00Z 1970-01-01T00:00:00Z @"
-    return [
-        listing("4,000,000 components", client + TICKET.spelled()[len(U.spelled()):], TICKET_LINE),
-        listing("a value of 16,000,000 bytes", config(b"k", b"\xff" * 16_000_000).spelled(),
-                b"config: k = " + b"\\xff" * 16_000_000),
-        listing("225,000 credentials of 67 bytes", smallest.spelled() * 225_000, *[line] * 225_000),
-        listing("as many that were removed", smallest.removed().spelled() * 225_000),
-    ]
+    return [over(name, "klist -C c", cache(cells), Outcome(0, listed(b"u@R", *lines))) for name, cells, lines in (
+        ("4,000,000 components", client + TICKET.spelled()[len(U.spelled()):], [TICKET_LINE]),
+        ("a value of 16,000,000 bytes", config(b"k", b"\xff" * 16_000_000).spelled(),
+         [b"config: k = " + b"\\xff" * 16_000_000]),
+        ("225,000 credentials of 67 bytes", smallest.spelled() * 225_000, [line] * 225_000),
+        ("as many that were removed", smallest.removed().spelled() * 225_000, []))]
 
 
 def check(report: Report, program: str) -> None:

@@ -1,14 +1,15 @@
-"""Listings of small caches by `klist`. Each expected text is written by hand from the layout."""
+"""Listings of small caches by `klist`, some damaged. Each expected text is written by hand from the layout."""
 
 from dataclasses import replace
 from functools import partial
 
 from keytabs.columns import KNOWN_TIMES, NAMES
 from keytabs.listings import QUOTED, QUOTES
-from makers.cache_images import CONFIG_FIRST, CONFIG_REALM, Credential, Name, cache, config
+from makers.cache_images import (CONFIG_FIRST, CONFIG_REALM, KRBTGT, Credential, Name, cache, config, header_field,
+                                 offset)
 from makers.usual_caches import PA_TYPE, TICKET, USUAL, VERSION_3, config_ticket
 from models.cache_reading import FLAGS, listed
-from runs.harness import Case, Outcome
+from runs.harness import Case, Outcome, message
 from runs.rows import over
 
 START, END = b"2023-11-14T22:13:20Z", b"2023-11-15T08:13:20Z"
@@ -50,6 +51,26 @@ def configured(name: str, cell: Credential, *lines: bytes) -> Case:
     return case(f"configuration, {name}", cache(cell, TICKET), *lines, TICKET_LINE, columns="C")
 
 
+def no_cache(name: str, image: bytes, why: int) -> Case:
+    """Returns a listing of a file that is not a cache."""
+    return over(f"no cache: {name}", "klist c", image, message(1, f"c: not a cache ({why})"))
+
+
+def front(length: int) -> Case:
+    """Returns a listing of the first bytes of the usual cache."""
+    name, image = f"the first {length} bytes", USUAL[:length]
+    if length < 40:
+        return no_cache(name, image, 1 if length < 2 else 4 if length < 22 else 5)
+    lines = {40: (), 148: (TICKET_LINE,), 284: (TICKET_LINE, CONFIG_LINE), 392: (TICKET_LINE, CONFIG_LINE)}
+    place = max(place for place in lines if place <= length)
+    fault = [] if length == place else [b"fault 4 at %d" % place]
+    return case(name, image, *lines[place], *fault, columns="C")
+
+
+FIELD = header_field(9, b"\xab\xcd")
+COUNT = 129  # the place of the count of the ticket's addresses
+
+
 # A starttime or a renewal time of 0 means none.
 TIMED = {second: text for second, text in KNOWN_TIMES.items() if second}
 
@@ -66,11 +87,7 @@ ESCAPED = (b"".join(b"\\x%02x" % byte for byte in range(0x20)) + bytes(range(0x2
 OF_CONFIG = TIMES + CONFIG_FIRST
 
 CASES = [
-    # Caches without faults.
-    case("the usual one", USUAL, TICKET_LINE),
-    case("the usual one, -C", USUAL, TICKET_LINE, CONFIG_LINE, columns="C"),
-    case("the usual one, -f -e", USUAL, TICKET_LINE, FLAGS_LINE, ETYPE_LINE, columns="fe"),
-    case("the usual one, all columns", USUAL, TICKET_LINE, FLAGS_LINE, ETYPE_LINE, CONFIG_LINE, columns="efC"),
+    # Caches without faults. The usual one is listed with each set of columns by lines of words.
     case("no credential", cache()),
     case("no credential, all columns", cache(), columns="efC"),
     case("removed ones alone", cache(TICKET.removed(), PA_TYPE.removed()), columns="C"),
@@ -150,4 +167,42 @@ CASES = [
                OF_CONFIG + b"/k@X-RMED-CONF:"),
     case("configuration entries without -C", cache(config(b"k", b"v"), TICKET, PA_TYPE), TICKET_LINE, FLAGS_LINE,
          columns="f"),
+    # Headers with one time offset, several or none.
+    *(case(f"header, {name}", cache(TICKET, fields=fields), TICKET_LINE) for name, fields in (
+        ("an offset", offset(300, 54_321)),
+        ("two offsets", offset(5, 0) + offset(9, 0)),
+        ("an offset of 4 bytes", header_field(1, bytes(4))),
+        ("a field without a value", header_field(7, b"")),
+        ("unknown tags", FIELD + header_field(65_535, bytes(40))),
+        ("300 fields", b"".join(header_field(tag, b"x" * tag) for tag in range(300))),
+        ("a field of 65,531 bytes", header_field(3, bytes(65_531))))),
+    # Bytes that do not begin a credential: what precedes them is listed, what follows is not.
+    case("a byte after the last credential", USUAL + b"\0", TICKET_LINE, b"fault 4 at 392"),
+    case("a byte after the last, -C", USUAL + b"\0", TICKET_LINE, CONFIG_LINE, b"fault 4 at 392", columns="C"),
+    case("the greatest count of components", USUAL[:40] + bytes.fromhex("00000001 ffffffff 00000001 52"),
+         b"fault 4 at 40"),
+    case("the greatest count of addresses", USUAL[:COUNT] + b"\xff" * 4 + USUAL[COUNT + 4:], b"fault 4 at 40"),
+    lambda: case("the greatest count before a million zeros",
+                 cache(TICKET.client.spelled() + b"\0\0\0\0" + b"\xff" * 4 + bytes(1_000_000)), b"fault 4 at 22"),
+    case("a bad credential before a good one", cache(replace(TICKET, client=Name(count=2**31)), TICKET),
+         b"fault 4 at 22"),
+    case("a credential whose last byte is the next one's first", cache(TICKET.spelled()[:-1], of_host()), TICKET_LINE,
+         b"fault 4 at 130"),
+    case("a fault after one that was removed", cache(TICKET.removed()) + b"x", b"fault 4 at 130"),
+    # Each prefix of the usual cache.
+    *map(front, range(len(USUAL) + 1)),
+    # Other files that do not begin as a cache.
+    no_cache("header with a byte left", cache(TICKET, fields=FIELD + b"\0"), 4),
+    no_cache("header with half a field left", cache(TICKET, fields=FIELD + b"\0\1\0"), 4),
+    no_cache("header with a field that runs past it", cache(TICKET, fields=b"\0\1\0\x09" + bytes(8)), 4),
+    no_cache("header with a field of the greatest length", cache(TICKET, fields=b"\0\x09\xff\xff"), 4),
+    no_cache("version 1", b"\x05\x01" + USUAL[2:], 2),
+    no_cache("version 2", b"\x05\x02", 2),
+    no_cache("version 5", b"\x05\x05" + USUAL[2:], 2),
+    no_cache("another first byte", b"\x04\x04" + USUAL[2:], 2),
+    no_cache("a text", b"no cache\n", 2),
+    no_cache("a header that runs past the file", bytes.fromhex("0504 ffff 0001ffff") + KRBTGT.spelled(), 4),
+    no_cache("no default principal", b"\x05\x04\0\0", 5),
+    no_cache("version 3 without a default principal", b"\x05\x03", 5),
+    no_cache("a default principal of the greatest count", b"\x05\x03" + Name((), b"R", count=2**32 - 1).spelled(), 5),
 ]

@@ -8,7 +8,7 @@ from keytabs.removals import check_left_alone, check_mode
 from makers.cache_images import Credential, Name, cache, config, header_field, offset
 from makers.usual_caches import FIELDS, OFFSET, PA_TYPE, TICKET, USUAL, VERSION_3, config_ticket
 from runs.harness import Case, Outcome, Report, folder_of, message, run
-from runs.rows import BAD_LINE, over
+from runs.rows import over
 
 NOT_FOUND = message(1, "c: refused 9")
 DAMAGED = message(1, "c: refused 1")
@@ -74,8 +74,7 @@ CASES = [
     remove("of a service", MANY, "-p host/a@R", [AT_392, AT_606], left(TGT, PA_TYPE, LATER)),
     remove("of another", MANY, "-p krbtgt/R@R", [AT_40, AT_284], left(PA_TYPE, HOST, LATER_HOST)),
     remove("expired ones", MANY, "--expired", [AT_40, AT_392], left(PA_TYPE, LATER, LATER_HOST)),
-    remove("expired ones of a service", MANY, "--expired -p host/a@R", [AT_392],
-           left(TGT, PA_TYPE, LATER, LATER_HOST)),
+    remove("expired ones of a service", MANY, "--expired -p host/a@R", [AT_392], left(TGT, PA_TYPE, LATER, LATER_HOST)),
     remove("by another text of the name", MANY, r"-p \host/a@R", [AT_392, AT_606], left(TGT, PA_TYPE, LATER)),
     remove("a value that begins with =", MANY, "-p=host/a@R", NOT_FOUND),
     remove("a dry run", MANY, "-n -p host/a@R", [AT_392, AT_606]),
@@ -135,11 +134,6 @@ CASES = [
     *(Case(f"{file}, {words}", ("ccremove", *words.split(), file), wanted, {"c": USUAL})
       for file, wanted in (("no", message(1, "no: no such file")), (".", message(3, ".: cannot read")))
       for words in ("--expired", "-n --expired")),
-    # Lines that are refused.
-    *(Case(line, ("ccremove", *line.split()), BAD_LINE, {"c": MANY}) for line in (
-        "-p b@R", "-n --expired", "-p b@R -p b@R c", "-p b@R -p c@R c", "-p b@R c -pb@R", "-p b@R@R c", "-p b@R/ c",
-        "-p b@R\\ c", "-p b@R c more", "-x --expired c", "-k old c", "-e 17 c", "--expired -n=yes c",
-        "--v1-big --expired c", "--dry-run=yes --expired c", "-expired c")),
 ]
 
 
@@ -153,8 +147,7 @@ def check_keys(report: Report, program: str) -> None:
             with open(os.path.join(folder, "c"), "rb") as file:
                 after = file.read()
         found = [key for key in (oldest, OLD_KEY, NEW_KEY) if key in after]
-        report.check(f"keys, {words}",
-                     [] if (got.status, found) == (0, kept) else [f"{found} are left by {got}"])
+        report.check(f"keys, {words}", [] if (got.status, found) == (0, kept) else [f"{found} are left by {got}"])
 
 
 def check(report: Report, program: str) -> None:

@@ -1,7 +1,6 @@
 """`klist -s`: whether a cache has a ticket to go on with, which the status alone says."""
 
 import os
-from collections.abc import Callable
 from dataclasses import replace
 
 from caches.cache_listings import of_host
@@ -10,7 +9,7 @@ from makers.cache_images import Credential, Name, cache, config, header_field, o
 from makers.images import TWO
 from makers.usual_caches import OFFSET, PA_TYPE, TICKET, USUAL, VERSION_3, config_ticket
 from runs.harness import Case, Outcome, Report, differences, folder_of, run
-from runs.rows import BAD_LINE, Line, check_rows, shown, words_of
+from runs.rows import check_rows, words_of
 from runs.terminal import runs_with_words
 from system.pipe_files import fed
 
@@ -100,39 +99,18 @@ LASTING = ["-s", "-c -s", "-sc", "-s -s", "-s --for 0", "-s --for=0", "--for 0 -
 # After these seconds none is left: the clock and they come to more than the greatest time, or to more than 32 bits.
 TOO_LONG = ["-s --for 4294967295", "--for=4294967295 -s", "-s --for 3000000000"]
 
-REFUSED: list[str | Line] = [
-    "klist -s c c", "klist -s -k c", "klist -sk c", "klist -k -s c", "klist -s --json c",
-    "klist --json c -s", "klist -se c", "klist -s -f c", "klist -C -s c", "klist -st c", "klist -sK c",
-    "klist -s --v1-big c", "klist -s=yes c", "klist --for 3 c", "klist -c --for=3 c", "klist -k --for 3 c",
-    "klist --json --for 3 c", "klist -s --for 3 --for 3 c", "klist -s --for=3 --for 4 c", "klist -s --for c",
-    "klist -s c --for", "klist -s --for x c", "klist -s --for= c", "klist -s --for -1 c",
-    "klist -s --for +1 c", "klist -s --for 1.5 c", "klist -s --for 1h c", "klist -s --for 0x3 c",
-    "klist -s --for 4294967296 c", "klist -s --for 00000000003 c", "klist -s --fo 3 c", "klist -s -for 3 c",
-    ("klist", "-s", "--for", "", "c"), ("klist", "-s", "--for", " 3", "c"), ("klist", "-s", b"\xff"),
-    ("klist", "-s", "c", ""),
-]
-
 CASES = [
     *(ask(name, cache(*those), wanted) for name, those, wanted in TICKETS),
     *(ask(name, image, wanted) for name, image, wanted in FILES),
     *(ask("for a while", cache(TGT), VALID, options) for options in LASTING),
     *(ask("for too long", cache(TGT), NONE, options) for options in TOO_LONG),
     ask("a ticket that ends too soon", cache(HOST, replace(OVER, endtime=2**31)), NONE, "-s --for 2147483648"),
-    *(Case(shown(line), words_of(line), BAD_LINE, {"c": cache(TGT)}) for line in REFUSED),
 ]
 
-
-def symlink(target: str) -> Callable[[str], None]:
-    """Returns a function that makes a link."""
-    return lambda path: os.symlink(target, path)
-
-
-# What stands under a name, beside a cache `c`, and the outcome.
-PLACES: dict[str, tuple[Callable[[str], object] | None, Outcome]] = {
-    "no": (None, NONE), "no/c": (None, NONE), "c/x": (None, UNREAD), "folder": (os.mkdir, UNREAD),
-    "link": (symlink("c"), VALID), "nowhere": (symlink("no"), NONE), "itself": (symlink("itself"), UNREAD),
-    "device": (symlink("/dev/null"), UNREAD), "way": (symlink("folder"), UNREAD), "x" * 256: (None, UNREAD),
-}
+# Links beside a cache `c` and a folder, and the outcomes of names there.
+LINKS = {"link": "c", "nowhere": "no", "itself": "itself", "device": "/dev/null", "way": "folder"}
+PLACES = {"no": NONE, "no/c": NONE, "c/x": UNREAD, "folder": UNREAD, "link": VALID, "nowhere": NONE, "itself": UNREAD,
+          "device": UNREAD, "way": UNREAD, "x" * 256: UNREAD}
 
 
 def check_silence(report: Report, program: str) -> None:
@@ -146,10 +124,10 @@ def check_silence(report: Report, program: str) -> None:
 def check_places(report: Report, program: str) -> None:
     """Checks names that lead to no plain file, a pipe among them, which is not opened."""
     with folder_of({"c": cache(TGT)}) as folder:
-        for name, (make, wanted) in PLACES.items():
-            if make:
-                make(os.path.join(folder, name))
-        for name, (_, wanted) in PLACES.items():
+        os.mkdir(os.path.join(folder, "folder"))
+        for name, target in LINKS.items():
+            os.symlink(target, os.path.join(folder, name))
+        for name, wanted in PLACES.items():
             report.compare(f"a name: {name[:20]}", wanted, run(program, ("klist", "-s", name), folder))
         with fed(os.path.join(folder, "pipe")) as opened:
             faults = differences(UNREAD, run(program, ("klist", "-s", "pipe"), folder))

@@ -1,5 +1,7 @@
 """Listings with times, enctypes and keys. The expected results are written by hand."""
 
+from collections.abc import Iterable
+
 from keytabs.listings import B_LINE, HOST_LINE, case, listed
 from makers.images import B, BIG, HOST, TWO, Entry, hole, keytab, old, record
 from runs.harness import Case
@@ -48,28 +50,16 @@ def sample(letters: str) -> bytes:
     return listed(*(b"   3 " + time + name + etype + key for name, key in names), letters=letters)
 
 
-def of_enctypes(name: str, numbers) -> Case:
+def of_enctypes(name: str, numbers: Iterable[int]) -> Case:
     """Returns a listing of entries of those enctypes."""
     lines = (b"   3 a@R (%s)" % NAMES.get(number, b"etype %d" % number) for number in numbers)
     return case(name, keytab(*(Entry((b"a",), enctype=number, key=b"") for number in numbers)), *lines, letters="e")
 
 
-def of_keys(name: str, *keys: bytes) -> Case:
-    """Returns a listing of entries of those keys."""
-    lines = (b"   3 a@R (0x%s)" % key.hex().encode() for key in keys)
-    return case(name, keytab(*(Entry((b"a",), key=key) for key in keys)), *lines, letters="K")
-
-
-def times_of(name: str, texts: dict[int, bytes]) -> Case:
-    """Returns a listing of entries of those times."""
-    return case(name, keytab(*(Entry((b"a",), timestamp=second) for second in texts)),
-                *(b"   3 " + text + b" a@R" for text in texts.values()), letters="t")
-
-
 SETS = ["", "t", "e", "K", "te", "tK", "eK", "teK"]
 HOST_ALL = b"   3 " + TIME + b"host/a@R" + ETYPE + HOST_KEY
 B_ALL = b"   3 " + TIME + b"b@R" + ETYPE + B_KEY
-BYTES = bytes(range(256))
+KEYS = [(bytes(range(256)) * 256)[:length] for length in (*range(70), 255, 256, 4_095, 4_096, 32_767, 32_768, 65_535)]
 
 CASES = [
     # No entry at all, with each set of columns; lines of words list TWO with each.
@@ -90,19 +80,12 @@ CASES = [
     case("a cut record", TWO[:-1], b"   3 " + TIME + b"host/a@R", b"fault 2 at 53", letters="t"),
     case("a cut length", TWO + b"\0", HOST_LINE + HOST_KEY, B_LINE + B_KEY, b"fault 1 at 98", letters="K"),
     case("version 1 in the other order", old(HOST, B, order=BIG), b"fault 2 at 2", letters="e"),
-    # Each enctype that has a name, and all other numbers.
-    *(of_enctypes(f"enctype {text.decode()}", [number]) for number, text in NAMES.items()),
-    *(case(f"enctype {number}", keytab(Entry((b"a",), enctype=number)), b"   3 a@R (etype %d)" % number, letters="e")
-      for number in (0, 1, 15, 21, 22, 24, 27, 65_535)),
+    # Each enctype that has a name, some other numbers, and all of them.
+    of_enctypes("enctypes", [*NAMES, 0, 1, 15, 21, 22, 24, 27, 65_535]),
     lambda: of_enctypes("all enctypes", range(65_536)),
-    # Keys of several lengths.
-    of_keys("an empty key", b""),
-    of_keys("a key of one byte", b"\xa9"),
-    of_keys("each byte", BYTES),
-    of_keys("each byte alone", *(bytes([byte]) for byte in BYTES)),
-    of_keys("keys of many lengths",
-            *((BYTES * 256)[:length] for length in (*range(70), 255, 256, 4_095, 4_096, 32_767, 32_768, 65_535))),
-    # Each time alone, and all of them.
-    *(times_of(f"time {second}", {second: text}) for second, text in KNOWN_TIMES.items()),
-    times_of("all times", KNOWN_TIMES),
+    # Keys of several lengths, some of which have each byte.
+    case("keys", keytab(*(Entry((b"a",), key=key) for key in KEYS)),
+         *(b"   3 a@R (0x%s)" % key.hex().encode() for key in KEYS), letters="K"),
+    case("times", keytab(*(Entry((b"a",), timestamp=second) for second in KNOWN_TIMES)),
+         *(b"   3 " + text + b" a@R" for text in KNOWN_TIMES.values()), letters="t"),
 ]

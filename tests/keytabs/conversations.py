@@ -51,6 +51,15 @@ class Talk:
         if select.select([self.run.stdout, self.run.stderr], [], [], 0.2)[0]:
             self.found.append("something came")
 
+    def go(self, *lines: tuple[bytes, bytes]) -> None:
+        """Sends some bytes, and waits for the output or the message that comes, or for nothing; then the next."""
+        for sent, wanted in lines:
+            self.send(sent)
+            if wanted:
+                self.hear(wanted, self.run.stderr if wanted.startswith(b"krbfile: ") else self.run.stdout)
+            else:
+                self.hear_nothing()
+
     def end(self, wanted: Outcome) -> None:
         """Checks that the run ends by itself, with that output and no more."""
         try:
@@ -61,41 +70,9 @@ class Talk:
             self.found.append("it does not end")
 
 
-def talk_lines(talk: Talk) -> None:
-    """Sends lines one by one, one in pieces, with some faulty ones among them."""
-    talk.send(b"l\n")
-    talk.hear(NO_SLOTS)
-    talk.send(b"rkt k\nl\n")
-    talk.hear(LISTED)
-    talk.send(b"frob\n")
-    talk.hear(b"krbfile: line 4: fault 1\n", talk.run.stderr)
-    talk.send(b"cle")
-    talk.hear_nothing()
-    talk.send(b"ar\nl\n")
-    talk.hear(NO_SLOTS)
-
-
-def talk_to_quit(talk: Talk) -> None:
-    """Checks that the run ends after a `quit` with its input left open."""
-    talk_lines(talk)
-    talk.send(b"q\n")
-    talk.end(Outcome(1))
-    os.close(talk.input_end)
-
-
-def talk_to_end(talk: Talk) -> None:
-    """Checks that a last line is handled if the input ends within it."""
-    talk_lines(talk)
-    talk.send(b"l")
-    talk.hear_nothing()
-    os.close(talk.input_end)
-    talk.end(Outcome(1, NO_SLOTS))
-
-
 def talk_to_nobody(talk: Talk) -> None:
     """Closes the reader of the output: the run ends at once, though its input is still open."""
-    talk.send(b"l\n")
-    talk.hear(NO_SLOTS)
+    talk.go((b"l\n", NO_SLOTS))
     talk.run.stdout.close()
     talk.send(b"l\n")
     err = talk.run.stderr.read()
@@ -106,15 +83,14 @@ def talk_to_nobody(talk: Talk) -> None:
     os.close(talk.input_end)
 
 
-def talk_at_terminal(talk: Talk) -> None:
-    """Checks that a terminal gives whole lines, and that its end-of-file character ends the input."""
-    talk_lines_at_terminal = (b"l\n", NO_SLOTS), (b"rkt k\nl\n", LISTED)
-    for line, wanted in talk_lines_at_terminal:
-        talk.send(line)
-        talk.hear(wanted)
-    talk.send(b"\x04")
-    talk.end(Outcome(0))
+def talk_to_end(talk: Talk, last: bytes, wanted: Outcome) -> None:
+    """Checks that the run ends by some last bytes with its input left open, or by the end of the input."""
+    if last:
+        talk.send(last)
+        talk.end(wanted)
     os.close(talk.input_end)
+    if not last:
+        talk.end(wanted)
 
 
 def listed_at(now: int) -> bytes:
@@ -127,8 +103,7 @@ def check_start(report: Report, program: str) -> None:
     before = int(time.time())
     with folder_of({}) as folder:
         talk = Talk(program, folder, *os.pipe())
-        talk.send(b"l\n")
-        talk.hear(NO_SLOTS)
+        talk.go((b"l\n", NO_SLOTS))
         started = int(time.time())
         time.sleep(1.5)
         talk.send(text([ADDENT, KEY, "l -t"]))
@@ -149,17 +124,27 @@ def terminal() -> tuple[int, int]:
     return slave, master
 
 
+# Lines that are sent one by one, one in pieces, some faulty, each with what comes of it.
+LINES = [(b"l\n", NO_SLOTS), (b"rkt k\nl\n", LISTED), (b"frob\n", b"krbfile: line 4: fault 1\n"), (b"cle", b""),
+         (b"ar\nl\n", NO_SLOTS)]
+
+# How the input is open, the lines, the last bytes, and how the run ends. A last line is handled if the input ends
+# within it. A terminal gives whole lines, and its end-of-file character ends the input.
+TALKS = [("up to quit", os.pipe, LINES, b"q\n", Outcome(1)),
+         ("up to the end of the input", os.pipe, [*LINES, (b"l", b"")], b"", Outcome(1, NO_SLOTS)),
+         ("at a terminal", terminal, LINES[:2], b"\x04", Outcome(0))]
+
+
 def check(report: Report, program: str) -> None:
     """Runs this topic."""
-    talks = [
-        ("up to quit", os.pipe, talk_to_quit),
-        ("up to the end of the input", os.pipe, talk_to_end),
-        ("until nobody listens", os.pipe, talk_to_nobody),
-        ("at a terminal", terminal, talk_at_terminal),
-    ]
-    for name, opened, go in talks:
+    for name, opened, lines, last, wanted in TALKS:
         with folder_of({"k": TWO}) as folder:
             talk = Talk(program, folder, *opened())
-            go(talk)
+            talk.go(*lines)
+            talk_to_end(talk, last, wanted)
         report.check(f"ktutil answers line by line, {name}", talk.found)
+    with folder_of({"k": TWO}) as folder:
+        talk = Talk(program, folder, *os.pipe())
+        talk_to_nobody(talk)
+    report.check("ktutil answers line by line, until nobody listens", talk.found)
     check_start(report, program)

@@ -11,7 +11,7 @@ from keytabs.finds import AES256, FIVE, NOT_FOUND
 from keytabs.removals import B3, FOUR, versioned
 from makers.images import B, BIG, END, HOST, TWO, Entry, hole, keytab, old, record
 from runs.harness import Case, Outcome, Report, message
-from runs.rows import BAD_LINE, check_rows, printed, words_of
+from runs.rows import check_rows, printed, words_of
 
 X = "kvno 3 etype 17 host/a@R"
 Y = "kvno 3 etype 17 b@R"
@@ -204,14 +204,6 @@ ORDER = [
     copy("a name that is too long and not selected", "-e 17 -p b@R", keytab(LONG, B), old(), [f"copied 2 {Y}"], old(B)),
 ]
 
-REFUSED = (
-    "-n k", "-p b@R k", "-p", "-k", "-e", "-p b@R@R k t", "-p b@R/ k t", "-p= k t", "-k 3 -k 3 k t",
-    "-k new -k 3 k t", "-k New k t", "-k any k t", "-k -1 k t", "-k 4294967296 k t", "-k=new k t", "-e any k t",
-    "-e 65536 k t", "-e=17 k t", "-n=yes k t", "--repl k t", "--v1-big=yes k t", "-r k t", "--expired k t",
-    "-k new --age 3 k t", "-v1-big k t",
-)
-
-
 def large() -> list[Case]:
     """Returns copies into a file that is as large as it may be."""
     longer = replace(B, key=bytes(17))
@@ -232,9 +224,6 @@ CASES = [
     *SELECTED, *MET, *PLACED, *ORDER,
     copy("many other keys", "--replace", keytab(*MANY), keytab(*(replace(one, key=bytes(16)) for one in MANY)),
          MANY_LINES, keytab(*MANY)),
-    *(Case(f"ktcopy {line}", ("ktcopy", *line.split()), BAD_LINE, {"k": TWO, "t": keytab(B)}) for line in REFUSED),
-    *(Case(f"ktcopy {line}", ("ktcopy", *line), BAD_LINE, {"k": TWO}) for line in (
-        ("k", b"\xff"), (b"\xff", "t"), ("-p", b"\xff@R", "k", "t"), ("k", "t", ""), ("-k", "", "k", "t"))),
 ]
 
 

@@ -71,13 +71,6 @@ def full_of_version_one() -> bytes:
     return front + old(Entry(key=bytes(LIMIT - len(front) - 4 - bare), version32=None))[2:]
 
 
-def file_is_full() -> Case:
-    """Returns a script over a keytab of the greatest size, which takes an entry only in place of another."""
-    large = record(B.spelled() + bytes(LIMIT - 2 - 4 - 47 - 4 - 41))
-    return edit("the file is full", keytab(HOST, large), [ADD_B, "cut 2", ADD_B],
-                refused("refused 3", "gone 2", "placed 2"), keytab(record(B.spelled() + bytes(6)), large))
-
-
 CASES = [
     # Walks over an unchanged keytab.
     edit("a walk to the end and on", TWO, ["start", *["step 0"] * 4],
@@ -119,13 +112,11 @@ CASES = [
     edit("a second run: the walk goes on", TWO, ["cut 53", ADD_C, "resume 53", "step 0", "step 0"],
          ["gone 53", "placed 53", "walk 0 at 53", GAVE_B.replace("b@R", "c@R"), "walk 0 end 98"], keytab(HOST, C)),
     # Where entries are added and removed, and when that is refused.
-    edit("the first hole with room", keytab(47, 41), [ADD_B], ["placed 2"],
-         keytab(record(B.spelled() + bytes(6)), 41)),
+    edit("the first hole with room", keytab(47, 41), [ADD_B], ["placed 2"], keytab(record(B.spelled() + bytes(6)), 41)),
     edit("a hole of just that size", keytab(hole(b"\xff" * 40), hole(b"\xff" * 41), hole(b"\xff" * 41)), [ADD_B],
          ["placed 46"], keytab(hole(b"\xff" * 40), B, hole(b"\xff" * 41))),
     edit("before an end mark", MARKED, [ADD_B], ["placed 53"], keytab(HOST, B, END)),
-    edit("before an end mark with more behind it", MARKED + b"\xff" * 30, [ADD_B], ["placed 53"],
-         keytab(HOST, B, END)),
+    edit("before an end mark with more behind it", MARKED + b"\xff" * 30, [ADD_B], ["placed 53"], keytab(HOST, B, END)),
     edit("a removal leaves zeros", TWO, ["cut 2"], ["gone 2"], keytab(47, B)),
     edit("a removal of a padded record", keytab(record(B.spelled() + b"\xff" * 5)), ["cut 2"], ["gone 2"], keytab(46)),
     edit("no record there", TWO, ["cut 3", "cut 98", "cut 4294967295"], refused(*["refused 5"] * 3)),
@@ -162,7 +153,10 @@ CASES = [
     edit("version 1", old(HOST), [ADD_B], ["placed 49"], old(HOST, B)),
     edit("version 1, big-endian", old(HOST, order=BIG), [ADD_B], ["placed 49"], old(HOST, B, order=BIG), "--v1-big"),
     edit("one byte", b"\x05", [ADD_B], message(1, "k: not a keytab (1)")),
-    file_is_full,
+    # A keytab of the greatest size takes an entry only in place of another.
+    lambda: edit("the file is full", keytab(HOST, record(B.spelled().ljust(LIMIT - 57, b"\0"))),
+                 [ADD_B, "cut 2", ADD_B], refused("refused 3", "gone 2", "placed 2"),
+                 keytab(record(B.spelled() + bytes(6)), record(B.spelled().ljust(LIMIT - 57, b"\0")))),
     over("no folder", "ktedit no/k", None, message(3, "no/k: cannot write"), given=[ADD_B]),
     over("no folder, and nothing to save", "ktedit no/k", None, ["walk 0 at 2"], given=b"start"),
 ]

@@ -2,10 +2,12 @@
 
 import os
 import subprocess
+from functools import partial
 
 from keytabs.listings import B_LINE, HOST_LINE, listed
 from makers.images import HOST, TWO, keytab
 from runs.harness import Case, Outcome, Report, folder_of, message, run
+from runs.rows import over
 
 # The greatest size of a file that is read.
 LIMIT = 16_777_216
@@ -22,27 +24,17 @@ def sized(size: int) -> bytes:
     return keytab(HOST, size - len(keytab(HOST)) - 4)
 
 
-def klist(name: str, file: str, wanted: Outcome, files: dict[str, bytes]) -> Case:
-    """Returns a listing of a file of that name, whatever the name looks like."""
-    return Case(name, ("klist", "-k", "--", file), wanted, files)
-
-
-def there(name: str, file: str, kept: str) -> Case:
-    """Returns a listing of a file that exists."""
-    return klist(name, file, Outcome(0, listed(HOST_LINE, B_LINE, name=file.encode())), {kept: TWO})
-
-
 TOO_LARGE = message(1, "k: file too large")
 
+# The greatest file that is read, one that is a byte longer, and one that is not a keytab in any case.
 CASES = [
-    there("file name with a path", "./k", "k"),
-    *(there(f"file name {name!r}", name, name) for name in NAMES),
-    *(klist(f"missing file {name!r}", name, message(1, f"{name}: no such file"), {"j": TWO})
-      for name in ("k", "a k", "no/k", "")),
-    # The greatest file that is read, one that is a byte longer, and one that is not a keytab in any case.
-    lambda: klist("a file of 16777216 bytes", "k", Outcome(0, listed(HOST_LINE)), {"k": sized(LIMIT)}),
-    lambda: klist("a file of 16777217 bytes", "k", TOO_LARGE, {"k": sized(LIMIT + 1)}),
-    lambda: klist("a large file that is no keytab", "k", TOO_LARGE, {"k": bytes(LIMIT + 1)}),
+    *(Case(f"file name {file!r}", ("klist", "-k", "--", file),
+           Outcome(0, listed(HOST_LINE, B_LINE, name=file.encode())), {os.path.normpath(file): TWO})
+      for file in ("./k", *NAMES)),
+    *(Case(f"missing file {file!r}", ("klist", "-k", "--", file), message(1, f"{file}: no such file"), {"j": TWO})
+      for file in ("k", "a k", "no/k", "")),
+    *(partial(over, f"a file of {size} bytes", "klist -k -- k", image(size), wanted) for size, image, wanted in (
+        (LIMIT, sized, Outcome(0, listed(HOST_LINE))), (LIMIT + 1, sized, TOO_LARGE), (LIMIT + 1, bytes, TOO_LARGE))),
 ]
 
 

@@ -69,49 +69,45 @@ def many_quoted(slash: bytes) -> bytes:
     return b"/".join([slash * 253] * MANY)
 
 
-def listings() -> list[Case]:
-    """Returns listings of keytabs."""
+def reads() -> list[Case]:
+    """Returns listings, also as JSON, checks and look-ups. Counts of 0 and above 32,767 hide entries from MIT's
+    programs."""
+    lists, image, many = KLIST_HEADING, filled(least()), filled(of_many())
     keys = keytab(*[Entry(key=bytes(LONGEST), version32=None)] * 255)
-    lines = (b"   3 host/a@R (0x" + b"00" * LONGEST + b")\n") * 255
-    return [
-        over("klist, the most entries", "klist -k k", filled(least()),
-             Outcome(0, KLIST_HEADING + b"   0 @\n" * COUNT)),
-        over("klist, the most holes", "klist -k k", most_holes(), Outcome(0, KLIST_HEADING)),
-        over("klist, one entry of 65,535 components", "klist -k k", filled(of_many()),
-             Outcome(0, KLIST_HEADING + b"   3 " + many_quoted(b"\\/") + b"@R\n")),
-        over("klist, the longest keys", "klist -kK k", filled(keys), Outcome(0, KLIST_HEADING + lines)),
-    ]
-
-
-def json() -> list[Case]:
-    """Returns listings of keytabs as JSON."""
     front, end = b'{"file":"k","kind":"keytab","version":2,"entries":[', b'],"fault":null}\n'
     form = b'{"place":%d,"principal":"@","kvno":0,"etype":0,"etype_name":null,"timestamp":0}'
     long_entry = (b'{"place":2,"principal":"%s@R","kvno":3,"etype":17,'
                   b'"etype_name":"aes128-cts-hmac-sha1-96","timestamp":1700000000}' % many_quoted(b"\\\\/"))
-    return [
-        over("JSON, the most entries", "klist -k --json k", filled(least()),
-             Outcome(0, front + b",".join(form % place for place in PLACES) + end)),
-        over("JSON, one entry of 65,535 components", "klist -k --json k", filled(of_many()),
-             Outcome(0, front + long_entry + end)),
-        over("JSON, a file that is too large", "klist -k --json k", sized(LIMIT + 1), TOO_LARGE),
-    ]
-
-
-def checks() -> list[Case]:
-    """Returns checks of keytabs. Counts of 0 and above 32,767 hide entries from MIT's programs."""
     mode = mode_of_files()
     mode_line = b"mode %o\n" % mode if mode & 0o66 else b""
     same = at_each(b"same %d 2 kvno 0 etype 0 @\n", PLACES[1:])
     most = b"hidden 2 kvno 0 etype 0 @\n" + same + b"entries %d free %d holes 1\n" % (COUNT, LIMIT - END - 4)
-    holes = b"entries 0 free %d holes %d\n" % (HOLES, HOLES)
-    many = b"hidden 2 kvno 3 etype 17 " + many_quoted(b"\\/") + b"@R\nentries 1 free %d holes 1\n"
+    hidden = b"hidden 2 kvno 3 etype 17 " + many_quoted(b"\\/") + b"@R\nentries 1 free %d holes 1\n"
+    to_find, long = filled(keytab(LEAST_RECORD * (COUNT - 2), HOST)), "x" * LONGEST
     return [
-        over("ktcheck, the most entries", "ktcheck k", filled(least()), Outcome(1, mode_line + most)),
-        over("ktcheck, the most holes", "ktcheck k", most_holes(), Outcome(1 if mode & 0o6 else 0, mode_line + holes)),
-        over("ktcheck, one entry of 65,535 components", "ktcheck k", filled(of_many()),
-             Outcome(1, mode_line + many % (LIMIT - len(of_many()) - 4))),
-        over("ktcheck, a file that is too large", "ktcheck k", sized(LIMIT + 1), TOO_LARGE),
+        over("klist, the most entries", "klist -k k", image, Outcome(0, lists + b"   0 @\n" * COUNT)),
+        over("klist, the most holes", "klist -k k", most_holes(), Outcome(0, lists)),
+        over("klist, 65,535 components", "klist -k k", many,
+             Outcome(0, lists + b"   3 " + many_quoted(b"\\/") + b"@R\n")),
+        over("klist, the longest keys", "klist -kK k", filled(keys),
+             Outcome(0, lists + (b"   3 host/a@R (0x" + b"00" * LONGEST + b")\n") * 255)),
+        over("JSON, the most entries", "klist -k --json k", image,
+             Outcome(0, front + b",".join(form % place for place in PLACES) + end)),
+        over("JSON, 65,535 components", "klist -k --json k", many, Outcome(0, front + long_entry + end)),
+        over("ktcheck, the most entries", "ktcheck k", image, Outcome(1, mode_line + most)),
+        over("ktcheck, the most holes", "ktcheck k", most_holes(),
+             Outcome(1 if mode & 0o6 else 0, mode_line + b"entries 0 free %d holes %d\n" % (HOLES, HOLES))),
+        over("ktcheck, 65,535 components", "ktcheck k", many,
+             Outcome(1, mode_line + hidden % (LIMIT - len(of_many()) - 4))),
+        *(Case(f"ktfind, {name}", ("ktfind", "k", "0", "0", query), wanted, {"k": found})
+          for name, query, found, wanted in (
+            ("the last of the most", "host/a@R", to_find, printed(f"found {PLACES[-2]} kvno 3 etype 17 host/a@R")),
+            ("the first of the most", "@", to_find, printed("found 2 kvno 0 etype 0 @")),
+            ("none among them", "b@R", to_find, message(1, "k: refused 9")),
+            ("the longest component", f"{long}@R", filled(keytab(Entry((long.encode(),)))),
+             printed(f"found 2 kvno 3 etype 17 {long}@R")))),
+        *(Case(f"{line}: a file that is too large", (*line.split(), "k", *more), TOO_LARGE, {"k": sized(LIMIT + 1)})
+          for line, more in (("klist -k --json", ()), ("ktcheck", ()), ("ktfind", ("0", "0", "b@R")))),
     ]
 
 
@@ -129,16 +125,11 @@ def many_long_names() -> Case:
         *(Entry((b"x" * 200, b"%05d" % number), version32=None) for number in range(60_000))), [])
 
 
-def keys_of_one_name(count: int) -> list[Entry]:
-    """Returns entries of one name, version and enctype, each with a key of its own."""
-    return [replace(LEAST, key=b"%07d" % number) for number in range(count)]
-
-
 def copies() -> list[Case]:
     """Returns copies between keytabs in which many entries meet many: each pair of them would take too long."""
     count = 400_000
     names = keytab(*(Entry((b"x" * 200, b"%05d" % number)) for number in range(60_000)))
-    keys, line = keys_of_one_name(count), b"kvno 0 etype 0 @\n"
+    keys, line = [replace(LEAST, key=b"%07d" % number) for number in range(count)], b"kvno 0 etype 0 @\n"
     one, size = replace(LEAST, key=b"another"), len(record(keys[0].spelled()))
     many, places = keytab(*keys), range(2, 2 + count * size, size)
     clashes = b"".join(b"clash %d 2 " % place + line for place in places)
@@ -158,33 +149,13 @@ def copies() -> list[Case]:
     ]
 
 
-def find(name: str, query: str, image: bytes, wanted: Outcome) -> Case:
-    """Returns a look-up of a name."""
-    return Case(f"ktfind, {name}", ("ktfind", "k", "0", "0", query), wanted, {"k": image})
-
-
-def finds() -> list[Case]:
-    """Returns look-ups in keytabs."""
-    image = filled(keytab(LEAST_RECORD * (COUNT - 2), HOST))
-    long = "x" * LONGEST
-    return [
-        find("the last of the most entries", "host/a@R", image,
-             printed(f"found {PLACES[-2]} kvno 3 etype 17 host/a@R")),
-        find("the first of the most entries", "@", image, printed("found 2 kvno 0 etype 0 @")),
-        find("none among them", "b@R", image, message(1, "k: refused 9")),
-        find("the longest component", f"{long}@R", filled(keytab(Entry((long.encode(),)))),
-             printed(f"found 2 kvno 3 etype 17 {long}@R")),
-        find("a file that is too large", "b@R", sized(LIMIT + 1), TOO_LARGE),
-    ]
-
-
 def edit(name: str, image: bytes | None, script: bytes, wanted: Outcome, after: bytes | None = None) -> Case:
     """Returns a script of `ktedit` over the file `k`, or over none; see `over`."""
     return over(f"ktedit, {name}", "ktedit k", image, wanted, after, script)
 
 
 def edits() -> list[Case]:
-    """Returns short scripts that change keytabs."""
+    """Returns short scripts that change keytabs, and the longest of small lines, some over the most entries."""
     walked = ["walk 0 at 2", f"walk 0 gave 2 next {2 + SIZE} kvno 0 etype 0 @", f"gone {LAST}", f"placed {LAST}",
               "refused 3", f"gone {LAST}", f"rewritten {LAST}",
               f"walk 0 gave {2 + SIZE} next {2 + 2 * SIZE} kvno 0 etype 0 @"]
@@ -192,6 +163,14 @@ def edits() -> list[Case]:
                    "step 0"])
     component = "x" * 253
     long_name = f"add 3 17 1700000000 {HOST.key.hex()} {'/'.join([component] * 65_534)}@R\n"
+    starts, adds, none = repeated(b"start\n"), repeated(LEAST_ADD), repeated(b"cut 3\n")
+    walks = at_each(b"walk %d at 2\n", range(1024)) + b"refused 7\n" * (starts.count(b"\n") - 1024)
+    placed = at_each(b"placed %d\n") + b"refused 3\n" * (adds.count(b"\n") - COUNT)
+    cuts = at_each(b"cut %d\n")
+    again = LEAST_ADD * min(COUNT, (LIMIT - len(cuts)) // len(LEAST_ADD))
+    steps = repeated(b"step 0\n")[: -len(b"step 0\n")]
+    gave = b"".join(b"walk 0 gave %d next %d kvno 0 etype 0 @\n" % (place, place + SIZE) for place in PLACES)
+    ends = b"walk 0 end %d\n" % END * (steps.count(b"\n") - COUNT)
     return [
         edit("the most entries", least(), script, printed(*walked, status=1), least()[:-SIZE]),
         edit("one of the most entries goes", least(), f"cut {LAST}".encode(), printed(f"gone {LAST}"),
@@ -200,60 +179,34 @@ def edits() -> list[Case]:
              printed("walk 0 at 2", f"walk 0 end {2 + 5 * HOLES}", "rewritten 2", "placed 2"), keytab(LEAST)),
         edit("one entry as long as a script may be", None, long_name.encode(), printed("placed 2"),
              keytab(Entry((component.encode(),) * 65_534))),
-    ]
-
-
-def scripts() -> list[Case]:
-    """Returns the longest scripts of small lines."""
-    starts, adds = repeated(b"start\n"), repeated(LEAST_ADD)
-    walks = at_each(b"walk %d at 2\n", range(1024)) + b"refused 7\n" * (starts.count(b"\n") - 1024)
-    placed = at_each(b"placed %d\n") + b"refused 3\n" * (adds.count(b"\n") - COUNT)
-    return [
         edit("the most lines", keytab(), repeated(b"#\n"), Outcome(0)),
         edit("the most walks", keytab(), starts, Outcome(1, walks)),
         edit("the most additions", None, adds, Outcome(1, placed), least()),
         edit("a line too much", keytab(), starts + b"start", message(1, "input too large")),
-    ]
-
-
-def long_scripts() -> list[Case]:
-    """Returns the longest scripts over a keytab of the most entries."""
-    cuts = at_each(b"cut %d\n")
-    adds = LEAST_ADD * min(COUNT, (LIMIT - len(cuts)) // len(LEAST_ADD))
-    none, steps = repeated(b"cut 3\n"), repeated(b"step 0\n")[: -len(b"step 0\n")]
-    gave = b"".join(b"walk 0 gave %d next %d kvno 0 etype 0 @\n" % (place, place + SIZE) for place in PLACES)
-    ends = b"walk 0 end %d\n" % END * (steps.count(b"\n") - COUNT)
-    return [
-        edit("each of the most entries goes and comes again", least(), cuts + adds,
+        edit("each of the most entries goes and comes again", least(), cuts + again,
              Outcome(0, at_each(b"gone %d\n") + at_each(b"placed %d\n"))),
         edit("the most steps", least(), b"start\n" + steps, Outcome(0, b"walk 0 at 2\n" + gave + ends)),
         edit("the most removals of nothing", least(), none, Outcome(1, b"refused 5\n" * none.count(b"\n"))),
     ]
 
 
-def talk(name: str, given: bytes, wanted: Outcome, files: dict[str, bytes], **after: bytes) -> Case:
-    """Returns a run of ktutil over an input, with the files that it adds or changes."""
-    return Case(f"ktutil, {name}", ("ktutil",), wanted, files, {**files, **after}, given)
-
-
 def talks() -> list[Case]:
     """Returns runs of ktutil over the longest inputs, and over the greatest files that it reads and writes."""
-    most = {"k": least()}
     added = b"addent -key -p @ -k 0 -e 0\n00\n"
     count = LIMIT // len(added) - 1
     listed, new = (SLOTS_HEADING + at_each(b"%4d    0 @\n", range(1, slots + 1)) for slots in (COUNT, count))
-    return [
-        talk("the greatest file is copied", b"rkt k\nl\nwkt n\nrkt n\nclear\nl\n", Outcome(0, listed + SLOTS_HEADING),
-             most, n=least()),
-        talk("no file takes more", b"rkt k\nwkt k\n", message(1, "line 2: refused 3"), most),
-        talk("the most lines", repeated(b"\n"), Outcome(0), {}),
-        talk("the most commands", repeated(b"clear\n"), Outcome(0), {}),
-        talk("the most new entries", added * count + b"l\n", Outcome(0, new), {}),
-        talk("a file that is too large", b"rkt k\nwkt k\n", Outcome(1, b"", TOO_LARGE.err * 2),
-             {"k": sized(LIMIT + 1)}),
-    ]
+    return [Case(f"ktutil, {name}", ("ktutil",), wanted, files, {**files, **after}, given)
+            for name, given, wanted, files, after in (
+                ("the greatest file is copied", b"rkt k\nl\nwkt n\nrkt n\nclear\nl\n",
+                 Outcome(0, listed + SLOTS_HEADING), {"k": least()}, {"n": least()}),
+                ("no file takes more", b"rkt k\nwkt k\n", message(1, "line 2: refused 3"), {"k": least()}, {}),
+                ("the most lines", repeated(b"\n"), Outcome(0), {}, {}),
+                ("the most commands", repeated(b"clear\n"), Outcome(0), {}, {}),
+                ("the most new entries", added * count + b"l\n", Outcome(0, new), {}, {}),
+                ("a file that is too large", b"rkt k\nwkt k\n", Outcome(1, b"", TOO_LARGE.err * 2),
+                 {"k": sized(LIMIT + 1)}, {}))]
 
 
 def cases() -> list[Case]:
     """Returns all these cases except removals and caches, which are elsewhere."""
-    return [*listings(), *json(), *checks(), *finds(), *edits(), *scripts(), *long_scripts(), *talks()]
+    return [*reads(), *edits(), *talks()]

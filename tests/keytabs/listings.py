@@ -22,25 +22,9 @@ def case(name: str, image: bytes, *lines: bytes, letters: str = "", options: str
     return over(name, f"klist -k{letters} {options} k", image, Outcome(status, listed(*lines, letters=letters)))
 
 
-def version(version8: int, after: str, kvno: int) -> Case:
-    """Returns a listing of an entry with those bytes after its key."""
-    entry = Entry(version8=version8, version32=None).spelled() + bytes.fromhex(after)
-    return case(f"version {version8} and then {after!r}", keytab(record(entry)), b"%4d host/a@R" % kvno)
-
-
 def named(name: str, components: tuple[bytes, ...], realm: bytes, printed: bytes) -> Case:
     """Returns a listing of an entry of a name."""
     return case(f"name {name}", keytab(Entry(components, realm)), b"   3 " + printed)
-
-
-def after_host(name: str, after: bytes, fault: bytes) -> Case:
-    """Returns a listing with a fault after an entry."""
-    return case(name, keytab(HOST, after), HOST_LINE, fault)
-
-
-def no_keytab(name: str, image: bytes, why: int) -> Case:
-    """Returns a listing of a file that does not begin as a keytab."""
-    return over(f"no keytab: {name}", "klist -k k", image, message(1, f"k: not a keytab ({why})"))
 
 
 QUOTED = b"/@\\\n\t\b\0"
@@ -57,8 +41,7 @@ LATE = Entry(version8=0, version32=256)
 LATE_LINE = b" 256 host/a@R"
 
 CASES = [
-    # Whole entries, one after the other.
-    case("two entries", TWO, HOST_LINE, B_LINE),
+    # Whole entries, one after the other. TWO, which lines of words list, has them in the order of the file.
     case("two entries in the other order", keytab(B, HOST), B_LINE, HOST_LINE),
     case("the same entry twice", keytab(B, B), B_LINE, B_LINE),
     case("no entry", keytab()),
@@ -69,7 +52,9 @@ CASES = [
          HOST_LINE),
     case("bytes after the 32-bit version", keytab(record(B.spelled() + b"\xff" * 7)), B_LINE),
     # The 8-bit version counts, unless a 32-bit one that is not 0 follows the key.
-    *(version(version8, after, kvno) for (version8, after), kvno in VERSIONS.items()),
+    *(case(f"version {low} and then {after!r}",
+           keytab(record(Entry(version8=low, version32=None).spelled() + bytes.fromhex(after))), b"%4d host/a@R" % kvno)
+      for (low, after), kvno in VERSIONS.items()),
     # Names with odd bytes and odd counts.
     named("with each quoted byte", (QUOTED,), b"R", QUOTES + b"@R"),
     named("with each quoted byte in the realm", (b"a",), QUOTED, b"a@" + QUOTES),
@@ -101,14 +86,15 @@ CASES = [
     case("a record that ends in its key", keytab(record(Entry(version32=None).spelled()[:-1]), END), b"fault 3 at 2"),
     case("too many components counted", keytab(Entry(count=65_535)), b"fault 3 at 2"),
     # Lengths that run past the end, fault 2, or are cut off, fault 1.
-    after_host("a record cut by a byte", B_RECORD[:-1], b"fault 2 at 53"),
-    after_host("a record of the greatest length", b"\x7f\xff\xff\xff", b"fault 2 at 53"),
-    after_host("a hole of the greatest length", b"\x80\0\0\0" + B_RECORD, b"fault 2 at 53"),
-    after_host("a hole cut by a byte", hole(bytes(5))[:-1], b"fault 2 at 53"),
-    after_host("a length with nothing after it", b"\0\0\0\1", b"fault 2 at 53"),
-    after_host("a length of one byte", b"\0", b"fault 1 at 53"),
-    after_host("a length of two bytes", b"\0\0", b"fault 1 at 53"),
-    after_host("a length of three bytes", b"\xff\xff\xff", b"fault 1 at 53"),
+    *(case(name, keytab(HOST, after), HOST_LINE, fault) for name, after, fault in (
+        ("a record cut by a byte", B_RECORD[:-1], b"fault 2 at 53"),
+        ("a record of the greatest length", b"\x7f\xff\xff\xff", b"fault 2 at 53"),
+        ("a hole of the greatest length", b"\x80\0\0\0" + B_RECORD, b"fault 2 at 53"),
+        ("a hole cut by a byte", hole(bytes(5))[:-1], b"fault 2 at 53"),
+        ("a length with nothing after it", b"\0\0\0\1", b"fault 2 at 53"),
+        ("a length of one byte", b"\0", b"fault 1 at 53"),
+        ("a length of two bytes", b"\0\0", b"fault 1 at 53"),
+        ("a length of three bytes", b"\xff\xff\xff", b"fault 1 at 53"))),
     case("a length of three bytes at once", keytab(b"\0\0\0"), b"fault 1 at 2"),
     # Version 1 in both orders; it is read as little-endian unless `--v1-big` is given.
     case("version 1, little-endian", old(HOST, LATE), HOST_LINE, LATE_LINE),
@@ -117,15 +103,15 @@ CASES = [
     case("version 1, little-endian, read as big", old(HOST, LATE), b"fault 2 at 2", options="--v1-big"),
     case("version 1 with a hole", old(6, B), B_LINE),
     case("version 1 without a component", old(Entry(())), b"   3 @R"),
-    case("version 2 under --v1-big", TWO, HOST_LINE, B_LINE, options="--v1-big"),
     case("count 0 in version 2", keytab(record(bytes(17))), b"   0 @"),
     case("count 0 in version 1", old(record(bytes(17), LITTLE)), b"fault 3 at 2"),
     # Files that do not begin as a keytab.
-    no_keytab("an empty file", b"", 1),
-    no_keytab("one byte", b"\x05", 1),
-    no_keytab("one other byte", b"x", 1),
-    no_keytab("version 3", b"\x05\x03" + TWO[2:], 2),
-    no_keytab("version 0", b"\x05\x00", 2),
-    no_keytab("another first byte", b"\x04\x02" + TWO[2:], 2),
-    no_keytab("a text", b"no keytab\n", 2),
+    *(over(f"no keytab: {name}", "klist -k k", image, message(1, f"k: not a keytab ({why})")) for name, image, why in (
+        ("an empty file", b"", 1),
+        ("one byte", b"\x05", 1),
+        ("one other byte", b"x", 1),
+        ("version 3", b"\x05\x03" + TWO[2:], 2),
+        ("version 0", b"\x05\x00", 2),
+        ("another first byte", b"\x04\x02" + TWO[2:], 2),
+        ("a text", b"no keytab\n", 2))),
 ]

@@ -27,8 +27,7 @@ ADD = f"add 3 17 1700000000 {KEY} "
 CASES = [
     *faulty_lines(edit, TWO, "cut 2", FAULTS),
     # Other spellings of a line's words, and lines that are skipped.
-    edit("comments, empty lines and no last line end", TWO, b"\n# cut 2\n#\n\n\ncut 53", ["gone 53"],
-         keytab(HOST, 41)),
+    edit("comments, empty lines and no last line end", TWO, b"\n# cut 2\n#\n\n\ncut 53", ["gone 53"], keytab(HOST, 41)),
     edit("numbers with zeros before them", TWO, ["resume 0000000053", "step 0000000000"],
          ["walk 0 at 53", "walk 0 gave 53 next 98 kvno 3 etype 17 b@R"]),
     edit("the greatest numbers", None, ["add 4294967295 65535 4294967295 - @"], ["placed 2"],

@@ -1,47 +1,18 @@
-"""Files that ktedit changed, as MIT's klist and ktutil read them."""
+"""MIT's klist and ktutil, and the form in which their listings are compared."""
 
 import os
 import re
 import select
 import shutil
 import subprocess
-import sys
 import time
 
 from keytabs.columns import NAMES
-from keytabs.edits import ADD_B, ADD_C, ADD_HOST
-from makers.images import B, END, HOST, LITTLE, TWO, Entry, keytab, old
-from models.keytab_model import Keytab
 from models.reading import KeytabEntry
-from models.script_model import KEY_SIZES, edited
-from runs.harness import SECONDS, Report, folder_of, run
-from runs.rows import text
+from runs.harness import SECONDS, Report
 
 # A line of MIT's klist or ktutil that lists an entry, without its slot.
-LINE = re.compile(
-    rb" *(\d+) (\d\d/\d\d/\d\d \d\d:\d\d:\d\d) +(.*)"
-    rb" \((?:DEPRECATED:)?(\S+)\)  ?\(0x([0-9a-f]*)\) *"
-)
-
-# Entries of each enctype that has a name, with quoted names, and versions of more than 8 bits.
-EACH_ETYPE = [
-    f"add {300 * number} {number} {number} {bytes(range(size)).hex()} a\\/b\\@/c d\\n\\\\/e@R\\/S"
-    for number, size in KEY_SIZES.items()
-]
-HOLES = keytab(60, HOST, 41, B)
-OLD = old(HOST, Entry((b"a",), b"R", version32=None))
-
-# Scripts over a keytab, or over none.
-SCRIPTS: list[tuple[str, bytes | None, list[str]]] = [
-    ("a new file", None, [ADD_HOST, *EACH_ETYPE]),
-    ("holes that are filled", HOLES, [ADD_B, ADD_C, ADD_HOST]),
-    ("removals and additions", TWO, ["cut 2", ADD_C, *EACH_ETYPE, "cut 53", "cut 98", ADD_B]),
-    ("a rewrite", HOLES, [ADD_C, *EACH_ETYPE, "cut 66", "rewrite", ADD_HOST]),
-    ("all removed", TWO, ["cut 2", "cut 53"]),
-    ("an end mark", keytab(HOST, END, b"\xff" * 50), [ADD_B, ADD_C]),
-    ("a version 1 file", OLD, ["cut 2", ADD_B, ADD_HOST]),
-    ("a version 1 file that is rewritten", OLD, ["cut 2", "rewrite", ADD_B]),
-]
+LINE = re.compile(rb" *(\d+) (\d\d/\d\d/\d\d \d\d:\d\d:\d\d) +(.*) \((?:DEPRECATED:)?(\S+)\)  ?\(0x([0-9a-f]*)\) *")
 
 # The prompt of MIT's ktutil, which it prints into a pipe too.
 PROMPT = b"ktutil:  "
@@ -64,8 +35,7 @@ def shown(entry: KeytabEntry) -> tuple[bytes, ...]:
     """Returns an entry as a listing with all columns shows it."""
     then = time.gmtime(entry.timestamp)
     second = time.strftime("%m/%d/%y %H:%M:%S", then).encode()
-    return (b"%d" % entry.kvno, second, entry.text(), NAMES[entry.enctype],
-            entry.key.hex().encode())
+    return (b"%d" % entry.kvno, second, entry.text(), NAMES[entry.enctype], entry.key.hex().encode())
 
 
 class Mit:
@@ -84,9 +54,8 @@ class Mit:
         Each request is written only after a prompt. Nothing else may be in the pipe until then:
         a request that reads a line takes all that is there.
         """
-        with subprocess.Popen(["ktutil"], cwd=self.folder, env=SURROUNDINGS, bufsize=0,
-                              stdin=subprocess.PIPE, stdout=subprocess.PIPE,
-                              stderr=subprocess.STDOUT) as started:
+        with subprocess.Popen(["ktutil"], cwd=self.folder, env=SURROUNDINGS, bufsize=0, stdin=subprocess.PIPE,
+                              stdout=subprocess.PIPE, stderr=subprocess.STDOUT) as started:
             answers = [self.answer(started)]
             for request in requests:
                 started.stdin.write(request.encode() + b"\n")
@@ -124,22 +93,6 @@ class Mit:
         return found
 
 
-def check_scripts(report: Report, program: str) -> None:
-    """Checks that MIT's programs read the model's entries from what ktedit saves."""
-    for name, image, script in SCRIPTS:
-        if image is OLD and sys.byteorder != LITTLE:
-            continue
-        files = {} if image is None else {"k": image}
-        with folder_of(files) as folder:
-            mit = Mit(folder)
-            run(program, ("ktedit", "k"), folder, text(script))
-            _, after = edited(image, text(script))
-            wanted = [shown(entry) for entry in Keytab(after).entries()]
-            for peer, listed in (("klist", mit.klist("k")), ("ktutil", mit.ktutil_list("k"))):
-                found = [] if listed == wanted else [f"{listed} is listed, not {wanted}"]
-                report.check(f"MIT's {peer} after ktedit: {name}", found)
-
-
 def are_there(report: Report, what: str, tools: tuple[str, ...] = ("klist", "ktutil")) -> bool:
     """Whether MIT's programs are installed; if not, reports that part as left out."""
     missing = [name for name in tools if shutil.which(name, path=PATHS) is None]
@@ -148,9 +101,3 @@ def are_there(report: Report, what: str, tools: tuple[str, ...] = ("klist", "ktu
     if missing:
         report.skip(what, f"{missing[0]} is not there (Debian: krb5-user, krb5-kdc, krb5-admin-server)")
     return not missing
-
-
-def check(report: Report, program: str) -> None:
-    """Runs this topic if MIT's programs are installed."""
-    if are_there(report, "ktedit beside MIT's programs"):
-        check_scripts(report, program)

@@ -219,22 +219,19 @@ def check_random(report: Report, program: str, _: Realm) -> None:
     report.check("MIT's klist and ours: random caches", wrong[:3])
 
 
-def check_in_realm(report: Report, what: str, checks: Callable[[Realm], None], more: tuple[str, ...] = ()) -> None:
+def check_in_realm(report: Report, program: str, what: str, *checks: Callable[[Report, str, Realm], None],
+                   more: tuple[str, ...] = ()) -> None:
     """Makes checks in a realm with its principals and more of them, if MIT's programs are installed."""
     if not are_there(report, what, TOOLS):
         return
     try:
         with realm(more) as made:
-            checks(made)
+            for each in checks:
+                each(report, program, made)
     except Failed as failed:
         report.check(f"MIT's programs in a realm made here: {what}", [str(failed)])
 
 
 def check(report: Report, program: str) -> None:
     """Runs this topic if MIT's programs are installed."""
-
-    def checks(made: Realm) -> None:
-        for each in (check_filled, check_random):
-            each(report, program, made)
-
-    check_in_realm(report, "caches beside MIT's programs", checks)
+    check_in_realm(report, program, "caches beside MIT's programs", check_filled, check_random)

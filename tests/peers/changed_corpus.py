@@ -20,6 +20,15 @@ from runs.harness import Case, Report, faults_of, files_in, folder_of, run
 SETTING = b"config fast_avail krbtgt/R@R no\nconfig mine - 1\n"
 
 
+# A value, and where the file in which MIT's library set it ended before and after.
+VALUES = (
+    ("config k - ", 22, 137),
+    ("config sp - a b", 137, 256),
+    (f"config long - {'v' * 200}", 380, 698),
+    ("config odd=key(x) a/b@R 1", 698, 832),
+)
+
+
 def is_text(name: bytes) -> bool:
     """Whether a name can be an argument of a command line."""
     try:
@@ -65,8 +74,28 @@ def check_change(report: Report, program: str, name: str, case: Case, has_mit: b
     report.check(f"{name}, {case.name}", found)
 
 
+def changed(program: str, image: bytes, line: str) -> bytes:
+    """Returns the cache that ccedit leaves after a line."""
+    with folder_of({"c": image}) as folder:
+        run(program, ("ccedit", "c"), folder, f"{line}\n".encode())
+        return files_in(folder)["c"]
+
+
+def check_as_mit(report: Report, program: str) -> None:
+    """Makes changes that MIT's library made: the same bytes are left of a removed ticket, and of each value set after
+    those before it."""
+    caches = dict(files("ccache"))
+    got = changed(program, caches["lib-removed-before"], "cut 120")
+    report.check("a removed ticket as MIT's library marks it", [] if got == caches["lib-removed"] else [got.hex()])
+    image = caches["lib-config-values"]
+    for line, start, end in VALUES:
+        got = changed(program, image[:start], line)
+        report.check(f"{line} as MIT's library sets it", [] if got == image[:end] else [got.hex()])
+
+
 def check(report: Report, program: str) -> None:
     """Changes each cache."""
+    check_as_mit(report, program)
     has_mit = are_there(report, "changed caches beside MIT's klist", ("klist",))
     for name, image in files("ccache"):
         is_cache = not isinstance(read_cache(image), int)

@@ -51,11 +51,8 @@ def taken_of(got: Outcome) -> Taken:
 def by_both(program: str, kind: Kind, folder: str, env: Mapping[str, str | bytes],
             front: tuple[str, ...] = ()) -> tuple[Outcome, Outcome]:
     """Returns the outcomes of both, by words before the program's name."""
-    outcomes = []
-    for words in (("klist", *WORDS[kind]), (program, "klist", *WORDS[kind])):
-        first, *rest = (*front, *words)
-        outcomes.append(run(first, rest, folder, env=SURROUNDINGS | env))
-    return outcomes[0], outcomes[1]
+    theirs, ours = ((*front, *words, "klist", *WORDS[kind]) for words in ((), (program,)))
+    return tuple(run(words[0], words[1:], folder, env=SURROUNDINGS | env) for words in (theirs, ours))
 
 
 def is_type_to_mit(kind: Kind, value: bytes) -> bool:

@@ -94,7 +94,7 @@ def added_while(program: str, case: Case, halt: Halt) -> tuple[Outcome, list[byt
 
 
 def check_added(report: Report, program: str) -> None:
-    """Checks keys that MIT's ktutil adds between a run's looks, while it syncs what it wrote, or behind the last look."""
+    """Checks keys that MIT's ktutil adds between a run's looks, while it syncs, or behind the last look."""
     watched, synced, compared = Halt("openat", 2 * READINGS, ("/proc/locks",)), Halt("fsync"), Halt("lseek", 2)
     longer, equal, shorter = (in_place(ktedit(image, script, name=name)) for image, script, name in (
         (keytab(HOST), ADD_LONG, "adds"), (keytab(HOST), b"cut 2\n", "removes"),

@@ -72,11 +72,11 @@ def storm(program: str, made: Realm, seed: int) -> list[str]:
 def check_rounds(report: Report, program: str, seeds: range) -> None:
     """Runs the storms of some seeds, if MIT's programs are installed."""
 
-    def checks(made: Realm) -> None:
+    def check_storms(report: Report, program: str, made: Realm) -> None:
         for seed in seeds:
             report.check(f"ccedit and ccremove beside kvno, round {seed}", storm(program, made, seed)[:3])
 
-    check_in_realm(report, "changes of a cache beside MIT's kvno", checks, (*GOING, *COMING))
+    check_in_realm(report, program, "changes of a cache beside MIT's kvno", check_storms, more=(*GOING, *COMING))
 
 
 TOPIC = Rounds(check_rounds, usual=3, share=1_000)

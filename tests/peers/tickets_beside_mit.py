@@ -49,8 +49,7 @@ class Filled:
 
     def places_of(self, server: bytes) -> list[int]:
         """Returns the places of the live tickets for a server."""
-        return [place for place, output in self.cache().live()
-                if output.tail().endswith(b" " + server)]
+        return [place for place, output in self.cache().live() if output.tail().endswith(b" " + server)]
 
     def remove(self, server: bytes) -> None:
         """Removes the tickets for a server with ccremove."""
@@ -160,9 +159,5 @@ def check_version_3(report: Report, program: str, made: Realm) -> None:
 
 def check(report: Report, program: str) -> None:
     """Runs this topic if MIT's programs are installed."""
-
-    def checks(made: Realm) -> None:
-        for each in (check_removed, check_cut, check_expired, check_values, check_version_3):
-            each(report, program, made)
-
-    check_in_realm(report, "changes of caches beside MIT's programs", checks)
+    check_in_realm(report, program, "changes of caches beside MIT's programs", check_removed, check_cut, check_expired,
+                   check_values, check_version_3)

@@ -4,7 +4,8 @@ not."""
 
 import os
 import re
-from dataclasses import dataclass, replace
+from collections import Counter
+from dataclasses import replace
 from random import Random
 
 from chance.random_keytabs import Choices
@@ -20,8 +21,9 @@ from runs.harness import Report, folder_of, run
 from runs.random_runs import FEWEST, ONE_IN
 from runs.terminal import EXPLAIN
 
-# How many runs are made.
+# How many runs are made, and of which commands.
 RUNS = 300
+COMMANDS = ("ktedit", "ktcopy", "ktutil")
 
 # The times of entries that are there, and of those that a run may add, as the lines of scripts have them.
 THERE, ADDED = 7, 0
@@ -34,15 +36,6 @@ ADDITIONS = replace(FEW, timestamps=(ADDED,))
 SAID = re.compile(rb"^krbfile: (?:t|line 2): MIT's programs see no entry from (\d+) on$", re.MULTILINE)
 
 
-@dataclass(frozen=True)
-class Made:
-    """A run that may add entries to the file `t`: its words, its input, and the files."""
-
-    words: tuple[str, ...]
-    stdin: bytes
-    files: dict[str, bytes]
-
-
 def sound(random: Random, choices: Choices) -> bytes:
     """Returns a sound keytab of a few such entries and holes."""
     while True:
@@ -52,16 +45,15 @@ def sound(random: Random, choices: Choices) -> bytes:
             return image
 
 
-def made(random: Random) -> Made:
-    """Returns a run of one of the commands."""
+def made(random: Random) -> tuple[tuple[str, ...], bytes, dict[str, bytes]]:
+    """Returns a run of one of the commands that may add entries to the file `t`: its words, its input, the files."""
     files = {"k": sound(random, ADDITIONS), "t": sound(random, FEW)}
-    kind = random.choice(("ktedit", "ktcopy", "ktutil"))
+    kind = random.choice(COMMANDS)
     if kind == "ktedit":
         scripts = Scripts(random_line, script_model.event_in, FAULTS)
-        return Made(("ktedit", "t"), scripts.random_script(random, session_over(False, files["t"])), files)
-    if kind == "ktcopy":
-        return Made(("ktcopy", "--replace", "k", "t"), b"", files)
-    return Made(("ktutil",), b"rkt k\nwkt t\n", files)
+        return ("ktedit", "t"), scripts.random_script(random, session_over(False, files["t"])), files
+    return (("ktcopy", "--replace", "k", "t"), b"", files) if kind == "ktcopy" else (
+        ("ktutil",), b"rkt k\nwkt t\n", files)
 
 
 def place_not_seen(folder: str, count: int) -> int | None:
@@ -72,29 +64,27 @@ def place_not_seen(folder: str, count: int) -> int | None:
     return rest[0][0] if any(entry.timestamp == ADDED for _, entry in rest) else None
 
 
-def check_run(program: str, each: Made) -> tuple[list[str], str]:
+def check_run(program: str, words: tuple[str, ...], stdin: bytes, files: dict[str, bytes]) -> tuple[list[str], str]:
     """Makes a run, and returns its faults and what was found."""
-    with folder_of(each.files) as folder:
-        got = run(program, (EXPLAIN, *each.words), folder, each.stdin)
-        listed = len(Mit(folder).klist("t"))
-        place = place_not_seen(folder, listed)
+    with folder_of(files) as folder:
+        got = run(program, (EXPLAIN, *words), folder, stdin)
+        place = place_not_seen(folder, len(Mit(folder).klist("t")))
     said = [int(number) for number in SAID.findall(got.err)]
     wanted = [] if place is None else [place]
-    return ([] if said == wanted else [f"{each}: {said} is said, {wanted} is so"],
-            f"{each.words[0]}, {'not all' if wanted else 'all'} are seen")
+    return ([] if said == wanted else [f"{words}, {stdin!r}, {files}: {said} is said, {wanted} is so"],
+            f"{words[0]}, {'not all' if wanted else 'all'} are seen")
 
 
 def check(report: Report, program: str) -> None:
     """Runs this topic if MIT's programs are installed."""
     if not are_there(report, "what is said of additions beside MIT's klist", ("klist",)):
         return
-    seen: dict[str, int] = {}
+    seen: Counter[str] = Counter()
     count = RUNS if report.is_proved else RUNS // ONE_IN
     for number in range(count):
-        faults, kind = check_run(program, made(Random(number)))
+        faults, kind = check_run(program, *made(Random(number)))
         report.check(f"said of additions, number {number}", faults)
-        seen[kind] = seen.get(kind, 0) + 1
+        seen[kind] += 1
     if count == RUNS:
-        commands = ("ktedit", "ktcopy", "ktutil")
-        kinds = [f"{command}, {how} are seen" for command in commands for how in ("all", "not all")]
-        report.check("each kind of addition", [f"no {kind}" for kind in kinds if seen.get(kind, 0) < FEWEST])
+        kinds = [f"{command}, {how} are seen" for command in COMMANDS for how in ("all", "not all")]
+        report.check("each kind of addition", [f"no {kind}" for kind in kinds if seen[kind] < FEWEST])

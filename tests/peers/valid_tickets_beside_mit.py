@@ -1,6 +1,5 @@
 """`klist -s` of MIT's and ours over one cache and at one time: they agree, but for the differences named here."""
 
-import subprocess
 import sys
 from collections.abc import Iterator
 from dataclasses import replace
@@ -13,7 +12,7 @@ from models.cache_reading import read_cache
 from models.valid_ticket_model import silent
 from peers.beside_mit import SURROUNDINGS, are_there
 from peers.corpus import files
-from runs.harness import SECONDS, Outcome, Report, folder_of
+from runs.harness import Outcome, Report, folder_of, run
 from runs.preload import Line, Preloaded, preloaded
 from runs.random_runs import ONE_IN
 
@@ -80,9 +79,7 @@ def times_of(image: bytes) -> Iterator[int]:
 
 def by_mit(under: Preloaded, folder: str, now: int) -> Outcome:
     """Returns the outcome of MIT's klist at a time."""
-    env = SURROUNDINGS | {"LD_PRELOAD": under.library, "CLOCK": str(now)}
-    done = subprocess.run(["klist", "-s", "c"], cwd=folder, env=env, capture_output=True, timeout=SECONDS, check=False)
-    return Outcome(done.returncode, done.stdout, done.stderr)
+    return run("klist", ("-s", "c"), folder, env=SURROUNDINGS | {"LD_PRELOAD": under.library, "CLOCK": str(now)})
 
 
 def faults_of(under: Preloaded, image: bytes, times: Iterator[int] | tuple[int, ...], ahead: int = 0) -> list[str]:
@@ -106,8 +103,7 @@ def check_different(report: Report, under: Preloaded) -> None:
             for now, is_left in ((1_700_000_000, True), (2**32 - 1, False)):
                 theirs, ours = by_mit(under, folder, now), under.run_in(folder, Line(("klist", "-s", "c")), CLOCK=now)
                 wanted = [Outcome(0 if is_left and is_valid else 1) for is_valid in (is_theirs, is_ours)]
-                got = [theirs, ours.outcome]
-                found += [] if got == wanted else [f"at {now} {got}, not {wanted}"]
+                found += [] if [theirs, ours.outcome] == wanted else [f"at {now} {theirs}, {ours}, not {wanted}"]
         report.check(f"MIT's klist -s is otherwise: {name}", found)
 
 

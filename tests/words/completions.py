@@ -1,4 +1,5 @@
-"""What the shells complete on a command line: the commands and options that help lists."""
+"""What the shells complete on a command line: the commands and options that help lists. How help ends: the statuses,
+a line each, and an example, which is run on sample files."""
 
 import os
 import re
@@ -7,7 +8,9 @@ import subprocess
 from collections.abc import Iterator
 
 from keytabs.columns import NAMES
+from makers.samples import folder_of_samples
 from pages.documents import read
+from pages.readme import surroundings
 from runs.harness import TOP, Report, folder_of, run
 
 FOLDER = os.path.join(TOP, "completions")
@@ -16,6 +19,10 @@ ZSH = os.path.join(FOLDER, "_krbfile")
 FISH = os.path.join(FOLDER, "krbfile.fish")
 
 ETYPES = {name.decode() for name in NAMES.values()}
+
+# The statuses that help tells, and how it ends.
+STATUSES = "01234"
+END = re.compile(r"\nStatuses:\n((?:  \d  .*\n)*)Example: (.*)\n  (.*krbfile.*)\n\Z")
 
 
 def part(text: str, heading: str) -> str:
@@ -90,8 +97,33 @@ def completed(has_bash: bool, command: str) -> Iterator[tuple[str, set[str]]]:
         yield f"{command} in {shell}", options | names
 
 
+def check_example(report: Report, program: str, command: str, line: str) -> None:
+    """Runs an example beside sample files: it calls its command, and ends with status 0 and without a message."""
+    with folder_of_samples() as folder, folder_of({}) as programs:
+        os.symlink(program, os.path.join(programs, "krbfile"))
+        got = run("sh", ("-c", line), folder, env=surroundings(programs))
+    found = [] if f"krbfile {command} " in f"{line} " else ["it does not call its command"]
+    if got.status != 0 or got.err:
+        found.append(f"status {got.status}, error output {got.err!r}")
+    report.check(f"the example of krbfile {command} --help", found)
+
+
+def check_ends(report: Report, program: str) -> None:
+    """Reads the end of each command's help, and runs its example."""
+    for command in sorted(offered(program, "")[0] - {"help"}):
+        with folder_of({}) as folder:
+            shown = run(program, (command, "--help"), folder).out.decode()
+        end = END.search(shown)
+        told = [line.split()[0] for line in end[1].splitlines()] if end else []
+        wrong = [] if told == list(STATUSES) else [f"it tells {told}"]
+        report.check(f"the statuses of krbfile {command} --help", wrong)
+        if end:
+            check_example(report, program, command, end[3])
+
+
 def check(report: Report, program: str) -> None:
     """Compares what help lists with what is completed, and has each installed shell read its file."""
+    check_ends(report, program)
     has_bash = shutil.which("bash") is not None
     commands, _ = offered(program, "")
     for command in sorted({"", *commands} - {"help"}):

@@ -1,27 +1,35 @@
 """Each message with its explanation: a pipe gets the message alone, a terminal and `--explain` also the explanation."""
 
 import os
+import re
 import socket
-from collections.abc import Callable
+from collections.abc import Callable, Iterator
 from dataclasses import dataclass, field
 from errno import ENXIO
+from functools import partial
 
+from caches.cache_edits import long_ticket
+from caches.cache_scripts import FAULTS as CACHE_FAULTS
+from keytabs.copies import OTHER, Y
 from keytabs.edits import ADD_HOST
 from keytabs.file_names import LIMIT
 from keytabs.ktutil_lines import FAULTS as TALK_FAULTS
 from keytabs.ktutil_lines import KEY
 from keytabs.scripts import FAULTS as LINE_FAULTS
-from makers.images import HOST, TWO, keytab, record
+from makers.cache_images import cache
+from makers.images import B, HOST, TWO, keytab, record
+from makers.usual_caches import USUAL, VERSION_3
 from runs.harness import Outcome, Report, differences, files_in, folder_of, message, run
-from runs.rows import Line, words_of
-from runs.terminal import EXPLAIN, WAYS, run_on_terminal
-from words.phrases import (BEGINS_AS_CACHE, BEGINS_AS_NO_KEYTAB, CAUSES, FAULTS, FINDINGS, LARGE, LISTED_AS_KEYTAB,
-                           NO_PASSWORDS, SEE_HELP, SHORT, code, line_fault)
+from runs.rows import Line, shown, text, words_of
+from runs.terminal import EXPLAIN, WAYS, run_explained, run_on_terminal
+from words.phrases import (BAD_DEFAULT, BAD_HEADER, BEGINS_AS_CACHE, BEGINS_AS_KEYTAB, BEGINS_AS_NO_CACHE,
+                           BEGINS_AS_NO_KEYTAB, CAUSES, CLASH, FAULTS, FINDINGS, LARGE, LISTED_AS_KEYTAB, NO_PASSWORDS,
+                           SEE_HELP, SHORT, code, line_fault, unknown)
 
 ADD = f"{ADD_HOST}\n".encode()
 ADDENT = "addent -key -p host/a@R -k 3 -e 17\n"
 WRITE = f"{ADDENT}{KEY}\nwkt k\n".encode()
-CUT = TWO + b"\0\0\0"
+CUT, CUT_CACHE = TWO + b"\0\0\0", USUAL + b"\0"
 
 # Messages, each with its explanation or an empty text.
 Output = tuple[tuple[str, str], ...]
@@ -78,14 +86,10 @@ def no_keytab(why: tuple[int, str], name: str = "k") -> tuple[str, str]:
     return f"{name}: not a keytab ({why[0]})", why[1]
 
 
-def refused(name: str, line: str, image: bytes, number: int) -> Explained:
-    """Returns a run that refuses its file."""
-    return case(name, f"{line} k", image, (f"k: refused {number}", code(number, line.split()[0])))
-
-
-def refused_talk(name: str, at: int, image: bytes | None, number: int, stdin: bytes) -> Explained:
-    """Returns a run of ktutil whose line of that number is refused: the explanation has that too."""
-    return case(name, "ktutil", image, (f"line {at}: refused {number}", f"line {at}: {code(number)}"), stdin=stdin)
+def refused(line: str, image: bytes, number: int) -> Explained:
+    """Returns a run that refuses its file, which it names last."""
+    return case(f"{line}: refused {number}", f"{line} k", image,
+                (f"k: refused {number}", code(number, line.split()[0])))
 
 
 def faulty(line: str, number: int, command: str = "ktedit", image: bytes = TWO) -> Explained:
@@ -94,27 +98,28 @@ def faulty(line: str, number: int, command: str = "ktedit", image: bytes = TWO) 
                 stdin=f"start\n{line}\n".encode())
 
 
-def talk_fault(at: int, number: int, phrase: str = "") -> tuple[str, str]:
-    """Returns the message about a faulty line of ktutil, with its explanation."""
-    return f"line {at}: fault {number}", f"line {at}: {phrase or line_fault(number, 'ktutil')}"
+def talk(given: bytes, image: bytes | None, *told: tuple[int, str, str]) -> Explained:
+    """Returns a run of ktutil, and what is told of each of some lines: the explanation has the number too."""
+    return case(f"ktutil: {given[:80]!r}", "ktutil", image,
+                *((f"line {at}: {what}", f"line {at}: {phrase}") for at, what, phrase in told), stdin=given)
 
 
 def faulty_talk(line: str, number: int, phrase: str = "") -> Explained:
     """Returns a run over a faulty line of ktutil."""
-    return case(f"ktutil: {line!r}", "ktutil", TWO, talk_fault(2, number, phrase),
-                stdin=f"l\n{line}\n".encode(errors="surrogateescape"))
+    return talk(f"l\n{line}\n".encode(errors="surrogateescape"), TWO,
+                (2, f"fault {number}", phrase or line_fault(number, "ktutil")))
 
 
-def listed(number: int, image: bytes, at: int) -> Explained:
+def listed(line: str, number: int, image: bytes, at: int) -> Explained:
     """Returns a listing of a damaged file: its fault is in the listing, and explained on the error output."""
-    return case(f"listed: fault {number}", "klist -k k", image, ("", f"k: fault {number} at {at}"),
-                ("", FAULTS[number]))
+    return case(f"listed: fault {number}", line, image, ("", f"k: fault {number} at {at}"), ("", FAULTS[number]))
 
 
-def reported(command: str, refusals: tuple[int, ...], *faults: int) -> list[tuple[str, str]]:
-    """Returns the explanations of the numbers among a command's replies, each once, refusals before faults."""
-    return [*(("", f"refused {number}: {code(number, command)}") for number in refusals),
-            *(("", f"fault {number}: {FAULTS[number]}") for number in faults)]
+def replies(command: str, image: bytes, script: bytes, refusals: tuple[int, ...], *faults: int) -> Explained:
+    """Returns a run whose replies have those numbers, each of which is explained once, refusals before faults."""
+    return case(f"{command}: replies to {script[:80]!r}", f"{command} k", image,
+                *(("", f"refused {number}: {code(number, command)}") for number in refusals),
+                *(("", f"fault {number}: {FAULTS[number]}") for number in faults), stdin=script)
 
 
 def first_of_each(faults: dict[str, int]) -> dict[int, str]:
@@ -122,17 +127,20 @@ def first_of_each(faults: dict[str, int]) -> dict[int, str]:
     return {fault: line for line, fault in reversed(faults.items())}
 
 
-def unread(name: str, file: str, cause: str, **more) -> Explained:
-    """Returns a run over a file that is not read."""
-    return case(f"unread: {name}", ("klist", "-k", file), TWO, (f"{file}: cannot read", CAUSES[cause]), status=3,
-                **more)
+def failed(words: Line, does: str, cause: str, image: bytes | None, **more) -> Explained:
+    """Returns a run over the file that its last word names, which it cannot read or write."""
+    name = words[-1]
+    return case(f"{words[0]}: cannot {does}, {cause}", words, image,
+                (f"{name}: cannot {does}", CAUSES.get(cause, cause).replace("NAME", name)), status=3, **more)
 
 
-def unsaved(name: str, file: str, cause: str, **more) -> Explained:
-    """Returns a run over a file that is not saved."""
-    phrase = CAUSES[cause].replace("NAME", file)
-    return case(f"unsaved: {name}", ("ktedit", file), None, (f"{file}: cannot write", phrase), stdin=ADD, status=3,
-                **more)
+def copy(options: str, source: bytes | None, target: bytes | None, *output: tuple[str, str], status: int = 1,
+         out: list[str] | tuple[str, ...] = (), **more) -> Explained:
+    """Returns a copy from `k` to `t`, or to none, its messages, and the lines that it prints."""
+    words = ("ktcopy", *words_of(options), "k", "t")
+    files = {file: image for file, image in (("k", source), ("t", target)) if image is not None}
+    name = f"{shown(words)}, files of {[len(image) for image in files.values()]} bytes"
+    return Explained(name, words, output, files, status=status, out=text(out), **more)
 
 
 def socket_in(folder: str) -> None:
@@ -151,37 +159,30 @@ def link(target: str | bytes) -> Callable[[str], None]:
     return lambda folder: os.symlink(target, os.path.join(os.fsencode(folder), b"l"))
 
 
-DAMAGED = code(1)
-LISTED_CACHE, IS_CACHE, NO_KEYTAB = map(no_keytab, (LISTED_AS_KEYTAB, BEGINS_AS_CACHE, BEGINS_AS_NO_KEYTAB))
-
-CASES = [
+KEYTABS = [
     # A newline in the name of a file makes no line of its own.
     case("a missing file with a newline in its name", ("klist", "-k", "a\nb"), None, ("a\\x0ab: no such file", "")),
     case("a cache with a newline in its name", ("ktfind", "a\nb", "0", "0", "b@R"), b"\5\4",
          no_keytab(BEGINS_AS_CACHE, "a\\x0ab"), file="a\nb"),
     # Files that are not keytabs, for each command.
-    case("klist -k of 05", "klist -k k", b"\x05", no_keytab(SHORT)),
-    case("klist -k of 0503", "klist -k k", b"\x05\x03", LISTED_CACHE),
-    case("klist -k of 0504", "klist -k k", b"\x05\x04", LISTED_CACHE),
-    case("klist -k of 0505", "klist -k k", b"\x05\x05", NO_KEYTAB),
-    case("klist -k of 0402", "klist -k k", b"\x04\x02", NO_KEYTAB),
-    case("ktfind in a cache", "ktfind k 0 0 b@R", b"\x05\x04", IS_CACHE),
-    case("ktedit of a cache", "ktedit k", b"\x05\x04", IS_CACHE),
-    case("ktremove from a cache", "ktremove -k old k", b"\x05\x04", IS_CACHE),
-    case("ktcheck of a cache", "ktcheck k", b"\x05\x04", IS_CACHE),
-    case("rkt of a cache", "ktutil", b"\x05\x04", (IS_CACHE[0], f"line 1: {IS_CACHE[1]}"), stdin=b"rkt k\n"),
+    *(case(f"{line} of {image.hex()}", line, image, no_keytab(why)) for line, image, why in (
+        ("klist -k k", b"\x05", SHORT),
+        *(("klist -k k", image, LISTED_AS_KEYTAB) for image in (b"\x05\x03", b"\x05\x04")),
+        *(("klist -k k", image, BEGINS_AS_NO_KEYTAB) for image in (b"\x05\x05", b"\x04\x02")),
+        *((line, b"\x05\x04", BEGINS_AS_CACHE)
+          for line in ("ktfind k 0 0 b@R", "ktedit k", "ktremove -k old k", "ktcheck k")))),
+    case("rkt of a cache", "ktutil", b"\x05\x04", (no_keytab(BEGINS_AS_CACHE)[0], f"line 1: {BEGINS_AS_CACHE[1]}"),
+         stdin=b"rkt k\n"),
     # Refused look-ups, removals and lines of ktutil.
-    case("ktfind of no entry", "ktfind k 0 0 c@R", TWO, ("k: refused 9", code(9))),
-    case("ktfind of no version", "ktfind k 4 0 b@R", TWO, ("k: refused 10", code(10))),
-    case("ktfind in a damaged file", "ktfind k 3 0 b@R", CUT, ("k: refused 1", DAMAGED)),
-    refused("ktremove of nothing", "ktremove -k 4", TWO, 9),
-    refused("ktremove from a damaged file", "ktremove -k old", CUT, 1),
-    refused_talk("rkt of a damaged file", 1, CUT, 1, b"rkt k\n"),
-    refused_talk("wkt to a damaged file", 3, CUT, 1, WRITE),
-    refused_talk("wkt of a long name", 3, None, 2,
-                 f"addent -key -p {'x' * 65_536}@R -k 3 -e 17\n{KEY}\nwkt k\n".encode()),
-    lambda: refused_talk("wkt to a full file", 3,
-                         keytab(record(HOST.spelled() + bytes(LIMIT - 6 - len(HOST.spelled())))), 3, WRITE),
+    *(case(f"{line}: refused {number}", line, image, (f"k: refused {number}", code(number)))
+      for line, image, number in (("ktfind k 0 0 c@R", TWO, 9), ("ktfind k 4 0 b@R", TWO, 10),
+                                  ("ktfind k 3 0 b@R", CUT, 1))),
+    refused("ktremove -k 4", TWO, 9),
+    refused("ktremove -k old", CUT, 1),
+    talk(b"rkt k\n", CUT, (1, "refused 1", code(1))),
+    talk(WRITE, CUT, (3, "refused 1", code(1))),
+    talk(f"addent -key -p {'x' * 65_536}@R -k 3 -e 17\n{KEY}\nwkt k\n".encode(), None, (3, "refused 2", code(2))),
+    lambda: talk(WRITE, keytab(record(HOST.spelled().ljust(LIMIT - 6, b"\0"))), (3, "refused 3", code(3))),
     # A mode alone has its word, and no hint.
     case("ktcheck: a group that may read", "ktcheck k", TWO, ("", f"mode: {FINDINGS['mode']}"), status=0,
          setting=lambda folder: os.chmod(os.path.join(folder, "k"), 0o640)),
@@ -189,54 +190,147 @@ CASES = [
     *(faulty(line, number) for number, line in first_of_each(LINE_FAULTS).items()),
     *(faulty_talk(line, number) for number, line in first_of_each(TALK_FAULTS).items()),
     faulty_talk("rkt \udcff", 8),
-    *(faulty_talk(line, 1, SEE_HELP)
-      for line in ("?", "help", "lr", "list_requests", " help\tlist")),
+    *(faulty_talk(line, 1, SEE_HELP) for line in ("?", "help", "lr", "list_requests", " help\tlist")),
     *(faulty_talk(line, 1) for line in ("HELP", "helps", "\\?")),
     *(faulty_talk(line, 2, NO_PASSWORDS)
       for line in ("addent -password -p b@R -k 3 -e 17", "add_entry -p b@R -k 3 -e 17 -password")),
     *(faulty_talk(line, 2) for line in ("rkt -password k", "addent -Password -p b@R -k 3 -e 17", "l -password")),
-    case("ktutil: two faults", "ktutil", None, talk_fault(2, 5), talk_fault(3, 1),
-         stdin=f"{ADDENT}00\nx\n".encode()),
-    # Files that are not read.
-    lambda: case("a large script", "ktedit k", None, ("input too large", LARGE), stdin=bytes(LIMIT + 1)),
-    unread("a file as a folder", "k/x", "ENOTDIR"),
-    unread("a long name", "x" * 256, "ENAMETOOLONG"),
-    unread("a link to itself", "l", "ELOOP", setting=link("l")),
-    case("unread: a socket", "klist -k s", TWO, ("s: cannot read", f"error {ENXIO}"), status=3, setting=socket_in),
-    # Files that are not saved.
-    unsaved("in no folder", "d/k", "ENOENT"),
-    unsaved("a name of saves", "k.krbfile", "name of saves"),
-    unsaved("a name of 248 bytes", "x" * 248, "ENAMETOOLONG"),
-    unsaved("another's new file", "k", "in the way", setting=in_the_way),
-    unsaved("a link that is no text", "l", "bad link", setting=link(b"\xff")),
+    talk(f"{ADDENT}00\nx\n".encode(), None,
+         *((at, f"fault {number}", line_fault(number, "ktutil")) for at, number in ((2, 5), (3, 1)))),
+    # Files that are not read, and those that are not saved.
+    failed(("klist", "-k", "k/x"), "read", "ENOTDIR", TWO),
+    failed(("klist", "-k", "x" * 256), "read", "ENAMETOOLONG", TWO),
+    failed(("klist", "-k", "l"), "read", "ELOOP", TWO, setting=link("l")),
+    failed(("klist", "-k", "s"), "read", f"error {ENXIO}", TWO, setting=socket_in),
+    *(failed(("ktedit", file), "write", cause, None, stdin=ADD, **more) for file, cause, more in (
+        ("d/k", "ENOENT", {}), ("k.krbfile", "name of saves", {}), ("x" * 248, "ENAMETOOLONG", {}),
+        ("k", "in the way", {"setting": in_the_way}), ("l", "bad link", {"setting": link(b"\xff")}))),
     case("wkt to a name of saves", "ktutil", None,
          ("k.krbfile: cannot write", f"line 1: {CAUSES['name of saves']}"), stdin=b"wkt k.krbfile\n", status=3),
-    # Damaged files.
-    listed(1, CUT, 98),
-    listed(2, TWO + b"\x7f\xff\xff\xff", 98),
-    listed(3, keytab(record(bytes(3))), 2),
-    # Replies of ktedit.
-    case("replies: places", "ktedit k", TWO, *reported("ktedit", (4, 5, 6)),
-         stdin=b"step 7\ncut 3\nresume 3\ncut 4\nstep 7\n"),
-    case("replies: walks", "ktedit k", TWO, *reported("ktedit", (7,)), stdin=b"start\n" * 1_025),
-    case("replies: a damaged file", "ktedit k", CUT, *reported("ktedit", (1,), 1),
-         stdin=b"resume 98\nstep 0\ncut 2\nstep 0\n"),
+    # Damaged files, and replies of ktedit.
+    listed("klist -k k", 1, CUT, 98),
+    listed("klist -k k", 2, TWO + b"\x7f\xff\xff\xff", 98),
+    listed("klist -k k", 3, keytab(record(bytes(3))), 2),
+    replies("ktedit", TWO, b"step 7\ncut 3\nresume 3\ncut 4\nstep 7\n", (4, 5, 6)),
+    replies("ktedit", TWO, b"start\n" * 1_025, (7,)),
+    replies("ktedit", CUT, b"resume 98\nstep 0\ncut 2\nstep 0\n", (1,), 1),
 ]
+
+COPIES = [
+    # Messages about either keytab.
+    copy("", b"\x05\x04", None, no_keytab(BEGINS_AS_CACHE)),
+    copy("", TWO, b"\x05\x04", no_keytab(BEGINS_AS_CACHE, "t")),
+    copy("", b"", TWO, no_keytab(SHORT)),
+    copy("", TWO, TWO[:-1], ("t: refused 1", code(1))),
+    lambda: copy("", TWO, keytab(record(B.spelled().ljust(LIMIT - 6, b"\0"))), ("t: refused 3", code(3))),
+    failed(("ktcopy", "from", "d/t"), "write", "ENOENT", TWO, file="from", out=b""),
+    failed(("ktcopy", "from", "k"), "write", "in the way", TWO, file="from", out=b"", setting=in_the_way),
+    # Clashes are explained once.
+    copy("", keytab(B, OTHER, OTHER), None, ("", f"clash: {CLASH}"), out=[f"clash 47 2 {Y}", f"clash 92 2 {Y}"]),
+    copy("-n --replace -p b@R", TWO, keytab(OTHER), status=0, out=[f"removed 2 {Y}", f"copied 2 {Y}"]),
+]
+
+# Commands that change a cache, each with its input.
+CHANGING = (("ccedit", b"cut 40\n"), ("ccremove -p krbtgt/R@R", b""))
+
+CACHES = [
+    # Files that are not caches, and a damaged one, as a listing reports them.
+    *(case(f"{line} of {image.hex()}", f"{line} k", image, (f"k: not a cache ({number})", phrase), stdin=stdin,
+           after={"k": image})
+      for image, (number, phrase) in (
+          (b"", SHORT), (b"\x05\x01", BEGINS_AS_KEYTAB), (b"\x05\x02", BEGINS_AS_KEYTAB),
+          (b"\x04\x04", BEGINS_AS_NO_CACHE), (b"\x05\x04\x00", BAD_HEADER), (b"\x05\x03", BAD_DEFAULT))
+      for line, stdin in (("klist", b""), *CHANGING)),
+    listed("klist k", 4, CUT_CACHE, 392),
+    # Refused removals.
+    *(refused(f"ccremove {words}", image, number) for words, image, number in (
+        ("-p c@R", USUAL, 9), ("-p c@R --expired", USUAL, 9), ("--expired", CUT_CACHE, 1),
+        ("--expired", VERSION_3, 8))),
+    case("ccremove: nothing to do", "ccremove --expired k", cache(), status=0),
+    # Faulty lines of scripts.
+    *(faulty(line, number, "ccedit", USUAL) for number, line in first_of_each(CACHE_FAULTS).items()),
+    # Files that are not saved.
+    *(failed((*line.split(), file), "write", cause, USUAL, file=file, stdin=stdin, **more) for line, stdin in CHANGING
+      for file, cause, more in (("c.krbfile", "name of saves", {}), ("k", "in the way", {"setting": in_the_way}))),
+    # Replies of ccedit.
+    replies("ccedit", USUAL, b"step 7\ncut 3\nresume 3\ncut 284\nstep 7\n", (4, 5, 6)),
+    replies("ccedit", USUAL, b"start\n" * 1_025, (7,)),
+    replies("ccedit", CUT_CACHE, b"resume 392\nstep 0\ncut 40\nconfig k - v\nrewrite\nstep 0\n", (1,), 4),
+    replies("ccedit", VERSION_3[:-1], b"start\nstep 0\ncut 20\nconfig k - v\nrewrite\n", (1, 8), 4),
+    lambda: replies("ccedit", cache(long_ticket(LIMIT - 22)), b"config k - v\n", (3,)),
+    # Large scripts.
+    *(partial(case, f"{command}: a large script", f"{command} k", None, ("input too large", LARGE),
+              stdin=bytes(LIMIT + 1)) for command in ("ktedit", "ccedit")),
+]
+
+# First words that no line of a script has are shown where words are, and nothing else of a line is.
+# Lines whose first word has at most 16 bytes, one of which is no hexadecimal digit, and how it is shown.
+SHOWN_WORDS = {
+    b"frob": "frob", b"frob 1 cut 2": "frob", b"g": "g", b"-": "-", b"0x": "0x", b"Start": "Start",
+    b"abcdef012345678g": "abcdef012345678g", b"g" * 16 + b" x": "g" * 16,
+    b"start\r": r"start\x0d", b"cafe\r": r"cafe\x0d", b"start\t2": r"start\x092", b"\0\x1f\x7f": r"\x00\x1f\x7f",
+    b"a\\b": r"a\\b", b'a"b': 'a"b', b'"': '"', b"caf\xc3\xa9": r"caf\xc3\xa9", b"\xff" * 16: r"\xff" * 16,
+}
+
+# Lines whose first word is empty, has more bytes, or hexadecimal digits alone.
+HIDDEN_WORDS = (b" ", b" frob", b"0", b"cafe", b"CAFE 00", b"abcdefABCDEF0189", b"abcdefABCDEF018g9", b"g" * 17,
+                b"\xff" * 17, KEY.encode())
+
+PHRASES = {**{line: unknown(word) for line, word in SHOWN_WORDS.items()}, **dict.fromkeys(HIDDEN_WORDS, line_fault(1))}
+
+# The same of each command, and a line of the other: `add` has hexadecimal digits alone.
+FIRST_WORDS = [case(f"{command}: {line!r}", f"{command} k", image, ("line 3: fault 1", phrase),
+                    stdin=b"start\n\n" + line)
+               for command, image, other in (("ktedit", TWO, {b"config k - v": unknown("config")}),
+                                             ("ccedit", USUAL, {b"add 3 17 0 - b@R": line_fault(1)}))
+               for line, phrase in {**PHRASES, **other}.items()]
+
+CASES = [*KEYTABS, *COPIES, *CACHES, *FIRST_WORDS]
+
+# A line of each kind, by command.
+LINES = {
+    "ktedit k": ("start", "resume 2", "step 0", f"add 3 17 0 {KEY} b@R", "cut 2", "rewrite"),
+    "ccedit c": ("start", "resume 40", "step 0", "config k - v", "cut 40", "rewrite"),
+    "ktutil": ("list -t -k", "rkt k", "wkt k",
+               f"addent -key -p host/a@R -k 3 -e aes128-cts-hmac-sha1-96\n{KEY}", "delent 1",
+               "clear", "quit"),
+}
+
+# Words that may be keys.
+KEYS = ("0123456789ABCDEF", "fedcba98" * 4, "fedcba98" * 8)
+
+
+def with_word(line: str, word: str) -> Iterator[str]:
+    """Yields a line with a word in place of each of its words, before each and at the end."""
+    parts = re.split("([ \n])", line)
+    for at in range(0, len(parts), 2):
+        yield from ("".join([*parts[:at], new, *parts[at + 1:]]) for new in (word, f"{word} {parts[at]}"))
+    yield f"{line} {word}"
+
+
+def check_keys(report: Report, program: str) -> None:
+    """Puts keys into all places of lines, beside a file of that name, and looks for them on the error output."""
+    for command, lines in LINES.items():
+        for key in KEYS:
+            told = []
+            for line in (each for line in lines for each in with_word(line, key)):
+                with folder_of({"k": TWO, "c": USUAL, key: TWO}) as folder:
+                    got = run_explained(program, command.split(), folder, f"{line}\n{line}\n".encode())
+                told += [f"{line!r}: {got.err!r}"] if key.lower().encode() in got.err.lower() else []
+            report.check(f"{command}: {key} is never shown", told)
 
 
 def check(report: Report, program: str) -> None:
-    """Checks an input and an output that fail."""
-    rows = [
-        (("klist", "-k", "k"), "> /dev/full", "cannot write output", CAUSES["ENOSPC"]),
-        (("ktutil",), "< .", "cannot read input", CAUSES["EISDIR"]),
-        (("ktedit", "k"), "< .", "cannot read input", CAUSES["EISDIR"]),
-        (("ccedit", "k"), "< .", "cannot read input", CAUSES["EISDIR"]),
-    ]
+    """Checks keys in lines, and an input and an output that fail."""
+    check_keys(report, program)
+    rows = [(("klist", "-k", "k"), "> /dev/full", "cannot write output", CAUSES["ENOSPC"]),
+            *((words, "< .", "cannot read input", CAUSES["EISDIR"])
+              for words in (("ktutil",), ("ktedit", "k"), ("ccedit", "k")))]
     with folder_of({"k": TWO}) as folder:
-        for words, redirection, text, phrase in rows:
+        for words, redirection, said, phrase in rows:
             shell = ("-c", f'exec "$0" {redirection} "$@"', program)
             name = f"{' '.join(words)} {redirection}"
-            alone = message(3, text)
+            alone = message(3, said)
             explained = Outcome(3, err=alone.err + f"krbfile: {phrase}\n".encode())
             report.compare(f"{name}, on a pipe", alone, run("sh", (*shell, *words), folder))
             report.compare(f"{name}, {EXPLAIN}", explained, run("sh", (*shell, EXPLAIN, *words), folder))

@@ -160,20 +160,17 @@ def help_for(line: str | Line) -> str:
     return f"krbfile {command} --help" if command in COMMANDS else "krbfile --help"
 
 
-def explained(line: str, phrase: str) -> Case:
-    """Returns a line after a first `--explain`."""
-    words = (EXPLAIN, *line.split())
-    return Case(shown(words), words, Outcome(2, err=MESSAGE + f"krbfile: {phrase}\n".encode()), {"k": TWO})
-
-
 CASES = [
     *(mistake(line, f"{phrase}; see {help_for(line)}") for phrase, lines in {**MISTAKES, **HIDDEN}.items()
       for line in lines),
     *(mistake(line, f"{phrase}; see {help_for(line)}\nkrbfile: did you mean {meant}?")
       for (phrase, meant), lines in NEAR.items() for line in lines),
     mistake(("klist", "-k", b"\xff"), "an argument is not UTF-8; see krbfile --help"),
-    explained(f"{EXPLAIN} klist -k k", "--explain is given twice; see krbfile --help"),
-    explained(f"klist k {EXPLAIN}", "--explain stands before the command; see krbfile klist --help"),
+    # Lines after a first `--explain`.
+    *(Case(line, words_of(line), Outcome(2, err=MESSAGE + f"krbfile: {phrase}\n".encode()), {"k": TWO})
+      for line, phrase in (
+          ("--explain --explain klist -k k", "--explain is given twice; see krbfile --help"),
+          ("--explain klist k --explain", "--explain stands before the command; see krbfile klist --help"))),
 ]
 
 
@@ -210,8 +207,7 @@ def check_good_lines(report: Report, program: str) -> None:
         words = ("klist", "-k", "--", EXPLAIN)
         found = run(program, words, folder)
         report.compare("a file called --explain", Outcome(0, found.out), found)
-        report.compare("a file called --explain, on a terminal", found,
-                       run_on_terminal(program, words, folder))
+        report.compare("a file called --explain, on a terminal", found, run_on_terminal(program, words, folder))
 
 
 def check(report: Report, program: str) -> None:

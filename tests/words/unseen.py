@@ -10,8 +10,8 @@ from keytabs.copies import X as HOST_TAIL
 from keytabs.edits import ADD_B, ADD_C, C
 from keytabs.ktutil_lines import ADDENT, KEY
 from makers.images import B, HOST, TWO, Entry, keytab, old
-from runs.rows import shown, text, words_of
-from words.explained import Explained, in_the_way
+from runs.rows import text
+from words.explained import Explained, copy, failed, in_the_way
 from words.phrases import CAUSES, CLASH, UNSEEN, code, unknown
 
 # An entry that is hidden, the same with a key, a line that adds it, and how it is printed.
@@ -34,12 +34,9 @@ def edit(name: str, image: bytes | None, script: list[str], place: int | None, *
                      **more)
 
 
-def copy(options: str, source: bytes, target: bytes | None, place: int | None, *lines: str) -> Explained:
+def copied(options: str, source: bytes, target: bytes | None, place: int | None, *lines: str) -> Explained:
     """Returns a copy from `k` to `t`, and the place from which nothing is seen."""
-    files = {"k": source, **({} if target is None else {"t": target})}
-    words = ("ktcopy", *words_of(options), "k", "t")
-    return Explained(f"{shown(words)} of {len(source)} bytes", words, hidden_at(place, "t"), files, status=0,
-                     out=text(lines))
+    return copy(options, source, target, *hidden_at(place, "t"), status=0, out=lines)
 
 
 def talk(name: str, lines: list[str], files: dict[str, bytes], *those: tuple[int, int],
@@ -93,29 +90,27 @@ EDITS = [
 ]
 
 COPIES = [
-    *(copy(options, keytab(HIDDEN), None, 2, f"copied 2 {H}") for options in ("", "-n", "--replace", "-e 1 -n")),
-    copy("", TWO, None, None, f"copied 2 {HOST_TAIL}", f"copied 53 {Y}"),
-    copy("", keytab(B, HIDDEN), TWO, 98, f"copied 98 {H}"),
-    copy("-p b@R", keytab(B, HIDDEN), None, None, f"copied 2 {Y}"),
+    *(copied(options, keytab(HIDDEN), None, 2, f"copied 2 {H}") for options in ("", "-n", "--replace", "-e 1 -n")),
+    copied("", TWO, None, None, f"copied 2 {HOST_TAIL}", f"copied 53 {Y}"),
+    copied("", keytab(B, HIDDEN), TWO, 98, f"copied 98 {H}"),
+    copied("-p b@R", keytab(B, HIDDEN), None, None, f"copied 2 {Y}"),
     # A seen entry behind one that was there, and before it.
-    *(copy(options, keytab(B), keytab(HIDDEN), 2, f"copied 31 {Y}") for options in ("", "-n")),
-    copy("", keytab(B), keytab(41, HIDDEN), None, f"copied 2 {Y}"),
-    copy("", keytab(B, C), keytab(41, HIDDEN), 47, f"copied 2 {Y}", "copied 76 kvno 3 etype 17 c@R"),
-    copy("", keytab(B), old(HIDDEN), 2, f"copied 27 {Y}"),
+    *(copied(options, keytab(B), keytab(HIDDEN), 2, f"copied 31 {Y}") for options in ("", "-n")),
+    copied("", keytab(B), keytab(41, HIDDEN), None, f"copied 2 {Y}"),
+    copied("", keytab(B, C), keytab(41, HIDDEN), 47, f"copied 2 {Y}", "copied 76 kvno 3 etype 17 c@R"),
+    copied("", keytab(B), old(HIDDEN), 2, f"copied 27 {Y}"),
     # What is replaced is gone.
-    *(copy(f"--replace {dry}", keytab(KEYED), keytab(HIDDEN), None, f"removed 2 {H}", f"copied 31 {H}")
+    *(copied(f"--replace {dry}", keytab(KEYED), keytab(HIDDEN), None, f"removed 2 {H}", f"copied 31 {H}")
       for dry in ("", "-n")),
-    *(copy(f"--replace {dry}", keytab(HIDDEN), keytab(KEYED), 2, f"removed 2 {H}", f"copied 2 {H}")
+    *(copied(f"--replace {dry}", keytab(HIDDEN), keytab(KEYED), 2, f"removed 2 {H}", f"copied 2 {H}")
       for dry in ("", "-n")),
     # Nothing is added.
-    copy("", keytab(HIDDEN), keytab(HIDDEN), None), copy("-n", keytab(HIDDEN), keytab(B, HIDDEN), None),
+    copied("", keytab(HIDDEN), keytab(HIDDEN), None), copied("-n", keytab(HIDDEN), keytab(B, HIDDEN), None),
     # A clash has its message, and nothing else has: nothing would be saved.
-    *(Explained(f"ktcopy {options}: a clash", ("ktcopy", *words_of(options), "k", "t"), (("", f"clash: {CLASH}"),),
-                {"k": keytab(HIDDEN, B), "t": keytab(OTHER)}) for options in ("", "-n")),
-    Explained("ktcopy: a refusal", ("ktcopy", "k", "t"), (("t: refused 2", code(2)),),
-              {"k": keytab(HIDDEN, LONG), "t": old()}, out=b""),
-    Explained("ktcopy: not saved", ("ktcopy", "k", "t.krbfile"),
-              (("t.krbfile: cannot write", CAUSES["name of saves"]),), {"k": keytab(HIDDEN)}, status=3, out=b""),
+    *(copy(options, keytab(HIDDEN, B), keytab(OTHER), ("", f"clash: {CLASH}"), out=out)
+      for options, out in (("", [f"clash 31 2 {Y}"]), ("-n", [f"copied 47 {H}", f"clash 31 2 {Y}"]))),
+    copy("", keytab(HIDDEN, LONG), old(), ("t: refused 2", code(2))),
+    failed(("ktcopy", "k", "t.krbfile"), "write", "name of saves", keytab(HIDDEN), out=b""),
 ]
 
 J = {"j": keytab(HIDDEN), "h": keytab(HIDDEN), "b": keytab(B), "o": keytab(41, HIDDEN)}
