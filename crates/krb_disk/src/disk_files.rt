@@ -5,7 +5,8 @@ ghost use Rattle.krb_disk.specs.Aftermaths.{IsDone, IsRefused};
 ghost use Rattle.krb_disk.specs.DiskFiles.{Disk, Fails, CountsLoad, CountsSave, AnswersFromDisk, SavesToDisk, is_in_place, left};
 ghost use Rattle.krb_disk.specs.Faults.{load_fault, save_fault};
 ghost use Rattle.krb_disk.specs.Holding.{IsHeldAs, name_of};
-ghost use Rattle.krb_disk.specs.Looks.{IsPlain};
+
+mod holding;
 
 use crate::calls::Calls;
 use crate::fault::{DiskFault, ReadFault, Unsaved};
@@ -16,9 +17,8 @@ use crate::looks::limits::check_len;
 use crate::number::Numbered;
 use crate::old::Way;
 use crate::owner::SetOwner;
-use crate::read::{read_file, read_plain};
-use crate::target::new_path_of;
 use crate::write_in_place::WriteInPlace;
+use holding::release;
 use krb_files::{Aftermath, Cause, Files, HeldName, LoadFault, SaveFault};
 use std::alloc::Allocator;
 use std::marker::Model;
@@ -139,97 +139,6 @@ where
             self.count_failure(cause);
         }
         fault.save_fault()
-    }
-
-    // Reads a file: through the hold, if one is held, unless only plain files are loaded.
-    fn read<A: Allocator>(
-        &mut self,
-        alloc: A,
-        name: &str,
-        limit: u32,
-    ) -> Result<(Found, Vec<u8, A>), ReadFault>
-        ensures within { IfOk result (λ read. vec_len read.1 ≤ limit) }
-        ensures plain { IsTrue self.old.only_plain → IfOk result (λ read. IsPlain read.0) }
-        ensures same { self.new ≡ self.old }
-    {
-        let looks = self.calls.looks();
-        if self.only_plain {
-            return read_plain(looks, alloc, name, limit);
-        }
-        match (&mut self.held, &self.not_held) {
-            (Some(held), _) => held.load(&self.calls, alloc, name, limit),
-            (None, Some(not_held)) => not_held.load(looks, alloc, name, limit),
-            (None, None) => read_file(looks, alloc, name, limit),
-        }
-    }
-
-    // Keeps a hold until the file is saved or released, or why it could not be had.
-    fn keep(&mut self, name: &str, held: Result<Held<R>, NotHeld<R::A>>)
-        requires { IfOk held (λ held. name_of held ≡ name.now) }
-        ensures { self.new ≡ record self.old { held = Some name.now; is_held = is_ok held } }
-    {
-        self.held_name = HeldName::of(name.as_bytes());
-        match held {
-            Ok(held) => {
-                self.held = Some(held);
-                self.not_held = None;
-            }
-            Err(not_held) => {
-                self.held = None;
-                self.not_held = Some(not_held);
-            }
-        }
-    }
-
-    // Takes the hold, or why it could not be had, so that none is left.
-    fn take_hold(&mut self) -> Result<Option<Held<R>>, DiskFault>
-        ensures { self.new ≡ left self.old }
-    {
-        self.held_name = HeldName::none();
-        let not_held = self.not_held.take();
-        match (self.held.take(), not_held) {
-            (None, Some(not_held)) => Err(not_held.why),
-            (held, _) => Ok(held),
-        }
-    }
-
-    // Saves a file, which is held before if it was not. Returns what that left behind.
-    fn save_held(&mut self, name: &str, bytes: &[u8]) -> Result<Option<Aftermath>, Unsaved>
-        ensures ok { OnOk result (self.new
-            ≡ record (left self.old) { saved = (name.now, bytes.now) ∷ self.old.saved }) }
-        ensures err { OnErr result (self.new ≡ left self.old) }
-        ensures done { IfOk result IsDone }
-        ensures refused { IfErr result IsRefused }
-    {
-        let held = self.take_hold()?;
-        if let Err(fault) = check_len(self.calls.looks(), bytes.len()) {
-            release(&self.calls, held);
-            return Err(Unsaved::from(fault));
-        }
-        match held {
-            Some(held) => held.save(&mut self.calls, name, bytes, self.way),
-            None => save_anew(&mut self.calls, name, bytes, self.way),
-        }
-    }
-
-    // Notes what is in the way of a save that was refused by this fault.
-    fn note_in_the_way(&mut self, name: &str, fault: DiskFault)
-        ensures { self.new ≡ self.old }
-    {
-        self.in_the_way = match fault {
-            DiskFault::Failed(Cause::InTheWay) => new_path_of(self.calls.looks(), name),
-            _ => None,
-        };
-    }
-}
-
-// Ends a hold, if there is one.
-fn release<R: rt::Files + rt::Clock + Alloc>(calls: &Calls<'_, R>, held: Option<Held<R>>)
-where
-    R::File: SetOwner + TakeLock + Numbered + WriteInPlace,
-{
-    if let Some(held) = held {
-        held.release(calls);
     }
 }
 

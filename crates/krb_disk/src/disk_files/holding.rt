@@ -1,0 +1,119 @@
+//! The hold of a file on a disk, and what goes through it.
+
+ghost use Rattle.std.specs.Prelude.{◌≡◌, ◌≤◌, ◌∷◌, Some, is_ok, IfOk, OnOk, OnErr, IfErr, IsTrue, vec_len};
+ghost use Rattle.krb_disk.specs.Aftermaths.{IsDone, IsRefused};
+ghost use Rattle.krb_disk.specs.DiskFiles.{left};
+ghost use Rattle.krb_disk.specs.Holding.{name_of};
+ghost use Rattle.krb_disk.specs.Looks.{IsPlain};
+
+use super::DiskFiles;
+use crate::calls::Calls;
+use crate::fault::{DiskFault, ReadFault, Unsaved};
+use crate::held::{Held, NotHeld, save_anew};
+use crate::lock::TakeLock;
+use crate::looks::Found;
+use crate::looks::limits::check_len;
+use crate::number::Numbered;
+use crate::owner::SetOwner;
+use crate::read::{read_file, read_plain};
+use crate::target::new_path_of;
+use crate::write_in_place::WriteInPlace;
+use krb_files::{Aftermath, Cause, HeldName};
+use std::alloc::Allocator;
+use std::rt;
+
+impl<R: rt::Files + rt::Clock + Alloc> DiskFiles<'_, R>
+where
+    R::File: SetOwner + TakeLock + Numbered + WriteInPlace,
+{
+    /// Reads a file: through the hold, if one is held, unless only plain files are loaded.
+    pub fn read<A: Allocator>(
+        &mut self,
+        alloc: A,
+        name: &str,
+        limit: u32,
+    ) -> Result<(Found, Vec<u8, A>), ReadFault>
+        ensures within { IfOk result (λ read. vec_len read.1 ≤ limit) }
+        ensures plain { IsTrue self.old.only_plain → IfOk result (λ read. IsPlain read.0) }
+        ensures same { self.new ≡ self.old }
+    {
+        let looks = self.calls.looks();
+        if self.only_plain {
+            return read_plain(looks, alloc, name, limit);
+        }
+        match (&mut self.held, &self.not_held) {
+            (Some(held), _) => held.load(&self.calls, alloc, name, limit),
+            (None, Some(not_held)) => not_held.load(looks, alloc, name, limit),
+            (None, None) => read_file(looks, alloc, name, limit),
+        }
+    }
+
+    /// Keeps a hold until the file is saved or released, or why it could not be had.
+    pub fn keep(&mut self, name: &str, held: Result<Held<R>, NotHeld<R::A>>)
+        requires { IfOk held (λ held. name_of held ≡ name.now) }
+        ensures { self.new ≡ record self.old { held = Some name.now; is_held = is_ok held } }
+    {
+        self.held_name = HeldName::of(name.as_bytes());
+        match held {
+            Ok(held) => {
+                self.held = Some(held);
+                self.not_held = None;
+            }
+            Err(not_held) => {
+                self.held = None;
+                self.not_held = Some(not_held);
+            }
+        }
+    }
+
+    /// Takes the hold, or why it could not be had, so that none is left.
+    pub fn take_hold(&mut self) -> Result<Option<Held<R>>, DiskFault>
+        ensures { self.new ≡ left self.old }
+    {
+        self.held_name = HeldName::none();
+        let not_held = self.not_held.take();
+        match (self.held.take(), not_held) {
+            (None, Some(not_held)) => Err(not_held.why),
+            (held, _) => Ok(held),
+        }
+    }
+
+    /// Saves a file, which is held before if it was not. Returns what that left behind.
+    pub fn save_held(&mut self, name: &str, bytes: &[u8]) -> Result<Option<Aftermath>, Unsaved>
+        ensures ok { OnOk result (self.new
+            ≡ record (left self.old) { saved = (name.now, bytes.now) ∷ self.old.saved }) }
+        ensures err { OnErr result (self.new ≡ left self.old) }
+        ensures done { IfOk result IsDone }
+        ensures refused { IfErr result IsRefused }
+    {
+        let held = self.take_hold()?;
+        if let Err(fault) = check_len(self.calls.looks(), bytes.len()) {
+            release(&self.calls, held);
+            return Err(Unsaved::from(fault));
+        }
+        match held {
+            Some(held) => held.save(&mut self.calls, name, bytes, self.way),
+            None => save_anew(&mut self.calls, name, bytes, self.way),
+        }
+    }
+
+    /// Notes what is in the way of a save that was refused by this fault.
+    pub fn note_in_the_way(&mut self, name: &str, fault: DiskFault)
+        ensures { self.new ≡ self.old }
+    {
+        self.in_the_way = match fault {
+            DiskFault::Failed(Cause::InTheWay) => new_path_of(self.calls.looks(), name),
+            _ => None,
+        };
+    }
+}
+
+/// Ends a hold, if there is one.
+pub fn release<R: rt::Files + rt::Clock + Alloc>(calls: &Calls<'_, R>, held: Option<Held<R>>)
+where
+    R::File: SetOwner + TakeLock + Numbered + WriteInPlace,
+{
+    if let Some(held) = held {
+        held.release(calls);
+    }
+}
