@@ -8,9 +8,13 @@ from dataclasses import dataclass, field
 from random import Random
 
 from runs.harness import SECONDS
+from words.phrases import AFTERMATHS
 
 # A run that is refused has waited for another for this many seconds, or failed for another reason.
 LEAST_WAIT = 9
+
+# What a run tells that saved, and lost the change of another program; its status is 1.
+LOST = AFTERMATHS["lost change"].encode()
 
 # A run that reads no input starts when its shell has read a line.
 WAITS = ("sh", "-c", 'read -r line; exec "$0" "$@"')
@@ -50,7 +54,8 @@ class Run:
 
     def saves(self) -> bool:
         """Whether it reports that it saved. MIT's ktutil ends with status 0 even if it failed."""
-        return self.started.returncode == 0 and not (self.is_mits and b" while " in self.output)
+        has_failed = self.is_mits and b" while " in self.output
+        return LOST in self.output or self.started.returncode == 0 and not has_failed
 
     def end_is_reported(self, beside_mit: bool) -> bool:
         """Whether it ended as it may: it saved, was killed, or was refused for good reason."""

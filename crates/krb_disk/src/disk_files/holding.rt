@@ -27,7 +27,7 @@ where
     R::File: SetOwner + TakeLock + Numbered + WriteInPlace,
 {
     /// Reads a file: through the hold, if one is held, unless only plain files are loaded.
-    pub fn read<A: Allocator>(
+    pub(super) fn read<A: Allocator>(
         &mut self,
         alloc: A,
         name: &str,
@@ -49,7 +49,7 @@ where
     }
 
     /// Keeps a hold until the file is saved or released, or why it could not be had.
-    pub fn keep(&mut self, name: &str, held: Result<Held<R>, NotHeld<R::A>>)
+    pub(super) fn keep(&mut self, name: &str, held: Result<Held<R>, NotHeld<R::A>>)
         requires { IfOk held (λ held. name_of held ≡ name.now) }
         ensures { self.new ≡ record self.old { held = Some name.now; is_held = is_ok held } }
     {
@@ -67,7 +67,7 @@ where
     }
 
     /// Takes the hold, or why it could not be had, so that none is left.
-    pub fn take_hold(&mut self) -> Result<Option<Held<R>>, DiskFault>
+    pub(super) fn take_hold(&mut self) -> Result<Option<Held<R>>, DiskFault>
         ensures { self.new ≡ left self.old }
     {
         self.held_name = HeldName::none();
@@ -79,7 +79,11 @@ where
     }
 
     /// Saves a file, which is held before if it was not. Returns what that left behind.
-    pub fn save_held(&mut self, name: &str, bytes: &[u8]) -> Result<Option<Aftermath>, Unsaved>
+    pub(super) fn save_held(
+        &mut self,
+        name: &str,
+        bytes: &[u8],
+    ) -> Result<Option<Aftermath>, Unsaved>
         ensures ok { OnOk result (self.new
             ≡ record (left self.old) { saved = (name.now, bytes.now) ∷ self.old.saved }) }
         ensures err { OnErr result (self.new ≡ left self.old) }
@@ -98,7 +102,7 @@ where
     }
 
     /// Notes what is in the way of a save that was refused by this fault.
-    pub fn note_in_the_way(&mut self, name: &str, fault: DiskFault)
+    pub(super) fn note_in_the_way(&mut self, name: &str, fault: DiskFault)
         ensures { self.new ≡ self.old }
     {
         self.in_the_way = match fault {
@@ -109,7 +113,7 @@ where
 }
 
 /// Ends a hold, if there is one.
-pub fn release<R: rt::Files + rt::Clock + Alloc>(calls: &Calls<'_, R>, held: Option<Held<R>>)
+pub(super) fn release<R: rt::Files + rt::Clock + Alloc>(calls: &Calls<'_, R>, held: Option<Held<R>>)
 where
     R::File: SetOwner + TakeLock + Numbered + WriteInPlace,
 {
