@@ -94,7 +94,7 @@ WRONG_BODIES = {
         "forgets-what-was-loaded": "the bytes that were loaded are not compared before the rename",
         "holds-nothing": "what is held is forgotten at once",
         "holds-without-the-lock": "a file is held that was not locked",
-        "loads-past-the-hold": "a file that is held is loaded by its name anew, and not compared before the save",
+        "loads-past-the-hold": "a held file is loaded by its name anew, and not compared before the save",
         "made-for-all": "the new file may be read by all while it is written",
         "majors-of-eight-bits": "the major number of a device is cut to 8 bits",
         "owner-and-group-turned-round": "the old file's owner and its group change places in the new one",
