@@ -111,7 +111,7 @@ WRONG_BODIES = {
         "saves-under-another-name": "the file is saved under another name",
         "writes-nothing-back": "after a failure no old byte is written back",
         "writes-over-more-than-differs": "in place all of a large file is written over",
-        "writes-over-old-bytes-before-the-sync": "old bytes are written over before the new end of the file is on the disk",
+        "writes-over-old-bytes-before-the-sync": "old bytes are written over before the new end is on the disk",
     },
     "krb_copy": {
         "clash-by-order-of-addition": "the line of a clash has the place of the twin that was added last",
