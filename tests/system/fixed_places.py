@@ -16,8 +16,8 @@ from runs.namespaces import can_mount, run_within
 from runs.terminal import EXPLAIN
 from system.disk_faults import mounted
 from system.placing import EQUAL, LONGER, MIXED, PLACED, changed, explained, kept, refused, with_words
-from system.saving import (ADD, NEW, OLD, SCRIPT, UNSAVED, WALK, as_another, at, check_over, renamed, tree_faults,
-                           write)
+from system.saving import (ADD, NEW, OLD, SCRIPT, UNSAVED, USER, WALK, as_another, at, check_over, renamed,
+                           tree_faults, write)
 from words.phrases import AFTERMATHS, CAUSES
 
 # A keytab that fills a page of 4,096 bytes but for less than an entry.
@@ -42,6 +42,24 @@ def check_unwritable(report: Report, program: str) -> None:
     for case in (refused(in_place(EQUAL), "EACCES"), with_words(walk)):
         check_over(report, program, case, at("k", lambda path: os.chmod(path, 0o444)),
                    at(".", lambda path: os.chmod(path, 0o777)), **options)
+
+
+def check_set_id(report: Report, program: str) -> None:
+    """Checks that a file of which the system clears setuid while its new end is added is saved all the same."""
+    options, case = as_another(program), in_place(LONGER)
+    if options is None:
+        report.skip("files with setuid", "none but root may start the program")
+        return
+    with folder_of(case.files) as folder:
+        path = os.path.join(folder, "k")
+        if os.geteuid() == 0:
+            os.chown(path, USER, USER)
+            os.chmod(folder, 0o777)
+        os.chmod(path, 0o4600)
+        faults = differences(case.wanted, run(program, case.words, folder, case.stdin, **options))
+        mode = os.stat(path).st_mode & 0o7777
+        faults += [] if mode == 0o600 else [f"mode {mode:o}"]
+        report.check(f"setuid: {case.name}", faults + tree_faults(case.files_after, folder))
 
 
 def check_mounted(report: Report, program: str) -> None:
@@ -149,5 +167,5 @@ def check_beside(report: Report, program: str) -> None:
 
 def check(report: Report, program: str) -> None:
     """Runs this topic."""
-    for each in (check_unwritable, check_mounted, check_disks, check_limit, check_sparse, check_names, check_beside):
+    for each in (check_unwritable, check_set_id, check_mounted, check_disks, check_limit, check_sparse, check_names, check_beside):
         each(report, program)
