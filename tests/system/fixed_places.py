@@ -167,5 +167,6 @@ def check_beside(report: Report, program: str) -> None:
 
 def check(report: Report, program: str) -> None:
     """Runs this topic."""
-    for each in (check_unwritable, check_set_id, check_mounted, check_disks, check_limit, check_sparse, check_names, check_beside):
+    for each in (check_unwritable, check_set_id, check_mounted, check_disks, check_limit, check_sparse, check_names,
+                 check_beside):
         each(report, program)
