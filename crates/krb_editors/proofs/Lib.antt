@@ -4,3 +4,4 @@ pub mod CacheEdits
 pub mod Copies
 pub mod AddedPlaces
 pub mod LivePlaces
+mod Holding

@@ -1,5 +1,6 @@
 -- An image as programs hand it to each other.
-use Rattle.std.specs.Prelude.{ℕ, ◌+◌, ◌-◌, List, ◌∷◌, ◌++◌, length, drop, position, take, codes, decimal, ◌==◌, if◌then◌else◌, option_and_then, option_map, Option, None, Some}
+use Rattle.std.specs.Prelude.{ℕ, ◌+◌, ◌-◌, List, ◌∷◌, ◌++◌, length, drop, take, codes, decimal, ◌==◌, if◌then◌else◌, option_and_then, option_map, Option, None, Some}
+use Rattle.std.specs.List.{position_from}
 use Rattle.krb_text.specs.Numbers.{number_in}
 
 -- the most bytes of the frame of an image of 16 MiB: ten digits and a newline before it
@@ -21,7 +22,7 @@ head_of text (Some end) = head_if end (length text - (end + 1)) (number_in 32 (t
 
 -- the length of what stands before the image, if the text is just one frame: one to ten digits and a newline before as many bytes
 abbrev pub head_len : List ℕ → Option ℕ
-head_len text = head_of text (position (λ b. b == 10) text)
+head_len text = head_of text (position_from (λ b. b == 10) 0 text)
 
 -- the image in a text that is just one frame
 abbrev pub framed : List ℕ → Option (List ℕ)

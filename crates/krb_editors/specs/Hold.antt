@@ -57,7 +57,7 @@ hold_mistake words = if words.flag (codes "keytab") then None else (if words.fla
 -- the fault of an image of that kind, if it has one; or why it is none
 abbrev pub fault_in : HoldKind → List ℕ → Result (Option Fault) RunError
 fault_in (Keytab order) image = result_map (λ k. fault_of (store_of k)) (keytab_in order (Ok image))
-fault_in Cache image = result_map (λ k. fault_of (cache_store k)) (result_map_err (λ fault. error.NotACacheToHold (not_cache image fault)) (cache_result most_bytes image))
+fault_in Cache image = result_map (λ k. fault_of (cache_store k)) (result_map_err (λ why. error.NotACacheToHold why) (result_map_err (not_cache image) (cache_result most_bytes image)))
 
 -- an image, unless it has a fault
 abbrev pub unless_fault : (Fault → RunError) → List ℕ → Result (Option Fault) RunError → Result (List ℕ) RunError
@@ -69,10 +69,15 @@ unless_fault why image (Err error) = Err error
 abbrev pub whole_in : (Fault → RunError) → HoldKind → List ℕ → Result (List ℕ) RunError
 whole_in why kind image = unless_fault why image (fault_in kind image)
 
--- the image that a load gives: a missing keytab that is not to be saved in place gives that of an empty one
+-- the image of a missing file: a keytab that is not to be saved in place begins as an empty one
+abbrev pub missing_in : HoldKind → Bool → Result (List ℕ) RunError
+missing_in (Keytab order) false = Ok (5 ∷ 2 ∷ [])
+missing_in kind in_place = Err (load_error Missing)
+
+-- the image that a load gives
 abbrev pub held_in : HoldKind → Bool → Answer → Result (List ℕ) RunError
 held_in kind in_place (Ok bytes) = whole_in (λ fault. error.Refused Damaged) kind bytes
-held_in (Keytab order) false (Err Missing) = Ok (5 ∷ 2 ∷ [])
+held_in kind in_place (Err Missing) = missing_in kind in_place
 held_in kind in_place (Err fault) = Err (load_error fault)
 
 -- the image in a frame: not too long, of that kind and without a fault

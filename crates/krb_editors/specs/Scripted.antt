@@ -3,7 +3,7 @@ use Rattle.std.specs.Prelude.{◌≡◌, ◌⊎◌, ℕ, List, [], None, Result,
 use Rattle.krb_files.specs.declared.files.Files.{Ghosts}
 use Rattle.krb_files.specs.declared.files.LoadFault.{LoadFault}
 use Rattle.krb_files.specs.Bytes.{Watch}
-use Rattle.krb_files.specs.Loading.{Answer}
+use Rattle.krb_files.specs.Loading.{Answer, most_bytes}
 use Rattle.krb_files.specs.Reader.{Source}
 use Rattle.krb_text.specs.declared.line_fault.LineFault.{LineFault}
 use Rattle.krb_text.specs.Script.{script_by}
@@ -27,7 +27,7 @@ module _ {L : Type 0} (reads : List ℕ → Result L LineFault) where
   -- these are the lines that a reader gave, or memory ran out
   pub record GivesLines (reader reader' : Source) (given : Result (List L) RunError) : Type 0 where
     pub input : Result (List ℕ) LoadFault
-    pub read : GivesInput reader reader' input
+    pub read : GivesInput most_bytes reader reader' input
     pub given_is : (given ≡ Err NoMemory) ⊎ (given ≡ lines_in input)
 
 module _ {F : Type 0} (trait : Ghosts F) (old new : F) (out out' : Watch) (err err' : ErrorWatch) (status : ℕ) where

@@ -1,6 +1,7 @@
 //! hold: prints the image of a file to another program, and saves the one that this gives back.
 
-ghost use Rattle.std.specs.Prelude.{◌≡◌, IsFalse, Some, option_map};
+ghost use Rattle.std.specs.Prelude.{◌≡◌, ◌∷◌, [], IsFalse, MatchResult, Some, option_map};
+ghost use Rattle.krb_driver.specs.declared.error.RunError.TheVariants.{NoMemory};
 ghost use Rattle.krb_driver.specs.Commands.{GivesOf};
 ghost use Rattle.krb_driver.specs.Loading.{result_map};
 ghost use Rattle.krb_editors.specs.Hold.{ChecksHold, EditsHeld, Exchanges, LoadsImage, Receives, RunsHold, SavesOther, end_of, held_in};
@@ -23,7 +24,7 @@ use std::io::{Read, Write};
 
 // Returns the image of an empty keytab.
 fn empty_image<A: Allocator>(alloc: A) -> Result<Vec<u8, A>, RunError>
-    ensures { MatchResult result (λ image. image.items ≡ empty_image) (λ error. error ≡ NoMemory) }
+    ensures { MatchResult result (λ image. image.items ≡ 5 ∷ 2 ∷ []) (λ error. error ≡ NoMemory) }
 {
     match Vec::from_slice(alloc, &[5, 2]) {
         Ok(image) => Ok(image),
@@ -131,7 +132,7 @@ fn exchange<'a, A: Allocator, F: Files, R: Read, W: Write, E: Write>(
     streams: &mut Streams<R, W, E>,
 ) -> Result<(), FileError<'a>>
     requires shown { IsFalse streams.old.out.failed }
-    requires held { F.Files.held files.old ≡ Some file.entry.name.now }
+    requires held { F.Files.held files.old ≡ Some file.name.now }
     ensures runs { Exchanges F.Files kind file.entry streams.old.input streams.new.input streams.old.out streams.new.out files.new (end_of result) files.old loaded.now }
     ensures err { streams.new.err ≡ streams.old.err }
 {
@@ -164,9 +165,14 @@ fn edit_held<'a, A: Allocator + Copy, F: Files, R: Read, W: Write, E: Write>(
     ensures err { streams.new.err ≡ streams.old.err }
 {
     hold_if(true, files, file);
-    let loaded = give_whole(alloc, kind, files, file)?;
-    check_hold(files, file)?;
-    exchange(alloc, kind, &loaded, file, files, streams)
+    let loaded = match give_whole(alloc, kind, files, file) {
+        Ok(loaded) => loaded,
+        Err(met) => return Err(met),
+    };
+    match check_hold(files, file) {
+        Ok(()) => exchange(alloc, kind, &loaded, file, files, streams),
+        Err(met) => Err(met),
+    }
 }
 
 // Returns the details of a run that ended so.

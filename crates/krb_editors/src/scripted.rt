@@ -3,8 +3,8 @@
 ghost use Rattle.krb_driver.specs.Loading.{result_map};
 ghost use Rattle.krb_editors.specs.Scripted.{GivesLines};
 
-use krb_driver::RunError;
-use krb_files::{WatchedReader, load};
+use krb_driver::{RunError, read_input};
+use krb_files::WatchedReader;
 use krb_text::{ScriptLine, parse_script};
 use krb_wire::USUAL_LIMIT;
 use std::alloc::Allocator;
@@ -17,7 +17,7 @@ pub fn read_script<A: Allocator + Copy, L: ScriptLine<A>, R: Read>(
 ) -> Result<Vec<L, A>, RunError>
     ensures { GivesLines L.line_in input.old input.new (result_map (λ lines. lines.items) result) }
 {
-    let text = match load(alloc, input, USUAL_LIMIT, 0) {
+    let text = match read_input(alloc, input, USUAL_LIMIT) {
         Ok(text) => text,
         Err(fault) => return Err(RunError::of_input(fault)),
     };

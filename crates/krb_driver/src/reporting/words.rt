@@ -158,7 +158,7 @@ fn cause_words<'a>(file: &'a [u8], line: Option<u64>, details: Details<'a>) -> E
 }
 
 // Returns the words for a fault of that file, and a phrase.
-fn fault_with<'a>(file: &'a [u8], fault: Fault, what: &'a str) -> Explanation<'a>
+fn fault_with<'a>(file: &'a [u8], fault: Fault, what: &'static str) -> Explanation<'a>
     ensures { pieces_text result ≡ fault_with file.now fault what.now }
 {
     [

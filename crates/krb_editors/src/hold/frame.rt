@@ -1,6 +1,7 @@
 //! An image as programs hand it to each other: its length, a newline, and its bytes.
 
-ghost use Rattle.std.specs.Prelude.{◌≡◌, IsFalse, Ok, OnOk, OnErr, IfErr, is_err, option_map};
+ghost use Rattle.std.specs.Prelude.{◌≡◌, ◌==◌, ◌<◌, ◌≤◌, IfErr, IfSome, IsFalse, Ok, OnErr, OnOk, is_err, length, option_map};
+ghost use Rattle.std.specs.List.{position_from};
 ghost use Rattle.std.specs.Io.KnownBytes.{Appends};
 ghost use Rattle.krb_files.specs.Bytes.{AppendsPrefix};
 ghost use Rattle.krb_driver.specs.declared.verdict.Verdict.TheVariants.{Well};
@@ -38,11 +39,20 @@ pub fn print_frame<W: Write>(image: &[u8], out: &mut Watched<W>) -> Result<Verdi
     Ok(Verdict::Well)
 }
 
+// Returns where the first newline is.
+fn first_newline(text: &[u8]) -> Option<usize>
+    ensures is { result ≡ position_from (λ b. b == 10) 0 text.now }
+    ensures within { IfSome result (λ end. end < length text.now) }
+{
+    text.iter().position(|byte| *byte == b'\n')
+}
+
 // Returns the length of what stands before the image in a frame, if the text is just one frame.
 fn head_len(text: &[u8]) -> Option<usize>
-    ensures { result ≡ head_len text.now }
+    ensures is { result ≡ head_len text.now }
+    ensures within { IfSome result (λ head. head ≤ length text.now) }
 {
-    let end = text.iter().position(|byte| *byte == b'\n')?;
+    let end = first_newline(text)?;
     let len = parse_u32(&text[..end])?;
     let head = end + 1;
     if text.len() - head == len as usize {

@@ -30,7 +30,10 @@ fn opened<A: Allocator>(
             Ok((keytab.into_image(), fault))
         }
         HoldKind::Cache => {
-            let cache = cache_of(image).map_err(RunError::NotACacheToHold)?;
+            let cache = match cache_of(image) {
+                Ok(cache) => cache,
+                Err(why) => return Err(RunError::NotACacheToHold(why)),
+            };
             let fault = cache.fault();
             Ok((cache.into_image(), fault))
         }

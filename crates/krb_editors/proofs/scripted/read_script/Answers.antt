@@ -9,7 +9,6 @@ use Rattle.krb_driver.specs.declared.error.RunError.TheVariants.{NoMemory}
 use Rattle.krb_driver.specs.Loading.{result_map_err}
 use Rattle.krb_editors.specs.Scripted.{lines_in}
 use Rattle.krb_driver.specs.RunErrors.{line_error, script_error}
-use Rattle.krb_driver.proofs.Shown.{GivesInput-err, GivesInput-ok}
 use Rattle.krb_editors.proofs.scripted.read_script.Goals as goal
 
 -- a script is refused for its first fault, or memory ran out
@@ -24,7 +23,7 @@ returns-in-Err g c =
     let fault = c.in-Err.fault in
     record {
       input = Err fault;
-      read = GivesInput-err c.args.input.now c.load.new.reader fault (λ e. c.in-Err.ensures.too_large (ap Err e)) c.in-Err.ensures.never c.in-Err.ensures.failed c.in-Err.ensures.taken;
+      read = c.in-Err.ensures;
       given_is = inr (ap Err c.of_input.ensures);
     }
 
@@ -35,7 +34,7 @@ returns g c =
     let why = c.in-Err-parse_script.refusal in
     record {
       input = Ok text;
-      read = GivesInput-ok c.args.input.now c.load.new.reader text c.in-Ok.ensures.ok (let within = c.in-Ok.ensures.within in let len = c.in-Ok.text.ok.0 in omega (arith, within, len)) c.in-Ok.ensures.failed c.in-Ok.ensures.taken;
+      read = c.in-Ok.ensures;
       given_is = refused g.L.ScriptLine.line_in text why (Err c.of_script.result) (rw c.deref.ensures.value at c.in-Err-parse_script.ensures.err)
           (ap Err (c.of_script.ensures ∙ ap (λ (bytes : List ℕ). script_error bytes why) c.deref-in-Err-parse_script.ensures.value));
     }
@@ -45,6 +44,6 @@ returns-in-Ok-parse_script g c =
     let text = c.in-Ok.text.items in
     record {
       input = Ok text;
-      read = GivesInput-ok c.args.input.now c.load.new.reader text c.in-Ok.ensures.ok (let within = c.in-Ok.ensures.within in let len = c.in-Ok.text.ok.0 in omega (arith, within, len)) c.in-Ok.ensures.failed c.in-Ok.ensures.taken;
+      read = c.in-Ok.ensures;
       given_is = inr (sym (ap (result_map_err (λ (fault : ScriptFault). line_error text fault.line fault.kind)) (rw c.deref.ensures.value at c.in-Ok-parse_script.ensures.ok)));
     }

@@ -1,0 +1,27 @@
+use Rattle.std.proofs.Common.{refl}
+use Rattle.std.specs.Prelude.{Ok, Err}
+use Rattle.krb_editors.proofs.hold.edit_held.Goals as goal
+
+-- the hold is good: the image went out
+pub returns-in-Ok-check_hold-clause-runs : goal.returns-in-Ok-check_hold-clause-runs
+returns-in-Ok-check_hold-clause-runs g c = record {
+  held = c.hold_if.new.files;
+  holds = c.hold_if.ensures.held;
+  loaded = c.give_whole.new.files;
+  given = Ok c.in-Ok.loaded.items;
+  gives = c.in-Ok.ensures;
+  after = (c.check_hold.new.files, (Ok tt, (c.in-Ok-check_hold.ensures, rw c.deref.ensures.value at c.exchange.ensures.runs)));
+}
+
+-- it is not
+pub returns-clause-runs : goal.returns-clause-runs
+returns-clause-runs g c =
+    let met = c.in-Err-check_hold.met in
+    record {
+      held = c.hold_if.new.files;
+      holds = c.hold_if.ensures.held;
+      loaded = c.give_whole.new.files;
+      given = Ok c.in-Ok.loaded.items;
+      gives = c.in-Ok.ensures;
+      after = (c.check_hold.new.files, (Err (met.file.now, met.error), (c.in-Err-check_hold.ensures, (refl, refl, refl, refl))));
+    }
