@@ -1,106 +1,47 @@
-"""Changes files as the program does."""
+"""Changes files by the program."""
 from __future__ import annotations
 
-import os
-import stat
 from collections.abc import Iterator
-from contextlib import contextmanager
+from contextlib import AbstractContextManager, contextmanager
+from ctypes import c_uint32
+from typing import Any
 
 from krbfile.cache import Cache
-from krbfile.causes import NOT_A_PLAIN_FILE, Refusal, reported
-from krbfile.hold import Hold
+from krbfile.files import USUAL_LIMIT, AnyPath, file_name, within
 from krbfile.keytab import Keytab
-from krbfile.reading import USUAL_LIMIT, AnyPath, Snapshot, read_file, there, within
+from krbfile.library import number
+from krbfile.program import Hold
 from krbfile.store import Store
 
 
-def is_pipe(name: bytes) -> bool:
-    """Whether a name leads to a pipe, which may block for ever when it is opened."""
-    try:
-        return stat.S_ISFIFO(os.stat(name).st_mode)
-    except OSError:
-        return False
-
-
-def in_this_folder(name: bytes) -> bytes:
-    """Returns a name that leads to the same file after the working folder has changed, if there is one."""
-    try:
-        folder = os.getcwdb()
-        return os.path.join(folder, name) if name and os.path.samefile(folder, b".") else name
-    except OSError:
-        return name
-
-
-class Edited:
-    """A file that may be changed: held, or why it cannot be. Then only its save is refused."""
-
-    def __init__(self, path: AnyPath) -> None:
-        self.path, self.name = path, in_this_folder(os.fsencode(path))
-        self.hold: Hold | None = None
-        self.fault: OSError | None = None
-        try:
-            self.hold = Hold.take(self.name)
-        except OSError as fault:
-            self.fault = fault
-
-    def read(self, limit: int) -> Snapshot:
-        """Reads the file, through the hold if there is one. A pipe is not opened."""
-        if self.hold is not None:
-            return self.hold.load(limit)
-        if is_pipe(self.name):
-            raise Refusal(*NOT_A_PLAIN_FILE)
-        return read_file(self.name, limit)
-
-    def load(self, limit: int) -> bytes | None:
-        """Returns the bytes of the file, or None if there is none."""
-        limit = limit or USUAL_LIMIT
-        with reported("cannot read", os.fspath(self.path)):
-            read = self.read(limit)
-        return within(read, self.path, limit)
-
-    def save(self, store: Store) -> None:
-        """Saves what was changed, if anything was."""
-        if not store._is_changed:
-            return
-        with reported("cannot write", os.fspath(self.path)):
-            if self.hold is None:
-                raise self.fault
-            self.hold.save(store.image)
-
-    def release(self) -> None:
-        """Ends the hold, if there is one."""
-        if self.hold is not None:
-            self.hold.release()
-
-
 @contextmanager
-def edited(path: AnyPath) -> Iterator[Edited]:
-    """Holds a file, and releases it at the end."""
-    file = Edited(path)
+def edited(kind: type[Store], path: AnyPath | None, options: list[str], limit: int, **more: bool) -> Iterator[Any]:
+    """Holds a file, opens its image, and saves it if it was changed."""
+    name = file_name(path, kind._kind)
+    limit = min(number(c_uint32, limit).value or USUAL_LIMIT, USUAL_LIMIT)
+    hold = Hold(name, *options)
     try:
-        yield file
+        with kind.open(within(hold.image, name, limit), limit=limit, **more) as store:
+            yield store
+            if store._is_changed:
+                hold.save(store.image)
     finally:
-        file.release()
+        hold.leave()
 
 
-@contextmanager
-def edit_keytab(path: AnyPath, *, v1_big: bool = False, limit: int = 0) -> Iterator[Keytab]:
-    """Holds a file, loads its keytab, an empty one if it is missing, and saves it if the block changed it.
+def edit_keytab(path: AnyPath | None = None, *, in_place: bool = False, v1_big: bool = False,
+                limit: int = 0) -> AbstractContextManager[Keytab]:
+    """Holds a file, by default the default keytab, loads its keytab, an empty one if it is missing, and saves it if the
+    block changed it. `in_place` writes the file where it stands, as the program's `--in-place` does.
 
-    If the block raises an exception, nothing is saved. If the file cannot be held, only the save is refused. The keytab
-    is closed at the end.
+    If the block raises an exception, nothing is saved, and no child of a fork saves. The hold ends with the block or
+    the process, but not before a program that took over its sockets without Python ends. The keytab is closed then.
     """
-    with edited(path) as file:
-        image = file.load(limit)
-        made = Keytab.create(limit) if image is None else Keytab.open(image, v1_big=v1_big, limit=limit)
-        with made as keytab:
-            yield keytab
-            file.save(keytab)
+    options = ["-k", *["--v1-big"] * bool(v1_big), *["--in-place"] * bool(in_place)]
+    return edited(Keytab, path, options, limit, v1_big=v1_big)
 
 
-@contextmanager
-def edit_cache(path: AnyPath, *, limit: int = 0) -> Iterator[Cache]:
-    """Holds a file, loads its cache, and saves it if the block changed it, as `edit_keytab` does."""
-    with edited(path) as file, Cache.open(there(file.load(limit), path), limit=limit) as cache:
-        yield cache
-        file.save(cache)
+def edit_cache(path: AnyPath | None = None, *, in_place: bool = False,
+               limit: int = 0) -> AbstractContextManager[Cache]:
+    """Holds a file, by default the default cache, which has to be there, and saves it as `edit_keytab` does."""
+    return edited(Cache, path, ["--in-place"] * bool(in_place), limit)

@@ -2,18 +2,36 @@
 from __future__ import annotations
 
 import ctypes
+import os
 from collections.abc import Iterator, Sequence
 from ctypes import byref, c_size_t, c_uint32, c_void_p
 from threading import RLock
 from typing import Any
 
-from krbfile.library import END, Bytes, KrbfileError, check, exports, number, text
+from krbfile.files import USUAL_LIMIT, AnyPath, file_name, load
+from krbfile.library import (
+    BAD_VERSION, END, Bytes, KrbfileError, Name, NotFound, check, exports, named, number, text,
+)
+
+
+def loaded(kind: Any, path: AnyPath | None, limit: int, **more: bool) -> Any:
+    """Returns the keytab or the cache of a file. If it is none, its name is in the text of the error."""
+    name = file_name(path, kind._kind)
+    image = load(name, number(c_uint32, limit).value or USUAL_LIMIT)
+    try:
+        return kind.open(image, limit=limit, **more)
+    except KrbfileError as error:
+        words = kind._others.get(image[:2]) if error.status == BAD_VERSION else None
+        raise KrbfileError(error.status, f"{os.fsdecode(name)}: {words or error}") from None
 
 
 class Store:
     """A keytab or a cache. The lock is held from a call until the bytes that it returned are copied."""
 
     _kind: str
+
+    # What files of another kind begin with, in words.
+    _others: dict[bytes, str]
 
     def __new__(cls) -> Any:
         self = super().__new__(cls)
@@ -44,6 +62,13 @@ class Store:
         with self._lock:
             self._do(name, *words, byref(record))
             return self._read(record)
+
+    def _found(self, record: Any, name: Name, *words: Any) -> Any:
+        """Returns a copy of the record of that name."""
+        try:
+            return self._shown(record, "find", *named(name), *words)
+        except NotFound as error:
+            raise NotFound(error.status, f"{text(named(name)[0].value or b'')}: {error}") from None
 
     def _read(self, record: Any) -> Any:
         """Returns a copy of a record that a call filled."""

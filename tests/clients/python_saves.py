@@ -1,285 +1,324 @@
-"""Saves by Python's module, as those of the program are tested: python_program.py has the words of krbfile.
+"""Changes of files by Python's module, which the program saves: what blocks leave, what each end of the pipe does if the
+other dies, and a storm of Python, the program and MIT's ktutil over one file."""
 
-Storms of both over one file, beside MIT's ktutil too, lose nothing of ours. A save that is killed at any of its calls
-leaves the old file or the new one, whole.
-"""
-
-import fcntl
 import os
-import shlex
 import signal
 import subprocess
 import sys
 import time
 from collections.abc import Callable, Iterator
 from concurrent.futures import ThreadPoolExecutor
-from contextlib import contextmanager
+from contextlib import contextmanager, suppress
+from dataclasses import replace
+from random import Random
 
-from clients import python_failures, python_files
 from clients.python_module import check_scripts
-from models.script_model import edited
+from makers.images import BIG, HOST, TWO, B, keytab, old
+from makers.usual_caches import PA_TYPE, TICKET
+from makers.cache_images import cache
 from pages.readme import LIBRARY, surroundings
 from peers.beside_mit import are_there
-from runs.harness import SECONDS, TOP, Outcome, Report, differences, folder_of, run
-from system import disk_saves, new_names, waits
-from system.changes_at_once import storm
-from system.pipe_files import fed
-from system.saves_among_others import CHANGED, REPLACED, known, named
-from system.saving import (
-    NEW, OLD, SAVED, SCRIPT, UNSAVED, Place, as_another, as_user, edit, owned, tree, tree_faults, write,
+from runs.harness import SECONDS, Report, differences, folder_of
+from runs.storms import Run, rage
+from system.saving import NEW, OLD, SAVED, edit, tree_faults
+from system.storm_kinds import KTEDIT, change, names_of_keytab
+from words.phrases import BEGINS_AS_CACHE, CAUSES, CODES
+
+# What is saved, in which file: also in place, of other byte order, under strange names, the default ones, and by threads.
+SAVES = """
+from krbfile import Keytab, edit_cache, edit_keytab
+from pathlib import Path
+from threading import Thread
+import os, sys
+
+image, cache, big = map(bytes.fromhex, sys.stdin.read().split())
+for name, data in (("k", image), ("c", cache), ("big", big)):
+    Path(name).write_bytes(data)
+os.chmod("k", 0o640)
+os.link("k", "other")
+with edit_keytab("k") as keytab:
+    keytab.remove_at(2)
+    print(Keytab.load("k").image == image)
+print(Path("k").read_bytes().hex(), oct(os.stat("k").st_mode), os.stat("k").st_nlink)
+with edit_keytab(b"other", in_place=True) as keytab:
+    keytab.remove_at(2)
+print(Path("other").read_bytes() == Path("k").read_bytes(), os.path.samefile("other", os.open("other", os.O_RDONLY)))
+with edit_keytab("big", v1_big=True) as keytab:
+    keytab.rewrite()
+print(Path("big").read_bytes() == big)
+os.environ.update(KRB5_KTNAME="WRFILE:-default", KRB5CCNAME="FILE:c")
+for path in ("FILE:FILE:odd\\nname", None):
+    with edit_keytab(path) as keytab:
+        keytab.add("a@R", 1, 17, bytes(16))
+with edit_cache() as cache:
+    cache.remove_at(cache.find("krbtgt/R@R").place)
+    cache.rewrite()
+print(Path("c").read_bytes().hex(), sorted(os.listdir()))
+
+def add(number):
+    with edit_keytab("many") as keytab:
+        keytab.add(f"a{number}@R", 1, 17, bytes(16))
+
+threads = [Thread(target=add, args=(number,)) for number in range(5)]
+for run in ("start", "join"):
+    for thread in threads:
+        getattr(thread, run)()
+print(sorted(entry.principal for entry in Keytab.load("many")))
+"""
+
+# Blocks that save nothing: they end by an exception, change nothing, or are never left.
+BLOCKS = """
+from krbfile import edit_keytab
+from pathlib import Path
+import os, sys
+
+image = sys.stdin.buffer.read()
+Path("k").write_bytes(image)
+before = os.stat("k")
+
+def stop(error):
+    def block(keytab):
+        keytab.remove_at(2)
+        raise error
+    return block
+
+def never(keytab):
+    edited = edit_keytab("other")
+    edited.__enter__().add("a@R", 1, 17, bytes(16))
+    del edited
+
+for block in (list, stop(KeyError(1)), stop(KeyboardInterrupt()), stop(SystemExit(3)), lambda it: it.close(), never):
+    try:
+        with edit_keytab("k") as keytab:
+            block(keytab)
+        keytab.image
+    except BaseException as error:
+        print(repr(error))
+    print(os.stat("k") == before, sorted(os.listdir()))
+"""
+
+# Files that are not held, with their errors: none of the blocks begins. Then programs that are none.
+REFUSED = """
+from krbfile import KrbfileError, edit_cache, edit_keytab
+from pathlib import Path
+import errno, krbfile, os, sys
+
+image = sys.stdin.buffer.read()
+for name, data in (("k", image), ("cut", image[:60]), ("c", bytes([5, 4]))):
+    Path(name).write_bytes(data)
+os.mkdir("taken.krbfile")
+os.mkfifo("fifo")
+
+def refused(edit, path, **more):
+    try:
+        with edit(path, **more):
+            print("a block began")
+    except OSError as error:
+        print(errno.errorcode[error.errno], repr(error.filename), error.strerror)
+    except KrbfileError as error:
+        print(error.status, error)
+
+for path in ("no/k", "a.krbfile", "taken", "x" * 248, "fifo", "cut", "c", b"KCM:0"):
+    refused(edit_keytab, path)
+refused(edit_keytab, "none", in_place=True)
+refused(edit_keytab, "k", limit=97)
+refused(edit_cache, Path("none"))
+for krbfile.PROGRAM in ("/bin/false", "./none"):
+    refused(edit_keytab, "k")
+krbfile.PROGRAM = None
+del os.environ["KRBFILE"]
+krbfile.program.BESIDE, os.environ["PATH"] = "none", "/"
+refused(edit_keytab, "k")
+print(sorted(os.listdir()))
+"""
+
+# A block that adds an entry and waits for a line, and what it may do before: fork a child that leaves the block too,
+# one that outlives it, or one that Python does not know of, which keeps copies of the sockets.
+BLOCK = """
+from ctypes import PyDLL
+from krbfile import edit_keytab
+import os, sys, time
+
+def live():
+    os.closerange(0, 3)
+    time.sleep(60)
+
+worker = 0
+try:
+    with edit_keytab("k") as keytab:
+        keytab.add("host/a@R", 3, 17, bytes(range(16)), 1700000000)
+        %s
+        print(worker, flush=True)
+        sys.stdin.readline()
+    print("saved", flush=True)
+except BaseException as error:
+    print(type(error).__name__, error, flush=True)
+"""
+CHILD = "if os.fork() == 0: sys.exit(keytab.remove_at(2))"
+WORKER = "worker = os.fork() or live()"
+UNKNOWN = "worker = PyDLL(None).fork() or live()"
+
+# One run of a storm: it adds the name that it reads.
+ADDS = """
+from krbfile import edit_keytab
+import sys
+name = sys.stdin.readline().strip()
+try:
+    with edit_keytab("k") as keytab:
+        keytab.add(name + "@R", 1, 17, bytes(16))
+except OSError as error:
+    sys.exit(print(error) or 3)
+"""
+EACH, WITHIN = 15, 1.0
+
+# How many seconds a run has that is to wait, and one that is to end.
+MOMENT, LONG = 0.5, 30.0
+
+KEPT = ["True ['k']"]
+SCRIPTS = (
+    ("saves", SAVES, " ".join(each.hex() for each in (TWO, cache(TICKET, PA_TYPE), old(HOST, order=BIG))).encode(), [
+        "True",
+        f"{keytab(47, B).hex()} 0o100640 1",
+        "True True",
+        "True",
+        f"{cache(PA_TYPE).hex()} ['-default', 'FILE:odd\\nname', 'big', 'c', 'k', 'other']",
+        "['a0@R', 'a1@R', 'a2@R', 'a3@R', 'a4@R']",
+    ]),
+    ("blocks that save nothing", BLOCKS, TWO, [
+        "ValueError('it is closed')", *KEPT, "KeyError(1)", *KEPT, "KeyboardInterrupt()", *KEPT, "SystemExit(3)", *KEPT,
+        *2 * ["ValueError('it is closed')", *KEPT],
+    ]),
+    ("files that are not held", REFUSED, TWO, [
+        f"ENOENT 'no/k' cannot write: {CAUSES['ENOENT']}",
+        f"EINVAL 'a.krbfile' cannot write: {CAUSES['name of saves']}",
+        f"EEXIST 'taken' cannot write: {CAUSES['in the way'].replace('NAME', 'taken')}",
+        f"ENAMETOOLONG '{'x' * 248}' cannot write: {CAUSES['ENAMETOOLONG']}",
+        f"EINVAL 'fifo' cannot read: {CAUSES['no plain file']}",
+        f"31 cut: {CODES[1, ''].replace('klist', 'klist -k')}",
+        f"12 c: {BEGINS_AS_CACHE[1]}",
+        "ENOENT b'KCM:0' no such file: only files are read, and this is KCM:",
+        "ENOENT 'none' no such file",
+        "EFBIG 'k' file too large: it has more than 97 bytes",
+        "ENOENT 'none' no such file",
+        "EIO 'k' krbfile ended with status 1",
+        "ENOENT './none' No such file or directory",
+        "ENOENT 'krbfile' the program is not on PATH: install it, or set KRBFILE or krbfile.PROGRAM to its path",
+        "['c', 'cut', 'fifo', 'k', 'taken.krbfile']",
+    ]),
 )
-from system.storm_kinds import BOTH, KTEDIT, Kind
-from words.phrases import CAUSES
-
-PROGRAM = os.path.join(TOP, "tests", "clients", "python_program.py")
-SCRIPTS = (*python_failures.SCRIPTS, *python_files.SCRIPTS)
-
-# The pythons that may run it: one of them also as another user.
-PYTHONS = (sys.executable, "/usr/bin/python3")
-
-# The calls of a save over a file beside which a killed run has left its new file, in order; and those that release a
-# file that is not saved.
-STALE = ["make", "open_stale_file", "lock_stale_file", "is_abandoned", "remove_stale_file"]
-HOLD = ["make", "lock", "is_at_path", "double", "find_mount", "is_quiet", "lock_old"]
-LOAD = ["load"]
-SAVE = ["write", "own", "permit", "sync", "is_at_path", "compare", "is_quiet", "rename", "sync_folder"]
-LEAVE = ["is_at_path", "remove"]
-
-# The mode of a file that is saved. Until it is set only the owner may read the new one.
-MODE = 0o640
-
-# How many parts are checked at once, and how many seconds a run has to begin to wait.
-JOBS, MOMENT = 6, 0.3
-
-# The storms: both programs change one file, and half of the runs are killed, or are MIT's.
-KINDS = (Kind(KTEDIT), Kind(KTEDIT, over_none=True, kills=True), Kind(BOTH, kills=True), Kind(KTEDIT, with_mit=True))
-
-
-def python_for(options: dict[str, object], env: dict[str, str]) -> str | None:
-    """Returns a python that a run with these options may start and that can read what it needs, or None."""
-    for path in PYTHONS:
-        try:
-            if run(path, ("-S", "-c", f"import krbfile; open({PROGRAM!r})"), "/", env=env, **options).status == 0:
-                return path
-        except OSError:
-            pass
-    return None
-
-
-def script(folder: str, name: str, text: str, mode: int = 0o755) -> str:
-    """Makes a shell script, and returns its path."""
-    path = os.path.join(folder, name)
-    write(path, f"#!/bin/sh\n{text}\n".encode(), mode)
-    return path
 
 
 @contextmanager
-def programs(program: str) -> Iterator[tuple[str, str]]:
-    """Yields Python's module as a program, and one that is now this, now krbfile, by the number of the process."""
-    env = {name: surroundings("/bin")[name] for name in ("PYTHONPATH", "LD_LIBRARY_PATH")}
-    other = python_for(as_user(), env) if os.geteuid() == 0 else None
-    with folder_of({}) as folder:
-        os.chmod(folder, 0o755)
-        env |= {"PYTHONPYCACHEPREFIX": os.path.join(folder, "cache"), "PYTHONDONTWRITEBYTECODE": ""}
-        words = [*(f"{name}={shlex.quote(value)}" for name, value in env.items()), "exec",
-                 shlex.quote(other or sys.executable), "-S", shlex.quote(PROGRAM)]
-        line = " ".join([*words, '"$@"'])
-        # If no other user may start it, the tests of other users are left out.
-        python = script(folder, "python", line, 0o755 if other else 0o700)
-        yield python, script(folder, "both", f'[ $(($$ % 2)) = 0 ] && exec {shlex.quote(program)} "$@"\n{line}')
+def in_block(program: str, folder: str, does: str) -> Iterator[tuple[subprocess.Popen[bytes], int]]:
+    """Yields a Python that is in such a block, in a process group of its own, and its worker's number."""
+    env = {**surroundings("/bin"), "KRBFILE": program}
+    with subprocess.Popen([sys.executable, "-c", BLOCK % does], cwd=folder, env=env, bufsize=0, stdin=subprocess.PIPE,
+                          stdout=subprocess.PIPE, stderr=subprocess.STDOUT, start_new_session=True) as started:
+        worker = int(started.stdout.readline())
+        try:
+            yield started, worker
+        finally:
+            for number in filter(None, (worker, started.pid)):
+                with suppress(ProcessLookupError):
+                    os.kill(number, signal.SIGKILL)
 
 
-def steps_of(python: str, files: dict[str, bytes], words: bytes) -> list[str]:
-    """Returns the calls of a run of a script."""
-    with folder_of(files) as folder, folder_of({"steps": b""}) as beside:
-        path = os.path.join(beside, "steps")
-        edit(python, folder, script=words, env={**os.environ, "KRBFILE_STEPS": path})
-        with open(path, encoding="ascii") as file:
-            return file.read().split()
+def kill_program(started: subprocess.Popen[bytes]) -> None:
+    """Kills the program that a Python has started."""
+    with open(f"/proc/{started.pid}/task/{started.pid}/children", encoding="ascii") as file:
+        os.kill(int(file.read()), signal.SIGKILL)
 
 
-def signalled(call: str, name: str) -> dict[str, str]:
-    """Returns the environment of a run that gets a signal before that call."""
-    return {**os.environ, "KRBFILE_AT": call, "KRBFILE_SIGNAL": name}
+def is_left(folder: str, seconds: float) -> bool:
+    """Whether the hold ends within that many seconds."""
+    until = time.monotonic() + seconds
+    while os.path.exists(os.path.join(folder, "k.krbfile")):
+        if time.monotonic() > until:
+            return False
+        time.sleep(0.01)
+    return True
 
 
-def faults_of_kill(python: str, program: str, number: int, wanted: bytes, words: bytes) -> list[str]:
-    """Returns the faults of a run that is killed before a call, and of the next run of the program."""
-    with folder_of({}) as folder:
-        path = os.path.join(folder, "k")
-        write(path, OLD, MODE)
-        write(f"{path}.krbfile", b"left")
-        got = edit(python, folder, script=words, env=signalled(str(number), "SIGKILL"))
-        faults = differences(Outcome(-signal.SIGKILL), got)
-        found = {name: (data, owned(os.path.join(folder, name)).mode) for name, data in tree(folder).items()}
-        faults += [] if found.pop("k") == (wanted, MODE) else [f"the file is {tree(folder)['k']!r}"]
-        for name, (_, mode) in found.items():
-            faults += [] if name == "k.krbfile" and mode in (0o600, MODE) else [f"{name} of mode {mode:o} is left"]
-        write(path, OLD)
-        return faults + differences(SAVED, edit(program, folder)) + tree_faults({"k": NEW}, folder)
+# What happens to a Python in a block, what it forks before, what it prints then, and the file afterwards.
+Deed = Callable[[subprocess.Popen[bytes]], object]
+DEATHS: tuple[tuple[str, Deed, str, bytes, bytes], ...] = (
+    ("nothing", lambda _: None, "", b"saved\n", NEW),
+    ("the program is killed", kill_program, "", b"OSError [Errno 5] krbfile ended with status -9: 'k'\n", OLD),
+    ("Ctrl-C", lambda it: os.killpg(it.pid, signal.SIGINT), "", b"KeyboardInterrupt \n", OLD),
+    ("Python is killed", lambda it: it.kill(), "", b"", OLD),
+    ("a child leaves the block", lambda _: None, CHILD, b"saved\n", NEW),
+    ("a worker lives on", lambda _: None, WORKER, b"saved\n", NEW),
+    ("a worker lives on, Python is killed", lambda it: it.kill(), WORKER, b"", OLD),
+    ("an unknown worker lives on", lambda _: None, UNKNOWN, b"saved\n", NEW),
+)
 
 
-def check_kills(report: Report, python: str, program: str) -> None:
-    """Checks the calls of a save, and a kill before each. One that saves nothing ends otherwise."""
-    for what, words, end in (("a save", SCRIPT, SAVE), ("a run that saves nothing", b"", LEAVE)):
-        steps = [*STALE, *HOLD, *LOAD, *end]
-        found = steps_of(python, {"k": OLD, "k.krbfile": b"left"}, words)
-        report.check(f"the calls of {what}", [] if found == steps else [f"{found}"])
-        for number, step in enumerate(found, 1):
-            wanted = NEW if "rename" in found[: number - 1] else OLD
-            faults = faults_of_kill(python, program, number, wanted, words)
-            report.check(f"{what} that is killed at call {number}, {step}", faults)
+def check_death(report: Report, program: str, what: str, death: tuple[Deed, str, bytes, bytes]) -> None:
+    """Checks what a death in a block leaves. The program's next run begins with that, and leaves no other file."""
+    deed, does, printed, image = death
+    with folder_of({"k": OLD}) as folder:
+        with in_block(program, folder, does) as (started, _):
+            deed(started)
+            with suppress(BrokenPipeError):
+                started.stdin.write(b"\n")
+            started.wait(SECONDS)
+            got = started.stdout.read()
+            faults = [] if got.endswith(printed) else [f"{got}, not {printed}"]
+            faults += tree_faults({"k": image}, folder) if is_left(folder, LONG) or deed is kill_program else ["it is held"]
+            faults += [] if edit(program, folder).status == 0 else ["the next run fails"]
+            faults += tree_faults({"k": keytab(*[HOST] * (1 if image == OLD else 2))}, folder)
+    report.check(f"in a block: {what}", faults)
 
 
-def halted(python: str, folder: str, step: str, change: Place) -> Outcome:
-    """Makes a run that adds an entry, and is halted before a call while a change is made in its folder."""
-    with subprocess.Popen([python, "ktedit", "k"], cwd=folder, env=signalled(step, "SIGSTOP"), stdin=subprocess.PIPE,
-                          stdout=subprocess.PIPE, stderr=subprocess.PIPE) as started:
-        started.stdin.write(SCRIPT)
-        started.stdin.close()
-        started.stdin = None
-        os.waitid(os.P_PID, started.pid, os.WSTOPPED | os.WEXITED | os.WNOWAIT)
-        change(folder)
-        started.send_signal(signal.SIGCONT)
-        out, err = started.communicate(timeout=SECONDS)
-        return Outcome(started.returncode, out, err)
+def check_worker(report: Report, program: str) -> None:
+    """Checks that a hold lasts until a worker has ended that Python does not know of, if Python is killed."""
+    with folder_of({"k": OLD}) as folder, in_block(program, folder, UNKNOWN) as (started, worker):
+        started.kill()
+        faults = ["the hold has ended"] if is_left(folder, MOMENT) else []
+        os.kill(worker, signal.SIGKILL)
+        faults += [] if is_left(folder, LONG) else ["it is held"]
+        report.check("a hold of an unknown worker", faults + tree_faults({"k": OLD}, folder))
 
 
-def check_change(report: Report, python: str, step: str, of: tuple[str, bool, Place]) -> None:
-    """Makes a change before a call of a run: the file stays as it is, and so does what took its name."""
-    what, is_there, change = of
-    with folder_of({"old": OLD, "other": b"other", **({"k": OLD} if is_there else {})}) as folder:
-        os.chmod(os.path.join(folder, "old"), 0o600)
-        if is_there:
-            os.chmod(os.path.join(folder, "k"), 0o600)
-        wanted: dict[str, object] = {}
-
-        def change_and_look(folder: str) -> None:
-            change(folder)
-            wanted.update(known(folder))
-
-        faults = differences(UNSAVED, halted(python, folder, step, change_and_look))
-        if known(folder) != wanted or NEW in tree(folder).values():
-            faults.append(f"{[*tree(folder)]} are there, or are not as they were")
-    report.check(f"{what}, before the {step} of a save", faults)
+def check_held(report: Report, program: str) -> None:
+    """Checks that the program waits while a block holds the file, and then changes what that saved."""
+    with folder_of({"k": OLD}) as folder, in_block(program, folder, "") as (started, _), ThreadPoolExecutor(1) as pool:
+        other = pool.submit(edit, program, folder)
+        time.sleep(MOMENT)
+        faults = ["the program did not wait"] if other.done() else []
+        started.stdin.write(b"\n")
+        faults += differences(replace(SAVED, out=b"placed 53\n"), other.result())
+        report.check("a file that a block holds", faults + tree_faults({"k": keytab(HOST, HOST)}, folder))
 
 
-def check_changes(report: Report, python: str) -> None:
-    """Checks that a file that changed since it was loaded is not saved."""
-    changed = CHANGED if os.geteuid() == 0 else CHANGED[:-2]
-    for step in ("write", "sync"):
-        for of in (*REPLACED, *changed):
-            check_change(report, python, step, of)
-
-
-def check_led_elsewhere(report: Report, python: str) -> None:
-    """Checks a link that changes: the file that was loaded is saved, and no other gets its keys."""
-    for step in ("load", "write", "sync"):
-        with folder_of({"file": OLD, "other": OLD}) as folder:
-            os.symlink("file", os.path.join(folder, "k"))
-            change = named("k", lambda path: os.symlink("other", path))
-            faults = differences(SAVED, halted(python, folder, step, change))
-            faults += tree_faults({"file": NEW, "other": OLD, "k": "other"}, folder)
-        report.check(f"another link, before the {step} of a save", faults)
-
-
-def check_saves(report: Report, python: str) -> None:
-    """Checks what a save leaves on the disk."""
-    for check in (disk_saves.check_new_files, disk_saves.check_own_files, disk_saves.check_links,
-                  disk_saves.check_hard_links, disk_saves.check_broken_links, disk_saves.check_removed):
-        check(report, python)
-
-
-def check_locked_folder(report: Report, python: str) -> None:
-    """Checks a folder in which no file may be made: a block that changes nothing needs no right to make one."""
-    options = as_another(python)
-    if options is None:
-        report.skip("a locked folder", "none but root may start Python, or read the module and the library")
-        return
-    for what, words, wanted in (("changes", SCRIPT, UNSAVED), ("changes nothing", b"", Outcome(0))):
-        with folder_of({"k": OLD}) as folder:
-            os.chmod(os.path.join(folder, "k"), 0o666)
-            os.chmod(folder, 0o555)
-            faults = differences(wanted, edit(python, folder, script=words, **options))
-            report.check(f"a locked folder: a block that {what}", faults + tree_faults({"k": OLD}, folder))
-            os.chmod(folder, 0o755)
-
-
-def check_names(report: Report, python: str) -> None:
-    """Checks what exists under the name of a new file, and names under which no file is saved."""
-    for check in (new_names.check_strange, new_names.check_stale_files, new_names.check_places,
-                  new_names.check_no_names):
-        check(report, python)
-
-
-def check_pipes(report: Report, python: str) -> None:
-    """Checks that a pipe is not opened to be changed, and that the cause is given in words."""
-    wanted = Outcome(3, err=f"krbfile: k: cannot read\nkrbfile: {CAUSES['no plain file']}\n".encode())
-    for command in ("ktedit", "ccedit"):
-        with folder_of({}) as folder:
-            with fed(os.path.join(folder, "k")) as opened:
-                faults = differences(wanted, run(python, ("--explain", command, "k"), folder, SCRIPT))
-                faults += ["it was opened"] if opened else []
-            report.check(f"a pipe is not changed: {command}", faults + tree_faults({"k": "p"}, folder))
-
-
-def check_waits(report: Report, python: str) -> None:
-    """Checks that a run waits for whoever has locked the file or made its new file."""
-    waits.check_locks(report, python)
-    waits.check_waiting_locks(report, python)
-    waits.check_other_disk(report, python)
-    with folder_of({"k": OLD}) as folder, open(os.path.join(folder, "k"), "rb") as file:
-        fcntl.flock(file, fcntl.LOCK_EX)
-        faults = waits.faults_of_waiting(python, folder, file.close)
-    report.check("a lock of the whole file is waited for", faults)
-
-
-def check_held(report: Report, python: str, program: str) -> None:
-    """Checks that the program waits while Python holds the file, and then changes what that saved."""
-    wanted, image = edited(NEW, SCRIPT)
-    with folder_of({"k": OLD}) as folder, ThreadPoolExecutor(1) as pool:
-        others = []
-
-        def change(folder: str) -> None:
-            others.append(pool.submit(edit, program, folder))
-            time.sleep(MOMENT)
-            others.append(others[0].done())
-
-        faults = differences(SAVED, halted(python, folder, "write", change))
-        faults += ["the program did not wait"] if others[1] else []
-        faults += differences(wanted, others[0].result()) + tree_faults({"k": image}, folder)
-    report.check("a file that Python holds", faults)
-
-
-def check_storms(report: Report, both: str) -> None:
-    """Checks storms of both programs."""
-    has_mit = are_there(report, "changes of Python beside MIT's ktutil")
-    for kind in KINDS:
-        if has_mit or not kind.with_mit:
-            report.check(f"by Python and the program: {kind}", storm(both, kind, 0).found[:3])
-
-
-# The parts that run Python's module alone.
-PARTS = (check_waits, check_changes, check_led_elsewhere, check_saves, disk_saves.check_others_files, check_names,
-         check_pipes, check_locked_folder)
+def check_storm(report: Report, program: str) -> None:
+    """Checks a storm: each change of Python and the program that was reported as saved is there."""
+    runs = []
+    for number in range(EACH):
+        words, text = change(*KTEDIT, f"p{number}")
+        runs += [Run(f"y{number}", (sys.executable, "-c", ADDS), f"y{number}\n"),
+                 Run(f"p{number}", (program, *words), text),
+                 Run(f"m{number}", ("ktutil",), f"addent -key -p m{number}@R -k 1 -e 17\n{'00' * 16}\nwkt k\n", is_mits=True)]
+    env = {**surroundings("/usr/sbin"), "KRBFILE": program, "KRB5_CONFIG": os.devnull}
+    with folder_of({"k": OLD}) as folder:
+        for each in runs:
+            each.start(folder, env)
+        rage(runs, Random(0), WITHIN)
+        with open(os.path.join(folder, "k"), "rb") as file:
+            names = names_of_keytab(file.read())
+        faults = [f for each in runs for f in each.faults(names or [], True)] if names else ["the file is not whole"]
+        report.check("a storm of Python, the program and MIT's ktutil", [*faults[:3], *sorted(os.listdir(folder))[1:]])
 
 
 def check(report: Report, program: str) -> None:
-    """Runs this topic if the library was built, with its parts side by side."""
+    """Runs this topic if the library was built."""
     if not os.path.exists(LIBRARY):
-        report.skip("saves by Python's module", "there is no C library: make lib builds it")
+        report.skip("changes by Python's module", "there is no C library: make lib builds it")
         return
-
-    def part(check: Callable[..., None], *words: object) -> Report:
-        one = Report(report.is_proved)
-        one.front = report.front
-        check(one, *words)
-        return one
-
-    with programs(program) as (python, both), ThreadPoolExecutor(JOBS) as pool:
-        parts = [pool.submit(part, check_storms, both), pool.submit(part, check_kills, python, program),
-                 pool.submit(part, check_held, python, program),
-                 *(pool.submit(part, check_scripts, [each]) for each in SCRIPTS),
-                 *(pool.submit(part, each, python) for each in PARTS)]
-        for each in parts:
-            report.add(each.result())
+    check_scripts(report, SCRIPTS, program)
+    for what, *death in DEATHS:
+        check_death(report, program, what, tuple(death))
+    check_worker(report, program)
+    check_held(report, program)
+    if report.is_proved and are_there(report, "a storm of Python beside MIT's ktutil"):
+        check_storm(report, program)
