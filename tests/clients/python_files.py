@@ -1,11 +1,11 @@
-"""Files that Python's module reads and makes, and their names: scripts, and what they print."""
+"""Files that Python's module reads, makes and does not hold, and their names: scripts, and what they print."""
 
 import os
 
 from makers.cache_images import cache
 from makers.images import TWO
 from makers.usual_caches import PA_TYPE, TICKET
-from words.phrases import BEGINS_AS_CACHE, BEGINS_AS_KEYTAB, CAUSES, LARGE, NOT_READ, SHORT
+from words.phrases import AFTERMATHS, BEGINS_AS_CACHE, BEGINS_AS_KEYTAB, CAUSES, LARGE, NOT_READ, SHORT
 
 # What is read, and what is refused, in the words of the program.
 LOADS = """
@@ -27,8 +27,8 @@ for call in (
     lambda: Keytab.load("none"), lambda: Cache.load("none"), lambda: Keytab.load(""), lambda: Keytab.load("FILE:"),
     lambda: Keytab.load("k", limit=97), lambda: Cache.load("k", limit=97), lambda: Keytab.load(b"folder"),
     lambda: Keytab.load("k/none"), lambda: Keytab.load("circle"), lambda: Keytab.load("short"),
-    lambda: Keytab.load(b"c"), lambda: Cache.load("FILE:k"), lambda: Cache.load("KCM:0"), lambda: Cache.load(b"WRFILE:k"),
-    lambda: Keytab.load("DIR::k"), lambda: Cache.load("C:k"),
+    lambda: Keytab.load(b"c"), lambda: Cache.load("FILE:k"), lambda: Cache.load("KCM:0"),
+    lambda: Cache.load(b"WRFILE:k"), lambda: Keytab.load("DIR::k"), lambda: Cache.load("C:k"),
 ):
     try:
         call()
@@ -80,16 +80,53 @@ with Cache.create("u@R") as cache:
     def fail(number):
         raise OSError(errno.ENOSPC, "")
 
-    for path, call in ((b"new", os.fsync), ("link", os.fsync), ("no/new", os.fsync), ("KCM:0", os.fsync), ("", os.fsync),
-                       ("k.krbfile", os.fsync), ("other", fail)):
-        os.fsync, whole = call, os.fsync
+    for path in (b"new", "link", "no/new", "KCM:0", "", "k.krbfile", "other"):
+        if path == "other":
+            os.fsync = fail
         try:
             cache.save(path)
         except OSError as error:
             print(type(error).__name__, repr(error.filename), error.strerror)
-        os.fsync = whole
     print(Path("new").read_bytes().hex(), sorted(os.listdir()))
 """
+
+# Files that are not held, so that no block begins; and what stands for the program.
+REFUSED = """
+from krbfile import KrbfileError, edit_cache, edit_keytab
+from pathlib import Path
+import errno, krbfile, os, sys
+
+image = sys.stdin.buffer.read()
+for name, data in (("k", image), ("cut", image[:60]), ("c", bytes([5, 4])), ("loses", LOSES)):
+    Path(name).write_bytes(data)
+os.chmod("loses", 0o755)
+os.mkdir("taken.krbfile")
+os.mkfifo("fifo")
+
+def refused(edit, path, **more):
+    try:
+        with edit(path, **more) as store:
+            store.rewrite()
+            print("in a block", end=": ")
+    except OSError as error:
+        print(type(error).__name__, errno.errorcode[error.errno], repr(error.filename), error.strerror)
+    except KrbfileError as error:
+        print(error.status, str(error).split(";")[0])
+
+for path in ("no/k", "a.krbfile", "taken", "x" * 248, "fifo", "cut", "c", b"KCM:0"):
+    refused(edit_keytab, path)
+refused(edit_keytab, "none", in_place=True)
+refused(edit_keytab, "k", limit=97)
+refused(edit_cache, Path("none"))
+for krbfile.PROGRAM in ("/bin/false", "./none", "./loses"):
+    refused(edit_keytab, "k")
+krbfile.PROGRAM = None
+del os.environ["KRBFILE"]
+krbfile.program.BESIDE, os.environ["PATH"] = "none", "/"
+refused(edit_keytab, "k")
+print(sorted(os.listdir()))
+""".replace("LOSES", repr(b"#!/bin/sh\nprintf '2\\n\\5\\2'\ncat > /dev/null\n"
+                           b"echo 'krbfile: k: %b' >&2\nexit 1\n" % AFTERMATHS["lost change"].encode()))
 
 NO_FILE = "no such file"
 TOO_MANY = "OSError 'k' file too large: it has more than 97 bytes"
@@ -125,5 +162,24 @@ SCRIPTS = (
         f"OSError 'k.krbfile' cannot write: {CAUSES['name of saves']}",
         f"OSError 'other' cannot write: {CAUSES['ENOSPC']}",
         f"{NEW_CACHE} ['link', 'new']",
+    ]),
+    ("files that are not held", REFUSED, TWO, [
+        f"FileNotFoundError ENOENT 'no/k' cannot write: {CAUSES['ENOENT']}",
+        f"OSError EINVAL 'a.krbfile' cannot write: {CAUSES['name of saves']}",
+        f"FileExistsError EEXIST 'taken' cannot write: {CAUSES['in the way'].replace('NAME', 'taken')}",
+        f"OSError ENAMETOOLONG '{'x' * 248}' cannot write: {CAUSES['ENAMETOOLONG']}",
+        f"OSError EINVAL 'fifo' cannot read: {CAUSES['no plain file']}",
+        "31 cut: the file is damaged",
+        f"12 c: {BEGINS_AS_CACHE[1]}",
+        "FileNotFoundError ENOENT b'KCM:0' no such file: only files are read, and this is KCM:",
+        "FileNotFoundError ENOENT 'none' no such file",
+        "OSError EFBIG 'k' file too large: it has more than 97 bytes",
+        "FileNotFoundError ENOENT 'none' no such file",
+        "OSError EIO 'k' krbfile ended with status 1",
+        "FileNotFoundError ENOENT './none' No such file or directory",
+        f"in a block: LostChange ESTALE 'k' {AFTERMATHS['lost change']}",
+        "FileNotFoundError ENOENT 'krbfile' "
+        "the program is not on PATH: install it, or set KRBFILE or krbfile.PROGRAM to its path",
+        "['c', 'cut', 'fifo', 'k', 'loses', 'taken.krbfile']",
     ]),
 )

@@ -156,8 +156,8 @@ def answers(calls):
 before = keytab.image, cache.image
 for calls in (
     each(lambda bound: bound, 2**32), each(lambda bound: bound + 2, 2**32), each(lambda bound: -1, 2**32),
-    each(lambda bound: "2", 2**32), each(lambda bound: 2.0, 2**32), etypes(2**16), etypes(-1), etypes(2.0), etypes(None),
-    etypes("none"), etypes("18"),
+    each(lambda bound: "2", 2**32), each(lambda bound: 2.0, 2**32),
+    etypes(2**16), etypes(-1), etypes(2.0), etypes(None), etypes("none"), etypes("18"),
     no_bytes(16), no_bytes("00ff"), no_bytes([1, 2]), no_bytes(None),
     no_name(3), no_name([97]), no_name(None), copies(None),
 ):
@@ -303,7 +303,7 @@ SCRIPTS: tuple[Script, ...] = (
         "True b'tkt' b'' False",
         "b'2' None",
         "True",
-        "none@R: no such ticket",
+        f"none@R: {code(9)}",
         "266 True",
         "[22, 22] None",
         f"['host/a@R'] {CACHE_AFTER.hex()}",
