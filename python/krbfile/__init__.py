@@ -21,11 +21,10 @@ number that does not fit raises `OverflowError`, and an argument of another type
 from __future__ import annotations
 
 from krbfile.cache import Cache, Ticket
-from krbfile.editing import edit_cache, edit_keytab
+from krbfile.editing import LostChange, edit_cache, edit_keytab
 from krbfile.files import AnyPath
 from krbfile.keytab import Entry, Keytab
 from krbfile.library import ETYPES, KrbfileError, NotFound
-from krbfile.program import LostChange
 
 __all__ = ["Cache", "ETYPES", "Entry", "Keytab", "KrbfileError", "LostChange", "NotFound", "PROGRAM", "Ticket",
            "edit_cache", "edit_keytab"]

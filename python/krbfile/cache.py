@@ -6,9 +6,7 @@ from ctypes import byref, c_uint32
 from dataclasses import dataclass, field
 
 from krbfile.files import AnyPath, file_name, make
-from krbfile.library import (
-    NUMBERS, Name, NotFound, Numbers, TicketRecord, check, etype_of, exports, named, number, sized,
-)
+from krbfile.library import NUMBERS, Name, NotFound, Numbers, TicketRecord, etype_of, named, number, sized, text
 from krbfile.store import Store, loaded
 
 
@@ -41,18 +39,12 @@ class Cache(Store):
     @classmethod
     def create(cls, principal: Name, limit: int = 0) -> Cache:
         """Returns an empty cache with a default principal."""
-        cache = cls()
-        words = (*named(principal), number(c_uint32, limit))
-        check(exports.krbf_cc_create(*words, byref(cache._handle)))
-        return cache
+        return cls._made("create", *named(principal), number(c_uint32, limit))
 
     @classmethod
     def open(cls, image: bytes, *, limit: int = 0) -> Cache:
         """Returns the cache of an image."""
-        cache = cls()
-        words = (*sized(image), number(c_uint32, limit))
-        check(exports.krbf_cc_open(*words, byref(cache._handle)))
-        return cache
+        return cls._made("open", *sized(image), number(c_uint32, limit))
 
     @classmethod
     def load(cls, path: AnyPath | None = None, *, limit: int = 0) -> Cache:
@@ -66,14 +58,14 @@ class Cache(Store):
     @property
     def principal(self) -> str:
         """The default principal."""
-        return self._text("principal")
+        return text(self._name("principal"))
 
     def _read(self, ticket: TicketRecord) -> Ticket:
         place = c_uint32(ticket.place)
         numbers = {name: getattr(ticket, name) for name in NUMBERS if name != "is_skey"}
         return Ticket(
-            place=ticket.place, client=self._text("client", place),
-            server=self._text("server", place), key=ticket.key.read(),
+            place=ticket.place, client=text(self._name("client", place)),
+            server=text(self._name("server", place)), key=ticket.key.read(),
             is_skey=bool(ticket.is_skey), is_config=bool(ticket.is_config),
             ticket=ticket.ticket.read(), second_ticket=ticket.second_ticket.read(), **numbers,
         )

@@ -80,17 +80,8 @@ def load(name: FileName, limit: int) -> bytes:
     return within(image, name, limit)
 
 
-def sync_folder(path: bytes) -> None:
-    """Syncs a folder, so that the names in it survive a crash."""
-    folder = os.open(path, os.O_RDONLY)
-    try:
-        os.fsync(folder)
-    finally:
-        os.close(folder)
-
-
 def make(name: FileName, data: bytes) -> None:
-    """Makes a file that its owner alone may read, whole or not at all, and replaces none."""
+    """Makes a file that its owner alone may read, whole or not at all, and replaces none. It survives a crash."""
     path = os.fsencode(name)
     folder = os.path.dirname(path) or b"."
     if path.endswith(b".krbfile"):
@@ -106,4 +97,8 @@ def make(name: FileName, data: bytes) -> None:
     except OSError as error:
         raise failed("cannot write", error, name) from error
     with suppress(OSError):
-        sync_folder(folder)
+        number = os.open(folder, os.O_RDONLY)
+        try:
+            os.fsync(number)
+        finally:
+            os.close(number)

@@ -8,9 +8,7 @@ from ctypes import byref, c_uint32
 from dataclasses import dataclass, field
 
 from krbfile.files import AnyPath
-from krbfile.library import (
-    Enctype, EntryRecord, Name, check, check_key, etype_of, exports, named, number, sized, text,
-)
+from krbfile.library import ETYPES, Enctype, EntryRecord, Name, etype_of, named, number, sized, text
 from krbfile.store import Store, loaded
 
 
@@ -53,17 +51,12 @@ class Keytab(Store):
     @classmethod
     def create(cls, limit: int = 0) -> Keytab:
         """Returns an empty keytab, whose image has at most `limit` bytes (0: 16 MiB)."""
-        keytab = cls()
-        check(exports.krbf_kt_create(number(c_uint32, limit), byref(keytab._handle)))
-        return keytab
+        return cls._made("create", number(c_uint32, limit))
 
     @classmethod
     def open(cls, image: bytes, *, v1_big: bool = False, limit: int = 0) -> Keytab:
         """Returns the keytab of an image."""
-        keytab = cls()
-        words = (*sized(image), number(c_uint32, v1_big), number(c_uint32, limit))
-        check(exports.krbf_kt_open(*words, byref(keytab._handle)))
-        return keytab
+        return cls._made("open", *sized(image), number(c_uint32, v1_big), number(c_uint32, limit))
 
     @classmethod
     def load(cls, path: AnyPath | None = None, *, v1_big: bool = False, limit: int = 0) -> Keytab:
@@ -87,10 +80,12 @@ class Keytab(Store):
         return self._found(EntryRecord(), principal, number(c_uint32, kvno), etype_of(enctype))
 
     def add(self, principal: Name, kvno: int, enctype: Enctype, key: bytes, timestamp: int | None = None) -> int:
-        """Adds an entry, by default of the current time, and returns its place."""
-        place, sizes = c_uint32(), sized(key)
-        when = int(time.time()) if timestamp is None else timestamp
+        """Adds an entry, by default of the current time, and returns its place. A key is as long as its type's."""
+        place, when = c_uint32(), int(time.time()) if timestamp is None else timestamp
         numbers = (number(c_uint32, when), number(c_uint32, kvno), etype_of(enctype))
-        check_key(numbers[2].value, sizes[1].value)
-        self._change("add", *named(principal), *numbers, *sizes, byref(place))
+        data, length = sized(key)
+        for name, etype in ETYPES.items():
+            if etype.number == numbers[2].value and etype.key_length != length.value:
+                raise ValueError(f"a key of {name} has {etype.key_length} bytes, not {length.value}")
+        self._change("add", *named(principal), *numbers, data, length, byref(place))
         return place.value

@@ -14,8 +14,9 @@ Name = Union[bytes, str]
 # An encryption type, by its number or its name.
 Enctype = Union[int, str]
 
-# The library in an archive or a repository that this module is a part of, else the one that is installed.
-BESIDE = os.path.join(os.path.dirname(__file__), "..", "..", "lib", "libkrbfile.so.1")
+# The archive, or the repository, that this module may be a part of. Its library is used, if there is one.
+TOP = os.path.join(os.path.dirname(__file__), "..", "..")
+BESIDE = os.path.join(TOP, "lib", "libkrbfile.so.1")
 
 # A call keeps the interpreter's lock: releasing it would take longer than most calls.
 exports = ctypes.PyDLL(BESIDE if os.path.exists(BESIDE) else os.path.basename(BESIDE))
@@ -25,7 +26,9 @@ class KrbfileError(Exception):
     """A call of the library was refused: `status` is its number in krbfile.h."""
 
     def __init__(self, status: int, words: str = "") -> None:
-        super().__init__(status, words or phrase(status))
+        phrase = Bytes()
+        exports.krbf_phrase(status, byref(phrase))
+        super().__init__(status, words or phrase.read().decode() or f"status {status}")
         self.status = status
 
     def __str__(self) -> str:
@@ -44,14 +47,8 @@ class Bytes(ctypes.Structure):
         return ctypes.string_at(self.at, self.len) if self.len else b""
 
 
-class Etype(NamedTuple):
-    """The number of an encryption type, and how many bytes its keys have."""
-
-    number: int
-    key_length: int
-
-
-# By the names that the program reads; of each type the one that it prints is first.
+# Encryption types by the names that the program reads; of each the one that it prints is first.
+Etype = NamedTuple("Etype", [("number", int), ("key_length", int)])
 ETYPES = {name: Etype(which, key_length) for which, key_length, *names in (
     (16, 24, "des3-cbc-sha1", "des3-hmac-sha1", "des3-cbc-sha1-kd"),
     (17, 16, "aes128-cts-hmac-sha1-96", "aes128-cts", "aes128-sha1"),
@@ -85,13 +82,6 @@ class TicketRecord(ctypes.Structure):
     ]
 
 
-def phrase(status: int) -> str:
-    """Returns the phrase of a status."""
-    found = Bytes()
-    exports.krbf_phrase(status, byref(found))
-    return found.read().decode() or f"status {status}"
-
-
 def check(status: int) -> None:
     """Raises `KrbfileError` unless the status is `KRBF_DONE`."""
     if status in (NOT_FOUND, KVNO_NOT_FOUND):
@@ -115,13 +105,6 @@ def etype_of(given: Enctype) -> c_uint16:
             raise ValueError(f"{given!r} is no encryption type")
         given = ETYPES[given.lower()].number
     return number(c_uint16, given)
-
-
-def check_key(etype: int, length: int) -> None:
-    """Refuses a key that is not as long as those of its encryption type."""
-    for name, known in ETYPES.items():
-        if etype == known.number and length != known.key_length:
-            raise ValueError(f"a key of {name} has {known.key_length} bytes, not {length}")
 
 
 def sized(data: bytes) -> tuple[c_char_p, c_size_t]:

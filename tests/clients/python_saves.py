@@ -1,5 +1,5 @@
-"""Changes of files by Python's module, which the program saves: what is saved, what each end does if the other dies, and
-a storm of Python, the program and MIT's ktutil over one file."""
+"""Changes of files by Python's module, which the program saves: what is saved, what each end does if the other dies,
+and a storm of Python, the program and MIT's ktutil over one file."""
 
 import os
 import signal
@@ -57,9 +57,8 @@ with edit_cache() as cache:
     cache.rewrite()
 print(Path("c").read_bytes().hex(), sorted(os.listdir()))
 threads = [Thread(target=add, args=("many", number)) for number in range(5)]
-for run in ("start", "join"):
-    for thread in threads:
-        getattr(thread, run)()
+[thread.start() for thread in threads]
+[thread.join() for thread in threads]
 print(sorted(entry.principal for entry in Keytab.load("many")))
 """
 
@@ -79,8 +78,7 @@ def stop(error):
     return block
 
 def never(keytab):
-    edited = edit_keytab("other")
-    edited.__enter__().add("a@R", 1, 17, bytes(16))
+    edit_keytab("other").__enter__().add("a@R", 1, 17, bytes(16))
 
 for block in (list, stop(KeyError(1)), stop(KeyboardInterrupt()), stop(SystemExit(3)), lambda it: it.close(), never):
     try:
@@ -100,7 +98,7 @@ import os, sys, time
 
 def live():
     os.closerange(0, 3)
-    time.sleep(60)
+    time.sleep(9)
 
 worker = 0
 try:
@@ -117,7 +115,7 @@ CHILD = "if os.fork() == 0: sys.exit(keytab.remove_at(2))"
 WORKER = "worker = os.fork() or live()"
 UNKNOWN = "worker = PyDLL(None).fork() or live()"
 
-# A run of a storm, which adds the name that it reads.
+# A run of a storm, which adds the name that it reads; and how many there are of each program.
 ADDS = """
 from krbfile import edit_keytab
 import sys
@@ -128,38 +126,34 @@ try:
 except OSError as error:
     sys.exit(print(error) or 3)
 """
-EACH, WITHIN = 15, 1.0
+EACH = 15
 
 # How many seconds a run has that is to wait, and one that is to end.
 MOMENT, LONG = 0.5, 30.0
 
+CLOSED = "ValueError('it is closed')"
 SCRIPTS = (
     ("saves", SAVES, " ".join(each.hex() for each in (TWO, cache(TICKET, PA_TYPE), old(HOST, order=BIG))).encode(), [
         "True", f"{keytab(47, B).hex()} 0o100640 1", "True True", "[2] True",
         f"{cache(PA_TYPE).hex()} ['-default', 'FILE:odd\\nname', 'big', 'c', 'k', 'other']",
         "['a0@R', 'a1@R', 'a2@R', 'a3@R', 'a4@R']",
     ]),
-    ("blocks that save nothing", BLOCKS, TWO, [
-        f"{error} True ['k']" for error in (
-            "ValueError('it is closed')", "KeyError(1)", "KeyboardInterrupt()", "SystemExit(3)",
-            "ValueError('it is closed')", "ValueError('it is closed')")
-    ]),
+    ("blocks that save nothing", BLOCKS, TWO, [f"{error} True ['k']" for error in (
+        CLOSED, "KeyError(1)", "KeyboardInterrupt()", "SystemExit(3)", CLOSED, CLOSED)]),
 )
 
 
 @contextmanager
 def in_block(program: str, folder: str, does: str) -> Iterator[tuple[subprocess.Popen[bytes], int]]:
     """Yields a Python that is in the block, in a process group of its own, and the number of its worker."""
-    env = {**surroundings("/bin"), "KRBFILE": program}
+    env = surroundings("/bin") | {"KRBFILE": program}
     with subprocess.Popen([sys.executable, "-c", BLOCK % does], cwd=folder, env=env, bufsize=0, stdin=subprocess.PIPE,
                           stdout=subprocess.PIPE, stderr=subprocess.STDOUT, start_new_session=True) as started:
         worker = int(started.stdout.readline())
         try:
             yield started, worker
         finally:
-            for number in filter(None, (worker, started.pid)):
-                with suppress(ProcessLookupError):
-                    os.kill(number, signal.SIGKILL)
+            started.kill()
 
 
 def kill_program(started: subprocess.Popen[bytes]) -> None:
@@ -177,9 +171,7 @@ def is_held(folder: str, seconds: float) -> bool:
 
 
 # What is done to a Python in the block before it gets the line, what it forked, what it prints, and the file then.
-Deed = Callable[[subprocess.Popen[bytes]], object]
-ENDS: tuple[tuple[str, Deed, str, bytes, bytes], ...] = (
-    ("its end", lambda _: None, "", b"saved\n", NEW),
+ENDS: tuple[tuple[str, Callable[[subprocess.Popen[bytes]], object], str, bytes, bytes], ...] = (
     ("the program is killed", kill_program, "", b"OSError [Errno 5] krbfile ended with status -9: 'k'\n", OLD),
     ("Ctrl-C", lambda it: os.killpg(it.pid, signal.SIGINT), "", b"KeyboardInterrupt \n", OLD),
     ("Python is killed", lambda it: it.kill(), "", b"", OLD),
@@ -190,8 +182,9 @@ ENDS: tuple[tuple[str, Deed, str, bytes, bytes], ...] = (
 )
 
 
-def check_end(report: Report, program: str, what: str, deed: Deed, does: str, printed: bytes, image: bytes) -> None:
+def check_end(report: Report, program: str, end: int) -> None:
     """Checks an end of a block: the file is as it was or saved, and the program's next run leaves nothing else."""
+    what, deed, does, printed, image = ENDS[end]
     with folder_of({"k": OLD}) as folder:
         with in_block(program, folder, does) as (started, _):
             deed(started)
@@ -202,23 +195,14 @@ def check_end(report: Report, program: str, what: str, deed: Deed, does: str, pr
             faults = [] if got.endswith(printed) else [f"{got}, not {printed}"]
             left = {"k.krbfile": b""} if deed is kill_program and is_held(folder, 0) else {}
             faults += ["it is held"] * (not left and is_held(folder, LONG)) + tree_faults({"k": image, **left}, folder)
-        faults += [f"the next run: {got}" for got in [edit(program, folder)] if got.status]
+        faults += ["the next run fails"] * edit(program, folder).status
         faults += tree_faults({"k": keytab(*[HOST] * (1 + (image == NEW)))}, folder)
     report.check(f"in a block: {what}", faults)
 
 
-def check_worker(report: Report, program: str) -> None:
-    """Checks that the hold of a Python that was killed lasts until a worker has ended that keeps copies."""
-    with folder_of({"k": OLD}) as folder, in_block(program, folder, UNKNOWN) as (started, worker):
-        started.kill()
-        faults = [] if is_held(folder, MOMENT) else ["the hold has ended"]
-        os.kill(worker, signal.SIGKILL)
-        faults += ["it is held"] * is_held(folder, LONG)
-        report.check("the hold of an unknown worker", faults + tree_faults({"k": OLD}, folder))
-
-
-def check_held(report: Report, program: str) -> None:
-    """Checks that the program waits while a block holds the file, and then changes what that saved."""
+def check_holds(report: Report, program: str) -> None:
+    """Checks that the program waits while a block holds the file, and then changes what that saved; and that the hold of
+    a Python that was killed lasts until a worker has ended that keeps copies."""
     with folder_of({"k": OLD}) as folder, in_block(program, folder, "") as (started, _), ThreadPoolExecutor(1) as pool:
         other = pool.submit(edit, program, folder)
         time.sleep(MOMENT)
@@ -226,6 +210,12 @@ def check_held(report: Report, program: str) -> None:
         started.stdin.write(b"\n")
         faults += [] if other.result().status == 0 else [f"{other.result()}"]
         report.check("a file that a block holds", faults + tree_faults({"k": keytab(HOST, HOST)}, folder))
+    with folder_of({"k": OLD}) as folder, in_block(program, folder, UNKNOWN) as (started, worker):
+        started.kill()
+        faults = [] if is_held(folder, MOMENT) else ["the hold has ended"]
+        os.kill(worker, signal.SIGKILL)
+        faults += ["it is held"] * is_held(folder, LONG)
+        report.check("the hold of an unknown worker", faults + tree_faults({"k": OLD}, folder))
 
 
 def check_storm(report: Report, program: str) -> None:
@@ -239,7 +229,7 @@ def check_storm(report: Report, program: str) -> None:
     with folder_of({"k": OLD}) as folder:
         for each in runs:
             each.start(folder, env)
-        rage(runs, Random(0), WITHIN)
+        rage(runs, Random(0), 1)
         with open(os.path.join(folder, "k"), "rb") as file:
             names = names_of_keytab(file.read()) or []
         faults = [fault for each in runs for fault in each.faults(names, True)]
@@ -253,9 +243,8 @@ def check(report: Report, program: str) -> None:
         report.skip("changes by Python's module", "there is no C library: make lib builds it")
         return
     check_scripts(report, SCRIPTS, program)
-    for end in ENDS:
-        check_end(report, program, *end)
-    check_worker(report, program)
-    check_held(report, program)
+    for end in range(len(ENDS)):
+        check_end(report, program, end)
+    check_holds(report, program)
     if are_there(report, "a storm of Python beside MIT's ktutil"):
         check_storm(report, program)

@@ -10,7 +10,7 @@ from words.mistakes import MISTAKES, NEAR
 
 PAGE = "docs/krbfile.1"
 FORMATS = "docs/FORMATS.md"
-MODULE = ("python/krbfile/files.py", "python/krbfile/program.py")
+MODULE = ("python/krbfile/files.py", "python/krbfile/editing.py")
 
 
 def numbered(table: phrases.Numbered) -> set[tuple[int, str]]:
