@@ -111,7 +111,7 @@ try:
 except BaseException as error:
     print(type(error).__name__, error)
 """
-CHILD = "if os.fork() == 0: sys.exit(keytab.remove_at(2))"
+CHILD = "if os.fork() == 0: sys.stdin = sys.stdout = open(os.devnull, 'r+')"
 WORKER = "worker = os.fork() or live()"
 UNKNOWN = "worker = PyDLL(None).fork() or live()"
 
