@@ -98,7 +98,7 @@ import os, sys, time
 
 def live():
     os.closerange(0, 3)
-    time.sleep(9)
+    while os.path.exists("k"): time.sleep(0.01)
 
 worker = 0
 try:
