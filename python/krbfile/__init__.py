@@ -15,8 +15,9 @@ back. Calls take a name as text or bytes, and an encryption type as its number o
 bytes, and no `repr` shows one.
 
 If the library refuses a call, or the file is damaged or of another kind, `KrbfileError` is raised: its `status` is
-the number in krbfile.h. A file that cannot be read, held or saved raises `OSError`, in the words of the program. A
-number that does not fit raises `OverflowError`, and an argument of another type `TypeError`.
+the number in krbfile.h. A file that cannot be read, held or saved raises `OSError`, in the words of the program;
+`LostChange` is one of a file that is saved. A number that does not fit raises `OverflowError`, and an argument of
+another type `TypeError`.
 """
 from __future__ import annotations
 

@@ -143,7 +143,6 @@ class Hold:
             each.close()
         if self.process is not None:
             self.process.returncode = self.process.returncode or 0
-        self.process = None
 
 
 # In a child of a fork they are forgotten.
