@@ -5,10 +5,12 @@
             if entry.enctype == 23:
                 keytab.remove_at(entry.place)
 
-`edit_keytab` and `edit_cache` change a file by the program krbfile. `Keytab.load` and `Cache.load` read
-one, `open` takes its bytes, and `image` gives them. A keytab or a cache may be changed during iteration, and
-threads may share one. The program is `PROGRAM`, if that is set, or KRBFILE in the environment, or the one of the
-archive that this module is a part of, or the one on PATH.
+`edit_keytab` and `edit_cache` change a file by the program krbfile. `Keytab.load` and `Cache.load` read one, `open`
+takes its bytes, and `image` gives them. A keytab or a cache may be changed during iteration, and threads may share
+one. If it is damaged, iteration raises an error at the fault, which `fault` has.
+
+The program is `PROGRAM`, if that is set, or KRBFILE in the environment, or the one of the archive that this module
+is a part of, or the one on PATH.
 
 Names are text. Bytes of one that are not UTF-8 are in it as in the name of a file: `os.fsencode` gives them
 back. Calls take a name as text or bytes, and an encryption type as its number or its name in `ETYPES`. Keys are

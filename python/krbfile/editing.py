@@ -137,12 +137,11 @@ class Hold:
             self.forget()
 
     def forget(self) -> None:
-        """Closes what this process has of it. In a child of a fork the program is not its child."""
+        """Closes what this process has of it."""
         _holds.discard(self)
         for each in (self.ours, self.theirs, self.messages):
             each.close()
-        if self.process is not None:
-            self.process.returncode = self.process.returncode or 0
+        self.process = None
 
 
 # In a child of a fork they are forgotten.

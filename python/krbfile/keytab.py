@@ -8,7 +8,7 @@ from ctypes import byref, c_uint32
 from dataclasses import dataclass, field
 
 from krbfile.files import AnyPath
-from krbfile.library import ETYPES, Enctype, EntryRecord, Name, etype_of, named, number, sized, text
+from krbfile.library import KEY_LENGTHS, Enctype, EntryRecord, Name, etype_of, named, number, sized, text
 from krbfile.store import Store, loaded
 
 
@@ -42,8 +42,7 @@ def _components(name: bytes) -> Iterator[str]:
 
 
 class Keytab(Store):
-    """A keytab. Iterating over it yields its entries; it may be changed meanwhile. If it is damaged, that raises an
-    error after the entries before the fault, which `fault` tells at once."""
+    """A keytab. Iterating over it yields its entries."""
 
     _kind = "kt"
     _others = dict.fromkeys((b"\5\3", b"\5\4"), "it begins as a credential cache")
@@ -84,8 +83,8 @@ class Keytab(Store):
         place, when = c_uint32(), int(time.time()) if timestamp is None else timestamp
         numbers = (number(c_uint32, when), number(c_uint32, kvno), etype_of(enctype))
         data, length = sized(key)
-        for name, etype in ETYPES.items():
-            if etype.number == numbers[2].value and etype.key_length != length.value:
-                raise ValueError(f"a key of {name} has {etype.key_length} bytes, not {length.value}")
+        usual = KEY_LENGTHS.get(numbers[2].value, length.value)
+        if length.value != usual:
+            raise ValueError(f"a key of type {enctype} has {usual} bytes, not {length.value}")
         self._change("add", *named(principal), *numbers, data, length, byref(place))
         return place.value

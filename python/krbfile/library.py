@@ -59,6 +59,7 @@ ETYPES = {name: Etype(which, key_length) for which, key_length, names in (
     (25, 16, "camellia128-cts-cmac camellia128-cts"),
     (26, 32, "camellia256-cts-cmac camellia256-cts"),
 ) for name in names.split()}
+KEY_LENGTHS = dict(ETYPES.values())
 
 
 class EntryRecord(ctypes.Structure):

@@ -322,7 +322,7 @@ SCRIPTS: tuple[Script, ...] = (
     ("encryption types", ETYPES, b"", [
         *(line for (number, length), names in BY_NAME.items() for name in names for line in (
             f"{name} {number} {length}",
-            *(f"a key of {names[0]} has {length} bytes, not {wrong}" for wrong in (length - 1, length + 1)))),
+            *(f"a key of type {number} has {length} bytes, not {wrong}" for wrong in (length - 1, length + 1)))),
         "True", "23 0",
     ]),
     ("threads", THREADS, TWO, ["[] True"]),
