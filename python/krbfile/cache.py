@@ -52,7 +52,7 @@ class Cache(Store):
         return loaded(cls, path, limit)
 
     def save(self, path: AnyPath) -> None:
-        """Saves the cache to a new file, which only its owner may read. Raises `FileExistsError` if it is there."""
+        """Saves the cache to a new file, which only its owner may read. Raises `FileExistsError` if there is one."""
         make(file_name(path, self._kind), self.image)
 
     @property

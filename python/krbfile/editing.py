@@ -1,4 +1,4 @@
-"""Changes files by the program: it holds a file, sends its image, and saves the one that it receives."""
+"""Changes files through the program, which holds a file, sends its image, and saves the one that it receives."""
 from __future__ import annotations
 
 import errno
@@ -55,7 +55,7 @@ def program() -> AnyPath:
 
 
 def fault(words: list[str], status: int, name: FileName) -> Exception:
-    """Returns the exception for a run that ended with a status, after these messages."""
+    """Returns the exception for a run that ended with this status and these messages."""
     words = words or [f"krbfile ended with status {status}"]
     if status == 4:
         return MemoryError(*words)
@@ -68,19 +68,19 @@ def fault(words: list[str], status: int, name: FileName) -> Exception:
 
 
 class Hold:
-    """A file that the program holds, and its image. A child of a fork has only a copy, which can do nothing."""
+    """A file that the program holds, and its image. In a forked child this is a copy that does nothing."""
 
     def __init__(self, name: FileName, *options: str) -> None:
         self.name, self.line = name, [program(), "--explain", "hold", *options, operand(name)]
         self.process: subprocess.Popen[bytes] | None = None
-        # A file takes messages of any length; for a pipe to be read the program might wait.
+        # A file takes messages of any length, where a pipe that nobody reads could stop the program.
         self.messages = tempfile.TemporaryFile(buffering=0)
         self.ours, self.theirs = socket.socketpair()
         _holds.add(self)
         try:
             for end in (self.ours, self.theirs):
                 end.settimeout(None)
-            # Ctrl-C does not reach a session of its own.
+            # In a session of its own Ctrl-C does not reach it.
             self.process = subprocess.Popen(self.line, stdin=self.theirs, stdout=self.theirs, stderr=self.messages,
                                             start_new_session=True)
             self.theirs.close()
@@ -101,7 +101,7 @@ class Hold:
         return bytes(image)
 
     def save(self, image: bytes) -> None:
-        """Has an image saved."""
+        """Has the program save an image."""
         # If the program has ended, its status tells why.
         with suppress(OSError):
             self.ours.sendall(b"%d\n%b" % (len(image), image), socket.MSG_NOSIGNAL)
@@ -115,7 +115,7 @@ class Hold:
         if self.process is None:
             return 0
         if self.process.returncode is None:
-            # For Popen a status that somebody else has taken is 0.
+            # Popen takes the status of a child that somebody else has reaped for 0.
             os.waitid(os.P_PID, self.process.pid, os.WEXITED | os.WNOWAIT)
         return self.process.wait()
 
@@ -144,7 +144,7 @@ class Hold:
         self.process = None
 
 
-# In a child of a fork they are forgotten.
+# The holds of this process. A forked child closes its copies.
 _holds: set[Hold] = set()
 os.register_at_fork(after_in_child=lambda: [hold.forget() for hold in [*_holds]])
 
@@ -166,11 +166,11 @@ def edited(kind: Any, path: AnyPath | None, options: list[str], limit: int, **mo
 
 def edit_keytab(path: AnyPath | None = None, *, in_place: bool = False, v1_big: bool = False,
                 limit: int = 0) -> AbstractContextManager[Keytab]:
-    """Holds a file, by default the default keytab, loads its keytab, an empty one if it is missing, and saves it if the
-    block changed it. `in_place` writes the file where it stands, as the program's `--in-place` does.
+    """Holds a file, by default the default keytab, loads its keytab, or an empty one if it is missing, and saves it if
+    the block changed it. `in_place` writes to the file itself, as the program's `--in-place` does.
 
-    If the block raises an exception, nothing is saved, and a child of a fork saves nothing. The keytab is closed at the
-    end. If the process is killed, the hold ends, unless a worker that Python did not fork lives on: then with that.
+    Nothing is saved if the block raises an exception, or by a forked child. The keytab is closed at the end. If the
+    process is killed, the hold ends, or, where a child that Python did not fork lives on, when that child ends.
     """
     options = ["-k", *["--v1-big"] * bool(v1_big), *["--in-place"] * bool(in_place)]
     return edited(Keytab, path, options, limit, v1_big=v1_big)
@@ -178,5 +178,5 @@ def edit_keytab(path: AnyPath | None = None, *, in_place: bool = False, v1_big: 
 
 def edit_cache(path: AnyPath | None = None, *, in_place: bool = False,
                limit: int = 0) -> AbstractContextManager[Cache]:
-    """Holds a file, by default the default cache, which has to be there, and saves it as `edit_keytab` does."""
+    """Holds a file, by default the default cache, loads its cache, and saves it as `edit_keytab` does."""
     return edited(Cache, path, ["--in-place"] * bool(in_place), limit)

@@ -38,7 +38,7 @@ def default_name(kind: str) -> str:
 
 
 def file_name(path: AnyPath | None, kind: str) -> FileName:
-    """Returns a name, by default the default one, without its type. A name of another type is that of no file."""
+    """Returns a name without its type, by default the default name. One of another type is refused as missing."""
     given = os.fspath(default_name(kind) if path is None else path)
     name = os.fsencode(given)
     for prefix in TYPES[kind]:
@@ -51,7 +51,7 @@ def file_name(path: AnyPath | None, kind: str) -> FileName:
 
 
 def operand(name: FileName) -> str:
-    """Returns the word by which the program takes the file: it begins neither as an option nor with a type."""
+    """Returns a name as a word that the program reads neither as an option nor with a type."""
     word = os.fsdecode(name)
     return f"./{word}" if word.startswith("-") or TYPED.match(os.fsencode(name)) else word
 
@@ -81,7 +81,7 @@ def load(name: FileName, limit: int) -> bytes:
 
 
 def make(name: FileName, data: bytes) -> None:
-    """Makes a file that its owner alone may read, whole or not at all, and replaces none. It survives a crash."""
+    """Makes a file that only its owner may read, whole or not at all, also after a crash. Never replaces one."""
     path = os.fsencode(name)
     folder = os.path.dirname(path) or b"."
     if path.endswith(b".krbfile"):
@@ -93,7 +93,7 @@ def make(name: FileName, data: bytes) -> None:
             os.fsync(file.fileno())
             os.link(file.name, path)
     except FileExistsError:
-        raise FileExistsError(errno.EEXIST, "cannot write: the file is there", name) from None
+        raise FileExistsError(errno.EEXIST, "cannot write: the file exists", name) from None
     except OSError as error:
         raise failed("cannot write", error, name) from error
     with suppress(OSError):

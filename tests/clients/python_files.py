@@ -155,7 +155,7 @@ SCRIPTS = (
     ]),
     ("new caches", NEW, b"", [
         f"{NEW_CACHE} 0o100600 1",
-        *(f"FileExistsError {name!r} cannot write: the file is there" for name in (b"new", "link")),
+        *(f"FileExistsError {name!r} cannot write: the file exists" for name in (b"new", "link")),
         f"FileNotFoundError 'no/new' cannot write: {CAUSES['ENOENT']}",
         f"FileNotFoundError 'KCM:0' {NO_FILE}: {NOT_READ.replace('TYPE', 'KCM:')}",
         f"FileNotFoundError '' cannot write: {CAUSES['ENOENT']}",
