@@ -201,8 +201,8 @@ def check_end(report: Report, program: str, end: int) -> None:
 
 
 def check_holds(report: Report, program: str) -> None:
-    """Checks that the program waits while a block holds the file, and then changes what that saved; and that the hold of
-    a Python that was killed lasts until a worker has ended that keeps copies."""
+    """Checks that the program waits while a block holds the file, and then changes what that saved; and that the hold
+    of a Python that was killed lasts until a worker has ended that keeps copies."""
     with folder_of({"k": OLD}) as folder, in_block(program, folder, "") as (started, _), ThreadPoolExecutor(1) as pool:
         other = pool.submit(edit, program, folder)
         time.sleep(MOMENT)
