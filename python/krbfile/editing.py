@@ -25,11 +25,11 @@ BESIDE = os.path.join(TOP, "bin", "krbfile")
 # The number of each cause: those that are not the system's have the closest.
 NUMBERS = {
     **{phrase: number for number, phrase in PHRASES.items()},
-    "no such file": errno.ENOENT, "not a plain file": errno.EINVAL, "no lock can be had": errno.ENOLCK,
-    "a link that cannot be followed": errno.EILSEQ, "the file has no name any more": errno.ESTALE,
-    "in use by another program": errno.EAGAIN, "changed by another program; nothing was saved": errno.ESTALE,
-    "another file has this name now": errno.ESTALE, "a mount point cannot be replaced": errno.EBUSY,
-    "the owner cannot be kept": errno.EPERM, NAME_OF_SAVES: errno.EINVAL,
+    "no such file": errno.ENOENT, "file too large": errno.EFBIG, "not a plain file": errno.EINVAL,
+    "no lock can be had": errno.ENOLCK, "in use by another program": errno.EAGAIN, NAME_OF_SAVES: errno.EINVAL,
+    "changed by another program; nothing was saved": errno.ESTALE, "another file has this name now": errno.ESTALE,
+    "the file has no name any more": errno.ESTALE, "a link that cannot be followed": errno.EILSEQ,
+    "a mount point cannot be replaced": errno.EBUSY, "the owner cannot be kept": errno.EPERM,
 }
 
 # What is told of a save that is done.

@@ -97,9 +97,10 @@ from pathlib import Path
 import errno, krbfile, os, sys
 
 image = sys.stdin.buffer.read()
-for name, data in (("k", image), ("cut", image[:60]), ("c", bytes([5, 4])), ("loses", LOSES)):
+for name, data in (("k", image), ("cut", image[:60]), ("c", bytes([5, 4])), ("loses", LOSES), ("large", image)):
     Path(name).write_bytes(data)
 os.chmod("loses", 0o755)
+os.truncate("large", 2**24 + 1)
 os.mkdir("taken.krbfile")
 os.mkfifo("fifo")
 
@@ -113,7 +114,7 @@ def refused(edit, path, **more):
     except KrbfileError as error:
         print(error.status, str(error).split(";")[0])
 
-for path in ("no/k", "a.krbfile", "taken", "x" * 248, "fifo", "cut", "c", b"KCM:0"):
+for path in ("no/k", "a.krbfile", "taken", "x" * 248, "fifo", "cut", "c", "large", b"KCM:0"):
     refused(edit_keytab, path)
 refused(edit_keytab, "none", in_place=True)
 refused(edit_keytab, "k", limit=97)
@@ -171,6 +172,7 @@ SCRIPTS = (
         f"OSError EINVAL 'fifo' cannot read: {CAUSES['no plain file']}",
         "31 cut: the file is damaged",
         f"12 c: {BEGINS_AS_CACHE[1]}",
+        f"OSError EFBIG 'large' file too large: {LARGE}",
         "FileNotFoundError ENOENT b'KCM:0' no such file: only files are read, and this is KCM:",
         "FileNotFoundError ENOENT 'none' no such file",
         "OSError EFBIG 'k' file too large: it has more than 97 bytes",
@@ -180,6 +182,6 @@ SCRIPTS = (
         f"in a block: LostChange ESTALE 'k' {AFTERMATHS['lost change']}",
         "FileNotFoundError ENOENT 'krbfile' "
         "the program is not on PATH: install it, or set KRBFILE or krbfile.PROGRAM to its path",
-        "['c', 'cut', 'fifo', 'k', 'loses', 'taken.krbfile']",
+        "['c', 'cut', 'fifo', 'k', 'large', 'loses', 'taken.krbfile']",
     ]),
 )
