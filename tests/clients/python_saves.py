@@ -13,7 +13,7 @@ from random import Random
 
 from clients.python_module import check_scripts
 from makers.cache_images import cache
-from makers.images import BIG, HOST, TWO, B, keytab, old
+from makers.images import BIG, HOST, TWO, B, Entry, keytab, old
 from makers.usual_caches import PA_TYPE, TICKET
 from pages.readme import LIBRARY, surroundings
 from peers.beside_mit import are_there
@@ -219,20 +219,20 @@ def check_holds(report: Report, program: str) -> None:
 
 
 def check_storm(report: Report, program: str) -> None:
-    """Checks a storm: what Python and the program report as saved is there, and nothing is left."""
-    runs = []
-    for number in range(EACH):
-        (p_words, p_text), (_, m_text) = change("ktedit", f"p{number}"), change("ktutil", f"m{number}")
-        runs += [Run(f"y{number}", (sys.executable, "-c", ADDS), f"y{number}\n"),
-                 Run(f"p{number}", (program, *p_words), p_text), Run(f"m{number}", ("ktutil",), m_text, is_mits=True)]
-    env = {**surroundings("/usr/sbin"), "KRBFILE": program, "KRB5_CONFIG": os.devnull}
-    with folder_of({"k": OLD}) as folder:
+    """Checks a storm: what Python and the program report as saved is there, some of each, and nothing is left."""
+    sources = {f"m{number}": keytab(Entry((b"m%d" % number,))) for number in range(EACH)}
+    with folder_of({"k": OLD}) as folder, folder_of(sources) as beside:
+        runs = [run for n in range(EACH) for run in (
+            Run(f"y{n}", (sys.executable, "-c", ADDS), f"y{n}\n"),
+            Run(f"p{n}", (program, "ktedit", "k"), change("ktedit", f"p{n}")[1]),
+            Run(f"m{n}", ("ktutil",), f"rkt {beside}/m{n}\nwkt k\n", is_mits=True))]
         for each in runs:
-            each.start(folder, env)
+            each.start(folder, {**surroundings("/usr/sbin"), "KRBFILE": program, "KRB5_CONFIG": os.devnull})
         rage(runs, Random(0), 1)
         with open(os.path.join(folder, "k"), "rb") as file:
             names = names_of_keytab(file.read()) or []
-        faults = [fault for each in runs for fault in each.faults(names, True)]
+        faults = [f"no {each} is there" for each in {*"ypm"} - {name[0] for name in names}]
+        faults += [fault for each in runs for fault in each.faults(names, True)]
         faults += [f"{name} is left" for name in os.listdir(folder) if name != "k"]
     report.check("a storm of Python, the program and MIT's ktutil", faults[:3])
 
