@@ -64,10 +64,9 @@ class Cache(Store):
         place = c_uint32(ticket.place)
         numbers = {name: getattr(ticket, name) for name in NUMBERS if name != "is_skey"}
         return Ticket(
-            place=ticket.place, client=text(self._name("client", place)),
-            server=text(self._name("server", place)), key=ticket.key.read(),
-            is_skey=bool(ticket.is_skey), is_config=bool(ticket.is_config),
-            ticket=ticket.ticket.read(), second_ticket=ticket.second_ticket.read(), **numbers,
+            place=ticket.place, client=text(self._name("client", place)), server=text(self._name("server", place)),
+            key=ticket.key.read(), ticket=ticket.ticket.read(), second_ticket=ticket.second_ticket.read(),
+            is_skey=bool(ticket.is_skey), is_config=bool(ticket.is_config), **numbers,
         )
 
     def __iter__(self) -> Iterator[Ticket]:

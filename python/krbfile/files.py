@@ -45,8 +45,10 @@ def file_name(path: AnyPath | None, kind: str) -> FileName:
         if name.startswith(prefix):
             return given[len(prefix):]
     if found := TYPED.match(name):
-        why = f"no such file: only files are read, and this is {found[0].decode()}"
-        raise FileNotFoundError(errno.ENOENT, why, given)
+        why = f"only files are read, and this is {found[0].decode()}"
+        if kind == "cc" and found[0] == b"DIR:":
+            why = "a collection; give one of its caches, DIR::FILE"
+        raise FileNotFoundError(errno.ENOENT, f"no such file: {why}", given)
     return given
 
 

@@ -65,10 +65,9 @@ class Keytab(Store):
     def _read(self, entry: EntryRecord) -> Entry:
         name = self._name("name", c_uint32(entry.place))
         return Entry(
-            place=entry.place, principal=text(name), realm=text(entry.realm.read()),
-            components=tuple(_components(name)) if entry.components else (),
-            name_type=entry.name_type, timestamp=entry.timestamp, kvno=entry.kvno,
-            enctype=entry.enctype, key=entry.key.read(),
+            place=entry.place, principal=text(name), realm=text(entry.realm.read()), name_type=entry.name_type,
+            components=tuple(_components(name)) if entry.components else (), timestamp=entry.timestamp,
+            kvno=entry.kvno, enctype=entry.enctype, key=entry.key.read(),
         )
 
     def __iter__(self) -> Iterator[Entry]:

@@ -28,7 +28,8 @@ for call in (
     lambda: Keytab.load("k", limit=97), lambda: Cache.load("k", limit=97), lambda: Keytab.load(b"folder"),
     lambda: Keytab.load("k/none"), lambda: Keytab.load("circle"), lambda: Keytab.load("short"),
     lambda: Keytab.load(b"c"), lambda: Cache.load("FILE:k"), lambda: Cache.load("KCM:0"),
-    lambda: Cache.load(b"WRFILE:k"), lambda: Keytab.load("DIR::k"), lambda: Cache.load("C:k"),
+    lambda: Cache.load(b"WRFILE:k"), lambda: Keytab.load("DIR::k"), lambda: Cache.load("DIR:k"),
+    lambda: Cache.load("C:k"),
 ):
     try:
         call()
@@ -147,6 +148,7 @@ SCRIPTS = (
         f"12 k: {BEGINS_AS_KEYTAB[1].replace(' (list it with -k)', '')}",
         *(f"FileNotFoundError {name!r} {NO_FILE}: {NOT_READ.replace('TYPE', kind)}"
           for name, kind in (("KCM:0", "KCM:"), (b"WRFILE:k", "WRFILE:"), ("DIR::k", "DIR:"))),
+        f"FileNotFoundError 'DIR:k' {NO_FILE}: a collection; give one of its caches, DIR::FILE",
         f"FileNotFoundError 'C:k' {NO_FILE}",
         f"file too large: {LARGE}",
         "['c', 'circle', 'folder', 'k', 'large', 'short']",
