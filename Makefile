@@ -33,7 +33,7 @@ VERSION := $(shell sed -n 's/^const VERSION: &str = "\([^ "]*\).*/\1/p' crates/k
 NAME = krbfile-$(VERSION)-linux-x86_64
 PACKED = $(DIST)/$(NAME).tar.gz
 PARTS = $(PACKED).parts
-MODULE = $(wildcard python/krbfile/*.py)
+MODULE = $(wildcard python/krbfile/*.py) python/krbfile/py.typed
 PAGES = README.md docs/krbfile.1 docs/krbfile.3 completions/krbfile.bash completions/_krbfile completions/krbfile.fish \
 	c/krbfile.h c/krbfile.pc.in python/pyproject.toml $(MODULE)
 

@@ -5,20 +5,32 @@
             if entry.enctype == 23:
                 keytab.remove_at(entry.place)
 
-`edit_keytab` and `edit_cache` change a file as the program krbfile does. `Keytab.load` and `Cache.load` read
-one, `open` takes its bytes, and `image` gives them. A keytab or a cache may be changed during iteration, and
-threads may share one.
+`edit_keytab` and `edit_cache` change a file by the program krbfile. `Keytab.load` and `Cache.load` read one, `open`
+takes its bytes, and `image` gives them. A keytab or a cache may be changed during iteration, and threads may share
+one. If it is damaged, iteration raises an error at the fault, which `fault` has.
+
+The program is `PROGRAM`, if that is set, or KRBFILE in the environment, or the one of the archive that this module
+is a part of, or the one on PATH.
 
 Names are text. Bytes of one that are not UTF-8 are in it as in the name of a file: `os.fsencode` gives them
-back. Calls take a name as text or bytes. Keys are bytes, and no `repr` shows one.
+back. Calls take a name as text or bytes, and an encryption type as its number or its name in `ETYPES`. Keys are
+bytes, and no `repr` shows one.
 
-If the library refuses a call, `KrbfileError` is raised: its `status` is the number in krbfile.h. A file that
-cannot be read or saved raises `OSError`, in the words of the program. A number that does not fit raises
-`OverflowError`, and an argument that is not a number, bytes or text raises `TypeError`.
+If the library refuses a call, or the file is damaged or of another kind, `KrbfileError` is raised: its `status` is
+the number in krbfile.h. A file that cannot be read, held or saved raises `OSError`, in the words of the program;
+`LostChange` is one of a file that is saved. A number that does not fit raises `OverflowError`, and an argument of
+another type `TypeError`.
 """
-from krbfile.cache import Cache, Ticket
-from krbfile.editing import edit_cache, edit_keytab
-from krbfile.keytab import Entry, Keytab
-from krbfile.library import KrbfileError
+from __future__ import annotations
 
-__all__ = ["Cache", "Entry", "Keytab", "KrbfileError", "Ticket", "edit_cache", "edit_keytab"]
+from krbfile.cache import Cache, Ticket
+from krbfile.editing import LostChange, edit_cache, edit_keytab
+from krbfile.files import AnyPath
+from krbfile.keytab import Entry, Keytab
+from krbfile.library import ETYPES, KrbfileError, NotFound
+
+__all__ = ["Cache", "ETYPES", "Entry", "Keytab", "KrbfileError", "LostChange", "NotFound", "PROGRAM", "Ticket",
+           "edit_cache", "edit_keytab"]
+
+# The path of the program, unless it is to be found elsewhere.
+PROGRAM: AnyPath | None = None

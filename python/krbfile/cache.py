@@ -2,14 +2,12 @@
 from __future__ import annotations
 
 from collections.abc import Iterator
-from ctypes import byref, c_uint16, c_uint32
+from ctypes import byref, c_uint32
 from dataclasses import dataclass, field
 
-from krbfile.library import (
-    NOT_FOUND, NUMBERS, KrbfileError, Name, Numbers, TicketRecord, check, exports, named, number, sized,
-)
-from krbfile.reading import AnyPath, load
-from krbfile.store import Store
+from krbfile.files import AnyPath, file_name, make
+from krbfile.library import NUMBERS, Name, NotFound, Numbers, TicketRecord, etype_of, named, number, sized, text
+from krbfile.store import Store, loaded
 
 
 @dataclass(frozen=True)
@@ -36,41 +34,39 @@ class Cache(Store):
     """A credential cache. Iterating over it yields its tickets and configuration entries."""
 
     _kind = "cc"
+    _others = dict.fromkeys((b"\5\1", b"\5\2"), "a keytab, or a cache of version 1 or 2 (not read)")
 
     @classmethod
     def create(cls, principal: Name, limit: int = 0) -> Cache:
         """Returns an empty cache with a default principal."""
-        cache = cls()
-        words = (*named(principal), number(c_uint32, limit))
-        check(exports.krbf_cc_create(*words, byref(cache._handle)))
-        return cache
+        return cls._made("create", *named(principal), number(c_uint32, limit))
 
     @classmethod
     def open(cls, image: bytes, *, limit: int = 0) -> Cache:
         """Returns the cache of an image."""
-        cache = cls()
-        words = (*sized(image), number(c_uint32, limit))
-        check(exports.krbf_cc_open(*words, byref(cache._handle)))
-        return cache
+        return cls._made("open", *sized(image), number(c_uint32, limit))
 
     @classmethod
-    def load(cls, path: AnyPath, *, limit: int = 0) -> Cache:
-        """Returns the cache of a file."""
-        return cls.open(load(path, limit), limit=limit)
+    def load(cls, path: AnyPath | None = None, *, limit: int = 0) -> Cache:
+        """Returns the cache of a file, by default the default cache."""
+        return loaded(cls, path, limit)
+
+    def save(self, path: AnyPath) -> None:
+        """Saves the cache to a new file, which only its owner may read. Raises `FileExistsError` if there is one."""
+        make(file_name(path, self._kind), self.image)
 
     @property
     def principal(self) -> str:
         """The default principal."""
-        return self._text("principal")
+        return text(self._name("principal"))
 
     def _read(self, ticket: TicketRecord) -> Ticket:
         place = c_uint32(ticket.place)
         numbers = {name: getattr(ticket, name) for name in NUMBERS if name != "is_skey"}
         return Ticket(
-            place=ticket.place, client=self._text("client", place),
-            server=self._text("server", place), key=ticket.key.read(),
-            is_skey=bool(ticket.is_skey), is_config=bool(ticket.is_config),
-            ticket=ticket.ticket.read(), second_ticket=ticket.second_ticket.read(), **numbers,
+            place=ticket.place, client=text(self._name("client", place)), server=text(self._name("server", place)),
+            key=ticket.key.read(), ticket=ticket.ticket.read(), second_ticket=ticket.second_ticket.read(),
+            is_skey=bool(ticket.is_skey), is_config=bool(ticket.is_config), **numbers,
         )
 
     def __iter__(self) -> Iterator[Ticket]:
@@ -80,13 +76,12 @@ class Cache(Store):
 
     def find(self, server: Name) -> Ticket:
         """Returns the first ticket for a server."""
-        return self._shown(TicketRecord(), "find", *named(server))
+        return self._found(TicketRecord(), server)
 
     def store(self, ticket: Ticket) -> int:
         """Stores a ticket, ignoring its `place`, and returns the place where it is stored."""
-        widths = {"enctype": c_uint16}
-        numbers = Numbers(*(number(widths.get(name, c_uint32), getattr(ticket, name)).value
-                            for name in NUMBERS))
+        others = (number(c_uint32, getattr(ticket, name)).value for name in NUMBERS if name != "enctype")
+        numbers = Numbers(etype_of(ticket.enctype).value, *others)
         place = c_uint32()
         names = (*named(ticket.client), *named(ticket.server))
         parts = (*sized(ticket.key), *sized(ticket.ticket), *sized(ticket.second_ticket))
@@ -97,10 +92,8 @@ class Cache(Store):
         """Returns the value of a key, for a principal or the whole cache, or None if not set."""
         try:
             return self._bytes("config", *named(key), *named(principal))
-        except KrbfileError as error:
-            if error.status == NOT_FOUND:
-                return None
-            raise
+        except NotFound:
+            return None
 
     def set_config(self, key: Name, value: bytes, principal: Name = b"") -> int:
         """Sets a value and returns the place of its entry."""

@@ -2,27 +2,41 @@
 from __future__ import annotations
 
 import ctypes
-import ctypes.util
-from ctypes import byref, c_char_p, c_size_t, c_uint32, c_void_p
+import os
+from ctypes import byref, c_char_p, c_size_t, c_uint16, c_uint32, c_void_p
 from operator import index
-from typing import Any, Union
+from typing import Any, NamedTuple, Union
 
-DONE, END, NOT_FOUND = 0, 2, 39
+DONE, END, BAD_VERSION, NOT_FOUND, KVNO_NOT_FOUND = 0, 2, 12, 39, 40
 
 Name = Union[bytes, str]
 
+# An encryption type, by its number or its name.
+Enctype = Union[int, str]
+
+# The archive, or the repository, that this module may be a part of. Its library is used, if there is one.
+TOP = os.path.join(os.path.dirname(__file__), "..", "..")
+BESIDE = os.path.join(TOP, "lib", "libkrbfile.so.1")
+
 # A call keeps the interpreter's lock: releasing it would take longer than most calls.
-exports = ctypes.PyDLL(ctypes.util.find_library("krbfile") or "libkrbfile.so.1")
+exports = ctypes.PyDLL(BESIDE if os.path.exists(BESIDE) else os.path.basename(BESIDE))
 
 
 class KrbfileError(Exception):
-    """The library returned `status` instead of `KRBF_DONE`."""
+    """A call of the library was refused: `status` is its number in krbfile.h."""
 
-    def __init__(self, status: int) -> None:
+    def __init__(self, status: int, words: str = "") -> None:
         phrase = Bytes()
         exports.krbf_phrase(status, byref(phrase))
-        super().__init__(phrase.read().decode() or f"status {status}")
+        super().__init__(status, words or phrase.read().decode() or f"status {status}")
         self.status = status
+
+    def __str__(self) -> str:
+        return self.args[1]
+
+
+class NotFound(KrbfileError, LookupError):
+    """There is no such entry or ticket."""
 
 
 class Bytes(ctypes.Structure):
@@ -31,6 +45,21 @@ class Bytes(ctypes.Structure):
     def read(self) -> bytes:
         """Returns a copy of the bytes."""
         return ctypes.string_at(self.at, self.len) if self.len else b""
+
+
+# Encryption types by the names that the program reads; of each the one that it prints is first.
+Etype = NamedTuple("Etype", [("number", int), ("key_length", int)])
+ETYPES = {name: Etype(which, key_length) for which, key_length, names in (
+    (16, 24, "des3-cbc-sha1 des3-hmac-sha1 des3-cbc-sha1-kd"),
+    (17, 16, "aes128-cts-hmac-sha1-96 aes128-cts aes128-sha1"),
+    (18, 32, "aes256-cts-hmac-sha1-96 aes256-cts aes256-sha1"),
+    (19, 16, "aes128-cts-hmac-sha256-128 aes128-sha2"),
+    (20, 32, "aes256-cts-hmac-sha384-192 aes256-sha2"),
+    (23, 16, "arcfour-hmac rc4-hmac arcfour-hmac-md5"),
+    (25, 16, "camellia128-cts-cmac camellia128-cts"),
+    (26, 32, "camellia256-cts-cmac camellia256-cts"),
+) for name in names.split()}
+KEY_LENGTHS = dict(ETYPES.values())
 
 
 class EntryRecord(ctypes.Structure):
@@ -56,6 +85,8 @@ class TicketRecord(ctypes.Structure):
 
 def check(status: int) -> None:
     """Raises `KrbfileError` unless the status is `KRBF_DONE`."""
+    if status in (NOT_FOUND, KVNO_NOT_FOUND):
+        raise NotFound(status)
     if status != DONE:
         raise KrbfileError(status)
 
@@ -66,6 +97,15 @@ def number(kind: Any, value: int) -> Any:
     if not 0 <= value < 1 << 8 * ctypes.sizeof(kind):
         raise OverflowError(f"{value} does not fit {8 * ctypes.sizeof(kind)} bits")
     return kind(value)
+
+
+def etype_of(given: Enctype) -> c_uint16:
+    """Returns an encryption type as a C parameter."""
+    if isinstance(given, str):
+        if given.lower() not in ETYPES:
+            raise ValueError(f"{given!r} is no encryption type")
+        given = ETYPES[given.lower()].number
+    return number(c_uint16, given)
 
 
 def sized(data: bytes) -> tuple[c_char_p, c_size_t]:

@@ -2,23 +2,46 @@
 from __future__ import annotations
 
 import ctypes
+import os
 from collections.abc import Iterator, Sequence
+from contextlib import AbstractContextManager
 from ctypes import byref, c_size_t, c_uint32, c_void_p
 from threading import RLock
 from typing import Any
 
-from krbfile.library import END, Bytes, KrbfileError, check, exports, number, text
+from krbfile.files import USUAL_LIMIT, AnyPath, file_name, load
+from krbfile.library import BAD_VERSION, END, Bytes, KrbfileError, Name, NotFound, check, exports, named, number, text
 
 
-class Store:
+def loaded(kind: Any, path: AnyPath | None, limit: int, **more: bool) -> Any:
+    """Returns the keytab or the cache of a file. If it is none, its name is in the text of the error."""
+    name = file_name(path, kind._kind)
+    image = load(name, number(c_uint32, limit).value or USUAL_LIMIT)
+    try:
+        return kind.open(image, limit=limit, **more)
+    except KrbfileError as error:
+        words = kind._others.get(image[:2]) if error.status == BAD_VERSION else None
+        raise KrbfileError(error.status, f"{os.fsdecode(name)}: {words or error}") from None
+
+
+class Store(AbstractContextManager):
     """A keytab or a cache. The lock is held from a call until the bytes that it returned are copied."""
 
+    # The kind in the names of calls, and what files of another kind begin with, in words.
     _kind: str
+    _others: dict[bytes, str]
 
     def __new__(cls) -> Any:
         self = super().__new__(cls)
         self._handle, self._lock, self._is_changed = c_void_p(), RLock(), False
         return self
+
+    @classmethod
+    def _made(cls, name: str, *words: Any) -> Any:
+        """Returns what a call makes."""
+        made = cls()
+        check(getattr(exports, f"krbf_{cls._kind}_{name}")(*words, byref(made._handle)))
+        return made
 
     def __reduce__(self) -> Any:
         raise TypeError(f"a {type(self).__name__} is neither copied nor pickled; its image can be")
@@ -45,6 +68,13 @@ class Store:
             self._do(name, *words, byref(record))
             return self._read(record)
 
+    def _found(self, record: Any, name: Name, *words: Any) -> Any:
+        """Returns a copy of the record of that name."""
+        try:
+            return self._shown(record, "find", *named(name), *words)
+        except NotFound as error:
+            raise NotFound(error.status, f"{text(named(name)[0].value or b'')}: {error}") from None
+
     def _read(self, record: Any) -> Any:
         """Returns a copy of a record that a call filled."""
         raise NotImplementedError
@@ -57,7 +87,7 @@ class Store:
             return found.read()
 
     def _name(self, name: str, *words: Any) -> bytes:
-        """Returns a name that a call writes into a buffer, which grows until the name fits."""
+        """Returns the bytes of a name that a call writes into a buffer, which grows until the name fits."""
         size, length = 256, c_size_t()
         while True:
             room = ctypes.create_string_buffer(size)
@@ -65,10 +95,6 @@ class Store:
             if length.value <= size:
                 return room.raw[:length.value]
             size = length.value
-
-    def _text(self, name: str, *words: Any) -> str:
-        """Returns the text of such a name."""
-        return text(self._name(name, *words))
 
     def _walk(self, cursor: c_uint32, record: Any) -> Iterator[Any]:
         """Yields the record of each step of a cursor, up to the end."""
@@ -85,9 +111,6 @@ class Store:
         """Clears and frees the memory. May be called twice."""
         with self._lock:
             getattr(exports, f"krbf_{self._kind}_close")(byref(self._handle))
-
-    def __enter__(self) -> Any:
-        return self
 
     def __exit__(self, *_raised: object) -> None:
         self.close()

@@ -23,7 +23,7 @@ TOOLS = ("CC=false", "LD=false", "AR=false")
 
 # Python's module, and what builds it where pip installs it.
 MODULE = tuple(f"python/krbfile/{name}" for name in os.listdir(os.path.join(TOP, "python", "krbfile"))
-               if name.endswith(".py"))
+               if name.endswith((".py", ".typed")))
 PROJECT = "python/pyproject.toml"
 
 # Each file in the archive, and the one of the repository that it is, unless `make dist` writes it.
@@ -110,13 +110,16 @@ def pkg_config(folder: str, *words: str) -> list[str]:
 
 
 def check_library(report: Report, folder: str) -> None:
-    """Builds README's program with the unpacked library, as pkg-config tells, and uses Python's module."""
-    env = {**os.environ, "LD_LIBRARY_PATH": os.path.join(folder, "lib"), "PYTHONDONTWRITEBYTECODE": "1",
-           "PYTHONPATH": os.path.join(folder, "python")}
-    script = "import sys, krbfile\nfor entry in krbfile.Keytab.open(sys.stdin.buffer.read()):\n" \
-             "    print(entry.kvno, entry.principal)"
+    """Uses Python's module, which finds the unpacked library and program, and builds README's program with the library,
+    as pkg-config tells."""
+    env = {name: value for name, value in os.environ.items() if name not in ("LD_LIBRARY_PATH", "KRBFILE")}
+    env |= {"PYTHONDONTWRITEBYTECODE": "1", "PYTHONPATH": os.path.join(folder, "python"), "PATH": "/none"}
+    script = "import krbfile\nwith krbfile.edit_keytab('k') as keytab:\n    for entry in keytab:\n" \
+             "        print(entry.kvno, entry.principal)"
     wanted = Outcome(0, b"3 host/a@R\n3 b@R\n")
-    report.compare("the archive's module", wanted, run(sys.executable, ("-c", script), folder, TWO, env=env))
+    with folder_of({"k": TWO}) as at:
+        report.compare("the archive's module", wanted, run(sys.executable, ("-c", script), at, env=env))
+    env = {**os.environ, "LD_LIBRARY_PATH": os.path.join(folder, "lib")}
     if shutil.which("cc") is None or shutil.which("pkg-config") is None:
         report.skip("a program over the archive's library", "there is no C compiler, or no pkg-config")
         return

@@ -1,42 +1,42 @@
-"""Files that Python's module reads and saves: scripts, and what they print."""
+"""Files that Python's module reads, makes and does not hold, and their names: scripts, and what they print."""
+
+import os
 
 from makers.cache_images import cache
-from makers.images import B, TWO, keytab
+from makers.images import TWO
 from makers.usual_caches import PA_TYPE, TICKET
-from words.phrases import CAUSES, LARGE
+from words.phrases import AFTERMATHS, BEGINS_AS_CACHE, BEGINS_AS_KEYTAB, CAUSES, LARGE, NOT_READ, SHORT
 
 # What is read, and what is refused, in the words of the program.
 LOADS = """
-from krbfile import Cache, Keytab, KrbfileError, edit_cache, edit_keytab
+from krbfile import Cache, Keytab, KrbfileError
 from pathlib import Path
 import os, sys
 
-Path("k").write_bytes(sys.stdin.buffer.read())
+image = sys.stdin.buffer.read()
+Path("k").write_bytes(image)
 Path("short").write_bytes(b"5")
+Path("c").write_bytes(bytes([5, 4]))
 os.mkdir("folder")
 os.symlink("circle", "circle")
 
-def edit(edited, path, **limit):
-    with edited(path, **limit) as store:
-        return store.image
-
-for path in ("k", b"k", Path("k"), "./folder/../k"):
-    print(Keytab.load(path).image == edit(edit_keytab, path) == Path("k").read_bytes())
-print(Keytab.load("k", limit=98).image == edit(edit_keytab, "k", limit=98), edit(edit_keytab, "none"))
+for path in ("k", b"k", Path("k"), "./folder/../k", "FILE:k", b"WRFILE:k"):
+    print(Keytab.load(path).image == image)
+print(Keytab.load("k", limit=98).image == image)
 for call in (
-    lambda: Keytab.load("none"), lambda: Cache.load("none"), lambda: edit(edit_cache, "none"),
-    lambda: Keytab.load(""), lambda: Keytab.load("k", limit=97), lambda: edit(edit_keytab, "k", limit=97),
-    lambda: Cache.load("k", limit=97), lambda: edit(edit_cache, "k", limit=97),
-    lambda: Keytab.load(b"folder"), lambda: edit(edit_keytab, Path("folder")), lambda: Keytab.load("k/none"),
-    lambda: Keytab.load("circle"), lambda: edit(edit_cache, "circle"), lambda: Keytab.load("short"),
-    lambda: edit(edit_keytab, "short"), lambda: Cache.load("k"), lambda: edit(edit_cache, "k"),
+    lambda: Keytab.load("none"), lambda: Cache.load("none"), lambda: Keytab.load(""), lambda: Keytab.load("FILE:"),
+    lambda: Keytab.load("k", limit=97), lambda: Cache.load("k", limit=97), lambda: Keytab.load(b"folder"),
+    lambda: Keytab.load("k/none"), lambda: Keytab.load("circle"), lambda: Keytab.load("short"),
+    lambda: Keytab.load(b"c"), lambda: Cache.load("FILE:k"), lambda: Cache.load("KCM:0"),
+    lambda: Cache.load(b"WRFILE:k"), lambda: Keytab.load("DIR::k"), lambda: Cache.load("DIR:k"),
+    lambda: Cache.load("C:k"),
 ):
     try:
         call()
     except OSError as error:
         print(type(error).__name__, repr(error.filename), error.strerror)
     except KrbfileError as error:
-        print(error.status)
+        print(error.status, error)
 with open("large", "wb") as file:
     file.truncate(2**24 + 1)
 try:
@@ -46,134 +46,144 @@ except OSError as error:
 print(sorted(os.listdir()))
 """
 
-# A block that changes nothing, or ends otherwise, saves nothing.
-BLOCKS = """
-from krbfile import KrbfileError, edit_keytab
+# The names of the environment, an empty one, and the usual ones. Only a cache's may have the type `DIR::`.
+DEFAULTS = """
+from krbfile import Cache, Keytab, files
 from pathlib import Path
 import os, sys
 
 image = sys.stdin.buffer.read()
-Path("k").write_bytes(image)
-os.mkdir("folder")
-os.chmod("k", 0o640)
-before = os.stat("k")
-
-class Stopped(BaseException):
-    pass
-
-def walk(keytab):
-    print(len(list(keytab)), sorted(os.listdir()), oct(os.stat("k.krbfile").st_mode))
-
-def is_refused(keytab):
-    try:
-        keytab.remove_at(3)
-    except KrbfileError as error:
-        print(error.status)
-
-def stop(error):
-    def block(keytab):
-        keytab.remove_at(2)
-        raise error
-    return block
-
-def close(keytab):
-    keytab.remove_at(2)
-    keytab.close()
-
-def leave(keytab):
-    keytab.remove_at(2)
-    os.chdir("folder")
-
-for block in (walk, is_refused, stop(KeyError(1)), stop(Stopped(2)), stop(SystemExit(3)), close):
-    try:
-        with edit_keytab("k") as keytab:
-            block(keytab)
-    except BaseException as error:
-        print(repr(error))
-    print(os.stat("k") == before, Path("k").read_bytes() == image, sorted(os.listdir()))
-with edit_keytab("none") as keytab:
-    pass
-with edit_keytab("k") as keytab:
-    leave(keytab)
-os.chdir("..")
-print(sorted(os.listdir()), os.listdir("folder"), Path("k").read_bytes() == image, oct(os.stat("k").st_mode))
-with edit_keytab("k") as keytab:
-    keytab.rewrite()
-try:
-    keytab.image
-except ValueError as error:
-    print(error, Path("k").read_bytes().hex())
+Path("c").write_bytes(image)
+Path("k").write_bytes(bytes([5, 2]))
+for name in ("c", "FILE:c", "DIR::c"):
+    os.environ["KRB5CCNAME"] = name
+    print(Cache.load().image == image)
+for name in ("k", "WRFILE:k"):
+    os.environ["KRB5_KTNAME"] = name
+    print(len(Keytab.load().image))
+os.environ["KRB5CCNAME"] = ""
+del os.environ["KRB5_KTNAME"]
+print(files.file_name(None, "cc"), files.file_name(None, "kt"))
 """
 
-# Threads that each add an entry to one file.
-THREADS = """
-from krbfile import Keytab, edit_keytab
-from threading import Thread
-import os
-
-def add(number):
-    with edit_keytab("k") as keytab:
-        keytab.add(f"a{number}@R", 1, 17, bytes(16))
-
-threads = [Thread(target=add, args=(number,)) for number in range(20)]
-for run in ("start", "join"):
-    for thread in threads:
-        getattr(thread, run)()
-print(sorted(entry.principal for entry in Keytab.load("k")) == sorted(f"a{number}@R" for number in range(20)))
-print(os.listdir())
-"""
-
-# A cache that is changed.
-CACHES = """
-from krbfile import Cache, edit_cache
+# A cache that is saved to a new file, and names under which none is saved.
+NEW = """
+from krbfile import Cache, Keytab, KrbfileError
 from pathlib import Path
-import sys
+import errno, os, sys
 
-Path("c").write_bytes(sys.stdin.buffer.read())
-with edit_cache("c") as cache:
-    cache.remove_at(cache.find("krbtgt/R@R").place)
-    cache.rewrite()
-with Cache.load("c") as cache:
-    print(cache.principal, [ticket.is_config for ticket in cache], Path("c").read_bytes().hex())
+with Cache.create("u@R") as cache:
+    cache.save("FILE:new")
+    print(Path("new").read_bytes().hex(), oct(os.stat("new").st_mode), os.stat("new").st_nlink)
+    cache.set_config("k", b"v")
+    os.symlink("nothing", "link")
+
+    def fail(number):
+        raise OSError(errno.ENOSPC, "")
+
+    for path in (b"new", "link", "no/new", "KCM:0", "", "k.krbfile", "other"):
+        if path == "other":
+            os.fsync = fail
+        try:
+            cache.save(path)
+        except OSError as error:
+            print(type(error).__name__, repr(error.filename), error.strerror)
+    print(Path("new").read_bytes().hex(), sorted(os.listdir()))
 """
+
+# Files that are not held, so that no block begins; and what stands for the program.
+REFUSED = """
+from krbfile import KrbfileError, edit_cache, edit_keytab
+from pathlib import Path
+import errno, krbfile, os, sys
+
+image = sys.stdin.buffer.read()
+for name, data in (("k", image), ("cut", image[:60]), ("c", bytes([5, 4])), ("loses", LOSES), ("large", image)):
+    Path(name).write_bytes(data)
+os.chmod("loses", 0o755)
+os.truncate("large", 2**24 + 1)
+os.mkdir("taken.krbfile")
+os.mkfifo("fifo")
+
+def refused(edit, path, **more):
+    try:
+        with edit(path, **more) as store:
+            store.rewrite()
+            print("in a block", end=": ")
+    except OSError as error:
+        print(type(error).__name__, errno.errorcode[error.errno], repr(error.filename), error.strerror)
+    except KrbfileError as error:
+        print(error.status, str(error).split(";")[0])
+
+for path in ("no/k", "a.krbfile", "taken", "x" * 248, "fifo", "cut", "c", "large", b"KCM:0"):
+    refused(edit_keytab, path)
+refused(edit_keytab, "none", in_place=True)
+refused(edit_keytab, "k", limit=97)
+refused(edit_cache, Path("none"))
+for krbfile.PROGRAM in ("/bin/false", "./none", "./loses"):
+    refused(edit_keytab, "k")
+krbfile.PROGRAM = None
+del os.environ["KRBFILE"]
+krbfile.editing.BESIDE, os.environ["PATH"] = "none", "/"
+refused(edit_keytab, "k")
+print(sorted(os.listdir()))
+""".replace("LOSES", repr(b"#!/bin/sh\nprintf '2\\n\\5\\2'\ncat > /dev/null\n"
+                           b"echo 'krbfile: k: %b' >&2\nexit 1\n" % AFTERMATHS["lost change"].encode()))
 
 NO_FILE = "no such file"
 TOO_MANY = "OSError 'k' file too large: it has more than 97 bytes"
+NEW_CACHE = cache().hex()
 
 SCRIPTS = (
     ("files that are read", LOADS, TWO, [
-        *4 * ["True"],
-        r"True b'\x05\x02'",
-        *3 * [f"FileNotFoundError 'none' {NO_FILE}"],
-        f"FileNotFoundError '' {NO_FILE}",
-        *4 * [TOO_MANY],
-        "IsADirectoryError b'folder' cannot read: is a directory",
-        "IsADirectoryError 'folder' cannot read: is a directory",
+        *7 * ["True"],
+        *2 * [f"FileNotFoundError 'none' {NO_FILE}"],
+        *2 * [f"FileNotFoundError '' {NO_FILE}"],
+        *2 * [TOO_MANY],
+        f"IsADirectoryError b'folder' cannot read: {CAUSES['EISDIR']}",
         f"NotADirectoryError 'k/none' cannot read: {CAUSES['ENOTDIR']}",
-        *2 * ["OSError 'circle' cannot read: too many links"],
-        *2 * ["11"],
-        *2 * ["12"],
+        f"OSError 'circle' cannot read: {CAUSES['ELOOP']}",
+        f"11 short: {SHORT[1]}",
+        f"12 c: {BEGINS_AS_CACHE[1]}",
+        f"12 k: {BEGINS_AS_KEYTAB[1].replace(' (list it with -k)', '')}",
+        *(f"FileNotFoundError {name!r} {NO_FILE}: {NOT_READ.replace('TYPE', kind)}"
+          for name, kind in (("KCM:0", "KCM:"), (b"WRFILE:k", "WRFILE:"), ("DIR::k", "DIR:"))),
+        f"FileNotFoundError 'DIR:k' {NO_FILE}: a collection; give one of its caches, DIR::FILE",
+        f"FileNotFoundError 'C:k' {NO_FILE}",
         f"file too large: {LARGE}",
-        "['circle', 'folder', 'k', 'large', 'short']",
+        "['c', 'circle', 'folder', 'k', 'large', 'short']",
     ]),
-    ("blocks that save nothing", BLOCKS, TWO, [
-        "2 ['folder', 'k', 'k.krbfile'] 0o100600",
-        "True True ['folder', 'k']",
-        "35",
-        "True True ['folder', 'k']",
-        "KeyError(1)",
-        "True True ['folder', 'k']",
-        "Stopped(2)",
-        "True True ['folder', 'k']",
-        "SystemExit(3)",
-        "True True ['folder', 'k']",
-        "ValueError('it is closed')",
-        "True True ['folder', 'k']",
-        "['folder', 'k'] [] False 0o100640",
-        f"it is closed {keytab(B).hex()}",
+    ("default names", DEFAULTS, cache(TICKET, PA_TYPE), [
+        *3 * ["True"], *2 * ["2"], f"/tmp/krb5cc_{os.getuid()} /etc/krb5.keytab",
     ]),
-    ("threads at one file", THREADS, b"", ["True", "['k']"]),
-    ("a cache", CACHES, cache(TICKET, PA_TYPE), [
-        f"u@R [True] {cache(PA_TYPE).hex()}",
+    ("new caches", NEW, b"", [
+        f"{NEW_CACHE} 0o100600 1",
+        *(f"FileExistsError {name!r} cannot write: the file exists" for name in (b"new", "link")),
+        f"FileNotFoundError 'no/new' cannot write: {CAUSES['ENOENT']}",
+        f"FileNotFoundError 'KCM:0' {NO_FILE}: {NOT_READ.replace('TYPE', 'KCM:')}",
+        f"FileNotFoundError '' cannot write: {CAUSES['ENOENT']}",
+        f"OSError 'k.krbfile' cannot write: {CAUSES['name of saves']}",
+        f"OSError 'other' cannot write: {CAUSES['ENOSPC']}",
+        f"{NEW_CACHE} ['link', 'new']",
+    ]),
+    ("files that are not held", REFUSED, TWO, [
+        f"FileNotFoundError ENOENT 'no/k' cannot write: {CAUSES['ENOENT']}",
+        f"OSError EINVAL 'a.krbfile' cannot write: {CAUSES['name of saves']}",
+        f"FileExistsError EEXIST 'taken' cannot write: {CAUSES['in the way'].replace('NAME', 'taken')}",
+        f"OSError ENAMETOOLONG '{'x' * 248}' cannot write: {CAUSES['ENAMETOOLONG']}",
+        f"OSError EINVAL 'fifo' cannot read: {CAUSES['no plain file']}",
+        "31 cut: the file is damaged",
+        f"12 c: {BEGINS_AS_CACHE[1]}",
+        f"OSError EFBIG 'large' file too large: {LARGE}",
+        "FileNotFoundError ENOENT b'KCM:0' no such file: only files are read, and this is KCM:",
+        "FileNotFoundError ENOENT 'none' no such file",
+        "OSError EFBIG 'k' file too large: it has more than 97 bytes",
+        "FileNotFoundError ENOENT 'none' no such file",
+        "OSError EIO 'k' krbfile ended with status 1",
+        "FileNotFoundError ENOENT './none' No such file or directory",
+        f"in a block: LostChange ESTALE 'k' {AFTERMATHS['lost change']}",
+        "FileNotFoundError ENOENT 'krbfile' "
+        "the program is not on PATH: install it, or set KRBFILE or krbfile.PROGRAM to its path",
+        "['c', 'cut', 'fifo', 'k', 'large', 'loses', 'taken.krbfile']",
     ]),
 )

@@ -4,7 +4,7 @@ import os
 import sys
 from collections.abc import Iterable
 
-from clients import python_limits
+from clients import python_files, python_limits
 from makers.cache_images import Credential, Name, cache, config
 from makers.images import B, TWO, Entry, keytab
 from makers.usual_caches import PA_TYPE, TICKET
@@ -17,8 +17,8 @@ from words.phrases import LIBRARY_CODES, SHORT, code
 Script = tuple[str, str, bytes, list[str]]
 
 KEYTABS = """
-from krbfile import Keytab, KrbfileError
-import sys
+from krbfile import Keytab, KrbfileError, NotFound
+import pickle, sys
 
 image = sys.stdin.buffer.read()
 with Keytab.open(image) as keytab:
@@ -30,11 +30,13 @@ with Keytab.open(image) as keytab:
     keytab.remove_at(2)
     print(keytab.add(b"c@R", 7, 17, bytes(16), 5), [entry.principal for entry in walk])
     print(keytab.rewrite([2, 53]), keytab.fault)
-    for call in (lambda: keytab.find("c"), lambda: keytab.find("d@R"), lambda: keytab.remove_at(3)):
+    for call in (lambda: keytab.find("c"), lambda: keytab.find(b"d@R"), lambda: keytab.find("c@R", 8),
+                 lambda: keytab.remove_at(3)):
         try:
             call()
         except KrbfileError as error:
-            print(error.status, error)
+            print(error.status, error, isinstance(error, NotFound), isinstance(error, LookupError))
+            print(repr(pickle.loads(pickle.dumps(error))) == repr(error))
     sys.stdout.flush()
     after = keytab.image
 keytab.close()
@@ -68,6 +70,10 @@ with Cache.open(sys.stdin.buffer.read()) as cache:
     print(first.key == bytes(range(16)), first.ticket, first.second_ticket, first.is_skey)
     print(cache.config("pa_type", b"krbtgt/R@R"), cache.config(b"pa_type"))
     print(cache.find("krbtgt/R@R") == first)
+    try:
+        cache.find("none@R")
+    except LookupError as error:
+        print(error)
     other = replace(first, second_ticket=b"2", is_skey=True)
     place = cache.store(replace(other, server=b"host/a@R"))
     print(place, replace(cache.find(b"host/a@R"), place=22, server="krbtgt/R@R") == other)
@@ -91,16 +97,14 @@ import copy, pickle, sys
 keytab, cache = Keytab.open(sys.stdin.buffer.read()), Cache.create("u@R")
 ticket = Ticket(0, "u@R", "a@R", 17, b"", 0, 0, 0, 0, 0, False, False, b"", b"")
 
-def add(kvno=1, enctype=17, key=b"", timestamp=0):
+def add(kvno=1, enctype=17, key=bytes(16), timestamp=0):
     keytab.add("a@R", kvno, enctype, key, timestamp)
 
-def each(wrong, wide, narrow):
+def each(wrong, wide):
     yield lambda: keytab.remove_at(wrong(wide))
     yield lambda: keytab.rewrite([2, wrong(wide)])
     yield lambda: keytab.find("a@R", wrong(wide))
-    yield lambda: keytab.find("a@R", 0, wrong(narrow))
     yield lambda: add(kvno=wrong(wide))
-    yield lambda: add(enctype=wrong(narrow))
     yield lambda: add(timestamp=wrong(wide))
     yield lambda: Keytab.create(wrong(wide))
     yield lambda: Keytab.open(b"", limit=wrong(wide))
@@ -110,7 +114,11 @@ def each(wrong, wide, narrow):
     yield lambda: cache.remove_at(wrong(wide))
     for name in ("authtime", "starttime", "endtime", "renew_till", "flags", "is_skey"):
         yield lambda: cache.store(replace(ticket, **{name: wrong(wide)}))
-    yield lambda: cache.store(replace(ticket, enctype=wrong(narrow)))
+
+def etypes(wrong):
+    yield lambda: keytab.find("a@R", 0, wrong)
+    yield lambda: add(enctype=wrong)
+    yield lambda: cache.store(replace(ticket, enctype=wrong))
 
 def no_bytes(wrong):
     yield lambda: Keytab.open(wrong)
@@ -122,7 +130,7 @@ def no_bytes(wrong):
 
 def no_name(wrong):
     yield lambda: keytab.find(wrong)
-    yield lambda: keytab.add(wrong, 1, 17, b"")
+    yield lambda: keytab.add(wrong, 1, 17, bytes(16))
     yield lambda: Cache.create(wrong)
     yield lambda: cache.find(wrong)
     yield lambda: cache.store(replace(ticket, client=wrong))
@@ -147,9 +155,9 @@ def answers(calls):
 
 before = keytab.image, cache.image
 for calls in (
-    each(lambda bound: bound, 2**32, 2**16), each(lambda bound: bound + 2, 2**32, 2**16),
-    each(lambda bound: -1, 2**32, 2**16), each(lambda bound: "2", 2**32, 2**16),
-    each(lambda bound: 2.0, 2**32, 2**16), each(lambda bound: None, 2**32, 2**16),
+    each(lambda bound: bound, 2**32), each(lambda bound: bound + 2, 2**32), each(lambda bound: -1, 2**32),
+    each(lambda bound: "2", 2**32), each(lambda bound: 2.0, 2**32),
+    etypes(2**16), etypes(-1), etypes(2.0), etypes(None), etypes("none"), etypes("18"),
     no_bytes(16), no_bytes("00ff"), no_bytes([1, 2]), no_bytes(None),
     no_name(3), no_name([97]), no_name(None), copies(None),
 ):
@@ -184,7 +192,7 @@ def read():
 
 def change():
     for _ in range(1000):
-        changed.remove_at(changed.add("c@R", 1, 17, bytes(4096)))
+        changed.remove_at(changed.add("c@R", 1, 99, bytes(4096)))
         changed.rewrite()
 
 threads = [Thread(target=run) for run in (walk, walk, read, read, change)]
@@ -203,6 +211,27 @@ with Keytab.open(sys.stdin.buffer.read()) as keytab:
     for entry in keytab:
         parts = [os.fsencode(each) for each in entry.components]
         print(len(parts), b"|".join(parts[:8]).hex(), entry.realm)
+"""
+
+# Encryption types by name, keys that are not as long as those of their types, and the time of an entry.
+ETYPES = """
+from krbfile import ETYPES, Cache, Keytab, Ticket
+import time
+
+with Keytab.create() as keytab, Cache.create("u@R") as cache:
+    before = int(time.time())
+    for name, etype in ETYPES.items():
+        keytab.add("a@R", 1, name, bytes(etype.key_length))
+        print(name, keytab.find("a@R", enctype=name.upper()).enctype, etype.key_length)
+        for length in (etype.key_length - 1, etype.key_length + 1):
+            try:
+                print(keytab.add("b@R", 1, etype.number, bytes(length)))
+            except ValueError as error:
+                print(error)
+    print(all(before <= entry.timestamp <= time.time() for entry in keytab))
+    cache.store(Ticket(0, "u@R", "a@R", "rc4-hmac", b"", 0, 0, 0, 0, 0, False, False, b"", b""))
+    keytab.add("c@R", 1, 99, b"", 0)
+    print(cache.find("a@R").enctype, keytab.find("c@R").timestamp)
 """
 
 # Names that are not UTF-8, as text and as bytes, in each call; and what is shown of what holds keys.
@@ -239,15 +268,28 @@ CACHE_AFTER = cache(Credential(server=Name((b"host", b"a")), is_skey=1, second_t
 NAMES = ((bytes(range(256)),), (b"a/b@c\\", b"", b"\0\b\n\t0bnt"), (b"",), (), (b"", b""),
          (b"",) * 65_535)
 
+# The numbers of the encryption types, and the lengths of their keys, by the names that the program reads.
+BY_NAME = {
+    (16, 24): ("des3-cbc-sha1", "des3-hmac-sha1", "des3-cbc-sha1-kd"),
+    (17, 16): ("aes128-cts-hmac-sha1-96", "aes128-cts", "aes128-sha1"),
+    (18, 32): ("aes256-cts-hmac-sha1-96", "aes256-cts", "aes256-sha1"),
+    (19, 16): ("aes128-cts-hmac-sha256-128", "aes128-sha2"),
+    (20, 32): ("aes256-cts-hmac-sha384-192", "aes256-sha2"),
+    (23, 16): ("arcfour-hmac", "rc4-hmac", "arcfour-hmac-md5"),
+    (25, 16): ("camellia128-cts-cmac", "camellia128-cts"),
+    (26, 32): ("camellia256-cts-cmac", "camellia256-cts"),
+}
+
 SCRIPTS: tuple[Script, ...] = (
     ("keytabs", KEYTABS, TWO, [
         "[(2, 'host/a@R', 3, 17), (53, 'b@R', 3, 17)]",
         "R ('host', 'a') 1 1700000000 True",
         "2 ['b@R']",
         "[2, 47] None",
-        "21 no realm",
-        f"39 {code(9)}",
-        f"35 {LIBRARY_CODES[5]}",
+        "21 no realm False False", "True",
+        f"39 d@R: {code(9)} True True", "True",
+        f"40 c@R: {code(10)} True True", "True",
+        f"35 {LIBRARY_CODES[5]} False False", "True",
         "it is closed",
         f"11 {SHORT[1]}",
         "2",
@@ -261,6 +303,7 @@ SCRIPTS: tuple[Script, ...] = (
         "True b'tkt' b'' False",
         "b'2' None",
         "True",
+        f"none@R: {code(9)}",
         "266 True",
         "[22, 22] None",
         f"['host/a@R'] {CACHE_AFTER.hex()}",
@@ -272,8 +315,15 @@ SCRIPTS: tuple[Script, ...] = (
         r"'a\udcff/\xe9@R\udcfe' 2", r"'a\udcff/\xe9@R\udcfe' True True", "[]",
     ]),
     ("what it refuses", REFUSED, TWO, [
-        *3 * ["20 OverflowError"], *3 * ["20 TypeError"], *4 * ["7 TypeError"], *3 * ["10 TypeError"], "6 TypeError",
+        *3 * ["17 OverflowError"], *2 * ["17 TypeError"], *2 * ["3 OverflowError"], *2 * ["3 TypeError"],
+        *2 * ["3 ValueError"], *4 * ["7 TypeError"], *3 * ["10 TypeError"], "6 TypeError",
         "True", "True True b'k' True",
+    ]),
+    ("encryption types", ETYPES, b"", [
+        *(line for (number, length), names in BY_NAME.items() for name in names for line in (
+            f"{name} {number} {length}",
+            *(f"a key of type {number} has {length} bytes, not {wrong}" for wrong in (length - 1, length + 1)))),
+        "True", "23 0",
     ]),
     ("threads", THREADS, TWO, ["[] True"]),
     ("components", COMPONENTS, keytab(*(Entry(name, b"R/@") for name in NAMES)),
@@ -281,17 +331,18 @@ SCRIPTS: tuple[Script, ...] = (
 )
 
 
-def check_scripts(report: Report, scripts: Iterable[Script]) -> None:
+def check_scripts(report: Report, scripts: Iterable[Script], program: str) -> None:
     """Runs each script, each in a folder of its own."""
     for name, script, image, wanted in scripts:
         with folder_of({}) as folder:
-            got = run(sys.executable, ("-c", script), folder, image, env=surroundings("/bin"))
+            env = {**surroundings("/bin"), "KRBFILE": program}
+            got = run(sys.executable, ("-c", script), folder, image, env=env)
         report.compare(f"Python's module: {name}", Outcome(0, text(wanted)), got)
 
 
-def check(report: Report, _program: str) -> None:
+def check(report: Report, program: str) -> None:
     """Runs this topic if the library was built."""
     if os.path.exists(LIBRARY):
-        check_scripts(report, (*SCRIPTS, *python_limits.SCRIPTS))
+        check_scripts(report, (*SCRIPTS, *python_limits.SCRIPTS, *python_files.SCRIPTS), program)
     else:
         report.skip("Python's module", "there is no C library: make lib builds it")

@@ -1,285 +1,250 @@
-"""Saves by Python's module, as those of the program are tested: python_program.py has the words of krbfile.
+"""Changes of files by Python's module, which the program saves: what is saved, what each end does if the other dies,
+and a storm of Python, the program and MIT's ktutil over one file."""
 
-Storms of both over one file, beside MIT's ktutil too, lose nothing of ours. A save that is killed at any of its calls
-leaves the old file or the new one, whole.
-"""
-
-import fcntl
 import os
-import shlex
 import signal
 import subprocess
 import sys
 import time
 from collections.abc import Callable, Iterator
 from concurrent.futures import ThreadPoolExecutor
-from contextlib import contextmanager
+from contextlib import contextmanager, suppress
+from random import Random
 
-from clients import python_failures, python_files
 from clients.python_module import check_scripts
-from models.script_model import edited
+from makers.cache_images import cache
+from makers.images import BIG, HOST, TWO, B, Entry, keytab, old
+from makers.usual_caches import PA_TYPE, TICKET
 from pages.readme import LIBRARY, surroundings
 from peers.beside_mit import are_there
-from runs.harness import SECONDS, TOP, Outcome, Report, differences, folder_of, run
-from system import disk_saves, new_names, waits
-from system.changes_at_once import storm
-from system.pipe_files import fed
-from system.saves_among_others import CHANGED, REPLACED, known, named
-from system.saving import (
-    NEW, OLD, SAVED, SCRIPT, UNSAVED, Place, as_another, as_user, edit, owned, tree, tree_faults, write,
+from runs.harness import SECONDS, Report, folder_of
+from runs.storms import Run, rage
+from system.saving import NEW, OLD, edit, tree_faults
+from system.storm_kinds import change, names_of_keytab
+
+# What is saved: also in place, of the other byte order, under strange names and default ones, and by threads.
+SAVES = """
+from krbfile import Keytab, edit_cache, edit_keytab
+from pathlib import Path
+from threading import Thread
+import os, sys
+
+image, cache, big = map(bytes.fromhex, sys.stdin.read().split())
+for name, data in (("k", image), ("c", cache), ("big", big)):
+    Path(name).write_bytes(data)
+os.chmod("k", 0o640)
+os.link("k", "other")
+before = os.stat("other")
+with edit_keytab("k") as keytab:
+    keytab.remove_at(2)
+    print(Keytab.load("k").image == image)
+print(Path("k").read_bytes().hex(), oct(os.stat("k").st_mode), os.stat("k").st_nlink)
+with edit_keytab(b"other", in_place=True) as keytab:
+    keytab.remove_at(2)
+print(Path("other").read_bytes() == Path("k").read_bytes(), os.path.samestat(before, os.stat("other")))
+with edit_keytab("big", v1_big=True) as keytab:
+    print(keytab.rewrite([2]), Path("big").read_bytes() == big)
+
+def add(path, number=0):
+    with edit_keytab(path) as keytab:
+        keytab.add(f"a{number}@R", 1, 17, bytes(16))
+
+os.environ.update(KRB5_KTNAME="WRFILE:-default", KRB5CCNAME="FILE:c")
+add("FILE:FILE:odd\\nname")
+add(None)
+with edit_cache() as cache:
+    cache.remove_at(cache.find("krbtgt/R@R").place)
+    cache.rewrite()
+print(Path("c").read_bytes().hex(), sorted(os.listdir()))
+threads = [Thread(target=add, args=("many", number)) for number in range(5)]
+[thread.start() for thread in threads]
+[thread.join() for thread in threads]
+print(sorted(entry.principal for entry in Keytab.load("many")))
+"""
+
+# Blocks that save nothing: they change nothing, end by an exception, or are never left.
+BLOCKS = """
+from krbfile import edit_keytab
+from pathlib import Path
+import os, sys
+
+Path("k").write_bytes(sys.stdin.buffer.read())
+before = os.stat("k")
+
+def stop(error):
+    def block(keytab):
+        keytab.remove_at(2)
+        raise error
+    return block
+
+def never(keytab):
+    edit_keytab("other").__enter__().add("a@R", 1, 17, bytes(16))
+
+for block in (list, stop(KeyError(1)), stop(KeyboardInterrupt()), stop(SystemExit(3)), lambda it: it.close(), never):
+    try:
+        with edit_keytab("k") as keytab:
+            block(keytab)
+        keytab.image
+    except BaseException as error:
+        print(repr(error), os.stat("k") == before, sorted(os.listdir()))
+"""
+
+# A block that adds an entry and waits for a line. Before, it may fork a child that leaves the block too, one that lives
+# on, or one of which Python does not know, so that it keeps copies of the sockets.
+BLOCK = """
+from ctypes import PyDLL
+from krbfile import edit_keytab
+import os, sys, time
+
+def live():
+    os.closerange(0, 3)
+    while os.path.exists("k"): time.sleep(0.01)
+
+worker = 0
+try:
+    with edit_keytab("k") as keytab:
+        keytab.add("host/a@R", 3, 17, bytes(range(16)), 1700000000)
+        %s
+        print(worker, flush=True)
+        sys.stdin.readline()
+    print("saved")
+except BaseException as error:
+    print(type(error).__name__, error)
+"""
+CHILD = "if os.fork() == 0: sys.stdin = sys.stdout = open(os.devnull, 'r+')"
+WORKER = "worker = os.fork() or live()"
+UNKNOWN = "worker = PyDLL(None).fork() or live()"
+
+# A run of a storm, which adds the name that it reads; and how many there are of each program.
+ADDS = """
+from krbfile import edit_keytab
+import sys
+name = sys.stdin.readline().strip()
+try:
+    with edit_keytab("k") as keytab:
+        keytab.add(name + "@R", 1, 17, bytes(16))
+except OSError as error:
+    sys.exit(print(error) or 3)
+"""
+EACH = 15
+
+# How many seconds a run has that is to wait, and one that is to end.
+MOMENT, LONG = 0.5, 30.0
+
+CLOSED = "ValueError('it is closed')"
+SCRIPTS = (
+    ("saves", SAVES, " ".join(each.hex() for each in (TWO, cache(TICKET, PA_TYPE), old(HOST, order=BIG))).encode(), [
+        "True", f"{keytab(47, B).hex()} 0o100640 1", "True True", "[2] True",
+        f"{cache(PA_TYPE).hex()} ['-default', 'FILE:odd\\nname', 'big', 'c', 'k', 'other']",
+        "['a0@R', 'a1@R', 'a2@R', 'a3@R', 'a4@R']",
+    ]),
+    ("blocks that save nothing", BLOCKS, TWO, [f"{error} True ['k']" for error in (
+        CLOSED, "KeyError(1)", "KeyboardInterrupt()", "SystemExit(3)", CLOSED, CLOSED)]),
 )
-from system.storm_kinds import BOTH, KTEDIT, Kind
-from words.phrases import CAUSES
-
-PROGRAM = os.path.join(TOP, "tests", "clients", "python_program.py")
-SCRIPTS = (*python_failures.SCRIPTS, *python_files.SCRIPTS)
-
-# The pythons that may run it: one of them also as another user.
-PYTHONS = (sys.executable, "/usr/bin/python3")
-
-# The calls of a save over a file beside which a killed run has left its new file, in order; and those that release a
-# file that is not saved.
-STALE = ["make", "open_stale_file", "lock_stale_file", "is_abandoned", "remove_stale_file"]
-HOLD = ["make", "lock", "is_at_path", "double", "find_mount", "is_quiet", "lock_old"]
-LOAD = ["load"]
-SAVE = ["write", "own", "permit", "sync", "is_at_path", "compare", "is_quiet", "rename", "sync_folder"]
-LEAVE = ["is_at_path", "remove"]
-
-# The mode of a file that is saved. Until it is set only the owner may read the new one.
-MODE = 0o640
-
-# How many parts are checked at once, and how many seconds a run has to begin to wait.
-JOBS, MOMENT = 6, 0.3
-
-# The storms: both programs change one file, and half of the runs are killed, or are MIT's.
-KINDS = (Kind(KTEDIT), Kind(KTEDIT, over_none=True, kills=True), Kind(BOTH, kills=True), Kind(KTEDIT, with_mit=True))
-
-
-def python_for(options: dict[str, object], env: dict[str, str]) -> str | None:
-    """Returns a python that a run with these options may start and that can read what it needs, or None."""
-    for path in PYTHONS:
-        try:
-            if run(path, ("-S", "-c", f"import krbfile; open({PROGRAM!r})"), "/", env=env, **options).status == 0:
-                return path
-        except OSError:
-            pass
-    return None
-
-
-def script(folder: str, name: str, text: str, mode: int = 0o755) -> str:
-    """Makes a shell script, and returns its path."""
-    path = os.path.join(folder, name)
-    write(path, f"#!/bin/sh\n{text}\n".encode(), mode)
-    return path
 
 
 @contextmanager
-def programs(program: str) -> Iterator[tuple[str, str]]:
-    """Yields Python's module as a program, and one that is now this, now krbfile, by the number of the process."""
-    env = {name: surroundings("/bin")[name] for name in ("PYTHONPATH", "LD_LIBRARY_PATH")}
-    other = python_for(as_user(), env) if os.geteuid() == 0 else None
-    with folder_of({}) as folder:
-        os.chmod(folder, 0o755)
-        env |= {"PYTHONPYCACHEPREFIX": os.path.join(folder, "cache"), "PYTHONDONTWRITEBYTECODE": ""}
-        words = [*(f"{name}={shlex.quote(value)}" for name, value in env.items()), "exec",
-                 shlex.quote(other or sys.executable), "-S", shlex.quote(PROGRAM)]
-        line = " ".join([*words, '"$@"'])
-        # If no other user may start it, the tests of other users are left out.
-        python = script(folder, "python", line, 0o755 if other else 0o700)
-        yield python, script(folder, "both", f'[ $(($$ % 2)) = 0 ] && exec {shlex.quote(program)} "$@"\n{line}')
+def in_block(program: str, folder: str, does: str) -> Iterator[tuple[subprocess.Popen[bytes], int]]:
+    """Yields a Python that is in the block, in a process group of its own, and the number of its worker."""
+    env = surroundings("/bin") | {"KRBFILE": program}
+    with subprocess.Popen([sys.executable, "-c", BLOCK % does], cwd=folder, env=env, bufsize=0, stdin=subprocess.PIPE,
+                          stdout=subprocess.PIPE, stderr=subprocess.STDOUT, start_new_session=True) as started:
+        worker = int(started.stdout.readline())
+        try:
+            yield started, worker
+        finally:
+            started.kill()
 
 
-def steps_of(python: str, files: dict[str, bytes], words: bytes) -> list[str]:
-    """Returns the calls of a run of a script."""
-    with folder_of(files) as folder, folder_of({"steps": b""}) as beside:
-        path = os.path.join(beside, "steps")
-        edit(python, folder, script=words, env={**os.environ, "KRBFILE_STEPS": path})
-        with open(path, encoding="ascii") as file:
-            return file.read().split()
+def kill_program(started: subprocess.Popen[bytes]) -> None:
+    """Kills the program that a Python has started."""
+    with open(f"/proc/{started.pid}/task/{started.pid}/children", encoding="ascii") as file:
+        os.kill(int(file.read()), signal.SIGKILL)
 
 
-def signalled(call: str, name: str) -> dict[str, str]:
-    """Returns the environment of a run that gets a signal before that call."""
-    return {**os.environ, "KRBFILE_AT": call, "KRBFILE_SIGNAL": name}
+def is_held(folder: str, seconds: float) -> bool:
+    """Whether the file is still held after that many seconds."""
+    until = time.monotonic() + seconds
+    while os.path.exists(os.path.join(folder, "k.krbfile")) and time.monotonic() < until:
+        time.sleep(0.01)
+    return os.path.exists(os.path.join(folder, "k.krbfile"))
 
 
-def faults_of_kill(python: str, program: str, number: int, wanted: bytes, words: bytes) -> list[str]:
-    """Returns the faults of a run that is killed before a call, and of the next run of the program."""
-    with folder_of({}) as folder:
-        path = os.path.join(folder, "k")
-        write(path, OLD, MODE)
-        write(f"{path}.krbfile", b"left")
-        got = edit(python, folder, script=words, env=signalled(str(number), "SIGKILL"))
-        faults = differences(Outcome(-signal.SIGKILL), got)
-        found = {name: (data, owned(os.path.join(folder, name)).mode) for name, data in tree(folder).items()}
-        faults += [] if found.pop("k") == (wanted, MODE) else [f"the file is {tree(folder)['k']!r}"]
-        for name, (_, mode) in found.items():
-            faults += [] if name == "k.krbfile" and mode in (0o600, MODE) else [f"{name} of mode {mode:o} is left"]
-        write(path, OLD)
-        return faults + differences(SAVED, edit(program, folder)) + tree_faults({"k": NEW}, folder)
+# What is done to a Python in the block before it gets the line, what it forked, what it prints, and the file then.
+ENDS: tuple[tuple[str, Callable[[subprocess.Popen[bytes]], object], str, bytes, bytes], ...] = (
+    ("the program is killed", kill_program, "", b"OSError [Errno 5] krbfile ended with status -9: 'k'\n", OLD),
+    ("Ctrl-C", lambda it: os.killpg(it.pid, signal.SIGINT), "", b"KeyboardInterrupt \n", OLD),
+    ("Python is killed", lambda it: it.kill(), "", b"", OLD),
+    ("a child leaves it", lambda _: None, CHILD, b"saved\n", NEW),
+    ("a worker lives on", lambda _: None, WORKER, b"saved\n", NEW),
+    ("a worker lives on, Python is killed", lambda it: it.kill(), WORKER, b"", OLD),
+    ("an unknown worker lives on", lambda _: None, UNKNOWN, b"saved\n", NEW),
+)
 
 
-def check_kills(report: Report, python: str, program: str) -> None:
-    """Checks the calls of a save, and a kill before each. One that saves nothing ends otherwise."""
-    for what, words, end in (("a save", SCRIPT, SAVE), ("a run that saves nothing", b"", LEAVE)):
-        steps = [*STALE, *HOLD, *LOAD, *end]
-        found = steps_of(python, {"k": OLD, "k.krbfile": b"left"}, words)
-        report.check(f"the calls of {what}", [] if found == steps else [f"{found}"])
-        for number, step in enumerate(found, 1):
-            wanted = NEW if "rename" in found[: number - 1] else OLD
-            faults = faults_of_kill(python, program, number, wanted, words)
-            report.check(f"{what} that is killed at call {number}, {step}", faults)
+def check_end(report: Report, program: str, end: int) -> None:
+    """Checks an end of a block: the file is as it was or saved, and the program's next run leaves nothing else."""
+    what, deed, does, printed, image = ENDS[end]
+    with folder_of({"k": OLD}) as folder:
+        with in_block(program, folder, does) as (started, _):
+            deed(started)
+            with suppress(BrokenPipeError):
+                started.stdin.write(b"\n")
+            started.wait(SECONDS)
+            got = started.stdout.read()
+            faults = [] if got.endswith(printed) else [f"{got}, not {printed}"]
+            left = {"k.krbfile": b""} if deed is kill_program and is_held(folder, 0) else {}
+            faults += ["it is held"] * (not left and is_held(folder, LONG)) + tree_faults({"k": image, **left}, folder)
+        faults += ["the next run fails"] * edit(program, folder).status
+        faults += tree_faults({"k": keytab(*[HOST] * (1 + (image == NEW)))}, folder)
+    report.check(f"in a block: {what}", faults)
 
 
-def halted(python: str, folder: str, step: str, change: Place) -> Outcome:
-    """Makes a run that adds an entry, and is halted before a call while a change is made in its folder."""
-    with subprocess.Popen([python, "ktedit", "k"], cwd=folder, env=signalled(step, "SIGSTOP"), stdin=subprocess.PIPE,
-                          stdout=subprocess.PIPE, stderr=subprocess.PIPE) as started:
-        started.stdin.write(SCRIPT)
-        started.stdin.close()
-        started.stdin = None
-        os.waitid(os.P_PID, started.pid, os.WSTOPPED | os.WEXITED | os.WNOWAIT)
-        change(folder)
-        started.send_signal(signal.SIGCONT)
-        out, err = started.communicate(timeout=SECONDS)
-        return Outcome(started.returncode, out, err)
+def check_holds(report: Report, program: str) -> None:
+    """Checks that the program waits while a block holds the file, and then changes what that saved; and that the hold
+    of a Python that was killed lasts until a worker has ended that keeps copies."""
+    with folder_of({"k": OLD}) as folder, in_block(program, folder, "") as (started, _), ThreadPoolExecutor(1) as pool:
+        other = pool.submit(edit, program, folder)
+        time.sleep(MOMENT)
+        faults = ["the program did not wait"] * other.done()
+        started.stdin.write(b"\n")
+        faults += [] if other.result().status == 0 else [f"{other.result()}"]
+        report.check("a file that a block holds", faults + tree_faults({"k": keytab(HOST, HOST)}, folder))
+    with folder_of({"k": OLD}) as folder, in_block(program, folder, UNKNOWN) as (started, worker):
+        started.kill()
+        faults = [] if is_held(folder, MOMENT) else ["the hold has ended"]
+        os.kill(worker, signal.SIGKILL)
+        faults += ["it is held"] * is_held(folder, LONG)
+        report.check("the hold of an unknown worker", faults + tree_faults({"k": OLD}, folder))
 
 
-def check_change(report: Report, python: str, step: str, of: tuple[str, bool, Place]) -> None:
-    """Makes a change before a call of a run: the file stays as it is, and so does what took its name."""
-    what, is_there, change = of
-    with folder_of({"old": OLD, "other": b"other", **({"k": OLD} if is_there else {})}) as folder:
-        os.chmod(os.path.join(folder, "old"), 0o600)
-        if is_there:
-            os.chmod(os.path.join(folder, "k"), 0o600)
-        wanted: dict[str, object] = {}
-
-        def change_and_look(folder: str) -> None:
-            change(folder)
-            wanted.update(known(folder))
-
-        faults = differences(UNSAVED, halted(python, folder, step, change_and_look))
-        if known(folder) != wanted or NEW in tree(folder).values():
-            faults.append(f"{[*tree(folder)]} are there, or are not as they were")
-    report.check(f"{what}, before the {step} of a save", faults)
-
-
-def check_changes(report: Report, python: str) -> None:
-    """Checks that a file that changed since it was loaded is not saved."""
-    changed = CHANGED if os.geteuid() == 0 else CHANGED[:-2]
-    for step in ("write", "sync"):
-        for of in (*REPLACED, *changed):
-            check_change(report, python, step, of)
-
-
-def check_led_elsewhere(report: Report, python: str) -> None:
-    """Checks a link that changes: the file that was loaded is saved, and no other gets its keys."""
-    for step in ("load", "write", "sync"):
-        with folder_of({"file": OLD, "other": OLD}) as folder:
-            os.symlink("file", os.path.join(folder, "k"))
-            change = named("k", lambda path: os.symlink("other", path))
-            faults = differences(SAVED, halted(python, folder, step, change))
-            faults += tree_faults({"file": NEW, "other": OLD, "k": "other"}, folder)
-        report.check(f"another link, before the {step} of a save", faults)
-
-
-def check_saves(report: Report, python: str) -> None:
-    """Checks what a save leaves on the disk."""
-    for check in (disk_saves.check_new_files, disk_saves.check_own_files, disk_saves.check_links,
-                  disk_saves.check_hard_links, disk_saves.check_broken_links, disk_saves.check_removed):
-        check(report, python)
-
-
-def check_locked_folder(report: Report, python: str) -> None:
-    """Checks a folder in which no file may be made: a block that changes nothing needs no right to make one."""
-    options = as_another(python)
-    if options is None:
-        report.skip("a locked folder", "none but root may start Python, or read the module and the library")
-        return
-    for what, words, wanted in (("changes", SCRIPT, UNSAVED), ("changes nothing", b"", Outcome(0))):
-        with folder_of({"k": OLD}) as folder:
-            os.chmod(os.path.join(folder, "k"), 0o666)
-            os.chmod(folder, 0o555)
-            faults = differences(wanted, edit(python, folder, script=words, **options))
-            report.check(f"a locked folder: a block that {what}", faults + tree_faults({"k": OLD}, folder))
-            os.chmod(folder, 0o755)
-
-
-def check_names(report: Report, python: str) -> None:
-    """Checks what exists under the name of a new file, and names under which no file is saved."""
-    for check in (new_names.check_strange, new_names.check_stale_files, new_names.check_places,
-                  new_names.check_no_names):
-        check(report, python)
-
-
-def check_pipes(report: Report, python: str) -> None:
-    """Checks that a pipe is not opened to be changed, and that the cause is given in words."""
-    wanted = Outcome(3, err=f"krbfile: k: cannot read\nkrbfile: {CAUSES['no plain file']}\n".encode())
-    for command in ("ktedit", "ccedit"):
-        with folder_of({}) as folder:
-            with fed(os.path.join(folder, "k")) as opened:
-                faults = differences(wanted, run(python, ("--explain", command, "k"), folder, SCRIPT))
-                faults += ["it was opened"] if opened else []
-            report.check(f"a pipe is not changed: {command}", faults + tree_faults({"k": "p"}, folder))
-
-
-def check_waits(report: Report, python: str) -> None:
-    """Checks that a run waits for whoever has locked the file or made its new file."""
-    waits.check_locks(report, python)
-    waits.check_waiting_locks(report, python)
-    waits.check_other_disk(report, python)
-    with folder_of({"k": OLD}) as folder, open(os.path.join(folder, "k"), "rb") as file:
-        fcntl.flock(file, fcntl.LOCK_EX)
-        faults = waits.faults_of_waiting(python, folder, file.close)
-    report.check("a lock of the whole file is waited for", faults)
-
-
-def check_held(report: Report, python: str, program: str) -> None:
-    """Checks that the program waits while Python holds the file, and then changes what that saved."""
-    wanted, image = edited(NEW, SCRIPT)
-    with folder_of({"k": OLD}) as folder, ThreadPoolExecutor(1) as pool:
-        others = []
-
-        def change(folder: str) -> None:
-            others.append(pool.submit(edit, program, folder))
-            time.sleep(MOMENT)
-            others.append(others[0].done())
-
-        faults = differences(SAVED, halted(python, folder, "write", change))
-        faults += ["the program did not wait"] if others[1] else []
-        faults += differences(wanted, others[0].result()) + tree_faults({"k": image}, folder)
-    report.check("a file that Python holds", faults)
-
-
-def check_storms(report: Report, both: str) -> None:
-    """Checks storms of both programs."""
-    has_mit = are_there(report, "changes of Python beside MIT's ktutil")
-    for kind in KINDS:
-        if has_mit or not kind.with_mit:
-            report.check(f"by Python and the program: {kind}", storm(both, kind, 0).found[:3])
-
-
-# The parts that run Python's module alone.
-PARTS = (check_waits, check_changes, check_led_elsewhere, check_saves, disk_saves.check_others_files, check_names,
-         check_pipes, check_locked_folder)
+def check_storm(report: Report, program: str) -> None:
+    """Checks a storm: what Python and the program report as saved is there, some of each, and nothing is left."""
+    sources = {f"m{number}": keytab(Entry((b"m%d" % number,))) for number in range(EACH)}
+    with folder_of({"k": OLD}) as folder, folder_of(sources) as beside:
+        runs = [run for n in range(EACH) for run in (
+            Run(f"y{n}", (sys.executable, "-c", ADDS), f"y{n}\n"),
+            Run(f"p{n}", (program, "ktedit", "k"), change("ktedit", f"p{n}")[1]),
+            Run(f"m{n}", ("ktutil",), f"rkt {beside}/m{n}\nwkt k\n", is_mits=True))]
+        for each in runs:
+            each.start(folder, {**surroundings("/usr/sbin"), "KRBFILE": program, "KRB5_CONFIG": os.devnull})
+        rage(runs, Random(0), 1)
+        with open(os.path.join(folder, "k"), "rb") as file:
+            names = names_of_keytab(file.read()) or []
+        faults = [f"no {each} is there" for each in {*"ypm"} - {name[0] for name in names}]
+        faults += [fault for each in runs for fault in each.faults(names, True)]
+        faults += [f"{name} is left" for name in os.listdir(folder) if name != "k"]
+    report.check("a storm of Python, the program and MIT's ktutil", faults[:3])
 
 
 def check(report: Report, program: str) -> None:
-    """Runs this topic if the library was built, with its parts side by side."""
+    """Runs this topic if the library was built."""
     if not os.path.exists(LIBRARY):
-        report.skip("saves by Python's module", "there is no C library: make lib builds it")
+        report.skip("changes by Python's module", "there is no C library: make lib builds it")
         return
-
-    def part(check: Callable[..., None], *words: object) -> Report:
-        one = Report(report.is_proved)
-        one.front = report.front
-        check(one, *words)
-        return one
-
-    with programs(program) as (python, both), ThreadPoolExecutor(JOBS) as pool:
-        parts = [pool.submit(part, check_storms, both), pool.submit(part, check_kills, python, program),
-                 pool.submit(part, check_held, python, program),
-                 *(pool.submit(part, check_scripts, [each]) for each in SCRIPTS),
-                 *(pool.submit(part, each, python) for each in PARTS)]
-        for each in parts:
-            report.add(each.result())
+    check_scripts(report, SCRIPTS, program)
+    for end in range(len(ENDS)):
+        check_end(report, program, end)
+    check_holds(report, program)
+    if are_there(report, "a storm of Python beside MIT's ktutil"):
+        check_storm(report, program)

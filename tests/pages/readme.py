@@ -72,7 +72,7 @@ def surroundings(programs: str) -> dict[str, str]:
     libraries = os.path.dirname(LIBRARY)
     return {**os.environ, "PATH": path, "CPATH": os.path.join(TOP, "c"), "LIBRARY_PATH": libraries,
             "LD_LIBRARY_PATH": libraries, "PYTHONPATH": os.path.join(TOP, "python"),
-            "PYTHONDONTWRITEBYTECODE": "1"}
+            "PYTHONDONTWRITEBYTECODE": "1", "KRBFILE": os.path.join(programs, "krbfile")}
 
 
 def check_session(report: Report, program: str, folder: str, what: str, session: tuple[str, bytes]) -> None:

@@ -10,7 +10,7 @@ from words.mistakes import MISTAKES, NEAR
 
 PAGE = "docs/krbfile.1"
 FORMATS = "docs/FORMATS.md"
-CAUSES = "python/krbfile/causes.py"
+MODULE = ("python/krbfile/files.py", "python/krbfile/editing.py")
 
 
 def numbered(table: phrases.Numbered) -> set[tuple[int, str]]:
@@ -91,10 +91,12 @@ def check_definitions(report: Report) -> None:
 
 
 def check_python(report: Report) -> None:
-    """Checks that the causes of Python's module are in the table."""
-    causes = re.findall(r'^(?:    errno\.\w+: |[A-Z_]+ = .*?)"(.*?)"', read(CAUSES), re.MULTILINE)
-    wrong = set(causes) - {*phrases.CAUSES.values(), phrases.LIBRARY_IN_THE_WAY}
-    report.check("the causes of Python's module", sorted(wrong) if causes else ["there are none"])
+    """Checks that the causes of Python's module, and what it takes for a lost change, are in the table."""
+    text = "".join(map(read, MODULE))
+    causes = re.findall(r'(?:errno\.\w+: |NAME_OF_SAVES = )"(.*?)"', text) + re.findall(r'"([^"]*)": errno', text)
+    lost = re.findall(r'"(.*?)"', "".join(re.findall(r"^LOST = (.*)$", text, re.MULTILINE)))
+    wrong = {*causes, *lost} - {"file too large", *phrases.CAUSES.values(), *phrases.AFTERMATHS.values()}
+    report.check("the causes of Python's module", sorted(wrong) if causes and lost else ["there are none"])
 
 
 def check(report: Report, program: str) -> None:

@@ -8,7 +8,6 @@ import subprocess
 from collections.abc import Iterator
 from contextlib import contextmanager
 
-from clients.python_failures import FAILED
 from models.cases import IN_PLACE
 from runs.harness import Case, Outcome, Report, differences, folder_of, message
 from runs.preload import Line
@@ -34,6 +33,22 @@ KILLED = Outcome(-signal.SIGKILL)
 
 # How a run in place ends whose last look fails, and what its file has then.
 UNSEEN = {explained(Outcome(1, SAVED.out), f"k: {AFTERMATHS['mixed']}"): NEW}
+
+# What a call fails with, and the phrase of it, or None if the run saves all the same.
+FAILED = {
+    "open": {"EACCES": CAUSES["EACCES"], "EPERM": CAUSES["EACCES"], "ENOENT": CAUSES["ENOENT"],
+             "ENOTDIR": CAUSES["ENOTDIR"], "EISDIR": CAUSES["EISDIR"], "EROFS": CAUSES["EROFS"],
+             "ENAMETOOLONG": CAUSES["ENAMETOOLONG"]},
+    "lstat": {"EACCES": CAUSES["EACCES"], "ENOTDIR": CAUSES["ENOTDIR"], "ELOOP": CAUSES["ELOOP"], "ENOMEM": "error 12"},
+    "flock": {"ENOLCK": CAUSES["ENOLCK"], "EOPNOTSUPP": None, "ENOSYS": None},
+    "write": {"EINTR": CAUSES["EINTR"], "EFBIG": CAUSES["EFBIG"], "ENOSPC": CAUSES["ENOSPC"],
+              "EPIPE": CAUSES["EPIPE"], "EDQUOT": CAUSES["EDQUOT"], "EIO": CAUSES["EIO"], "EPROTO": "error 71",
+              "ENOMEM": "error 12"},
+    "fchown": {"EPERM": None, "EINVAL": None, "ENOSYS": None, "EOPNOTSUPP": None, "EIO": CAUSES["owner"]},
+    "fchmod": {"EIO": CAUSES["EIO"]},
+    "fsync": {"EBUSY": "error 16"},
+    "rename": {"EBUSY": CAUSES["EBUSY"], "EIO": CAUSES["EIO"]},
+}
 
 # How the traces begin of calls that have other names in FAILED.
 TRACES = {"open": r"open.*O_CREAT", "lstat": r'\w*stat\w*\(.*"k"'}

@@ -5,7 +5,6 @@ Each file has the number 0 on the device 0:0. That of its mount is 0:38, if that
 
 import os
 
-from clients.python_failures import LOCK_LINES
 from models.cases import in_place
 from runs.harness import Case, Report, differences, folder_of
 from runs.preload import Counted, Line, Preloaded, preloaded
@@ -26,6 +25,22 @@ FLOCK = b"1: FLOCK  ADVISORY  WRITE 9 00:00:0 0 EOF\n"
 OPEN_FILE = b"pos:\t0\nflags:\t0100001\nmnt_id:\t25\nino:\t131\n"
 MOUNTS = (b"24 1 0:37 / / rw,relatime - overlay overlay rw\n26 24 0:31 / /\xff rw - tmpfs t1 rw\n"
           b"25 24 0:38 / /tmp rw shared:2 - tmpfs t2 rw\n")
+
+# Each line, and whether it is such a lock if the device of the mount is known, and if not.
+LOCK_LINES = {
+    b"1: POSIX  ADVISORY  WRITE 12 00:00:0 0 EOF\n": (True, True),
+    b"1: OFDLCK ADVISORY  WRITE -1 00:00:0 0 EOF\n": (True, True),
+    b"1: -> POSIX  MANDATORY WRITE 12 00:26:0 0 EOF\n": (True, True),
+    b"1: FLOCK  ADVISORY  WRITE 9 00:00:0 0 EOF\n2: POSIX  ADVISORY  WRITE 8 00:26:0 0 EOF\n": (True, True),
+    b"1: FLOCK  ADVISORY  WRITE 9 00:00:0 0 EOF\n": (False, False),
+    b"1: POSIX  ADVISORY  READ 12 00:00:0 0 EOF\n": (False, False),
+    b"1: POSIX  ADVISORY  WRITE 12 00:00:10 0 EOF\n": (False, False),
+    b"1: POSIX  ADVISORY  WRITE 12 00:1f:0 0 EOF\n": (False, True),
+    b"1: POSIX  ADVISORY  WRITE 12 00:26:1 0 EOF\n": (False, False),
+    b"1: POSIX  ADVISORY  WRITE 12 fe:00:0 0 EOF\n": (False, False),
+    b"1: POSIX  ADVISORY  WRITE 12 103:26:0 0 EOF\n": (False, False),
+    b"\xff": (False, False),
+}
 
 # Lines that name the file by the inode of that description, on the device of the mount, on its own, and on another.
 INODE_LINES = {b"1: POSIX  ADVISORY  WRITE 12 00:26:131 0 EOF\n": (True, True),
