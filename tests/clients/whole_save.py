@@ -1,4 +1,4 @@
-"""The example of krbfile(3) that edits a file by `krbfile hold`: it saves, but not beside another's lock, nor killed."""
+"""The example of krbfile(3) that edits a file by `krbfile hold`: it saves, not beside another's lock, nor killed."""
 
 import fcntl
 import os
@@ -57,4 +57,4 @@ def check(report: Report, program: str) -> None:
     with folder_of({"edit.c": shown.replace("\\e", "\\").encode()}) as folder, folder_with(program) as programs:
         built, env = build(folder, "edit", os.path.join(SOURCES, "save.c"), sources=folder), surroundings(programs)
         check_edits(report, built, env)
-        check_traced(report, program, f"{WHAT}, killed", lambda report, program: check_kills(report, program, built, env))
+        check_traced(report, program, f"{WHAT}, killed", lambda *given: check_kills(*given, built, env))
