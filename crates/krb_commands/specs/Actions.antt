@@ -6,11 +6,12 @@ use Rattle.krb_files.specs.Reader.{Source}
 use Rattle.krb_audit.specs.declared.selection.SelectedKvno.{SelectedKvno}
 use Rattle.krb_audit.specs.declared.selection.SelectedKvno.TheVariants.{OldFor}
 use Rattle.krb_commands.specs.declared.action.Action.{Action}
-use Rattle.krb_commands.specs.declared.action.Action.TheVariants.{CheckTicket, Ccedit, Ccremove, Klist, Ktcheck, Ktcopy, Ktedit, Ktfind, Ktremove, Ktutil, Help}
+use Rattle.krb_commands.specs.declared.action.Action.TheVariants.{CheckTicket, Ccedit, Ccremove, Klist, Ktcheck, Ktcopy, Ktedit, Ktfind, Ktremove, Ktutil, Hold, HoldOnTerminal, Help}
 use Rattle.krb_driver.specs.declared.command_line.mistake.WordFault.{WordFault}
 use Rattle.krb_driver.specs.declared.command_line.mistake.WordFault.TheVariants as word
 use Rattle.krb_driver.specs.declared.command_line.words.CommandName.{CommandName}
 use Rattle.krb_driver.specs.declared.command_line.words.CommandName.TheVariants as name
+use Rattle.krb_driver.specs.declared.error.RunError.TheVariants.{OutputIsTerminal}
 use Rattle.krb_driver.specs.declared.file_name.FileName.{FileName}
 use Rattle.krb_driver.specs.declared.file_name.NameSource.{NameSource}
 use Rattle.krb_driver.specs.declared.file_name.NameSource.TheVariants.{Word}
@@ -29,6 +30,7 @@ use Rattle.krb_readers.specs.declared.klist.words.KlistOptions.{KlistOptions}
 use Rattle.krb_readers.specs.declared.ktcheck.words.CheckOptions.{CheckOptions}
 use Rattle.krb_readers.specs.CheckWords.{bad_findings, check_options}
 use Rattle.krb_readers.specs.Ktcheck.{ChecksAll}
+use Rattle.krb_editors.specs.Hold.{RunsHold, file_kind as held_kind, hold_kind, hold_mistake}
 use Rattle.krb_editors.specs.Ktedit.{ktedit_fairly, ktedit_plan}
 use Rattle.krb_readers.specs.Ktfind.{SpellsEntry, find_mistake, ktfind_plan}
 use Rattle.krb_editors.specs.Ktcopy.{SpellsCopy, copy_mistake, ktcopy_plan}
@@ -36,7 +38,7 @@ use Rattle.krb_editors.specs.Ktremove.{RunsKtremove, SpellsRemoval, needed_time,
 use Rattle.krb_ktutil.specs.Ktutil.{RunsKtutil}
 use Rattle.krb_driver.specs.Matches.{Matched, v1_order}
 use Rattle.krb_driver.specs.Mistakes.{MistakeParts, word_status, word_text}
-use Rattle.krb_driver.specs.Runs.{Run, EndsRun, Writes}
+use Rattle.krb_driver.specs.Runs.{Run, EndsRun, Writes, ends_by}
 use Rattle.krb_editors.specs.Scripted.{RunsScript}
 use Rattle.krb_text.specs.Script.{event_in}
 use Rattle.krb_cache_text.specs.Script.{cache_line_in}
@@ -77,6 +79,11 @@ AsksKtcheck words action = ⊥
 abbrev pub IsEdited : FileKind → Matched → List ℕ → FileName → Type 0
 IsEdited kind words operand file = IsNamed kind (words.operand operand) Word file × (file.in_place ≡ words.flag (codes "in-place"))
 
+-- the action is the one that the words of hold ask for
+abbrev pub AsksHold : Matched → Action → Type 0
+AsksHold words (Hold kind file) = (kind ≡ hold_kind words) × IsEdited (held_kind kind) words (codes "FILE") file
+AsksHold words action = ⊥
+
 -- the action is the one that the words of the command ask for
 abbrev pub Asks : CommandName → Matched → Action → Type 0
 Asks name.Klist words action = AsksKlist words action
@@ -88,6 +95,7 @@ Asks name.Ktcheck words action = AsksKtcheck words action
 Asks name.Ccedit words (Ccedit file) = IsEdited Cache words (codes "FILE") file
 Asks name.Ccremove words (Ccremove options file) = SpellsTickets words options × IsEdited Cache words (codes "FILE") file
 Asks name.Ktutil words (Ktutil order in_place) = (order ≡ v1_order words) × (in_place ≡ words.flag (codes "in-place"))
+Asks name.Hold words action = AsksHold words action
 Asks command words action = ⊥
 
 -- the first mistake in the words of klist
@@ -102,6 +110,7 @@ line_mistake name.Ktremove words = remove_mistake words
 line_mistake name.Ktcopy words = copy_mistake words
 line_mistake name.Ktcheck words = bad_findings (words.values (codes "allow"))
 line_mistake name.Ccremove words = ticket_mistake words
+line_mistake name.Hold words = hold_mistake words
 line_mistake command words = None
 
 -- whether a kvno is selected depends on the time
@@ -130,6 +139,7 @@ saves_in_place (Ktcopy options from to) = to.in_place
 saves_in_place (Ccedit file) = file.in_place
 saves_in_place (Ccremove options file) = file.in_place
 saves_in_place (Ktutil order in_place) = in_place
+saves_in_place (Hold kind file) = file.in_place
 saves_in_place action = false
 
 -- the run that prints a help text
@@ -176,7 +186,7 @@ module _ {F : Type 0} (trait : Ghosts F) (old new : F) (out out' : Watch) (err e
   ChecksKeytabs options default (file ∷ files) = ChecksAll trait options (file ∷ files) old new out out' err err' status
 
 module _ {F : Type 0} (trait : Ghosts F) (now : Option ℕ) (default : DefaultName) (input input' : Source) (old new : F) (out out' : Watch) (err err' : ErrorWatch) (status : ℕ) where
-  -- what an action does over the files, and over what the standard input gives: only scripts and the lines of ktutil are read
+  -- what an action does over the files, and over what the standard input gives: only scripts, the lines of ktutil and what is given back to hold are read
   abbrev pub EndsAction : Action → Type 0
   EndsAction (Klist options file) = Lists trait old new out out' err err' status options (file_or file default) × (input' ≡ input)
   EndsAction (CheckTicket check file) = ChecksTickets trait old new out out' err err' status check now (file_or file default) × (input' ≡ input)
@@ -188,6 +198,8 @@ module _ {F : Type 0} (trait : Ghosts F) (now : Option ℕ) (default : DefaultNa
   EndsAction (Ktutil order in_place) = RunsKtutil trait order (unwrap_or now 0) input input' old new out out' err err' status
   EndsAction (Ccedit file) = RunsScript trait old new out out' err err' status (ccedit_plan file) ccedit_fairly cache_line_in input input'
   EndsAction (Ccremove options file) = RunsCcremove trait file options old new out out' err err' status (ended_by options now) × (input' ≡ input)
+  EndsAction (Hold kind file) = RunsHold trait old new out out' err err' status kind file input input'
+  EndsAction HoldOnTerminal = (new ≡ old) × (input' ≡ input) × EndsRun [] None (ends_by OutputIsTerminal) out out' err err' status
   EndsAction (Help text) = (new ≡ old) × (input' ≡ input) × EndsRun [] None (help_run (string_bytes text)) out out' err err' status
 
   -- the action was run, or it was reported why there is none

@@ -1,10 +1,11 @@
 //! The commands, and the actions of their command lines.
 
 ghost use Rattle.std.specs.Prelude.{◌≡◌, codes, map, slice_get, IfErr, IfOk, None, OnOk};
-ghost use Rattle.krb_commands.specs.Actions.{AreNamed, Asks, AsksKlist, AsksKtcheck, IsEdited, NamesFile, klist_mistake, line_mistake, needs_clock, saves_in_place, wants_plain};
+ghost use Rattle.krb_commands.specs.Actions.{AreNamed, Asks, AsksHold, AsksKlist, AsksKtcheck, IsEdited, NamesFile, klist_mistake, line_mistake, needs_clock, saves_in_place, wants_plain};
 ghost use Rattle.krb_driver.specs.FileNames.{IsNamed};
 ghost use Rattle.krb_driver.specs.declared.file_name.NameSource.TheVariants.{Word};
 ghost use Rattle.krb_readers.specs.CheckWords.{bad_findings};
+ghost use Rattle.krb_editors.specs.Hold.{hold_mistake};
 ghost use Rattle.krb_driver.specs.Mistakes.{IsRefusal, Reads};
 
 use krb_audit::SelectedKvno;
@@ -13,8 +14,8 @@ use krb_driver::{
     v1_order,
 };
 use krb_editors::{
-    CCEDIT, CCREMOVE, CopyOptions, KTCOPY, KTEDIT, KTREMOVE, RemoveOptions, TicketOptions,
-    copy_options, remove_options, ticket_options,
+    CCEDIT, CCREMOVE, CopyOptions, HOLD, HoldKind, KTCOPY, KTEDIT, KTREMOVE, RemoveOptions,
+    TicketOptions, copy_options, hold_kind, remove_options, ticket_options,
 };
 use krb_ktutil::KTUTIL;
 use krb_readers::{
@@ -25,7 +26,7 @@ use krb_wire::Order;
 use std::alloc::{AllocError, Global};
 
 /// The commands, in the order in which help lists them.
-pub const COMMANDS: [CommandName; 9] = [
+pub const COMMANDS: [CommandName; 10] = [
     CommandName::Klist,
     CommandName::Ktedit,
     CommandName::Ktfind,
@@ -35,6 +36,7 @@ pub const COMMANDS: [CommandName; 9] = [
     CommandName::Ccedit,
     CommandName::Ccremove,
     CommandName::Ktutil,
+    CommandName::Hold,
 ];
 
 /// Returns the words of a command.
@@ -49,6 +51,7 @@ pub fn words_of(command: CommandName) -> CommandWords {
         CommandName::Ccedit => CCEDIT,
         CommandName::Ccremove => CCREMOVE,
         CommandName::Ktutil => KTUTIL,
+        CommandName::Hold => HOLD,
     }
 }
 
@@ -68,6 +71,9 @@ pub enum Action<'a> {
     Ccremove(TicketOptions<Global>, FileName<'a>),
     /// With the byte order of version 1 keytabs, and whether files are saved in place.
     Ktutil(Order, bool),
+    Hold(HoldKind, FileName<'a>),
+    /// Refuses to print an image to a terminal.
+    HoldOnTerminal,
     /// Prints that help text.
     Help(String),
 }
@@ -105,6 +111,14 @@ impl Action<'_> {
         matches!(self, Action::CheckTicket(..))
     }
 
+    /// Returns the action for an output that is a terminal: no image is printed there.
+    pub fn on_terminal(self) -> Self {
+        match self {
+            Action::Hold(..) => Action::HoldOnTerminal,
+            action => action,
+        }
+    }
+
     /// Returns whether it saves its file in place.
     pub fn saves_in_place(&self) -> bool
         ensures { result ≡ saves_in_place self.now }
@@ -114,7 +128,8 @@ impl Action<'_> {
             | Action::Ktremove(_, file)
             | Action::Ktcopy(_, _, file)
             | Action::Ccedit(file)
-            | Action::Ccremove(_, file) => file.in_place,
+            | Action::Ccremove(_, file)
+            | Action::Hold(_, file) => file.in_place,
             Action::Ktutil(_, in_place) => *in_place,
             _ => false,
         }
@@ -182,6 +197,14 @@ fn parsed_ktcheck<'a, M: Matches<'a>>(
     Ok(Action::Ktcheck(options, names))
 }
 
+// Returns the action for the words of hold.
+fn parsed_hold<'a, M: Matches<'a>>(matches: &M) -> Result<Action<'a>, WordFault<'a>>
+    ensures { Reads (hold_mistake (M.matched matches.now)) (AsksHold (M.matched matches.now)) result }
+{
+    let kind = hold_kind(matches)?;
+    Ok(Action::Hold(kind, edited_file(matches, kind.file_kind(), "FILE")))
+}
+
 // Returns the action for the words of a command.
 fn parsed<'a, M: Matches<'a>>(
     alloc: Global,
@@ -209,6 +232,7 @@ fn parsed<'a, M: Matches<'a>>(
         CommandName::Ccedit => Ok(Action::Ccedit(cache)),
         CommandName::Ccremove => Ok(Action::Ccremove(ticket_options(alloc, matches)?, cache)),
         CommandName::Ktutil => Ok(Action::Ktutil(v1_order(matches), matches.flag("in-place"))),
+        CommandName::Hold => parsed_hold(matches),
     }
 }
 

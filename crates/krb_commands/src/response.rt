@@ -2,13 +2,14 @@
 
 ghost use Rattle.std.specs.Prelude.{◌≡◌, ℕ, Option, [], None, IsFalse, map};
 ghost use Rattle.krb_commands.specs.Actions.{ChecksKeytabs, ChecksTickets, EndsParsed, Lists, file_or, help_run};
-ghost use Rattle.krb_driver.specs.Runs.{EndsRun};
+ghost use Rattle.krb_driver.specs.declared.error.RunError.TheVariants.{OutputIsTerminal};
+ghost use Rattle.krb_driver.specs.Runs.{EndsRun, ends_by};
 
 use crate::action::Action;
 use krb_driver::{
-    Details, ErrorOutput, FileName, Streams, Verdict, WordFault, report, report_word_fault, show,
+    Details, ErrorOutput, FileName, RunError, Streams, Verdict, WordFault, report, report_word_fault, show,
 };
-use krb_editors::{run_ccedit, run_ccremove, run_ktcopy, run_ktedit, run_ktremove};
+use krb_editors::{run_ccedit, run_ccremove, run_hold, run_ktcopy, run_ktedit, run_ktremove};
 use krb_files::{Files, Watched};
 use krb_ktutil::run_ktutil;
 use krb_readers::{
@@ -101,6 +102,15 @@ fn show_help<W: Write, E: Write>(text: &str, out: &mut Watched<W>, err: &mut Err
     report(ending, b"", None, Details::unsaved(out.cause()), err)
 }
 
+// Refuses to print an image to a terminal.
+fn refuse_terminal<W: Write, E: Write>(out: &mut Watched<W>, err: &mut ErrorOutput<E>) -> u8
+    requires { IsFalse out.old.failed }
+    ensures { EndsRun [] None (ends_by OutputIsTerminal) out.old out.new err.old err.new result }
+{
+    let ending = show(b"", Err(RunError::OutputIsTerminal), out);
+    report(ending, b"", None, Details::unsaved(out.cause()), err)
+}
+
 /// Runs an action, or reports why the command line was not read, and returns the exit status. `default` is the name of
 /// the file if the line leaves it out. ktutil adds entries with the time `now`, in seconds, or 0 if the clock was not
 /// read. A failure of `err` changes nothing else. A check of tickets prints and reports nothing.
@@ -141,6 +151,8 @@ pub fn respond<A: Allocator + Copy, F: Files, R: Read, W: Write, E: Write>(
         Ok(Action::Ccremove(options, file)) => {
             run_ccremove(alloc, options, now, *file, files, streams)
         }
+        Ok(Action::Hold(kind, file)) => run_hold(alloc, *kind, *file, files, streams),
+        Ok(Action::HoldOnTerminal) => refuse_terminal(&mut streams.out, &mut streams.err),
         Ok(Action::Help(text)) => show_help(text.as_str(), &mut streams.out, &mut streams.err),
         Err(fault) => report_word_fault(*fault, &mut streams.err),
     }

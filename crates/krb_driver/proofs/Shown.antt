@@ -7,7 +7,6 @@ use Rattle.krb_files.specs.declared.files.LoadFault.TheVariants as load
 use Rattle.krb_files.specs.Bytes.{Watch}
 use Rattle.krb_files.proofs.Prefixes.{AppendsPrefix-none, Appends-nil}
 use Rattle.krb_driver.specs.declared.verdict.Verdict.TheVariants.{Well}
-use Rattle.krb_files.specs.Loading.{most_bytes}
 use Rattle.krb_driver.specs.Input.{GivesInput}
 use Rattle.krb_driver.specs.Runs.{Writes, ReportsEnd}
 use Rattle.krb_files.specs.declared.aftermath.Aftermath.{Aftermath}
@@ -52,10 +51,10 @@ abbrev pub fault_in : Result (List ℕ) LoadFault → LoadFault
 fault_in (Ok bytes) = load.Missing
 fault_in (Err fault) = fault
 
-pub GivesInput-ok : (reader reader' : Source) (bytes : List ℕ) → IfSome reader.left (λ left. bytes ≡ left) → length bytes ≤ most_bytes → reader'.failed ≡ reader.failed → ConsumesAtMost reader.left reader'.left (most_bytes + 1)
-    → GivesInput reader reader' (Ok bytes)
-GivesInput-ok reader reader' bytes all within failed taken = record { all = all; within = within; too_large = λ e. absurd (true≢false (ap is_ok e)); never = tt; failed = failed; taken = taken }
+pub GivesInput-ok : (most : ℕ) (reader reader' : Source) (bytes : List ℕ) → IfSome reader.left (λ left. bytes ≡ left) → length bytes ≤ most → reader'.failed ≡ reader.failed → ConsumesAtMost reader.left reader'.left (most + 1)
+    → GivesInput most reader reader' (Ok bytes)
+GivesInput-ok most reader reader' bytes all within failed taken = record { all = all; within = within; too_large = λ e. absurd (true≢false (ap is_ok e)); never = tt; failed = failed; taken = taken }
 
-pub GivesInput-err : (reader reader' : Source) (fault : LoadFault) → (fault ≡ load.TooLarge → IfSome reader.left (λ left. most_bytes < length left)) → fault ≢ load.Missing
-    → reader'.failed ≡ (is_failed fault || reader.failed) → ConsumesAtMost reader.left reader'.left (most_bytes + 1) → GivesInput reader reader' (Err fault)
-GivesInput-err reader reader' fault too_large never failed taken = record { all = tt; within = tt; too_large = λ e. too_large (ap fault_in e); never = never; failed = failed; taken = taken }
+pub GivesInput-err : (most : ℕ) (reader reader' : Source) (fault : LoadFault) → (fault ≡ load.TooLarge → IfSome reader.left (λ left. most < length left)) → fault ≢ load.Missing
+    → reader'.failed ≡ (is_failed fault || reader.failed) → ConsumesAtMost reader.left reader'.left (most + 1) → GivesInput most reader reader' (Err fault)
+GivesInput-err most reader reader' fault too_large never failed taken = record { all = tt; within = tt; too_large = λ e. too_large (ap fault_in e); never = never; failed = failed; taken = taken }

@@ -12,6 +12,7 @@ use Rattle.krb_files.specs.declared.files.LoadFault.{LoadFault}
 use Rattle.krb_files.specs.declared.files.LoadFault.TheVariants as load
 use Rattle.krb_files.specs.Loading.{LoadsFile, most_bytes}
 use Rattle.krb_driver.specs.declared.loading.NoKeytab.{NoKeytab}
+use Rattle.krb_driver.specs.declared.loading.NotCache.{NotCache}
 use Rattle.krb_driver.specs.declared.loading.NoKeytab.TheVariants.{Load, Open}
 use Rattle.krb_driver.specs.declared.error.RunError.{RunError}
 use Rattle.krb_driver.specs.declared.error.RunError.TheVariants.{NotACache}
@@ -42,8 +43,8 @@ abbrev pub not_keytab : List ℕ → KtOpenFault → NoKeytab
 not_keytab image fault = Open (record { fault = fault; is_cache = begins_as_cache image })
 
 -- why an image is not a cache
-abbrev pub not_cache : List ℕ → CcOpenFault → RunError
-not_cache image fault = NotACache (record { fault = fault; is_keytab = begins_as_keytab image })
+abbrev pub not_cache : List ℕ → CcOpenFault → NotCache
+not_cache image fault = record { fault = fault; is_keytab = begins_as_keytab image }
 
 -- the keytab that a load gives, or why there is none
 abbrev pub keytab_of : Order → Result (List ℕ) LoadFault → Result KeytabState NoKeytab
@@ -68,7 +69,7 @@ keytab_or_fresh order in_place answer = keytab_of order answer
 
 -- the cache that a load gives, or why there is none
 abbrev pub cache_of : Result (List ℕ) LoadFault → Result CacheState RunError
-cache_of (Ok image) = result_map_err (not_cache image) (cache_result most_bytes image)
+cache_of (Ok image) = result_map_err (λ fault. NotACache (not_cache image fault)) (cache_result most_bytes image)
 cache_of (Err fault) = Err (load_error fault)
 
 -- ---- what files answer

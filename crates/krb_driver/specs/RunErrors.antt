@@ -1,6 +1,6 @@
 -- The errors that end a run: where they come from, their messages, and the exit status.
 use Rattle.std.specs.Prelude.{ℕ, max, List, [], Option, None, Some, Result, Ok, Err, codes}
-use Rattle.krb_walk.specs.declared.refusal.Code.TheVariants.{NotFound}
+use Rattle.krb_walk.specs.declared.refusal.Code.TheVariants.{Damaged, NotFound}
 use Rattle.krb_walk.specs.Numbers.{code_number}
 use Rattle.krb_keytab.specs.Open.{open_fault_number}
 use Rattle.krb_ccache.specs.Open.{open_fault_number as cache_fault_number}
@@ -90,6 +90,8 @@ output_error out.NoMemory = error.NoMemory
 abbrev pub error_message : List ℕ → RunError → List ℕ
 error_message file error.InputTooLarge = message (codes "input too large")
 error_message file error.InputNotRead = message (codes "cannot read input")
+error_message file error.InputNotWhole = message (codes "input is not whole")
+error_message file (error.DamagedInput fault) = file_number_message file (codes "refused ") (code_number Damaged) []
 error_message file (error.FaultyLine line fault) = line_message line (codes "fault ") (line_fault_number fault)
 error_message file (error.UnknownWord line word) = line_message line (codes "fault ") (line_fault_number UnknownWord)
 error_message file (error.FromPassword line) = line_message line (codes "fault ") (line_fault_number WordCount)
@@ -104,9 +106,11 @@ error_message file error.FileNotWritten = file_message file (codes "cannot write
 error_message file (error.NotAKeytab why) = file_number_message file (codes "not a keytab (") (open_fault_number why.fault) (codes ")")
 error_message file (error.NotAKeytabToList why) = file_number_message file (codes "not a keytab (") (open_fault_number why.fault) (codes ")")
 error_message file (error.NotACache why) = file_number_message file (codes "not a cache (") (cache_fault_number why.fault) (codes ")")
+error_message file (error.NotACacheToHold why) = file_number_message file (codes "not a cache (") (cache_fault_number why.fault) (codes ")")
 error_message file (error.Refused code) = file_number_message file (codes "refused ") (code_number code) []
 error_message file error.NothingToCopy = file_number_message file (codes "refused ") (code_number NotFound) []
 error_message file error.OutputNotWritten = message (codes "cannot write output")
+error_message file error.OutputIsTerminal = message (codes "cannot write output")
 error_message file error.ClockNotRead = message (codes "cannot read the clock")
 error_message file error.NoMemory = message (codes "out of memory")
 
@@ -118,6 +122,7 @@ error_status error.FileNotRead = 3
 error_status error.FileNotWritten = 3
 error_status error.TypedName = 3
 error_status error.OutputNotWritten = 3
+error_status error.OutputIsTerminal = 3
 error_status error.ClockNotRead = 3
 error_status other = 1
 

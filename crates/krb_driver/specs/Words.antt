@@ -85,6 +85,11 @@ abbrev pub no_cache_phrase : CcOpenFault → Bool → List ℕ
 no_cache_phrase cc.BadVersion true = codes "a keytab (list it with -k), or a cache of version 1 or 2 (not read)"
 no_cache_phrase fault is_keytab = cc_phrase fault
 
+-- the same for a file that is held as a cache
+abbrev pub hold_phrase : CcOpenFault → Bool → List ℕ
+hold_phrase cc.BadVersion true = codes "a keytab (hold it with -k), or a cache of version 1 or 2 (not read)"
+hold_phrase fault is_keytab = no_cache_phrase fault is_keytab
+
 -- what is wrong with a line of a script, or of ktutil if a line number is given
 abbrev pub line_fault_phrase : Option ℕ → LineFault → List ℕ
 line_fault_phrase None fault = line_phrase fault
@@ -132,9 +137,13 @@ cause_by file line path (Some cause) = phrase_line line (cause_phrase cause)
 abbrev pub cause_words : List ℕ → Option ℕ → Details → List ℕ
 cause_words file line details = cause_by file line (option_map (λ path. path.now) details.in_the_way) details.cause
 
+-- the words for a fault of that file, and a phrase
+abbrev pub fault_with : List ℕ → Fault → List ℕ → List ℕ
+fault_with file fault what = codes "krbfile: " ++ (shown_name file ++ (codes ": fault " ++ (decimal (fault_number fault.kind) ++ (codes " at " ++ (decimal fault.place ++ (codes "\nkrbfile: " ++ (what ++ codes "\n")))))))
+
 -- the words for the fault that a listing reports, with the file's name and the fault's phrase
 abbrev pub listed_words : List ℕ → Fault → List ℕ
-listed_words file fault = codes "krbfile: " ++ (shown_name file ++ (codes ": fault " ++ (decimal (fault_number fault.kind) ++ (codes " at " ++ (decimal fault.place ++ (codes "\nkrbfile: " ++ (fault_phrase fault.kind ++ codes "\n")))))))
+listed_words file fault = fault_with file fault (fault_phrase fault.kind)
 
 -- the line for a refusal that replies report: its number and its phrase
 abbrev pub code_words : FileKind → Option Code → List ℕ
@@ -187,6 +196,8 @@ unknown_words word = codes "krbfile: " ++ (line_phrase UnknownWord ++ (codes ": 
 abbrev pub error_words : List ℕ → Option ℕ → Details → RunError → List ℕ
 error_words file line details error.InputTooLarge = phrase_line line too_large
 error_words file line details error.InputNotRead = cause_words file line details
+error_words file line details error.InputNotWhole = phrase_line line (codes "it is not a length, a newline and just as many bytes")
+error_words file line details (error.DamagedInput fault) = fault_with file fault (codes "what was given is damaged")
 error_words file line details (error.FaultyLine number fault) = phrase_line line (line_fault_phrase line fault)
 error_words file line details (error.UnknownWord number word) = unknown_words word
 error_words file line details (error.FromPassword number) = phrase_line line (codes "keys are not made from passwords here")
@@ -201,9 +212,11 @@ error_words file line details error.FileNotWritten = cause_words file line detai
 error_words file line details (error.NotAKeytab why) = phrase_line line (no_keytab_phrase why.fault why.is_cache)
 error_words file line details (error.NotAKeytabToList why) = phrase_line line (list_phrase why.fault why.is_cache)
 error_words file line details (error.NotACache why) = phrase_line line (no_cache_phrase why.fault why.is_keytab)
+error_words file line details (error.NotACacheToHold why) = phrase_line line (hold_phrase why.fault why.is_keytab)
 error_words file line details (error.Refused code) = phrase_line line (keytab_phrase code)
 error_words file line details error.NothingToCopy = phrase_line line (nothing_phrase Keytab)
 error_words file line details error.OutputNotWritten = cause_words file line details
+error_words file line details error.OutputIsTerminal = phrase_line line (codes "the image is for a program; give it a pipe")
 error_words file line details error.ClockNotRead = phrase_line line (codes "the clock is before 1970 or after 2106, or failed")
 error_words file line details error.NoMemory = []
 

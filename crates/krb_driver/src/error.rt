@@ -10,7 +10,7 @@ use crate::first_word::FirstWord;
 use crate::loading::{NoKeytab, NotCache, NotKeytab};
 use krb_files::{LoadFault, OutFault, SaveFault};
 use krb_text::{LineFault, ScriptRefusal};
-use krb_walk::Code;
+use krb_walk::{Code, Fault};
 use krb_wire::NoMemory;
 
 /// An error that ends a run, or a line of ktutil. Line numbers are counted from 1.
@@ -18,6 +18,10 @@ use krb_wire::NoMemory;
 pub enum RunError {
     InputTooLarge,
     InputNotRead,
+    /// It is no frame of an image, or only a part of one.
+    InputNotWhole,
+    /// The image on it has this fault.
+    DamagedInput(Fault),
     FaultyLine { line: u64, fault: LineFault },
     /// A line of a script begins with this word: its fault is its first word.
     UnknownWord { line: u64, word: FirstWord },
@@ -39,11 +43,15 @@ pub enum RunError {
     /// Of a file that was to be listed as one.
     NotAKeytabToList(NotKeytab),
     NotACache(NotCache),
+    /// Of a file that was to be held as one.
+    NotACacheToHold(NotCache),
     /// The file refused what the run was to do.
     Refused(Code),
     /// No entry of the file is selected, so there is nothing to copy.
     NothingToCopy,
     OutputNotWritten,
+    /// The output is a terminal, and an image is not for people.
+    OutputIsTerminal,
     /// The clock failed, or is before 1970 or after 2106.
     ClockNotRead,
     NoMemory,
@@ -62,6 +70,7 @@ impl RunError {
             | RunError::FileNotWritten
             | RunError::TypedName
             | RunError::OutputNotWritten
+            | RunError::OutputIsTerminal
             | RunError::ClockNotRead => 3,
             _ => 1,
         }

@@ -7,6 +7,7 @@ mod error;
 mod file_name;
 mod first_word;
 mod holding;
+mod input;
 mod loading;
 mod opening;
 mod reporting;
@@ -24,10 +25,11 @@ pub use error::RunError;
 pub use file_name::{FileName, NameSource, append_name, type_of};
 pub use first_word::FirstWord;
 pub use holding::{hold, hold_if, release};
-pub use loading::{NoKeytab, NotKeytab, load_keytab, load_or_new};
+pub use input::read_input;
+pub use loading::{NoKeytab, NotCache, NotKeytab, cache_of, keytab_of, load_keytab, load_or_new};
 pub use opening::{
     give_cache, give_or_empty, open_cache, open_keytab, open_listed, open_whole,
-    open_whole_or_empty, open_writable,
+    open_whole_or_empty, open_writable, other_type,
 };
 pub use reporting::details::{Details, details_of};
 pub use reporting::error_output::ErrorOutput;

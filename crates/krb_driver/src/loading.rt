@@ -1,13 +1,14 @@
 //! Loads the keytab or the cache of a file.
 
-ghost use Rattle.std.specs.Prelude.{◌≡◌, ◌⊎◌, Err, Ok};
+ghost use Rattle.std.specs.Prelude.{◌≡◌, ◌⊎◌, Err, IfOk, Ok};
+ghost use Rattle.krb_ccache.specs.Store.{image_of as cache_image, open_result as cache_result};
 ghost use Rattle.krb_files.specs.declared.files.LoadFault.TheVariants as load;
-ghost use Rattle.krb_keytab.specs.Store.{empty};
+ghost use Rattle.krb_keytab.specs.Store.{empty, image_of};
 ghost use Rattle.krb_wire.specs.declared.format.KtFormat.TheVariants.{V2};
 ghost use Rattle.krb_keytab.specs.Store.{open_result};
 ghost use Rattle.krb_driver.specs.declared.loading.NoKeytab.TheVariants.{Load};
 ghost use Rattle.krb_files.specs.Loading.{most_bytes};
-ghost use Rattle.krb_driver.specs.Loading.{Gives, GivesOrRunsOut, begins_as_cache, begins_as_keytab, cache_of, keytab_of, keytab_or_fresh, keytab_or_new, new_unless, not_keytab, result_map, result_map_err};
+ghost use Rattle.krb_driver.specs.Loading.{Gives, GivesOrRunsOut, begins_as_cache, begins_as_keytab, cache_of, keytab_of, keytab_or_fresh, keytab_or_new, new_unless, not_cache, not_keytab, result_map, result_map_err};
 
 use crate::error::RunError;
 use krb_ccache::{CcOpenFault, Ccache};
@@ -59,9 +60,15 @@ fn begins_as_keytab(image: &[u8]) -> bool
     image.starts_with(&[5, 1]) || image.starts_with(&[5, 2])
 }
 
-fn open<A: Allocator>(v1_order: Order, image: Vec<u8, A>) -> Result<Keytab<A>, NoKeytab>
-    ensures { result_map (λ k. k.state) result
+/// Opens an image as a keytab. `v1_order` is the byte order of version 1.
+pub fn keytab_of<A: Allocator>(
+    v1_order: Order,
+    image: Vec<u8, A>,
+) -> Result<Keytab<A>, NoKeytab>
+    ensures opens { result_map (λ k. k.state) result
         ≡ result_map_err (not_keytab image.items) (open_result v1_order most_bytes image.items) }
+    // The bytes are kept as they are.
+    ensures kept { IfOk result (λ k. image_of k.state ≡ image.items) }
 {
     match Keytab::open(image, v1_order, Limits::usual()) {
         Ok(keytab) => Ok(keytab),
@@ -83,7 +90,7 @@ pub fn load_keytab<A: Allocator, F: Files>(
         (keytab_of v1_order) (result_map (λ k. k.state) result) files.new }
 {
     let image = files.load(alloc, name, USUAL_LIMIT)?;
-    open(v1_order, image)
+    keytab_of(v1_order, image)
 }
 
 // Returns an empty keytab of version 2.
@@ -140,10 +147,26 @@ pub fn load_or_fresh<A: Allocator + Copy, F: Files>(
             if image.is_empty() {
                 return new_keytab(alloc);
             }
-            open(v1_order, image)
+            keytab_of(v1_order, image)
         }
         Err(LoadFault::Missing) => new_unless(alloc, in_place),
         Err(fault) => Err(NoKeytab::Load(fault)),
+    }
+}
+
+/// Opens an image as a cache.
+pub fn cache_of<A: Allocator>(image: Vec<u8, A>) -> Result<Ccache<A>, NotCache>
+    ensures opens { result_map (λ k. k.state) result
+        ≡ result_map_err (not_cache image.items) (cache_result most_bytes image.items) }
+    // The bytes are kept as they are.
+    ensures kept { IfOk result (λ k. cache_image k.state ≡ image.items) }
+{
+    match Ccache::open(image, Limits::usual()) {
+        Ok(cache) => Ok(cache),
+        Err(refused) => Err(NotCache {
+            fault: refused.why,
+            is_keytab: begins_as_keytab(&refused.image),
+        }),
     }
 }
 
@@ -157,11 +180,5 @@ pub fn load_cache<A: Allocator, F: Files>(
         cache_of (result_map (λ k. k.state) result) files.new }
 {
     let image = files.load(alloc, name, USUAL_LIMIT)?;
-    match Ccache::open(image, Limits::usual()) {
-        Ok(cache) => Ok(cache),
-        Err(refused) => Err(RunError::NotACache(NotCache {
-            fault: refused.why,
-            is_keytab: begins_as_keytab(&refused.image),
-        })),
-    }
+    cache_of(image).map_err(RunError::NotACache)
 }

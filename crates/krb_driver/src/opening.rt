@@ -17,8 +17,8 @@ use krb_walk::Code;
 use krb_wire::Order;
 use std::alloc::Allocator;
 
-// Returns the error for a name of another type.
-fn other_type(file: FileName<'_>) -> FileError<'_>
+/// Returns the error for a name of another type.
+pub fn other_type(file: FileName<'_>) -> FileError<'_>
     ensures file { result.file.now ≡ file.entry.name.now }
     ensures error { result.error ≡ OtherType file.entry.source }
 {

@@ -18,6 +18,7 @@ mod writing;
 
 ghost use Rattle.std.specs.Prelude.{◌≡◌, IsFalse, codes};
 ghost use Rattle.krb_keytab.specs.Open.{open_fault_number};
+ghost use Rattle.krb_ccache.specs.Open.{open_fault_number as cache_fault_number};
 ghost use Rattle.krb_driver.specs.Messages.{file_message, file_number_message, line_message, message};
 ghost use Rattle.krb_driver.specs.PieceTexts.{pieces_text};
 ghost use Rattle.krb_driver.specs.Runs.{Writes, WritesOn, Shows, Reports};
@@ -27,7 +28,7 @@ ghost use Rattle.krb_driver.specs.Words.{aftermath_text, own_text};
 
 use crate::command::end_status;
 use crate::error::RunError;
-use crate::loading::NotKeytab;
+use crate::loading::{NotCache, NotKeytab};
 use crate::reporting::aftermath_words::{aftermath_line, is_message};
 use crate::reporting::details::Details;
 use crate::reporting::error_output::ErrorOutput;
@@ -128,6 +129,14 @@ fn not_keytab_message(file: &[u8], why: NotKeytab) -> Message<'_>
     file_number_message(file, "not a keytab (", why.fault.number(), ")")
 }
 
+// Returns the message for a file that is not a cache.
+fn not_cache_message(file: &[u8], why: NotCache) -> Message<'_>
+    ensures { pieces_text result ≡ file_number_message file.now
+        (codes "not a cache (") (cache_fault_number why.fault) (codes ")") }
+{
+    file_number_message(file, "not a cache (", why.fault.number(), ")")
+}
+
 // Returns the message for an error that ended a run.
 fn error_message(error: RunError, file: &[u8]) -> Message<'_>
     ensures { pieces_text result ≡ error_message file.now error }
@@ -135,6 +144,10 @@ fn error_message(error: RunError, file: &[u8]) -> Message<'_>
     match error {
         RunError::InputTooLarge => message("input too large"),
         RunError::InputNotRead => message("cannot read input"),
+        RunError::InputNotWhole => message("input is not whole"),
+        RunError::DamagedInput(_) => {
+            file_number_message(file, "refused ", Code::Damaged.number(), "")
+        }
         RunError::FaultyLine { line, fault } => line_message(line, "fault ", fault.number()),
         RunError::FromPassword { line } => {
             line_message(line, "fault ", LineFault::WordCount.number())
@@ -149,14 +162,13 @@ fn error_message(error: RunError, file: &[u8]) -> Message<'_>
         RunError::FileNotWritten | RunError::TypedName => file_message(file, "cannot write"),
         RunError::NotAKeytab(why) => not_keytab_message(file, why),
         RunError::NotAKeytabToList(why) => not_keytab_message(file, why),
-        RunError::NotACache(why) => {
-            file_number_message(file, "not a cache (", why.fault.number(), ")")
-        }
+        RunError::NotACache(why) => not_cache_message(file, why),
+        RunError::NotACacheToHold(why) => not_cache_message(file, why),
         RunError::Refused(code) => file_number_message(file, "refused ", code.number(), ""),
         RunError::NothingToCopy => {
             file_number_message(file, "refused ", Code::NotFound.number(), "")
         }
-        RunError::OutputNotWritten => message("cannot write output"),
+        RunError::OutputNotWritten | RunError::OutputIsTerminal => message("cannot write output"),
         RunError::ClockNotRead => message("cannot read the clock"),
         RunError::NoMemory => message("out of memory"),
     }

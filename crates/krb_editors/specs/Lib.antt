@@ -8,3 +8,5 @@ pub mod Ktremove
 pub mod Ktcopy
 pub mod Ccedit
 pub mod Ccremove
+pub mod Frame
+pub mod Hold

@@ -5,6 +5,7 @@ mod added;
 mod ccedit;
 mod ccremove;
 mod edited;
+mod hold;
 mod ktcopy;
 mod ktedit;
 mod ktremove;
@@ -13,6 +14,8 @@ mod selecting;
 
 pub use ccedit::{CCEDIT, run_ccedit};
 pub use ccremove::{CCREMOVE, TicketOptions, run_ccremove, ticket_options};
+pub use hold::run_hold;
+pub use hold::words::{HOLD, HoldKind, hold_kind};
 pub use ktcopy::{CopyOptions, KTCOPY, copy_options, run_ktcopy};
 pub use ktedit::{KTEDIT, run_ktedit};
 pub use ktremove::{KTREMOVE, RemoveOptions, remove_options, run_ktremove};

@@ -16,7 +16,7 @@ use krb_disk::DiskFiles;
 use krb_files::{Watched, WatchedReader};
 use krb_terminal::Screen;
 use run::{
-    asks_to_explain, is_out_of_memory, parsed, prints_json, run, saves_in_place, wants_plain,
+    asks_to_explain, for_output, is_out_of_memory, parsed, prints_json, run, saves_in_place, wants_plain,
     words_of,
 };
 use silent::asks_for_silence;
@@ -30,6 +30,9 @@ fn main(rt: HostRuntime) -> ExitCode {
     if is_out_of_memory(&parsed) && asks_for_silence(&rt) {
         return ExitCode::from(4);
     }
+    let out = rt.stdout();
+    let err = rt.stderr();
+    let parsed = for_output(parsed, out.is_terminal());
     let mut files = DiskFiles::new(&rt);
     if wants_plain(&parsed) {
         files.only_plain();
@@ -37,8 +40,6 @@ fn main(rt: HostRuntime) -> ExitCode {
     if saves_in_place(&parsed) {
         files.save_in_place();
     }
-    let out = rt.stdout();
-    let err = rt.stderr();
     let on_terminal = err.is_terminal();
     let mut screen = Screen::new(out, out.is_terminal() && !prints_json(&parsed));
     let mut error_screen = Screen::new(err, on_terminal);

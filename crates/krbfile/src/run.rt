@@ -40,6 +40,17 @@ pub fn parsed<'a>(
     }
 }
 
+/// Returns the action for an output that may be a terminal.
+pub fn for_output<'a>(
+    parsed: Result<Action<'a>, WordFault<'a>>,
+    is_terminal: bool,
+) -> Result<Action<'a>, WordFault<'a>> {
+    match parsed {
+        Ok(action) if is_terminal => Ok(action.on_terminal()),
+        parsed => parsed,
+    }
+}
+
 /// Returns whether memory ran out for the words of the command line.
 pub fn is_out_of_memory(parsed: &Result<Action<'_>, WordFault<'_>>) -> bool {
     matches!(parsed, Err(WordFault::NoMemory))

@@ -27,6 +27,7 @@ pub enum CommandName {
     Ccedit,
     Ccremove,
     Ktutil,
+    Hold,
 }
 
 /// A command: which one it is, its name, its help text, its usage, the help text after that, and its words.

@@ -4,7 +4,7 @@ ghost use Rattle.std.specs.Prelude.{◌≡◌, [], ◌++◌, IfOk, IsFalse, code
 ghost use Rattle.krb_driver.specs.Messages.{phrase_line, words_line};
 ghost use Rattle.krb_driver.specs.PieceTexts.{piece_text, pieces_text};
 ghost use Rattle.krb_driver.specs.Verdicts.{is_itemized};
-ghost use Rattle.krb_driver.specs.Words.{cache_phrase, cause_words, ending_words, error_words, keytab_phrase, line_fault_phrase, list_phrase, listed_words, no_cache_phrase, no_keytab_phrase, nothing_phrase, refusal_phrase, unknown_words, verdict_words, way_words};
+ghost use Rattle.krb_driver.specs.Words.{cache_phrase, cause_words, ending_words, error_words, fault_with, hold_phrase, keytab_phrase, line_fault_phrase, list_phrase, listed_words, no_cache_phrase, no_keytab_phrase, nothing_phrase, refusal_phrase, unknown_words, verdict_words, way_words};
 
 use crate::error::RunError;
 use crate::first_word::FirstWord;
@@ -23,6 +23,8 @@ use krb_walk::{Code, Fault};
 const NONE: MessagePiece<'static> = MessagePiece::Text("");
 
 const TOO_LARGE: &str = "it has more than 16,777,216 bytes";
+
+const NOT_WHOLE: &str = "it is not a length, a newline and just as many bytes";
 
 // Returns the phrase for a refusal by a keytab.
 fn keytab_phrase(code: Code) -> &'static str
@@ -99,6 +101,18 @@ fn no_cache_phrase(why: NotCache) -> &'static str
     }
 }
 
+// Like `no_cache_phrase`, for a file that is held as a cache.
+fn hold_phrase(why: NotCache) -> &'static str
+    ensures { result.now ≡ hold_phrase why.fault why.is_keytab }
+{
+    match (why.fault, why.is_keytab) {
+        (CcOpenFault::BadVersion, true) => {
+            "a keytab (hold it with -k), or a cache of version 1 or 2 (not read)"
+        }
+        _ => no_cache_phrase(why),
+    }
+}
+
 // Returns what is wrong with a line of a script, or of ktutil (if `line` is given).
 fn line_fault_phrase(line: Option<u64>, fault: LineFault) -> &'static str
     ensures { result.now ≡ line_fault_phrase line fault }
@@ -143,9 +157,9 @@ fn cause_words<'a>(file: &'a [u8], line: Option<u64>, details: Details<'a>) -> E
     }
 }
 
-/// Returns the words for the fault that a listing reports, with the file's name and the fault's phrase.
-pub fn listed_words(file: &[u8], fault: Fault) -> Explanation<'_>
-    ensures { pieces_text result ≡ listed_words file.now fault }
+// Returns the words for a fault of that file, and a phrase.
+fn fault_with<'a>(file: &'a [u8], fault: Fault, what: &'a str) -> Explanation<'a>
+    ensures { pieces_text result ≡ fault_with file.now fault what.now }
 {
     [
         MessagePiece::Text("krbfile: "),
@@ -155,9 +169,16 @@ pub fn listed_words(file: &[u8], fault: Fault) -> Explanation<'_>
         MessagePiece::Text(" at "),
         MessagePiece::Number(u64::from(fault.place)),
         MessagePiece::Text("\nkrbfile: "),
-        MessagePiece::Text(fault.kind.phrase()),
+        MessagePiece::Text(what),
         MessagePiece::Text("\n"),
     ]
+}
+
+/// Returns the words for the fault that a listing reports, with the file's name and the fault's phrase.
+pub fn listed_words(file: &[u8], fault: Fault) -> Explanation<'_>
+    ensures { pieces_text result ≡ listed_words file.now fault }
+{
+    fault_with(file, fault, fault.kind.phrase())
 }
 
 // Returns the words for an unknown first word of a script's line.
@@ -188,6 +209,8 @@ fn error_words<'a>(
 {
     match error {
         RunError::InputTooLarge | RunError::FileTooLarge => phrase(line, TOO_LARGE),
+        RunError::InputNotWhole => phrase(line, NOT_WHOLE),
+        RunError::DamagedInput(fault) => fault_with(file, fault, "what was given is damaged"),
         RunError::FaultyLine { fault, .. } => phrase(line, line_fault_phrase(line, fault)),
         RunError::UnknownWord { word, .. } => unknown_words(word),
         RunError::FromPassword { .. } => phrase(line, "keys are not made from passwords here"),
@@ -206,6 +229,8 @@ fn error_words<'a>(
         RunError::NotAKeytab(why) => phrase(line, no_keytab_phrase(why)),
         RunError::NotAKeytabToList(why) => phrase(line, list_phrase(why)),
         RunError::NotACache(why) => phrase(line, no_cache_phrase(why)),
+        RunError::NotACacheToHold(why) => phrase(line, hold_phrase(why)),
+        RunError::OutputIsTerminal => phrase(line, "the image is for a program; give it a pipe"),
         RunError::ClockNotRead => phrase(line, "the clock is before 1970 or after 2106, or failed"),
         RunError::NoMemory => no_words(),
     }

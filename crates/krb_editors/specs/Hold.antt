@@ -1,0 +1,191 @@
+-- What hold does: it prints the image of a file that it holds, and saves the one that is given back.
+use Rattle.std.specs.Prelude.{◌≡◌, ◌⊎◌, ℕ, nat_lt, Bool, true, false, bytes_eq, if◌then◌else◌, List, [], ◌∷◌, length, codes, Option, None, Some, Result, Ok, Err, OnOk}
+use Rattle.krb_wire.specs.declared.format.Order.{Order}
+use Rattle.krb_walk.specs.declared.fault.Fault.{Fault}
+use Rattle.krb_walk.specs.declared.refusal.Code.TheVariants.{Damaged}
+use Rattle.krb_walk.specs.Store.{fault_of}
+use Rattle.krb_keytab.specs.Store.{store_of}
+use Rattle.krb_ccache.specs.Store.{open_result as cache_result, store_of as cache_store}
+use Rattle.krb_files.specs.declared.files.Files.{Ghosts}
+use Rattle.krb_files.specs.declared.files.LoadFault.{LoadFault}
+use Rattle.krb_files.specs.declared.files.LoadFault.TheVariants.{Missing}
+use Rattle.krb_files.specs.declared.files.SaveFault.{SaveFault}
+use Rattle.krb_files.specs.declared.files.SaveFault.TheVariants.{Failed}
+use Rattle.krb_files.specs.Bytes.{Watch}
+use Rattle.krb_files.specs.Files.{SameFiles, CountsFailure}
+use Rattle.krb_files.specs.Loading.{Answer, LoadsFile, SavesFile, TurnsHold, most_bytes}
+use Rattle.krb_files.specs.Plan.{HeldIf}
+use Rattle.krb_files.specs.Reader.{Source}
+use Rattle.krb_driver.specs.declared.error.RunError.{RunError}
+use Rattle.krb_driver.specs.declared.error.RunError.TheVariants as error
+use Rattle.krb_driver.specs.declared.command.FileError.{FileError}
+use Rattle.krb_driver.specs.declared.file_name.FileName.{FileName}
+use Rattle.krb_driver.specs.declared.reporting.details.Details.{Details}
+use Rattle.krb_driver.specs.declared.verdict.FileKind.{FileKind}
+use Rattle.krb_driver.specs.declared.verdict.FileKind.TheVariants as kind
+use Rattle.krb_driver.specs.declared.verdict.Verdict.TheVariants.{Well}
+use Rattle.krb_driver.specs.Commands.{GivesOf}
+use Rattle.krb_driver.specs.Effects.{can_hold}
+use Rattle.krb_driver.specs.ErrorOutput.{ErrorWatch}
+use Rattle.krb_driver.specs.Input.{GivesInput}
+use Rattle.krb_driver.specs.Loading.{not_cache, result_map, result_map_err}
+use Rattle.krb_driver.specs.Matches.{Matched, v1_order}
+use Rattle.krb_driver.specs.Mistakes.{MistakeParts, ForKeytabs}
+use Rattle.krb_driver.specs.Opening.{keytab_in}
+use Rattle.krb_driver.specs.RunErrors.{Ending, input_error, load_error, save_error}
+use Rattle.krb_driver.specs.Runs.{Reports, Shows}
+use Rattle.krb_editors.specs.declared.hold.words.HoldKind.{HoldKind}
+use Rattle.krb_editors.specs.declared.hold.words.HoldKind.TheVariants.{Keytab, Cache}
+use Rattle.krb_editors.specs.Frame.{frame, framed, most_frame}
+
+-- ---- the words
+
+-- the kind of file that the words ask for: a cache, unless `-k` is given
+abbrev pub hold_kind : Matched → HoldKind
+hold_kind words = if words.flag (codes "keytab") then Keytab (v1_order words) else Cache
+
+abbrev pub file_kind : HoldKind → FileKind
+file_kind (Keytab order) = kind.Keytab
+file_kind Cache = kind.Cache
+
+-- the mistake in the words: `--v1-big` is for keytabs
+abbrev pub hold_mistake : Matched → Option MistakeParts
+hold_mistake words = if words.flag (codes "keytab") then None else (if words.flag (codes "v1-big") then Some (ForKeytabs (codes "--v1-big")) else None)
+
+-- ---- images
+
+-- the fault of an image of that kind, if it has one; or why it is none
+abbrev pub fault_in : HoldKind → List ℕ → Result (Option Fault) RunError
+fault_in (Keytab order) image = result_map (λ k. fault_of (store_of k)) (keytab_in order (Ok image))
+fault_in Cache image = result_map (λ k. fault_of (cache_store k)) (result_map_err (λ fault. error.NotACacheToHold (not_cache image fault)) (cache_result most_bytes image))
+
+-- an image, unless it has a fault
+abbrev pub unless_fault : (Fault → RunError) → List ℕ → Result (Option Fault) RunError → Result (List ℕ) RunError
+unless_fault why image (Ok None) = Ok image
+unless_fault why image (Ok (Some fault)) = Err (why fault)
+unless_fault why image (Err error) = Err error
+
+-- an image of that kind without a fault
+abbrev pub whole_in : (Fault → RunError) → HoldKind → List ℕ → Result (List ℕ) RunError
+whole_in why kind image = unless_fault why image (fault_in kind image)
+
+-- the image that a load gives: a missing keytab that is not to be saved in place gives that of an empty one
+abbrev pub held_in : HoldKind → Bool → Answer → Result (List ℕ) RunError
+held_in kind in_place (Ok bytes) = whole_in (λ fault. error.Refused Damaged) kind bytes
+held_in (Keytab order) false (Err Missing) = Ok (5 ∷ 2 ∷ [])
+held_in kind in_place (Err fault) = Err (load_error fault)
+
+-- the image in a frame: not too long, of that kind and without a fault
+abbrev pub given_by : HoldKind → Option (List ℕ) → Result (List ℕ) RunError
+given_by kind None = Err error.InputNotWhole
+given_by kind (Some image) = if nat_lt most_bytes (length image) then Err error.InputTooLarge else whole_in error.DamagedInput kind image
+
+-- what the input gives: nothing if it is empty
+abbrev pub received : HoldKind → Result (List ℕ) LoadFault → Result (Option (List ℕ)) RunError
+received kind (Ok []) = Ok None
+received kind (Ok (b ∷ text)) = result_map (λ image. Some image) (given_by kind (framed (b ∷ text)))
+received kind (Err fault) = Err (input_error fault)
+
+-- ---- the run
+
+-- how it ended: it did its work, or an error about the file of that name ended it
+abbrev pub HoldEnd : Type 0
+HoldEnd = Result (Unit {0}) (List ℕ × RunError)
+
+abbrev pub ending_of : HoldEnd → Ending
+ending_of (Ok done) = Ok Well
+ending_of (Err met) = Err met.1
+
+abbrev pub about_end : List ℕ → HoldEnd → List ℕ
+about_end file (Ok done) = file
+about_end file (Err met) = met.0
+
+-- the same of what a function returned
+abbrev pub end_of : {X : Type 0} → Result X FileError → Result X (List ℕ × RunError)
+end_of result = result_map_err (λ met. (met.file.now, met.error)) result
+
+module _ {F : Type 0} (trait : Ghosts F) where
+  -- a file was loaded, and this is the image that it gives; or memory ran out
+  pub record LoadsImage (old : F) (name : List ℕ) (gives : Answer → Result (List ℕ) RunError) (given : Result (List ℕ) RunError) (new : F) : Type 0 where
+    pub answer : Answer
+    pub loads : LoadsFile trait old name answer new
+    pub given_is : (given ≡ Err error.NoMemory) ⊎ (given ≡ gives answer)
+
+  -- the file of that name, which is to be held, is held, and can be saved as far as its hold tells; or it cannot
+  pub record ChecksHold (file : List ℕ) (old : F) (end : HoldEnd) (new : F) : Type 0 where
+    pub answer : Result (Unit {0}) SaveFault
+    pub end_is : end ≡ result_map_err (λ fault. (file, save_error fault)) answer
+    pub had : OnOk answer (trait.is_held old ≡ true)
+    pub held : trait.held new ≡ trait.held old
+    pub honest : trait.is_honest old → trait.is_honest new
+    pub same : SameFiles (trait.file old) (trait.file new)
+    pub failed : answer ≡ Err Failed → CountsFailure (trait.failure_count old) (trait.failure_count new)
+
+-- this is what the input gives, which was read to its end
+pub record Receives (kind : HoldKind) (reader reader' : Source) (given : Result (Option (List ℕ)) RunError) : Type 0 where
+  pub input : Result (List ℕ) LoadFault
+  pub read : GivesInput most_frame reader reader' input
+  pub given_is : given ≡ received kind input
+
+module _ {F : Type 0} (trait : Ghosts F) (file : List ℕ) (loaded : List ℕ) (old new : F) (end : HoldEnd) where
+  -- nothing was saved
+  abbrev pub Leaves : HoldEnd → Type 0
+  Leaves due = (new ≡ old) × (end ≡ due)
+
+  abbrev pub SavesIf : Bool → List ℕ → Type 0
+  SavesIf true image = Leaves (Ok tt)
+  SavesIf false image = (answer : Result (Unit {0}) SaveFault) × (SavesFile trait old file image answer new × (end ≡ result_map_err (λ fault. (file, save_error fault)) answer))
+
+  -- an image was saved, unless it is the one that was loaded
+  abbrev pub SavesOther : List ℕ → Type 0
+  SavesOther image = SavesIf (bytes_eq image loaded) image
+
+  -- what was given was saved; or nothing was given, or no image
+  abbrev pub SavesReceived : Result (Option (List ℕ)) RunError → Type 0
+  SavesReceived (Ok None) = Leaves (Ok tt)
+  SavesReceived (Ok (Some image)) = SavesOther image
+  SavesReceived (Err why) = Leaves (Err (codes "input", why))
+
+module _ {F : Type 0} (trait : Ghosts F) (kind : HoldKind) (file : FileName) (reader reader' : Source) (out out' : Watch) (new : F) (end : HoldEnd) where
+  -- nothing was printed, read or saved
+  abbrev pub EndsEarly : F → List ℕ × RunError → Type 0
+  EndsEarly old met = (new ≡ old) × (reader' ≡ reader) × (out' ≡ out) × (end ≡ Err met)
+
+  abbrev pub AfterShown : F → List ℕ → Ending → Type 0
+  AfterShown old loaded (Ok verdict) = (given : Result (Option (List ℕ)) RunError) × (Receives kind reader reader' given × SavesReceived trait file.name.now loaded old new end given)
+  AfterShown old loaded (Err why) = (reader' ≡ reader) × Leaves trait file.name.now loaded old new end (Err (file.name.now, why))
+
+  -- over the held file its image was printed, and then the input was read to its end and what it gave was saved; or the output failed
+  pub record Exchanges (old : F) (loaded : List ℕ) : Type 0 where
+    pub held : trait.held old ≡ Some file.name.now
+    pub shown : Ending
+    pub shows : Shows (record { out = frame loaded; ending = Ok Well }) out out' shown
+    pub after : AfterShown old loaded shown
+
+  abbrev pub AfterCheck : F → List ℕ → HoldEnd → Type 0
+  AfterCheck old loaded (Ok done) = Exchanges old loaded
+  AfterCheck old loaded (Err met) = EndsEarly old met
+
+  -- of an image that was loaded the hold was checked before it went out
+  abbrev pub AfterLoad : F → Result (List ℕ) (List ℕ × RunError) → Type 0
+  AfterLoad old (Ok loaded) = (checked : F) × ((met : HoldEnd) × (ChecksHold trait file.name.now old met checked × AfterCheck checked loaded met))
+  AfterLoad old (Err met) = EndsEarly old met
+
+  -- the file was held, and then loaded
+  pub record EditsHeld (old : F) : Type 0 where
+    pub held : F
+    pub holds : HeldIf trait (can_hold true file) file.name.now old held
+    pub loaded : F
+    pub given : Result (List ℕ) (List ℕ × RunError)
+    pub gives : GivesOf trait held file (held_in kind file.in_place) given loaded
+    pub after : AfterLoad loaded given
+
+-- a run of hold, which then released the file and reported how it ended
+pub record RunsHold {F : Type 0} (trait : Ghosts F) (old new : F) (out out' : Watch) (err err' : ErrorWatch) (status : ℕ) (kind : HoldKind) (file : FileName) (reader reader' : Source) : Type 0 where
+  pub done : F
+  pub end : HoldEnd
+  pub edits : EditsHeld trait kind file reader reader' out out' done end old
+  pub left : TurnsHold trait None done new
+  pub details : Details
+  pub reported : Reports (about_end file.name.now end) None details (ending_of end) err err' status
+  pub told : details.aftermath ≡ trait.aftermath new

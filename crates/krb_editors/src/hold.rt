@@ -1,0 +1,212 @@
+//! hold: prints the image of a file to another program, and saves the one that this gives back.
+
+ghost use Rattle.std.specs.Prelude.{◌≡◌, IsFalse, Some, option_map};
+ghost use Rattle.krb_driver.specs.Commands.{GivesOf};
+ghost use Rattle.krb_driver.specs.Loading.{result_map};
+ghost use Rattle.krb_editors.specs.Hold.{ChecksHold, EditsHeld, Exchanges, LoadsImage, Receives, RunsHold, SavesOther, end_of, held_in};
+
+mod frame;
+mod images;
+pub(crate) mod words;
+
+use crate::hold::frame::{MOST_FRAME, print_frame};
+use crate::hold::images::{given_by, whole};
+use crate::hold::words::HoldKind;
+use krb_driver::{
+    Details, FileError, FileName, RunError, Streams, Verdict, details_of, hold_if, other_type,
+    read_input, release, report,
+};
+use krb_files::{Files, LoadFault, WatchedReader};
+use krb_wire::USUAL_LIMIT;
+use std::alloc::Allocator;
+use std::io::{Read, Write};
+
+// Returns the image of an empty keytab.
+fn empty_image<A: Allocator>(alloc: A) -> Result<Vec<u8, A>, RunError>
+    ensures { MatchResult result (λ image. image.items ≡ empty_image) (λ error. error ≡ NoMemory) }
+{
+    match Vec::from_slice(alloc, &[5, 2]) {
+        Ok(image) => Ok(image),
+        Err(_) => Err(RunError::NoMemory),
+    }
+}
+
+// Loads the image of a file. A missing keytab that is not to be saved in place gives that of an empty one.
+fn load_whole<A: Allocator + Copy, F: Files>(
+    alloc: A,
+    kind: HoldKind,
+    files: &mut F,
+    file: FileName<'_>,
+) -> Result<Vec<u8, A>, RunError>
+    ensures { LoadsImage F.Files files.old file.entry.name.now (held_in kind file.entry.in_place)
+        (result_map (λ image. image.items) result) files.new }
+{
+    match files.load(alloc, file.name, USUAL_LIMIT) {
+        Ok(image) => whole(kind, image),
+        Err(LoadFault::Missing) if matches!(kind, HoldKind::Keytab(_)) && !file.in_place => {
+            empty_image(alloc)
+        }
+        Err(fault) => Err(RunError::from(fault)),
+    }
+}
+
+// Gives the image of a file. Each error names it.
+fn give_whole<'a, A: Allocator + Copy, F: Files>(
+    alloc: A,
+    kind: HoldKind,
+    files: &mut F,
+    file: FileName<'a>,
+) -> Result<Vec<u8, A>, FileError<'a>>
+    ensures { GivesOf F.Files files.old file.entry (held_in kind file.entry.in_place)
+        (result_map (λ image. image.items) (end_of result)) files.new }
+{
+    if file.is_other_type {
+        return Err(other_type(file));
+    }
+    match load_whole(alloc, kind, files, file) {
+        Ok(image) => Ok(image),
+        Err(error) => Err(FileError::of(file, error)),
+    }
+}
+
+// Fails if the held file could not be saved, as far as its hold tells.
+fn check_hold<'a, F: Files>(files: &mut F, file: FileName<'a>) -> Result<(), FileError<'a>>
+    ensures { ChecksHold F.Files file.entry.name.now files.old (end_of result) files.new }
+{
+    match files.check_hold() {
+        Ok(()) => Ok(()),
+        Err(fault) => Err(FileError {
+            file: file.name,
+            error: RunError::from(fault),
+        }),
+    }
+}
+
+// Reads the input to its end, and returns the image that it gives, unless it is empty.
+fn receive<A: Allocator, R: Read>(
+    alloc: A,
+    kind: HoldKind,
+    input: &mut WatchedReader<R>,
+) -> Result<Option<Vec<u8, A>>, RunError>
+    ensures { Receives kind input.old input.new (result_map (λ given. option_map (λ image. image.items) given) result) }
+{
+    let text = match read_input(alloc, input, MOST_FRAME) {
+        Ok(text) => text,
+        Err(fault) => return Err(RunError::of_input(fault)),
+    };
+    if text.is_empty() {
+        return Ok(None);
+    }
+    Ok(Some(given_by(kind, text)?))
+}
+
+// Saves an image, unless it is the one that was loaded.
+fn save_other<'a, F: Files>(
+    files: &mut F,
+    file: FileName<'a>,
+    loaded: &[u8],
+    image: &[u8],
+) -> Result<(), FileError<'a>>
+    ensures { SavesOther F.Files file.entry.name.now loaded.now files.old files.new (end_of result) image.now }
+{
+    if image == loaded {
+        return Ok(());
+    }
+    match files.save(file.name, image) {
+        Ok(()) => Ok(()),
+        Err(fault) => Err(FileError {
+            file: file.name,
+            error: RunError::from(fault),
+        }),
+    }
+}
+
+// Prints an image that was loaded, and then saves the one that the input gives back.
+fn exchange<'a, A: Allocator, F: Files, R: Read, W: Write, E: Write>(
+    alloc: A,
+    kind: HoldKind,
+    loaded: &[u8],
+    file: FileName<'a>,
+    files: &mut F,
+    streams: &mut Streams<R, W, E>,
+) -> Result<(), FileError<'a>>
+    requires shown { IsFalse streams.old.out.failed }
+    requires held { F.Files.held files.old ≡ Some file.entry.name.now }
+    ensures runs { Exchanges F.Files kind file.entry streams.old.input streams.new.input streams.old.out streams.new.out files.new (end_of result) files.old loaded.now }
+    ensures err { streams.new.err ≡ streams.old.err }
+{
+    if let Err(error) = print_frame(loaded, &mut streams.out) {
+        return Err(FileError {
+            file: file.name,
+            error,
+        });
+    }
+    match receive(alloc, kind, &mut streams.input) {
+        Ok(None) => Ok(()),
+        Ok(Some(image)) => save_other(files, file, loaded, &image),
+        Err(error) => Err(FileError {
+            file: "input",
+            error,
+        }),
+    }
+}
+
+// Holds a file, loads it, and lets the other program change it.
+fn edit_held<'a, A: Allocator + Copy, F: Files, R: Read, W: Write, E: Write>(
+    alloc: A,
+    kind: HoldKind,
+    file: FileName<'a>,
+    files: &mut F,
+    streams: &mut Streams<R, W, E>,
+) -> Result<(), FileError<'a>>
+    requires { IsFalse streams.old.out.failed }
+    ensures runs { EditsHeld F.Files kind file.entry streams.old.input streams.new.input streams.old.out streams.new.out files.new (end_of result) files.old }
+    ensures err { streams.new.err ≡ streams.old.err }
+{
+    hold_if(true, files, file);
+    let loaded = give_whole(alloc, kind, files, file)?;
+    check_hold(files, file)?;
+    exchange(alloc, kind, &loaded, file, files, streams)
+}
+
+// Returns the details of a run that ended so.
+fn details_of_hold<'a, F: Files, R: Read, W: Write, E: Write>(
+    ending: &Result<Verdict, RunError>,
+    files: &'a F,
+    streams: &Streams<R, W, E>,
+) -> Details<'a>
+    ensures { result.aftermath ≡ F.Files.aftermath files.now }
+{
+    let details = details_of(ending, files, &streams.out);
+    match ending {
+        Err(RunError::InputNotRead) => Details {
+            cause: streams.input.cause(),
+            ..details
+        },
+        _ => details,
+    }
+}
+
+/// Holds a file of that kind, prints the frame of its image, reads a frame from the input to its end, saves the image in
+/// that, and returns the exit status. An empty input leaves the file as it was. The hold lasts from before the load
+/// until then.
+pub fn run_hold<A: Allocator + Copy, F: Files, R: Read, W: Write, E: Write>(
+    alloc: A,
+    kind: HoldKind,
+    file: FileName<'_>,
+    files: &mut F,
+    streams: &mut Streams<R, W, E>,
+) -> u8
+    requires { IsFalse streams.old.out.failed }
+    ensures { RunsHold F.Files files.old files.new streams.old.out streams.new.out streams.old.err streams.new.err result
+        kind file.entry streams.old.input streams.new.input }
+{
+    let done = edit_held(alloc, kind, file, files, streams);
+    release(files);
+    let (ending, named) = match done {
+        Ok(()) => (Ok(Verdict::Well), file.name),
+        Err(met) => (Err(met.error), met.file),
+    };
+    let details = details_of_hold(&ending, files, streams);
+    report(ending, named.as_bytes(), None, details, &mut streams.err)
+}
