@@ -6,6 +6,7 @@ import time
 from concurrent.futures import ThreadPoolExecutor
 from dataclasses import replace
 from functools import partial
+from itertools import product
 
 from keytabs.file_names import LIMIT, sized
 from keytabs.listings import B_LINE, HOST_LINE, listed
@@ -60,21 +61,14 @@ def no_cache(why: tuple[int, str], name: str = "k") -> tuple[str, str]:
     return f"{name}: not a cache ({why[0]})", why[1]
 
 
-def damaged(fault: int, place: int) -> tuple[tuple[str, str], tuple[str, str]]:
-    """Returns the message about a damaged input."""
-    return ("", f"input: fault {fault} at {place}"), ("input: refused 1", GIVEN_DAMAGED)
+def damaged(fault: int, place: int) -> tuple[str, str]:
+    """Returns the message about a damaged input. Its words begin with the fault."""
+    return "input: refused 1", f"input: fault {fault} at {place}\nkrbfile: {GIVEN_DAMAGED}"
 
 
+# The message about other inputs, what is in the way, and a keytab beside what a killed run left.
 NOT_A_FRAME, IN_THE_WAY = ("input is not whole", NOT_WHOLE), {"setting": in_the_way}
-
-# A keytab beside what a killed run left.
 LEFT = {"k": TWO, "k.krbfile": b"left"}
-
-
-def locked(folder: str) -> None:
-    """Lets none but the owner write a folder and its file."""
-    os.chmod(folder, 0o755)
-    os.chmod(os.path.join(folder, "k"), 0o644)
 
 
 CASES = [
@@ -94,10 +88,10 @@ CASES = [
     *(given(C, USUAL, frame(data), no_cache(why, "input")) for data, why in (
         (b"\5", SHORT), (b"\5\2", HELD_AS_KEYTAB), (b"\4\4", BEGINS_AS_NO_CACHE), (b"\5\4\0", BAD_HEADER),
         (b"\5\3", BAD_DEFAULT))),
-    *(given(K, TWO, frame(data), *damaged(fault, place)) for data, fault, place in (
+    *(given(K, TWO, frame(data), damaged(fault, place)) for data, fault, place in (
         (b"\5\2\0\0", 1, 2), (TWO[:-1], 2, 53), (keytab(B, record(bytes(3))), 3, 47))),
-    given(C, USUAL, frame(CUT_CACHE), *damaged(4, 392)),
-    given("hold -k --v1-big k", old(order=BIG), frame(old(HOST)), *damaged(2, 2)),
+    given(C, USUAL, frame(CUT_CACHE), damaged(4, 392)),
+    given("hold -k --v1-big k", old(order=BIG), frame(old(HOST)), damaged(2, 2)),
     # Sizes.
     partial(given, K, TWO, bytes(LIMIT + 12), ("input too large", LARGE), name="too many bytes"),
     partial(given, K, TWO, bytes(LIMIT + 11), NOT_A_FRAME, name="as many bytes as may be"),
@@ -121,18 +115,17 @@ CASES = [
 
 
 def check_left(report: Report, program: str) -> None:
-    """Checks that nothing is touched if nothing is saved, a leftover neither, which goes with a save."""
-    for line in (K, PLACED):
-        for data, wanted in ((b"", 0), (frame(TWO), 0), (b"3\n\5\2", 1), (EMPTY, 0)):
-            with folder_of(LEFT) as folder:
+    """Checks that the file stays as it is if nothing is saved, and in place what a killed run left beside it."""
+    for line, files in product((K, PLACED), ({"k": TWO}, LEFT)):
+        for data, status in ((b"", 0), (frame(TWO), 0), (b"3\n\5\2", 1), (EMPTY, 0)):
+            with folder_of(files) as folder:
                 before = stands(folder)
                 got = run(program, line.split(), folder, data)
-                faults = [] if (got.status, got.out) == (wanted, frame(TWO)) else [f"{got}"]
-                is_saved, goes = data == EMPTY, data == EMPTY and IN_PLACE not in line
-                faults += tree_faults({**LEFT, "k": NONE if is_saved else TWO, **({"k.krbfile": None} if goes else {})},
-                                      folder)
-                faults += [] if is_saved or stands(folder) == before else ["a file was written"]
-            report.check(f"beside a leftover: {line}, {data[:4]}", faults)
+                faults = [] if (got.status, got.out) == (status, frame(TWO)) else [f"{got}"]
+                faults += [] if data == EMPTY or stands(folder)["k"] == before["k"] else ["the file was written"]
+                is_left = {"k.krbfile": b"left"} if files == LEFT and line == PLACED else {}
+                faults += tree_faults({"k": NONE if data == EMPTY else TWO, **is_left}, folder)
+            report.check(f"{[*files]}: {line}, {data[:4]}", faults)
 
 
 def check_locked(report: Report, program: str) -> None:
@@ -140,18 +133,26 @@ def check_locked(report: Report, program: str) -> None:
     if not (options := as_another(program)):
         report.skip("holds of files of others", "none but root may make them, or start the program")
         return
+
+    def lock(folder: str) -> None:
+        for path in (folder, os.path.join(folder, "k")):
+            os.chmod(path, 0o755)
+
     for line in (K, PLACED):
-        unsaved(line, "EACCES", setting=locked, options=options).check(report, program)
+        unsaved(line, "EACCES", setting=lock, options=options).check(report, program)
 
 
 def check_outputs(report: Report, program: str) -> None:
-    """Checks outputs that fail, and a terminal: nothing is saved, and the input is left."""
-    for redirected, phrase in (('>/dev/full', CAUSES["ENOSPC"]), ('>&-', "error 9")):
+    """Checks outputs that fail, and a terminal: nothing is saved, and the input is left. Checks an input that fails."""
+    unread = explained(message(3, "cannot read input"), "error 9")
+    for line, (stream, wanted) in product((K, PLACED), {
+            ">/dev/full": replace(explained(FAILED, CAUSES["ENOSPC"]), out=EMPTY),
+            ">&-": replace(explained(FAILED, "error 9"), out=EMPTY),
+            "<&-": replace(unread, out=frame(TWO) + EMPTY)}.items()):
         with folder_of({"k": TWO}) as folder:
-            script = f'"$0" "$@" {redirected}; status=$?; cat; exit $status'
-            got = run("sh", ("-c", script, program, EXPLAIN, *K.split()), folder, EMPTY)
-            faults = differences(replace(explained(FAILED, phrase), out=EMPTY), got) + tree_faults({"k": TWO}, folder)
-        report.check(f"an output that fails, {redirected}", faults)
+            script = f'"$0" "$@" {stream}; status=$?; cat; exit $status'
+            got = run("sh", ("-c", script, program, EXPLAIN, *line.split()), folder, EMPTY)
+            report.check(f"{line} {stream}", differences(wanted, got) + tree_faults({"k": TWO}, folder))
     for files in ({}, {"k": b"other"}, LEFT):
         ours, theirs = os.openpty()
         with folder_of(files) as folder:
