@@ -18,7 +18,7 @@ from system.saving import owned, tree_faults
 WHAT = "the edit of krbfile(3)"
 
 # The most lines that it takes on the page.
-LINES = 46
+LINES = 44
 
 OLD, NEW = SAMPLES["mixed.keytab"], keytab(HOST, 41)
 REMOVED = Outcome(0, b"removed 53 kvno 3 etype 23 b@R\n")
