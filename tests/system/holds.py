@@ -17,7 +17,7 @@ from runs.harness import SECONDS, Outcome, Report, differences, folder_of, messa
 from runs.terminal import EXPLAIN, all_of
 from system.outputs import FAILED
 from system.placing import explained
-from system.saving import as_another, stands, tree_faults, write
+from system.saving import as_another, stands, tree_faults
 from system.waits import AT_ONCE, LEAST_WAIT, LONGEST_WAIT
 from words.explained import CUT_CACHE, Explained, case, failed, in_the_way, no_keytab
 from words.phrases import (BAD_DEFAULT, BAD_HEADER, BEGINS_AS_CACHE, BEGINS_AS_NO_CACHE, BEGINS_AS_NO_KEYTAB, CAUSES,
@@ -69,7 +69,6 @@ def damaged(fault: int, place: int) -> tuple[str, str]:
 # The message about other inputs, what is in the way, and a keytab beside what a killed run left.
 NOT_A_FRAME, IN_THE_WAY = ("input is not whole", NOT_WHOLE), {"setting": in_the_way}
 LEFT = {"k": TWO, "k.krbfile": b"left"}
-
 
 CASES = [
     *(given(line, TWO, b"") for line in (K, PLACED)), given(K, None, b""), given(C, USUAL, b""),
