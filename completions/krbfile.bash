@@ -1,7 +1,7 @@
 # Completion of krbfile's command lines for bash.
 
 _krbfile() {
-    local commands='klist ktfind ktedit ktremove ktcopy ktcheck ktutil ccedit ccremove help'
+    local commands='klist ktfind ktedit ktremove ktcopy ktcheck ktutil ccedit ccremove hold help'
     local etypes='des3-cbc-sha1 aes128-cts-hmac-sha1-96 aes256-cts-hmac-sha1-96
         aes128-cts-hmac-sha256-128 aes256-cts-hmac-sha384-192 arcfour-hmac
         camellia128-cts-cmac camellia256-cts-cmac'
@@ -23,6 +23,7 @@ _krbfile() {
         ktcopy) options='-n --dry-run --replace -p --principal -k --kvno -e --enctype --v1-big --in-place' ;;
         ccedit) options='--in-place' ;;
         ccremove) options='-n --dry-run -p --service --expired --in-place' ;;
+        hold) options='-k --keytab --v1-big --in-place' ;;
     esac
     case "$command ${COMP_WORDS[COMP_CWORD - 1]}" in
         'ktremove -k' | 'ktremove --kvno') offered=old ;;

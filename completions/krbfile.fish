@@ -24,6 +24,7 @@ for at in __fish_use_subcommand '__fish_seen_subcommand_from help'
     complete -c krbfile -n $at -a ktutil -d 'Edit a list of entries by commands'
     complete -c krbfile -n $at -a ccedit -d 'Edit a credential cache by a script'
     complete -c krbfile -n $at -a ccremove -d 'Remove tickets from a credential cache'
+    complete -c krbfile -n $at -a hold -d 'Let another program change a keytab or a cache'
     complete -c krbfile -n $at -a help -d 'Print help'
 end
 
@@ -53,8 +54,10 @@ complete -c krbfile -n '__fish_seen_subcommand_from ktcheck' -l allow -x -a 'wea
 complete -c krbfile -n '__fish_seen_subcommand_from ccremove' -s p -l service -x -d 'Tickets for that service'
 complete -c krbfile -n '__fish_seen_subcommand_from ccremove' -l expired -d 'Tickets that have expired'
 
-complete -c krbfile -n '__fish_seen_subcommand_from klist ktfind ktedit ktremove ktcopy ktcheck ktutil' -l v1-big -d 'Version 1 files are big-endian'
-complete -c krbfile -n '__fish_seen_subcommand_from ktedit ktremove ktcopy ktutil ccedit ccremove' -l in-place -d 'Write the file where it stands, and make no new one'
-complete -c krbfile -n '__fish_seen_subcommand_from klist ktfind ktedit ktremove ktcopy ktcheck ccedit ccremove' -F
+complete -c krbfile -n '__fish_seen_subcommand_from hold' -s k -l keytab -d 'The file is a keytab'
+
+complete -c krbfile -n '__fish_seen_subcommand_from klist ktfind ktedit ktremove ktcopy ktcheck ktutil hold' -l v1-big -d 'Version 1 files are big-endian'
+complete -c krbfile -n '__fish_seen_subcommand_from ktedit ktremove ktcopy ktutil ccedit ccremove hold' -l in-place -d 'Write the file where it stands, and make no new one'
+complete -c krbfile -n '__fish_seen_subcommand_from klist ktfind ktedit ktremove ktcopy ktcheck ccedit ccremove hold' -F
 
 complete -c krbfile -n __krbfile_wants_etype -a "$etypes"

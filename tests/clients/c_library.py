@@ -10,6 +10,7 @@ from makers.cache_images import cache
 from makers.images import TWO
 from makers.samples import SAMPLES
 from makers.usual_caches import PA_TYPE, TICKET, USUAL
+from models.cases import frame
 from pages.documents import literals
 from peers import corpus
 from runs.harness import SECONDS, TOP, Outcome, Report, differences, files_in, folder_of, run
@@ -91,6 +92,8 @@ PROGRAM_RUNS = (
     (("ktcopy", "--in-place", "j", "k"), b""),
     (("ccedit", "--in-place", "c"), b"config k - w\n"),
     (("ccremove", "-p", "krbtgt/R@R", "c"), b""),
+    (("hold", "-k", "k"), frame(TWO)),
+    (("hold", "c"), frame(USUAL)),
 )
 
 

@@ -1,10 +1,12 @@
-"""The jobs in examples/: their shell over the keytabs of a small root, systemd's and Ansible's look at the rest."""
+"""The jobs in examples/: their shell over the keytabs of a small root, systemd's and Ansible's look at the rest. The
+scripts that edit a file by `krbfile hold`, also killed in the middle."""
 
 import json
 import os
 import re
 import shlex
 import shutil
+import signal
 import subprocess
 import sys
 import time
@@ -12,10 +14,13 @@ from collections.abc import Iterator
 from contextlib import contextmanager
 from dataclasses import dataclass, replace
 
+from makers.cache_images import cache, header_field, offset
+from makers.images import HOST, TWO, keytab
 from makers.samples import SAMPLES
+from makers.usual_caches import FIELDS, TICKET, VERSION_3
 from pages.documents import read
-from runs.harness import SECONDS, TOP, Outcome, Report, folder_of, message, run
-from system.saving import write
+from runs.harness import SECONDS, TOP, Outcome, Report, differences, folder_of, message, run
+from system.saving import owned, tree_faults, write
 
 FOLDER = os.path.join(TOP, "examples")
 
@@ -179,6 +184,44 @@ def check_play(report: Report, program: str) -> None:
             write(f"{root}/etc/weak.keytab", SAMPLES["mixed.keytab"])
 
 
+# The scripts over a file `f` of that mode: what they are given, how they end, and the file afterwards. What a command
+# kills is the script.
+KEYTABS = "edit-keytab.sh"
+EDITS: list[tuple[str, str, bytes, Outcome, bytes]] = [
+    (KEYTABS, "cat; tail -c +3 other", TWO, Outcome(0), keytab(TWO[2:], HOST)),
+    (KEYTABS, "cat", TWO, Outcome(0), TWO),
+    (KEYTABS, "cat other; exit 7", TWO, Outcome(7), TWO),
+    (KEYTABS, "cat; cat other", TWO, message(1, "input: refused 1"), TWO),
+    (KEYTABS, "cat other", TWO[:-1], message(1, "f: refused 1"), TWO[:-1]),
+    (KEYTABS, "kill -TERM $PPID; cat other", TWO, Outcome(1), TWO),
+    (KEYTABS, "kill -KILL $PPID; cat other", TWO, Outcome(-signal.SIGKILL), TWO),
+    ("reset-offset.pl", "", cache(TICKET, fields=FIELDS), Outcome(0),
+     cache(TICKET, fields=header_field(9, b"\xab\xcd") + offset(0, 0))),
+    ("reset-offset.pl", "", cache(TICKET), Outcome(0), cache(TICKET)),
+    ("reset-offset.pl", "", VERSION_3, Outcome(0), VERSION_3),
+    ("reset-offset.pl", "", TWO, message(1, "f: not a cache (2)"), TWO),
+]
+MODE = 0o640
+
+
+def check_edits(report: Report, programs: str) -> None:
+    """Runs the scripts. They leave no file of their own, but where they are killed, and that only to their user."""
+    for name, command, image, wanted, after in EDITS:
+        by, *given = ("/bin/sh", "sh", "-c", command) if command else (shutil.which("perl"),)
+        if by is None:
+            report.skip(f"{name} of examples/", "perl is not there")
+            continue
+        with folder_of({"other": keytab(HOST)}) as folder, folder_of({}) as room:
+            write(os.path.join(folder, "f"), image, MODE)
+            env = {**os.environ, "PATH": f"{programs}:{os.environ['PATH']}", "TMPDIR": room}
+            faults = differences(wanted, run(by, (os.path.join(FOLDER, name), "f", *given), folder, env=env))
+            faults += tree_faults({"other": keytab(HOST), "f": after}, folder)
+            faults += [] if owned(os.path.join(folder, "f")).mode == MODE else ["another mode"]
+            left = [owned(each.path).mode for each in os.scandir(room)]
+            faults += [] if left == ([0o700] if wanted.status == -signal.SIGKILL else []) else [f"{left} are left"]
+        report.check(f"{name} {command!r} of {len(image)} bytes", faults)
+
+
 def check(report: Report, program: str) -> None:
     """Runs this topic. cron and systemd have the same check."""
     job, service = of_cron("check-keytabs.cron"), of_systemd("check-keytabs.service")
@@ -187,5 +230,6 @@ def check(report: Report, program: str) -> None:
     with folder_with(program) as programs:
         check_daily(report, job, programs)
         check_removal(report, of_cron("remove-old-keys.cron"), program, programs)
+        check_edits(report, programs)
     check_units(report)
     check_play(report, program)

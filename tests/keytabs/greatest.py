@@ -7,6 +7,7 @@ from dataclasses import replace
 
 from keytabs.file_names import LIMIT, TOO_LARGE, sized
 from makers.images import HOST, Entry, hole, keytab, record
+from models.cases import hold
 from models.check_model import mode_of_files
 from runs.harness import Case, Outcome, message
 from runs.rows import over, printed, text
@@ -187,6 +188,7 @@ def edits() -> list[Case]:
              Outcome(0, at_each(b"gone %d\n") + at_each(b"placed %d\n"))),
         edit("the most steps", least(), b"start\n" + steps, Outcome(0, b"walk 0 at 2\n" + gave + ends)),
         edit("the most removals of nothing", least(), none, Outcome(1, b"refused 5\n" * none.count(b"\n"))),
+        hold(sized(LIMIT), least(), name="of the greatest file, and another as great"),
     ]
 
 

@@ -162,6 +162,18 @@ def in_place(case: Case) -> Case:
     return replace(case, name=f"{case.name}, in place", words=(command, IN_PLACE, *rest))
 
 
+def frame(image: bytes) -> bytes:
+    """Returns an image as `hold` gives and takes it."""
+    return b"%d\n%b" % (len(image), image)
+
+
+@timeless
+def hold(image: bytes | None, after: bytes, *, words: tuple[str, ...] = ("-k", "k"), name: str = "") -> Case:
+    """Returns a hold of a keytab, or of the cache `c`, in whose place another is given."""
+    shown = frame(b"\5\2" if image is None else image)
+    return changing(name, ("hold", *words), words[-1], (image, after), Outcome(0, shown), frame(after))
+
+
 @timeless
 def ccedit(image: bytes | None, script: bytes, *, name: str = "") -> Case:
     """Returns a run of a script over a cache."""

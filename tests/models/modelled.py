@@ -89,7 +89,7 @@ def modelled(case: Case) -> Modelled:
         stages = stages_of(case.files, case.stdin.splitlines(keepends=True))
     elif command == "ktcheck":
         stages = stages_of_check(case)
-    return Modelled(case, tuple(stages), may_print=command in ("klist", "ktfind"))
+    return Modelled(case, tuple(stages), may_print=command in ("klist", "ktfind", "hold"))
 
 
 def mixed_keytab(count: int) -> bytes:
@@ -194,6 +194,9 @@ def small() -> list[Modelled]:
         cases.in_place(cases.ccremove(USUAL, NOW, selection=TicketSelection(b"krbtgt/R@R"), name="of a service")),
         cases.ccremove(cache, NOW, selection=TicketSelection(is_expired=True), name="of expired ones"),
         cases.ccremove(cache, NOW, selection=TicketSelection(b"no@R"), name="of nothing"),
+        cases.hold(image, rotated_keytab(4), name="a keytab"),
+        cases.hold(None, image, name="no file"),
+        cases.in_place(cases.hold(cache, USUAL, words=("c",), name="a cache")),
         cases.ktutil(talk(), NOW, files=talk_files(3), name="over small files"),
     )]
 
@@ -215,5 +218,6 @@ def large() -> list[Modelled]:
         cases.ktremove(rotated_keytab(300), selection=Selection(kvno=OLD), name="of many old versions"),
         cases.ccedit(cache, mixed_cache_script(cache, 100), name="a long script"),
         cases.ccremove(cache, NOW, selection=TicketSelection(is_expired=True), name="of many expired ones"),
+        cases.hold(image, rotated_keytab(300), name="a large keytab"),
         cases.ktutil(talk("-e"), NOW, files=talk_files(200), name="over a large file"),
     )]

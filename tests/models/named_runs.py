@@ -14,6 +14,7 @@ from makers.images import HOST, TWO, keytab
 from makers.usual_caches import TICKET
 from models import json_model
 from models.cache_reading import listed as listed_cache
+from models.cases import frame
 from models.check_model import FOLDER
 from models.name_model import FileName, Kind
 from runs.harness import Outcome
@@ -151,4 +152,7 @@ COMMANDS = (
     Command(Kind.CACHE, "klist -s -- NAME", cache(VALID), b"", has_default=True, is_silent=True),
     Command(Kind.CACHE, "ccedit -- NAME", CACHE, b"walk 0 at 22\n", given=b"start\n"),
     Command(Kind.CACHE, "ccremove -p krbtgt/R@R -- NAME", CACHE, b"removed 22 krbtgt/R@R\n", after=cache()),
+    Command(Kind.KEYTAB, "hold -k -- NAME", TWO, frame(TWO), after=keytab(C), made=(frame(keytab()), keytab(C)),
+            given=frame(keytab(C))),
+    Command(Kind.CACHE, "hold -- NAME", CACHE, frame(CACHE), after=cache(), given=frame(cache())),
 )

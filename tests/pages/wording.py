@@ -47,7 +47,8 @@ def check_manual(report: Report) -> None:
     lists["causes"] = causes() ^ set(phrases.CAUSES.values())
     found = re.findall(r"^\.It Ic (\w+) .*\n(.*):$", read(PAGE), re.MULTILINE)
     lists["findings"] = set(found) ^ set(phrases.FINDINGS.items())
-    lists["other phrases"] = {phrases.LARGE, phrases.CLOCK}.difference(re.split(";?\n", read(PAGE)))
+    others = {phrases.LARGE, phrases.CLOCK, phrases.NOT_WHOLE, phrases.GIVEN_DAMAGED, phrases.TO_A_PROGRAM}
+    lists["other phrases"] = others.difference(re.split(";?\n", read(PAGE)))
     for name, wrong in lists.items():
         report.check(f"the manual page: {name}", sorted(map(str, wrong)))
 

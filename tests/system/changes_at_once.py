@@ -13,15 +13,18 @@ from random import Random
 from makers.images import Entry, keytab
 from models.cases import IN_PLACE
 from peers.beside_mit import SURROUNDINGS, are_there
-from runs.harness import Report, folder_of, run
+from runs.harness import TOP, Report, folder_of, run
 from runs.random_runs import Rounds
 from runs.storms import Run, rage
 from system.saving import tree, write
-from system.storm_kinds import COPIES, KINDS, MANY, PLACES, Kind, change, removes
+from system.storm_kinds import COPIES, HOLDS, KINDS, MANY, PLACES, Kind, change, removes
 
 # The names by which the runs call the file, and the contents of the folder at the end.
 PATHS = ("k", "./k", "link")
 LEFT = {"k", "link"}
+
+# Another program that adds entries by `hold`, which a keytab has.
+ADDS = ("sh", os.path.join(TOP, "examples", "edit-keytab.sh"))
 
 
 def source_of(name: str, folder: str) -> str:
@@ -49,15 +52,20 @@ class Storm:
             command = self.kind.command(number)
             name = f"{'m' if is_mits else 'h' if removes(command) else 'a'}{number}"
             source = source_of(name, sources)
-            words, text = change(command, name, self.random.choice(PATHS), source)
+            path = self.random.choice(PATHS)
+            words, text = change(command, name, path, source)
             if self.kind.in_place and not is_killed and self.random.random() < 0.5:
                 words = (words[0], IN_PLACE, *words[1:])
             line = (self.program, *words)
             if is_mits:
                 line, text = ("ktutil",), f"rkt {source}\nwkt k\n"
+            if command == "hold":
+                line, text = (*ADDS, path, "sh", "-c", f"cat; tail -c +3 {source}"), ""
             self.runs.append(Run(name, line, text, removes(command), is_mits, is_killed))
+        os.symlink(self.program, os.path.join(sources, "krbfile"))
+        path = sources + os.pathsep + SURROUNDINGS["PATH"]
         for each in self.runs:
-            each.start(folder, SURROUNDINGS)
+            each.start(folder, {**SURROUNDINGS, "PATH": path, "TMPDIR": sources})
 
     def look(self, path: str, is_over: threading.Event) -> None:
         """Reads the file repeatedly until all programs have ended."""
@@ -146,7 +154,8 @@ class Storms(Rounds):
     name: str = ""
 
 
-# Storms of one command or two; of ktcopy, also beside ktedit, ktremove and MIT's ktutil; and those in which some runs
-# save in place and others replace the file, and some of those that replace it are killed.
+# Storms of one command or two; of ktcopy, also beside ktedit, ktremove and MIT's ktutil; of hold; and those in which
+# some runs save in place and others replace the file, and some of those that replace it are killed.
 TOPICS = tuple(Storms(partial(check_kinds, kinds), usual=usual, share=2_000, name=f"{what}_at_once")
-               for what, kinds, usual in (("changes", KINDS, 2), ("copies", COPIES, 2), ("places", PLACES, 1)))
+               for what, kinds, usual in (("changes", KINDS, 2), ("copies", COPIES, 2), ("holds", HOLDS, 1),
+                                          ("places", PLACES, 1)))

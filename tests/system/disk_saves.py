@@ -4,7 +4,7 @@ import os
 from dataclasses import replace
 
 from makers.images import TWO, keytab
-from models.cases import in_place, ktcopy, ktedit
+from models.cases import hold, in_place, ktcopy, ktedit
 from models.copy_model import Request
 from runs.harness import Case, Report, differences, folder_of, message
 from system.placing import PLACED
@@ -13,7 +13,8 @@ from system.saving import (ADD, CHANGES, GROUP, HOLDING_NOTHING, NEW, OLD, SAVED
                            tree_faults, unsaved, write)
 
 # Runs that make a file, and copies over a keytab, and over a file of no bytes.
-MADE, COPIED = ktedit(None, SCRIPT, name="adds"), ktcopy(TWO, None, request=Request(), name="adds")
+MADE = (ktedit(None, SCRIPT, name="adds"), ktcopy(TWO, None, request=Request(), name="adds"),
+        hold(None, NEW, name="saves"))
 COPIES = tuple(ktcopy(TWO, target, request=Request(), name=f"into {len(target)} bytes") for target in (keytab(), b""))
 
 # Modes of files that are replaced by their owner.
@@ -34,7 +35,7 @@ def check_owned(report: Report, name: str, program: str, old: Owned, new: Owned,
     report.check(f"{name}, mode {old.mode:o}: {case.name}", faults)
 
 
-def check_new_files(report: Report, program: str, cases: tuple[Case, ...] = (MADE,)) -> None:
+def check_new_files(report: Report, program: str, cases: tuple[Case, ...] = MADE) -> None:
     """Checks that a new file is readable by its owner only, whatever the umask."""
     for case in cases:
         for umask in (0, 0o022, 0o077, 0o777):
@@ -185,7 +186,7 @@ def check_locked_folder(report: Report, program: str) -> None:
 
 def check(report: Report, program: str) -> None:
     """Runs this topic."""
-    check_new_files(report, program, (MADE, COPIED))
+    check_new_files(report, program)
     for each in (check_own_files, check_others_files, check_hard_links):
         each(report, program, (*CHANGES, *COPIES))
     for each in (check_links, check_broken_links, check_removed, check_locked_folder):

@@ -6,6 +6,7 @@ is read once more too, and that is said.
 """
 
 from collections.abc import Iterable, Iterator
+from dataclasses import replace
 from errno import EACCES, EAGAIN, EINTR, ENOMEM, ENOSPC, errorcode
 from functools import cached_property
 from random import Random
@@ -108,10 +109,13 @@ class Ends:
     @cached_property
     def of_saves(self) -> list[End]:
         """How it ends for each save that fails."""
-        words = self.run.case.words
-        if words[0] == "ktutil":
+        case = self.run.case
+        if case.words[0] == "ktutil":
             return [*self.talks("save")]
-        return [(message(3, f"{words[-1]}: cannot write"), self.run.case.files)]
+        unsaved = message(3, f"{case.words[-1]}: cannot write")
+        # A hold that cannot be had, or not save, prints nothing yet.
+        printed = [replace(unsaved, out=case.wanted.out)] if case.words[0] == "hold" else []
+        return [(outcome, case.files) for outcome in (unsaved, *printed)]
 
     @cached_property
     def replaced(self) -> list[int]:
@@ -131,7 +135,8 @@ class Ends:
         case = self.run.case
         if case.words[0] == "ktutil":
             return handled(case.files, case.stdin[:given], NOW, is_cut=True)
-        return message(3, "cannot read input"), case.files
+        out = case.wanted.out if case.words[0] == "hold" else b""
+        return replace(message(3, "cannot read input"), out=out), case.files
 
     def are_met(self, setting: str, given: int, got: Counted) -> bool:
         """Whether a run in which that failed ended as it has to."""
@@ -148,8 +153,8 @@ class Ends:
 
 
 def ends_in_output(run: Modelled, got: Counted) -> bool:
-    """Whether a run ended because its output failed: a prefix was printed, and a script is saved."""
-    has_stages = run.case.words[0] in ("ktutil", "ktcheck")
+    """Whether a run ended because its output failed: a prefix was printed, and a script is saved, what is held not."""
+    has_stages = run.case.words[0] in ("ktutil", "ktcheck", "hold")
     stages = run.stages if has_stages else (Stage(b"", b"", run.after()),)
     printing = Modelled(run.case, stages, may_print=True)
     return printing.ends_early(got.outcome, got.files, NO_OUTPUT)
@@ -198,7 +203,7 @@ def check_setting(
 
 def settings_of(run: Modelled) -> tuple[str, ...]:
     """Returns what may fail in a run."""
-    if run.case.words[0] in ("ktedit", "ktutil", "ccedit"):
+    if run.case.words[0] in ("ktedit", "ktutil", "ccedit", "hold"):
         return OF_EDITOR
     return OF_REMOVER if run.case.words[0] in ("ktremove", "ktcopy", "ccremove") else OF_READER
 

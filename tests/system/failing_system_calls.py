@@ -125,6 +125,7 @@ def runs() -> list[tuple[Modelled, list[Step]]]:
         (cases.ktremove(TWO, selection=Selection((b"host/a@R",)), name="a keytab"), change_k),
         (cases.ccedit(USUAL, config, name="a cache"), [READ, *change_c]),
         (cases.ccremove(USUAL, NOW, selection=TicketSelection(b"krbtgt/R@R"), name="a cache"), change_c),
+        (cases.hold(TWO, keytab(B), name="a keytab"), [*hold("k"), *held(), PRINT, READ, *save("k", 2)]),
         (cases.ktutil(TALK, NOW, files={"j": TWO, "k": keytab(B)}, name="three files"), TALKED),
     )]
 
@@ -200,7 +201,7 @@ def traced_run(program: str, run: Modelled, *options: str) -> tuple[Counted, lis
 
 def first_text(run: Modelled, steps: list[Step]) -> str:
     """Returns text in the first call of a run's work, which reads the input, or names the file."""
-    if READ in steps:
+    if steps[0] == READ:
         return "read(0"
     return next(f'"{word}"' for word in run.case.words if word in run.case.files)
 

@@ -18,13 +18,13 @@ from runs.preload import Line
 from runs.rows import BAD_LINE
 from runs.system_calls import Halt, check_traced, halted, traced, under_strace
 from runs.terminal import EXPLAIN
-from system.placing import ADD_LONG, EQUAL, LONGER, PLACED, SHORTER, explained, refused, with_words
+from system.placing import ADD_LONG, EQUAL, LAST_OF_EACH, LONGER, PLACED, SHORTER, explained, refused, with_words
 from system.saving import HOLDING_NOTHING, OLD, SAVING_NOTHING, TGT, WALK, check_over, stands, tree_faults, unsaved
 from system.waits import AT_ONCE, LEAST_WAIT, LONGEST_WAIT, faults_of_waiting, ofd_lock
 from words.phrases import CAUSES
 
 # A run of each command that changes a file, in both ways.
-BOTH_WAYS = [way for case in PLACED[-6:] for way in (case, in_place(case))]
+BOTH_WAYS = [way for case in LAST_OF_EACH for way in (case, in_place(case))]
 
 # A keytab that clashes with one of both, and scripts that can change nothing.
 CLASH = keytab(replace(B, key=b"other"))

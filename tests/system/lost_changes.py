@@ -17,14 +17,15 @@ from runs.rows import shown
 from runs.system_calls import Halt, check_traced, halted
 from runs.terminal import EXPLAIN
 from system.failing_system_calls import READINGS
-from system.placing import CUT_OFF, EQUAL, LONGER, MIXED, PLACED, SHORTER, changed, explained, images, message_of, told
+from system.placing import (CUT_OFF, EQUAL, LAST_OF_EACH, LONGER, MIXED, PLACED, SHORTER, changed, explained, images,
+                            message_of, told)
 from system.saving import tree_faults, unsaved
 from words.phrases import AFTERMATHS, CAUSES, LEAVE_OUT, line_fault
 
 # A run of each command, and lines of ktutil of which the last ones are at fault and refused.
 TALK = ktutil(b"rkt j\nwkt k\nfrob\nwkt FILE:k\n", 0, files={"j": keytab(B), "k": keytab(HOST)},
               name="adds, is at fault, and is refused")
-CASES_OF_ALL = (*PLACED[-6:], TALK)
+CASES_OF_ALL = (*LAST_OF_EACH, TALK)
 
 # Where a run is halted: before its rename, at the last reading of the locks, and behind it.
 HALTS = {"before": Halt("openat", 2 * READINGS, ("/proc/locks",)), "behind": Halt("?rename,?renameat,?renameat2")}

@@ -5,7 +5,7 @@ import subprocess
 from dataclasses import replace
 
 from makers.images import B, HOST, TWO, keytab
-from models.cases import ktutil
+from models.cases import frame, ktutil
 from models.modelled import Modelled, modelled, small
 from runs.harness import Case, Outcome, Report, differences, folder_of, message, run_case
 from runs.preload import Counted
@@ -54,7 +54,7 @@ def check_lost(report: Report, program: str, stream: str) -> None:
                 report.check(f"{how} {stream}: {' '.join(words)}", differences(NO_OUTPUT, got))
 
 
-def check_lost_input(report: Report, program: str, words: tuple[str, ...]) -> None:
+def check_lost_input(report: Report, program: str, words: tuple[str, ...], out: bytes = b"") -> None:
     """Checks an input that is a folder, or closed."""
     with folder_of(FILES) as folder:
         for name, close in (("a folder", None), ("closed", lambda: os.close(0))):
@@ -63,7 +63,7 @@ def check_lost_input(report: Report, program: str, words: tuple[str, ...]) -> No
                                   capture_output=True, preexec_fn=close)
             os.close(opened)
             got = Outcome(done.returncode, done.stdout, done.stderr)
-            report.compare(f"input that is {name}: {' '.join(words)}", NO_INPUT, got)
+            report.compare(f"input that is {name}: {' '.join(words)}", replace(NO_INPUT, out=out), got)
 
 
 def check(report: Report, program: str) -> None:
@@ -72,3 +72,4 @@ def check(report: Report, program: str) -> None:
     check_lost(report, program, "stderr")
     for words in (("ktedit", "k"), ("ktutil",), ("ccedit", "c")):
         check_lost_input(report, program, words)
+    check_lost_input(report, program, ("hold", "-k", "k"), frame(TWO))

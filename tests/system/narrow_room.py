@@ -66,7 +66,7 @@ def without_room() -> list[Case]:
     lines = {("klist", "-k", "k"): b"", ("ktfind", "k", "0", "0", "b@R"): b"",
              ("ktedit", "k"): b"start\n", ("ktutil",): b"rkt k\n",
              ("ktremove", "-k", "3", "k"): b"", ("ktcheck", "k"): b"", ("klist", "c"): b"",
-             ("ccedit", "c"): b"start\n", ("ccremove", "--expired", "c"): b""}
+             ("ccedit", "c"): b"start\n", ("ccremove", "--expired", "c"): b"", ("hold", "-k", "k"): b"2\n\5\2"}
     files = {"k": sized(LIMIT), "c": cache_files.sized(LIMIT)}
     return [Case(f"a file as large as the memory: {' '.join(words)}", words, NO_MEMORY, files,
                  stdin=stdin) for words, stdin in lines.items()]

@@ -24,6 +24,8 @@ RUNS = (
     (("ktcopy", "two", "k"), b"", "k", ""),
     (("ccedit", "k"), b"cut 40\n", "k", ""),
     (("ccremove", "--expired", "k"), b"", "k", ""),
+    (("hold", "-k", "k"), b"2\n\5\2", "k", ""),
+    (("hold", "link"), b"", "link", ""),
     (("ktutil",), ADDENT + b"wkt k\n", "k", "line 3: "),
 )
 

@@ -5,7 +5,7 @@ from dataclasses import replace
 
 from makers.images import B, HOST, TWO, keytab
 from makers.usual_caches import USUAL
-from models.cases import ccedit, ccremove, ktcopy, ktedit, ktremove, ktutil
+from models.cases import ccedit, ccremove, hold, ktcopy, ktedit, ktremove, ktutil
 from models.copy_model import Request
 from models.removal_model import Selection
 from runs.harness import Case, Outcome
@@ -32,7 +32,9 @@ PLACED = (
     ktutil(TALK, 0, files={"j": keytab(B), "k": keytab(HOST)}, name="adds"),
     ccedit(USUAL, b"cut 40\nconfig pa_type krbtgt/R@R 3\n", name="sets"),
     ccremove(USUAL, 0, selection=TGT, name="removes"),
+    hold(TWO, keytab(60, HOST), name="saves"),
 )
+LAST_OF_EACH = PLACED[-7:]
 
 
 def changed(case: Case) -> str:

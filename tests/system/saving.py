@@ -7,7 +7,7 @@ from dataclasses import dataclass, replace
 
 from makers.images import HOST, keytab
 from makers.usual_caches import USUAL
-from models.cases import ccedit, ccremove, ktedit
+from models.cases import ccedit, ccremove, hold, ktedit
 from models.ticket_removal_model import Selection
 from runs.harness import Case, Outcome, Report, differences, folder_of, message, run
 
@@ -30,7 +30,8 @@ Place = Callable[[str], object]
 # on the clock.
 ADD = ktedit(OLD, SCRIPT, name="adds")
 TGT, NONE = Selection(b"krbtgt/R@R"), Selection(b"b@R")
-CHANGES = (ADD, ccedit(USUAL, b"cut 40\n", name="cuts"), ccremove(USUAL, 0, selection=TGT, name="takes"))
+CHANGES = (ADD, ccedit(USUAL, b"cut 40\n", name="cuts"), ccremove(USUAL, 0, selection=TGT, name="takes"),
+           hold(OLD, NEW, name="saves"))
 HOLDING_NOTHING = (
     ccedit(USUAL, b"start\n", name="walks"), ccedit(USUAL, b"frob\n", name="is at fault"),
     ccremove(USUAL, 0, selection=TGT, is_dry=True, name="tells"),

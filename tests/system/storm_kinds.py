@@ -107,6 +107,9 @@ KTCOPY, MIXED = ("ktcopy",), ("ktcopy", "ktedit", "ktremove", "ktcopy")
 COPIES = (Kind(KTCOPY), Kind(KTCOPY, over_none=True), Kind(MIXED), Kind(KTCOPY, kills=True),
           Kind(KTCOPY, over_none=True, kills=True), Kind(KTCOPY, with_mit=True), Kind(MIXED, with_mit=True))
 
+# The kinds in which other programs add entries by `hold`: these are the runs that are killed.
+HOLDS = (Kind(("ktedit", "hold", "ktremove", "hold")), Kind(("ktedit", "hold"), kills=True))
+
 # The kinds of which some runs save in place.
 PLACES = tuple(Kind(commands, in_place=True) for commands in (KTEDIT, KTUTIL, MIXED, BOTH)) + (
     Kind(KTEDIT, in_place=True, kills=True), Kind(BOTH, in_place=True, kills=True))

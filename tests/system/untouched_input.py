@@ -13,6 +13,7 @@ LINES = {
     "ktremove -n -p b@R k": 0, "ktremove -p b@R k": 0, "ktremove --in-place -p host/a@R k": 0, "ktremove k": 2,
     "ktcopy -n k no": 0, "ktcopy k new": 0, "ktcopy no k": 1,
     "ccremove -n -p krbtgt/R@R c": 0, "ccremove --in-place -p krbtgt/R@R c": 0,
+    "hold no": 1, "hold -k c": 1, "hold -k no/k": 3, "hold --v1-big k": 2,
     "--help": 0, "--version": 0, "help ktedit": 0, "ktedit --help": 0, "ktedit": 2, "frob": 2, "": 2,
 }
 

@@ -52,6 +52,8 @@ REFUSED: list[str | Line] = [
         "-p b@R", "-n --expired", "-p b@R -p b@R c", "-p b@R -p c@R c", "-p b@R c -pb@R", "-p b@R@R c", "-p b@R/ c",
         "-p b@R\\ c", "-p b@R c more", "-x --expired c", "-k old c", "-e 17 c", "--expired -n=yes c",
         "--v1-big --expired c", "--dry-run=yes --expired c", "-expired c")),
+    *(f"hold {rest}" for rest in ("-c k", "-n k", "-kx k", "-k=yes k", "-k k k", "--in-place=yes k", "--json k",
+                                  "--v1-big=yes -k k", "-V k", "-k")),
     # Words that are not UTF-8, and empty ones.
     ("klist", "-k", "k", b"\xff"), (b"\xff", "-k", "k"), ("klist", b"-k\xff", "k"), ("ktedit", b"\xff"),
     ("ktfind", b"\xff", "0", "0", "b@R"), ("ktfind", "k", "0", "0", b"b\xff@R"), ("ktfind", "k", "0", "0", "b@R", ""),
@@ -59,6 +61,7 @@ REFUSED: list[str | Line] = [
     ("ktcopy", "-p", b"\xff@R", "k", "t"), ("ktcopy", "k", "t", ""), ("ktcopy", "-k", "", "k", "t"),
     ("klist", "-c", "c", ""), ("klist", "-c", b"\xff"), ("klist", b"\xff"), ("klist", b"-c\xff", "c"),
     ("ccedit", b"\xff"), ("ccremove", "--expired", b"\xff"), ("ccremove", "-p", b"\xff@R", "c"),
+    ("hold", b"\xff"), ("hold", "-k", "k", ""),
     ("klist", "-s", "--for", "", "c"), ("klist", "-s", "--for", " 3", "c"), ("klist", "-s", b"\xff"),
     ("klist", "-s", "c", ""),
     # Words that are not a version: not one to ten digits, or over 32 bits.
@@ -110,6 +113,11 @@ FINDING = ["ktfind k 0 0 b@R", "ktfind k 3 17 b@R", "ktfind k 0000000003 0000000
 EDITING = ["ktedit k", "ktedit --v1-big k", "ktedit k --v1-big", "ktedit --v1-big k --v1-big", "ktedit -- k",
            "ktedit --in-place k", "ktedit k --in-place --v1-big --in-place"]
 EDITING_CACHES = ["ccedit c", "ccedit -- c", "ccedit c --"]
+
+# Lines that hold `k`, and a cache. The input is no frame.
+HOLDING = ["hold -k k", "hold k -k", "hold -kk -k k", "hold --keytab k", "hold -k -- k", "hold -k --v1-big k",
+           "hold --in-place -k k", "hold k --in-place --v1-big -k --in-place"]
+HOLDING_CACHES = ["hold c", "hold -- c", "hold c --", "hold --in-place c"]
 TALKING = ["ktutil", "ktutil --v1-big", "ktutil --v1-big --v1-big", "ktutil --", "ktutil --in-place"]
 
 # Lines that remove all tickets, and lines that only report them.
@@ -124,7 +132,7 @@ OF_KLIST = (b"krbfile klist", b"-k", b"-t", b"-K", b"-e", b"--v1-big", b"[FILE]"
             b"/etc/krb5.keytab", b"/tmp/krb5cc_", b"--help", b"-c", b"-f", b"-C")
 HELP = [
     (["--help", "-h", "help"], (b"krbfile", b"klist", b"ktfind", b"ktedit", b"ktremove", b"ktcopy", b"ktcheck",
-                                b"ktutil", b"ccedit", b"ccremove", b"--help", b"--version")),
+                                b"ktutil", b"ccedit", b"ccremove", b"hold", b"--help", b"--version")),
     (["help klist", "klist --help", "klist -h", "klist -k --help", "klist -k k --help", "klist -ktKe --help",
       "klist -c --help", "klist -cefC -h", "klist c --help"], OF_KLIST),
     (["ccedit --help", "help ccedit"], (b"krbfile ccedit", b"FILE", b"config KEY PRINCIPAL VALUE", b"--help")),
@@ -144,6 +152,8 @@ HELP = [
      (b"krbfile ktcheck", b"--v1-big", b"-q", b"--allow <WORD>", b"weak, hidden, same, clash, old or mode", b"[FILE..]",
       b"KRB5_KTNAME", b"/etc/krb5.keytab", b"--help")),
     (["help ktutil", "ktutil --help", "ktutil --v1-big -h"], (b"krbfile ktutil", b"--v1-big", b"--help")),
+    (["help hold", "hold --help", "hold -k k -h"],
+     (b"krbfile hold", b"-k, --keytab", b"--v1-big", b"--in-place", b"FILE", b"--help")),
 ]
 
 
@@ -194,6 +204,8 @@ CASES = [
     *(case(line, printed("found 53 kvno 3 etype 17 b@R")) for line in FINDING),
     *(case(line, printed("walk 0 at 2")) for line in EDITING),
     *(case(line, printed("walk 0 at 40")) for line in EDITING_CACHES),
+    *(case(line, replace(message(1, "input is not whole"), out=b"%d\n%b" % (len(image), image)))
+      for lines, image in ((HOLDING, TWO), (HOLDING_CACHES, USUAL)) for line in lines),
     *(case(line, message(1, "line 1: fault 1")) for line in TALKING),
     *(case(line, GONE, c=cache(PA_TYPE, fields=OFFSET)) for line in REMOVING),
     *(case(line, GONE) for line in TELLING),

@@ -80,6 +80,8 @@ LINES = {
     ("ktcheck", "--allow", ""): {"weak", "hidden", "same", "clash", "old", "mode"},
     ("ccremove", "c", "--e"): {"--expired"},
     ("ccremove", "--expired", ""): set(),
+    ("hold", "-k", "--v"): {"--v1-big"},
+    ("hold", "-k", ""): set(),
 }
 
 

@@ -35,7 +35,8 @@ MISTAKES: dict[str, list[str | Line]] = {
     r"unknown option -\xc3\xb6": ["klist -tök k", "klist -ö k"],
     "unknown option -k=yes": ["klist -k=yes k"],
     "unknown option --version": ["klist --version"],
-    "no FILE": ["ktedit --v1-big", "ktedit --", "ktfind", "ktremove -k old", "ccedit", "ccremove --expired"],
+    "no FILE": ["ktedit --v1-big", "ktedit --", "ktfind", "ktremove -k old", "ccedit", "ccremove --expired", "hold",
+                "hold -k --v1-big"],
     "no FROM": ["ktcopy", "ktcopy -n -p b@R", "ktcopy --"],
     "no TO": ["ktcopy k", "ktcopy --replace k", "ktcopy -k new k"],
     "no KVNO": ["ktfind k"],
@@ -43,7 +44,7 @@ MISTAKES: dict[str, list[str | Line]] = {
     "no NAME": ["ktfind k --v1-big 0 0"],
     "left over: t": ["klist -k k t", "klist -k k t -x"],
     "left over: ": [("klist", "-k", "k", "")],
-    "left over: s": ["ktedit k s", "ccedit k s"],
+    "left over: s": ["ktedit k s", "ccedit k s", "hold -k k s"],
     "left over: u": ["ktcopy k t u", "ktcopy k -n t u"],
     "left over: c@R": ["ktfind k 0 0 b@R c@R"],
     **{f"{option} does not go with -k": [f"klist {option} -k k"] for option in ("-c", "-f", "-C")},
@@ -51,7 +52,8 @@ MISTAKES: dict[str, list[str | Line]] = {
        for option, keytab in (("--cache", "--keytab"), ("-f", "--keytab"), ("--flags", "-k"),
                               ("--config", "--keytab"))},
     **{f"{option} is for keytabs; give -k": [f"klist {option} k"]
-       for option in ("-t", "-K", "--v1-big", "--times", "--keys")},
+       for option in ("-t", "-K", "--times", "--keys")},
+    "--v1-big is for keytabs; give -k": ["klist --v1-big k", "hold --v1-big k", "hold k --in-place --v1-big"],
     "--principal needs a value": ["ktremove k --principal", "ktcopy --principal -k new k t"],
     "--service needs a value": ["ccremove k --service", "ccremove --service --expired k"],
     "--kvno is given twice": ["ktremove --kvno 1 --kvno=1 k", "ktcopy --kvno=new --kvno new k t",
@@ -82,7 +84,7 @@ MISTAKES: dict[str, list[str | Line]] = {
                                    ("ktcheck", "--allow=old", f"--allow={word}", "k")]
        for word in ("", "x", "Weak", "weak,old", " weak", "fault", "entries")},
     "unknown option -q=yes": ["ktcheck -q=yes k"],
-    "unknown option -n": ["ktcheck -n k"],
+    "unknown option -n": ["ktcheck -n k", "hold -kn k"],
     "unknown option --mode": ["ktcheck --mode k"],
     '"k" is no finding': ["ktcheck --allow k"],
     '"new" is no version': ["ktremove -k new k"],
@@ -134,7 +136,8 @@ NEAR: dict[tuple[str, str], list[str | Line]] = {
     ("unknown command listk", "klist"): ["listk"],
     ("unknown command ktfin", "ktfind"): ["ktfin k 0 0 b@R"],
     ("unknown command hlep", "help"): ["hlep"],
-    ("unknown option --keytb", "--keytab"): ["klist --keytb k", "klist -c --keytb"],
+    ("unknown command hodl", "hold"): ["hodl -k k"],
+    ("unknown option --keytb", "--keytab"): ["klist --keytb k", "klist -c --keytb", "hold --keytb k"],
     ("unknown option --enctype", "--enctypes"): ["klist -k --enctype k"],
     ("unknown option --enctypes", "--enctype"): ["ktremove --enctypes 17 k"],
     ("unknown option --etype=17", "--enctype"): ["ktcopy --etype=17 k t"],
@@ -146,7 +149,8 @@ NEAR: dict[tuple[str, str], list[str | Line]] = {
     ("unknown option --v1-big=yes", "--v1-big"): ["klist -k --v1-big=yes k"],
 }
 
-COMMANDS = ("klist", "ktfind", "ktedit", "ktremove", "ktcopy", "ktcheck", "ktutil", "ccedit", "ccremove")
+COMMANDS = ("klist", "ktfind", "ktedit", "ktremove", "ktcopy", "ktcheck", "ktutil", "ccedit", "ccremove",
+            "hold")
 
 
 def mistake(line: str | Line, phrase: str) -> Explained:

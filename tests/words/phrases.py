@@ -44,11 +44,12 @@ LISTED_AS_KEYTAB = (2, "it begins as a credential cache; list it without -k")
 BEGINS_AS_CACHE = (2, "it begins as a credential cache")
 BEGINS_AS_NO_KEYTAB = (2, "it does not begin as a keytab of version 1 or 2")
 BEGINS_AS_KEYTAB = (2, "a keytab (list it with -k), or a cache of version 1 or 2 (not read)")
+HELD_AS_KEYTAB = (2, "a keytab (hold it with -k), or a cache of version 1 or 2 (not read)")
 BEGINS_AS_NO_CACHE = (2, "it does not begin as a cache of version 3 or 4")
 BAD_HEADER = (4, "its header is damaged")
 BAD_DEFAULT = (5, "it has no default principal")
 NOT_KEYTABS = (SHORT, LISTED_AS_KEYTAB, BEGINS_AS_CACHE, BEGINS_AS_NO_KEYTAB)
-NOT_CACHES = (SHORT, BEGINS_AS_KEYTAB, BEGINS_AS_NO_CACHE, BAD_HEADER, BAD_DEFAULT)
+NOT_CACHES = (SHORT, BEGINS_AS_KEYTAB, HELD_AS_KEYTAB, BEGINS_AS_NO_CACHE, BAD_HEADER, BAD_DEFAULT)
 
 # The library's refusal of an image that is too long: the program says `file too large`.
 TOO_LONG = "it is longer than the limit"
@@ -144,6 +145,11 @@ NOT_READ = "only files are read, and this is TYPE"
 LEAVE_OUT = "leave out TYPE"
 NAMED = "VARIABLE names it"
 DEFAULT = "the default name (krb5.conf is not read); give FILE"
+
+# What `hold` was given, and an output that it prints nothing to.
+NOT_WHOLE = "it is not a length, a newline and just as many bytes"
+GIVEN_DAMAGED = "what was given is damaged"
+TO_A_PROGRAM = "the image is for a program; give it a pipe"
 
 LARGE = "it has more than 16,777,216 bytes"
 CLOCK = "the clock is before 1970 or after 2106, or failed"

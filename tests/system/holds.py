@@ -1,0 +1,199 @@
+"""`hold`: what it gives and takes, when it gives nothing, and who waits meanwhile."""
+
+import os
+import subprocess
+import time
+from concurrent.futures import ThreadPoolExecutor
+from dataclasses import replace
+from functools import partial
+from itertools import product
+
+from keytabs.file_names import LIMIT, sized
+from keytabs.listings import B_LINE, HOST_LINE, listed
+from makers.images import B, BIG, HOST, TWO, keytab, old, record
+from makers.usual_caches import USUAL, VERSION_3
+from models.cases import IN_PLACE, frame
+from runs.harness import SECONDS, Outcome, Report, differences, folder_of, message, run
+from runs.terminal import EXPLAIN, all_of
+from system.outputs import FAILED
+from system.placing import explained
+from system.saving import as_another, stands, tree_faults
+from system.waits import AT_ONCE, LEAST_WAIT, LONGEST_WAIT
+from words.explained import CUT_CACHE, Explained, case, failed, in_the_way, no_keytab
+from words.phrases import (BAD_DEFAULT, BAD_HEADER, BEGINS_AS_CACHE, BEGINS_AS_NO_CACHE, BEGINS_AS_NO_KEYTAB, CAUSES,
+                           GIVEN_DAMAGED, HELD_AS_KEYTAB, LARGE, NOT_WHOLE, SHORT, TO_A_PROGRAM, code)
+from words.unseen import HIDDEN
+
+# Lines that hold a keytab, in place too, and a cache; a keytab without an entry, and its frame.
+K, PLACED, C = "hold -k k", f"hold {IN_PLACE} -k k", "hold k"
+NONE, EMPTY = keytab(), frame(keytab())
+
+# Inputs that are no whole frame: cut, longer than it says, and of a length that is spelled in another way.
+CUT = (b"\n", b"2", b"2\n", b"2\n\5", b"98\n" + TWO[:-1], b"98" + TWO, TWO)
+LONGER = (b"2\n\5\2\n", b"97\n" + TWO, b"0\n\0", EMPTY * 2, b"\n" + EMPTY)
+ODD = (*(front + EMPTY for front in (b" ", b"+", b"-", b"0x", b"\0", b"0" * 10)),
+       *(length + b"\n\5\2" for length in (b"2 ", b"2\r", b"2\0", b"2.0", b"4294967298", b"9999999999", b"9" * 20)))
+
+
+def given(line: str, image: bytes | None, data: bytes, *output: tuple[str, str], after: bytes | None = None,
+          name: str = "", **more) -> Explained:
+    """Returns a hold that is given those bytes. What it prints is a frame."""
+    left = image if after is None else after
+    return case(f"{line}, {name or data[:24]}", line, image, *output, stdin=data, status=1 if output else 0,
+                out=frame(NONE if image is None else image), after={} if left is None else {"k": left}, **more)
+
+
+def refused(line: str, image: bytes | None, *output: tuple[str, str], **more) -> Explained:
+    """Returns a hold that prints nothing, and ends with status 1."""
+    return case(f"{line}: {output[0][0]}", line, image, *output, stdin=EMPTY, out=b"",
+                after={} if image is None else {"k": image}, **more)
+
+
+def unsaved(line: str, cause: str, image: bytes | None = TWO, **more) -> Explained:
+    """Returns a hold of a file that could not be saved: then nothing is printed."""
+    name = line.split()[-1]
+    return failed(tuple(line.split()), "write", cause, image, file=name, out=b"", stdin=EMPTY,
+                  after={} if image is None else {name: image}, **more)
+
+
+def no_cache(why: tuple[int, str], name: str = "k") -> tuple[str, str]:
+    """Returns the message about a file, or an input, that is no cache."""
+    return f"{name}: not a cache ({why[0]})", why[1]
+
+
+def damaged(fault: int, place: int) -> tuple[str, str]:
+    """Returns the message about a damaged input. Its words begin with the fault."""
+    return "input: refused 1", f"input: fault {fault} at {place}\nkrbfile: {GIVEN_DAMAGED}"
+
+
+# The message about other inputs, what is in the way, and a keytab beside what a killed run left.
+NOT_A_FRAME, IN_THE_WAY = ("input is not whole", NOT_WHOLE), {"setting": in_the_way}
+LEFT = {"k": TWO, "k.krbfile": b"left"}
+
+CASES = [
+    *(given(line, TWO, b"") for line in (K, PLACED)), given(K, None, b""), given(C, USUAL, b""),
+    *(given(line, TWO, EMPTY, after=NONE) for line in (K, PLACED, "hold -k FILE:k", "hold -k WRFILE:k")),
+    given(K, TWO, b"0000000002\n\5\2", after=NONE), given(K, TWO, frame(TWO)), given(K, None, EMPTY),
+    given(K, None, frame(TWO), after=TWO), given(K, TWO, frame(old(HOST, B)), after=old(HOST, B)),
+    given("hold -k --v1-big k", old(HOST, order=BIG), frame(old(order=BIG)), after=old(order=BIG)),
+    # A cache of version 3 is as any, and nothing is said of entries that MIT's programs do not see.
+    given(C, VERSION_3, frame(USUAL), after=USUAL), given(C, USUAL, frame(VERSION_3), after=VERSION_3),
+    given(K, TWO, frame(keytab(HIDDEN, B)), after=keytab(HIDDEN, B)), given(C, USUAL, frame(USUAL)),
+    # What is given is at fault.
+    *(given(K, TWO, data, NOT_A_FRAME) for data in (*CUT, *LONGER, *ODD)),
+    given(K, None, b"2\n\5", NOT_A_FRAME), given(C, USUAL, USUAL, NOT_A_FRAME),
+    *(given(K, TWO, frame(data), no_keytab(why, "input")) for data, why in (
+        (b"", SHORT), (b"\5", SHORT), (b"\5\4", BEGINS_AS_CACHE), (b"\5\5", BEGINS_AS_NO_KEYTAB))),
+    *(given(C, USUAL, frame(data), no_cache(why, "input")) for data, why in (
+        (b"\5", SHORT), (b"\5\2", HELD_AS_KEYTAB), (b"\4\4", BEGINS_AS_NO_CACHE), (b"\5\4\0", BAD_HEADER),
+        (b"\5\3", BAD_DEFAULT))),
+    *(given(K, TWO, frame(data), damaged(fault, place)) for data, fault, place in (
+        (b"\5\2\0\0", 1, 2), (TWO[:-1], 2, 53), (keytab(B, record(bytes(3))), 3, 47))),
+    given(C, USUAL, frame(CUT_CACHE), damaged(4, 392)),
+    given("hold -k --v1-big k", old(order=BIG), frame(old(HOST)), damaged(2, 2)),
+    # Sizes.
+    partial(given, K, TWO, bytes(LIMIT + 12), ("input too large", LARGE), name="too many bytes"),
+    partial(given, K, TWO, bytes(LIMIT + 11), NOT_A_FRAME, name="as many bytes as may be"),
+    lambda: given(K, TWO, frame(sized(LIMIT + 1)), ("input too large", LARGE), name="too large"),
+    lambda: given(K, TWO, b"00" + frame(sized(LIMIT)), after=sized(LIMIT), name="the largest"),
+    # The file is at fault.
+    *(refused(K, image, no_keytab(why)) for image, why in ((b"\5", SHORT), (USUAL, BEGINS_AS_CACHE))),
+    *(refused(C, image, no_cache(why)) for image, why in ((b"", SHORT), (TWO, HELD_AS_KEYTAB))),
+    refused(K, TWO[:-1], ("k: refused 1", code(1))), refused(C, CUT_CACHE, ("k: refused 1", code(1))),
+    *(refused(line, None, ("k: no such file", "")) for line in (C, f"hold {IN_PLACE} k", PLACED)),
+    # It could not be saved. What the load tells comes first.
+    unsaved(K, "in the way", **IN_THE_WAY), unsaved(K, "in the way", None, **IN_THE_WAY),
+    unsaved(C, "in the way", USUAL, **IN_THE_WAY), unsaved(f"hold -k {'x' * 248}", "ENAMETOOLONG"),
+    unsaved("hold -k k.krbfile", "name of saves"), unsaved(f"hold {IN_PLACE} -k k.krbfile", "name of saves"),
+    unsaved("hold -k k.krbfile", "name of saves", None), unsaved("hold -k d/k", "ENOENT", None),
+    refused(K, TWO[:-1], ("k: refused 1", code(1)), **IN_THE_WAY),
+    refused(C, None, ("k: no such file", ""), **IN_THE_WAY),
+    given(PLACED, TWO, EMPTY, after=NONE, name="in the way", **IN_THE_WAY),
+    failed(("hold", "-k", "."), "read", "EISDIR", None, out=b"", stdin=EMPTY),
+]
+
+
+def check_left(report: Report, program: str) -> None:
+    """Checks that the file stays as it is if nothing is saved, and in place what a killed run left beside it."""
+    for line, files in product((K, PLACED), ({"k": TWO}, LEFT)):
+        for data, status in ((b"", 0), (frame(TWO), 0), (b"3\n\5\2", 1), (EMPTY, 0)):
+            with folder_of(files) as folder:
+                before = stands(folder)
+                got = run(program, line.split(), folder, data)
+                faults = [] if (got.status, got.out) == (status, frame(TWO)) else [f"{got}"]
+                faults += [] if data == EMPTY or stands(folder)["k"] == before["k"] else ["the file was written"]
+                is_left = {"k.krbfile": b"left"} if files == LEFT and line == PLACED else {}
+                faults += tree_faults({"k": NONE if data == EMPTY else TWO, **is_left}, folder)
+            report.check(f"{[*files]}: {line}, {data[:4]}", faults)
+
+
+def check_locked(report: Report, program: str) -> None:
+    """Checks a folder, and a file, that the user may not write: nothing is printed."""
+    if not (options := as_another(program)):
+        report.skip("holds of files of others", "none but root may make them, or start the program")
+        return
+
+    def lock(folder: str) -> None:
+        for path in (folder, os.path.join(folder, "k")):
+            os.chmod(path, 0o755)
+
+    for line in (K, PLACED):
+        unsaved(line, "EACCES", setting=lock, options=options).check(report, program)
+
+
+def check_outputs(report: Report, program: str) -> None:
+    """Checks outputs that fail, and a terminal: nothing is saved, and the input is left. Checks an input that fails."""
+    unread = explained(message(3, "cannot read input"), "error 9")
+    for line, (stream, wanted) in product((K, PLACED), {
+            ">/dev/full": replace(explained(FAILED, CAUSES["ENOSPC"]), out=EMPTY),
+            ">&-": replace(explained(FAILED, "error 9"), out=EMPTY),
+            "<&-": replace(unread, out=frame(TWO) + EMPTY)}.items()):
+        with folder_of({"k": TWO}) as folder:
+            script = f'"$0" "$@" {stream}; status=$?; cat; exit $status'
+            got = run("sh", ("-c", script, program, EXPLAIN, *line.split()), folder, EMPTY)
+            report.check(f"{line} {stream}", differences(wanted, got) + tree_faults({"k": TWO}, folder))
+    for files in ({}, {"k": b"other"}, LEFT):
+        ours, theirs = os.openpty()
+        with folder_of(files) as folder:
+            got = run(program, (EXPLAIN, *K.split()), folder, EMPTY, stdout=theirs)
+            os.close(theirs)
+            faults = differences(explained(FAILED, TO_A_PROGRAM), replace(got, out=all_of(ours)))
+            faults += tree_faults(files, folder)
+        os.close(ours)
+        report.check(f"a terminal, and {[*files]}", faults)
+
+
+def timed(program: str, words: tuple[str, ...], folder: str, data: bytes = b"") -> tuple[Outcome, float]:
+    """Makes a run, and returns how long it took too."""
+    begun = time.monotonic()
+    return run(program, words, folder, data), time.monotonic() - begun
+
+
+def check_lasts(report: Report, program: str, *options: str) -> None:
+    """Checks that until its input ends, others wait ten seconds and are refused, and that listings go on."""
+    in_use = explained(message(3, "k: cannot write"), CAUSES["in use"])
+    others = {("ktremove", "-p", "b@R", "k"): in_use, ("hold", "-k", "k"): in_use, ("ktedit", IN_PLACE, "k"): in_use,
+              ("klist", "-k", "k"): Outcome(0, listed(HOST_LINE, B_LINE))}
+    with folder_of({"k": TWO}) as folder, ThreadPoolExecutor() as pool, subprocess.Popen(
+            [program, "hold", *options, "-k", "k"], cwd=folder, stdin=subprocess.PIPE, stdout=subprocess.PIPE) as held:
+        faults = [] if held.stdout.read(len(frame(TWO))) == frame(TWO) else ["no frame"]
+        runs = {words: pool.submit(timed, program, (EXPLAIN, *words), folder, b"cut 2\n") for words in others}
+        for words, wanted in others.items():
+            got, seconds = runs[words].result()
+            least, most = (LEAST_WAIT, LONGEST_WAIT) if wanted is in_use else (0, AT_ONCE)
+            faults += differences(wanted, got) + ([] if least <= seconds <= most else [f"{words} took {seconds:.1f}"])
+        rest, _ = held.communicate(frame(keytab(B)), timeout=SECONDS)
+        faults += [] if (held.returncode, rest) == (0, b"") else [f"status {held.returncode}, {rest!r}"]
+        faults += tree_faults({"k": keytab(B)}, folder)
+        faults += differences(Outcome(0, b"removed 2 kvno 3 etype 17 b@R\n"),
+                              run(program, ("ktremove", "-p", "b@R", "k"), folder))
+    report.check(f"a hold lasts {options}", faults)
+
+
+def check(report: Report, program: str) -> None:
+    """Runs this topic."""
+    check_left(report, program)
+    check_locked(report, program)
+    check_outputs(report, program)
+    check_lasts(report, program)
+    check_lasts(report, program, IN_PLACE)
