@@ -151,8 +151,11 @@ WRONG_BODIES = {
         "the-default-in-place-of-the-name": "the default name is taken though a name is given",
     },
     "krb_editors": {
+        "a-damaged-image-is-saved": "hold saves an image that has a fault",
         "a-dry-run-hides": "a dry run of ktcopy does not say what MIT's programs would not see",
         "a-dry-run-holds": "a dry run of ktremove holds the file",
+        "a-frame-cut-short-is-saved": "hold saves what came of a frame that ends too early",
+        "a-hold-ends-before-the-input-is-read": "hold releases the file before it reads what is to be saved",
         "a-refused-value-removes-the-old-one": "a configuration value that is refused removes the old one",
         "all-have-expired-without-a-clock": "every ticket has expired where the clock cannot be read",
         "an-input-that-was-read-is-told-as-failed": "an empty input is reported as one that cannot be read",

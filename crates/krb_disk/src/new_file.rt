@@ -128,7 +128,8 @@ where
     }
 }
 
-// Returns whether to try again to create the new file: its path is free or cleared, or what is there is locked.
+// Returns whether to try again to create the new file: its path is free or cleared, or what is there is locked. A file
+// without a link was removed while it was looked at.
 fn try_place<R: rt::Files + rt::Clock + Alloc>(
     calls: &Calls<'_, R>,
     path: &str,
@@ -141,6 +142,9 @@ where
     let Some(found) = calls.looks().look(path)? else {
         return Ok(true);
     };
+    if found.links == 0 {
+        return Ok(true);
+    }
     let place = Mounted::new(&found, Listed::unknown());
     Ok(
         clear_place(calls, path, &found, owner)?

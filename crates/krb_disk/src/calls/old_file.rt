@@ -15,7 +15,7 @@ use crate::place_stage::PlaceStage;
 use crate::read::{Parts, has_bytes, read_open};
 use krb_files::Cause;
 use std::alloc::Allocator;
-use std::fs::{self, OpenOptions};
+use std::fs::{self, OpenFile, OpenOptions};
 use std::io::{self, ErrorKind, Seek};
 use std::rt;
 
@@ -59,25 +59,48 @@ impl<F: Drop> OldFile<F> {
     }
 }
 
-fn open_to_write<R: rt::Files>(rt: &R, path: &str) -> io::Result<R::File> {
-    OpenOptions::new().read(true).write(true).open(rt, path)
+// Returns a handle that is no standard stream: the handle that was opened may be, where one is closed.
+fn off_the_streams<F: OpenFile + Numbered + Drop>(file: F) -> io::Result<F> {
+    if file.number() > 2 {
+        return Ok(file);
+    }
+    file.try_clone()
 }
 
-impl<R: rt::Files> Calls<'_, R> {
+fn open_to_read<R: rt::Files>(rt: &R, path: &str) -> io::Result<R::File>
+where
+    R::File: Numbered,
+{
+    off_the_streams(fs::open(rt, path)?)
+}
+
+fn open_to_write<R: rt::Files>(rt: &R, path: &str) -> io::Result<R::File>
+where
+    R::File: Numbered,
+{
+    off_the_streams(OpenOptions::new().read(true).write(true).open(rt, path)?)
+}
+
+impl<R: rt::Files> Calls<'_, R>
+where
+    R::File: Numbered,
+{
     /// Opens the old file, and so that it can be saved in place, if it is to be and that is allowed.
     pub fn open_old(&self, path: &str, in_place: bool) -> io::Result<OldFile<R::File>> {
         if !in_place {
-            return Ok(OldFile::new(fs::open(self.rt, path)?, None));
+            return Ok(OldFile::new(open_to_read(self.rt, path)?, None));
         }
         match open_to_write(self.rt, path) {
             Ok(file) => Ok(OldFile::new(file, None)),
             Err(error) => {
-                let file = fs::open(self.rt, path)?;
+                let file = open_to_read(self.rt, path)?;
                 Ok(OldFile::new(file, Some(DiskFault::from(error))))
             }
         }
     }
+}
 
+impl<R: rt::Files> Calls<'_, R> {
     /// Returns what the system reports of the old file, if it is still at `path`.
     pub fn find_old(&self, old: &OldFile<R::File>, path: &str) -> io::Result<Option<Found>> {
         let opened = describe(&old.file)?;
@@ -118,7 +141,7 @@ impl<R: rt::Files> Calls<'_, R> {
 
 impl<R: rt::Files> Calls<'_, R>
 where
-    R::File: TakeLock,
+    R::File: TakeLock + Numbered,
 {
     // Locks the old file by a handle that writes, for file systems that lock no other.
     fn lock_to_write(&self, path: &str) -> io::Result<Option<R::File>> {

@@ -27,7 +27,7 @@ Statuses:
   3  The file, the input or the output failed
   4  Out of memory
 Example: how many bytes a keytab has
-  krbfile hold -k host.keytab < /dev/null | head -n 1",
+  krbfile hold -k host.keytab < /dev/null | sed -n 1p",
     ),
     words: &[
         Word::Flag("keytab", 'k', "Hold a keytab, not a credential cache"),

@@ -4,8 +4,8 @@ use super::images::{ADDED, CACHE, CACHE_EDITED, CACHE_REWRITTEN, EDITED, IMAGE, 
 use krb_audit::{FindingWords, SelectedKvno, Selection};
 use krb_cache_text::CcColumns;
 use krb_commands::{
-    Action, CheckOptions, CopyOptions, FileKind, FileName, FindOptions, KlistOptions, ListKind,
-    NameSource, RemoveOptions, TicketCheck, TicketOptions, WordFault,
+    Action, CheckOptions, CopyOptions, FileKind, FileName, FindOptions, HoldKind, KlistOptions,
+    ListKind, NameSource, RemoveOptions, TicketCheck, TicketOptions, WordFault,
 };
 use krb_text::KtColumns;
 use krb_wire::{Order, Principal, parse_name};
@@ -31,6 +31,8 @@ pub enum ActionKind {
     /// A removal of the tickets for `krbtgt/R@R`.
     Ccremove,
     Ktutil,
+    /// A hold of the keytab `n`, which is missing.
+    Hold,
 }
 
 /// A run, the file that it saves, and the bytes of that file afterwards; of a run that saves none, those of `k`.
@@ -54,7 +56,7 @@ const COMMAND: Command = Command {
     left: IMAGE,
 };
 
-pub const COMMANDS: [Command; 11] = [
+pub const COMMANDS: [Command; 12] = [
     Command {
         action: ActionKind::Klist,
         text: "Keytab name: FILE:k\nKVNO Principal\n---- ---------\n   3 host/a@R\n   3 b@R\n",
@@ -134,6 +136,15 @@ walk 0 gave 268 next 404 config pa_type(krbtgt/R@R)\nwalk 0 end 404\n",
         message: "krbfile: line 8: fault 7\n",
         name: "n",
         left: ADDED,
+        ..COMMAND
+    },
+    // An empty keytab of version 2 goes out, and one of version 1 comes back.
+    Command {
+        action: ActionKind::Hold,
+        input: "2\n\x05\x01",
+        text: "2\n\x05\x02",
+        name: "n",
+        left: &[5, 1],
         ..COMMAND
     },
 ];
@@ -234,6 +245,7 @@ impl ActionKind {
             | ActionKind::CheckTicket
             | ActionKind::Ccedit
             | ActionKind::Ccremove => "c",
+            ActionKind::Hold => "n",
             _ => "k",
         }
     }
@@ -278,6 +290,7 @@ impl ActionKind {
             ActionKind::Ccedit => Action::Ccedit(cache),
             ActionKind::Ccremove => Action::Ccremove(tickets(alloc)?, cache),
             ActionKind::Ktutil => Action::Ktutil(Order::Little, false),
+            ActionKind::Hold => Action::Hold(HoldKind::Keytab(Order::Little), keytab),
         }))
     }
 }
