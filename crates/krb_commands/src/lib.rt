@@ -10,8 +10,8 @@ pub use krb_driver::{
     NameSource, NotKeytab, Streams, Word, WordFault,
 };
 pub use krb_editors::{
-    CopyOptions, HoldKind, RemoveOptions, TicketOptions, run_ccedit, run_ccremove, run_hold, run_ktcopy,
-    run_ktedit, run_ktremove,
+    CopyOptions, HoldKind, RemoveOptions, TicketOptions, run_ccedit, run_ccremove, run_hold,
+    run_ktcopy, run_ktedit, run_ktremove,
 };
 pub use krb_ktutil::{Ktutil, LineEnd, file_word, run_ktutil};
 pub use krb_readers::{

@@ -7,7 +7,8 @@ ghost use Rattle.krb_driver.specs.Runs.{EndsRun, ends_by};
 
 use crate::action::Action;
 use krb_driver::{
-    Details, ErrorOutput, FileName, RunError, Streams, Verdict, WordFault, report, report_word_fault, show,
+    Details, ErrorOutput, FileName, RunError, Streams, Verdict, WordFault, report,
+    report_word_fault, show,
 };
 use krb_editors::{run_ccedit, run_ccremove, run_hold, run_ktcopy, run_ktedit, run_ktremove};
 use krb_files::{Files, Watched};

@@ -1,20 +1,15 @@
--- What is shown of a run, and what a reader gave.
-use Rattle.std.proofs.Common.{◌≡◌, ◌≢◌, ℕ, ◌<◌, List, [], ◌++◌, refl, sym, ap, subst, arith}
-use Rattle.std.specs.Prelude.{◌+◌, max, ◌≤◌, ◌||◌, length, Bool, true, false, Option, None, Result, Ok, Err, is_ok, IfSome}
-use Rattle.std.proofs.lemmas.Bool.{true≢false}
-use Rattle.krb_files.specs.declared.files.LoadFault.{LoadFault}
-use Rattle.krb_files.specs.declared.files.LoadFault.TheVariants as load
+-- What is shown of a run.
+use Rattle.std.proofs.Common.{◌≡◌, ℕ, List, [], ◌++◌, refl, sym, subst, arith}
+use Rattle.std.specs.Prelude.{max, Bool, true, false, Option, None, Ok}
 use Rattle.krb_files.specs.Bytes.{Watch}
 use Rattle.krb_files.proofs.Prefixes.{AppendsPrefix-none, Appends-nil}
 use Rattle.krb_driver.specs.declared.verdict.Verdict.TheVariants.{Well}
-use Rattle.krb_driver.specs.Input.{GivesInput}
 use Rattle.krb_driver.specs.Runs.{Writes, ReportsEnd}
 use Rattle.krb_files.specs.declared.aftermath.Aftermath.{Aftermath}
 use Rattle.krb_driver.specs.declared.reporting.details.Details.{Details}
 use Rattle.krb_driver.specs.Words.{aftermath_text, ending_words, own_text, words_if}
 use Rattle.krb_driver.specs.ErrorOutput.{ErrorWatch}
 use Rattle.krb_driver.specs.RunErrors.{Ending, aftermath_status, end_status, ending_message, ending_status}
-use Rattle.krb_files.specs.Reader.{Source, ConsumesAtMost, is_failed}
 
 -- nothing was to be written
 pub Writes-nothing : (w : Watch) → Writes w w []
@@ -44,17 +39,3 @@ end_status-none ending aftermath none =
 pub Writes-words : (file : List ℕ) (line : Option ℕ) (details : Details) (ending : Ending) (err : ErrorWatch) (to : Watch) (words : List ℕ)
     → Writes err.to to (ending_message file ending ++ words) → words ≡ words_if err.explains (ending_words file line details ending) → Writes err.to to (own_text err.explains file line details ending)
 Writes-words file line details ending err to words writes are = subst (λ (w : List ℕ). Writes err.to to (ending_message file ending ++ w)) are writes
-
--- ---- what a reader gave
-
-abbrev pub fault_in : Result (List ℕ) LoadFault → LoadFault
-fault_in (Ok bytes) = load.Missing
-fault_in (Err fault) = fault
-
-pub GivesInput-ok : (most : ℕ) (reader reader' : Source) (bytes : List ℕ) → IfSome reader.left (λ left. bytes ≡ left) → length bytes ≤ most → reader'.failed ≡ reader.failed → ConsumesAtMost reader.left reader'.left (most + 1)
-    → GivesInput most reader reader' (Ok bytes)
-GivesInput-ok most reader reader' bytes all within failed taken = record { all = all; within = within; too_large = λ e. absurd (true≢false (ap is_ok e)); never = tt; failed = failed; taken = taken }
-
-pub GivesInput-err : (most : ℕ) (reader reader' : Source) (fault : LoadFault) → (fault ≡ load.TooLarge → IfSome reader.left (λ left. most < length left)) → fault ≢ load.Missing
-    → reader'.failed ≡ (is_failed fault || reader.failed) → ConsumesAtMost reader.left reader'.left (most + 1) → GivesInput most reader reader' (Err fault)
-GivesInput-err most reader reader' fault too_large never failed taken = record { all = tt; within = tt; too_large = λ e. too_large (ap fault_in e); never = never; failed = failed; taken = taken }

@@ -61,10 +61,7 @@ fn begins_as_keytab(image: &[u8]) -> bool
 }
 
 /// Opens an image as a keytab. `v1_order` is the byte order of version 1.
-pub fn keytab_of<A: Allocator>(
-    v1_order: Order,
-    image: Vec<u8, A>,
-) -> Result<Keytab<A>, NoKeytab>
+pub fn keytab_of<A: Allocator>(v1_order: Order, image: Vec<u8, A>) -> Result<Keytab<A>, NoKeytab>
     ensures opens { result_map (λ k. k.state) result
         ≡ result_map_err (not_keytab image.items) (open_result v1_order most_bytes image.items) }
     // The bytes are kept as they are.

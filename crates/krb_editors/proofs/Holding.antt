@@ -1,5 +1,5 @@
 -- The frame of an image as it is written, and the image that a file gives.
-use Rattle.std.proofs.Common.{◌≡◌, ◌⊎◌, inl, inr, ℕ, false, List, ◌++◌, length, ap, subst}
+use Rattle.std.proofs.Common.{◌≡◌, inl, inr, ℕ, false, List, ◌++◌, length, ap, subst}
 use Rattle.std.specs.Prelude.{Option, Result, Ok, Err, OnErr, codes, decimal}
 use Rattle.std.specs.Io.KnownBytes.{Appends}
 use Rattle.krb_files.specs.declared.files.Files.{Ghosts}

@@ -1,5 +1,5 @@
 -- An image as programs hand it to each other.
-use Rattle.std.specs.Prelude.{ℕ, ◌+◌, ◌-◌, List, ◌∷◌, ◌++◌, length, drop, take, codes, decimal, ◌==◌, if◌then◌else◌, option_and_then, option_map, Option, None, Some}
+use Rattle.std.specs.Prelude.{ℕ, ◌+◌, ◌-◌, List, ◌++◌, length, drop, take, codes, decimal, ◌==◌, if◌then◌else◌, option_map, Option, None, Some}
 use Rattle.std.specs.List.{position_from}
 use Rattle.krb_text.specs.Numbers.{number_in}
 

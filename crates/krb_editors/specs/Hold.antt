@@ -1,6 +1,5 @@
 -- What hold does: it prints the image of a file that it holds, and saves the one that is given back.
 use Rattle.std.specs.Prelude.{◌≡◌, ◌⊎◌, ℕ, nat_lt, Bool, true, false, bytes_eq, if◌then◌else◌, List, [], ◌∷◌, length, codes, Option, None, Some, Result, Ok, Err, OnOk}
-use Rattle.krb_wire.specs.declared.format.Order.{Order}
 use Rattle.krb_walk.specs.declared.fault.Fault.{Fault}
 use Rattle.krb_walk.specs.declared.refusal.Code.TheVariants.{Damaged}
 use Rattle.krb_walk.specs.Store.{fault_of}

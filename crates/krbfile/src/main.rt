@@ -16,8 +16,8 @@ use krb_disk::DiskFiles;
 use krb_files::{Watched, WatchedReader};
 use krb_terminal::Screen;
 use run::{
-    asks_to_explain, for_output, is_out_of_memory, parsed, prints_json, run, saves_in_place, wants_plain,
-    words_of,
+    asks_to_explain, for_output, is_out_of_memory, parsed, prints_json, run, saves_in_place,
+    wants_plain, words_of,
 };
 use silent::asks_for_silence;
 use std::io::IsTerminal;

@@ -5,7 +5,8 @@ ghost use Rattle.krb_driver.specs.Mistakes.{Reads};
 ghost use Rattle.krb_editors.specs.Hold.{hold_kind, hold_mistake};
 
 use krb_driver::{
-    CommandName, CommandWords, FileKind, IN_PLACE, Matches, Mistake, V1_BIG, Word, WordFault, v1_order,
+    CommandName, CommandWords, FileKind, IN_PLACE, Matches, Mistake, V1_BIG, Word, WordFault,
+    v1_order,
 };
 use krb_wire::Order;
 
