@@ -114,7 +114,8 @@ CASES = [
 
 
 def check_left(report: Report, program: str) -> None:
-    """Checks that the file stays as it is if nothing is saved, and in place what a killed run left beside it."""
+    """Checks that the file stays as it is if nothing is saved, and what a killed run left beside it unless that is
+    replaced."""
     for line, files in product((K, PLACED), ({"k": TWO}, LEFT)):
         for data, status in ((b"", 0), (frame(TWO), 0), (b"3\n\5\2", 1), (EMPTY, 0)):
             with folder_of(files) as folder:
@@ -122,8 +123,8 @@ def check_left(report: Report, program: str) -> None:
                 got = run(program, line.split(), folder, data)
                 faults = [] if (got.status, got.out) == (status, frame(TWO)) else [f"{got}"]
                 faults += [] if data == EMPTY or stands(folder)["k"] == before["k"] else ["the file was written"]
-                is_left = {"k.krbfile": b"left"} if files == LEFT and line == PLACED else {}
-                faults += tree_faults({"k": NONE if data == EMPTY else TWO, **is_left}, folder)
+                left = {} if (line, data) == (K, EMPTY) else {name: files[name] for name in files if name != "k"}
+                faults += tree_faults({"k": NONE if data == EMPTY else TWO, **left}, folder)
             report.check(f"{[*files]}: {line}, {data[:4]}", faults)
 
 
