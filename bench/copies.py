@@ -1,11 +1,9 @@
-"""Our `ktcopy` beside both ktutils and beside our listing, and over half a million entries."""
+"""Our `ktcopy` beside both ktutils and beside our listing."""
 
-import base64
 import os
 import shutil
 import statistics
 import sys
-from dataclasses import replace
 from typing import NamedTuple
 
 import images
@@ -104,42 +102,3 @@ def ktcopy(setting):
     """Returns the table of copies beside other runs."""
     return Table(["run; other", "cpu ms", "other cpu ms", "cpu / other's", "instr M", "instr / other's", "peak MB"],
                  rows(setting))
-
-
-def short_keytab(entries):
-    """Returns a keytab of entries of at most 33 bytes: half a million fit."""
-    image = images.keytab(*entries)
-    assert len(image) <= images.LIMIT
-    return image
-
-
-def largest_cases(count):
-    """Yields a name and files, the status of a copy from a to b, and how many lines it prints."""
-    one, numbers = replace(images.SHORT, components=(b"a",), key=b"same"), range(1, count + 1)
-    yield "versions of one name, into a missing file", {"a": short_keytab(
-        replace(one, version8=number % 256, version32=number) for number in numbers)}, 0, count
-    yield "names, into a missing file", {"a": short_keytab(
-        replace(one, components=(base64.urlsafe_b64encode(number.to_bytes(3, "big")),), key=b"k")
-        for number in numbers)}, 0, count
-    alike = short_keytab([one] * count)
-    yield "alike, into a file of the same", {"a": alike, "b": alike}, 0, 0
-    others = (short_keytab(replace(one, key=(first + number).to_bytes(4, "big")) for number in numbers)
-              for first in (0, count))
-    yield "that clash: one name and version, other keys", dict(zip("ab", others)), 1, count
-
-
-def largest_rows(setting):
-    """Yields a row for each case, of a single run."""
-    bench = Bench(setting)
-    for name, files, status, lines in largest_cases(1_000 if setting.quick else 500_000):
-        print(name, file=sys.stderr)
-        ended, used, memory = bench.call(processes.peak, files, [setting.krbfile, "ktcopy", "a", "b"], note=bench.note)
-        printed = bench.out.read_bytes().count(b"\n")
-        if (ended, printed) != (status, lines):
-            sys.exit(f"bench: {name}: status {ended}, {printed:,} lines")
-        yield None, [name, *(f"{seconds:,.2f}" for seconds in used), ratio(memory, MEGA, "{:,.1f}"), f"{lines:,}"]
-
-
-def largest(setting):
-    """Returns the table of copies of half a million entries."""
-    return Table(["copy", "s", "cpu s", "peak MB", "lines"], largest_rows(setting))
