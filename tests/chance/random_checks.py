@@ -8,7 +8,7 @@ from collections.abc import Iterator, Sequence
 from dataclasses import dataclass
 from random import Random
 
-from chance.random_choices import REMOVED
+from chance.random_commands import REMOVED
 from chance.random_keytabs import Choices
 from makers.images import TWO
 from models.check_model import FOLDER, File, Options, Placed, checked_files

@@ -6,6 +6,7 @@ case that goes wrong is made smaller, and kept.
 from __future__ import annotations
 
 import os
+import re
 import subprocess
 import time
 from collections import Counter
@@ -15,7 +16,7 @@ from functools import partial
 from multiprocessing import get_context
 from random import Random
 
-from runs.harness import SECONDS, Case, Report, faults_by_clock
+from runs.harness import SECONDS, Case, Outcome, Report, faults_by_clock
 from runs.kept import keep
 
 # A case at a given time: a function and its bytes, parts of which may be left out.
@@ -24,6 +25,9 @@ Cases = Callable[[Random], Iterator[CaseAt]]
 
 # How often each kind of result has to occur.
 FEWEST = 3
+
+# What a line begins with: two words of a walk's, the number of a refusal or a fault.
+KIND = re.compile(rb" *(?:(walk) \d+ (\w+)|((?:refused|fault) \d+)|([A-Za-z]+))")
 
 # How many processes run for each processor: one waits for its program while another works.
 FOR_EACH = 3
@@ -39,9 +43,19 @@ MOST_KEPT = 10
 SEARCH = 20
 
 
-def output(case: Case) -> str:
-    """Returns the last words of a run's message."""
-    return case.wanted.err.decode().split(": ")[-1].strip()
+def kinds_of(case: Case) -> Iterator[str]:
+    """Yields what each line of a run begins with, how each message ends, and the status, with each option too."""
+    words = {word for word in case.words if isinstance(word, str) and word.startswith("-")}
+    kinds = {f"status {case.wanted.status}"}
+    for line in case.wanted.out.splitlines():
+        found = KIND.match(line)
+        kinds.add(b" ".join(filter(None, found.groups())).decode() if found else "a record")
+    for line in case.wanted.err.splitlines():
+        *_, file, last = "", *line.decode("latin-1").split(": ")
+        kinds |= {last, last.split(" (")[0], f"{file}: {last.split(' (')[0]}"}
+    yield from kinds | {f"{word} {kind}" for word in words for kind in kinds}
+    if case.wanted == Outcome(0):
+        yield "nothing to do"
 
 
 def smaller(case_at: CaseAt) -> Iterator[CaseAt]:
@@ -87,13 +101,14 @@ class Topic:
     title: str
     # The cases that a random source makes, in turn.
     cases: Cases
-    # The kinds of a case's results, and those that have to occur.
-    kinds_of: Callable[[Case], Iterator[str]]
+    # The kinds of results that have to occur.
     kinds: tuple[str, ...]
     # How many numbers a short run takes.
     usual: int
     # A long run takes its count divided by this.
     share: int = 1
+    # The kinds of a case's result.
+    kinds_of: Callable[[Case], Iterator[str]] = kinds_of
 
     @property
     def name(self) -> str:
