@@ -14,8 +14,7 @@ from makers.script_lines import (
     name_in,
     number_in,
 )
-from models.check_model import why_no_keytab
-from models.hidden_model import unseen
+from models.check_model import unseen, why_no_keytab
 from models.keytab_model import Keytab
 from models.name_model import Kind, named, unwritten
 from models.reading import KeytabEntry, no_keytab

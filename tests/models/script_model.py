@@ -14,7 +14,7 @@ from makers.script_lines import (
     rest_in,
     walk_event,
 )
-from models.hidden_model import unseen
+from models.check_model import unseen
 from models.keytab_model import Keytab
 from models.reading import KeytabEntry, no_keytab
 from models.walks import LIMIT, Event, Session, run_events

@@ -8,8 +8,7 @@ from random import Random
 from chance.random_caches import random_credential
 from makers.cache_images import CONFIG_FIRST, CONFIG_REALM, Credential, Name, cache, config, header_field, number
 from makers.usual_caches import TICKET, config_ticket
-from models.cache_reading import read_cache
-from models.valid_ticket_model import silent
+from models.cache_reading import read_cache, silent
 from peers.beside_mit import SURROUNDINGS, are_there
 from peers.corpus import files
 from runs.harness import Outcome, Report, folder_of, run
