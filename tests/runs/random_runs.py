@@ -1,25 +1,26 @@
 """Random cases compared with a model, each made from a number.
 
 The cases of one number run in turn. In a long run several processes share the numbers of a topic. A
-case that goes wrong is made smaller, and kept.
+case that goes wrong is kept.
 """
 from __future__ import annotations
 
 import os
 import re
+import shutil
 import subprocess
-import time
+import tempfile
 from collections import Counter
 from collections.abc import Callable, Iterator
-from dataclasses import dataclass, field, replace
+from dataclasses import dataclass, field
 from functools import partial
 from multiprocessing import get_context
 from random import Random
+from shlex import quote
 
 from runs.harness import SECONDS, Case, Outcome, Report, faults_by_clock
-from runs.kept import keep
 
-# A case at a given time: a function and its bytes, parts of which may be left out.
+# A case at a given time: a function and its bytes.
 CaseAt = partial
 Cases = Callable[[Random], Iterator[CaseAt]]
 
@@ -39,8 +40,8 @@ ONE_IN = 10
 AT_ONCE = 10
 MOST_KEPT = 10
 
-# For how many seconds a smaller case that goes wrong is searched for.
-SEARCH = 20
+# The folder of these.
+KEPT = os.path.join(tempfile.gettempdir(), "krbfile-kept")
 
 
 def kinds_of(case: Case) -> Iterator[str]:
@@ -58,15 +59,19 @@ def kinds_of(case: Case) -> Iterator[str]:
         yield "nothing to do"
 
 
-def smaller(case_at: CaseAt) -> Iterator[CaseAt]:
-    """Yields the case with a part of its bytes left out, larger parts first."""
-    for nth, data in enumerate(case_at.args):
-        size = len(data or b"") // 2
-        while size:
-            for at in range(0, len(data), size):
-                left = data[:at] + data[at + size :]
-                yield partial(case_at.func, *case_at.args[:nth], left, *case_at.args[nth + 1 :], **case_at.keywords)
-            size //= 2
+def keep(name: str, case: Case, program: str) -> str:
+    """Keeps a case that went wrong in a folder of its own, and returns the line that runs it again, over a copy."""
+    folder = os.path.join(KEPT, name.replace(" ", "-"))
+    shutil.rmtree(folder, ignore_errors=True)
+    os.makedirs(os.path.join(folder, "files"))
+    front = f'here=$(mktemp -d) && cp -r {folder}/files/. "$here" && cd "$here" && '
+    line = " ".join(quote(os.fsdecode(word)) for word in (program, *case.words))
+    files = {os.path.join("files", each): data for each, data in case.files.items()}
+    again = os.fsencode(f"{front}{line} < {folder}/stdin\n")
+    for path, data in {**files, "stdin": case.stdin, "again": again}.items():
+        with open(os.path.join(folder, path), "wb") as file:
+            file.write(data)
+    return f"sh {folder}/again"
 
 
 @dataclass(frozen=True)
@@ -138,16 +143,6 @@ class Topic:
         except subprocess.TimeoutExpired:
             return [f"no end in {SECONDS} seconds"]
 
-    def smallest(self, program: str, wrong: Wrong) -> Wrong:
-        """Returns a wrong case from which no part can be left out, as far as the search went."""
-        end = time.monotonic() + SEARCH
-        tries = smaller(wrong.case_at)
-        while time.monotonic() < end and (case_at := next(tries, None)):
-            if faults := self.faults_of(program, case_at):
-                wrong = replace(wrong, case_at=case_at, faults=faults)
-                tries = smaller(case_at)
-        return wrong
-
     def try_on_all_processors(self, program: str, numbers: range) -> Tried:
         """Runs the cases of some numbers, in several processes."""
         tried = Tried()
@@ -167,8 +162,8 @@ class Topic:
             report.check(f"{self.title}: each kind", missing)
 
     def report_wrong(self, report: Report, program: str, wrong: list[Wrong]) -> None:
-        """Keeps the first wrong cases, made smaller, and reports how to run each again."""
-        for one in (self.smallest(program, each) for each in wrong[:MOST_KEPT]):
+        """Keeps the first wrong cases, and reports how to run each again."""
+        for one in wrong[:MOST_KEPT]:
             again = keep(f"{self.title} {one.number} {one.nth}", one.case_at(0), program)
             report.check(f"{self.title}, number {one.number}", [again, *one.faults])
         if len(wrong) > MOST_KEPT:
