@@ -78,24 +78,18 @@ CASES = [
     remove("by another text of the name", MANY, r"-p \host/a@R", [AT_392, AT_606], left(TGT, PA_TYPE, LATER)),
     remove("a value that begins with =", MANY, "-p=host/a@R", NOT_FOUND),
     remove("a dry run", MANY, "-n -p host/a@R", [AT_392, AT_606]),
-    remove("a dry run of expired ones", MANY, "-n --expired", [AT_40, AT_392]),
     remove("nothing is over", left(LATER, PA_TYPE), "--expired", []),
     remove("nothing is over of a service", MANY.replace(HOST.spelled(), b""), "--expired -p host/a@R", []),
     remove("nothing is over where there is nothing", cache(), "--expired", []),
-    remove("nothing is over where there are values", cache(PA_TYPE), "--expired", []),
-    remove("a dry run with nothing to do", left(LATER), "-n --expired", []),
     remove("old and new words", MANY, "-phost/a@R -n", [AT_392, AT_606]),
     remove("a service that is not there", MANY, "-p c@R", NOT_FOUND),
     remove("expired ones of a service that is not there", MANY, "-p c@R --expired", NOT_FOUND),
-    remove("a dry run that finds nothing", MANY, "-n -p c@R", NOT_FOUND),
     remove("an empty cache", cache(), "-p krbtgt/R@R", NOT_FOUND),
     remove("a client is no service", MANY, "-p u@R", NOT_FOUND),
     remove("removed ones alone", REMOVED, "-p krbtgt/R@R", NOT_FOUND),
-    remove("nothing is over of removed ones", REMOVED, "--expired", []),
     remove("expired ones of a removed service", REMOVED, "--expired -p krbtgt/R@R", NOT_FOUND),
     # Configuration entries are never selected, whatever their fields are.
     remove("a value by its name", USUAL, f"-p {OF_PA_TYPE}", NOT_FOUND),
-    remove("expired values by their name", USUAL, f"--expired -p {OF_PA_TYPE}", NOT_FOUND),
     remove("values are not over", VALUES + NEARLY.spelled(), "--expired",
            [f"removed {len(VALUES)} krb5_ccache_conf_data@X-CACHECONF:"], VALUES),
     # Names that print alike are the same, of whatever type.
@@ -129,11 +123,6 @@ CASES = [
     *unchanged("a damaged cache", USUAL[:-1], DAMAGED),
     *unchanged("an empty file", b"", message(1, "c: not a cache (1)")),
     *unchanged("a keytab", b"\x05\x02", message(1, "c: not a cache (2)")),
-    *unchanged("a bad header", b"\x05\x04\0", message(1, "c: not a cache (4)")),
-    *unchanged("no default principal", b"\x05\x04\0\0", message(1, "c: not a cache (5)")),
-    *(Case(f"{file}, {words}", ("ccremove", *words.split(), file), wanted, {"c": USUAL})
-      for file, wanted in (("no", message(1, "no: no such file")), (".", message(3, ".: cannot read")))
-      for words in ("--expired", "-n --expired")),
 ]
 
 

@@ -116,7 +116,6 @@ CASES = [
     edit("a hole of just that size", keytab(hole(b"\xff" * 40), hole(b"\xff" * 41), hole(b"\xff" * 41)), [ADD_B],
          ["placed 46"], keytab(hole(b"\xff" * 40), B, hole(b"\xff" * 41))),
     edit("before an end mark", MARKED, [ADD_B], ["placed 53"], keytab(HOST, B, END)),
-    edit("before an end mark with more behind it", MARKED + b"\xff" * 30, [ADD_B], ["placed 53"], keytab(HOST, B, END)),
     edit("a removal leaves zeros", TWO, ["cut 2"], ["gone 2"], keytab(47, B)),
     edit("a removal of a padded record", keytab(record(B.spelled() + b"\xff" * 5)), ["cut 2"], ["gone 2"], keytab(46)),
     edit("no record there", TWO, ["cut 3", "cut 98", "cut 4294967295"], refused(*["refused 5"] * 3)),
@@ -145,14 +144,13 @@ CASES = [
     edit("no file", None, ["rewrite"], ["rewritten 2"], keytab()),
     lambda: edit("too long in version 2", full_of_version_one(), ["resume 2", "rewrite", "resume 2"],
                  refused("walk 0 at 2", "refused 3", "walk 1 at 2")),
-    # Files that are missing, or not a keytab.
+    # Files that are missing.
     edit("a new file", None, [ADD_B], ["placed 2"], keytab(B)),
     edit("no file, and nothing to save", None, ["start"], ["walk 0 at 2"]),
     edit("an empty script", TWO, [], []),
     edit("an empty script and no file", None, [], []),
     edit("version 1", old(HOST), [ADD_B], ["placed 49"], old(HOST, B)),
     edit("version 1, big-endian", old(HOST, order=BIG), [ADD_B], ["placed 49"], old(HOST, B, order=BIG), "--v1-big"),
-    edit("one byte", b"\x05", [ADD_B], message(1, "k: not a keytab (1)")),
     # A keytab of the greatest size takes an entry only in place of another.
     lambda: edit("the file is full", keytab(HOST, record(B.spelled().ljust(LIMIT - 57, b"\0"))),
                  [ADD_B, "cut 2", ADD_B], refused("refused 3", "gone 2", "placed 2"),

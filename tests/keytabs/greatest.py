@@ -107,8 +107,6 @@ def reads() -> list[Case]:
             ("none among them", "b@R", to_find, message(1, "k: refused 9")),
             ("the longest component", f"{long}@R", filled(keytab(Entry((long.encode(),)))),
              printed(f"found 2 kvno 3 etype 17 {long}@R")))),
-        *(Case(f"{line}: a file that is too large", (*line.split(), "k", *more), TOO_LARGE, {"k": sized(LIMIT + 1)})
-          for line, more in (("klist -k --json", ()), ("ktcheck", ()), ("ktfind", ("0", "0", "b@R")))),
     ]
 
 

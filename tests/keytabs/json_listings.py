@@ -61,13 +61,11 @@ NO_TEXT = replace(PA_TYPE, server=replace(PA_TYPE.server, components=(
 CASES = [
     # Keytabs with each set of options, of both versions, empty and damaged.
     case("two entries", TWO, PLAIN, "klist --json -k k"),
-    case("two entries, -t -e", TWO, PLAIN, "klist --json -kte k"),
     case("two entries, -K", TWO,
          keytab_text(HOST_FRONT + HOST_KEY + b"}", B_FRONT + B_KEY + b"}"), "klist --json -K -k k"),
     case("no entry", keytab(), keytab_text(), "klist --json -k k"),
     case("the greatest numbers", WIDE, keytab_text(WIDE_TEXT + b"}"), "klist --json -k k"),
     case("an empty key", WIDE, keytab_text(WIDE_TEXT + b',"key_hex":""}'), "klist --json -kK k"),
-    case("version 1", old(HOST), keytab_text(HOST_FRONT + b"}", version=1), "klist --json -k k"),
     case("version 1, big-endian", old(HOST, order=BIG),
          keytab_text(HOST_FRONT + b"}", version=1), "klist --json -k --v1-big k"),
     case("a bad entry", keytab(HOST, record(bytes(10))),
