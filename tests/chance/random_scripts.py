@@ -18,14 +18,13 @@ from keytabs.columns import NAMES
 from keytabs.scripts import FAULTS
 from makers.cache_images import cache
 from makers.images import BIG, LITTLE, keytab
-from models import cache_script_model, script_model
+from models import script_model
 from models.cache_model import Cache
 from models.cache_reading import read_cache
-from models.cache_script_model import CacheSession
 from models.cases import ccedit, klist, ktedit, ktfind
 from models.keytab_model import Keytab
 from models.reading import KeytabEntry, name_text, no_keytab
-from models.script_model import KEY_SIZES, KeytabSession
+from models.script_model import KEY_SIZES, CacheSession, KeytabSession
 from models.walks import Event, Session, Store
 from runs.harness import Case
 from runs.random_runs import CaseAt, Topic
@@ -186,7 +185,7 @@ def cache_session_over(image: bytes | None) -> CacheSession:
 def random_cache_runs(random: Random) -> Iterator[CaseAt]:
     """Yields scripts over a cache, which is sometimes missing."""
     image = None if random.random() < 0.02 else cache_image(random)
-    scripts = Scripts(random_cache_line, cache_script_model.event_in, CACHE_FAULTS)
+    scripts = Scripts(random_cache_line, script_model.cache_event_in, CACHE_FAULTS)
     yield from scripts.in_turn(random, image, cache_session_over, ccedit)
 
 

@@ -8,13 +8,12 @@ from dataclasses import replace
 from functools import lru_cache, wraps
 
 from models import cache_reading, check_model, json_model, reading
-from models.cache_script_model import cache_edited
 from models.copy_model import Request, copied
 from models.ktutil_model import handled
 from models.name_model import FileName
 from models.reading import name_text
 from models.removal_model import Selection, removal
-from models.script_model import edited
+from models.script_model import cache_edited, edited
 from models.ticket_removal_model import Selection as TicketSelection
 from models.ticket_removal_model import ticket_removal
 from runs.harness import Case, Outcome

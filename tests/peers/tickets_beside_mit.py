@@ -8,7 +8,7 @@ from collections.abc import Iterator
 from contextlib import contextmanager
 
 from models.cache_model import Cache
-from models.cache_script_model import cache_edited
+from models.script_model import cache_edited
 from peers.beside_mit import mit_klist
 from peers.caches_beside_mit import HOST, KINIT, USER, Realm, check_in_realm, differences_of
 from runs.harness import Outcome, Report, differences, files_in, folder_of, run

@@ -61,8 +61,6 @@ static char *proc;
 
 static struct counts {
     uint64_t requests;
-    uint64_t reads;
-    uint64_t writes;
     /* The calls that were not granted. */
     uint64_t failures;
     /* How many milliseconds were slept, and how many passed, where time passes by itself. */
@@ -153,7 +151,6 @@ ssize_t read(int fd, void *bytes, size_t size)
     ssize_t answer;
     if (is_of_system(fd))
         return syscall(SYS_read, fd, bytes, size);
-    counts->reads += in_main;
     if (in_main && !grants(fd == STDIN_FILENO ? &inputs : &reads, &answer))
         return answer;
     return syscall(SYS_read, fd, bytes, at_most(size));
@@ -162,7 +159,6 @@ ssize_t read(int fd, void *bytes, size_t size)
 ssize_t write(int fd, const void *bytes, size_t size)
 {
     ssize_t answer;
-    counts->writes += in_main;
     if (in_main && fd != STDERR_FILENO && !grants(fd == STDOUT_FILENO ? &writes : &saves, &answer))
         return answer;
     return syscall(SYS_write, fd, bytes, at_most(size));
@@ -172,7 +168,6 @@ ssize_t write(int fd, const void *bytes, size_t size)
 ssize_t pwrite(int fd, const void *bytes, size_t size, off_t at)
 {
     ssize_t answer;
-    counts->writes += in_main;
     if (in_main && !grants(&saves, &answer))
         return answer;
     return syscall(SYS_pwrite64, fd, bytes, at_most(size), at);

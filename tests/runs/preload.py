@@ -71,9 +71,9 @@ class Preloaded:
             env = {"LD_PRELOAD": self.library, "PRELOAD_COUNTS": counts.name}
             env.update((name, str(value)) for name, value in settings.items())
             outcome = run(self.program, line.words, folder, line.stdin, env=env)
-            if not (counted := counts.read(48)):
+            if not (counted := counts.read(32)):
                 return None
-            requests, _, _, *others = struct.unpack("=6Q", counted)
+            requests, *others = struct.unpack("=4Q", counted)
             return Counted(outcome, files_in(folder), requests, *others)
 
 
