@@ -70,10 +70,6 @@ CASES = [
     each_number(edit, "version 3", VERSION_3, (20, 130)),
     edit("a walk up to a fault", USUAL + b"\0", ["start", *["step 0"] * 4],
          refused("walk 0 at 40", GAVE_TICKET, GAVE_CONFIG, *["walk 0 fault 4 at 392"] * 2)),
-    edit("places before a fault", USUAL + b"\0", ["resume 392", "step 0", "resume 393"],
-         refused("walk 0 at 392", "walk 0 fault 4 at 392", "refused 4")),
-    edit("version 3", VERSION_3, ["start", "step 0", "step 0"],
-         ["walk 0 at 20", "walk 0 gave 20 next 130 etype 17 krbtgt/R@R", "walk 0 end 130"]),
     # How a reply reports what a walk is given.
     given("an enctype without a name", replace(TICKET, enctype=65_535), b"etype 65535 krbtgt/R@R"),
     given("a server's name with quotes", replace(TICKET, server=Name((b"a/b", b"\n\0@"), b"\\R")),
@@ -113,8 +109,6 @@ CASES = [
     # Walks over a cache in which values are set: a new value is ahead of each of them.
     edit("a walk that has passed the old value", USUAL, ["start", *["step 0"] * 3, SET_3, "step 0", "step 0"],
          ["walk 0 at 40", GAVE_TICKET, GAVE_CONFIG, "walk 0 end 392", *SET_AT, GAVE_3, "walk 0 end 528"], SET),
-    edit("a walk that has not come to the old value", USUAL, ["start", "step 0", SET_3, "step 0", "step 0"],
-         ["walk 0 at 40", GAVE_TICKET, *SET_AT, GAVE_3, "walk 0 end 528"], SET),
     edit("a walk that stands at the old value", USUAL, ["resume 148", SET_3, "step 0"],
          ["walk 0 at 148", *SET_AT, GAVE_3], SET),
     # Rewrites all live credentials in version 4, and carries the walks along.
@@ -153,6 +147,4 @@ CASES = [
     edit("no file, and a faulty line", None, ["frob"], message(1, "line 1: fault 1")),
     edit("an empty script", USUAL, [], []),
     edit("an empty file, and nothing to save", b"", ["start"], message(1, "c: not a cache (1)")),
-    *(over(f"no folder, {line}", "ccedit no/c", None, message(1, "no/c: no such file"), given=line.encode())
-      for line in ("start", "rewrite")),
 ]

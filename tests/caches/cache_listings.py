@@ -98,8 +98,6 @@ CASES = [
     case("a renewable ticket, -f -e", UNTIL, TICKET_LINE, RENEWED, FLAGS_LINE, ETYPE_LINE, columns="fe"),
     # Version 3: no header, and an enctype that is written twice; the first one counts.
     case("version 3", VERSION_3, TICKET_LINE, ETYPE_LINE, columns="e"),
-    case("version 3 with a configuration entry", cache(PA_TYPE, TICKET, version=3), CONFIG_LINE, TICKET_LINE,
-         columns="C"),
     case("version 3 with one that was removed", cache(TICKET.removed(), version=3)),
     case("version 3, cut by a byte", VERSION_3[:-1], b"fault 4 at 20"),
     case("version 3 with a credential of version 4", BARE + TICKET.spelled(), b"fault 4 at 20"),
@@ -178,8 +176,6 @@ CASES = [
                  cache(TICKET.client.spelled() + b"\0\0\0\0" + b"\xff" * 4 + bytes(1_000_000)), b"fault 4 at 22"),
     case("a bad credential before a good one", cache(replace(TICKET, client=Name(count=2**31)), TICKET),
          b"fault 4 at 22"),
-    case("a credential whose last byte is the next one's first", cache(TICKET.spelled()[:-1], of_host()), TICKET_LINE,
-         b"fault 4 at 130"),
     case("a fault after one that was removed", cache(TICKET.removed()) + b"x", b"fault 4 at 130"),
     # Each prefix of the usual cache.
     *map(front, range(len(USUAL) + 1)),

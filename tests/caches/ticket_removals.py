@@ -67,7 +67,6 @@ ODD = replace(TICKET, server=Name((b"a/b", b"\n\xff\xfe"), b"R@S"))
 TYPED = of_host(server=Name((b"host", b"a"), name_type=3))
 LISTS = replace(LATER, addresses=((2, b"\x7f\0\0\1"), (24, b"")), authdata=((1, b"abc"),), is_skey=255,
                 flags=2**32 - 1, starttime=7, renew_till=8, second_ticket=b"more")
-USER = Name((b"u", b""), b"\xff", 9)
 
 CASES = [
     # The entries that each selector selects.
@@ -106,10 +105,6 @@ CASES = [
            ["removed 22 krbtgt/R@R"], cache(LISTS)),
     remove("a header of two offsets", cache(TICKET, LATER, fields=OFFSET + offset(7, 8) + header_field(1, b"")),
            "--expired", ["removed 50 krbtgt/R@R"], left(LATER)),
-    remove("a header without an offset", cache(TICKET, fields=header_field(1, b"abc")), "--expired",
-           ["removed 29 krbtgt/R@R"], cache()),
-    remove("a default principal of another type", cache(TICKET, default=USER), "--expired", ["removed 26 krbtgt/R@R"],
-           cache(default=USER)),
     remove("the only ticket", USUAL, "-p krbtgt/R@R", [AT_40], left(PA_TYPE)),
     remove("the same ticket twice", cache(TICKET, TICKET), "-p krbtgt/R@R",
            ["removed 22 krbtgt/R@R", "removed 130 krbtgt/R@R"], cache()),

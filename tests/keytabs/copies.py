@@ -94,8 +94,6 @@ MET = [
     copy("two other keys", "--replace", keytab(B), keytab(OTHER, HOST, THIRD),
          [f"removed 2 {Y}", f"removed 98 {Y}", f"copied 2 {Y}"], keytab(B, HOST, 41)),
     *(copy("its key behind another", options, keytab(B), keytab(OTHER, B), []) for options in ("", "--replace", "-n")),
-    copy("a key of another length", "--replace", keytab(replace(B, key=bytes(20))), keytab(B),
-         [f"removed 2 {Y}", f"copied 47 {Y}"], keytab(41, replace(B, key=bytes(20)))),
     copy("two clashes", "", keytab(B, HOST), keytab(replace(HOST, key=b""), OTHER),
          printed(f"clash 2 37 {Y}", f"clash 47 2 {X}", status=1)),
     # Two keys of one name, version and enctype always clash.
@@ -105,11 +103,7 @@ MET = [
       for options in ("-n", "-n --replace")),
     copy("two keys, the first of them there", "--replace", keytab(B, OTHER), keytab(B),
          printed(f"clash 47 2 {Y}", status=1)),
-    copy("two keys, the second of them there", "-n --replace", keytab(B, OTHER), keytab(OTHER),
-         printed(f"removed 2 {Y}", f"copied 2 {Y}", f"clash 47 2 {Y}", status=1)),
     copy("two keys, both there", "--replace", keytab(B, OTHER), keytab(OTHER, B), []),
-    copy("two keys, the first of them behind a third", "--replace", keytab(B, OTHER), keytab(THIRD, B),
-         printed(f"clash 47 2 {Y}", status=1)),
     copy("two keys, of which one is selected", "-e 17", keytab(B, replace(OTHER, enctype=18)), None,
          [f"copied 2 {Y}"], keytab(B)),
     # What makes two entries the same: name, version and enctype, not time and name type.

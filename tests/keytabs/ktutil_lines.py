@@ -2,7 +2,7 @@
 
 from keytabs.edits import C, DAMAGED, by_line
 from keytabs.file_names import LIMIT
-from makers.images import B, BIG, END, HOST, TWO, Entry, hole, keytab, old, record
+from makers.images import B, BIG, END, HOST, TWO, Entry, keytab, old, record
 from runs.harness import Case, Outcome, Report, faults_by_clock
 from runs.rows import text
 
@@ -125,8 +125,6 @@ CASES = [
     # Files that are written, and those that are not.
     lines("a new file", COPY, [], files=FROM_J, after={"k": TWO}),
     lines("an old file", COPY, [], files={"k": keytab(HOST), **FROM_J}, after={"k": keytab(HOST, HOST, B)}),
-    lines("holes that are filled", COPY, [], files={"k": keytab(hole(b"\xff" * 60), HOST, 41), **FROM_J},
-          after={"k": keytab(record(HOST.spelled() + bytes(13)), HOST, B)}),
     lines("the file that was read", ["write_kt k", "rkt k", "wkt k"], [], files={"k": keytab(HOST)},
           after={"k": keytab(HOST, HOST)}),
     lines("the empty list, a new file", ["wkt k"], [], after={"k": keytab()}),

@@ -102,12 +102,8 @@ CASES = [
       for words, lines, after in (
           ("-k old --age 0", [], None), ("-k old --age 1", [], None),
           ("-k old", ["removed 2 kvno 1 etype 17 a@R"], keytab(41, versioned(2, 0))))),
-    remove("a newest version of the time 0 in one enctype",
-           keytab(versioned(1, 1), versioned(2, 1), versioned(2, 0, 18)), "-k old --age 1", []),
     remove("an old version of the time 0", keytab(versioned(1, 0), versioned(2, 1)), "-k old --age 1",
            ["removed 2 kvno 1 etype 17 a@R"], keytab(41, versioned(2, 1))),
-    remove("old versions of late times", keytab(replace(HOST, timestamp=FUTURE), FIVE), "-k old --age 0", [X],
-           keytab(47, FIVE)),
     # Names that print alike are the same, of whatever type.
     remove("no components and an empty one", BARE, "-p @R",
            ["removed 2 kvno 1 etype 17 @R", "removed 44 kvno 2 etype 17 @R"], keytab(38, 40, B3)),
