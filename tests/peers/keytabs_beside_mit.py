@@ -205,17 +205,10 @@ def faults_of_removal(program: str, realm: Realm, random: Random) -> list[str]:
     return found
 
 
-def check_old(report: Report, program: str) -> None:
+def check_old(report: Report, program: str, made: Realm) -> None:
     """Checks that kadmin.local and ktremove leave the same file without its old entries."""
-    wrong: list[str] = []
-    try:
-        with folder_of({}) as folder:
-            realm = Realm(folder, 0)
-            realm.create()
-            for seed in range(KEYTABS if report.is_proved else KEYTABS // ONE_IN):
-                wrong += faults_of_removal(program, realm, Random(seed))
-    except Failed as failed:
-        wrong.append(str(failed))
+    seeds = range(KEYTABS if report.is_proved else KEYTABS // ONE_IN)
+    wrong = [fault for seed in seeds for fault in faults_of_removal(program, made, Random(seed))]
     report.check("old entries that kadmin.local and ktremove remove", wrong[:3])
 
 
@@ -224,6 +217,5 @@ def check(report: Report, program: str) -> None:
     if are_there(report, "keytabs beside MIT's programs"):
         for each in (check_read, check_same, check_hidden):
             each(report, program)
-    check_in_realm(report, program, "copies used by MIT's programs", check_used)
-    if are_there(report, "removals beside MIT's kadmin.local", ("kdb5_util", "kadmin.local")):
-        check_old(report, program)
+    has_admin = are_there(report, "removals beside MIT's kadmin.local", ("kadmin.local",))
+    check_in_realm(report, program, "copies used by MIT's programs", check_used, *[check_old] * has_admin)
