@@ -91,7 +91,6 @@ CASES = [
          cache(TICKET, PA_TYPE.removed(), TICKET.removed(), fields=FIELDS)),
     edit("of more fields", cache(LISTS), ["cut 22"], ["gone 22"], cache(LISTS.removed())),
     edit("nothing stands there", USUAL, ["cut 3", "cut 284", "cut 392", "cut 4294967295"], refused(*["refused 5"] * 4)),
-    edit("removed twice", USUAL, ["cut 40", "cut 40"], refused("gone 40", "refused 5"), GONE),
     # Values that are set: the new one is added, and then each old one is removed.
     edit("a value in place of one", USUAL, [SET_3], SET_AT, SET),
     edit("in place of two, in the order of the file", cache(K_1, TICKET, K_2), ["config k - 3"],
@@ -144,7 +143,4 @@ CASES = [
     # Files that are missing. Those that are not a cache are among the messages that are explained.
     *(edit(f"no file, {line!r}", None, line.encode(), message(1, "c: no such file"))
       for line in ("start\n", "", "config k - v\n")),
-    edit("no file, and a faulty line", None, ["frob"], message(1, "line 1: fault 1")),
-    edit("an empty script", USUAL, [], []),
-    edit("an empty file, and nothing to save", b"", ["start"], message(1, "c: not a cache (1)")),
 ]

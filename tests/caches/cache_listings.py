@@ -89,7 +89,6 @@ OF_CONFIG = TIMES + CONFIG_FIRST
 CASES = [
     # Caches without faults. The usual one is listed with each set of columns by lines of words.
     case("no credential", cache()),
-    case("no credential, all columns", cache(), columns="efC"),
     case("removed ones alone", cache(TICKET.removed(), PA_TYPE.removed()), columns="C"),
     case("the order of the file", cache(TICKET, of_host()), TICKET_LINE, HOST_LINE),
     case("2000 tickets", cache(*(replace(TICKET, server=Name((b"svc", b"%d" % n))) for n in NUMBERS)),
@@ -112,7 +111,6 @@ CASES = [
     flagged("all bits", 2**32 - 1, b"".join(FLAGS)),
     flagged("those without a letter", ~sum(FLAGS.values()) % 2**32, b""),
     # The removed mark is endtime 0 with the greatest authtime, and no other pair.
-    case("mark, both", cache(TICKET.removed())),
     case("mark, both and a starttime", cache(replace(TICKET, starttime=1).removed())),
     ticket("mark, endtime 0 alone", START + b" " + NEVER, endtime=0),
     ticket("mark, authtime 0 and endtime 0", NEVER + b" " + NEVER, authtime=0, endtime=0),

@@ -114,7 +114,6 @@ CASES = [
     # Caches of version 3, damaged ones, and files that are not caches: the version comes first.
     *unchanged("version 3", VERSION_3, READ_ONLY),
     *unchanged("version 3, damaged", VERSION_3[:-1], READ_ONLY),
-    *unchanged("version 3 without a ticket", cache(version=3), READ_ONLY),
     *unchanged("a damaged cache", USUAL[:-1], DAMAGED),
     *unchanged("an empty file", b"", message(1, "c: not a cache (1)")),
     *unchanged("a keytab", b"\x05\x02", message(1, "c: not a cache (2)")),

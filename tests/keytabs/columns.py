@@ -3,7 +3,7 @@
 from collections.abc import Iterable
 
 from keytabs.listings import case, listed
-from makers.images import B, BIG, HOST, Entry, keytab, old, record
+from makers.images import B, BIG, HOST, Entry, keytab, old
 from runs.harness import Case
 
 # The names of the enctypes that have one.
@@ -71,7 +71,6 @@ CASES = [
     case("the greatest numbers",
          keytab(Entry((b"a",), timestamp=2**32 - 1, version32=2**32 - 1, enctype=65_535, key=b"\0a")),
          b"4294967295 2106-02-07T06:28:15Z a@R (etype 65535) (0x0061)", letters="teK"),
-    case("an entry of zeros", keytab(record(bytes(17))), b"   0 1970-01-01T00:00:00Z @ (etype 0) (0x)", letters="teK"),
     case("version 1, little-endian", old(HOST, B), HOST_ALL, B_ALL, letters="teK"),
     case("version 1, big-endian", old(HOST, B, order=BIG), HOST_ALL, B_ALL, letters="teK", options="--v1-big"),
     # Each enctype that has a name, some other numbers, and all of them.

@@ -164,7 +164,6 @@ UNSOUND = {
 ORDER = [
     # The keytab that is copied from comes first, with what is selected in it; then the other.
     copy("nothing to copy from", "", None, TWO, message(1, "k: no such file")),
-    copy("nothing to copy from, no keytab to copy to", "-n", None, b"xy", message(1, "k: no such file")),
     copy("no bytes to copy from", "", b"", None, message(1, "k: not a keytab (1)")),
     *(copy(f"from {image.hex()[-8:]}", options, image, b"xy", message(1, f"k: {what}"))
       for image, what in UNSOUND.items() for options in ("", "-n", "-p c@R")),

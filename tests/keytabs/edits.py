@@ -132,7 +132,6 @@ CASES = [
     edit("a new file", None, [ADD_B], ["placed 2"], keytab(B)),
     edit("no file, and nothing to save", None, ["start"], ["walk 0 at 2"]),
     edit("an empty script", TWO, [], []),
-    edit("an empty script and no file", None, [], []),
     edit("version 1", old(HOST), [ADD_B], ["placed 49"], old(HOST, B)),
     edit("version 1, big-endian", old(HOST, order=BIG), [ADD_B], ["placed 49"], old(HOST, B, order=BIG), "--v1-big"),
     # A keytab of the greatest size takes an entry only in place of another.

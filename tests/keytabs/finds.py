@@ -135,7 +135,6 @@ CASES = [
     # Holes, ends, and version 1 in both orders, in which host/a@R has 43 bytes, without a name type.
     find("an entry after holes", HOLES, "0 0 b@R", (105, 3, 17)),
     find("an entry after the end", keytab(HOST, END, B), "0 0 b@R", NOT_FOUND),
-    find("an entry after unused bytes", keytab(record(HOST.spelled() + b"\xff" * 9), B), "0 0 b@R", (62, 3, 17)),
     find("version 1, little-endian", old(HOST, B), "0 0 b@R", (49, 3, 17)),
     find("version 1, big-endian", old(HOST, B, order=BIG), "0 0 b@R", (49, 3, 17), "--v1-big"),
     find("version 1, big-endian, read as little", old(HOST, B, order=BIG), "0 0 b@R", DAMAGED),

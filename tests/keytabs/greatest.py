@@ -100,7 +100,6 @@ def reads() -> list[Case]:
           for name, query, found, wanted in (
             ("the last of the most", "host/a@R", to_find, printed(f"found {PLACES[-2]} kvno 3 etype 17 host/a@R")),
             ("the first of the most", "@", to_find, printed("found 2 kvno 0 etype 0 @")),
-            ("none among them", "b@R", to_find, message(1, "k: refused 9")),
             ("the longest component", f"{long}@R", filled(keytab(Entry((long.encode(),)))),
              printed(f"found 2 kvno 3 etype 17 {long}@R")))),
     ]
@@ -172,7 +171,6 @@ def edits() -> list[Case]:
              printed("walk 0 at 2", f"walk 0 end {2 + 5 * HOLES}", "rewritten 2", "placed 2"), keytab(LEAST)),
         edit("one entry as long as a script may be", None, long_name.encode(), printed("placed 2"),
              keytab(Entry((component.encode(),) * 65_534))),
-        edit("the most lines", keytab(), repeated(b"#\n"), Outcome(0)),
         edit("the most walks", keytab(), starts, Outcome(1, walks)),
         edit("the most additions", None, adds, Outcome(1, placed), least()),
         edit("a line too much", keytab(), starts + b"start", message(1, "input too large")),
@@ -194,7 +192,6 @@ def talks() -> list[Case]:
                  Outcome(0, listed + SLOTS_HEADING), {"k": least()}, {"n": least()}),
                 ("no file takes more", b"rkt k\nwkt k\n", message(1, "line 2: refused 3"), {"k": least()}, {}),
                 ("the most lines", repeated(b"\n"), Outcome(0), {}, {}),
-                ("the most commands", repeated(b"clear\n"), Outcome(0), {}, {}),
                 ("the most new entries", added * count + b"l\n", Outcome(0, new), {}, {}),
                 ("a file that is too large", b"rkt k\nwkt k\n", Outcome(1, b"", TOO_LARGE.err * 2),
                  {"k": sized(LIMIT + 1)}, {}))]

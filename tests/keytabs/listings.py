@@ -90,7 +90,6 @@ CASES = [
         ("a hole cut by a byte", hole(bytes(5))[:-1], b"fault 2 at 53"),
         ("a length with nothing after it", b"\0\0\0\1", b"fault 2 at 53"),
         ("a length of one byte", b"\0", b"fault 1 at 53"),
-        ("a length of two bytes", b"\0\0", b"fault 1 at 53"),
         ("a length of three bytes", b"\xff\xff\xff", b"fault 1 at 53"))),
     case("a length of three bytes at once", keytab(b"\0\0\0"), b"fault 1 at 2"),
     # Version 1 in both orders; it is read as little-endian unless `--v1-big` is given.

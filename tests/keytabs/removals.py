@@ -118,7 +118,6 @@ CASES = [
     remove("version 1, little-endian", old(HOST, B3), "-p host/a@R", [X], old(43, B3)),
     Case("version 1, big-endian", ("ktremove", "--v1-big", "k", "-p", "host/a@R"), Outcome(0, f"{X}\n".encode()),
          {"k": old(HOST, B3, order=BIG)}, {"k": old(43, B3, order=BIG)}),
-    remove("version 1, big-endian, read as little", old(HOST, B3, order=BIG), "-p host/a@R", DAMAGED),
     # Damaged files.
     remove("a damaged keytab", TWO[:-1], "-e 17", DAMAGED),
     greatest.most_of_one_name, greatest.many_long_names,
