@@ -9,12 +9,11 @@ from typing import NamedTuple, Optional
 
 import images
 import processes
-from tables import MEGA, Table, digits, error, less, ratio, shown
+from tables import MEGA, Table, digits, error, shown
 
 LONGEST = 4000  # seconds that a run may take
 BUDGET = 8  # seconds for the runs of one side in one case, beyond the fewest
 FEWEST, MOST = 3, 101  # runs of one side in one case
-ADDED = 86  # bytes that an added entry takes
 
 
 class Work(NamedTuple):
@@ -49,24 +48,16 @@ class Bench:
         self.sides = {"krbfile": processes.built_over_library(setting.folder, "edits"),
                       "MIT": processes.built(setting.folder, "mit_edits", "-lkrb5")}
 
-    def over_copy(self, how, side, *words, **more):
-        """Makes a run by `how` over a copy that is on the disk and has the side's name, and returns its result."""
+    def run(self, side, work):
+        """Makes a run over a copy that is on the disk and has the side's name, and returns what it used."""
         file = self.setting.folder / side
         shutil.copyfile(self.made, file)
         with open(file, "rb+") as copy:
             os.fsync(copy.fileno())
-        return how([self.sides[side], str(file), *words], self.setting.env, LONGEST, **more)
-
-    def run(self, side, work):
-        """Returns what a run used."""
-        status, used = self.over_copy(processes.run, side, *work.words())
+        status, used = processes.run([self.sides[side], str(file), *work.words()], self.setting.env, LONGEST)
         if status != 0:
             sys.exit(f"bench: {side}, {work}: status {status}")
         return used
-
-    def noted(self, how, side, *words):
-        """Returns what valgrind reports of a run."""
-        return self.over_copy(how, side, *words, note=self.setting.folder / "note")
 
     def measure(self, side, work):
         """Returns the microseconds of each operation, their error, and a whole run's: next to each run is one without
@@ -80,11 +71,6 @@ class Bench:
             wholes.append(whole)
         scale = MEGA / work.count()
         return statistics.median(nets) * scale, error(nets) * scale, statistics.median(wholes) * scale
-
-    def counted(self, side, work):
-        """Returns the instructions of each operation."""
-        grown = less(*(self.noted(processes.instructions, side, *one.words()) for one in (work, work.none())))
-        return grown and grown / work.count()
 
     def compare(self, work):
         """Ends the benchmark if the sides leave different entries."""
@@ -125,37 +111,3 @@ def edit_rows(bench):
 def edits(setting):
     """Returns the table of additions to keytabs and removals from them."""
     return Table(["operations", "cpu us", "MIT cpu us", "run cpu us"], edit_rows(Bench(setting)))
-
-
-def cell_rows(bench):
-    """Yields an operation by each side, over keytabs whose first holes have no room."""
-    many, sizes = (200, (1_000, 10_000)) if bench.setting.quick else (1_000, (10_000, 100_000))
-    for group, fitting, ours in (("additions: as many holes fit, the last cells", many, Work(many)),
-                                 ("removals from the back", 0, Work(0, many))):
-        for cells, fewer in zip(sizes, (50, 10)):
-            theirs = ours.fewer(fewer)
-            name = f"{cells:,} cells, {named(ours, theirs)}"
-            print(f"{group}: {name}", file=sys.stderr)
-            bench.made.write_bytes(images.mixed(cells, fitting, ADDED))
-            bench.compare(theirs)
-            counts = bench.counted("krbfile", ours), bench.counted("MIT", theirs)
-            yield group, [name, *(ratio(one, 1, "{:,.0f}") for one in counts), ratio(*counts[::-1], "{:,.0f}")]
-
-
-def cells(setting):
-    """Returns the table of how additions and removals grow with the keytab."""
-    return Table(["operations", "instr", "MIT instr", "MIT's instr / ours"], cell_rows(Bench(setting)))
-
-
-def opened(setting):
-    """Returns the table of what building the table of cells costs: a run that opens the keytab, beside one that only
-    reads and writes its file."""
-    bench, count = Bench(setting), 10_000 if setting.quick else 100_000
-    image = images.mixed(count, 0, ADDED)
-    bench.made.write_bytes(image)
-    row = [f"{count:,}"]
-    for how, copied in (processes.instructions, 0), (processes.heap, len(image)):
-        grown = less(bench.noted(how, "krbfile", "0", "-"), bench.noted(how, "krbfile", "-", "-"))
-        beside = grown and grown - copied
-        row += [ratio(beside, 1, "{:,.0f}"), ratio(beside, count, "{:,.1f}")]
-    return Table(["cells", "instr", "instr / cell", "bytes", "bytes / cell"], [(None, row)])

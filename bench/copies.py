@@ -1,11 +1,9 @@
-"""Our `ktcopy` beside both ktutils and beside our listing, and over half a million entries."""
+"""Our `ktcopy` beside both ktutils and beside our listing."""
 
-import base64
 import os
 import shutil
 import statistics
 import sys
-from dataclasses import replace
 from typing import NamedTuple
 
 import images
@@ -19,22 +17,17 @@ GROUND = 2  # seconds of the processor up to which a run is also counted by valg
 MERGED = b"rkt a\nrkt b\nwkt c\nquit\n"
 
 
-class Side(NamedTuple):
-    """One side's words, the file that then has all entries, and its input."""
-
-    words: list
-    left: str
-    input: bytes = b""
-
-
 class Case(NamedTuple):
-    """A run of ktcopy over files; the run beside it, and a keytab of the entries that both leave."""
+    """A run of ktcopy over files; the words of the run beside it, its input, and the file that then has all entries, as
+    the last of ktcopy's words does; and a keytab of them."""
 
     name: str
     files: dict
-    ours: Side
-    theirs: Side
+    ours: list
+    theirs: list
+    left: str
     whole: bytes
+    given: bytes = b""
 
 
 class Bench:
@@ -56,13 +49,13 @@ class Bench:
         with open(self.input, "rb") as stdin, open(self.out, "wb") as out:
             return how(words, self.setting.env, LONGEST, stdin=stdin, stdout=out, cwd=self.work, **more)
 
-    def cost(self, case, side):
+    def cost(self, case, words, left, given=b""):
         """Returns the milliseconds of one side, its instructions and its peak. It has to leave all entries."""
-        run = case.files, side.words, side.input
+        run = case.files, words, given
         status, used, memory = self.call(processes.peak, *run, note=self.note)
         self.whole.write_bytes(case.whole)
-        if status or self.setting.listed(self.work / side.left) != self.setting.listed(self.whole):
-            sys.exit(f"bench: {' '.join(side.words)}: status {status}, or {side.left} has other entries")
+        if status or self.setting.listed(self.work / left) != self.setting.listed(self.whole):
+            sys.exit(f"bench: {' '.join(words)}: status {status}, or {left} has other entries")
         found = []
         while not found or (len(found) < RUNS and sum(one.wall for one in found) < BUDGET):
             found.append(self.call(processes.run, *run)[1])
@@ -70,32 +63,29 @@ class Bench:
         return statistics.median(one.cpu for one in found) * 1000, counted, memory
 
 
-def merges(krbfile, quick):
-    """Yields two keytabs made one: ktcopy adds to the first, ktutil writes a third."""
-    entries = 400 if quick else 4_000
+def cases(krbfile, quick):
+    """Yields two keytabs made one, where ktcopy adds to the first and ktutil writes a third; a comparison of equal
+    keytabs, and a copy into a missing one."""
+    entries, many = (400, 1_000) if quick else (4_000, 100_000)
     whole, border = images.services(2 * entries), len(images.services(entries))
     files = {"a": whole[:border], "b": images.HEAD + whole[border:]}
     for name, words in ("MIT's ktutil", [processes.mit("ktutil")[0]]), ("our ktutil", [krbfile, "ktutil"]):
-        yield Case(f"two of {entries:,} made one; {name}", files, Side([krbfile, "ktcopy", "b", "a"], "a"),
-                   Side(words, "c", MERGED), whole)
-
-
-def beside_listing(krbfile, quick):
-    """Yields a comparison of equal keytabs, and a copy into a missing one."""
-    entries = 1_000 if quick else 100_000
-    whole, listing = images.services(entries), Side([krbfile, "klist", "-k", "a"], "a")
-    yield Case(f"-n over two equal ones of {entries:,}; klist -k of one", {"a": whole, "b": whole},
-               Side([krbfile, "ktcopy", "-n", "a", "b"], "b"), listing, whole)
-    yield Case(f"{entries:,} into a missing file; klist -k", {"a": whole},
-               Side([krbfile, "ktcopy", "a", "b"], "b"), listing, whole)
+        yield Case(f"two of {entries:,} made one; {name}", files, [krbfile, "ktcopy", "b", "a"], words, "c", whole,
+                   MERGED)
+    whole, listing = images.services(many), [krbfile, "klist", "-k", "a"]
+    yield Case(f"-n over two equal ones of {many:,}; klist -k of one", {"a": whole, "b": whole},
+               [krbfile, "ktcopy", "-n", "a", "b"], listing, "a", whole)
+    yield Case(f"{many:,} into a missing file; klist -k", {"a": whole}, [krbfile, "ktcopy", "a", "b"], listing, "a",
+               whole)
 
 
 def rows(setting):
     """Yields a row for each case: our costs beside the other's."""
-    bench, sizes = Bench(setting), (setting.krbfile, setting.quick)
-    for case in (*merges(*sizes), *beside_listing(*sizes)):
+    bench = Bench(setting)
+    for case in cases(setting.krbfile, setting.quick):
         print(case.name, file=sys.stderr)
-        (ms, counted, memory), (other_ms, other_counted, _) = (bench.cost(case, it) for it in (case.ours, case.theirs))
+        ms, counted, memory = bench.cost(case, case.ours, case.ours[-1])
+        other_ms, other_counted, _ = bench.cost(case, case.theirs, case.left, case.given)
         yield None, [case.name, f"{ms:,.1f}", f"{other_ms:,.1f}", ratio(ms, other_ms),
                      ratio(counted, MEGA, "{:,.1f}"), ratio(counted, other_counted), ratio(memory, MEGA, "{:,.1f}")]
 
@@ -104,42 +94,3 @@ def ktcopy(setting):
     """Returns the table of copies beside other runs."""
     return Table(["run; other", "cpu ms", "other cpu ms", "cpu / other's", "instr M", "instr / other's", "peak MB"],
                  rows(setting))
-
-
-def short_keytab(entries):
-    """Returns a keytab of entries of at most 33 bytes: half a million fit."""
-    image = images.keytab(*entries)
-    assert len(image) <= images.LIMIT
-    return image
-
-
-def largest_cases(count):
-    """Yields a name and files, the status of a copy from a to b, and how many lines it prints."""
-    one, numbers = replace(images.SHORT, components=(b"a",), key=b"same"), range(1, count + 1)
-    yield "versions of one name, into a missing file", {"a": short_keytab(
-        replace(one, version8=number % 256, version32=number) for number in numbers)}, 0, count
-    yield "names, into a missing file", {"a": short_keytab(
-        replace(one, components=(base64.urlsafe_b64encode(number.to_bytes(3, "big")),), key=b"k")
-        for number in numbers)}, 0, count
-    alike = short_keytab([one] * count)
-    yield "alike, into a file of the same", {"a": alike, "b": alike}, 0, 0
-    others = (short_keytab(replace(one, key=(first + number).to_bytes(4, "big")) for number in numbers)
-              for first in (0, count))
-    yield "that clash: one name and version, other keys", dict(zip("ab", others)), 1, count
-
-
-def largest_rows(setting):
-    """Yields a row for each case, of a single run."""
-    bench = Bench(setting)
-    for name, files, status, lines in largest_cases(1_000 if setting.quick else 500_000):
-        print(name, file=sys.stderr)
-        ended, used, memory = bench.call(processes.peak, files, [setting.krbfile, "ktcopy", "a", "b"], note=bench.note)
-        printed = bench.out.read_bytes().count(b"\n")
-        if (ended, printed) != (status, lines):
-            sys.exit(f"bench: {name}: status {ended}, {printed:,} lines")
-        yield None, [name, *(f"{seconds:,.2f}" for seconds in used), ratio(memory, MEGA, "{:,.1f}"), f"{lines:,}"]
-
-
-def largest(setting):
-    """Returns the table of copies of half a million entries."""
-    return Table(["copy", "s", "cpu s", "peak MB", "lines"], largest_rows(setting))

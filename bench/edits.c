@@ -1,7 +1,6 @@
 /*
  * Adds entries to a keytab file by libkrbfile and removes its last ones: edits FILE ADDITIONS REMOVALS. It does what
- * mit_edits.c does, and writes the file at the end. ADDITIONS "-" opens no keytab, and only writes the file that it
- * read.
+ * mit_edits.c does, and writes the file at the end.
  */
 #include "bench.h"
 
@@ -39,16 +38,12 @@ int main(int argc, char **argv) {
     must(argc == 4, "usage: edits FILE ADDITIONS REMOVALS");
     size_t len;
     uint8_t *read = read_file(argv[1], &len);
-    krbf_bytes image = {read, len};
-    if (strcmp(argv[2], "-")) {
-        must(krbf_kt_open(read, len, 0, 0, &keytab) == KRBF_DONE, "krbf_kt_open");
-        free(read);
-        read = NULL;
-        change(argv[2], argv[3], add, all_places, remove_nth);
-        must(krbf_kt_image(&keytab, &image) == KRBF_DONE, "krbf_kt_image");
-    }
+    krbf_bytes image;
+    must(krbf_kt_open(read, len, 0, 0, &keytab) == KRBF_DONE, "krbf_kt_open");
+    free(read);
+    change(argv[2], argv[3], add, all_places, remove_nth);
+    must(krbf_kt_image(&keytab, &image) == KRBF_DONE, "krbf_kt_image");
     write_file(argv[1], image);
     krbf_kt_close(&keytab);
-    free(read);
     return 0;
 }

@@ -42,12 +42,6 @@ def of_two_versions(entries):
                     for at in range(entries)))
 
 
-def mixed(cells, fitting, size):
-    """Returns that many cells. Each fourth is a hole, of 1 to SIZE - 1 bytes, and the last FITTING holes have SIZE."""
-    return keytab(*(at * 7 % (size - 1) + 1 if at % 4 == 3 else service(at) for at in range(cells - fitting)),
-                  *[size] * fitting)
-
-
 def last_service(entries):
     """Returns any version, the enctype and the name of the last entry of that many services, an even number."""
     return ["0", "18", f"host/server{entries // 2 - 1:05d}.ad.test@AD.TEST"]

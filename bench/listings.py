@@ -27,11 +27,12 @@ SERVICES = images.services, 200_000, 10_000
 TICKETS = images.tickets, 50_000, 1_000
 KTLIST, CCLIST = ["klist", "-k"], ["klist", "-c"]
 TABLES = {  # the other side of each table, and its groups
-    "keytabs": ("MIT", [
+    "listings": ("MIT", [
         Group("services", *SERVICES, KTLIST),
         Group("all columns", *SERVICES, [*KTLIST, "-t", "-K", "-e"]),
         Group("holes", images.holes, 3_000_000, 100_000, KTLIST),
         Group("quoted names", images.quoted, 550, 33, KTLIST),
+        Group("tickets", *TICKETS, CCLIST),
     ]),
     "commands": ("klist", [
         Group("ktfind", *SERVICES, ["ktfind"], KTLIST, images.last_service),
@@ -41,7 +42,6 @@ TABLES = {  # the other side of each table, and its groups
         Group("ccremove", *TICKETS, ["ccremove", "-n", "--expired"], CCLIST),
         Group("tickets as JSON", *TICKETS, [*CCLIST, "--json"], [*CCLIST, "-e", "-f"]),
     ]),
-    "caches": ("MIT", [Group("tickets", *TICKETS, CCLIST)]),
     "least": ("least", [Group("services", *SERVICES, KTLIST, ["least"])]),
 }
 

@@ -8,7 +8,6 @@ import subprocess
 import sys
 import threading
 import time
-from functools import partial
 from pathlib import Path
 from typing import NamedTuple
 
@@ -66,18 +65,13 @@ def peak(words, env, longest, note, **streams):
     return status, used, int(Path(note).read_text().split()[-1]) * 1024
 
 
-def ground(tool, pattern, words, env, longest, note, **streams):
-    """Returns the greatest number that a tool of valgrind notes of a run."""
+def instructions(words, env, longest, note, **streams):
+    """Returns the instructions that a program executes itself, without the kernel's, as valgrind counts them."""
     if shutil.which("valgrind") is None:
         return None
-    run(["valgrind", *(word.format(note) for word in tool), *words], env, longest, **streams)
-    return max(map(int, re.findall(pattern, Path(note).read_text())), default=None)
-
-
-# The instructions that a program executes itself, without the kernel's; the most bytes that it has from malloc.
-instructions = partial(ground, ("--tool=callgrind", "--callgrind-out-file=/dev/null", "--log-file={}"),
-                       r"Collected : (\d+)")
-heap = partial(ground, ("--tool=massif", "--peak-inaccuracy=0.0", "--massif-out-file={}"), r"mem_heap_B=(\d+)")
+    run(["valgrind", "--tool=callgrind", "--callgrind-out-file=/dev/null", f"--log-file={note}", *words], env, longest,
+        **streams)
+    return max(map(int, re.findall(r"Collected : (\d+)", Path(note).read_text())), default=None)
 
 
 def mit(program):

@@ -10,10 +10,6 @@ def ratio(part, whole, form="{:.3f}"):
     return "-" if part is None or not whole else form.format(part / whole)
 
 
-def less(whole, part):
-    return None if whole is None or part is None else whole - part
-
-
 def error(values):
     """Returns the standard error of their median, as for normal values, from their interquartile range."""
     low, _, high = statistics.quantiles(values, n=4)

@@ -65,23 +65,11 @@ CASES = [
     edit("a walk to the end and on", USUAL, ["start", *["step 0"] * 4],
          ["walk 0 at 40", GAVE_TICKET, GAVE_CONFIG, "walk 0 end 392", "walk 0 end 392"]),
     edit("no credential", cache(), ["start", "step 0"], ["walk 0 at 22", "walk 0 end 22"]),
-    edit("walks that are resumed", USUAL,
-         ["resume 148", "resume 284", "resume 392", "step 0", "step 1", "step 2", "step 0"],
-         ["walk 0 at 148", "walk 1 at 284", "walk 2 at 392", GAVE_CONFIG, "walk 1 end 392", "walk 2 end 392",
-          "walk 0 end 392"]),
-    edit("no such walk", USUAL, ["step 9", "start", "step 1"], refused("refused 6", "walk 0 at 40", "refused 6")),
     each_number(edit, "a whole cache", USUAL, (40, 148, 284, 392)),
     each_number(edit, "a damaged cache", USUAL[:391], (40, 148, 284)),
     each_number(edit, "version 3", VERSION_3, (20, 130)),
-    edit("as many walks as there may be", USUAL, ["start"] * 1_025 + ["resume 148", "resume 3", "step 1023"],
-         refused(*(f"walk {number} at 40" for number in range(1_024)), *["refused 7"] * 3,
-                 GAVE_TICKET.replace("walk 0", "walk 1023"))),
     edit("a walk up to a fault", USUAL + b"\0", ["start", *["step 0"] * 4],
          refused("walk 0 at 40", GAVE_TICKET, GAVE_CONFIG, *["walk 0 fault 4 at 392"] * 2)),
-    edit("places before a fault", USUAL + b"\0", ["resume 392", "step 0", "resume 393"],
-         refused("walk 0 at 392", "walk 0 fault 4 at 392", "refused 4")),
-    edit("version 3", VERSION_3, ["start", "step 0", "step 0"],
-         ["walk 0 at 20", "walk 0 gave 20 next 130 etype 17 krbtgt/R@R", "walk 0 end 130"]),
     # How a reply reports what a walk is given.
     given("an enctype without a name", replace(TICKET, enctype=65_535), b"etype 65535 krbtgt/R@R"),
     given("a server's name with quotes", replace(TICKET, server=Name((b"a/b", b"\n\0@"), b"\\R")),
@@ -95,10 +83,6 @@ CASES = [
     given("escapes", config(ODD_KEY, b"v", ODD_KEY), b"config " + ESCAPED + b"(" + ESCAPED + b")"),
     given("another client's value", config(b"k", b"v", client=KRBTGT), b"config k"),
     given("a value with times and a key", config_ticket(b"k"), b"config k"),
-    given("one component alone", config_ticket(), b"etype 17 krb5_ccache_conf_data@X-CACHECONF:"),
-    given("four components", config_ticket(b"a", b"b", b"c"), b"etype 17 krb5_ccache_conf_data/a/b/c@X-CACHECONF:"),
-    given("another realm", config_ticket(b"k", realm=b"X-RMED-CONF:"),
-          b"etype 17 krb5_ccache_conf_data/k@X-RMED-CONF:"),
     # Removals: the two times become those of a mark, and no other byte changes.
     edit("behind a walk", USUAL, ["start", "step 0", "step 0", "cut 40", "step 0"],
          ["walk 0 at 40", GAVE_TICKET, GAVE_CONFIG, "gone 40", "walk 0 end 392"], GONE),
@@ -107,9 +91,6 @@ CASES = [
          cache(TICKET, PA_TYPE.removed(), TICKET.removed(), fields=FIELDS)),
     edit("of more fields", cache(LISTS), ["cut 22"], ["gone 22"], cache(LISTS.removed())),
     edit("nothing stands there", USUAL, ["cut 3", "cut 284", "cut 392", "cut 4294967295"], refused(*["refused 5"] * 4)),
-    edit("removed twice", USUAL, ["cut 40", "cut 40"], refused("gone 40", "refused 5"), GONE),
-    edit("some refused, some done", USUAL, ["resume 285", "resume 284", "step 0", "cut 40"],
-         refused("refused 4", "walk 0 at 284", "walk 0 end 392", "gone 40"), GONE),
     # Values that are set: the new one is added, and then each old one is removed.
     edit("a value in place of one", USUAL, [SET_3], SET_AT, SET),
     edit("in place of two, in the order of the file", cache(K_1, TICKET, K_2), ["config k - 3"],
@@ -127,8 +108,6 @@ CASES = [
     # Walks over a cache in which values are set: a new value is ahead of each of them.
     edit("a walk that has passed the old value", USUAL, ["start", *["step 0"] * 3, SET_3, "step 0", "step 0"],
          ["walk 0 at 40", GAVE_TICKET, GAVE_CONFIG, "walk 0 end 392", *SET_AT, GAVE_3, "walk 0 end 528"], SET),
-    edit("a walk that has not come to the old value", USUAL, ["start", "step 0", SET_3, "step 0", "step 0"],
-         ["walk 0 at 40", GAVE_TICKET, *SET_AT, GAVE_3, "walk 0 end 528"], SET),
     edit("a walk that stands at the old value", USUAL, ["resume 148", SET_3, "step 0"],
          ["walk 0 at 148", *SET_AT, GAVE_3], SET),
     # Rewrites all live credentials in version 4, and carries the walks along.
@@ -164,9 +143,4 @@ CASES = [
     # Files that are missing. Those that are not a cache are among the messages that are explained.
     *(edit(f"no file, {line!r}", None, line.encode(), message(1, "c: no such file"))
       for line in ("start\n", "", "config k - v\n")),
-    edit("no file, and a faulty line", None, ["frob"], message(1, "line 1: fault 1")),
-    edit("an empty script", USUAL, [], []),
-    edit("an empty file, and nothing to save", b"", ["start"], message(1, "c: not a cache (1)")),
-    *(over(f"no folder, {line}", "ccedit no/c", None, message(1, "no/c: no such file"), given=line.encode())
-      for line in ("start", "rewrite")),
 ]

@@ -1,11 +1,11 @@
-"""Which cache is read: names of all kinds, files that cannot be read, and the greatest size."""
+"""Which cache is read: files that cannot be read, and the greatest size."""
 
 from dataclasses import replace
 
 from caches.cache_listings import TICKET_LINE
-from keytabs.file_names import LIMIT, NAMES, ODD, check_odd_files
+from keytabs.file_names import LIMIT, ODD, check_odd_files
 from makers.cache_images import Credential, Name, U, cache, config
-from makers.usual_caches import TICKET, USUAL
+from makers.usual_caches import TICKET
 from models.cache_reading import listed
 from runs.harness import Case, Outcome, Report, message
 from runs.rows import check_rows, over
@@ -14,15 +14,6 @@ from runs.rows import check_rows, over
 def sized(size: int) -> bytes:
     """Returns a cache of that size, with one long ticket."""
     return cache(replace(TICKET, ticket=bytes(size - len(cache(replace(TICKET, ticket=b""))))))
-
-
-# Caches of names of all kinds, and missing ones.
-CASES = [
-    *(over(f"cache name {name!r}", ("klist", "--", name), USUAL,
-           Outcome(0, listed(b"u@R", TICKET_LINE, name=name.encode()))) for name in NAMES),
-    *(over(f"missing cache {name!r}", ("klist", "--", name), None, message(1, f"{name}: no such file"))
-      for name in ("c", "a c", "no/c", "")),
-]
 
 
 def sizes() -> list[Case]:

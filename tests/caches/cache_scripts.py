@@ -39,7 +39,6 @@ CASES = [
     value("no value", b"config k - ", b"k", b""),
     value("no value, and a line end", b"config k - \n", b"k", b""),
     value("a carriage return", b"config k - v\r\n", b"k", b"v\r"),
-    value("a value that is a blank", b"config k -  ", b"k", b" "),
     value("a value that is a hyphen", b"config k - -", b"k", b"-"),
     value("each byte of a value", b"config k - " + BYTES, b"k", BYTES),
     value("each byte of a key", b"config " + ODD + b" - v", ODD, b"v"),
@@ -51,7 +50,6 @@ CASES = [
     lambda: value("a long value", b"config k - " + b"x" * 1_000_000, b"k", b"x" * 1_000_000),
     # Other spellings of a line's words, and lines that are skipped.
     edit("comments, empty lines and no last line end", USUAL, f"\n# x\n#\n\n\n{SET_3}".encode(), SET_AT, SET),
-    edit("a line of a setting as a comment", USUAL, ["#config k - v"], []),
     edit("numbers with zeros before them", USUAL, ["resume 0000000148", "step 0000000000"],
          ["walk 0 at 148", "walk 0 gave 148 next 284 config pa_type(krbtgt/R@R)"]),
     edit("two spellings of a principal are two", cache(), ["config k \\a@R 1", "config k a@R 2"],

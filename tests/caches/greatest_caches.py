@@ -3,7 +3,7 @@
 from keytabs.file_names import LIMIT
 from keytabs.greatest import at_each
 from makers.cache_images import Credential, Name, cache, config
-from runs.harness import Case, Outcome, message
+from runs.harness import Case, Outcome
 from runs.rows import over, printed, text
 
 # The smallest ticket: empty names, and no byte that is not a length, a time or a flag.
@@ -36,7 +36,6 @@ def reads() -> list[Case]:
     entry = b'{"place":22,"key":"k","principal":null,"value":"' + value + b'"}'
     return [over(name, f"{line} c", image, wanted, after) for name, line, image, wanted, after in (
         ("all of the most tickets go", "ccremove --expired", least(), Outcome(0, at_each(GONE, PLACES)), cache()),
-        ("none of the most tickets goes", "ccremove -p b@R", least(), message(1, "c: refused 9"), None),
         ("every second of the most goes", "ccremove -p @", every_second,
          Outcome(0, at_each(GONE, PLACES[: COUNT // 2 * 2 : 2])), cache()),
         ("a ticket of a long name goes", "ccremove --expired", cache(one),

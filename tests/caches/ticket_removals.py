@@ -67,7 +67,6 @@ ODD = replace(TICKET, server=Name((b"a/b", b"\n\xff\xfe"), b"R@S"))
 TYPED = of_host(server=Name((b"host", b"a"), name_type=3))
 LISTS = replace(LATER, addresses=((2, b"\x7f\0\0\1"), (24, b"")), authdata=((1, b"abc"),), is_skey=255,
                 flags=2**32 - 1, starttime=7, renew_till=8, second_ticket=b"more")
-USER = Name((b"u", b""), b"\xff", 9)
 
 CASES = [
     # The entries that each selector selects.
@@ -78,24 +77,18 @@ CASES = [
     remove("by another text of the name", MANY, r"-p \host/a@R", [AT_392, AT_606], left(TGT, PA_TYPE, LATER)),
     remove("a value that begins with =", MANY, "-p=host/a@R", NOT_FOUND),
     remove("a dry run", MANY, "-n -p host/a@R", [AT_392, AT_606]),
-    remove("a dry run of expired ones", MANY, "-n --expired", [AT_40, AT_392]),
     remove("nothing is over", left(LATER, PA_TYPE), "--expired", []),
     remove("nothing is over of a service", MANY.replace(HOST.spelled(), b""), "--expired -p host/a@R", []),
     remove("nothing is over where there is nothing", cache(), "--expired", []),
-    remove("nothing is over where there are values", cache(PA_TYPE), "--expired", []),
-    remove("a dry run with nothing to do", left(LATER), "-n --expired", []),
     remove("old and new words", MANY, "-phost/a@R -n", [AT_392, AT_606]),
     remove("a service that is not there", MANY, "-p c@R", NOT_FOUND),
     remove("expired ones of a service that is not there", MANY, "-p c@R --expired", NOT_FOUND),
-    remove("a dry run that finds nothing", MANY, "-n -p c@R", NOT_FOUND),
     remove("an empty cache", cache(), "-p krbtgt/R@R", NOT_FOUND),
     remove("a client is no service", MANY, "-p u@R", NOT_FOUND),
     remove("removed ones alone", REMOVED, "-p krbtgt/R@R", NOT_FOUND),
-    remove("nothing is over of removed ones", REMOVED, "--expired", []),
     remove("expired ones of a removed service", REMOVED, "--expired -p krbtgt/R@R", NOT_FOUND),
     # Configuration entries are never selected, whatever their fields are.
     remove("a value by its name", USUAL, f"-p {OF_PA_TYPE}", NOT_FOUND),
-    remove("expired values by their name", USUAL, f"--expired -p {OF_PA_TYPE}", NOT_FOUND),
     remove("values are not over", VALUES + NEARLY.spelled(), "--expired",
            [f"removed {len(VALUES)} krb5_ccache_conf_data@X-CACHECONF:"], VALUES),
     # Names that print alike are the same, of whatever type.
@@ -112,10 +105,6 @@ CASES = [
            ["removed 22 krbtgt/R@R"], cache(LISTS)),
     remove("a header of two offsets", cache(TICKET, LATER, fields=OFFSET + offset(7, 8) + header_field(1, b"")),
            "--expired", ["removed 50 krbtgt/R@R"], left(LATER)),
-    remove("a header without an offset", cache(TICKET, fields=header_field(1, b"abc")), "--expired",
-           ["removed 29 krbtgt/R@R"], cache()),
-    remove("a default principal of another type", cache(TICKET, default=USER), "--expired", ["removed 26 krbtgt/R@R"],
-           cache(default=USER)),
     remove("the only ticket", USUAL, "-p krbtgt/R@R", [AT_40], left(PA_TYPE)),
     remove("the same ticket twice", cache(TICKET, TICKET), "-p krbtgt/R@R",
            ["removed 22 krbtgt/R@R", "removed 130 krbtgt/R@R"], cache()),
@@ -125,15 +114,9 @@ CASES = [
     # Caches of version 3, damaged ones, and files that are not caches: the version comes first.
     *unchanged("version 3", VERSION_3, READ_ONLY),
     *unchanged("version 3, damaged", VERSION_3[:-1], READ_ONLY),
-    *unchanged("version 3 without a ticket", cache(version=3), READ_ONLY),
     *unchanged("a damaged cache", USUAL[:-1], DAMAGED),
     *unchanged("an empty file", b"", message(1, "c: not a cache (1)")),
     *unchanged("a keytab", b"\x05\x02", message(1, "c: not a cache (2)")),
-    *unchanged("a bad header", b"\x05\x04\0", message(1, "c: not a cache (4)")),
-    *unchanged("no default principal", b"\x05\x04\0\0", message(1, "c: not a cache (5)")),
-    *(Case(f"{file}, {words}", ("ccremove", *words.split(), file), wanted, {"c": USUAL})
-      for file, wanted in (("no", message(1, "no: no such file")), (".", message(3, ".: cannot read")))
-      for words in ("--expired", "-n --expired")),
 ]
 
 

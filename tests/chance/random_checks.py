@@ -8,7 +8,7 @@ from collections.abc import Iterator, Sequence
 from dataclasses import dataclass
 from random import Random
 
-from chance.random_choices import REMOVED
+from chance.random_commands import REMOVED
 from chance.random_keytabs import Choices
 from makers.images import TWO
 from models.check_model import FOLDER, File, Options, Placed, checked_files
@@ -35,7 +35,11 @@ MODES = (0o600, 0o600, 0o600, 0o640, 0o604, 0o666, 0o4600)
 # What has to occur among the results.
 KINDS = (*FINDINGS, "fault", "entries", "no such file", "cannot read", "not a keytab",
          *(f"status {status}" for status in (0, 1, 3)), "a label", "no label", "nothing is printed", "explained",
-         "only what is allowed", "ktremove -n -k", "ktremove -n -e", "ktcopy", "two types", "no room for a hint")
+         "only what is allowed", "ktremove -n -k", "ktremove -n -e", "ktcopy", " 3 -e ", "no room for a hint")
+
+# The word of a line, the end of a message, a hint, and one of two types.
+KIND = re.compile(rb"(?m)^(?:.*: )?([a-z]+) \d|: (no such file|cannot read|not a keytab)\b|"
+                  rb": krbfile (ktremove -n -.|ktcopy)|( 3 -e )")
 
 
 @dataclass(frozen=True)
@@ -75,19 +79,10 @@ class Checked:
     def kinds(self) -> Iterator[str]:
         """Yields the kinds of its result."""
         got, explained = (checked_files(self.those(), self.options, explains) for explains in (False, True))
-        label = len(self.words) > 1
-        lines = [line.split(b": ")[-1] if label else line for line in got.out.splitlines()]
-        yield from (line.split()[0].decode() for line in lines)
-        yield from (line.split(": ")[-1].split(" (")[0] for line in got.err.decode().splitlines())
+        yield from (b"".join(each).decode() for each in KIND.findall(got.out + got.err + explained.err))
         yield f"status {got.status}"
-        yield "a label" if label else "no label"
-        if got == Outcome(0):
-            yield "nothing is printed"
-        if explained.err != got.err:
-            yield "explained"
-        yield from (each.decode() for each in re.findall(rb": krbfile (ktremove -n -.|ktcopy)", explained.err))
-        if b" -e 3 -e " in explained.err:
-            yield "two types"
+        yield "a label" if len(self.words) > 1 else "no label"
+        yield from ["nothing is printed"] * (got == Outcome(0)) + ["explained"] * (explained.err != got.err)
         if b": old: " in explained.err and b": krbfile ktremove -n -k" not in explained.err:
             yield "no room for a hint"
         if got.status == 0 and checked_files(self.those()).status:

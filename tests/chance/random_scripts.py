@@ -1,61 +1,37 @@
 """Random scripts over random keytabs and caches, up to three in turn over one file, and long ones.
 
-Each is made together with the file that it changes, so that most of its places and walks exist. A long
+Each script is made together with the file that it changes, so that most of its places and walks exist. A long
 one has thousands of events over one keytab: `ktedit` finds holes by a table of its cells; `klist` and
 `ktfind` read the saved file from the start.
 """
 
-from collections.abc import Iterator
+from collections.abc import Callable, Iterable, Iterator
+from dataclasses import dataclass
 from functools import partial
 from random import Random
 
 from caches.cache_scripts import FAULTS as CACHE_FAULTS
-from chance.random_caches import (
-    KEYS,
-    PRINCIPALS,
-    filled_cache,
-    random_cache,
-    random_credential,
-    random_value,
-    with_damage,
-)
-from chance.random_keytabs import random_keytab, sound_part
-from chance.random_lines import (
-    Scripts,
-    kinds_of,
-    random_etype_and_key,
-    random_name,
-    random_number,
-    random_place,
-    reply_kind,
-    walk_line,
-)
+from chance.random_caches import (KEYS, PRINCIPALS, filled_cache, random_cache, random_credential, random_value,
+                                  with_damage)
+from chance.random_keytabs import random_bytes, random_keytab, sound_part
+from keytabs.columns import NAMES
 from keytabs.scripts import FAULTS
 from makers.cache_images import cache
 from makers.images import BIG, LITTLE, keytab
-from models import cache_script_model, script_model
+from models import script_model
 from models.cache_model import Cache
 from models.cache_reading import read_cache
-from models.cache_script_model import CacheSession
 from models.cases import ccedit, klist, ktedit, ktfind
 from models.keytab_model import Keytab
-from models.reading import name_text, no_keytab
-from models.script_model import KeytabSession
-from models.walks import Session
+from models.reading import KeytabEntry, name_text, no_keytab
+from models.script_model import KEY_SIZES, CacheSession, KeytabSession
+from models.walks import Event, Session, Store
 from runs.harness import Case
 from runs.random_runs import CaseAt, Topic
 
 # The lines of a script, by how frequent they are.
 LINES = {"start": 3, "resume": 3, "step": 12, "add": 6, "cut": 5, "rewrite": 1, "#": 1, "": 1}
 CACHE_LINES = {"start": 3, "resume": 3, "step": 12, "config": 6, "cut": 4, "rewrite": 1, "#": 1, "": 1}
-
-# The kinds of lines that have to occur.
-REPLIES = ("walk at", "walk gave", "walk end", "walk fault", "placed", "gone", "rewritten")
-OF_KEYTABS = (*REPLIES, *(f"refused {code}" for code in (1, 2, 4, 5, 6, 7)),
-              *(f"fault {number}" for number in range(1, 7)), "not a keytab")
-OF_CACHES = (*REPLIES, *(f"refused {code}" for code in (1, 4, 5, 6, 7, 8)),
-             *(f"fault {number}" for number in (1, 2, 3, 6)), "not a cache", "no such file")
-OF_LONG = ("placed", "gone", "walk gave", "walk end", "walk at", "rewritten", "refused 5", "klist", "ktfind")
 
 # How many events a long script has, and how many cells there are at first: none, few, about a power of two, or many.
 EVENTS = 3_000
@@ -72,6 +48,89 @@ MIXES = [
 def chosen(random: Random, weights: dict[str, int]) -> str:
     """Returns one of them, chosen by its weight."""
     return random.choices(list(weights), weights.values())[0]
+
+
+def random_number(random: Random) -> str:
+    """Returns a number, sometimes with leading zeros."""
+    number = random.choice([0, 1, 3, 255, 256, 300, 1_700_000_000, 2**32 - 1])
+    return f"{number:010}" if random.random() < 0.1 else str(number)
+
+
+def random_name(random: Random) -> bytes:
+    """Returns the text of a name, rarely one that is too long."""
+    parts = [random_bytes(random, 12) for _ in range(random.choice([1, 1, 2, 3]))]
+    if random.random() < 0.01:
+        parts[0] = b"x" * random.choice([300, 65_535, 65_536])
+    if random.random() < 0.001:
+        parts = [b""] * 65_536
+    text = KeytabEntry((*parts, random_bytes(random, 4)), 1, 0, 0, 0, b"").text()
+    return text.replace(b"x", b"\\x") if random.random() < 0.1 else text
+
+
+def random_etype_and_key(random: Random) -> tuple[str, str]:
+    """Returns an enctype by number or name, and a key for it, in hexadecimal."""
+    number = random.choice([*KEY_SIZES, 0, 1, 999, 65_535])
+    size = KEY_SIZES.get(number, random.randrange(40))
+    named = number in NAMES and random.random() < 0.4
+    key = random.randbytes(size).hex() or "-"
+    word = NAMES[number].decode() if named else str(number)
+    return word, key.upper() if random.random() < 0.2 else key
+
+
+def random_place(random: Random, store: Store, of_records: bool) -> int:
+    """Returns a place of the store, mostly of a record if `of_records`, or sometimes another number."""
+    places, records = store.places(), store.live_places()
+    if of_records and records and random.random() < 0.9:
+        return random.choice(records)
+    if random.random() < 0.9:
+        return random.choice(places)
+    return random.choice([0, 1, 3, random.randrange(400), 2**32 - 1])
+
+
+def walk_line(random: Random, session: Session, kind: str) -> bytes:
+    """Returns a line of that kind, which is not an addition."""
+    words = [kind]
+    if kind in ("resume", "cut"):
+        words.append(str(random_place(random, session.store, kind == "cut")))
+    if kind == "step":
+        made = len(session.cursors)
+        words.append(str(made if made == 0 or random.random() < 0.03 else random.randrange(made)))
+    return " ".join(words).encode()
+
+
+@dataclass(frozen=True)
+class Scripts:
+    """Makes scripts over stores of a format."""
+
+    # The next line of a session, the event of a line, and lines with a fault.
+    line: Callable[[Random, Session], bytes]
+    event: Callable[[bytes], Event]
+    faults: Iterable[str]
+
+    def random_script(self, random: Random, session: Session) -> bytes:
+        """Returns a script over the session, rarely with very many walks or a faulty line."""
+        lines = [b"start"] * random.choice([0, 1, 1, 2])
+        if random.random() < 0.01:
+            lines = [b"start"] * 1_023
+        for line in lines:
+            session.apply(self.event(line))
+        for _ in range(random.randrange(30)):
+            line = self.line(random, session)
+            lines.append(line)
+            if line not in (b"", b"#"):
+                session.apply(self.event(line))
+        if random.random() < 0.15:
+            at = random.randrange(len(lines) + 1)
+            lines.insert(at, random.choice(list(self.faults)).encode())
+        return b"\n".join(lines) + random.choice([b"", b"\n", b"\n\n"])
+
+    def in_turn(self, random: Random, image: bytes | None, session_over: Callable[[bytes | None], Session],
+                run: Callable[..., Case]) -> Iterator[CaseAt]:
+        """Yields up to three scripts in turn over one file, which may be missing at first."""
+        for _ in range(random.randrange(1, 4)):
+            case_at = partial(run, image, self.random_script(random, session_over(image)))
+            yield case_at
+            image = next(iter(case_at(0).files_after.values()), None)
 
 
 def random_line(random: Random, session: Session) -> bytes:
@@ -126,7 +185,7 @@ def cache_session_over(image: bytes | None) -> CacheSession:
 def random_cache_runs(random: Random) -> Iterator[CaseAt]:
     """Yields scripts over a cache, which is sometimes missing."""
     image = None if random.random() < 0.02 else cache_image(random)
-    scripts = Scripts(random_cache_line, cache_script_model.event_in, CACHE_FAULTS)
+    scripts = Scripts(random_cache_line, script_model.cache_event_in, CACHE_FAULTS)
     yield from scripts.in_turn(random, image, cache_session_over, ccedit)
 
 
@@ -191,13 +250,16 @@ def long_runs(random: Random) -> Iterator[CaseAt]:
         yield partial(ktfind, after, kvno=kvno, enctype=entry.enctype, name=entry.name, v1_big=v1_big)
 
 
-def kinds_of_long(case: Case) -> Iterator[str]:
-    """Yields the kinds of a script's replies, or the command that reads."""
-    yield from map(reply_kind, case.wanted.out.splitlines()) if case.words[0] == "ktedit" else [str(case.words[0])]
-
+# The kinds of lines that have to occur.
+REPLIES = ("walk at", "walk gave", "walk end", "walk fault", "placed", "gone", "rewritten")
+OF_KEYTABS = (*REPLIES, *(f"refused {code}" for code in (1, 2, 4, 5, 6, 7)),
+              *(f"fault {number}" for number in range(1, 7)), "not a keytab")
+OF_CACHES = (*REPLIES, *(f"refused {code}" for code in (1, 4, 5, 6, 7, 8)),
+             *(f"fault {number}" for number in (1, 2, 3, 6)), "not a cache", "no such file")
+OF_LONG = ("placed", "gone", "walk gave", "walk end", "walk at", "rewritten", "refused 5", "a record", "found")
 
 TOPICS = (
-    Topic("random scripts", random_runs, kinds_of, OF_KEYTABS, usual=500),
-    Topic("random scripts over caches", random_cache_runs, kinds_of, OF_CACHES, usual=500),
-    Topic("long scripts", long_runs, kinds_of_long, OF_LONG, usual=4, share=200),
+    Topic("random scripts", random_runs, OF_KEYTABS, usual=500),
+    Topic("random scripts over caches", random_cache_runs, OF_CACHES, usual=500),
+    Topic("long scripts", long_runs, OF_LONG, usual=4, share=200),
 )

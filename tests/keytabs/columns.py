@@ -2,8 +2,8 @@
 
 from collections.abc import Iterable
 
-from keytabs.listings import B_LINE, HOST_LINE, case, listed
-from makers.images import B, BIG, HOST, TWO, Entry, hole, keytab, old, record
+from keytabs.listings import case, listed
+from makers.images import B, BIG, HOST, Entry, keytab, old
 from runs.harness import Case
 
 # The names of the enctypes that have one.
@@ -64,22 +64,15 @@ KEYS = [(bytes(range(256)) * 256)[:length] for length in (*range(70), 255, 256, 
 CASES = [
     # No entry at all, with each set of columns; lines of words list TWO with each.
     *(case(f"no entry with {letters!r}", keytab(), letters=letters) for letters in SETS),
-    # Whole lines with all columns, with faults of the file.
+    # Whole lines with all columns.
     case("a wide version and a quoted name",
          keytab(Entry((b"a/b@c\\\n\0",), b"x y", version8=16, version32=10_000, enctype=23, key=b"\xff")),
          b"10000 " + TIME + b"a\\/b\\@c\\\\\\n\\0@x y (arcfour-hmac) (0xff)", letters="teK"),
     case("the greatest numbers",
          keytab(Entry((b"a",), timestamp=2**32 - 1, version32=2**32 - 1, enctype=65_535, key=b"\0a")),
          b"4294967295 2106-02-07T06:28:15Z a@R (etype 65535) (0x0061)", letters="teK"),
-    case("an entry of zeros", keytab(record(bytes(17))), b"   0 1970-01-01T00:00:00Z @ (etype 0) (0x)", letters="teK"),
     case("version 1, little-endian", old(HOST, B), HOST_ALL, B_ALL, letters="teK"),
     case("version 1, big-endian", old(HOST, B, order=BIG), HOST_ALL, B_ALL, letters="teK", options="--v1-big"),
-    case("a hole and bytes after an entry", keytab(HOST, hole(B.spelled()), record(B.spelled() + b"\xff" * 9)),
-         HOST_ALL, B_ALL, letters="teK"),
-    case("a bad entry", keytab(HOST, record(bytes(10))), HOST_ALL, b"fault 3 at 53", letters="teK"),
-    case("a cut record", TWO[:-1], b"   3 " + TIME + b"host/a@R", b"fault 2 at 53", letters="t"),
-    case("a cut length", TWO + b"\0", HOST_LINE + HOST_KEY, B_LINE + B_KEY, b"fault 1 at 98", letters="K"),
-    case("version 1 in the other order", old(HOST, B, order=BIG), b"fault 2 at 2", letters="e"),
     # Each enctype that has a name, some other numbers, and all of them.
     of_enctypes("enctypes", [*NAMES, 0, 1, 15, 21, 22, 24, 27, 65_535]),
     lambda: of_enctypes("all enctypes", range(65_536)),

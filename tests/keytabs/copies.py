@@ -55,7 +55,6 @@ BARE = [Entry((), version8=1, version32=1), Entry((b"",), version8=2, version32=
 SELECTED = [
     select("", FOUR, HOST, AES256, FIVE, B3),
     select("-p b@R", FOUR, B3),
-    select("-p b@R -p c@R -p host/a@R", FOUR, HOST, AES256, FIVE, B3),
     select(r"-p \host/a@R -e 18", FOUR, AES256),
     select("-e aes256-cts-hmac-sha1-96", FOUR, AES256),
     select("-e 17 -e 17 -p host/a@R -p host/a@R", FOUR, HOST, FIVE),
@@ -79,9 +78,7 @@ MET = [
     # A copy, and the same again.
     copy("all", "", TWO, None, [f"copied 2 {X}", f"copied 53 {Y}"], TWO),
     copy("all again", "", TWO, TWO, []),
-    copy("all again, others beside them", "", TWO, keytab(B, AES256, HOST), []),
     copy("one that is missing", "", TWO, keytab(HOST), [f"copied 53 {Y}"], TWO),
-    copy("all into an empty keytab", "", TWO, keytab(), [f"copied 2 {X}", f"copied 53 {Y}"], TWO),
     copy("all into no bytes", "", TWO, b"", [f"copied 2 {X}", f"copied 53 {Y}"], TWO),
     copy("nothing into no bytes", "", keytab(), b"", []),
     copy("the same entry twice", "", keytab(B, B), None, [f"copied 2 {Y}"], keytab(B)),
@@ -97,9 +94,6 @@ MET = [
     copy("two other keys", "--replace", keytab(B), keytab(OTHER, HOST, THIRD),
          [f"removed 2 {Y}", f"removed 98 {Y}", f"copied 2 {Y}"], keytab(B, HOST, 41)),
     *(copy("its key behind another", options, keytab(B), keytab(OTHER, B), []) for options in ("", "--replace", "-n")),
-    copy("a key of another length", "--replace", keytab(replace(B, key=bytes(20))), keytab(B),
-         [f"removed 2 {Y}", f"copied 47 {Y}"], keytab(41, replace(B, key=bytes(20)))),
-    copy("a key of no bytes", "", keytab(replace(B, key=b"")), keytab(B), printed(f"clash 2 2 {Y}", status=1)),
     copy("two clashes", "", keytab(B, HOST), keytab(replace(HOST, key=b""), OTHER),
          printed(f"clash 2 37 {Y}", f"clash 47 2 {X}", status=1)),
     # Two keys of one name, version and enctype always clash.
@@ -109,12 +103,7 @@ MET = [
       for options in ("-n", "-n --replace")),
     copy("two keys, the first of them there", "--replace", keytab(B, OTHER), keytab(B),
          printed(f"clash 47 2 {Y}", status=1)),
-    copy("two keys, the second of them there", "-n --replace", keytab(B, OTHER), keytab(OTHER),
-         printed(f"removed 2 {Y}", f"copied 2 {Y}", f"clash 47 2 {Y}", status=1)),
     copy("two keys, both there", "--replace", keytab(B, OTHER), keytab(OTHER, B), []),
-    copy("two keys, the first of them behind a third", "--replace", keytab(B, OTHER), keytab(THIRD, B),
-         printed(f"clash 47 2 {Y}", status=1)),
-    copy("two keys, a third there", "--replace", keytab(B, OTHER), keytab(THIRD), printed(f"clash 47 2 {Y}", status=1)),
     copy("two keys, of which one is selected", "-e 17", keytab(B, replace(OTHER, enctype=18)), None,
          [f"copied 2 {Y}"], keytab(B)),
     # What makes two entries the same: name, version and enctype, not time and name type.
@@ -156,13 +145,10 @@ PLACED = [
          [f"removed 2 {Y}", f"copied 2 {Y}"], keytab(record(B.spelled() + bytes(9)))),
     # Version 1 has no name type; an entry of it has type 0 in version 2.
     copy("version 1 into none", "", V1, None, [f"copied 2 {X}", f"copied 53 {Y}"], UNTYPED),
-    copy("version 1 into version 2", "", V1, TWO, []),
     copy("version 2 into version 1", "", TWO, old(), [f"copied 2 {X}", f"copied 49 {Y}"], V1),
-    copy("version 2 into version 1 again", "", TWO, V1, []),
     copy("version 1 into version 1", "--v1-big", V1_BIG, old(HOST, order=BIG), [f"copied 49 {Y}"], V1_BIG),
     copy("version 1, big-endian, into none", "--v1-big", V1_BIG, None, [f"copied 2 {X}", f"copied 53 {Y}"], UNTYPED),
     copy("version 1, big-endian, read as little", "", V1_BIG, None, FROM_DAMAGED),
-    copy("version 1, little-endian, read as big", "--v1-big", TWO, V1, TO_DAMAGED),
 ]
 
 # Files that are no sound keytabs, and the message about each.
@@ -178,7 +164,6 @@ UNSOUND = {
 ORDER = [
     # The keytab that is copied from comes first, with what is selected in it; then the other.
     copy("nothing to copy from", "", None, TWO, message(1, "k: no such file")),
-    copy("nothing to copy from, no keytab to copy to", "-n", None, b"xy", message(1, "k: no such file")),
     copy("no bytes to copy from", "", b"", None, message(1, "k: not a keytab (1)")),
     *(copy(f"from {image.hex()[-8:]}", options, image, b"xy", message(1, f"k: {what}"))
       for image, what in UNSOUND.items() for options in ("", "-n", "-p c@R")),

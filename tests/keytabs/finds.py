@@ -111,9 +111,7 @@ CASES = [
     # Which of several entries of one name is found.
     *(find(f"{query} of three", THREE, f"{query} host/a@R", wanted) for query, wanted in OF_THREE.items()),
     find("the first of equals", SAME, "0 0 host/a@R", (2, 3, 17)),
-    find("the first of equals by version", SAME, "3 17 host/a@R", (2, 3, 17)),
     find("the highest in the middle", FALLING, "0 0 host/a@R", (53, 12, 17)),
-    find("the lowest at the end", FALLING, "4 0 host/a@R", (104, 4, 17)),
     # Versions of 8 and 32 bits, and 0.
     find("a version of 32 bits", WIDE, "300 0 host/a@R", (2, 300, 17)),
     find("the low bits of a version", WIDE, "44 0 host/a@R", NO_SUCH_VERSION),
@@ -122,7 +120,6 @@ CASES = [
     find("a 32-bit version 0 says nothing", ZERO, "7 0 host/a@R", (53, 7, 17)),
     find("version 0 alone", keytab(Entry(version8=0, version32=None)), "0 0 host/a@R", (2, 0, 17)),
     find("the greatest version", GREATEST, "4294967295 0 host/a@R", (53, 2**32 - 1, 17)),
-    find("the greatest as the highest", GREATEST, "0 17 host/a@R", (53, 2**32 - 1, 17)),
     # Enctypes by name and number, and numbers that have no name.
     *(find(f"enctype {word}", OF_NUMBERS, f"0 {word} a@R", (2 + 45 * NUMBERS.index(number), 3, number))
       for word, number in ETYPES.items()),
@@ -137,18 +134,12 @@ CASES = [
     find("no entry", keytab(), "0 0 b@R", NOT_FOUND),
     # Holes, ends, and version 1 in both orders, in which host/a@R has 43 bytes, without a name type.
     find("an entry after holes", HOLES, "0 0 b@R", (105, 3, 17)),
-    find("an entry between holes", HOLES, "0 0 host/a@R", (47, 3, 17)),
     find("an entry after the end", keytab(HOST, END, B), "0 0 b@R", NOT_FOUND),
-    find("an entry before the end", keytab(HOST, END, B), "0 0 host/a@R", (2, 3, 17)),
-    find("an entry after unused bytes", keytab(record(HOST.spelled() + b"\xff" * 9), B), "0 0 b@R", (62, 3, 17)),
     find("version 1, little-endian", old(HOST, B), "0 0 b@R", (49, 3, 17)),
     find("version 1, big-endian", old(HOST, B, order=BIG), "0 0 b@R", (49, 3, 17), "--v1-big"),
     find("version 1, big-endian, read as little", old(HOST, B, order=BIG), "0 0 b@R", DAMAGED),
-    find("version 1, little-endian, read as big", old(HOST, B), "0 0 b@R", DAMAGED, "--v1-big"),
     # Damaged files give nothing, not even an entry before the fault.
     *(find(f"{kind}, {query}", image, query, DAMAGED) for query in ("0 0 host/a@R", "0 0 x@R", "9 0 host/a@R")
       for kind, image in (("a cut length", TWO + b"\0"), ("a cut record", TWO[:-1]),
                           ("a bad entry", keytab(HOST, record(bytes(10)), B)))),
-    *(find(f"no keytab {image[:3]!r}", image, "0 0 b@R", message(1, f"k: not a keytab ({why})"))
-      for image, why in ((b"", 1), (b"\x05", 1), (b"\x05\x03" + TWO[2:], 2), (b"\x04\x02" + TWO[2:], 2))),
 ]

@@ -88,27 +88,20 @@ def reads() -> list[Case]:
     return [
         over("klist, the most entries", "klist -k k", image, Outcome(0, lists + b"   0 @\n" * COUNT)),
         over("klist, the most holes", "klist -k k", most_holes(), Outcome(0, lists)),
-        over("klist, 65,535 components", "klist -k k", many,
-             Outcome(0, lists + b"   3 " + many_quoted(b"\\/") + b"@R\n")),
         over("klist, the longest keys", "klist -kK k", filled(keys),
              Outcome(0, lists + (b"   3 host/a@R (0x" + b"00" * LONGEST + b")\n") * 255)),
         over("JSON, the most entries", "klist -k --json k", image,
              Outcome(0, front + b",".join(form % place for place in PLACES) + end)),
         over("JSON, 65,535 components", "klist -k --json k", many, Outcome(0, front + long_entry + end)),
         over("ktcheck, the most entries", "ktcheck k", image, Outcome(1, mode_line + most)),
-        over("ktcheck, the most holes", "ktcheck k", most_holes(),
-             Outcome(1 if mode & 0o6 else 0, mode_line + b"entries 0 free %d holes %d\n" % (HOLES, HOLES))),
         over("ktcheck, 65,535 components", "ktcheck k", many,
              Outcome(1, mode_line + hidden % (LIMIT - len(of_many()) - 4))),
         *(Case(f"ktfind, {name}", ("ktfind", "k", "0", "0", query), wanted, {"k": found})
           for name, query, found, wanted in (
             ("the last of the most", "host/a@R", to_find, printed(f"found {PLACES[-2]} kvno 3 etype 17 host/a@R")),
             ("the first of the most", "@", to_find, printed("found 2 kvno 0 etype 0 @")),
-            ("none among them", "b@R", to_find, message(1, "k: refused 9")),
             ("the longest component", f"{long}@R", filled(keytab(Entry((long.encode(),)))),
              printed(f"found 2 kvno 3 etype 17 {long}@R")))),
-        *(Case(f"{line}: a file that is too large", (*line.split(), "k", *more), TOO_LARGE, {"k": sized(LIMIT + 1)})
-          for line, more in (("klist -k --json", ()), ("ktcheck", ()), ("ktfind", ("0", "0", "b@R")))),
     ]
 
 
@@ -164,7 +157,7 @@ def edits() -> list[Case]:
                    "step 0"])
     component = "x" * 253
     long_name = f"add 3 17 1700000000 {HOST.key.hex()} {'/'.join([component] * 65_534)}@R\n"
-    starts, adds, none = repeated(b"start\n"), repeated(LEAST_ADD), repeated(b"cut 3\n")
+    starts, adds = repeated(b"start\n"), repeated(LEAST_ADD)
     walks = at_each(b"walk %d at 2\n", range(1024)) + b"refused 7\n" * (starts.count(b"\n") - 1024)
     placed = at_each(b"placed %d\n") + b"refused 3\n" * (adds.count(b"\n") - COUNT)
     cuts = at_each(b"cut %d\n")
@@ -174,20 +167,16 @@ def edits() -> list[Case]:
     ends = b"walk 0 end %d\n" % END * (steps.count(b"\n") - COUNT)
     return [
         edit("the most entries", least(), script, printed(*walked, status=1), least()[:-SIZE]),
-        edit("one of the most entries goes", least(), f"cut {LAST}".encode(), printed(f"gone {LAST}"),
-             keytab(LEAST_RECORD * (COUNT - 1), SIZE - 4)),
         edit("the most holes", most_holes(), b"start\nstep 0\nrewrite\nadd 0 0 0 - @\n",
              printed("walk 0 at 2", f"walk 0 end {2 + 5 * HOLES}", "rewritten 2", "placed 2"), keytab(LEAST)),
         edit("one entry as long as a script may be", None, long_name.encode(), printed("placed 2"),
              keytab(Entry((component.encode(),) * 65_534))),
-        edit("the most lines", keytab(), repeated(b"#\n"), Outcome(0)),
         edit("the most walks", keytab(), starts, Outcome(1, walks)),
         edit("the most additions", None, adds, Outcome(1, placed), least()),
         edit("a line too much", keytab(), starts + b"start", message(1, "input too large")),
         edit("each of the most entries goes and comes again", least(), cuts + again,
              Outcome(0, at_each(b"gone %d\n") + at_each(b"placed %d\n"))),
         edit("the most steps", least(), b"start\n" + steps, Outcome(0, b"walk 0 at 2\n" + gave + ends)),
-        edit("the most removals of nothing", least(), none, Outcome(1, b"refused 5\n" * none.count(b"\n"))),
         hold(sized(LIMIT), least(), name="of the greatest file, and another as great"),
     ]
 
@@ -203,7 +192,6 @@ def talks() -> list[Case]:
                  Outcome(0, listed + SLOTS_HEADING), {"k": least()}, {"n": least()}),
                 ("no file takes more", b"rkt k\nwkt k\n", message(1, "line 2: refused 3"), {"k": least()}, {}),
                 ("the most lines", repeated(b"\n"), Outcome(0), {}, {}),
-                ("the most commands", repeated(b"clear\n"), Outcome(0), {}, {}),
                 ("the most new entries", added * count + b"l\n", Outcome(0, new), {}, {}),
                 ("a file that is too large", b"rkt k\nwkt k\n", Outcome(1, b"", TOO_LARGE.err * 2),
                  {"k": sized(LIMIT + 1)}, {}))]

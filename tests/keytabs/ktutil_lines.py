@@ -1,8 +1,8 @@
 """Lines of `ktutil`: what they print and save, and their errors, all written by hand."""
 
 from keytabs.edits import C, DAMAGED, by_line
-from keytabs.file_names import LIMIT, sized
-from makers.images import B, BIG, END, HOST, TWO, Entry, hole, keytab, old, record
+from keytabs.file_names import LIMIT
+from makers.images import B, BIG, END, HOST, TWO, Entry, keytab, old, record
 from runs.harness import Case, Outcome, Report, faults_by_clock
 from runs.rows import text
 
@@ -119,30 +119,23 @@ CASES = [
     lines("holes and an end mark", ["rkt k", "l"], ONE_LISTED, files=MIXED),
     lines("a damaged file", ["rkt k", "l"], HEADING, "line 1: refused 1", files={"k": DAMAGED}),
     lines("a missing file", ["rkt n", "rkt k", "l"], ONE_LISTED, "n: no such file", files=MIXED),
-    lines("a missing folder", ["rkt n/k"], [], "n/k: no such file"),
-    lines("one byte", ["rkt k"], [], "k: not a keytab (1)", files={"k": b"\x05"}),
     lines("a name of backslashes", ["rkt a\\b", "rkt a\\ c"], [], "a\\b: no such file", "a\\ c: no such file"),
     lines("messages in the order of the lines", ["frob", "rkt n", "delent 1", "rkt .", "l"], HEADING,
           "line 1: fault 1", "n: no such file", "line 3: fault 7", ".: cannot read", status=3),
     # Files that are written, and those that are not.
     lines("a new file", COPY, [], files=FROM_J, after={"k": TWO}),
     lines("an old file", COPY, [], files={"k": keytab(HOST), **FROM_J}, after={"k": keytab(HOST, HOST, B)}),
-    lines("holes that are filled", COPY, [], files={"k": keytab(hole(b"\xff" * 60), HOST, 41), **FROM_J},
-          after={"k": keytab(record(HOST.spelled() + bytes(13)), HOST, B)}),
     lines("the file that was read", ["write_kt k", "rkt k", "wkt k"], [], files={"k": keytab(HOST)},
           after={"k": keytab(HOST, HOST)}),
     lines("the empty list, a new file", ["wkt k"], [], after={"k": keytab()}),
     lines("the empty list, a damaged file", ["wkt k"], [], files={"k": DAMAGED}),
     lines("to version 1", COPY, [], files={"k": old(C), **FROM_J}, after={"k": old(C, HOST, B)}),
-    lines("to version 1, big-endian", COPY, [], files={"k": old(C, order=BIG), **FROM_J},
-          after={"k": old(C, HOST, B, order=BIG)}, options=("--v1-big",)),
     lines("types of names are kept", COPY, [], files={"j": keytab(Entry(name_type=7, version32=None))},
           after={"k": keytab(Entry(name_type=7))}),
     lines("to a damaged file", COPY, [], "line 2: refused 1", files={"k": DAMAGED, **FROM_J}),
     lambda: lines("to a full file", COPY, [], "line 2: refused 3",
                   files={"k": keytab(record(B.spelled() + bytes(LIMIT - 47))), **FROM_J}),
     lines("to no keytab", COPY, [], "k: not a keytab (2)", files={"k": b"\x05\x03", **FROM_J}),
-    lambda: lines("to a file over the limit", COPY, [], "k: file too large", files={"k": sized(LIMIT + 1), **FROM_J}),
     lines("no folder", ["rkt j", "wkt d/k", "l"], TWO_LISTED, "d/k: cannot write", files=FROM_J, status=3),
     # The greatest input, and one that is larger: the lines within the limit are handled.
     lambda: lines("the greatest input", b"l\n#" + b"x" * (LIMIT - 3), HEADING, "line 2: fault 1"),

@@ -43,7 +43,6 @@ LATE_LINE = b" 256 host/a@R"
 CASES = [
     # Whole entries, one after the other. TWO, which lines of words list, has them in the order of the file.
     case("two entries in the other order", keytab(B, HOST), B_LINE, HOST_LINE),
-    case("the same entry twice", keytab(B, B), B_LINE, B_LINE),
     case("no entry", keytab()),
     case("an empty key", keytab(Entry(key=b"")), HOST_LINE),
     case("2000 entries", keytab(*(Entry((b"svc", b"%d" % i), version8=i % 256, version32=i) for i in NUMBERS)),
@@ -58,7 +57,6 @@ CASES = [
     # Names with odd bytes and odd counts.
     named("with each quoted byte", (QUOTED,), b"R", QUOTES + b"@R"),
     named("with each quoted byte in the realm", (b"a",), QUOTED, b"a@" + QUOTES),
-    named("with letters between", (b"a/b@c\\\n\0",), b"R", b"a\\/b\\@c\\\\\\n\\0@R"),
     named("with bytes that are not quoted", (UNQUOTED,), b"a b", UNQUOTED + b"@a b"),
     named("in UTF-8", ("schlüssel".encode(),), "Köln".encode(), "schlüssel@Köln".encode()),
     named("that is not UTF-8", (b"\xff\xc3",), b"\x80", b"\xff\xc3@\x80"),
@@ -81,7 +79,6 @@ CASES = [
     case("a length 0 at once", keytab(END)),
     # Records that do not begin with an entry: fault 3. The entries before them are listed.
     case("a bad entry in the middle", keytab(HOST, record(bytes(10)), B), HOST_LINE, b"fault 3 at 53"),
-    case("a bad entry at once", keytab(record(bytes(10)), B), b"fault 3 at 2"),
     case("a bad entry after a hole", keytab(HOST, 10, record(b"x")), HOST_LINE, b"fault 3 at 67"),
     case("a record that ends in its key", keytab(record(Entry(version32=None).spelled()[:-1]), END), b"fault 3 at 2"),
     case("too many components counted", keytab(Entry(count=65_535)), b"fault 3 at 2"),
@@ -93,7 +90,6 @@ CASES = [
         ("a hole cut by a byte", hole(bytes(5))[:-1], b"fault 2 at 53"),
         ("a length with nothing after it", b"\0\0\0\1", b"fault 2 at 53"),
         ("a length of one byte", b"\0", b"fault 1 at 53"),
-        ("a length of two bytes", b"\0\0", b"fault 1 at 53"),
         ("a length of three bytes", b"\xff\xff\xff", b"fault 1 at 53"))),
     case("a length of three bytes at once", keytab(b"\0\0\0"), b"fault 1 at 2"),
     # Version 1 in both orders; it is read as little-endian unless `--v1-big` is given.

@@ -6,7 +6,7 @@ from dataclasses import replace
 from keytabs import greatest
 from keytabs.finds import AES256, DAMAGED, FIVE, NOT_FOUND
 from makers.images import BIG, END, HOST, TWO, Entry, hole, keytab, old, record
-from runs.harness import Case, Outcome, Report, folder_of, message, run
+from runs.harness import Case, Outcome, Report, folder_of, run
 from runs.rows import over
 
 B3 = Entry((b"b",))
@@ -56,11 +56,6 @@ CASES = [
     remove("of a version", FOUR, "-k 3", [X, Y], keytab(47, AES256, FIVE, 41)),
     remove("of a name", FOUR, "-p b@R", [Y], keytab(HOST, AES256, FIVE, 41)),
     remove("of two names", FOUR, "-p b@R -e 17 -p host/a@R", [X, X5, Y], keytab(47, AES256, 47, 41)),
-    remove("of a name that is given twice", FOUR, "-p b@R -pb@R", [Y], keytab(HOST, AES256, FIVE, 41)),
-    remove("of two names, one of which is not there", FOUR, "-p b@R -p c@R", [Y], keytab(HOST, AES256, FIVE, 41)),
-    remove("old versions of two names", FOUR, "-p b@R -p host/a@R -k old", [X], keytab(47, AES256, FIVE, B3)),
-    remove("nothing is old of the one name that is there", FOUR, "-p c@R -k old -p b@R", []),
-    remove("two names that are not there", FOUR, "-p c@R -p d@R", NOT_FOUND),
     remove("by another text of the name", FOUR, r"-p \host/a@R -e 18", [X18], keytab(HOST, 63, FIVE, B3)),
     remove("nothing is old", keytab(HOST, B3), "-k old", []),
     remove("nothing is old of a name", FOUR, "-k old -p b@R", []),
@@ -75,11 +70,9 @@ CASES = [
          keytab(41)),
     remove("a name that is not there", FOUR, "-p c@R", NOT_FOUND),
     remove("old ones of a name that is not there", FOUR, "-p c@R -k old", NOT_FOUND),
-    remove("old ones of an enctype that is not there", FOUR, "-k old -e 23", NOT_FOUND),
     remove("a version that is not there", FOUR, "-k 4", NOT_FOUND),
     remove("version 0 is no wild card", FOUR, "-k 0", NOT_FOUND),
     remove("enctype 0 is no wild card", FOUR, "-e 0", NOT_FOUND),
-    remove("a dry run that finds nothing", FOUR, "-n -k 4", NOT_FOUND),
     remove("an empty keytab", keytab(), "-e 17", NOT_FOUND),
     # Old versions: those other than the newest entry's.
     remove_old("versions that wrap", [(254, 1), (255, 2), (0, 3)], [0, 1]),
@@ -98,12 +91,8 @@ CASES = [
     # Old versions whose name has had its newest one for that long: all entries of that version, and no others.
     *(remove(f"old for long: {words}", FOUR, words, [X], keytab(47, AES256, FIVE, B3))
       for words in ("-k old --age 0", "-k old --age=1", "--age 0000086400 -kold", "-k old -p host/a@R --age 1")),
-    remove("old for long, a dry run", FOUR, "-n -k old --age 1", [X]),
     remove("for longer than there are clocks", FOUR, "-k old --age 4294967295", []),
-    remove("old for long, none of a name that is not there", FOUR, "-p c@R -k old --age 1", NOT_FOUND),
-    remove("old for long, none of a name", FOUR, "-p b@R -k old --age 1", []),
     remove("a new version", keytab(HOST, LATE), "-k old --age 0", []),
-    remove("a new version of a name", keytab(HOST, LATE), "-p host/a@R -k old --age 0", []),
     remove("a new version of one enctype", keytab(HOST, AES256, LATE), "-k old --age 0", []),
     remove("a new version of an enctype that is not selected", keytab(replace(HOST, enctype=18), AES256, LATE),
            "-k old -e 18 --age 0", []),
@@ -113,12 +102,8 @@ CASES = [
       for words, lines, after in (
           ("-k old --age 0", [], None), ("-k old --age 1", [], None),
           ("-k old", ["removed 2 kvno 1 etype 17 a@R"], keytab(41, versioned(2, 0))))),
-    remove("a newest version of the time 0 in one enctype",
-           keytab(versioned(1, 1), versioned(2, 1), versioned(2, 0, 18)), "-k old --age 1", []),
     remove("an old version of the time 0", keytab(versioned(1, 0), versioned(2, 1)), "-k old --age 1",
            ["removed 2 kvno 1 etype 17 a@R"], keytab(41, versioned(2, 1))),
-    remove("old versions of late times", keytab(replace(HOST, timestamp=FUTURE), FIVE), "-k old --age 0", [X],
-           keytab(47, FIVE)),
     # Names that print alike are the same, of whatever type.
     remove("no components and an empty one", BARE, "-p @R",
            ["removed 2 kvno 1 etype 17 @R", "removed 44 kvno 2 etype 17 @R"], keytab(38, 40, B3)),
@@ -133,12 +118,8 @@ CASES = [
     remove("version 1, little-endian", old(HOST, B3), "-p host/a@R", [X], old(43, B3)),
     Case("version 1, big-endian", ("ktremove", "--v1-big", "k", "-p", "host/a@R"), Outcome(0, f"{X}\n".encode()),
          {"k": old(HOST, B3, order=BIG)}, {"k": old(43, B3, order=BIG)}),
-    remove("version 1, big-endian, read as little", old(HOST, B3, order=BIG), "-p host/a@R", DAMAGED),
-    # Damaged files, and no file.
+    # Damaged files.
     remove("a damaged keytab", TWO[:-1], "-e 17", DAMAGED),
-    remove("a damaged keytab, nothing old", TWO[:-1], "-k old", DAMAGED),
-    remove("a damaged keytab, a dry run", TWO[:-1], "-n -e 17", DAMAGED),
-    Case("no file, a dry run", ("ktremove", "-n", "-k", "old", "no"), message(1, "no: no such file"), {"k": TWO}),
     greatest.most_of_one_name, greatest.many_long_names,
 ]
 

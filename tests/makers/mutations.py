@@ -50,48 +50,24 @@ def set_number(random: Random, image: bytes, _: bytes) -> bytes:
     return image[:at] + number(new, width, order) + image[at + width:]
 
 
-def insert(random: Random, image: bytes, _: bytes) -> bytes:
-    """Inserts some bytes, perhaps at the end."""
-    at = random.randrange(len(image) + 1)
-    count = random.choice([1, 2, 3, 4, 8, 30])
-    return image[:at] + random.choice([bytes(count), random.randbytes(count)]) + image[at:]
-
-
-def remove(random: Random, image: bytes, _: bytes) -> bytes:
-    """Removes some bytes."""
-    at, to = span(random, image)
-    return image[:at] + image[to:]
-
-
-def repeat(random: Random, image: bytes, _: bytes) -> bytes:
-    """Repeats some bytes."""
-    at, to = span(random, image)
-    return image[:to] + image[at:]
-
-
-def cut(random: Random, image: bytes, _: bytes) -> bytes:
-    """Cuts the file short, sometimes to nothing."""
-    most = min(len(image), 8) if random.random() < 0.1 else len(image)
-    return image[: random.randrange(most)]
-
-
-def splice(random: Random, image: bytes, other: bytes) -> bytes:
-    """Continues the file with the rest of another."""
-    return image[: random.randrange(len(image))] + other[random.randrange(len(other)):]
-
-
-def graft(random: Random, image: bytes, other: bytes) -> bytes:
-    """Overwrites some bytes with those of another file."""
-    at, to = span(random, image)
-    begin = random.randrange(len(other))
-    return image[:at] + other[begin : begin + to - at] + image[to:]
+def recut(random: Random, image: bytes, other: bytes) -> bytes:
+    """Removes, repeats or overwrites some bytes, goes on with another file's rest, cuts the file short, sometimes to
+    nothing, or inserts bytes, perhaps at the end."""
+    (at, to), begin = span(random, image), random.randrange(len(other))
+    most = min(len(image), 4) if random.random() < 0.3 else len(image)
+    place, count = random.randrange(len(image) + 1), random.choice([1, 2, 3, 4, 8, 30])
+    return random.choice([
+        image[:at] + image[to:],
+        image[:to] + image[at:],
+        image[:at] + other[begin : begin + to - at] + image[to:],
+        *[image[:at] + other[begin:]] * 2,
+        *[image[: random.randrange(most)]] * 2,
+        image[:place] + random.choice([bytes(count), random.randbytes(count)]) + image[place:],
+    ])
 
 
 # The changes, by how frequent they are.
-CHANGES: dict[Change, int] = {
-    flip: 3, set_byte: 2, set_number: 6, cut: 2, splice: 2,
-    insert: 1, remove: 1, repeat: 1, graft: 1,
-}
+CHANGES: dict[Change, int] = {flip: 3, set_byte: 2, set_number: 6, recut: 8}
 
 
 def damaged(random: Random, image: bytes, other: bytes, most: int = 3) -> bytes:

@@ -199,3 +199,19 @@ def answer(image: bytes, columns: str = "") -> Outcome:
     if cache.is_damaged:
         lines.append(b"fault 4 at %d" % cache.end)
     return Outcome(1 if cache.is_damaged else 0, listed(name_text(cache.default), *lines))
+
+
+def is_own_tgt(ticket: Credential, default: tuple[bytes, ...]) -> bool:
+    """Whether it is a ticket-granting ticket of the default principal's realm."""
+    realm = default[-1]
+    return ticket.server == (b"krbtgt", realm, realm)
+
+
+def silent(image: bytes, now: int, seconds: int = 0) -> Outcome:
+    """Returns the outcome of `klist -s`: whether a ticket that counts ends later than that many seconds from now."""
+    cache = read_cache(image)
+    if isinstance(cache, int):
+        return Outcome(1)
+    tickets = [one for _, one in cache.cells if not one.is_removed() and not one.is_config()]
+    counted = [one for one in tickets if is_own_tgt(one, cache.default)] or tickets
+    return Outcome(0 if any(one.endtime > now + seconds for one in counted) else 1)

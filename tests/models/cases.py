@@ -8,16 +8,14 @@ from dataclasses import replace
 from functools import lru_cache, wraps
 
 from models import cache_reading, check_model, json_model, reading
-from models.cache_script_model import cache_edited
 from models.copy_model import Request, copied
 from models.ktutil_model import handled
 from models.name_model import FileName
 from models.reading import name_text
 from models.removal_model import Selection, removal
-from models.script_model import edited
+from models.script_model import cache_edited, edited
 from models.ticket_removal_model import Selection as TicketSelection
 from models.ticket_removal_model import ticket_removal
-from models.valid_ticket_model import silent
 from runs.harness import Case, Outcome
 from runs.terminal import EXPLAIN
 
@@ -81,7 +79,7 @@ def klist_cache(image: bytes, *, words: tuple[str, ...] = ("-c", "c")) -> Case:
 def klist_silent(image: bytes, now: int, *, seconds: int | None = None) -> Case:
     """Returns a question whether a cache has a valid ticket."""
     words = ("klist", "-s", *([] if seconds is None else ["--for", str(seconds)]), "c")
-    return listing(words, image, silent(image, now, seconds or 0))
+    return listing(words, image, cache_reading.silent(image, now, seconds or 0))
 
 
 @timeless

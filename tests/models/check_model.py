@@ -2,7 +2,7 @@
 
 import os
 import re
-from collections.abc import Iterator, Sequence
+from collections.abc import Iterable, Iterator, Sequence
 from dataclasses import dataclass, field
 
 from keytabs.columns import NAMES
@@ -12,7 +12,7 @@ from models.reading import KeytabEntry, no_keytab
 from models.removal_model import newest_versions
 from models.walks import LIMIT
 from runs.harness import Outcome
-from words.phrases import BEGINS_AS_CACHE, BEGINS_AS_NO_KEYTAB, CAUSES, FAULTS, FINDINGS, HINTS, LARGE, SHORT
+from words.phrases import BEGINS_AS_CACHE, BEGINS_AS_NO_KEYTAB, CAUSES, FAULTS, FINDINGS, HINTS, LARGE, SHORT, UNSEEN
 
 WEAK = {1, 2, 3, 4, 6, 8, 16, 23, 24}
 
@@ -40,6 +40,15 @@ def ends_mit(entry: KeytabEntry) -> bool:
     *components, realm = entry.name
     lengths = (len(components), len(realm), *map(len, components), len(entry.key))
     return any(map(is_out, lengths))
+
+
+def unseen(keytab: Keytab, added: Iterable[int]) -> list[str]:
+    """Returns what a run says of entries that it added at these places, if MIT's programs do not see all of them: they
+    end at the first that is hidden."""
+    first = next((place for place, entry in keytab.live() if ends_mit(entry)), None)
+    if first is None or all(place < first for place in added):
+        return []
+    return [UNSEEN.replace("PLACE", str(first))]
 
 
 def lines_of(those: list[tuple[int, KeytabEntry]]) -> list[bytes]:

@@ -2,7 +2,7 @@
 
 from dataclasses import dataclass
 
-from models.hidden_model import unseen
+from models.check_model import unseen
 from models.keytab_model import Keytab
 from models.reading import KeytabEntry, no_keytab
 from models.removal_model import Selection, newest_versions

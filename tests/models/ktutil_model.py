@@ -4,22 +4,12 @@ import re
 from collections.abc import Callable
 from dataclasses import replace
 
-from makers.script_lines import (
-    BAD_FILE,
-    BAD_KEY,
-    BAD_SLOT,
-    UNKNOWN_WORD,
-    WORD_COUNT,
-    LineFault,
-    name_in,
-    number_in,
-)
-from models.check_model import why_no_keytab
-from models.hidden_model import unseen
+from models.check_model import unseen, why_no_keytab
 from models.keytab_model import Keytab
 from models.name_model import Kind, named, unwritten
 from models.reading import KeytabEntry, no_keytab
-from models.script_model import etype_in, key_in
+from models.script_model import (BAD_FILE, BAD_KEY, BAD_SLOT, UNKNOWN_WORD, WORD_COUNT, LineFault, etype_in, key_in,
+                                 name_in, number_in)
 from models.walks import DAMAGED, LIMIT, Refused
 from runs.harness import Outcome
 from words.phrases import CAUSES, NO_PASSWORDS, SEE_HELP, code, line_fault

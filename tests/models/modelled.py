@@ -112,13 +112,15 @@ def rotated_keytab(count: int) -> bytes:
 
 
 def mixed_script(image: bytes, count: int) -> bytes:
-    """Returns two walks over a keytab in which that many entries are removed and added, and which is rewritten."""
-    records = Keytab(image).live_places()
+    """Returns two walks over a keytab or a cache in which that many records are removed and added, and a rewrite."""
+    is_keytab = image[1] < 3
+    places = (Keytab if is_keytab else Cache)(image).live_places()
     lines = ["start", "start"]
     for number in range(count):
         name = f"{'y' * (number % 50)}/{number}@R"
-        lines += [f"step {number % 2}", f"cut {records[2 * number]}", f"step {number % 2}",
-                  f"add {number} {AES128} {number} {KEYS[16]} {name}"]
+        more = ([f"add {number} {AES128} {number} {KEYS[16]} {name}"] if is_keytab else
+                [f"config key{number} - {'v' * number}", f"config k{number % 3} a@R {number}"])
+        lines += [f"step {number % 2}", f"cut {places[2 * number]}", f"step {number % 2}", *more]
     lines += ["rewrite", "step 0", "start", "step 2", "cut 3", "step 1", "resume 2", "step 9"]
     return text(lines)
 
@@ -131,17 +133,6 @@ def mixed_cache(count: int) -> bytes:
                          enctype=number % 30, renew_till=number % 3, endtime=NOW + number % 3 - 1)
         parts += [ticket, config(b"key%d" % number, bytes(range(number % 256))), ticket.removed()]
     return cache(*parts, PA_TYPE, fields=header_field(9, b"xyz"))
-
-
-def mixed_cache_script(image: bytes, count: int) -> bytes:
-    """Returns two walks over a cache in which that many tickets are removed and values set, and which is rewritten."""
-    places = Cache(image).live_places()
-    lines = ["start", "start"]
-    for number in range(count):
-        lines += [f"step {number % 2}", f"cut {places[2 * number]}", f"step {number % 2}",
-                  f"config key{number} - {'v' * number}", f"config k{number % 3} a@R {number}"]
-    lines += ["rewrite", "step 0", "start", "step 2", "cut 3", "step 1", "resume 2", "step 9"]
-    return text(lines)
 
 
 def talk(list_columns: str = "-t -k -e") -> bytes:
@@ -165,7 +156,7 @@ def talk_files(count: int) -> dict[str, bytes]:
 def small() -> list[Modelled]:
     """Returns runs of each command over small files."""
     image, cache, name = mixed_keytab(12), mixed_cache(4), (b"xxx", b"3", b"R")
-    script, cache_script = mixed_script(image, 4), mixed_cache_script(cache, 3)
+    script, cache_script = mixed_script(image, 4), mixed_script(cache, 3)
     return [modelled(case) for case in (
         cases.klist(image, columns="tKe"),
         cases.klist(DAMAGED),
@@ -216,7 +207,7 @@ def large() -> list[Modelled]:
         cases.klist_cache_json(cache),
         cases.ktedit(image, mixed_script(image, 200), name="a long script"),
         cases.ktremove(rotated_keytab(300), selection=Selection(kvno=OLD), name="of many old versions"),
-        cases.ccedit(cache, mixed_cache_script(cache, 100), name="a long script"),
+        cases.ccedit(cache, mixed_script(cache, 100), name="a long script"),
         cases.ccremove(cache, NOW, selection=TicketSelection(is_expired=True), name="of many expired ones"),
         cases.hold(image, rotated_keytab(300), name="a large keytab"),
         cases.ktutil(talk("-e"), NOW, files=talk_files(200), name="over a large file"),

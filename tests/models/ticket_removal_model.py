@@ -4,8 +4,8 @@ from dataclasses import dataclass
 
 from models.cache_model import Cache
 from models.cache_reading import Credential
-from models.cache_script_model import no_cache
 from models.reading import name_text
+from models.script_model import no_cache
 from models.walks import DAMAGED, READ_ONLY
 from runs.harness import Outcome, message
 

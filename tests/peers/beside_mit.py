@@ -1,4 +1,4 @@
-"""MIT's klist and ktutil, and the form in which their listings are compared."""
+"""MIT's klist and ktutil, and the form in which their listings and ours are compared."""
 
 import os
 import re
@@ -13,6 +13,15 @@ from runs.harness import SECONDS, Report
 
 # A line of MIT's klist or ktutil that lists an entry, without its slot.
 LINE = re.compile(rb" *(\d+) (\d\d/\d\d/\d\d \d\d:\d\d:\d\d) +(.*) \((?:DEPRECATED:)?(\S+)\)  ?\(0x([0-9a-f]*)\) *")
+
+# A line of a cache's listing that begins a ticket, by MIT's klist and by ours, and a part of the lines below it. MIT's
+# prints several parts on a line, and omits those that are missing.
+MIT_TICKET = re.compile(rb"(\d\d/\d\d/\d\d \d\d:\d\d:\d\d)  (\d\d/\d\d/\d\d \d\d:\d\d:\d\d)  (.*)")
+OUR_TICKET = re.compile(rb"(\S{20}) (\S{20}) (.*)")
+PART = re.compile(rb"(renew|Flags|Etype)(?: until|:| \(skey, tkt\):) (?:DEPRECATED:)?([^,]*)")
+
+# A ticket, as a listing shows it, or the line of a configuration entry.
+Parsed = dict[bytes, bytes] | bytes
 
 # The prompt of MIT's ktutil, which it prints into a pipe too.
 PROMPT = b"ktutil:  "
@@ -36,6 +45,28 @@ def shown(entry: KeytabEntry) -> tuple[bytes, ...]:
     then = time.gmtime(entry.timestamp)
     second = time.strftime("%m/%d/%y %H:%M:%S", then).encode()
     return (b"%d" % entry.kvno, second, entry.text(), NAMES[entry.enctype], entry.key.hex().encode())
+
+
+def as_mit(text: bytes) -> bytes:
+    """Returns a time of ours as MIT prints it, or another part."""
+    if not re.fullmatch(rb"[-\d]{10}T[:\d]{8}Z", text):
+        return text
+    then = time.strptime(text.decode(), "%Y-%m-%dT%H:%M:%SZ")
+    return time.strftime("%m/%d/%y %H:%M:%S", then).encode()
+
+
+def parsed(listed: bytes, ticket: re.Pattern[bytes]) -> list[Parsed]:
+    """Returns what the lines after the heading of a cache's listing show, with the pattern that begins a ticket."""
+    found: list[Parsed] = []
+    for line in listed.splitlines()[4:]:
+        if begun := ticket.fullmatch(line):
+            start, end, server = begun.groups()
+            found.append({b"start": as_mit(start), b"end": as_mit(end), b"server": server})
+        elif line[:1] not in (b" ", b"\t") or not found or isinstance(found[-1], bytes):
+            found.append(line)
+        else:
+            found[-1] |= {name: as_mit(part) for name, part in PART.findall(line) if part}
+    return found
 
 
 class Mit:

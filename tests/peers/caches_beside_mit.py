@@ -14,10 +14,9 @@ from random import Random
 
 from chance.random_caches import random_credential, random_name
 from makers.cache_images import cache, offset
-from makers.cache_peers import listed_by_mit, listed_by_us
 from makers.images import Entry, keytab
 from models.reading import read_image
-from peers.beside_mit import SURROUNDINGS, are_there, mit_klist
+from peers.beside_mit import MIT_TICKET, OUR_TICKET, SURROUNDINGS, are_there, mit_klist, parsed
 from runs.harness import SECONDS, Report, files_in, folder_of, run
 
 # MIT's programs.
@@ -180,7 +179,7 @@ def differences_of(program: str, folder: str, *options: str) -> list[str]:
     ours = run(program, ("klist", *options, "c"), folder)
     theirs = mit_klist(folder, *options, "c")
     heads = [out.splitlines()[:2] for out in (ours.out, theirs)]
-    wanted, got = listed_by_mit(theirs), listed_by_us(ours.out)
+    wanted, got = parsed(theirs, MIT_TICKET), parsed(ours.out, OUR_TICKET)
     found = [] if got == wanted else [f"{got}, not {wanted}"]
     found += [] if heads[0] == heads[1] else [f"first lines {heads[0]}, not {heads[1]}"]
     return found + ([] if (ours.status, ours.err) == (0, b"") else [f"ended with {ours}"])

@@ -6,13 +6,12 @@ Each change is also compared with the models.
 import time
 from collections.abc import Iterator
 
-from makers.cache_peers import Shown, Parsed, listed_by_mit, listed_by_us
 from models.cache_model import Cache
 from models.cache_reading import read_cache
 from models.cases import ccedit, ccremove
 from models.reading import name_text
 from models.ticket_removal_model import Selection, tickets_of
-from peers.beside_mit import are_there, mit_klist
+from peers.beside_mit import MIT_TICKET, OUR_TICKET, are_there, mit_klist, parsed
 from peers.corpus import files
 from runs.harness import Case, Report, faults_of, files_in, folder_of, run
 
@@ -53,15 +52,11 @@ def changes(image: bytes) -> Iterator[Case]:
         yield ccremove(image, now, selection=Selection(service), name=f"-p {service.decode()}")
 
 
-def tickets(parsed: list[Parsed]) -> list[Shown]:
-    """Returns the tickets that a listing shows."""
-    return [one for one in parsed if isinstance(one, Shown)]
-
-
 def faults_beside_mit(program: str, folder: str) -> list[str]:
     """Returns what MIT's klist shows differently from ours of the tickets in `c`."""
-    ours = tickets(listed_by_us(run(program, ("klist", "-f", "c"), folder).out))
-    theirs = tickets(listed_by_mit(mit_klist(folder, "-f", "c")))
+    shown = (parsed(run(program, ("klist", "-f", "c"), folder).out, OUR_TICKET),
+             parsed(mit_klist(folder, "-f", "c"), MIT_TICKET))
+    ours, theirs = ([one for one in those if not isinstance(one, bytes)] for those in shown)
     return [] if ours == theirs else [f"MIT's klist shows {theirs}, not {ours}"]
 
 

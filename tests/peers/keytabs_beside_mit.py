@@ -1,7 +1,8 @@
-"""Keytabs that ktedit, ktcopy and ktutil changed, and entries that ktcheck calls hidden, beside MIT's programs."""
+"""Keytabs that ours changed, and entries that ktcheck calls hidden, beside MIT's programs."""
 
 import sys
 from dataclasses import replace
+from random import Random
 
 from keytabs.checks import EVEN, ODD
 from keytabs.copies import OTHER, THIRD
@@ -11,10 +12,13 @@ from models.cases import ktcopy, ktedit
 from models.copy_model import Request
 from models.keytab_model import Keytab
 from models.reading import KeytabEntry
+from models.removal_model import OLD as OLD_ONES
+from models.removal_model import Selection, removal
 from models.script_model import KEY_SIZES
 from peers.beside_mit import Mit, are_there, shown
 from peers.caches_beside_mit import REALM, Failed, Realm, check_in_realm
-from runs.harness import Outcome, Report, faults_of, files_in, folder_of, run
+from runs.harness import Report, differences, faults_of, files_in, folder_of, run
+from runs.random_runs import ONE_IN
 from runs.rows import text
 
 # Entries of each enctype that has a name, with quoted names, and versions of more than 8 bits.
@@ -61,6 +65,12 @@ SAME = [
     (("ktutil",), LINES, LINES, {"j": keytab(HOST, NARROW), "k": HOLES}, "nk"),
 ]
 
+# A few names, and versions on both sides of where they wrap.
+NAMES = ((b"a",), (b"host", b"a"), (b"b",))
+VERSIONS = (1, 2, 126, 127, 128, 129, 239, 240, 241, 242, 254, 255, 256, 257)
+
+KEYTABS = 300
+
 FIRST, LAST = Entry((b"first",)), Entry((b"last",))
 
 # Of the version 1 files, MIT's programs read those of the machine's own byte order.
@@ -104,16 +114,6 @@ def check_same(report: Report, program: str) -> None:
             sides = [untimed(side.get(name, keytab())) for side in (theirs, ours)]
             found = [] if sides[0] == sides[1] else [f"MIT's has {sides[0]}, krbfile's {sides[1]}"]
             report.check(f"MIT's ktutil and {words[0]}, {sorted(files.items())}: file {name}", found)
-
-
-def check_reads(report: Report, program: str) -> None:
-    """Checks that ours reads a keytab that MIT's ktutil wrote."""
-    with folder_of({}) as folder:
-        Mit(folder).ktutil("addent -key -p host/a@R -k 3 -e aes128-cts-hmac-sha1-96\n" + "00" * 16, "wkt k")
-        got = run(program, ("ktutil",), folder, b"rkt k\nl -e -k\n")
-    line = b"   1    3 host/a@R (aes128-cts-hmac-sha1-96) (0x" + b"00" * 16 + b")\n"
-    wanted = b"slot KVNO Principal\n---- ---- ---------\n" + line
-    report.compare("ktutil reads what MIT's wrote", Outcome(0, wanted), got)
 
 
 def faults_of_hidden(program: str, image: bytes, is_odd: bool) -> list[str]:
@@ -173,9 +173,49 @@ def check_used(report: Report, program: str, made: Realm) -> None:
         report.check(f"kinit and kvno after ktcopy into {name}", faults)
 
 
+def rotated_entry(random: Random) -> Entry:
+    """Returns an entry with a 32-bit version, or sometimes with 8 bits only, if they suffice."""
+    kvno = random.choice(VERSIONS)
+    is_wide = kvno > 255 or random.random() < 0.5
+    return Entry(random.choice(NAMES), timestamp=1_700_000_000 + random.randrange(3),
+                 version8=kvno % 256, enctype=random.choice((17, 18)),
+                 version32=kvno if is_wide else None)
+
+
+def removed_by_mit(realm: Realm, name: bytes, image: bytes) -> bytes:
+    """Returns the file after kadmin.local removed the old entries of a name."""
+    with folder_of({"k": image}) as folder:
+        words = ("-r", "CACHE.TEST", "ktremove", "-k", "FILE:k", name.decode(), "old")
+        realm.call("kadmin.local", *words, folder=folder)
+        return files_in(folder)["k"]
+
+
+def faults_of_removal(program: str, realm: Realm, random: Random) -> list[str]:
+    """Returns what differs from MIT's and the model's in a removal from a random keytab."""
+    those = [rotated_entry(random) for _ in range(random.randrange(1, 9))]
+    image, name = keytab(*those), b"/".join(random.choice(those).components) + b"@R"
+    wanted, after = removal(image, False, Selection((name,), OLD_ONES))
+    theirs = removed_by_mit(realm, name, image)
+    with folder_of({"k": image}) as folder:
+        got = run(program, ("ktremove", "-p", name, "-k", OLD_ONES, "k"), folder)
+        ours = files_in(folder)["k"]
+    found = differences(wanted, got)
+    found += [] if ours == after else [f"{ours.hex()} of {image.hex()}, not {after.hex()}"]
+    found += [] if theirs == ours else [f"MIT's is {theirs.hex()} of {image.hex()}, not {ours.hex()}"]
+    return found
+
+
+def check_old(report: Report, program: str, made: Realm) -> None:
+    """Checks that kadmin.local and ktremove leave the same file without its old entries."""
+    seeds = range(KEYTABS if report.is_proved else KEYTABS // ONE_IN)
+    wrong = [fault for seed in seeds for fault in faults_of_removal(program, made, Random(seed))]
+    report.check("old entries that kadmin.local and ktremove remove", wrong[:3])
+
+
 def check(report: Report, program: str) -> None:
     """Runs this topic if MIT's programs are installed."""
     if are_there(report, "keytabs beside MIT's programs"):
-        for each in (check_read, check_same, check_reads, check_hidden):
+        for each in (check_read, check_same, check_hidden):
             each(report, program)
-    check_in_realm(report, program, "copies used by MIT's programs", check_used)
+    has_admin = are_there(report, "removals beside MIT's kadmin.local", ("kadmin.local",))
+    check_in_realm(report, program, "copies used by MIT's programs", check_used, *[check_old] * has_admin)

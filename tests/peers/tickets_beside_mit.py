@@ -8,7 +8,7 @@ from collections.abc import Iterator
 from contextlib import contextmanager
 
 from models.cache_model import Cache
-from models.cache_script_model import cache_edited
+from models.script_model import cache_edited
 from peers.beside_mit import mit_klist
 from peers.caches_beside_mit import HOST, KINIT, USER, Realm, check_in_realm, differences_of
 from runs.harness import Outcome, Report, differences, files_in, folder_of, run
@@ -74,40 +74,28 @@ def filled(program: str, made: Realm, *commands: tuple[str, ...], version: int =
 
 
 def check_removed(report: Report, program: str, made: Realm) -> None:
-    """Checks that a ticket that ccremove removed is requested again, and that the file has nothing of its key."""
-    with filled(program, made, USER, ("kvno", HOST, "svc/h")) as one:
-        old, = one.cache().keys_of(HOST_TEXT)
-        kept = [one.cache().keys_of(server) for server in (TGT, SVC_TEXT)]
-        one.remove(HOST_TEXT)
-        one.want("its key is left", old not in one.image())
-        one.want("others are gone", kept == [one.cache().keys_of(name) for name in (TGT, SVC_TEXT)])
-        one.use("kvno", HOST)
-        new = one.cache().keys_of(HOST_TEXT)
-        one.want("kvno asked for no other", len(new) == 1 and new != [old])
-        one.use("kvno", HOST, "svc/h")
-        one.want("kvno asks again for what is there", one.cache().keys_of(HOST_TEXT) == new)
-        one.remove(TGT)
-        one.use(*USER)
-        one.use("kvno", HOST)
-        one.want("a new ticket of kinit is not used", len(one.cache().keys_of(HOST_TEXT)) == 1)
-    report.check("kvno asks anew for what ccremove removed", one.found)
-
-
-def check_cut(report: Report, program: str, made: Realm) -> None:
-    """Checks that a ticket that ccedit removed is requested again too; a rewrite erases its key."""
-    with filled(program, made, USER, ("kvno", HOST)) as one:
-        old, = one.cache().keys_of(HOST_TEXT)
-        one.cut(HOST_TEXT)
-        one.want("a mark took the key away", old in one.image())
-        one.use("kvno", HOST)
-        new = one.cache().keys_of(HOST_TEXT)
-        one.want("kvno asked for no other", len(new) == 1 and new != [old])
-        wanted, after = cache_edited(one.image(), b"rewrite\n")
-        one.change(("ccedit",), wanted, b"rewrite\n")
-        one.want("it is not written anew", one.image() == after and old not in one.image())
-        one.use("kvno", HOST)
-        one.want("kvno asks again for what is there", one.cache().keys_of(HOST_TEXT) == new)
-    report.check("kvno asks anew for what ccedit removed", one.found)
+    """Checks that a ticket that ccremove or ccedit removed is requested again. A mark leaves its key in the file, which
+    ccremove and a rewrite erase; a new ticket of kinit is used."""
+    for remove, is_marked in ((Filled.remove, False), (Filled.cut, True)):
+        with filled(program, made, USER, ("kvno", HOST, "svc/h")) as one:
+            old, = one.cache().keys_of(HOST_TEXT)
+            kept = [one.cache().keys_of(server) for server in (TGT, SVC_TEXT)]
+            remove(one, HOST_TEXT)
+            one.want("its key is left or gone", (old in one.image()) == is_marked)
+            one.want("others are gone", kept == [one.cache().keys_of(name) for name in (TGT, SVC_TEXT)])
+            one.use("kvno", HOST)
+            new = one.cache().keys_of(HOST_TEXT)
+            one.want("kvno asked for no other", len(new) == 1 and new != [old])
+            wanted, after = cache_edited(one.image(), b"rewrite\n")
+            one.change(("ccedit",), wanted, b"rewrite\n")
+            one.want("it is not written anew", one.image() == after and old not in one.image())
+            one.use("kvno", HOST, "svc/h")
+            one.want("kvno asks again for what is there", one.cache().keys_of(HOST_TEXT) == new)
+            one.remove(TGT)
+            one.use(*USER)
+            one.use("kvno", HOST)
+            one.want("a new ticket of kinit is not used", len(one.cache().keys_of(HOST_TEXT)) == 1)
+        report.check(f"kvno asks anew for what is removed by {remove.__name__}", one.found)
 
 
 def check_expired(report: Report, program: str, made: Realm) -> None:
@@ -159,5 +147,5 @@ def check_version_3(report: Report, program: str, made: Realm) -> None:
 
 def check(report: Report, program: str) -> None:
     """Runs this topic if MIT's programs are installed."""
-    check_in_realm(report, program, "changes of caches beside MIT's programs", check_removed, check_cut, check_expired,
+    check_in_realm(report, program, "changes of caches beside MIT's programs", check_removed, check_expired,
                    check_values, check_version_3)

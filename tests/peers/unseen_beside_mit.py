@@ -8,10 +8,9 @@ from collections import Counter
 from dataclasses import replace
 from random import Random
 
+from chance.random_additions import adding_line
 from chance.random_keytabs import Choices
-from chance.random_lines import Scripts
-from chance.random_scripts import session_over
-from chance.random_unseen import random_line
+from chance.random_scripts import Scripts, session_over
 from keytabs.scripts import FAULTS
 from makers.images import BIG, hole, keytab
 from models import script_model
@@ -50,7 +49,7 @@ def made(random: Random) -> tuple[tuple[str, ...], bytes, dict[str, bytes]]:
     files = {"k": sound(random, ADDITIONS), "t": sound(random, FEW)}
     kind = random.choice(COMMANDS)
     if kind == "ktedit":
-        scripts = Scripts(random_line, script_model.event_in, FAULTS)
+        scripts = Scripts(adding_line, script_model.event_in, FAULTS)
         return ("ktedit", "t"), scripts.random_script(random, session_over(False, files["t"])), files
     return (("ktcopy", "--replace", "k", "t"), b"", files) if kind == "ktcopy" else (
         ("ktutil",), b"rkt k\nwkt t\n", files)

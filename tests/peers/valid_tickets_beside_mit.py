@@ -5,11 +5,11 @@ from collections.abc import Iterator
 from dataclasses import replace
 from random import Random
 
+from caches.valid_tickets import TICKETS
 from chance.random_caches import random_credential
-from makers.cache_images import CONFIG_FIRST, CONFIG_REALM, Credential, Name, cache, config, header_field, number
+from makers.cache_images import CONFIG_FIRST, CONFIG_REALM, Credential, Name, cache, header_field, number
 from makers.usual_caches import TICKET, config_ticket
-from models.cache_reading import read_cache
-from models.valid_ticket_model import silent
+from models.cache_reading import read_cache, silent
 from peers.beside_mit import SURROUNDINGS, are_there
 from peers.corpus import files
 from runs.harness import Outcome, Report, folder_of, run
@@ -53,21 +53,6 @@ DIFFERENT: dict[str, tuple[bytes, bool, bool]] = {
     "a length above that of the file": (cache(TICKET, bytes(8) + b"\0\1\0\0"), False, True),
 }
 
-# Caches that are the same to both: the order of tickets, and which of them decide.
-SAME: dict[str, tuple[Credential | bytes, ...]] = {
-    "none": (),
-    "one": (TICKET,),
-    "two": (TICKET, replace(TICKET, endtime=LATER)),
-    "another beside it": (replace(TICKET, server=SERVERS[3], endtime=LATER), TICKET),
-    "one of another realm": (replace(TICKET, server=SERVERS[1]),),
-    "one of another realm beside it": (TICKET, replace(TICKET, server=SERVERS[2], endtime=LATER)),
-    "three components": (TICKET, replace(TICKET, server=Name((b"krbtgt", b"R", b"R")), endtime=LATER)),
-    "a removed one": (TICKET.removed(), replace(TICKET, server=SERVERS[3])),
-    "configuration entries": (config(b"k", b"v"), config_ticket(b"k"), config_ticket(b"k", b"p")),
-    "a zero behind it": (TICKET, b"\0"),
-    "many components behind it": (TICKET, b"\xff" * 9),
-}
-
 
 def times_of(image: bytes) -> Iterator[int]:
     """Yields the times around each end of a ticket in a cache, and around the usual one's."""
@@ -108,8 +93,9 @@ def check_different(report: Report, under: Preloaded) -> None:
 
 
 def check_same(report: Report, under: Preloaded) -> None:
-    """Checks the files of other programs and those made here."""
-    made = [(name, cache(*those, version=version)) for name, those in SAME.items() for version in (3, 4)]
+    """Checks the files of other programs, and the tickets of caches/valid_tickets, in each version by turns."""
+    made = [(name, cache(*those, version=3 + at % 2)) for at, (name, those, _) in enumerate(TICKETS)
+            if not name.startswith("a name of a configuration entry")]
     cut = [(f"{name}, cut short", image[:-1]) for name, image in made]
     for name, image in (*files("ccache"), *made, *cut):
         if image not in (image for image, _, _ in DIFFERENT.values()):

@@ -1,4 +1,4 @@
-"""Runs of the program under a preloaded library (preload.c, seen.c) that lets chosen C library calls fail, and shows
+"""Runs of the program under a preloaded library (preload.c) that lets chosen C library calls fail, and shows
 other lists of the system."""
 from __future__ import annotations
 
@@ -13,7 +13,7 @@ from dataclasses import dataclass
 
 from runs.harness import Outcome, Report, files_in, folder_of, run
 
-SOURCES = [os.path.join(os.path.dirname(os.path.abspath(__file__)), name) for name in ("preload.c", "seen.c")]
+SOURCE = os.path.join(os.path.dirname(os.path.abspath(__file__)), "preload.c")
 
 # More calls of one kind than any run makes.
 MOST_CALLS = 10_000
@@ -61,7 +61,7 @@ class Preloaded:
         return Preloaded(self.program, self.library, files)
 
     def run(self, line: Line, **settings: int | str) -> Counted | None:
-        """Makes a run with the settings that the sources describe, and other variables; None if that was not loaded."""
+        """Makes a run with the settings that the source describes, and other variables; None if that was not loaded."""
         with folder_of(self.files) as folder:
             return self.run_in(folder, line, **settings)
 
@@ -71,9 +71,9 @@ class Preloaded:
             env = {"LD_PRELOAD": self.library, "PRELOAD_COUNTS": counts.name}
             env.update((name, str(value)) for name, value in settings.items())
             outcome = run(self.program, line.words, folder, line.stdin, env=env)
-            if not (counted := counts.read(48)):
+            if not (counted := counts.read(32)):
                 return None
-            requests, _, _, *others = struct.unpack("=6Q", counted)
+            requests, *others = struct.unpack("=4Q", counted)
             return Counted(outcome, files_in(folder), requests, *others)
 
 
@@ -84,7 +84,7 @@ def built_library(folder: str) -> str | None:
     if compiler is None:
         return None
     library = os.path.join(folder, "preload.so")
-    words = [compiler, "-O2", "-Wall", "-shared", "-fPIC", "-o", library, *SOURCES, "-ldl"]
+    words = [compiler, "-O2", "-Wall", "-shared", "-fPIC", "-o", library, SOURCE, "-ldl"]
     return library if subprocess.run(words, check=False).returncode == 0 else None
 
 

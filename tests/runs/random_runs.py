@@ -1,29 +1,34 @@
 """Random cases compared with a model, each made from a number.
 
 The cases of one number run in turn. In a long run several processes share the numbers of a topic. A
-case that goes wrong is made smaller, and kept.
+case that goes wrong is kept.
 """
 from __future__ import annotations
 
 import os
+import re
+import shutil
 import subprocess
-import time
+import tempfile
 from collections import Counter
 from collections.abc import Callable, Iterator
-from dataclasses import dataclass, field, replace
+from dataclasses import dataclass, field
 from functools import partial
 from multiprocessing import get_context
 from random import Random
+from shlex import quote
 
-from runs.harness import SECONDS, Case, Report, faults_by_clock
-from runs.kept import keep
+from runs.harness import SECONDS, Case, Outcome, Report, faults_by_clock
 
-# A case at a given time: a function and its bytes, parts of which may be left out.
+# A case at a given time: a function and its bytes.
 CaseAt = partial
 Cases = Callable[[Random], Iterator[CaseAt]]
 
 # How often each kind of result has to occur.
 FEWEST = 3
+
+# What a line begins with: two words of a walk's, the number of a refusal or a fault.
+KIND = re.compile(rb" *(?:(walk) \d+ (\w+)|((?:refused|fault) \d+)|([A-Za-z]+))")
 
 # How many processes run for each processor: one waits for its program while another works.
 FOR_EACH = 3
@@ -35,24 +40,38 @@ ONE_IN = 10
 AT_ONCE = 10
 MOST_KEPT = 10
 
-# For how many seconds a smaller case that goes wrong is searched for.
-SEARCH = 20
+# The folder of these.
+KEPT = os.path.join(tempfile.gettempdir(), "krbfile-kept")
 
 
-def output(case: Case) -> str:
-    """Returns the last words of a run's message."""
-    return case.wanted.err.decode().split(": ")[-1].strip()
+def kinds_of(case: Case) -> Iterator[str]:
+    """Yields what each line of a run begins with, how each message ends, and the status, with each option too."""
+    words = {word for word in case.words if isinstance(word, str) and word.startswith("-")}
+    kinds = {f"status {case.wanted.status}"}
+    for line in case.wanted.out.splitlines():
+        found = KIND.match(line)
+        kinds.add(b" ".join(filter(None, found.groups())).decode() if found else "a record")
+    for line in case.wanted.err.splitlines():
+        *_, file, last = "", *line.decode("latin-1").split(": ")
+        kinds |= {last, last.split(" (")[0], f"{file}: {last.split(' (')[0]}"}
+    yield from kinds | {f"{word} {kind}" for word in words for kind in kinds}
+    if case.wanted == Outcome(0):
+        yield "nothing to do"
 
 
-def smaller(case_at: CaseAt) -> Iterator[CaseAt]:
-    """Yields the case with a part of its bytes left out, larger parts first."""
-    for nth, data in enumerate(case_at.args):
-        size = len(data or b"") // 2
-        while size:
-            for at in range(0, len(data), size):
-                left = data[:at] + data[at + size :]
-                yield partial(case_at.func, *case_at.args[:nth], left, *case_at.args[nth + 1 :], **case_at.keywords)
-            size //= 2
+def keep(name: str, case: Case, program: str) -> str:
+    """Keeps a case that went wrong in a folder of its own, and returns the line that runs it again, over a copy."""
+    folder = os.path.join(KEPT, name.replace(" ", "-"))
+    shutil.rmtree(folder, ignore_errors=True)
+    os.makedirs(os.path.join(folder, "files"))
+    front = f'here=$(mktemp -d) && cp -r {folder}/files/. "$here" && cd "$here" && '
+    line = " ".join(quote(os.fsdecode(word)) for word in (program, *case.words))
+    files = {os.path.join("files", each): data for each, data in case.files.items()}
+    again = os.fsencode(f"{front}{line} < {folder}/stdin\n")
+    for path, data in {**files, "stdin": case.stdin, "again": again}.items():
+        with open(os.path.join(folder, path), "wb") as file:
+            file.write(data)
+    return f"sh {folder}/again"
 
 
 @dataclass(frozen=True)
@@ -87,13 +106,14 @@ class Topic:
     title: str
     # The cases that a random source makes, in turn.
     cases: Cases
-    # The kinds of a case's results, and those that have to occur.
-    kinds_of: Callable[[Case], Iterator[str]]
+    # The kinds of results that have to occur.
     kinds: tuple[str, ...]
     # How many numbers a short run takes.
     usual: int
     # A long run takes its count divided by this.
     share: int = 1
+    # The kinds of a case's result.
+    kinds_of: Callable[[Case], Iterator[str]] = kinds_of
 
     @property
     def name(self) -> str:
@@ -123,16 +143,6 @@ class Topic:
         except subprocess.TimeoutExpired:
             return [f"no end in {SECONDS} seconds"]
 
-    def smallest(self, program: str, wrong: Wrong) -> Wrong:
-        """Returns a wrong case from which no part can be left out, as far as the search went."""
-        end = time.monotonic() + SEARCH
-        tries = smaller(wrong.case_at)
-        while time.monotonic() < end and (case_at := next(tries, None)):
-            if faults := self.faults_of(program, case_at):
-                wrong = replace(wrong, case_at=case_at, faults=faults)
-                tries = smaller(case_at)
-        return wrong
-
     def try_on_all_processors(self, program: str, numbers: range) -> Tried:
         """Runs the cases of some numbers, in several processes."""
         tried = Tried()
@@ -152,8 +162,8 @@ class Topic:
             report.check(f"{self.title}: each kind", missing)
 
     def report_wrong(self, report: Report, program: str, wrong: list[Wrong]) -> None:
-        """Keeps the first wrong cases, made smaller, and reports how to run each again."""
-        for one in (self.smallest(program, each) for each in wrong[:MOST_KEPT]):
+        """Keeps the first wrong cases, and reports how to run each again."""
+        for one in wrong[:MOST_KEPT]:
             again = keep(f"{self.title} {one.number} {one.nth}", one.case_at(0), program)
             report.check(f"{self.title}, number {one.number}", [again, *one.faults])
         if len(wrong) > MOST_KEPT:
