@@ -1,22 +1,24 @@
-"""Files that can be saved in place only, as none can be made beside them or take their name, disks that are full or
-read-only, and long names."""
+"""What a save in place keeps: the file itself, with its owner, mode, other names, access list and label. Files that can
+be saved in place only, as none can be made beside them or take their name, and disks that are full or read-only."""
 
 import os
 import resource
+import struct
 import subprocess
 from contextlib import suppress
 from dataclasses import replace
+from itertools import product
 from shlex import quote
 
 from makers.images import HOST, Entry, keytab
 from models.cases import IN_PLACE, in_place, ktedit
-from runs.harness import Case, Report, differences, folder_of, run
+from runs.harness import Case, Report, differences, faults_of, files_in, folder_of, run
 from runs.limits import limit
 from runs.namespaces import can_mount, run_within
 from runs.terminal import EXPLAIN
 from system.disk_faults import mounted
 from system.placing import EQUAL, LONGER, MIXED, PLACED, changed, explained, kept, refused, with_words
-from system.saving import (ADD, NEW, OLD, SCRIPT, UNSAVED, USER, WALK, as_another, at, check_over, renamed,
+from system.saving import (ADD, GROUP, NEW, OLD, SCRIPT, UNSAVED, USER, WALK, as_another, at, check_over, renamed,
                            tree_faults, write)
 from words.phrases import AFTERMATHS, CAUSES
 
@@ -30,6 +32,55 @@ LESS = ktedit(FULL, b"cut 2\n", name="removes from a full page")
 SPARSE = keytab(HOST, 200_000)
 SPARSE_FROM, ROOM = 100, 24_576
 INTO_BOTH = "".join(f"add 3 17 1 {'00' * 16} {'z' * length}@R\n" for length in (20_000, 15_000)).encode()
+
+# A mode, and an access list of it by which another user may read the file too, as the system stores it: a tag,
+# permissions and a number for each entry.
+MODE, NOBODY = 0o640, 0xffffffff
+LIST = struct.pack("<I", 2) + b"".join(struct.pack("<HHI", *entry) for entry in (
+    (1, 6, NOBODY), (2, 4, 1234), (4, 4, NOBODY), (16, 4, NOBODY), (32, 0, NOBODY)))
+
+# Attributes of a file. A label may be set by root only.
+ATTRIBUTES = {"system.posix_acl_access": LIST, "user.origin": b"a realm",
+              "security.selinux": b"system_u:object_r:krb5_keytab_t:s0\0"}
+
+
+def kinds(report: Report) -> list[dict[str, bytes]]:
+    """Returns attributes that a file may have: none, and each that can be set."""
+    found: list[dict[str, bytes]] = [{}]
+    with folder_of({"k": b""}) as folder:
+        for name, value in ATTRIBUTES.items():
+            try:
+                os.setxattr(os.path.join(folder, "k"), name, value)
+                found.append({name: value})
+            except OSError as error:
+                report.skip(f"the attribute {name}", f"a file cannot have it: {error.strerror}")
+    return found
+
+
+def check_kept(report: Report, program: str, case: Case, attributes: dict[str, bytes]) -> None:
+    """Checks a save of a file that has another name, those attributes, and if root makes it another owner."""
+    placed, name = in_place(case), changed(case)
+    with folder_of(case.files) as folder:
+        path, other = os.path.join(folder, name), os.path.join(folder, "other")
+        with suppress(PermissionError):
+            os.chown(path, USER, GROUP)
+        os.chmod(path, MODE)
+        for each, value in attributes.items():
+            os.setxattr(path, each, value)
+        os.link(path, other)
+        wanted = kept(path)
+        os.utime(folder, (1, 1))
+        with open(path, "rb", buffering=0) as reader:
+            reader.read()
+            got = run(program, placed.words, folder, case.stdin)
+            reader.seek(0)
+            seen = reader.read()
+        faults = ["the folder was changed"] if os.stat(folder).st_mtime != 1 else []
+        faults += [] if kept(path) == wanted else [f"{kept(path)}, not {wanted}"]
+        faults += [] if seen == case.files_after[name] else ["who has it open reads other bytes"]
+        after = files_in(folder)
+        faults += [] if after.pop("other") == after[name] else ["the other name has other bytes"]
+    report.check(f"{placed.name}, with {[*attributes]}", faults + faults_of(placed, got, after))
 
 
 def check_unwritable(report: Report, program: str) -> None:
@@ -146,16 +197,6 @@ def check_sparse(report: Report, program: str) -> None:
     report.check("a sparse file on a full disk", faults)
 
 
-def check_names(report: Report, program: str) -> None:
-    """Checks long names, under which no new file fits, and those of new files, which stay refused."""
-    for case in map(in_place, PLACED):
-        if changed(case) == case.words[-1]:
-            rows = [renamed(case, "x" * length) for length in (248, 255)]
-            rows.append(refused(renamed(case, f"{changed(case)}.krbfile"), "name of saves"))
-            for one in rows:
-                check_over(report, program, replace(one, name=f"a name of {len(one.words[-1])} bytes: {case.name}"))
-
-
 def check_beside(report: Report, program: str) -> None:
     """Checks that what has the new file's name is not looked at."""
     makes = {"a folder": os.mkdir, "a pipe": os.mkfifo, "a link to the file": lambda path: os.symlink("k", path),
@@ -165,8 +206,14 @@ def check_beside(report: Report, program: str) -> None:
         check_over(report, program, case, at("k.krbfile", make))
 
 
+def check_all_kept(report: Report, program: str) -> None:
+    """Checks what each command keeps of a file of those attributes."""
+    for case, attributes in product(PLACED, kinds(report)):
+        check_kept(report, program, case, attributes)
+
+
 def check(report: Report, program: str) -> None:
     """Runs this topic."""
-    for each in (check_unwritable, check_set_id, check_mounted, check_disks, check_limit, check_sparse, check_names,
+    for each in (check_all_kept, check_unwritable, check_set_id, check_mounted, check_disks, check_limit, check_sparse,
                  check_beside):
         each(report, program)

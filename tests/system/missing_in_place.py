@@ -1,14 +1,13 @@
-"""A missing file is not made in place, and a name that leads to no plain file ends as without `--in-place`."""
+"""A missing file is not made in place."""
 
 from keytabs.ktutil_lines import KEY
 from keytabs.scripts import FAULTS as LINE_FAULTS
 from makers.images import B, HOST, TWO, keytab
 from makers.usual_caches import USUAL
 from models.cases import IN_PLACE
-from runs.harness import Case, Report, differences, folder_of, message, run
+from runs.harness import Case, Report, message
 from runs.rows import printed, words_of
-from runs.terminal import EXPLAIN
-from system.saving import SCRIPT, check_over, link, tree_faults
+from system.saving import SCRIPT, check_over, link
 from words.explained import Explained
 from words.phrases import BEGINS_AS_CACHE, CAUSES, LEAVE_OUT, NOT_READ, code, line_fault
 
@@ -79,7 +78,7 @@ CASES = [
 ]
 
 
-def check_links(report: Report, program: str) -> None:
+def check(report: Report, program: str) -> None:
     """Checks links to no file, and one to a file, which is saved where it is."""
     missing = message(1, "l: no such file")
     for name, target, wanted, after in (("a link to nothing", "no", missing, keytab(B)),
@@ -87,21 +86,3 @@ def check_links(report: Report, program: str) -> None:
                                         ("a link to a file", "k", printed("placed 47"), keytab(B, HOST))):
         case = Case(f"{name}, in place", ("ktedit", IN_PLACE, "l"), wanted, {"k": keytab(B)}, {"k": after}, SCRIPT)
         check_over(report, program, case, link("l", target))
-
-
-def check_no_files(report: Report, program: str) -> None:
-    """Checks that a folder and a device end as without `--in-place`."""
-    for name in (".", "/dev/null", "/dev/full/k"):
-        for words, stdin in ((("ktedit", name), SCRIPT), (("ktremove", "-k", "3", name), b""),
-                             (("ccedit", name), b"cut 40\n"), (("ktutil",), ADD + f"wkt {name}\n".encode())):
-            with folder_of({}) as folder:
-                got = [run(program, (EXPLAIN, words[0], *options, *words[1:]), folder, stdin)
-                       for options in ((), (IN_PLACE,))]
-                faults = differences(*got) + ([] if got[0].status else [f"{got[0]}"]) + tree_faults({}, folder)
-            report.check(f"as without --in-place: {' '.join(words)}, {name}", faults)
-
-
-def check(report: Report, program: str) -> None:
-    """Runs what is not in the table."""
-    check_links(report, program)
-    check_no_files(report, program)
