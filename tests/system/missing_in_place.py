@@ -8,28 +8,22 @@ from models.cases import IN_PLACE
 from runs.harness import Case, Report, message
 from runs.rows import printed, words_of
 from system.saving import SCRIPT, check_over, link
-from words.explained import Explained
+from words.explained import Explained, unchanged
 from words.phrases import BEGINS_AS_CACHE, CAUSES, LEAVE_OUT, NOT_READ, code, line_fault
 
 ADD = f"addent -key -p a@R -k 1 -e 17\n{KEY}\n".encode()
 NO_FILE = CAUSES["no file"]
 
 
-def ends(line: str, *output: tuple[str, str], status: int = 1, out: bytes = b"", stdin: bytes = b"",
-         files: dict[str, bytes] | None = None) -> Explained:
-    """Returns a run that leaves its files as they are, with its messages, each with its explanation."""
-    files = files or {}
-    return Explained(f"{line} {stdin!r}", words_of(line), output, files, stdin, status, out, files)
-
-
 def missing(line: str, **more) -> Explained:
     """Returns a run whose file, named last, is missing."""
-    return ends(line, (f"{line.split()[-1]}: no such file", ""), **more)
+    return unchanged(line, (f"{line.split()[-1]}: no such file", ""), **more)
 
 
 def unwritten(name: str, line: int, phrase: str, stdin: bytes, **more) -> Explained:
     """Returns a run of ktutil of which that line is not saved to that file."""
-    return ends("ktutil --in-place", (f"{name}: cannot write", f"line {line}: {phrase}"), status=3, stdin=stdin, **more)
+    told = (f"{name}: cannot write", f"line {line}: {phrase}")
+    return unchanged("ktutil --in-place", told, status=3, stdin=stdin, **more)
 
 
 FAULTY, FAULT = next(iter(LINE_FAULTS.items()))
@@ -37,7 +31,7 @@ FAULTY, FAULT = next(iter(LINE_FAULTS.items()))
 CASES = [
     # Each command over a missing file, also where nothing is saved.
     missing("ktedit --in-place k", stdin=SCRIPT),
-    ends("ktedit k --in-place", ("k: no such file", ""), stdin=SCRIPT),
+    unchanged("ktedit k --in-place", ("k: no such file", ""), stdin=SCRIPT),
     missing("ktedit --in-place --v1-big k", stdin=b""),
     missing("ktedit --in-place k", stdin=b"start\nstep 0\n"),
     missing("ccedit --in-place c", stdin=b"config a - v\n"),
@@ -49,31 +43,31 @@ CASES = [
     missing("ktcopy --in-place -n k t", files={"k": TWO}),
     missing("ktcopy --in-place --replace k t", files={"k": keytab()}),
     # What comes before: a faulty script, and the file that is copied from.
-    ends("ktedit --in-place k", ("line 1: fault %d" % FAULT, line_fault(FAULT)), stdin=f"{FAULTY}\n".encode()),
-    ends("ktcopy --in-place k t", ("k: no such file", ""), files={"t": TWO}),
-    ends("ktcopy --in-place k t", ("k: no such file", "")),
-    ends("ktcopy --in-place -p c@R k t", ("k: refused 9", code(9, "ktcopy")), files={"k": TWO}),
-    ends("ktcopy --in-place k t", ("k: refused 1", code(1)), files={"k": TWO[:-1]}),
+    unchanged("ktedit --in-place k", ("line 1: fault %d" % FAULT, line_fault(FAULT)), stdin=f"{FAULTY}\n".encode()),
+    unchanged("ktcopy --in-place k t", ("k: no such file", ""), files={"t": TWO}),
+    unchanged("ktcopy --in-place k t", ("k: no such file", "")),
+    unchanged("ktcopy --in-place -p c@R k t", ("k: refused 9", code(9, "ktcopy")), files={"k": TWO}),
+    unchanged("ktcopy --in-place k t", ("k: refused 1", code(1)), files={"k": TWO[:-1]}),
     # A file in no folder, and one of another type.
     missing("ktedit --in-place no/k", stdin=SCRIPT),
-    ends("ktedit --in-place KCM:k", ("KCM:k: no such file", NOT_READ.replace("TYPE", "KCM:")), stdin=SCRIPT),
+    unchanged("ktedit --in-place KCM:k", ("KCM:k: no such file", NOT_READ.replace("TYPE", "KCM:")), stdin=SCRIPT),
     # ktutil: what is read, and what is written.
-    ends("ktutil --in-place", ("k: no such file", f"line 1: {NO_FILE}"), stdin=b"rkt k\n"),
+    unchanged("ktutil --in-place", ("k: no such file", f"line 1: {NO_FILE}"), stdin=b"rkt k\n"),
     unwritten("k", 3, NO_FILE, ADD + b"wkt k\n"),
     unwritten("k", 1, NO_FILE, b"wkt k\n"),
     unwritten("no/k", 3, NO_FILE, ADD + b"wkt no/k\n"),
     unwritten("FILE:k", 3, LEAVE_OUT.replace("TYPE", "FILE:"), ADD + b"wkt FILE:k\n"),
     unwritten("k.krbfile", 3, CAUSES["name of saves"], ADD + b"wkt k.krbfile\n", files={"k.krbfile": TWO}),
     # A file that is not a keytab.
-    ends("ktedit --in-place k", (f"k: not a keytab ({BEGINS_AS_CACHE[0]})", BEGINS_AS_CACHE[1]), stdin=SCRIPT,
+    unchanged("ktedit --in-place k", (f"k: not a keytab ({BEGINS_AS_CACHE[0]})", BEGINS_AS_CACHE[1]), stdin=SCRIPT,
          files={"k": USUAL}),
     # One of no bytes is a keytab for ktcopy.
     Explained("a file of no bytes", words_of("ktcopy --in-place k t"), (), {"k": keytab(B), "t": b""}, status=0,
               out=b"copied 2 kvno 3 etype 17 b@R\n", after={"k": keytab(B), "t": keytab(B)}),
     # A dry run changes nothing.
-    ends("ktremove --in-place -n -p b@R k", status=0, out=b"removed 53 kvno 3 etype 17 b@R\n", files={"k": TWO}),
-    ends("ccremove --in-place -n -p krbtgt/R@R c", status=0, out=b"removed 40 krbtgt/R@R\n", files={"c": USUAL}),
-    ends("ktcopy --in-place -n k t", status=0, out=b"copied 53 kvno 3 etype 17 b@R\n",
+    unchanged("ktremove --in-place -n -p b@R k", status=0, out=b"removed 53 kvno 3 etype 17 b@R\n", files={"k": TWO}),
+    unchanged("ccremove --in-place -n -p krbtgt/R@R c", status=0, out=b"removed 40 krbtgt/R@R\n", files={"c": USUAL}),
+    unchanged("ktcopy --in-place -n k t", status=0, out=b"copied 53 kvno 3 etype 17 b@R\n",
          files={"k": keytab(B), "t": keytab(HOST)}),
 ]
 
