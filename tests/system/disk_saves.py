@@ -100,21 +100,25 @@ def long_chain(count: int) -> list[tuple[str, str]]:
 
 
 def check_links(report: Report, program: str) -> None:
-    """Checks that the file at the end of links is replaced or made, and that each link stays."""
+    """Checks that the file at the end of links is replaced or made, if they lead to one, and that each link stays."""
     chain = (("k", "u/a"), ("u/a", "../u/b"), ("u/b", "FOLDER/t/k"))
     cases = [
-        ("a relative link", links_to(("k", "t/k"))),
-        ("a link through a parent folder", links_to(("k", "u/../t/k"))),
-        ("an absolute link", links_to(("k", "FOLDER/t/k"))),
-        ("a chain of links", links_to(*chain)),
-        ("a link through a link to a folder", links_to(("d", "t"), ("k", "d/k"))),
-        ("a link that dangles", links_to(("k", "t/k"), data=None)),
-        ("a chain that dangles", links_to(*chain, data=None)),
-        ("a chain of 40 links", links_to(*long_chain(40))),
+        ("a relative link", SAVED, links_to(("k", "t/k"))),
+        ("a link through a parent folder", SAVED, links_to(("k", "u/../t/k"))),
+        ("an absolute link", SAVED, links_to(("k", "FOLDER/t/k"))),
+        ("a chain of links", SAVED, links_to(*chain)),
+        ("a link through a link to a folder", SAVED, links_to(("d", "t"), ("k", "d/k"))),
+        ("a link that dangles", SAVED, links_to(("k", "t/k"), data=None)),
+        ("a chain that dangles", SAVED, links_to(*chain, data=None)),
+        ("a chain of 40 links", SAVED, links_to(*long_chain(40))),
+        ("a link into no folder", UNSAVED, links_to(("k", "no/k"))),
+        ("a link to no folder", UNSAVED, links_to(("k", "no/"), data=None)),
+        ("a link in a circle", UNREAD, links_to(("k", "u/k"), ("u/k", "../k"))),
+        ("a chain of 41 links", UNREAD, links_to(*long_chain(41))),
     ]
-    for name, place in cases:
-        case = Case(f"save over {name}", ("ktedit", "k"), SAVED, files_after={"t/k": NEW}, stdin=SCRIPT)
-        check_over(report, program, case, place)
+    for name, wanted, place in cases:
+        after = {"t/k": NEW} if wanted == SAVED else None
+        check_over(report, program, Case(f"save over {name}", ("ktedit", "k"), wanted, {}, after, SCRIPT), place)
 
 
 def check_hard_links(report: Report, program: str, cases: tuple[Case, ...] = CHANGES) -> None:
@@ -128,18 +132,6 @@ def check_hard_links(report: Report, program: str, cases: tuple[Case, ...] = CHA
             wanted = {**tree(folder), "file": case.files_after[name], "file.krbfile": None}
             faults = differences(case.wanted, run_over(program, case, folder)) + tree_faults(wanted, folder)
         report.check(f"a file of two names behind a link: {case.name}", faults)
-
-
-def check_broken_links(report: Report, program: str) -> None:
-    """Checks links that lead to no place for a file."""
-    cases = [
-        ("a link into no folder", links_to(("k", "no/k")), UNSAVED),
-        ("a link to no folder", links_to(("k", "no/"), data=None), UNSAVED),
-        ("a link in a circle", links_to(("k", "u/k"), ("u/k", "../k")), UNREAD),
-        ("a chain of 41 links", links_to(*long_chain(41)), UNREAD),
-    ]
-    for name, place, outcome in cases:
-        check_over(report, program, Case(f"save over {name}", ("ktedit", "k"), outcome, stdin=SCRIPT), place)
 
 
 def check_removed(report: Report, program: str) -> None:
@@ -189,5 +181,5 @@ def check(report: Report, program: str) -> None:
     check_new_files(report, program)
     for each in (check_own_files, check_others_files, check_hard_links):
         each(report, program, (*CHANGES, *COPIES))
-    for each in (check_links, check_broken_links, check_removed, check_locked_folder):
+    for each in (check_links, check_removed, check_locked_folder):
         each(report, program)

@@ -137,19 +137,10 @@ def check_own_names(report: Report, program: str) -> None:
 def check_places(report: Report, program: str) -> None:
     """Checks names under which no file can be saved, and the longest that can be."""
     longest = "x" * (255 - len(".krbfile"))
-    cases = [
-        ("k", SAVED),
-        ("./k", SAVED),
-        ("k.krbfil", SAVED),
-        ("krbfile", SAVED),
-        (longest, SAVED),
-        (longest + "x", message(3, f"{longest}x: cannot write")),
-        ("no/k", message(3, "no/k: cannot write")),
-        ("", message(3, ": cannot write")),
-    ]
-    for name, outcome in cases:
-        after = {os.path.normpath(name): NEW} if outcome == SAVED else None
-        check_over(report, program, Case(f"save as {name[:20]!r}", ("ktedit", name), outcome,
+    cases = {name: message(3, f"{name}: cannot write") for name in (f"{longest}x", "no/k", "")}
+    for name, wanted in {**dict.fromkeys(("k", "./k", "k.krbfil", "krbfile", longest), SAVED), **cases}.items():
+        after = {os.path.normpath(name): NEW} if wanted == SAVED else None
+        check_over(report, program, Case(f"save as {name[:20]!r}", ("ktedit", name), wanted,
                                          {".krbfile": b"other", ".new": b"other"}, after, SCRIPT))
 
 
