@@ -1,23 +1,15 @@
-"""Copies over real files: what is held, read from a pipe, left alone, and kept of the file that is saved."""
+"""Copies over real files: what is read from a pipe, left alone, and kept of the file that is saved."""
 
-import fcntl
 import os
 import subprocess
-import time
-from concurrent.futures import ThreadPoolExecutor
-from functools import partial
 
 from makers.images import B, HOST, TWO, keytab
-from models.cases import ktcopy
-from models.copy_model import Request
 from runs.harness import Case, Outcome, Report, differences, folder_of, message, run
 from runs.rows import Line, printed, words_of
 from runs.terminal import EXPLAIN
-from system.file_locks import CLASH
 from system.pipe_files import fed
 from system.placing import explained
-from system.saving import Place, at, check_over, link, tree_faults
-from system.waits import AT_ONCE, faults_while_held
+from system.saving import CLASH, Place, at, check_over, link, tree_faults
 from words.phrases import CAUSES
 
 COPY = ("ktcopy", "k", "t")
@@ -95,32 +87,9 @@ def check_streams(report: Report, program: str) -> None:
         check_over(report, program, case, stdout=full)
 
 
-def check_locks(report: Report, program: str) -> None:
-    """Checks that no lock or hold of the keytab that is copied from is waited for."""
-    with folder_of({"k": TWO, "k.krbfile": b"held"}) as folder:
-        with open(os.path.join(folder, "k.krbfile"), "rb") as held, open(os.path.join(folder, "k"), "r+b") as locked:
-            fcntl.flock(held, fcntl.LOCK_EX)
-            fcntl.lockf(locked, fcntl.LOCK_EX)
-            begun = time.monotonic()
-            faults = differences(COPIED, run(program, COPY, folder))
-            seconds = time.monotonic() - begun
-        faults += tree_faults({"k": TWO, "k.krbfile": b"held", "t": TWO}, folder)
-    report.check("a held keytab to copy from", faults + ([] if seconds < AT_ONCE else [f"{seconds:.1f} seconds"]))
-
-
-def check_held(report: Report, program: str) -> None:
-    """Checks that a keytab that another run holds is not saved, and that a run with nothing to save ends as alone."""
-    rows = ((keytab(HOST), False, "saves"), (TWO, False, "has nothing to save"), (CLASH, False, "clashes"),
-            (keytab(), True, "only prints"))
-    cases = [ktcopy(TWO, target, request=Request(is_dry=is_dry), name=name) for target, is_dry, name in rows]
-    with ThreadPoolExecutor(len(cases)) as pool:
-        for case, faults in zip(cases, pool.map(partial(faults_while_held, program), cases)):
-            report.check(f"a held keytab to copy into: {case.name}", faults)
-
-
 def check(report: Report, program: str) -> None:
     """Runs this topic."""
     for case, places in ROWS:
         check_over(report, program, case, *places)
-    for each in (check_pipes, check_streams, check_locks, check_held):
-        each(report, program)
+    check_pipes(report, program)
+    check_streams(report, program)

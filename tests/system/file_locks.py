@@ -19,15 +19,15 @@ from runs.rows import BAD_LINE
 from runs.system_calls import Halt, check_traced, halted, traced, under_strace
 from runs.terminal import EXPLAIN
 from system.placing import ADD_LONG, EQUAL, LAST_OF_EACH, LONGER, PLACED, SHORTER, explained, refused, with_words
-from system.saving import HOLDING_NOTHING, OLD, SAVING_NOTHING, TGT, WALK, check_over, stands, tree_faults, unsaved
+from system.saving import (CLASH, COPIES, HOLDING_NOTHING, OLD, SAVING_NOTHING, TGT, WALK, check_over, stands,
+                           tree_faults, unsaved)
 from system.waits import AT_ONCE, LEAST_WAIT, LONGEST_WAIT, faults_of_waiting, ofd_lock
 from words.phrases import CAUSES
 
 # A run of each command that changes a file, in both ways.
 BOTH_WAYS = [way for case in LAST_OF_EACH for way in (case, in_place(case))]
 
-# A keytab that clashes with one of both, and scripts that can change nothing.
-CLASH = keytab(replace(B, key=b"other"))
+# Scripts that can change nothing.
 SCRIPTS = (b"", b"# none\n", WALK, b"resume 2\n", b"start\nfrob\n")
 
 # Runs that take no lock: those that list, such scripts, dry runs, copies of nothing, and lines of ktutil that read.
@@ -107,6 +107,11 @@ def ended_beside(program: str, case: Case, lock: str, file: str) -> tuple[list[s
         return faults + (["the folder, or a file, was changed"] if is_changed else []), seconds
 
 
+def with_file(case: Case, name: str) -> Case:
+    """Returns a run beside another file, which it leaves."""
+    return replace(case, files={**case.files, name: b"held"}, files_after={**case.files_after, name: b"held"})
+
+
 def check_no_waits(report: Report, program: str) -> None:
     """Checks that runs that change nothing wait for no lock, nor those that replace for one to read.
 
@@ -115,6 +120,7 @@ def check_no_waits(report: Report, program: str) -> None:
     rows = [(case, lock, file) for case in LOCKING_NOTHING for lock in (FLOCK, TO_WRITE) for file in case.files]
     rows += [(case, TO_READ, file_of(case)) for case in PLACED]
     rows += [(case, lock, "k") for case in BOTH_WAYS if case.words[0] == "ktcopy" for lock in (FLOCK, TO_WRITE)]
+    rows.append((with_file(COPIES[0], "k.krbfile"), FLOCK, "k.krbfile"))
     for case, lock, file in rows:
         faults, seconds = ended_beside(program, case, lock, file)
         faults += [] if seconds < AT_ONCE else [f"it took {seconds:.1f} seconds"]

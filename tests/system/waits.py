@@ -14,8 +14,8 @@ from contextlib import ExitStack, contextmanager
 
 from runs.harness import Case, Report, differences, folder_of
 from system.disk_faults import mounted
-from system.saving import (ADD, CHANGES, HOLDING_NOTHING, NEW, OLD, SAVED, SAVING_NOTHING, UNSAVED, edit, run_over,
-                           tree, tree_faults, unsaved, write)
+from system.saving import (ADD, CHANGES, COPIES, HOLDING_NOTHING, NEW, OLD, SAVED, SAVING_NOTHING, UNSAVED, edit,
+                           run_over, tree, tree_faults, unsaved, write)
 
 # More locks than fit in one read of the system's list, and enough of them to make the list slow.
 MANY = 300
@@ -147,8 +147,8 @@ def faults_while_held(program: str, case: Case) -> list[str]:
 
 
 def check_held(report: Report, program: str) -> None:
-    """Checks that while another run holds the cache, what needs no hold does not wait, and nothing is saved."""
-    cases = (*HOLDING_NOTHING, *SAVING_NOTHING, CHANGES[2])
+    """Checks that while another run holds the file, what needs no hold does not wait, and nothing is saved."""
+    cases = (*HOLDING_NOTHING, *SAVING_NOTHING, CHANGES[2], *COPIES)
     with ThreadPoolExecutor(len(cases)) as pool:
         for case, faults in zip(cases, pool.map(faults_while_held, [program] * len(cases), cases)):
             report.check(f"held by another: {case.name}", faults)
