@@ -18,8 +18,8 @@ from runs.namespaces import can_mount, run_within
 from runs.terminal import EXPLAIN
 from system.disk_faults import mounted
 from system.placing import EQUAL, LONGER, MIXED, PLACED, changed, explained, kept, refused, with_words
-from system.saving import (ADD, GROUP, NEW, OLD, SCRIPT, UNSAVED, USER, WALK, as_another, at, check_over, renamed,
-                           tree_faults, write)
+from system.saving import (ADD, GROUP, NEW, OLD, SCRIPT, UNSAVED, USER, as_another, check_over, renamed, tree_faults,
+                           write)
 from words.phrases import AFTERMATHS, CAUSES
 
 # A keytab that fills a page of 4,096 bytes but for less than an entry.
@@ -81,18 +81,6 @@ def check_kept(report: Report, program: str, case: Case, attributes: dict[str, b
         after = files_in(folder)
         faults += [] if after.pop("other") == after[name] else ["the other name has other bytes"]
     report.check(f"{placed.name}, with {[*attributes]}", faults + faults_of(placed, got, after))
-
-
-def check_unwritable(report: Report, program: str) -> None:
-    """Checks that a file that may not be written is loaded as ever, and that only its save is refused."""
-    options = as_another(program)
-    if options is None:
-        report.skip("files that may not be written", "none but root may start the program")
-        return
-    walk = in_place(ktedit(EQUAL.files["k"], WALK, name="walks over a file that may not be written"))
-    for case in (refused(in_place(EQUAL), "EACCES"), with_words(walk)):
-        check_over(report, program, case, at("k", lambda path: os.chmod(path, 0o444)),
-                   at(".", lambda path: os.chmod(path, 0o777)), **options)
 
 
 def check_set_id(report: Report, program: str) -> None:
@@ -197,15 +185,6 @@ def check_sparse(report: Report, program: str) -> None:
     report.check("a sparse file on a full disk", faults)
 
 
-def check_beside(report: Report, program: str) -> None:
-    """Checks that what has the new file's name is not looked at."""
-    makes = {"a folder": os.mkdir, "a pipe": os.mkfifo, "a link to the file": lambda path: os.symlink("k", path),
-             "what a killed run left": lambda path: write(path, b"left")}
-    for what, make in makes.items():
-        case = replace(in_place(ADD), name=f"{what} in the new file's place, in place")
-        check_over(report, program, case, at("k.krbfile", make))
-
-
 def check_all_kept(report: Report, program: str) -> None:
     """Checks what each command keeps of a file of those attributes."""
     for case, attributes in product(PLACED, kinds(report)):
@@ -214,6 +193,5 @@ def check_all_kept(report: Report, program: str) -> None:
 
 def check(report: Report, program: str) -> None:
     """Runs this topic."""
-    for each in (check_all_kept, check_unwritable, check_set_id, check_mounted, check_disks, check_limit, check_sparse,
-                 check_beside):
+    for each in (check_all_kept, check_set_id, check_mounted, check_disks, check_limit, check_sparse):
         each(report, program)

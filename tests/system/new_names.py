@@ -73,7 +73,9 @@ def faults_in_the_way(program: str, make: Make, mode: int, owner: int | None, ca
     if owner is not None:
         files |= case.files
         places.insert(0, at(case.words[-1], lambda path: os.chown(path, owner, -1)))
-    case = replace(case, wanted=unsaved(case), files=files, files_after=None)
+    if IN_PLACE not in case.words:
+        case = replace(case, wanted=unsaved(case), files_after=None)
+    case = replace(case, files=files)
     return faults_over(program, case, *places, **options)
 
 
@@ -83,6 +85,9 @@ def check_strange(report: Report, program: str) -> None:
     cases = [(f"{name}: {case.name}", make, 0o700, os.geteuid(), {"case": case})
              for name, make in STRANGE for case in CHANGES]
     cases += [("a folder where no file is", os.mkdir, 0o700, None, {})]
+    # A save in place looks at none of them, also not at what a killed run left.
+    cases += [(f"{name}, in place", make, 0o700, os.geteuid(), {"case": in_place(ADD)})
+              for name, make in (*STRANGE[:-1], ("a file", owned_by(os.geteuid())))]
     if root:
         cases += [("a user's file beside root's", owned_by(STRANGER), 0o700, 0, {}),
                   ("a user's file where no file is", owned_by(STRANGER), 0o700, None, {}),
