@@ -62,12 +62,6 @@ REMOVE = 'exec "$0" ktremove -p host/a@R d/k'
 # With the standard streams, and with the error output alone.
 RUNS = ((REMOVE, REMOVAL.wanted), (f"{REMOVE} <&- >&-", message(3, "cannot write output")))
 
-# What has to be synced, each by its handle: the new file from its mode to the rename, and then its folder.
-SYNCS = {
-    "the new file": r'^fchmod\((\d+), .*^fsync\(\1\) += 0$.*^rename',
-    "its folder": r'^rename[^\n]*"d/k\.krbfile"[^\n]* = 0\nopen[^\n]*"d", [^\n]* = (\d+)\nfsync\(\1\) += 0$',
-}
-
 # A write of the new bytes, which begin as every keytab does, and the first number of a handle that is no stream.
 WRITTEN = re.compile(r'write\((\d+), "\\5\\2')
 FIRST = 3
@@ -129,20 +123,17 @@ def faults_of_kill(program: str, folder: str, outcome: Outcome) -> list[str]:
     return faults + tree_faults({"k": TARGET, TARGET: NEW}, folder)
 
 
-def check_order(report: Report, program: str) -> None:
-    """Checks what no failure shows: the new file is synced before it is renamed, the folder that it is in after that,
-    and it is not written by the handle of a standard stream."""
+def check_handles(report: Report, program: str) -> None:
+    """Checks what no failure shows: the new file is not written by the handle of a standard stream."""
     for script, wanted in RUNS:
         with folder_of({}) as folder:
             os.mkdir(os.path.join(folder, "d"))
             write(os.path.join(folder, "d", "k"), TWO)
             outcome, trace = traced("sh", Line(("-c", script, program)), folder)
             faults = differences(wanted, outcome) + tree_faults({"d": "d", "d/k": REMOVAL.files_after["k"]}, folder)
-        faults += [f"{what} is not synced in time" for what, calls in SYNCS.items()
-                   if not re.search(calls, "\n".join(trace), re.MULTILINE | re.DOTALL)]
         handles = [int(found[1]) for found in map(WRITTEN.match, trace) if found]
         faults += [] if handles and min(handles) >= FIRST else [f"the new bytes are written by {handles}"]
-        report.check(f"the order of a save: {script}", faults)
+        report.check(f"the handle of a save: {script}", faults)
 
 
 def check_calls(report: Report, program: str, *options: str) -> None:
@@ -253,5 +244,5 @@ def check_no_proc(report: Report, program: str) -> None:
 def check(report: Report, program: str) -> None:
     """Runs this topic."""
     check_traced(report, program, "system calls that fail",
-                 check_order, check_both_ways, check_kills, check_causes, check_missing, check_owner, check_lock,
+                 check_handles, check_both_ways, check_kills, check_causes, check_missing, check_owner, check_lock,
                  check_no_proc)

@@ -14,7 +14,6 @@ from dataclasses import replace
 from keytabs.ktutil_lines import TWO_LISTED, lines
 from keytabs.listings import B_LINE, HOST_LINE, case
 from makers.images import B, HOST, TWO, Entry, keytab
-from makers.usual_caches import USUAL
 from models.cases import frame, klist, klist_cache, klist_cache_json, klist_json, ktutil
 from models.modelled import Modelled, mixed_cache, mixed_keytab, modelled, small
 from runs.harness import SECONDS, Case, Outcome, Report, differences, folder_of, message, run, run_case
@@ -68,18 +67,9 @@ HELP = (("--help",), ("klist", "--help"))
 # longer than a write may be.
 LONGEST, MESSAGE = 32_768 + 2_000, 1 << 20
 
-# Lines of each command that needs no input, also with mistakes, each with its status over these files, which others may
-# read.
-BESIDE = {"k": TWO, "c": USUAL}
-LINES = {
-    "klist -k k": 0, "klist c": 0, "klist --json c": 0, "klist -s c": 1, "klist no": 1, "klist -x": 2,
-    "ktfind k 0 0 b@R": 0, "ktcheck k": 1, "ktcheck k k": 1,
-    "ktremove -n -p b@R k": 0, "ktremove -p b@R k": 0, "ktremove --in-place -p host/a@R k": 0, "ktremove k": 2,
-    "ktcopy -n k no": 0, "ktcopy k new": 0, "ktcopy no k": 1,
-    "ccremove -n -p krbtgt/R@R c": 0, "ccremove --in-place -p krbtgt/R@R c": 0,
-    "hold no": 1, "hold -k c": 1, "hold -k no/k": 3, "hold --v1-big k": 2,
-    "--help": 0, "--version": 0, "help ktedit": 0, "ktedit --help": 0, "ktedit": 2, "frob": 2, "": 2,
-}
+# Lines of commands that need no input, each with its status over a keytab.
+LINES = {"klist -k k": 0, "klist -s no": 1, "ktcheck k k": 1, "ktremove -p b@R k": 0, "ktremove --in-place -p b@R k": 0,
+         "ktcopy k new": 0, "hold no": 1, "hold -k no/k": 3, "ktedit --help": 0, "ktedit": 2}
 
 # What reads the input after a run, and ends with its status.
 THEN_READ = '"$0" "$@" > out 2>&1; status=$?; cat; exit $status'
@@ -195,7 +185,7 @@ def check_pieces(report: Report, program: str) -> None:
 def check_left(report: Report, program: str) -> None:
     """Checks that who reads from the input after a command that needs none gets all of it."""
     for line, status in LINES.items():
-        with folder_of(BESIDE) as folder:
+        with folder_of({"k": TWO}) as folder:
             got = run("sh", ("-c", THEN_READ, program, *words_of(line)), folder, GIVEN)
         report.compare(f"the input is left: {shown(line)}", Outcome(status, GIVEN), got)
 
