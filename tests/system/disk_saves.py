@@ -14,8 +14,8 @@ from runs.terminal import EXPLAIN
 from system.pipe_files import fed
 from system.placing import PLACED, explained
 from system.saving import (ADD, CHANGES, CLASH, GROUP, HOLDING_NOTHING, NEW, OLD, SAVED, SAVING_NOTHING, SCRIPT, UNREAD,
-                           UNSAVED, USER, WALK, Owned, Place, as_another, as_user, at, check_over, link, owned, run_over, tree,
-                           tree_faults, unsaved, write)
+                           UNSAVED, USER, WALK, Owned, Place, as_another, as_user, at, check_over, link, owned,
+                           run_over, tree, tree_faults, unsaved, write)
 from words.phrases import CAUSES
 
 # Runs that make a file, and copies over a keytab, and over a file of no bytes.
