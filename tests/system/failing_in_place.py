@@ -7,13 +7,12 @@ and if that fails too, a message says so.
 import os
 import re
 import signal
-from collections.abc import Iterator
 
 from makers.images import B, HOST, keytab
 from models.cases import IN_PLACE, in_place, ktutil
 from models.modelled import modelled
 from runs.harness import Case, Outcome, Report, differences, files_in, folder_of, run
-from runs.preload import MOST_CALLS, Line, Preloaded, preloaded
+from runs.preload import Line
 from runs.rows import shown
 from runs.system_calls import Call, calls_of, check_traced, traced, under_strace
 from runs.terminal import EXPLAIN
@@ -32,9 +31,6 @@ PLACE = re.compile(r"(?:pwrite64\(\d+, .*, \d+|ftruncate\(\d+), (\d+)\) ")
 CHANGES = WRITE, CUT, SYNC = ("pwrite64", "ftruncate", "fsync")
 CALLS = ((LONGER, (WRITE, SYNC)), (MIXED, (WRITE, SYNC, WRITE, SYNC)), (EQUAL, (WRITE, SYNC)),
          (SHORTER, (WRITE, CUT, SYNC)), (CUT_OFF, (CUT, SYNC)))
-
-# How many bytes a write moves at most where it moves few.
-FEW = 7
 
 ERRORS = ("EIO", "ENOSPC", "EDQUOT")
 KILLED = Outcome(-signal.SIGKILL)
@@ -180,29 +176,7 @@ def check_kills(report: Report, program: str) -> None:
                 report.check(f"killed at {call}: {placed.name}", killed(program, placed, call))
 
 
-def faults_at(under: Preloaded, case: Case, **settings: int) -> Iterator[list[str]]:
-    """Yields the faults of a run of which a write of few bytes fails, for each such write."""
-    over, line = under.over(case.files), Line(case.words, case.stdin)
-    for nth in range(1, MOST_CALLS):
-        got = over.run(line, MOST=FEW, **{name: nth for name in settings}, ERROR=28)
-        if not got.failures:
-            yield differences(case.wanted, got.outcome) + ([] if got.files == case.files_after else ["other files"])
-            return
-        yield differences(unsaved(case), got.outcome) + ([] if got.files == case.files else [f"{nth} loses bytes"])
-
-
-def check_parts(report: Report, program: str) -> None:
-    """Lets each write fail, or write nothing, where a write moves few bytes: what was written is undone."""
-    with preloaded(report, program, "writes in place of few bytes", {}) as under:
-        for case in map(in_place, (LONGER, MIXED, SHORTER)) if under else ():
-            for setting in ("FAIL_SAVE", "ZERO_SAVE"):
-                found = [*faults_at(under, case, **{setting: 1})]
-                few = ["too few writes"] if len(found) < 4 else []
-                report.check(f"{setting}: {case.name}", few + sum(found, [])[:3])
-
-
 def check(report: Report, program: str) -> None:
     """Runs this topic."""
     check_traced(report, program, "system calls of saves in place that fail", check_failures, check_talk,
                  check_steps, check_kills)
-    check_parts(report, program)

@@ -1,8 +1,8 @@
 """Each read and each write of each command fails, by several errors, or moves few bytes.
 
 The expected results are those of the models. An interrupted read or write counts as failed, but a write in place is
-repeated. A file that was replaced is read once more, and nothing is said where that fails; one that was saved in place
-is read once more too, and that is said.
+repeated; after one in place that fails the old bytes are back. A file that was replaced is read once more, and nothing
+is said where that fails; one that was saved in place is read once more too, and that is said.
 """
 
 from collections.abc import Iterable, Iterator
@@ -213,7 +213,7 @@ def faults_of_call(
 
 
 # How many bytes a call moves, and how one fails: over small files, and over larger ones.
-OF_SMALL = (*((WHOLE, error) for error in ERRORS), (FEW, EINTR))
+OF_SMALL = (*((WHOLE, error) for error in ERRORS), (FEW, EINTR), (FEW, ENOSPC))
 OF_LARGE = ((WHOLE, EINTR), (20_000, EACCES))
 
 
