@@ -248,13 +248,10 @@ def check_pipes(report: Report, program: str) -> None:
     report.check("a pipe to copy into, in a dry run", faults)
 
 
-def check_streams(report: Report, program: str) -> None:
-    """Checks a file as standard input, and that a keytab is saved before an output that fails."""
+def check_input(report: Report, program: str) -> None:
+    """Checks a file as standard input."""
     line = ("-c", 'exec "$0" ktcopy /dev/stdin t < k', program)
     check_over(report, "sh", copy("a file as standard input", line, {"k": TWO}, after=TWO))
-    with open("/dev/full", "wb") as full:
-        case = copy("an output that fails", COPY, {"k": TWO}, message(3, "cannot write output"), TWO)
-        check_over(report, program, case, stdout=full)
 
 
 def check(report: Report, program: str) -> None:
@@ -262,7 +259,7 @@ def check(report: Report, program: str) -> None:
     check_new_files(report, program)
     for each in (check_own_files, check_others_files, check_hard_links):
         each(report, program, (*CHANGES, *COPIES))
-    for each in (check_links, check_removed, check_locked_folder, check_pipes, check_streams):
+    for each in (check_links, check_removed, check_locked_folder, check_pipes, check_input):
         each(report, program)
     for case, places in ROWS:
         check_over(report, program, case, *places)

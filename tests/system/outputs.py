@@ -14,7 +14,7 @@ from dataclasses import replace
 from keytabs.ktutil_lines import TWO_LISTED, lines
 from keytabs.listings import B_LINE, HOST_LINE, case
 from makers.images import B, HOST, TWO, Entry, keytab
-from models.cases import frame, klist, klist_cache, klist_cache_json, klist_json, ktutil
+from models.cases import klist, klist_cache, klist_cache_json, klist_json, ktutil
 from models.modelled import Modelled, mixed_cache, mixed_keytab, modelled, small
 from runs.harness import SECONDS, Case, Outcome, Report, differences, folder_of, message, run, run_case
 from runs.limits import limit
@@ -144,16 +144,12 @@ def check_lost(report: Report, program: str, stream: str) -> None:
                 report.check(f"{how} {stream}: {' '.join(words)}", differences(NO_OUTPUT, got))
 
 
-def check_lost_input(report: Report, program: str, words: tuple[str, ...], out: bytes = b"") -> None:
-    """Checks an input that is a folder, or closed."""
-    with folder_of(FILES) as folder:
-        for name, close in (("a folder", None), ("closed", lambda: os.close(0))):
-            opened = os.open(folder, os.O_RDONLY)
-            done = subprocess.run([program, *words], cwd=folder, stdin=opened, check=False,
-                                  capture_output=True, preexec_fn=close)
-            os.close(opened)
-            got = Outcome(done.returncode, done.stdout, done.stderr)
-            report.compare(f"input that is {name}: {' '.join(words)}", replace(NO_INPUT, out=out), got)
+def check_closed_input(report: Report, program: str) -> None:
+    """Checks an input that is closed."""
+    for words in (("ktedit", "k"), ("ktutil",), ("ccedit", "c")):
+        with folder_of(FILES) as folder:
+            got = run(program, words, folder, preexec_fn=lambda: os.close(0))
+        report.compare(f"a closed input: {' '.join(words)}", NO_INPUT, got)
 
 
 def pieces_of(program: str, case: Case) -> tuple[Outcome, list[int]]:
@@ -205,8 +201,6 @@ def check(report: Report, program: str) -> None:
             check_closed_pipe(report, program, taken, action)
     check_lost(report, program, "stdout")
     check_lost(report, program, "stderr")
-    for words in (("ktedit", "k"), ("ktutil",), ("ccedit", "c")):
-        check_lost_input(report, program, words)
-    check_lost_input(report, program, ("hold", "-k", "k"), frame(TWO))
+    check_closed_input(report, program)
     check_pieces(report, program)
     check_left(report, program)
