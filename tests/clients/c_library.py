@@ -1,25 +1,41 @@
 """The C library: C programs over it beside `krbfile`, with refused memory, and a search for keys left in memory."""
 
+import fcntl
 import os
 import shutil
+import signal
 import subprocess
 from collections.abc import Iterable
+from dataclasses import replace
 
 from clients.c_exports import prototypes
+from clients.examples import folder_with
 from makers.cache_images import cache
-from makers.images import TWO
+from makers.images import HOST, TWO, keytab
 from makers.samples import SAMPLES
 from makers.usual_caches import PA_TYPE, TICKET, USUAL
 from models.cases import frame
 from pages.documents import literals
+from pages.readme import surroundings
 from peers import corpus
-from runs.harness import SECONDS, TOP, Outcome, Report, differences, files_in, folder_of, run
+from runs.harness import SECONDS, TOP, Outcome, Report, differences, files_in, folder_of, message, run
+from runs.system_calls import check_traced
+from system.saving import owned, tree_faults
 
 LIBRARY = os.path.join(TOP, "lib", "libkrbfile.a")
 SHARED = os.path.join(TOP, "lib", "libkrbfile.so.1")
 SOURCES = os.path.join(TOP, "tests", "c")
 STRICT = ("-std=c11", "-D_POSIX_C_SOURCE=200809L", "-Wall", "-Wextra", "-Werror", "-g", "-O1")
 SANITIZED = ("-fsanitize=address,undefined", "-fno-sanitize-recover=all")
+# What runs the example of krbfile(3) that edits the keytab of its word. The status is 0 iff it saved.
+MAIN = """
+#include <signal.h>
+
+int main(int argc, char **argv) {
+    signal(SIGPIPE, SIG_IGN);
+    return argc != 2 || drop_rc4(argv[1]) != 0;
+}
+"""
 ADDED = "add 200 17 1700000000 000102030405060708090a0b0c0d0e0f c/abi@EXAMPLE.ORG\n"
 
 
@@ -99,16 +115,39 @@ PROGRAM_RUNS = (
 
 def check_example(report: Report, program: str) -> None:
     """Checks that the first example of krbfile(3) leaves the same keytab as `ktremove`, and prints no part of one."""
-    keytab, source = SAMPLES["mixed.keytab"], literals("docs/krbfile.3")[0]
-    with folder_of({"k": keytab, "filter.c": source.encode()}) as folder:
+    mixed, source = SAMPLES["mixed.keytab"], literals("docs/krbfile.3")[0]
+    with folder_of({"k": mixed, "filter.c": source.encode()}) as folder:
         built = build(folder, "filter", sources=folder)
-        got = run(built, (), folder, keytab)
+        got = run(built, (), folder, mixed)
         run(program, ("ktremove", "-e", "23", "k"), folder)
         report.compare("the example of krbfile(3)", Outcome(0, files_in(folder)["k"]), got)
         hole = (-(1 << 24)).to_bytes(4, "big", signed=True) + bytes(1 << 24)
-        for what, image in (("damaged", keytab + b"\x7f"), ("large", TWO + hole)):
+        for what, image in (("damaged", mixed + b"\x7f"), ("large", TWO + hole)):
             got = run(built, (), folder, image)
             report.compare(f"the example of krbfile(3), {what}", Outcome(1), got)
+
+
+def check_edit(report: Report, program: str) -> None:
+    """Checks that the example of krbfile(3) that edits a file by `krbfile hold` saves it, with its mode, but not while
+    another program has its lock, nor if it is killed between the length and the bytes. On the page a backslash is
+    `\\e`."""
+    old, new = SAMPLES["mixed.keytab"], keytab(HOST, 41)
+    (shown,) = (text for text in literals("docs/krbfile.3") if "posix_spawnp(" in text)
+    killed = ("strace", "-o", os.devnull, "-e", "trace=write", "-e", "inject=write:signal=KILL:when=2")
+    rows = [((), fcntl.LOCK_UN, Outcome(0), new), ((), fcntl.LOCK_EX, message(1, "k: cannot write"), old)]
+    rows += [(killed, fcntl.LOCK_UN, replace(message(1, "input is not whole"), status=-signal.SIGKILL), old)]
+    source = (shown + MAIN).replace("\\e", "\\").encode()
+    with folder_of({"edit.c": source}) as folder, folder_with(program) as programs:
+        built = build(folder, "edit", sources=folder)
+        for front, lock, wanted, after in rows:
+            with folder_of({"k": old}) as at, open(os.path.join(at, "k"), "rb") as file:
+                os.chmod(file.fileno(), 0o640)
+                fcntl.flock(file, lock)
+                first, *rest = [*front, built, "k"]
+                faults = differences(wanted, run(first, rest, at, env=surroundings(programs)))
+                faults += tree_faults({"k": after}, at)
+                faults += [] if owned(os.path.join(at, "k")).mode == 0o640 else ["another mode"]
+            report.check(f"the edit of krbfile(3) ends with {wanted.status}", faults)
 
 
 def check_memory(report: Report, folder: str) -> None:
@@ -165,6 +204,7 @@ def check(report: Report, program: str) -> None:
         check_lists(report, program, folder, "caches", "-c",
                     (USUAL, cache(TICKET, PA_TYPE), *corpus.images("ccache"), b"", b"\5\4\0", TWO))
         check_example(report, program)
+        check_traced(report, program, "the edit of krbfile(3)", check_edit)
         check_given(report, folder)
         check_memory(report, folder)
         check_keys(report, program, folder)

@@ -5,21 +5,14 @@ import re
 import shutil
 import sys
 import tarfile
-from collections.abc import Iterator
-from contextlib import contextmanager
 
 from makers.images import TWO
 from pages.documents import read
 from pages.readme import SHOWN
 from runs.harness import TOP, Outcome, Report, files_in, folder_of, run
 
-# What is packed besides text, the sources that it is built of, and tools that build it, each by its name in Makefile.
+# What is built and packed.
 BUILT = ("bin/krbfile-static", "lib/libkrbfile.a", "lib/libkrbfile.so.1")
-STAGES = ("crates/krbfile/out/krbfile", "crates/krb_c/out/libkrb_c.a", "lib/krbfile.o")
-SOURCES = ("crates.txt", *(f"crates/krbfile/{part}/lib.rt" for part in ("src", "specs", "proofs")))
-VERSION = "crates/krbfile/src/command_lines.rt"
-CONFIG = "c/krbfile.pc.in"
-TOOLS = ("CC=false", "LD=false", "AR=false")
 
 # Python's module, and what builds it where pip installs it.
 MODULE = tuple(f"python/krbfile/{name}" for name in os.listdir(os.path.join(TOP, "python", "krbfile"))
@@ -48,9 +41,11 @@ LINK = "lib/libkrbfile.so"
 # What others run.
 PROGRAMS = ("bin/krbfile", "lib/libkrbfile.so.1")
 
-# What is installed of them besides the module, and what belongs to the program alone.
+# What is installed of them, by target and besides the module, and the program that is: the static one.
 FOLDERS = ("bin/", "include/", "lib/", "share/")
-OF_PROGRAM = {path for path in FILES if path.startswith(("bin/", "share/")) and not path.endswith(".3")}
+INSTALLED = {"install-program": {path for path in FILES if path.startswith(("bin/", "share/")) and path[-1] != "3"},
+             "install": {*(path for path in FILES if path.startswith(FOLDERS)), *MODULE}}
+OF_STATIC = (f"PROGRAM={BUILT[0]}", *(word for name in BUILT for word in ("-o", name)))
 
 # 2026-01-01.
 TIME = 1_767_225_600
@@ -144,9 +139,8 @@ def check_installed(report: Report, folder: str, top: str) -> None:
 
 def check_archive(report: Report) -> None:
     """Packs what is built twice, up to date or not, and unpacks it."""
-    as_built = [word for name in BUILT for word in ("-o", name)]
     with folder_of({}) as one, folder_of({}) as two:
-        made = [make(TOP, *as_built, f"DIST={one}", "dist"), make(TOP, *as_built, f"DIST={two}", "dist", **ELSEWHERE)]
+        made = [make(TOP, *OF_STATIC, f"DIST={one}", "dist"), make(TOP, *OF_STATIC, f"DIST={two}", "dist", **ELSEWHERE)]
         report.check("make dist", [f"{each}" for each in made if each.status != 0])
         packed = files_in(one)
         report.check("the archive made twice", [] if packed and packed == files_in(two) else [*packed])
@@ -162,56 +156,25 @@ def check_archive(report: Report) -> None:
             check_library(report, top)
 
 
-@contextmanager
-def repository() -> Iterator[str]:
-    """Yields a repository in which all is built, of a few bytes each, and nothing can be proved."""
-    with folder_of({"Makefile": read("Makefile").encode()}) as top:
-        texts = [source for source in FILES.values() if source and source not in BUILT]
-        for age, name in enumerate((VERSION, CONFIG, "c/krbfile.map", *texts, *SOURCES, *STAGES, *BUILT)):
-            path = os.path.join(top, name)
-            os.makedirs(os.path.dirname(path), exist_ok=True)
-            with open(path, "w", encoding="utf-8") as file:
-                file.write(read(name) if name in (VERSION, CONFIG) else "built")
-            os.utime(path, (10**9 + age, 10**9 + age))
-        os.makedirs(os.path.join(top, "tests"))
-        with open(os.path.join(top, "tests", "prove"), "w", encoding="ascii") as file:
-            file.write("#!/bin/sh\necho proves $1\nexit 1\n")
-            os.chmod(file.name, 0o755)
-        yield top
-
-
 def check_made(report: Report) -> None:
-    """Checks what is installed where all is built, and that python3 finds it below its own prefix; that what is up to
-    date is neither proved, built nor packed again, and that all else is."""
-    whole = {path for path in FILES if path.startswith(FOLDERS)} | {*MODULE}
-    with repository() as top:
-        for target, wanted in (("install-program", OF_PROGRAM), ("install", whole)):
-            made = make(top, target, "DESTDIR=root", "PREFIX=/opt", "PYTHONDIR=/opt/python", *TOOLS)
-            found = files_in(os.path.join(top, "root", "opt"))
-            is_set = target != "install" or found.get("lib/pkgconfig/krbfile.pc", b"").startswith(b"prefix=/opt\n")
-            report.check(f"make {target}", [f"{made}"] * (made.status != 0 or found.keys() != wanted or not is_set))
-        got = run("python3", ("-c", "import sys; print(*sys.path, sys.prefix, sep='\\n')"), TOP)
-        *folders, prefix = got.out.decode().splitlines()
-        made = make(top, "--dry-run", "install", f"PREFIX={prefix}", *TOOLS)
-        put = re.findall(r"^mkdir -p (/.*)/krbfile$", made.out.decode(), re.MULTILINE)
-        report.check("python3 finds what is installed", [] if put and {*put} <= {*folders} else [f"{put}, {folders}"])
-        for source, is_packed, *crates in (("README.md", True), ("", False), ("c/krbfile.h", True),
-                                           (SOURCES[1], False, b"krbfile", b"krb_c")):
-            if source:
-                os.utime(os.path.join(top, source))
-            got = make(top, "--keep-going", "dist", *TOOLS)
-            found = (got.status == 0, b"\ntar " in got.out, re.findall(rb"^proves (\w+)$", got.out, re.MULTILINE))
-            report.check(f"make dist after a change of {source or 'nothing'}",
-                         [] if found == (not crates, is_packed, crates) else [f"{got}"])
+    """Checks what is installed, and that python3 finds it below its own prefix."""
+    for target, wanted in INSTALLED.items():
+        with folder_of({}) as root:
+            made = make(TOP, *OF_STATIC, target, f"DESTDIR={root}", "PREFIX=/opt", "PYTHONDIR=/opt/python")
+            found = files_in(os.path.join(root, "opt"))
+        is_set = target != "install" or found.get("lib/pkgconfig/krbfile.pc", b"").startswith(b"prefix=/opt\n")
+        report.check(f"make {target}", [f"{made}"] * (made.status != 0 or found.keys() != wanted or not is_set))
+    got = run("python3", ("-c", "import sys; print(*sys.path, sys.prefix, sep='\\n')"), TOP)
+    *folders, prefix = got.out.decode().splitlines()
+    made = make(TOP, "--dry-run", *OF_STATIC, "install", f"PREFIX={prefix}")
+    put = re.findall(r"^mkdir -p (/.*)/krbfile$", made.out.decode(), re.MULTILINE)
+    report.check("python3 finds what is installed", [] if put and {*put} <= {*folders} else [f"{put}, {folders}"])
 
 
 def check(report: Report, _program: str) -> None:
     """Runs this topic, over what is built."""
-    if shutil.which("make") is None:
-        report.skip("the archive", "make is not there")
+    if shutil.which("make") is None or not all(os.path.exists(os.path.join(TOP, name)) for name in BUILT):
+        report.skip("the archive", "make is not there, or not all that it packs: make static lib builds it")
         return
     check_made(report)
-    if all(os.path.exists(os.path.join(TOP, name)) for name in BUILT):
-        check_archive(report)
-    else:
-        report.skip("the archive", "not all that it packs is there: make static lib builds it")
+    check_archive(report)

@@ -1,33 +1,33 @@
 """Lines that leave out the file, beside those that give one: which is bad, and for what reason first."""
 
 from collections.abc import Iterator
+from dataclasses import replace
 
 from makers.images import TWO
 from models.named_runs import CACHE
-from runs.rows import words_of
-from words.explained import Explained, Output
+from words.explained import Explained, unchanged
 
 CCNAME, KTNAME = "KRB5CCNAME", "KRB5_KTNAME"
 FILES = {"k": TWO, "c": CACHE}
 BAD = "bad command line"
 
 
-def line(words: str, env: dict[str, str | bytes], status: int, output: Output = ()) -> Explained:
+def line(words: str, env: dict[str, str | bytes], status: int, *output: tuple[str, str]) -> Explained:
     """Returns a line in an environment that has nothing else, and its messages."""
-    return Explained(f"{words} with {env}", words_of(words), output, FILES, status=status, out=b"", after=FILES,
-                     options={"env": env})
+    one = unchanged(words, *output, files=FILES, status=status, options={"env": env})
+    return replace(one, name=f"{words} with {env}")
 
 
 def bad(words: str, env: dict[str, str | bytes], phrase: str) -> Explained:
     """Returns a bad line, and what is wrong with it."""
-    return line(words, env, 2, ((BAD, f"{phrase}; see krbfile {words.split()[0]} --help"),))
+    return line(words, env, 2, (BAD, f"{phrase}; see krbfile {words.split()[0]} --help"))
 
 
 def read(variable: str, *lines: str) -> Iterator[Explained]:
     """Yields lines whose file a variable names: one that is missing, and a value that is not UTF-8."""
     for words in lines:
-        missing = () if "-s" in words else (("no: no such file", f"{variable} names it"),)
-        yield line(words, {variable: "FILE:no"}, 1, missing)
+        missing = [] if "-s" in words else [("no: no such file", f"{variable} names it")]
+        yield line(words, {variable: "FILE:no"}, 1, *missing)
         for value in (b"\xff", b"FILE:c\xc3", b"\xed\xa0\x80"):
             yield bad(words, {variable: value}, f"{variable} is not UTF-8")
 

@@ -2,18 +2,17 @@
 
 import os
 import shutil
-from collections.abc import Iterator
+from collections.abc import Callable, Iterator
 from contextlib import contextmanager, nullcontext
-from dataclasses import dataclass
 
 from keytabs.file_names import NOBODY
 from makers.images import TWO
 from models.name_model import FileName, Kind
-from models.named_runs import CACHE, COMMANDS, KLIST, KLIST_CACHE, NEITHER, Command, Ended
+from models.named_runs import CACHE, COMMANDS, KLIST, KLIST_CACHE, NEITHER, Ended
 from names.default_files import BAD, CCNAME, KTNAME
 from runs.harness import Report, folder_of, run
 from runs.namespaces import STATUS, can_mount, run_within
-from runs.rows import shown, words_of
+from runs.rows import Line, shown, words_of
 from runs.terminal import EXPLAIN
 from system.saving import write
 from words.phrases import DEFAULT
@@ -32,6 +31,9 @@ UNKNOWN = {
     "an empty text": b"", "no line": b"Name:\tkrbfile\nGid:\t9\t9\t9\t9\n", "no number": b"Uid:\n",
     "no number of a user": b"Uid:\tx\t0\t0\t0\n", "a line of another name": b"xUid:\t5\t5\t5\t5\n",
 }
+
+# Compares the end of a line under a name, in an environment.
+Compare = Callable[..., None]
 
 # Environments in which the default is taken: none, an empty value, and a value for the other kind.
 UNNAMED = {Kind.KEYTAB: ({}, {KTNAME: ""}, {CCNAME: "c"}), Kind.CACHE: ({}, {CCNAME: ""}, {KTNAME: "c"})}
@@ -59,63 +61,52 @@ def own_cache(user: int, image: bytes) -> Iterator[str | None]:
         os.remove(path)
 
 
-@dataclass(frozen=True)
-class System:
-    """Another /etc, and what the system tells of a run, for runs in a folder."""
-
-    folder: str
-    mounts: dict[str, str]
-
-    def compare(self, report: Report, program: str, name: str, line: str | Command, wanted: Ended,
-                env: dict[str, str | bytes] | None = None) -> None:
-        """Compares the end of a line, or of a command that leaves out its file, and what explains its message."""
-        for explains in (False, True):
-            words = (*[EXPLAIN] * explains, *(line.words(None) if isinstance(line, Command) else words_of(line)))
-            env = {"PATH": os.environ["PATH"], **(env or {})}
-            got = run_within(program, words, self.folder, self.mounts, env=env)
-            report.compare(f"{name}, {env}: {shown(words)}", wanted.outcome(explains), got)
-
-    def check_default(self, report: Report, program: str, file: FileName, kind: Kind, place: bytes | None) -> None:
-        """Checks each command that may leave out its file, over what is under the default name: its image, if that
-        is a good one."""
-        for command in (each for each in COMMANDS if each.has_default and each.kind is kind):
-            image = command.image if place in (TWO, CACHE) else place
-            if kind is Kind.CACHE and image is not None:
-                write(os.fsdecode(file.text), image)
-            for env in UNNAMED[kind]:
-                self.compare(report, program, f"{file.text}, {len(image or b'')} bytes", command,
-                             command.ended(file, image), env)
-
-
 @contextmanager
-def other_system(keytab: bytes | None, status: bytes | None = None,
-                 mounts: dict[str, str] | None = None) -> Iterator[System]:
-    """Yields such files: a default keytab or none, another text that tells of the run, and other mounts."""
+def other_system(report: Report, program: str, keytab: bytes | None, status: bytes | None = None,
+                 mounts: dict[str, str] | None = None) -> Iterator[Compare]:
+    """Yields what compares the end of a line, and what explains its message, beside a default keytab or none, another
+    text that tells of the run, and other mounts."""
     with folder_of({"c": CACHE, "status": status or b""}) as folder:
         etc = os.path.join(folder, "etc")
         os.mkdir(etc)
         if keytab is not None:
             write(os.path.join(etc, "krb5.keytab"), keytab)
         status_file = {} if status is None else {STATUS: os.path.join(folder, "status")}
-        yield System(folder, {"/etc": etc, **status_file, **(mounts or {})})
+        places = {"/etc": etc, **status_file, **(mounts or {})}
+
+        def compare(name: str, line: str | Line, wanted: Ended, env: dict[str, str | bytes] | None = None) -> None:
+            for explains in (False, True):
+                words, own = (*[EXPLAIN] * explains, *words_of(line)), {"PATH": os.environ["PATH"], **(env or {})}
+                got = run_within(program, words, folder, places, env=own)
+                report.compare(f"{name}, {own}: {shown(words)}", wanted.outcome(explains), got)
+
+        yield compare
+
+
+def check_default(compare: Compare, file: FileName, kind: Kind, place: bytes | None) -> None:
+    """Checks each command that may leave out its file, over what is under the default name: its image, if that is a
+    good one."""
+    for command in (each for each in COMMANDS if each.has_default and each.kind is kind):
+        image = command.image if place in (TWO, CACHE) else place
+        if kind is Kind.CACHE and image is not None:
+            write(os.fsdecode(file.text), image)
+        for env in UNNAMED[kind]:
+            compare(f"{file.text}, {len(image or b'')} bytes", command.words(None), command.ended(file, image), env)
 
 
 def check_defaults(report: Report, program: str) -> None:
     """Checks the default keytab, and the default cache, whose name has the number of the real user."""
     for place in (TWO, NEITHER, None):
-        with other_system(place) as system:
-            system.check_default(report, program, KEYTAB, Kind.KEYTAB, place)
-    with other_system(None, OF_USER.format(USER).encode()) as system:
-        for image in (CACHE, NEITHER):
-            with own_cache(USER, image) as path:
-                if path is None:
-                    report.skip("a default cache", f"there is one of user {USER}")
-                    return
-                system.check_default(report, program, cache_of(USER), Kind.CACHE, image)
-    for user in (0, USER, 2**32 - 2):
-        with other_system(None, OF_USER.format(user).encode()) as system:
-            if not os.path.lexists(OWN.format(user)):
-                system.check_default(report, program, cache_of(user), Kind.CACHE, None)
+        with other_system(report, program, place) as compare:
+            check_default(compare, KEYTAB, Kind.KEYTAB, place)
+    for user, image in ((USER, CACHE), (USER, NEITHER), (0, None), (USER, None), (2**32 - 2, None)):
+        is_free = None if os.path.lexists(OWN.format(user)) else ""
+        there = nullcontext(is_free) if image is None else own_cache(user, image)
+        with other_system(report, program, None, OF_USER.format(user).encode()) as compare, there as path:
+            if path is None:
+                report.skip("a default cache", f"there is one of user {user}")
+            else:
+                check_default(compare, cache_of(user), Kind.CACHE, image)
 
 
 def check_unknown(report: Report, program: str) -> None:
@@ -128,25 +119,15 @@ def check_unknown(report: Report, program: str) -> None:
         else:
             report.skip("a run without /proc", "the program is not proved: its checks read there")
         for name, way in ways:
-            with other_system(TWO, **way) as system:
+            with other_system(report, program, TWO, **way) as compare:
                 for line, why in (*((line, "no FILE") for line in ("klist", "klist -c", "klist --json", "klist -s")),
                                   ("klist -x", "unknown option -x")):
                     bad = Ended(2, messages=((BAD.encode(), f"{why}; see krbfile klist --help".encode()),))
-                    system.compare(report, program, name, line, bad)
+                    compare(name, line, bad)
                 there = KLIST_CACHE.ended(FileName(b"c"), CACHE)
-                system.compare(report, program, name, "klist c", there)
-                system.compare(report, program, name, "klist", there, {CCNAME: "c"})
-                system.compare(report, program, name, "klist -k", KLIST.ended(KEYTAB, TWO))
-
-
-def users(program: str, folder: str) -> Iterator[tuple[str, tuple[str, ...], int, str]]:
-    """Yields ways to run the program: a name, the words before it, the number of the real user, and its path."""
-    yield "this user", (), os.getuid(), program
-    if os.geteuid() == 0:
-        copy = open_to_all(program, folder)
-        yield "a real user beside root", ("setpriv", f"--ruid={NOBODY}"), NOBODY, program
-        yield "another user", by_user(NOBODY), NOBODY, copy
-        yield "root for another user", ("setpriv", f"--euid={NOBODY}"), 0, copy
+                compare(name, "klist c", there)
+                compare(name, "klist", there, {CCNAME: "c"})
+                compare(name, "klist -k", KLIST.ended(KEYTAB, TWO))
 
 
 def open_to_all(program: str, folder: str) -> str:
@@ -165,17 +146,23 @@ def by_user(user: int) -> tuple[str, ...]:
 
 def check_users(report: Report, program: str) -> None:
     """Checks the default caches of users, as the system tells them. That of who runs the tests is not made."""
-    has_setpriv = shutil.which("setpriv") is not None
-    if os.geteuid() != 0 or not has_setpriv:
-        report.skip("default caches of other users", "none but root may run as another, by setpriv")
     with folder_of({}) as folder:
-        for name, front, user, copy in users(program, folder) if has_setpriv else ():
-            image = CACHE if user not in (os.getuid(), 0) else None
-            with own_cache(user, image) if image else nullcontext(OWN.format(user)) as path:
-                if path is None or image is None and os.path.lexists(path):
+        ways = {"this user": ((), os.getuid(), program)}
+        if os.geteuid() == 0 and shutil.which("setpriv"):
+            copy = open_to_all(program, folder)
+            ways |= {"a real user beside root": (("setpriv", f"--ruid={NOBODY}"), NOBODY, program),
+                     "another user": (by_user(NOBODY), NOBODY, copy),
+                     "root for another user": (("setpriv", f"--euid={NOBODY}"), 0, copy)}
+        else:
+            report.skip("default caches of other users", "none but root may run as another, by setpriv")
+        for name, (front, user, path) in ways.items():
+            image, own = CACHE if user not in (os.getuid(), 0) else None, OWN.format(user)
+            there = own_cache(user, image) if image else nullcontext(None if os.path.lexists(own) else own)
+            with there as made:
+                if made is None:
                     report.skip(f"the default cache of {name}", "it is there")
                     continue
-                first, *rest = [*front, copy, "klist"]
+                first, *rest = [*front, path, "klist"]
                 got = run(first, rest, folder, env={"PATH": os.environ["PATH"]})
                 wanted = KLIST_CACHE.ended(cache_of(user), image).outcome(False)
                 report.compare(f"the default cache of {name}", wanted, got)

@@ -6,7 +6,7 @@ Every command is also given a folder, and files of neither kind. No other variab
 
 import os
 from collections.abc import Iterator
-from dataclasses import dataclass, replace
+from dataclasses import replace
 from functools import partial
 from itertools import product
 
@@ -14,11 +14,10 @@ from keytabs.ktutil_lines import TWO_LISTED, lines
 from makers.images import TWO, keytab
 from models.check_model import FOLDER
 from models.name_model import FileName, Kind
-from models.named_runs import COMMANDS, KLIST, KLIST_CACHE, LARGE_FILE, NEITHER, Command, Ended
-from runs.harness import Report, differences, files_in, folder_of
-from runs.rows import check_rows, shown, words_of
-from runs.terminal import EXPLAIN, WAYS
-from words.explained import Explained
+from models.named_runs import COMMANDS, KLIST, KLIST_CACHE, LARGE_FILE, NEITHER, Command
+from runs.harness import Report
+from runs.rows import check_rows, shown
+from words.explained import Explained, for_owner, unchanged
 from words.phrases import BEGINS_AS_NO_KEYTAB, LEAVE_OUT, NAMED, NOT_READ, code, unknown
 
 # Names whose type is taken off, and the name that is left. A type is taken off once.
@@ -30,7 +29,7 @@ OF_KEYTABS = {"WRFILE:k": "k", "WRFILE:FILE:k": "FILE:k", "WRFILE:WRFILE:k": "WR
 
 # Names without a type: it has two letters or more, and nothing but letters, before the first colon.
 UNTYPED = ("./FILE:k", "./KCM:k", "C:k", "f:FILE:k", ":k", ":FILE:k", "1:k", "k1:k", "X509:k", "a b:k", " FILE:k",
-           "FILE :k", "%{uid}", "FILE\t:k", "-FILE:k", "FI_LE:k", "é:k", 'ключ "\\:k', "FILE", "KCM", "FILE;k")
+           "FILE :k", "%{uid}", "-FILE:k", "FI_LE:k", "é:k", 'ключ "\\:k', "FILE", "KCM", "FILE;k")
 
 # Names of other types, and the type.
 OTHERS = {
@@ -57,47 +56,21 @@ def decoys(word: str, name: str) -> dict[str, bytes]:
     return {each: NEITHER for each in names if "/" not in each}
 
 
-@dataclass(frozen=True)
-class Row:
-    """A command over a word, or over the value of its variable; the file that it names, and what is there."""
-
-    command: Command
-    word: str
-    name: FileName
-    place: bytes | str | None
-    is_variable: bool = False
-
-    def path(self) -> str:
-        """Returns where the file is in the folder."""
-        return os.path.normpath(os.fsdecode(self.name.text))
-
-    def files(self) -> dict[str, bytes]:
-        """Returns the files before the run."""
-        there = {self.path(): self.place} if isinstance(self.place, bytes) else {}
-        return {**decoys(self.word, self.path()), **self.command.beside, **there}
-
-    def after(self, wanted: Ended) -> dict[str, bytes]:
-        """Returns the files after the run."""
-        made = self.command.makes if wanted.status == 0 else {}
-        return {**self.files(), **made, **({} if wanted.after is None else {self.path(): wanted.after})}
-
-    def check(self, report: Report, program: str) -> None:
-        """Runs it on a pipe, and with explanations."""
-        if report.leaves_out(len(self.place or b"")):
-            return
-        word, variable = os.fsencode(self.word), self.command.kind.variable
-        env = {**IGNORED, variable: word} if self.is_variable else IGNORED
-        name = replace(self.name, source=NAMED.replace("VARIABLE", variable)) if self.is_variable else self.name
-        words, wanted = self.command.words(None if self.is_variable else word), self.command.ended(name, self.place)
-        for way in ("on a pipe", EXPLAIN):
-            make, explains = WAYS[way]
-            with folder_of(self.files()) as folder:
-                got = make(program, words, folder, self.command.stdin(word), env=env)
-                found = differences(wanted.outcome(explains), got)
-                found += [] if files_in(folder) == self.after(wanted) else ["other files"]
-            state = "missing" if self.place is None else f"{self.place[:9]!r}"
-            source = variable if self.is_variable else "a word"
-            report.check(f"{shown(words)} of {self.word!r} by {source}, {state}, {way}", found)
+def row(command: Command, word: str, name: FileName, place: bytes | str | None, is_variable: bool = False) -> Explained:
+    """Returns a command over a word, or over the value of its variable, which names that file, and what is there."""
+    given, path, variable = os.fsencode(word), os.path.normpath(os.fsdecode(name.text)), command.kind.variable
+    there = {path: place} if isinstance(place, bytes) else {}
+    files, env, source = {**decoys(word, path), **command.beside, **there}, IGNORED, "a word"
+    if is_variable:
+        env, source = {**IGNORED, variable: given}, variable
+        name = replace(name, source=NAMED.replace("VARIABLE", variable))
+    words, wanted = command.words(None if is_variable else given), command.ended(name, place)
+    after = {**files, **(command.makes if wanted.status == 0 else {})}
+    after |= {} if wanted.after is None else {path: wanted.after}
+    state = "missing" if place is None else f"{place[:9]!r}"
+    output = tuple(tuple(map(bytes.decode, one)) for one in wanted.messages)
+    return Explained(f"{shown(words)} of {word!r} by {source}, {state}", words, output, files, command.stdin(given),
+                     wanted.status, wanted.out, after, {"env": env}, for_owner)
 
 
 def names_of(command: Command) -> tuple[dict[str, str], dict[str, str]]:
@@ -108,32 +81,25 @@ def names_of(command: Command) -> tuple[dict[str, str], dict[str, str]]:
             {**OTHERS, **({} if is_keytab else OTHERS_OF_CACHES)})
 
 
-def rows() -> Iterator[Row]:
+def rows() -> Iterator[Explained]:
     """Yields each command over its names, where the file is there and where it is not: the listings over all."""
     for command, is_variable in product(COMMANDS, (False, True)):
         if is_variable and not command.has_default:
             continue
         gets_all = command in (KLIST, KLIST_CACHE) and not is_variable
-        row, (read, others) = partial(Row, command, is_variable=is_variable), names_of(command)
+        one, (read, others) = partial(row, command, is_variable=is_variable), names_of(command)
         for word in (*read, *others) if gets_all else SOME:
             if word in others:
                 # What is there is never read.
-                yield row(word, FileName(word.encode(), others[word].encode()), command.image)
+                yield one(word, FileName(word.encode(), others[word].encode()), command.image)
             elif word in read and command.can_take(word.encode()):
-                yield from (row(word, FileName(read[word].encode()), place) for place in (command.image, None))
+                yield from (one(word, FileName(read[word].encode()), place) for place in (command.image, None))
         # The folder of all, and files that are neither a keytab nor a cache.
-        yield row(".", FileName(b"."), FOLDER)
-        yield from (row("k", FileName(b"k"), place) for place in (NEITHER, LARGE_FILE))
+        yield one(".", FileName(b"."), FOLDER)
+        yield from (one("k", FileName(b"k"), place) for place in (NEITHER, LARGE_FILE))
         # Of a type alone nothing is left, as of an empty word: no such file, and none is made.
-        yield from (row(word, FileName(b""), None) for word in ("FILE:", "")
+        yield from (one(word, FileName(b""), None) for word in ("FILE:", "")
                     if word or command.has_default and not is_variable)
-
-
-def run_of(line: str, what: str, *explained: str, files: dict[str, bytes] | None = None, stdin: bytes = b"",
-           status: int = 1) -> Explained:
-    """Returns a run that only prints a message, explained by these lines, and leaves its files."""
-    output = ((what, explained[0] if explained else ""), *(("", each) for each in explained[1:]))
-    return Explained(f"{line} {stdin.decode()!r}", words_of(line), output, files or {}, stdin, status, b"", files or {})
 
 
 def not_read(name: str) -> str:
@@ -145,27 +111,26 @@ def unwritten(word: str, phrase: str) -> Explained:
     """Returns a line of ktutil that writes to a name with a type: nothing is read or made, whatever is there."""
     files = {word: NEITHER, word.partition(":")[2] or "k": NEITHER, "j": TWO}
     why = phrase.replace("TYPE", word.partition(":")[0] + ":")
-    return run_of("ktutil", f"{word}: cannot write", f"line 2: {why}", files=files,
-                  stdin=f"rkt j\nwkt {word}\n".encode(), status=3)
+    return unchanged("ktutil", (f"{word}: cannot write", f"line 2: {why}"), files=files,
+                     stdin=f"rkt j\nwkt {word}\n".encode(), status=3)
 
 
 # What comes before the name: the script, and of ktcopy the keytab that is copied from, with what is selected in it.
+OTHER = {name: (f"{name}: no such file", not_read(name)) for name in ("KCM:k", "KCM:c", "KCM:t")}
 ORDER = [
-    run_of("ktedit KCM:k", "line 2: fault 1", unknown("frob"), stdin=b"start\nfrob\n"),
-    run_of("ccedit KCM:c", "line 1: fault 1", unknown("frob"), stdin=b"frob\n"),
-    run_of("ktedit KCM:k", "KCM:k: no such file", not_read("KCM:"), stdin=b"start\n"),
-    run_of("ccedit KCM:c", "KCM:c: no such file", not_read("KCM:"), stdin=b"start\n"),
-    run_of("ktcopy no KCM:t", "no: no such file"),
-    run_of("ktcopy KCM:k MEMORY:t", "KCM:k: no such file", not_read("KCM:")),
-    run_of("ktcopy k KCM:t", "k: not a keytab (2)", BEGINS_AS_NO_KEYTAB[1], files={"k": NEITHER}),
-    run_of("ktcopy k KCM:t", "k: refused 1", code(1), files={"k": TWO[:-1]}),
-    run_of("ktcopy -p c@R k KCM:t", "k: refused 9", code(9, "ktcopy"), files={"k": TWO}),
-    *(run_of(f"ktcopy {options} k KCM:t", "KCM:t: no such file", not_read("KCM:"), files={"k": TWO})
-      for options in ("", "-n", "--replace")),
+    unchanged("ktedit KCM:k", ("line 2: fault 1", unknown("frob")), stdin=b"start\nfrob\n"),
+    unchanged("ccedit KCM:c", ("line 1: fault 1", unknown("frob")), stdin=b"frob\n"),
+    unchanged("ktedit KCM:k", OTHER["KCM:k"], stdin=b"start\n"),
+    unchanged("ccedit KCM:c", OTHER["KCM:c"], stdin=b"start\n"),
+    unchanged("ktcopy no KCM:t", ("no: no such file", "")),
+    unchanged("ktcopy KCM:k MEMORY:t", OTHER["KCM:k"]),
+    unchanged("ktcopy k KCM:t", ("k: not a keytab (2)", BEGINS_AS_NO_KEYTAB[1]), files={"k": NEITHER}),
+    unchanged("ktcopy k KCM:t", ("k: refused 1", code(1)), files={"k": TWO[:-1]}),
+    unchanged("ktcopy -p c@R k KCM:t", ("k: refused 9", code(9, "ktcopy")), files={"k": TWO}),
+    *(unchanged(f"ktcopy {options} k KCM:t", OTHER["KCM:t"], files={"k": TWO}) for options in ("", "-n", "--replace")),
     # Nothing would be saved, and TO is asked for all the same.
-    run_of("ktcopy k KCM:t", "KCM:t: no such file", not_read("KCM:"), files={"k": keytab()}),
-    run_of("ktremove -n -k old KCM:k", "KCM:k: no such file", not_read("KCM:")),
-    run_of("ccremove -n -p b@R KCM:c", "KCM:c: no such file", not_read("KCM:")),
+    unchanged("ktcopy k KCM:t", OTHER["KCM:t"], files={"k": keytab()}),
+    unchanged("ktremove -n -k old KCM:k", OTHER["KCM:k"]), unchanged("ccremove -n -p b@R KCM:c", OTHER["KCM:c"]),
 ]
 
 # ktutil writes to no name that begins with a type. Faults of the line's words come first.
@@ -186,9 +151,5 @@ CASES = [*ORDER, *WRITES]
 
 
 def check(report: Report, program: str) -> None:
-    """Runs each command over each name. Files are made for their owner alone."""
-    before = os.umask(0o077)
-    try:
-        check_rows(report, program, rows())
-    finally:
-        os.umask(before)
+    """Runs each command over each name."""
+    check_rows(report, program, rows())

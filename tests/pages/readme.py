@@ -15,13 +15,10 @@ SHOWN = "README.md"
 LIBRARY = os.path.join(TOP, "lib", "libkrbfile.so.1")
 PROVED = "crates/store_tests/src/tests/readme.rt"
 
-# Keytabs in /etc by samples, what cron mails of them, and the status. Without any the shell leaves the pattern.
-IN_CRON = [
-    ({"a.keytab": "host.keytab", "b.keytab": "old.keytab", "c": "mixed.keytab"}, [], 0),
-    ({"a.keytab": "host.keytab", "b.keytab": "mixed.keytab"},
-     ["ETC/b.keytab: weak 53 kvno 3 etype 23 b@R", "ETC/b.keytab: entries 2 free 0 holes 0"], 1),
-    ({}, ["krbfile: ETC/*.keytab: no such file"], 1),
-]
+# Keytabs in /etc by samples, two of which have nothing to report, and what cron mails of them.
+IN_CRON = {"etc/a.keytab": "host.keytab", "etc/b.keytab": "mixed.keytab", "etc/c.keytab": "old.keytab",
+           "etc/d": "mixed.keytab"}
+MAILED = "ETC/b.keytab: weak 53 kvno 3 etype 23 b@R\nETC/b.keytab: entries 2 free 0 holes 0\n"
 
 
 def lines_of(text: str) -> list[str]:
@@ -100,16 +97,12 @@ def check_sessions(report: Report, program: str) -> None:
 
 
 def check_cron(report: Report, program: str) -> None:
-    """Runs README's line for cron over the keytabs of several hosts, below a root of its own."""
-    lines = re.findall(r"`(krbfile ktcheck [^`]*)` in cron", read(SHOWN))
-    report.check("README has a line for cron", [] if len(lines) == 1 else [f"{lines}"])
-    for keytabs, printed, status in IN_CRON if lines else ():
-        samples = {f"etc/{name}": sample for name, sample in keytabs.items()}
-        with root_of(samples) as root, folder_with(program) as programs:
-            out = "".join(line.replace("ETC", os.path.join(root, "etc")) + "\n" for line in printed).encode()
-            got = run("/bin/sh", ("-c", lines[0].replace("/etc/", f"{root}/etc/")), "/", env=surroundings(programs))
-        wanted = Outcome(status, *((out, b"") if keytabs else (b"", out)))
-        report.compare(f"README's line for cron: {sorted(keytabs)}", wanted, got)
+    """Runs README's line for cron over the keytabs of a host, below a root of its own."""
+    (line,) = re.findall(r"`(krbfile ktcheck [^`]*)` in cron", read(SHOWN))
+    with root_of(IN_CRON) as root, folder_with(program) as programs:
+        got = run("/bin/sh", ("-c", line.replace("/etc/", f"{root}/etc/")), "/", env=surroundings(programs))
+        wanted = MAILED.replace("ETC", os.path.join(root, "etc")).encode()
+    report.compare("README's line for cron", Outcome(1, wanted), got)
 
 
 def check(report: Report, program: str) -> None:

@@ -1,20 +1,22 @@
 """Clocks at any time or that fail: the time of a new entry of ktutil, which tickets have expired, and which entries
 are old for long enough."""
 
+from collections.abc import Iterator
 from dataclasses import replace
+from itertools import chain, product
 
 from keytabs.ktutil_lines import ADDENT, KEY, TIMES
 from keytabs.removals import FOUR, X, versioned
 from makers.cache_images import cache, offset
 from makers.images import keytab
-from makers.usual_caches import TICKET, USUAL
+from makers.usual_caches import OFFSET, PA_TYPE, TICKET, USUAL
 from runs.harness import Outcome, Report, differences, message
-from runs.preload import Line, Preloaded, preloaded
-from runs.rows import text
-from runs.terminal import EXPLAIN
+from runs.preload import Line, preloaded
+from runs.rows import BAD_LINE, text
 from words.phrases import CLOCK
 
-LINE = Line(("ktutil",), text([ADDENT, KEY, "l -t"]))
+# A run: its name, its line, its files, the settings of its clock, its outcome, and the files that it changes.
+Row = tuple[str, Line, dict[str, bytes], dict[str, int], Outcome, dict[str, bytes]]
 
 # Settings of the clock, and the time that is listed: 0 if the seconds do not fit 32 bits.
 KNOWN = [
@@ -30,8 +32,19 @@ UNREAD = ({"CLOCK": 2**32}, {"CLOCK": 2**64 - 1}, {"FAIL_CLOCK": 1})
 
 # The messages about them.
 NO_CLOCK = message(3, "cannot read the clock")
-EXPLAINED = Outcome(3, err=NO_CLOCK.err
-                    + f"krbfile: {CLOCK}\n".encode())
+EXPLAINED = Outcome(3, err=NO_CLOCK.err + f"krbfile: {CLOCK}\n".encode())
+
+# Lines, and how they end then: before the file is read, and only if the clock is needed. `klist -s` says nothing.
+AGE, EXPIRED = "ktremove -k old --age 0", "ccremove --expired"
+ENDED = (
+    (NO_CLOCK, (f"{AGE} k", f"{AGE} -n k", f"{AGE} no", f"{AGE} KCM:k", f"{EXPIRED} c", f"{EXPIRED} -n c",
+                f"{EXPIRED} no", f"{EXPIRED} KCM:c", f"{EXPIRED} -p krbtgt/R@R c")),
+    (EXPLAINED, (f"--explain {AGE} k", f"--explain {EXPIRED} c")),
+    (Outcome(0, text([X])), ("ktremove -n -k old k",)),
+    (BAD_LINE, (f"{AGE} --age 0 k", "klist -s c c")),
+    (Outcome(3), ("klist -s c", "klist -s --for 0 c", "klist -s no", "klist -s k", "klist -s KCM:c", "klist -s",
+                  "--explain klist -s c")),
+)
 
 # A ticket ends at each of these seconds; the first one that is left at a time is that of its index.
 ENDS = (0, 1, 1_700_000_000, 2**31, 2**32 - 2, 2**32 - 1)
@@ -49,90 +62,64 @@ ENDING = ((1_000_000, 999_999, 0, True), (1_000_000, 1_000_000, 0, False), (1_00
           (2**32 - 1, 2**32 - 2, 0, True), (2**32 - 1, 2**32 - 1, 0, False), (2**32 - 1, 1, 2**32 - 3, True),
           (2**32 - 1, 1, 2**32 - 2, False), (2**32 - 1, 2**32 - 1, 1, False))
 
+# The fields of headers, whose offsets change nothing.
+HEADERS = (b"", offset(1_000_000_000, 0), offset(-1_000_000_000, 0))
 
-def check_expired(report: Report, under: Preloaded) -> None:
-    """Checks that tickets have expired from the second in which they end, whatever the header's offset is."""
+
+def expired() -> Iterator[Row]:
+    """Yields removals of tickets: each has expired from the second in which it ends."""
     tickets = [replace(TICKET, endtime=end) for end in ENDS]
-    line = Line(("ccremove", "--expired", "c"))
-    for fields in (b"", offset(1_000_000_000, 0), offset(-1_000_000_000, 0)):
-        first = 22 + len(fields)
-        over = under.over({"c": cache(*tickets, fields=fields)})
-        for now, count in LEFT:
-            lines = [f"removed {first + 108 * number} krbtgt/R@R" for number in range(count)]
-            got = over.run(line, CLOCK=now)
-            faults = differences(Outcome(0, text(lines)), got.outcome)
-            after = cache(*tickets[count:], fields=fields)
-            faults += [] if got.files["c"] == after else ["another file"]
-            report.check(f"expired at {now}, with the header {fields.hex()}", faults)
+    for fields, (now, count) in product(HEADERS, LEFT):
+        lines = [f"removed {22 + len(fields) + 108 * number} krbtgt/R@R" for number in range(count)]
+        before, after = (cache(*tickets[at:], fields=fields) for at in (0, count))
+        yield (f"expired at {now}, with the header {fields.hex()}", Line(("ccremove", "--expired", "c")),
+               {"c": before}, {"CLOCK": now}, Outcome(0, text(lines)), {"c": after})
 
 
-def check_aged(report: Report, under: Preloaded) -> None:
-    """Checks that an old entry is removed once the newest version of its name is that old."""
+def aged() -> Iterator[Row]:
+    """Yields removals of an old entry: it goes once the newest version of its name is that old."""
     old, new = versioned(1, 2**32 - 1), versioned(2, 1_000_000)
     for now, age, is_removed in AGED:
-        over = under.over({"k": keytab(old, new)})
-        got = over.run(Line(("ktremove", "-k", "old", "--age", str(age), "k")), CLOCK=now)
-        faults = differences(Outcome(0, b"removed 2 kvno 1 etype 17 a@R\n" * is_removed), got.outcome)
-        faults += [] if got.files["k"] == keytab(41 if is_removed else old, new) else ["another file"]
-        report.check(f"{age} seconds old at {now}", faults)
-    over = under.over({"k": keytab(old, versioned(2, 0))})
-    got = over.run(Line(("ktremove", "-k", "old", "--age", "6", "k")), CLOCK=5)
-    report.compare("a clock below an age", Outcome(0), got.outcome)
+        yield (f"{age} seconds old at {now}", Line(("ktremove", "-k", "old", "--age", str(age), "k")),
+               {"k": keytab(old, new)}, {"CLOCK": now}, Outcome(0, b"removed 2 kvno 1 etype 17 a@R\n" * is_removed),
+               {"k": keytab(41 if is_removed else old, new)})
+    yield ("a clock below an age", Line(("ktremove", "-k", "old", "--age", "6", "k")),
+           {"k": keytab(old, versioned(2, 0))}, {"CLOCK": 5}, Outcome(0), {})
 
 
-def check_valid(report: Report, under: Preloaded) -> None:
-    """Checks that a ticket is valid until the second in which it ends, whatever the header's offset is."""
-    for fields in (b"", offset(1_000_000_000, 0), offset(-1_000_000_000, 0)):
-        for end, now, seconds, is_valid in ENDING:
-            over = under.over({"c": cache(replace(TICKET, endtime=end), fields=fields)})
-            for words in (("--for", str(seconds)), ()):
-                if words or seconds == 0:
-                    got = over.run(Line(("klist", "-s", *words, "c")), CLOCK=now)
-                    report.compare(f"{end} at {now} {' '.join(words)}, with the header {fields.hex()}",
-                                   Outcome(0 if is_valid else 1), got.outcome)
+def valid() -> Iterator[Row]:
+    """Yields questions about a ticket: it is valid until the second in which it ends."""
+    for fields, (end, now, seconds, is_valid) in product(HEADERS, ENDING):
+        for words in (("--for", str(seconds)), *[()] * (seconds == 0)):
+            yield (f"{end} at {now} {' '.join(words)}, with the header {fields.hex()}",
+                   Line(("klist", "-s", *words, "c")), {"c": cache(replace(TICKET, endtime=end), fields=fields)},
+                   {"CLOCK": now}, Outcome(0 if is_valid else 1), {})
 
 
-def check_unread_by_others(report: Report, under: Preloaded) -> None:
-    """Checks that a clock that cannot be read ends ktremove and klist before the file is read, klist silently."""
-    over = under.over({"k": FOUR, "c": USUAL})
-    age = ("ktremove", "-k", "old", "--age", "0")
+def unread() -> Iterator[Row]:
+    """Yields runs whose clock cannot be read, and one that does not ask for it."""
+    files = {"k": FOUR, "c": USUAL}
     for setting in UNREAD:
-        lines = [((*age, "k"), NO_CLOCK), ((*age, "-n", "k"), NO_CLOCK), ((*age, "no"), NO_CLOCK),
-                 ((EXPLAIN, *age, "k"), EXPLAINED), (("ktremove", "-n", "-k", "old", "k"), Outcome(0, text([X]))),
-                 ((*age, "--age", "0", "k"), message(2, "bad command line")),
-                 *((("klist", "-s", *words), Outcome(3))
-                   for words in (("c",), ("--for", "0", "c"), ("no",), ("k",), ("KCM:c",), ())),
-                 ((*age, "KCM:k"), NO_CLOCK), ((EXPLAIN, "klist", "-s", "c"), Outcome(3)),
-                 (("klist", "-s", "c", "c"), message(2, "bad command line"))]
-        for words, wanted in lines:
-            got = over.run(Line(words), **setting)
-            report.compare(f"no clock by {setting}: {' '.join(words)}", wanted, got.outcome)
+        for wanted, lines in ENDED:
+            yield from ((f"no clock by {setting}: {line}", Line((*line.split(),)), files, setting, wanted, {})
+                        for line in lines)
+        yield (f"no clock is asked for, {setting}", Line(("ccremove", "-p", "krbtgt/R@R", "c")), files, setting,
+               Outcome(0, b"removed 40 krbtgt/R@R\n"), {"c": cache(PA_TYPE, fields=OFFSET)})
 
 
-def check_unread(report: Report, under: Preloaded) -> None:
-    """Checks that an unreadable clock is reported before the file is read, and only if the clock is needed."""
-    over = under.over({"c": USUAL})
-    for setting in UNREAD:
-        for words in (("--expired", "c"), ("-n", "--expired", "c"), ("--expired", "no"), ("--expired", "KCM:c"),
-                      ("--expired", "-p", "krbtgt/R@R", "c")):
-            got = over.run(Line(("ccremove", *words)), **setting)
-            faults = differences(NO_CLOCK, got.outcome)
-            faults += [] if got.files == {"c": USUAL} else ["other files"]
-            report.check(f"no clock by {setting}: {' '.join(words)}", faults)
-        got = over.run(Line((EXPLAIN, "ccremove", "--expired", "c")), **setting)
-        report.compare(f"no clock by {setting}, explained", EXPLAINED, got.outcome)
-        got = over.run(Line(("ccremove", "-p", "krbtgt/R@R", "c")), **setting)
-        report.compare(f"no clock is asked for, {setting}",
-                       Outcome(0, b"removed 40 krbtgt/R@R\n"), got.outcome)
+def known() -> Iterator[Row]:
+    """Yields lines of ktutil that add an entry of the time of the clock, and list it."""
+    line = Line(("ktutil",), text([ADDENT, KEY, "l -t"]))
+    for setting, time in KNOWN:
+        wanted = Outcome(0, text([*TIMES, f"   1    3 {time} host/a@R"]))
+        yield f"the clock with {setting}", line, {}, setting, wanted, {}
 
 
 def check(report: Report, program: str) -> None:
-    """Runs this topic."""
+    """Makes each run."""
     with preloaded(report, program, "the clock", {}) as under:
-        if under is None:
-            return
-        for each in (check_expired, check_unread, check_aged, check_valid, check_unread_by_others):
-            each(report, under)
-        for setting, time in KNOWN:
-            wanted = Outcome(0, text([*TIMES, f"   1    3 {time} host/a@R"]))
-            report.compare(f"the clock with {setting}", wanted, under.run(LINE, **setting).outcome)
+        for name, line, files, setting, wanted, after in chain(expired(), aged(), valid(), unread(), known()):
+            if under:
+                got = under.over(files).run(line, **setting)
+                faults = differences(wanted, got.outcome)
+                report.check(name, faults + ([] if got.files == {**files, **after} else ["other files"]))

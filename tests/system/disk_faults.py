@@ -8,7 +8,9 @@ import subprocess
 from collections.abc import Iterator
 from contextlib import contextmanager
 
-from models.cases import IN_PLACE
+from makers.images import TWO
+from models.cases import IN_PLACE, ktremove
+from models.removal_model import Selection
 from runs.harness import Case, Outcome, Report, differences, folder_of, message
 from runs.preload import Line
 from runs.system_calls import Call, calls_of, check_traced, traced, under_strace
@@ -34,17 +36,17 @@ KILLED = Outcome(-signal.SIGKILL)
 # How a run in place ends whose last look fails, and what its file has then.
 UNSEEN = {explained(Outcome(1, SAVED.out), f"k: {AFTERMATHS['mixed']}"): NEW}
 
-# What a call fails with, and the phrase of it, or None if the run saves all the same.
+# What a call fails with, and the phrase of it. With what a save goes on without an owner or a lock stands below.
 FAILED = {
     "open": {"EACCES": CAUSES["EACCES"], "EPERM": CAUSES["EACCES"], "ENOENT": CAUSES["ENOENT"],
              "ENOTDIR": CAUSES["ENOTDIR"], "EISDIR": CAUSES["EISDIR"], "EROFS": CAUSES["EROFS"],
              "ENAMETOOLONG": CAUSES["ENAMETOOLONG"]},
     "lstat": {"EACCES": CAUSES["EACCES"], "ENOTDIR": CAUSES["ENOTDIR"], "ELOOP": CAUSES["ELOOP"], "ENOMEM": "error 12"},
-    "flock": {"ENOLCK": CAUSES["ENOLCK"], "EOPNOTSUPP": None, "ENOSYS": None},
+    "flock": {"ENOLCK": CAUSES["ENOLCK"]},
     "write": {"EINTR": CAUSES["EINTR"], "EFBIG": CAUSES["EFBIG"], "ENOSPC": CAUSES["ENOSPC"],
               "EPIPE": CAUSES["EPIPE"], "EDQUOT": CAUSES["EDQUOT"], "EIO": CAUSES["EIO"], "EPROTO": "error 71",
               "ENOMEM": "error 12"},
-    "fchown": {"EPERM": None, "EINVAL": None, "ENOSYS": None, "EOPNOTSUPP": None, "EIO": CAUSES["owner"]},
+    "fchown": {"EIO": CAUSES["owner"]},
     "fchmod": {"EIO": CAUSES["EIO"]},
     "fsync": {"EBUSY": "error 16"},
     "rename": {"EBUSY": CAUSES["EBUSY"], "EIO": CAUSES["EIO"]},
@@ -52,6 +54,17 @@ FAILED = {
 
 # How the traces begin of calls that have other names in FAILED.
 TRACES = {"open": r"open.*O_CREAT", "lstat": r'\w*stat\w*\(.*"k"'}
+
+# A run that needs no input, over a file in another folder than its own. The shell's first word is the program.
+REMOVAL = ktremove(TWO, selection=Selection((b"host/a@R",)), name="removes")
+REMOVE = 'exec "$0" ktremove -p host/a@R d/k'
+
+# With the standard streams, and with the error output alone.
+RUNS = ((REMOVE, REMOVAL.wanted), (f"{REMOVE} <&- >&-", message(3, "cannot write output")))
+
+# A write of the new bytes, which begin as every keytab does, and the first number of a handle that is no stream.
+WRITTEN = re.compile(r'write\((\d+), "\\5\\2')
+FIRST = 3
 
 # More than the number of any error of the system.
 MOST_ERRORS = 134
@@ -110,6 +123,19 @@ def faults_of_kill(program: str, folder: str, outcome: Outcome) -> list[str]:
     return faults + tree_faults({"k": TARGET, TARGET: NEW}, folder)
 
 
+def check_handles(report: Report, program: str) -> None:
+    """Checks what no failure shows: the new file is not written by the handle of a standard stream."""
+    for script, wanted in RUNS:
+        with folder_of({}) as folder:
+            os.mkdir(os.path.join(folder, "d"))
+            write(os.path.join(folder, "d", "k"), TWO)
+            outcome, trace = traced("sh", Line(("-c", script, program)), folder)
+            faults = differences(wanted, outcome) + tree_faults({"d": "d", "d/k": REMOVAL.files_after["k"]}, folder)
+        handles = [int(found[1]) for found in map(WRITTEN.match, trace) if found]
+        faults += [] if handles and min(handles) >= FIRST else [f"the new bytes are written by {handles}"]
+        report.check(f"the handle of a save: {script}", faults)
+
+
 def check_calls(report: Report, program: str, *options: str) -> None:
     """Lets each call fail in turn: its cause is reported."""
     line = Line((EXPLAIN, "ktedit", *options, "k"), SCRIPT)
@@ -143,8 +169,8 @@ def check_causes(report: Report, program: str) -> None:
     for name, errors in FAILED.items():
         call = next(call for call in calls if re.match(TRACES.get(name, name), call.line))
         for error, phrase in errors.items():
-            case = Case(f"{name} fails with {error}", (EXPLAIN, *LINE.words),
-                        explained(UNSAVED, phrase) if phrase else SAVED, {}, None if phrase else {"k": NEW}, SCRIPT)
+            case = Case(f"{name} fails with {error}", (EXPLAIN, *LINE.words), explained(UNSAVED, phrase), {},
+                        stdin=SCRIPT)
             check_over(report, "strace", under_strace(program, case, *call.to(f"error={error}")), alone)
 
 
@@ -218,4 +244,5 @@ def check_no_proc(report: Report, program: str) -> None:
 def check(report: Report, program: str) -> None:
     """Runs this topic."""
     check_traced(report, program, "system calls that fail",
-                 check_both_ways, check_kills, check_causes, check_missing, check_owner, check_lock, check_no_proc)
+                 check_handles, check_both_ways, check_kills, check_causes, check_missing, check_owner, check_lock,
+                 check_no_proc)

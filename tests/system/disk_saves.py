@@ -1,16 +1,22 @@
-"""What a save leaves on the disk: the new file's mode, owner and group, links, and nothing else."""
+"""What a save leaves on the disk: the new file's mode, owner and group, links, and nothing else. What copies read from
+a pipe, leave alone, and keep of the file that is saved."""
 
 import os
+import subprocess
 from dataclasses import replace
 
-from makers.images import TWO, keytab
+from makers.images import B, HOST, TWO, keytab
 from models.cases import hold, in_place, ktcopy, ktedit
 from models.copy_model import Request
-from runs.harness import Case, Report, differences, folder_of, message
-from system.placing import PLACED
-from system.saving import (ADD, CHANGES, GROUP, HOLDING_NOTHING, NEW, OLD, SAVED, SAVING_NOTHING, SCRIPT, UNREAD,
-                           UNSAVED, USER, WALK, Owned, Place, as_another, as_user, check_over, owned, run_over, tree,
-                           tree_faults, unsaved, write)
+from runs.harness import Case, Outcome, Report, differences, folder_of, message, run
+from runs.rows import Line, printed, words_of
+from runs.terminal import EXPLAIN
+from system.pipe_files import fed
+from system.placing import PLACED, explained
+from system.saving import (ADD, CHANGES, CLASH, GROUP, HOLDING_NOTHING, NEW, OLD, SAVED, SAVING_NOTHING, SCRIPT, UNREAD,
+                           UNSAVED, USER, WALK, Owned, Place, as_another, as_user, at, check_over, link, owned,
+                           run_over, tree, tree_faults, unsaved, write)
+from words.phrases import CAUSES
 
 # Runs that make a file, and copies over a keytab, and over a file of no bytes.
 MADE = (ktedit(None, SCRIPT, name="adds"), ktcopy(TWO, None, request=Request(), name="adds"),
@@ -100,21 +106,25 @@ def long_chain(count: int) -> list[tuple[str, str]]:
 
 
 def check_links(report: Report, program: str) -> None:
-    """Checks that the file at the end of links is replaced or made, and that each link stays."""
+    """Checks that the file at the end of links is replaced or made, if they lead to one, and that each link stays."""
     chain = (("k", "u/a"), ("u/a", "../u/b"), ("u/b", "FOLDER/t/k"))
     cases = [
-        ("a relative link", links_to(("k", "t/k"))),
-        ("a link through a parent folder", links_to(("k", "u/../t/k"))),
-        ("an absolute link", links_to(("k", "FOLDER/t/k"))),
-        ("a chain of links", links_to(*chain)),
-        ("a link through a link to a folder", links_to(("d", "t"), ("k", "d/k"))),
-        ("a link that dangles", links_to(("k", "t/k"), data=None)),
-        ("a chain that dangles", links_to(*chain, data=None)),
-        ("a chain of 40 links", links_to(*long_chain(40))),
+        ("a relative link", SAVED, links_to(("k", "t/k"))),
+        ("a link through a parent folder", SAVED, links_to(("k", "u/../t/k"))),
+        ("an absolute link", SAVED, links_to(("k", "FOLDER/t/k"))),
+        ("a chain of links", SAVED, links_to(*chain)),
+        ("a link through a link to a folder", SAVED, links_to(("d", "t"), ("k", "d/k"))),
+        ("a link that dangles", SAVED, links_to(("k", "t/k"), data=None)),
+        ("a chain that dangles", SAVED, links_to(*chain, data=None)),
+        ("a chain of 40 links", SAVED, links_to(*long_chain(40))),
+        ("a link into no folder", UNSAVED, links_to(("k", "no/k"))),
+        ("a link to no folder", UNSAVED, links_to(("k", "no/"), data=None)),
+        ("a link in a circle", UNREAD, links_to(("k", "u/k"), ("u/k", "../k"))),
+        ("a chain of 41 links", UNREAD, links_to(*long_chain(41))),
     ]
-    for name, place in cases:
-        case = Case(f"save over {name}", ("ktedit", "k"), SAVED, files_after={"t/k": NEW}, stdin=SCRIPT)
-        check_over(report, program, case, place)
+    for name, wanted, place in cases:
+        after = {"t/k": NEW} if wanted == SAVED else None
+        check_over(report, program, Case(f"save over {name}", ("ktedit", "k"), wanted, {}, after, SCRIPT), place)
 
 
 def check_hard_links(report: Report, program: str, cases: tuple[Case, ...] = CHANGES) -> None:
@@ -128,18 +138,6 @@ def check_hard_links(report: Report, program: str, cases: tuple[Case, ...] = CHA
             wanted = {**tree(folder), "file": case.files_after[name], "file.krbfile": None}
             faults = differences(case.wanted, run_over(program, case, folder)) + tree_faults(wanted, folder)
         report.check(f"a file of two names behind a link: {case.name}", faults)
-
-
-def check_broken_links(report: Report, program: str) -> None:
-    """Checks links that lead to no place for a file."""
-    cases = [
-        ("a link into no folder", links_to(("k", "no/k")), UNSAVED),
-        ("a link to no folder", links_to(("k", "no/"), data=None), UNSAVED),
-        ("a link in a circle", links_to(("k", "u/k"), ("u/k", "../k")), UNREAD),
-        ("a chain of 41 links", links_to(*long_chain(41)), UNREAD),
-    ]
-    for name, place, outcome in cases:
-        check_over(report, program, Case(f"save over {name}", ("ktedit", "k"), outcome, stdin=SCRIPT), place)
 
 
 def check_removed(report: Report, program: str) -> None:
@@ -184,10 +182,84 @@ def check_locked_folder(report: Report, program: str) -> None:
         check_over(report, program, replace(case, name=f"a locked folder: {case.name}"), lock_folder, **options)
 
 
+COPY = ("ktcopy", "k", "t")
+COPIED = printed("copied 2 kvno 3 etype 17 host/a@R", "copied 53 kvno 3 etype 17 b@R")
+CUT = TWO[:-1]
+
+# What stands under the name of the new file.
+IN_THE_WAY = at("t.krbfile", os.mkdir)
+
+
+def copy(name: str, line: str | Line, files: dict[str, bytes], wanted: Outcome = COPIED, after: bytes | None = None,
+         stdin: bytes = b"") -> Case:
+    """Returns a copy, by default one that leaves its files as they are."""
+    return Case(name, words_of(line), wanted, files, None if after is None else {"t": after}, stdin)
+
+
+def by_input(image: bytes, wanted: Outcome, after: bytes | None = None) -> Case:
+    """Returns a copy from the standard input, which is read to its end."""
+    return copy(f"{len(image)} bytes on the standard input", "ktcopy /dev/stdin t", {}, wanted, after, image)
+
+
+def from_new_file(source: str, target: str, before: bytes, wanted: Outcome) -> list[tuple[Case, tuple[Place, ...]]]:
+    """Returns copies from a file that has the name of the new one, as a killed run leaves it: it stays as it is."""
+    ways = [((), wanted)]
+    if wanted.err:
+        ways.append(((EXPLAIN,), explained(wanted, CAUSES["in the way"].replace("NAME", "t"))))
+    return [(copy(f"{' '.join(options)} from {source} into {target} of {len(before)} bytes",
+                  (*options, "ktcopy", source, target), {"t.krbfile": keytab(B), "t": before}, outcome),
+             (link("link", "t.krbfile"), link("to", "t"))) for options, outcome in ways]
+
+
+# Copies, and what is made in their folders before.
+ROWS: list[tuple[Case, tuple[Place, ...]]] = [
+    (by_input(TWO, COPIED, TWO), ()),
+    (by_input(b"", message(1, "/dev/stdin: not a keytab (1)")), ()),
+    (by_input(CUT, message(1, "/dev/stdin: refused 1")), ()),
+    # Two names of one keytab are one keytab.
+    *((copy(f"{what} of the same keytab", COPY, {"k": TWO}, Outcome(0)), (place,)) for what, place in (
+        ("a link", link("t", "k")),
+        ("a second name", lambda folder: os.link(os.path.join(folder, "k"), os.path.join(folder, "t"))))),
+    # What stands under the name of the new file: only a save is refused.
+    *((copy(f"a folder in the way: {' '.join(words)}, {wanted.status}", words, {"k": TWO, "t": target}, wanted),
+       (IN_THE_WAY,)) for words, target, wanted in (
+           (COPY, keytab(HOST), message(3, "t: cannot write")), (COPY, TWO, Outcome(0)),
+           (("ktcopy", "-n", "k", "t"), keytab(), COPIED))),
+    (copy("a keytab to copy from that may not be written", COPY, {"k": TWO}, after=TWO),
+     (at("k", lambda path: os.chmod(path, 0o400)),)),
+    *(row for source, target in (("t.krbfile", "t"), ("./t.krbfile", "t"), ("link", "t"), ("t.krbfile", "to"))
+      for row in from_new_file(source, target, keytab(HOST), message(3, f"{target}: cannot write"))),
+    *from_new_file("t.krbfile", "t", CLASH, printed("clash 2 2 kvno 3 etype 17 b@R", status=1)),
+    *from_new_file("t.krbfile", "t", keytab(HOST, B), Outcome(0)),
+]
+
+
+def check_pipes(report: Report, program: str) -> None:
+    """Checks that a pipe is copied from, and that a dry run opens one that it would copy into."""
+    with folder_of({}) as folder:
+        os.mkfifo(os.path.join(folder, "k"))
+        pieces = "exec >k; printf '\\005'; sleep 0.1; printf '\\002\\377'; sleep 0.1; printf '\\377'"
+        with subprocess.Popen(["sh", "-c", pieces], cwd=folder):
+            got = run(program, COPY, folder)
+        report.compare("a pipe to copy from, in pieces", message(1, "k: refused 1"), got)
+    with folder_of({"k": TWO}) as folder, fed(os.path.join(folder, "t")) as opened:
+        faults = differences(COPIED, run(program, (EXPLAIN, "ktcopy", "-n", "k", "t"), folder))
+        faults += tree_faults({"k": TWO, "t": "p"}, folder) + ([] if opened else ["it was not opened"])
+    report.check("a pipe to copy into, in a dry run", faults)
+
+
+def check_input(report: Report, program: str) -> None:
+    """Checks a file as standard input."""
+    line = ("-c", 'exec "$0" ktcopy /dev/stdin t < k', program)
+    check_over(report, "sh", copy("a file as standard input", line, {"k": TWO}, after=TWO))
+
+
 def check(report: Report, program: str) -> None:
     """Runs this topic."""
     check_new_files(report, program)
     for each in (check_own_files, check_others_files, check_hard_links):
         each(report, program, (*CHANGES, *COPIES))
-    for each in (check_links, check_broken_links, check_removed, check_locked_folder):
+    for each in (check_links, check_removed, check_locked_folder, check_pipes, check_input):
         each(report, program)
+    for case, places in ROWS:
+        check_over(report, program, case, *places)

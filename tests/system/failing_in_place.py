@@ -1,106 +1,39 @@
 """Saves in place of which a system call fails, or that are killed at one.
 
-Bytes past the old end are written and synced first, and the file is looked at once more before an old byte is written
-over. If a write, a cut or a sync fails, the old bytes are written back, and if that fails too, a message says so.
+Bytes past the old end are written and synced first. If a write, a cut or a sync fails, the old bytes are written back,
+and if that fails too, a message says so.
 """
 
 import os
 import re
 import signal
-from collections.abc import Iterator
 
 from makers.images import B, HOST, keytab
-from models.cases import IN_PLACE, in_place, ktedit, ktutil
+from models.cases import IN_PLACE, in_place, ktutil
 from models.modelled import modelled
 from runs.harness import Case, Outcome, Report, differences, files_in, folder_of, run
-from runs.preload import MOST_CALLS, Line, Preloaded, preloaded
+from runs.preload import Line
 from runs.rows import shown
 from runs.system_calls import Call, calls_of, check_traced, traced, under_strace
 from runs.terminal import EXPLAIN
 from system.failing_streams import Ends
 from system.failing_system_calls import (PRINT, READ, Step, calls_of_run, check_failure, held, listed, lock, looked,
                                          needed)
-from system.placing import (CUT_OFF, EQUAL, LONGER, MIXED, PLACED, SHORTER, TALK, changed, explained, images,
-                            message_of, with_words)
+from system.placing import (CUT_OFF, EQUAL, LONGER, MIXED, SHORTER, TALK, changed, explained, images, message_of,
+                            with_words)
 from system.saving import check_over, tree_faults, unsaved, write
 from words.phrases import AFTERMATHS, CAUSES
 
-# A write of a part, with its length and place, and a cut, with the length that is left.
-WRITE = re.compile(r"pwrite64\(\d+, .*, (\d+), (\d+)\) ")
-CUT = re.compile(r"ftruncate\(\d+, (\d+)\) ")
+# The place from which a call writes, or cuts.
+PLACE = re.compile(r"(?:pwrite64\(\d+, .*, \d+|ftruncate\(\d+), (\d+)\) ")
 
-# The calls that change the file, and how many bytes a write moves at most where it moves few.
-CHANGES = ("pwrite64", "ftruncate", "fsync")
-FEW = 7
-
-# A keytab of 100 KB of which one entry is removed.
-LARGE = ktedit(keytab(*[HOST] * 2_000), b"cut 51002\n", name="removes from a large file")
+# The calls that change a file, and those of each run, in order.
+CHANGES = WRITE, CUT, SYNC = ("pwrite64", "ftruncate", "fsync")
+CALLS = ((LONGER, (WRITE, SYNC)), (MIXED, (WRITE, SYNC, WRITE, SYNC)), (EQUAL, (WRITE, SYNC)),
+         (SHORTER, (WRITE, CUT, SYNC)), (CUT_OFF, (CUT, SYNC)))
 
 ERRORS = ("EIO", "ENOSPC", "EDQUOT")
 KILLED = Outcome(-signal.SIGKILL)
-
-# What a run does to its file: the part that it writes, the length to which it cuts it, or nothing for a sync.
-Deed = tuple[int, ...]
-SYNC: Deed = ()
-
-# What it looks at meanwhile, and the looks before it goes on to write over old bytes, and last of all.
-LOOKS = {"name": r'\w*stat\w*\(AT_FDCWD, "[kct]"', "size": r"\w*stat\w*\(\d", "bytes": r'read\(\d+, "\\5',
-         "locks": r'open.*"/proc/locks"'}
-BEFORE, LAST = ("locks", "name", "size", "bytes"), ("name", "size", "bytes")
-
-
-def done_in(trace: list[str]) -> list[Deed | str]:
-    """Returns what a run did to its file, and at what it looked, each once in a row."""
-    found: list[Deed | str] = []
-    for line in trace:
-        if of_write := WRITE.match(line):
-            size, at = map(int, of_write.groups())
-            found.append((at, at + size))
-        elif of_cut := CUT.match(line):
-            found.append((int(of_cut[1]),))
-        elif line.startswith("fsync("):
-            found.append(SYNC)
-        else:
-            found += [look for look, call in LOOKS.items() if re.match(call, line) and found[-1:] != [look]]
-    return found
-
-
-def deeds_of(trace: list[str]) -> list[Deed]:
-    """Returns what a run did to its file."""
-    return [each for each in done_in(trace) if isinstance(each, tuple)]
-
-
-def first_deed(done: list[Deed | str]) -> int:
-    """Returns how many looks come before the first deed."""
-    return next((at for at, each in enumerate(done) if isinstance(each, tuple)), len(done))
-
-
-def patch(before: bytes, after: bytes) -> tuple[int, int]:
-    """Returns from where and up to where those bytes differ that both images have; twice 0 if nowhere."""
-    differing = [at for at, (old, new) in enumerate(zip(before, after)) if old != new]
-    return (differing[0], differing[-1] + 1) if differing else (0, 0)
-
-
-def wanted_deeds(before: bytes, after: bytes) -> list[Deed | str]:
-    """Returns what a run has to do from the comparison before it writes on. A cut follows a look at the length."""
-    first, last = patch(before, after)
-    over: list[Deed | str] = [(first, last)] if first < last else []
-    over += ["size", (len(after),)] if len(after) < len(before) else []
-    added = [(len(before), len(after)), SYNC, *BEFORE] if len(after) > len(before) else []
-    return [*BEFORE, *added, *over, *([SYNC] if over else []), *LAST]
-
-
-def check_order(report: Report, program: str) -> None:
-    """Checks the order of the calls of each save, and that no file is made, truncated by its opening, or renamed."""
-    for case in map(in_place, (*PLACED, LARGE)):
-        with folder_of(case.files) as folder:
-            outcome, trace = traced(program, Line(case.words, case.stdin), folder)
-        done, wanted = done_in(trace), wanted_deeds(*images(case))
-        got = done[max(0, first_deed(done) - first_deed(wanted)):]
-        faults = [] if got == wanted else [f"{got}, not {wanted}"]
-        strange = ("O_TRUNC", "O_CREAT", "rename", ".krbfile", "unlink")
-        faults += [line for line in trace if any(word in line for word in strange)]
-        report.check(f"the order of {case.name}", faults + differences(case.wanted, outcome))
 
 
 def run_failing(program: str, case: Case, *options: str) -> tuple[Outcome, dict[str, bytes], list[Call]]:
@@ -113,19 +46,17 @@ def run_failing(program: str, case: Case, *options: str) -> tuple[Outcome, dict[
 def wanted_backs(case: Case, is_over: bool) -> list[str]:
     """Returns the calls that bring the old bytes back, if some may have been written over or not."""
     before, after = images(case)
-    cut = ["ftruncate"] if len(after) > len(before) else []
-    return [*(["pwrite64", "fsync"] if is_over else []), *cut, "fsync"]
+    return [*([WRITE, SYNC] if is_over else []), *([CUT] if len(after) > len(before) else []), SYNC]
 
 
-def is_written_over(case: Case, calls: list[Call]) -> bool:
-    """Returns whether some of these calls writes over old bytes, or cuts them off."""
-    end = len(images(case)[0])
-    return any(deed != SYNC and deed[0] < end for deed in deeds_of([call.line for call in calls]))
+def is_written_over(trace: list[str], end: int) -> bool:
+    """Returns whether a call of a trace writes over bytes before that end, or cuts them off."""
+    return any(int(found[1]) < end for found in map(PLACE.match, trace) if found)
 
 
 def check_unsaved(report: Report, program: str, case: Case, calls: list[Call], nth: int, error: str) -> list[Call]:
     """Lets a call that changes the file fail, and returns the calls that bring the old bytes back."""
-    call, is_over = calls[nth], is_written_over(case, calls[:nth + 1])
+    call, is_over = calls[nth], is_written_over([each.line for each in calls[:nth + 1]], len(images(case)[0]))
     words = [CAUSES[error], *([AFTERMATHS["restored"]] if is_over else [])]
     got, files, made = run_failing(program, with_words(case), *call.to(f"error={error}"))
     backs = made[nth + 1:]
@@ -159,19 +90,21 @@ def check_lost(report: Report, program: str, case: Case, call: Call, back: Call,
 
 def left_behind(backs: list[Call], back: Call, is_over: bool) -> str:
     """Returns what a failing call of those that bring old bytes back leaves: the first two write these, if any do."""
-    if backs[0].name != "pwrite64" or back not in backs[:2]:
+    if backs[0].name != WRITE or back not in backs[:2]:
         return ""
     return "damaged" if is_over or back == backs[1] else "restored"
 
 
 def check_failures(report: Report, program: str) -> None:
     """Lets each call fail that changes the file, and then also each of those that bring the old bytes back."""
-    for case in map(in_place, (LONGER, MIXED, EQUAL, SHORTER, CUT_OFF)):
+    for placed, names in CALLS:
+        case = in_place(placed)
         outcome, _, calls = run_failing(program, case)
-        report.compare(f"no call fails: {case.name}", case.wanted, outcome)
+        faults = [] if tuple(call.name for call in calls) == names else [f"{calls}, not {names}"]
+        report.check(f"no call fails: {case.name}", faults + differences(case.wanted, outcome))
         for nth, call in enumerate(calls):
             backs = [check_unsaved(report, program, case, calls, nth, error) for error in ERRORS][0]
-            is_over = is_written_over(case, calls[:nth])
+            is_over = is_written_over([each.line for each in calls[:nth]], len(images(case)[0]))
             for back in backs:
                 check_lost(report, program, case, call, back, left_behind(backs, back, is_over))
 
@@ -207,11 +140,11 @@ def check_steps(report: Report, program: str) -> None:
             check_failure(report, program, Ends(made), steps(), call, error)
 
 
-def faults_of_kill(case: Case, files: dict[str, bytes], deeds: list[Deed]) -> list[str]:
+def faults_of_kill(case: Case, files: dict[str, bytes], trace: list[str]) -> list[str]:
     """Returns the faults of what a killed run left: until it writes over old bytes, these are the front of the file."""
     before, after = images(case)
     left = files.pop(changed(case))
-    is_overwriting = any(len(deed) == 2 and deed[0] < len(before) for deed in deeds)
+    is_overwriting = is_written_over(trace, len(before))
     may_be = [{old, new} if is_overwriting else {old} for old, new in zip(before, after)]
     is_mix = len(left) >= len(may_be) and all(byte in those for byte, those in zip(left, may_be))
     is_front = is_overwriting or left.startswith(before)
@@ -226,7 +159,7 @@ def killed(program: str, case: Case, call: Call) -> list[str]:
         if outcome == case.wanted:
             faults = tree_faults(case.files_after, folder)
         else:
-            faults = differences(KILLED, outcome) + faults_of_kill(case, files_in(folder), deeds_of(trace))
+            faults = differences(KILLED, outcome) + faults_of_kill(case, files_in(folder), trace)
         write(os.path.join(folder, name), case.files[name])
         faults += differences(case.wanted, run(program, case.words, folder, case.stdin))
         return faults + tree_faults(case.files_after, folder)
@@ -243,29 +176,7 @@ def check_kills(report: Report, program: str) -> None:
                 report.check(f"killed at {call}: {placed.name}", killed(program, placed, call))
 
 
-def faults_at(under: Preloaded, case: Case, **settings: int) -> Iterator[list[str]]:
-    """Yields the faults of a run of which a write of few bytes fails, for each such write."""
-    over, line = under.over(case.files), Line(case.words, case.stdin)
-    for nth in range(1, MOST_CALLS):
-        got = over.run(line, MOST=FEW, **{name: nth for name in settings}, ERROR=28)
-        if not got.failures:
-            yield differences(case.wanted, got.outcome) + ([] if got.files == case.files_after else ["other files"])
-            return
-        yield differences(unsaved(case), got.outcome) + ([] if got.files == case.files else [f"{nth} loses bytes"])
-
-
-def check_parts(report: Report, program: str) -> None:
-    """Lets each write fail, or write nothing, where a write moves few bytes: what was written is undone."""
-    with preloaded(report, program, "writes in place of few bytes", {}) as under:
-        for case in map(in_place, (LONGER, MIXED, SHORTER)) if under else ():
-            for setting in ("FAIL_SAVE", "ZERO_SAVE"):
-                found = [*faults_at(under, case, **{setting: 1})]
-                few = ["too few writes"] if len(found) < 4 else []
-                report.check(f"{setting}: {case.name}", few + sum(found, [])[:3])
-
-
 def check(report: Report, program: str) -> None:
     """Runs this topic."""
-    check_traced(report, program, "system calls of saves in place that fail", check_order, check_failures, check_talk,
+    check_traced(report, program, "system calls of saves in place that fail", check_failures, check_talk,
                  check_steps, check_kills)
-    check_parts(report, program)

@@ -1,8 +1,8 @@
 """Each read and each write of each command fails, by several errors, or moves few bytes.
 
 The expected results are those of the models. An interrupted read or write counts as failed, but a write in place is
-repeated. A file that was replaced is read once more, and nothing is said where that fails; one that was saved in place
-is read once more too, and that is said.
+repeated; after one in place that fails the old bytes are back. A file that was replaced is read once more, and nothing
+is said where that fails; one that was saved in place is read once more too, and that is said.
 """
 
 from collections.abc import Iterable, Iterator
@@ -11,10 +11,14 @@ from errno import EACCES, EAGAIN, EINTR, ENOMEM, ENOSPC, errorcode
 from functools import cached_property
 from random import Random
 
-from models.cases import IN_PLACE, placed
+from makers.images import TWO, Entry, keytab
+from makers.usual_caches import USUAL
+from models.cases import IN_PLACE, klist_silent, ktcopy, placed
 from models.check_model import FOLDER, checked_files
+from models.copy_model import NEW, Request
 from models.ktutil_model import Failure, Ktutil, handled
-from models.modelled import NOW, Modelled, Stage, large, small
+from models.modelled import NOW, Modelled, Stage, large, mixed_keytab, modelled, rotated_keytab, small
+from models.removal_model import Selection
 from runs.harness import Outcome, Report, differences, message
 from runs.preload import MOST_CALLS, WHOLE, Counted, Line, Preloaded, preloaded
 from runs.random_runs import Rounds
@@ -32,8 +36,36 @@ OF_READER = ("FAIL_READ", "FAIL_WRITE", "ZERO_WRITE")
 OF_REMOVER = (*OF_READER, "FAIL_SAVE", "ZERO_SAVE")
 OF_EDITOR = ("FAIL_INPUT", *OF_REMOVER)
 
+# Keytabs of many entries, the second of which has another key in each.
+MANY = [Entry((b"x" * (number % 30), b"%d" % number)) for number in range(40)]
+OTHERS = keytab(*(replace(each, key=each.components[1]) for each in MANY))
+
 # A run's end, and the files after it.
 End = tuple[Outcome, dict[str, bytes]]
+
+
+def small_runs() -> list[Modelled]:
+    """Returns runs of each command over small files."""
+    many, replaces = keytab(*MANY), Request(replaces=True)
+    copies = (
+        ktcopy(mixed_keytab(12), mixed_keytab(5), request=Request(), name="of what is missing"),
+        ktcopy(rotated_keytab(4), None, request=Request(Selection((b"/0@R", b"x/1@R"), NEW)), name="of new versions"),
+        ktcopy(TWO, b"", request=Request(), name="into no bytes"),
+        ktcopy(many, OTHERS, request=replaces, name="in place of others"),
+        ktcopy(many, OTHERS, request=Request(), name="that clashes"),
+        ktcopy(many, OTHERS, request=replace(replaces, is_dry=True), name="that only prints"),
+        ktcopy(many, many, request=Request(), name="of what is there"),
+        ktcopy(many, many, request=Request(Selection(kvno=4_000)), name="of nothing"),
+    )
+    return [*small(), *map(modelled, copies)]
+
+
+def large_runs() -> list[Modelled]:
+    """Returns runs of each command over larger files."""
+    source, versions = mixed_keytab(400), rotated_keytab(100)
+    copies = (ktcopy(source, mixed_keytab(300), request=Request(), name="of many that are missing"),
+              ktcopy(versions, mixed_keytab(300), request=Request(Selection(kvno=NEW)), name="of many new versions"))
+    return [*large(), *map(modelled, copies)]
 
 
 class FailingFiles(dict):
@@ -103,6 +135,8 @@ class Ends:
             return [*self.talks("load")]
         if words[0] == "ktcheck":
             return [*self.unread_keytabs()]
+        if "-s" in words:
+            return [(Outcome(3), self.run.case.files)]
         names = words[-2:] if words[0] == "ktcopy" else [words[1] if words[0] == "ktfind" else words[-1]]
         return [(message(3, f"{name}: cannot read"), self.run.case.files) for name in names]
 
@@ -179,7 +213,7 @@ def faults_of_call(
 
 
 # How many bytes a call moves, and how one fails: over small files, and over larger ones.
-OF_SMALL = (*((WHOLE, error) for error in ERRORS), (FEW, EINTR))
+OF_SMALL = (*((WHOLE, error) for error in ERRORS), (FEW, EINTR), (FEW, ENOSPC))
 OF_LARGE = ((WHOLE, EINTR), (20_000, EACCES))
 
 
@@ -217,24 +251,24 @@ def check_few_bytes(report: Report, over: Preloaded, run: Modelled, most: int) -
 
 
 def check(report: Report, program: str) -> None:
-    """Runs this topic."""
+    """Runs this topic. `klist -s` says nothing."""
     with preloaded(report, program, "failing streams", {}) as under:
         if under is None:
             return
-        runs = [*((run, OF_SMALL) for run in small()), *((run, OF_LARGE) for run in large())]
+        silent = modelled(klist_silent(USUAL, NOW))
+        runs = [*((run, OF_SMALL) for run in (*small_runs(), silent)), *((run, OF_LARGE) for run in large_runs())]
         for run, ways in runs:
-            ends = Ends(run)
+            ends, over = Ends(run), under.over(run.case.files)
             for setting in settings_of(run):
-                check_setting(report, under.over(run.case.files), ends, setting, ways)
-        for run in [*small(), *large()]:
+                check_setting(report, over, ends, setting, ways)
             for most in (1, 7, 4_095):
-                check_few_bytes(report, under.over(run.case.files), run, most)
+                check_few_bytes(report, over, run, most)
 
 
 def check_rounds(report: Report, program: str, seeds: range) -> None:
     """Lets calls fail that the seeds choose, of runs over larger files too."""
     with preloaded(report, program, "failing streams", {}) as under:
-        those = [Ends(run) for run in [*small(), *large()]]
+        those = [Ends(run) for run in [*small_runs(), *large_runs()]]
         for seed in seeds if under else ():
             random = Random(seed)
             ends = random.choice(those)

@@ -8,9 +8,11 @@ import re
 import signal
 from dataclasses import dataclass
 
-from makers.images import B, TWO, keytab
+from keytabs.copies import OTHER
+from makers.images import B, HOST, TWO, keytab
 from makers.usual_caches import USUAL
 from models import cases
+from models.copy_model import Request
 from models.modelled import NOW, Modelled, modelled
 from models.removal_model import Selection
 from models.ticket_removal_model import Selection as TicketSelection
@@ -114,6 +116,7 @@ def runs() -> list[tuple[Modelled, list[Step]]]:
     add = b"add 3 17 0 000102030405060708090a0b0c0d0e0f host/a@R\n"
     config = b"start\ncut 40\nconfig pa_type krbtgt/R@R 3\n"
     change_k, change_c = ([*hold(name), *held(), *save(name), PRINT] for name in "kc")
+    copy = [*load("k"), *hold("t"), *held(2)]
     return [(modelled(case), steps) for case, steps in (
         (cases.klist(TWO, columns="tKe"), [*load("k"), PRINT]),
         (cases.klist_cache(USUAL, words=("-cefC", "c")), [*load("c"), PRINT]),
@@ -126,6 +129,10 @@ def runs() -> list[tuple[Modelled, list[Step]]]:
         (cases.ccedit(USUAL, config, name="a cache"), [READ, *change_c]),
         (cases.ccremove(USUAL, NOW, selection=TicketSelection(b"krbtgt/R@R"), name="a cache"), change_c),
         (cases.hold(TWO, keytab(B), name="a keytab"), [*hold("k"), *held(), PRINT, READ, *save("k", 2)]),
+        (cases.ktcopy(TWO, keytab(HOST), request=Request(), name="an entry"), [*copy, *save("t"), PRINT]),
+        (cases.ktcopy(TWO, None, request=Request(), name="no file"), [*copy, *save("t", is_new=True), PRINT]),
+        (cases.ktcopy(TWO, keytab(OTHER), request=Request(replaces=True, is_dry=True), name="a dry run"),
+         [*load("k"), *load("t", 2), PRINT]),
         (cases.ktutil(TALK, NOW, files={"j": TWO, "k": keytab(B)}, name="three files"), TALKED),
     )]
 
@@ -243,20 +250,15 @@ def check_failure(report: Report, program: str, ends: Ends, steps: list[Step], c
     report.check(f"{call} fails with {error}: {run.case.name}", faults_of_failure(ends, call, step, error, got))
 
 
-def check_run(report: Report, program: str, run: Modelled, steps: list[Step]) -> None:
-    """Lets each call of a run fail, and kills the run at each."""
-    ends = Ends(run)
-    for call in calls_of_run(report, program, run, steps):
-        for error in ERRORS:
-            check_failure(report, program, ends, steps, call, error)
-        got, _ = traced_run(program, run, *call.to("signal=KILL"))
-        report.check(f"killed at {call}: {run.case.name}", faults_of_kill(run, got))
-
-
 def check_runs(report: Report, program: str) -> None:
     """Lets each call of each run fail, and kills the run at each."""
     for run, steps in runs():
-        check_run(report, program, run, steps)
+        ends = Ends(run)
+        for call in calls_of_run(report, program, run, steps):
+            for error in ERRORS:
+                check_failure(report, program, ends, steps, call, error)
+            got, _ = traced_run(program, run, *call.to("signal=KILL"))
+            report.check(f"killed at {call}: {run.case.name}", faults_of_kill(run, got))
 
 
 def check(report: Report, program: str) -> None:

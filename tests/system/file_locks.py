@@ -19,15 +19,15 @@ from runs.rows import BAD_LINE
 from runs.system_calls import Halt, check_traced, halted, traced, under_strace
 from runs.terminal import EXPLAIN
 from system.placing import ADD_LONG, EQUAL, LAST_OF_EACH, LONGER, PLACED, SHORTER, explained, refused, with_words
-from system.saving import HOLDING_NOTHING, OLD, SAVING_NOTHING, TGT, WALK, check_over, stands, tree_faults, unsaved
+from system.saving import (CHANGES, CLASH, COPIES, HOLDING_NOTHING, OLD, SAVING_NOTHING, TGT, WALK, check_over, stands,
+                           tree_faults, unsaved)
 from system.waits import AT_ONCE, LEAST_WAIT, LONGEST_WAIT, faults_of_waiting, ofd_lock
 from words.phrases import CAUSES
 
 # A run of each command that changes a file, in both ways.
 BOTH_WAYS = [way for case in LAST_OF_EACH for way in (case, in_place(case))]
 
-# A keytab that clashes with one of both, and scripts that can change nothing.
-CLASH = keytab(replace(B, key=b"other"))
+# Scripts that can change nothing.
 SCRIPTS = (b"", b"# none\n", WALK, b"resume 2\n", b"start\nfrob\n")
 
 # Runs that take no lock: those that list, such scripts, dry runs, copies of nothing, and lines of ktutil that read.
@@ -53,6 +53,9 @@ LEAVING = (*SAVING_NOTHING, ktedit(TWO, b"cut 3\n", name="is refused"),
                (keytab(B), TWO, "has it already"), (TWO, TWO, "has all already"), (TWO, CLASH, "clashes"),
                (keytab(), keytab(HOST), "has nothing to copy"), (keytab(), b"", "has nothing for no bytes"),
                (TWO, TWO[:-1], "has a damaged target"), (TWO, None, "copies a keytab into itself"))))
+
+# The name of a new file.
+NEW_FILE = "NAME.krbfile"
 
 # Kinds of locks: of a whole file, and record locks.
 FLOCK, TO_READ, TO_WRITE = "a flock", "a lock to read", "a lock to write"
@@ -107,6 +110,12 @@ def ended_beside(program: str, case: Case, lock: str, file: str) -> tuple[list[s
         return faults + (["the folder, or a file, was changed"] if is_changed else []), seconds
 
 
+def with_file(case: Case, name: str) -> Case:
+    """Returns a run beside another file, named after its own, which it leaves."""
+    beside = {name.replace("NAME", file_of(case)): b"held"}
+    return replace(case, files={**case.files, **beside}, files_after={**case.files_after, **beside})
+
+
 def check_no_waits(report: Report, program: str) -> None:
     """Checks that runs that change nothing wait for no lock, nor those that replace for one to read.
 
@@ -115,28 +124,34 @@ def check_no_waits(report: Report, program: str) -> None:
     rows = [(case, lock, file) for case in LOCKING_NOTHING for lock in (FLOCK, TO_WRITE) for file in case.files]
     rows += [(case, TO_READ, file_of(case)) for case in PLACED]
     rows += [(case, lock, "k") for case in BOTH_WAYS if case.words[0] == "ktcopy" for lock in (FLOCK, TO_WRITE)]
+    rows.append((with_file(COPIES[0], "k.krbfile"), FLOCK, "k.krbfile"))
+    rows += [(with_file(case, NEW_FILE), FLOCK, NEW_FILE.replace("NAME", file_of(case)))
+             for case in (*HOLDING_NOTHING, COPIES[3])]
     for case, lock, file in rows:
         faults, seconds = ended_beside(program, case, lock, file)
         faults += [] if seconds < AT_ONCE else [f"it took {seconds:.1f} seconds"]
         report.check(f"{lock} of {file} is not waited for: {case.name}", faults)
 
 
-def gives_up(program: str, case: Case) -> list[str]:
-    """Returns the faults of a run while another program keeps the lock: after ten seconds its save is refused."""
+def gives_up(program: str, case: Case, file: str) -> list[str]:
+    """Returns the faults of a run while another program keeps a lock: after ten seconds its save is refused."""
     if case.files_after != case.files:
         line = "line 2: " if case.words[0] == "ktutil" else ""
         wanted = explained(unsaved(case, file_of(case)), line + CAUSES["in use"])
         case = replace(case, words=(EXPLAIN, *case.words), wanted=wanted, files_after=case.files)
-    faults, seconds = ended_beside(program, case, FLOCK, file_of(case))
+    faults, seconds = ended_beside(program, case, FLOCK, file)
     return faults + ([] if LEAST_WAIT <= seconds <= LONGEST_WAIT else [f"it took {seconds:.1f} seconds"])
 
 
 def check_given_up(report: Report, program: str) -> None:
-    """Checks that a lock that stays is waited for some ten seconds."""
-    cases = (*BOTH_WAYS, LEAVING[0], in_place(LEAVING[0]))
-    with ThreadPoolExecutor(len(cases)) as pool:
-        for case, faults in zip(cases, pool.map(gives_up, [program] * len(cases), cases)):
-            report.check(f"a flock that stays: {case.name}", faults)
+    """Checks that a lock of the file that stays, or of its new file, is waited for some ten seconds."""
+    rows = [(case, file_of(case)) for case in (*BOTH_WAYS, LEAVING[0], in_place(LEAVING[0]))]
+    rows += [(with_file(case, NEW_FILE), NEW_FILE.replace("NAME", file_of(case)))
+             for case in (*SAVING_NOTHING, CHANGES[2], *COPIES[:3])]
+    with ThreadPoolExecutor(len(rows)) as pool:
+        found = [pool.submit(gives_up, program, case, file) for case, file in rows]
+    for (case, file), faults in zip(rows, found):
+        report.check(f"a flock of {file} that stays: {case.name}", faults.result())
 
 
 def renamed_while_held(program: str, case: Case) -> list[str]:
@@ -161,16 +176,6 @@ def check_renamed(report: Report, program: str) -> None:
     add = ktedit(keytab(B), ADD_LONG, name="adds")
     for case in (add, in_place(add)):
         report.check(f"a lock that is held through a rename: {case.name}", renamed_while_held(program, case))
-
-
-def check_no_lock_taken(report: Report, program: str) -> None:
-    """Checks that a run that changes nothing takes no lock, not even for a moment, and opens no file to write it."""
-    strange = ("flock(", "F_SETLK", "F_OFD_SETLK", "O_RDWR", "O_WRONLY", "O_CREAT")
-    for case in LOCKING_NOTHING:
-        with folder_of(case.files) as folder:
-            outcome, trace = traced(program, Line(case.words, case.stdin), folder)
-        found = [line for line in trace if any(word in line for word in strange)]
-        report.check(f"no lock is taken: {case.name}", differences(case.wanted, outcome) + found)
 
 
 def check_without(report: Report, program: str) -> None:
@@ -226,5 +231,4 @@ def check(report: Report, program: str) -> None:
     check_no_waits(report, program)
     check_given_up(report, program)
     check_renamed(report, program)
-    check_traced(report, program, "locks of files", check_no_lock_taken, check_without, check_other_handle,
-                 check_held_to_end)
+    check_traced(report, program, "locks of files", check_without, check_other_handle, check_held_to_end)

@@ -1,24 +1,32 @@
-"""Files that can be saved in place only, as none can be made beside them or take their name, disks that are full or
-read-only, and long names."""
+"""What a save in place keeps: the file itself, with its owner, mode, other names, access list and label. Files that can
+be saved in place only, as none can be made beside them or take their name, and disks that are full or read-only. A
+missing file is not made in place."""
 
 import os
 import resource
+import struct
 import subprocess
 from contextlib import suppress
 from dataclasses import replace
+from itertools import product
 from shlex import quote
 
-from makers.images import HOST, Entry, keytab
+from keytabs.ktutil_lines import KEY
+from keytabs.scripts import FAULTS as LINE_FAULTS
+from makers.images import B, HOST, TWO, Entry, keytab
+from makers.usual_caches import USUAL
 from models.cases import IN_PLACE, in_place, ktedit
-from runs.harness import Case, Report, differences, folder_of, run
+from runs.harness import Case, Report, differences, faults_of, files_in, folder_of, message, run
 from runs.limits import limit
 from runs.namespaces import can_mount, run_within
+from runs.rows import printed, words_of
 from runs.terminal import EXPLAIN
 from system.disk_faults import mounted
 from system.placing import EQUAL, LONGER, MIXED, PLACED, changed, explained, kept, refused, with_words
-from system.saving import (ADD, NEW, OLD, SCRIPT, UNSAVED, USER, WALK, as_another, at, check_over, renamed,
+from system.saving import (ADD, GROUP, NEW, OLD, SCRIPT, UNSAVED, USER, as_another, check_over, link, renamed,
                            tree_faults, write)
-from words.phrases import AFTERMATHS, CAUSES
+from words.explained import Explained, unchanged
+from words.phrases import AFTERMATHS, BEGINS_AS_CACHE, CAUSES, LEAVE_OUT, NOT_READ, code, line_fault
 
 # A keytab that fills a page of 4,096 bytes but for less than an entry.
 FULL = keytab(*[HOST] * 79, Entry((b"x" * 14,)))
@@ -31,17 +39,54 @@ SPARSE = keytab(HOST, 200_000)
 SPARSE_FROM, ROOM = 100, 24_576
 INTO_BOTH = "".join(f"add 3 17 1 {'00' * 16} {'z' * length}@R\n" for length in (20_000, 15_000)).encode()
 
+# A mode, and an access list of it by which another user may read the file too, as the system stores it: a tag,
+# permissions and a number for each entry.
+MODE, NOBODY = 0o640, 0xffffffff
+LIST = struct.pack("<I", 2) + b"".join(struct.pack("<HHI", *entry) for entry in (
+    (1, 6, NOBODY), (2, 4, 1234), (4, 4, NOBODY), (16, 4, NOBODY), (32, 0, NOBODY)))
 
-def check_unwritable(report: Report, program: str) -> None:
-    """Checks that a file that may not be written is loaded as ever, and that only its save is refused."""
-    options = as_another(program)
-    if options is None:
-        report.skip("files that may not be written", "none but root may start the program")
-        return
-    walk = in_place(ktedit(EQUAL.files["k"], WALK, name="walks over a file that may not be written"))
-    for case in (refused(in_place(EQUAL), "EACCES"), with_words(walk)):
-        check_over(report, program, case, at("k", lambda path: os.chmod(path, 0o444)),
-                   at(".", lambda path: os.chmod(path, 0o777)), **options)
+# Attributes of a file. A label may be set by root only.
+ATTRIBUTES = {"system.posix_acl_access": LIST, "user.origin": b"a realm",
+              "security.selinux": b"system_u:object_r:krb5_keytab_t:s0\0"}
+
+
+def kinds(report: Report) -> list[dict[str, bytes]]:
+    """Returns attributes that a file may have: none, and each that can be set."""
+    found: list[dict[str, bytes]] = [{}]
+    with folder_of({"k": b""}) as folder:
+        for name, value in ATTRIBUTES.items():
+            try:
+                os.setxattr(os.path.join(folder, "k"), name, value)
+                found.append({name: value})
+            except OSError as error:
+                report.skip(f"the attribute {name}", f"a file cannot have it: {error.strerror}")
+    return found
+
+
+def check_kept(report: Report, program: str, case: Case, attributes: dict[str, bytes]) -> None:
+    """Checks a save of a file that has another name, those attributes, and if root makes it another owner."""
+    placed, name = in_place(case), changed(case)
+    with folder_of(case.files) as folder:
+        path, other = os.path.join(folder, name), os.path.join(folder, "other")
+        with suppress(PermissionError):
+            os.chown(path, USER, GROUP)
+        os.chmod(path, MODE)
+        for each, value in attributes.items():
+            os.setxattr(path, each, value)
+        os.link(path, other)
+        wanted = kept(path)
+        os.utime(folder, (1, 1))
+        with open(path, "rb", buffering=0) as reader:
+            reader.read()
+            got = run(program, placed.words, folder, case.stdin)
+            reader.seek(0)
+            seen = reader.read()
+        faults = ["the folder was changed"] if os.stat(folder).st_mtime != 1 else []
+        faults += [] if kept(path) == wanted else [f"{kept(path)}, not {wanted}"]
+        faults += [] if seen == case.files_after[name] else ["who has it open reads other bytes"]
+        after = files_in(folder)
+        faults += [] if after.pop("other") == after[name] else ["the other name has other bytes"]
+    report.check(f"{placed.name}, with {[*attributes]}", faults + faults_of(placed, got, after))
 
 
 def check_set_id(report: Report, program: str) -> None:
@@ -146,27 +191,84 @@ def check_sparse(report: Report, program: str) -> None:
     report.check("a sparse file on a full disk", faults)
 
 
-def check_names(report: Report, program: str) -> None:
-    """Checks long names, under which no new file fits, and those of new files, which stay refused."""
-    for case in map(in_place, PLACED):
-        if changed(case) == case.words[-1]:
-            rows = [renamed(case, "x" * length) for length in (248, 255)]
-            rows.append(refused(renamed(case, f"{changed(case)}.krbfile"), "name of saves"))
-            for one in rows:
-                check_over(report, program, replace(one, name=f"a name of {len(one.words[-1])} bytes: {case.name}"))
+ADDENT = f"addent -key -p a@R -k 1 -e 17\n{KEY}\n".encode()
+NO_FILE = CAUSES["no file"]
 
 
-def check_beside(report: Report, program: str) -> None:
-    """Checks that what has the new file's name is not looked at."""
-    makes = {"a folder": os.mkdir, "a pipe": os.mkfifo, "a link to the file": lambda path: os.symlink("k", path),
-             "what a killed run left": lambda path: write(path, b"left")}
-    for what, make in makes.items():
-        case = replace(in_place(ADD), name=f"{what} in the new file's place, in place")
-        check_over(report, program, case, at("k.krbfile", make))
+def missing(line: str, **more) -> Explained:
+    """Returns a run whose file, named last, is missing."""
+    return unchanged(line, (f"{line.split()[-1]}: no such file", ""), **more)
+
+
+def unwritten(name: str, line: int, phrase: str, stdin: bytes, **more) -> Explained:
+    """Returns a run of ktutil of which that line is not saved to that file."""
+    told = (f"{name}: cannot write", f"line {line}: {phrase}")
+    return unchanged("ktutil --in-place", told, status=3, stdin=stdin, **more)
+
+
+FAULTY, FAULT = next(iter(LINE_FAULTS.items()))
+
+CASES = [
+    # Each command over a missing file, also where nothing is saved.
+    missing("ktedit --in-place k", stdin=SCRIPT),
+    unchanged("ktedit k --in-place", ("k: no such file", ""), stdin=SCRIPT),
+    missing("ktedit --in-place --v1-big k", stdin=b""),
+    missing("ktedit --in-place k", stdin=b"start\nstep 0\n"),
+    missing("ccedit --in-place c", stdin=b"config a - v\n"),
+    missing("ktremove --in-place -k old k"),
+    missing("ktremove --in-place -n -k old k"),
+    missing("ccremove --in-place --expired c"),
+    missing("ccremove --in-place -n --expired c"),
+    missing("ktcopy --in-place k t", files={"k": TWO}),
+    missing("ktcopy --in-place -n k t", files={"k": TWO}),
+    missing("ktcopy --in-place --replace k t", files={"k": keytab()}),
+    # What comes before: a faulty script, and the file that is copied from.
+    unchanged("ktedit --in-place k", ("line 1: fault %d" % FAULT, line_fault(FAULT)), stdin=f"{FAULTY}\n".encode()),
+    unchanged("ktcopy --in-place k t", ("k: no such file", ""), files={"t": TWO}),
+    unchanged("ktcopy --in-place k t", ("k: no such file", "")),
+    unchanged("ktcopy --in-place -p c@R k t", ("k: refused 9", code(9, "ktcopy")), files={"k": TWO}),
+    unchanged("ktcopy --in-place k t", ("k: refused 1", code(1)), files={"k": TWO[:-1]}),
+    # A file in no folder, and one of another type.
+    missing("ktedit --in-place no/k", stdin=SCRIPT),
+    unchanged("ktedit --in-place KCM:k", ("KCM:k: no such file", NOT_READ.replace("TYPE", "KCM:")), stdin=SCRIPT),
+    # ktutil: what is read, and what is written.
+    unchanged("ktutil --in-place", ("k: no such file", f"line 1: {NO_FILE}"), stdin=b"rkt k\n"),
+    unwritten("k", 3, NO_FILE, ADDENT + b"wkt k\n"),
+    unwritten("k", 1, NO_FILE, b"wkt k\n"),
+    unwritten("no/k", 3, NO_FILE, ADDENT + b"wkt no/k\n"),
+    unwritten("FILE:k", 3, LEAVE_OUT.replace("TYPE", "FILE:"), ADDENT + b"wkt FILE:k\n"),
+    unwritten("k.krbfile", 3, CAUSES["name of saves"], ADDENT + b"wkt k.krbfile\n", files={"k.krbfile": TWO}),
+    # A file that is not a keytab.
+    unchanged("ktedit --in-place k", (f"k: not a keytab ({BEGINS_AS_CACHE[0]})", BEGINS_AS_CACHE[1]), stdin=SCRIPT,
+         files={"k": USUAL}),
+    # One of no bytes is a keytab for ktcopy.
+    Explained("a file of no bytes", words_of("ktcopy --in-place k t"), (), {"k": keytab(B), "t": b""}, status=0,
+              out=b"copied 2 kvno 3 etype 17 b@R\n", after={"k": keytab(B), "t": keytab(B)}),
+    # A dry run changes nothing.
+    unchanged("ktremove --in-place -n -p b@R k", status=0, out=b"removed 53 kvno 3 etype 17 b@R\n", files={"k": TWO}),
+    unchanged("ccremove --in-place -n -p krbtgt/R@R c", status=0, out=b"removed 40 krbtgt/R@R\n", files={"c": USUAL}),
+    unchanged("ktcopy --in-place -n k t", status=0, out=b"copied 53 kvno 3 etype 17 b@R\n",
+         files={"k": keytab(B), "t": keytab(HOST)}),
+]
+
+
+def check_links(report: Report, program: str) -> None:
+    """Checks links to no file, and one to a file, which is saved where it is."""
+    missing = message(1, "l: no such file")
+    for name, target, wanted, after in (("a link to nothing", "no", missing, keytab(B)),
+                                        ("a link into no folder", "no/k", missing, keytab(B)),
+                                        ("a link to a file", "k", printed("placed 47"), keytab(B, HOST))):
+        case = Case(f"{name}, in place", ("ktedit", IN_PLACE, "l"), wanted, {"k": keytab(B)}, {"k": after}, SCRIPT)
+        check_over(report, program, case, link("l", target))
+
+
+def check_all_kept(report: Report, program: str) -> None:
+    """Checks what each command keeps of a file of those attributes."""
+    for case, attributes in product(PLACED, kinds(report)):
+        check_kept(report, program, case, attributes)
 
 
 def check(report: Report, program: str) -> None:
     """Runs this topic."""
-    for each in (check_unwritable, check_set_id, check_mounted, check_disks, check_limit, check_sparse, check_names,
-                 check_beside):
+    for each in (check_all_kept, check_set_id, check_mounted, check_disks, check_limit, check_sparse, check_links):
         each(report, program)

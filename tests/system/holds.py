@@ -15,7 +15,7 @@ from makers.usual_caches import USUAL, VERSION_3
 from models.cases import IN_PLACE, frame
 from runs.harness import SECONDS, Outcome, Report, differences, folder_of, message, run
 from runs.terminal import EXPLAIN, all_of
-from system.outputs import FAILED
+from system.failing_streams import NO_OUTPUT
 from system.placing import explained
 from system.saving import as_another, stands, tree_faults
 from system.waits import AT_ONCE, LEAST_WAIT, LONGEST_WAIT
@@ -146,8 +146,8 @@ def check_outputs(report: Report, program: str) -> None:
     """Checks outputs that fail, and a terminal: nothing is saved, and the input is left. Checks an input that fails."""
     unread = explained(message(3, "cannot read input"), "error 9")
     for line, (stream, wanted) in product((K, PLACED), {
-            ">/dev/full": replace(explained(FAILED, CAUSES["ENOSPC"]), out=EMPTY),
-            ">&-": replace(explained(FAILED, "error 9"), out=EMPTY),
+            ">/dev/full": replace(explained(NO_OUTPUT, CAUSES["ENOSPC"]), out=EMPTY),
+            ">&-": replace(explained(NO_OUTPUT, "error 9"), out=EMPTY),
             "<&-": replace(unread, out=frame(TWO) + EMPTY)}.items()):
         with folder_of({"k": TWO}) as folder:
             script = f'"$0" "$@" {stream}; status=$?; cat; exit $status'
@@ -158,7 +158,7 @@ def check_outputs(report: Report, program: str) -> None:
         with folder_of(files) as folder:
             got = run(program, (EXPLAIN, *K.split()), folder, EMPTY, stdout=theirs)
             os.close(theirs)
-            faults = differences(explained(FAILED, TO_A_PROGRAM), replace(got, out=all_of(ours)))
+            faults = differences(explained(NO_OUTPUT, TO_A_PROGRAM), replace(got, out=all_of(ours)))
             faults += tree_faults(files, folder)
         os.close(ours)
         report.check(f"a terminal, and {[*files]}", faults)

@@ -26,26 +26,25 @@ OPEN_FILE = b"pos:\t0\nflags:\t0100001\nmnt_id:\t25\nino:\t131\n"
 MOUNTS = (b"24 1 0:37 / / rw,relatime - overlay overlay rw\n26 24 0:31 / /\xff rw - tmpfs t1 rw\n"
           b"25 24 0:38 / /tmp rw shared:2 - tmpfs t2 rw\n")
 
-# Each line, and whether it is such a lock if the device of the mount is known, and if not.
+# Each line, and whether it is such a lock if the device of the mount is known, if the list of mounts cannot be read,
+# and if the description cannot. The last ones name the file by the inode of that description.
 LOCK_LINES = {
-    b"1: POSIX  ADVISORY  WRITE 12 00:00:0 0 EOF\n": (True, True),
-    b"1: OFDLCK ADVISORY  WRITE -1 00:00:0 0 EOF\n": (True, True),
-    b"1: -> POSIX  MANDATORY WRITE 12 00:26:0 0 EOF\n": (True, True),
-    b"1: FLOCK  ADVISORY  WRITE 9 00:00:0 0 EOF\n2: POSIX  ADVISORY  WRITE 8 00:26:0 0 EOF\n": (True, True),
-    b"1: FLOCK  ADVISORY  WRITE 9 00:00:0 0 EOF\n": (False, False),
-    b"1: POSIX  ADVISORY  READ 12 00:00:0 0 EOF\n": (False, False),
-    b"1: POSIX  ADVISORY  WRITE 12 00:00:10 0 EOF\n": (False, False),
-    b"1: POSIX  ADVISORY  WRITE 12 00:1f:0 0 EOF\n": (False, True),
-    b"1: POSIX  ADVISORY  WRITE 12 00:26:1 0 EOF\n": (False, False),
-    b"1: POSIX  ADVISORY  WRITE 12 fe:00:0 0 EOF\n": (False, False),
-    b"1: POSIX  ADVISORY  WRITE 12 103:26:0 0 EOF\n": (False, False),
-    b"\xff": (False, False),
+    LOCK: (True, True, True),
+    b"1: OFDLCK ADVISORY  WRITE -1 00:00:0 0 EOF\n": (True, True, True),
+    b"1: -> POSIX  MANDATORY WRITE 12 00:26:0 0 EOF\n": (True, True, True),
+    b"1: FLOCK  ADVISORY  WRITE 9 00:00:0 0 EOF\n2: POSIX  ADVISORY  WRITE 8 00:26:0 0 EOF\n": (True, True, True),
+    FLOCK: (False, False, False),
+    NO_LOCK: (False, False, False),
+    b"1: POSIX  ADVISORY  WRITE 12 00:00:10 0 EOF\n": (False, False, False),
+    b"1: POSIX  ADVISORY  WRITE 12 00:1f:0 0 EOF\n": (False, True, True),
+    b"1: POSIX  ADVISORY  WRITE 12 00:26:1 0 EOF\n": (False, False, False),
+    b"1: POSIX  ADVISORY  WRITE 12 fe:00:0 0 EOF\n": (False, False, False),
+    b"1: POSIX  ADVISORY  WRITE 12 103:26:0 0 EOF\n": (False, False, False),
+    b"\xff": (False, False, False),
+    b"1: POSIX  ADVISORY  WRITE 12 00:26:131 0 EOF\n": (True, True, False),
+    b"1: POSIX  ADVISORY  WRITE 12 00:00:131 0 EOF\n": (True, True, False),
+    b"1: POSIX  ADVISORY  WRITE 12 fe:00:131 0 EOF\n": (False, False, False),
 }
-
-# Lines that name the file by the inode of that description, on the device of the mount, on its own, and on another.
-INODE_LINES = {b"1: POSIX  ADVISORY  WRITE 12 00:26:131 0 EOF\n": (True, True),
-               b"1: POSIX  ADVISORY  WRITE 12 00:00:131 0 EOF\n": (True, True),
-               b"1: POSIX  ADVISORY  WRITE 12 fe:00:131 0 EOF\n": (False, False)}
 
 # A list without an end.
 ENDLESS = None
@@ -105,16 +104,8 @@ def check_lines(report: Report, under: Preloaded) -> None:
 
     If that of its mount is not known, all devices without a disk count as one.
     """
-    for line, (known, unknown) in LOCK_LINES.items():
-        for lists, is_waited in (({}, known), ({"fdinfo": b""}, unknown), ({"mountinfo": b""}, unknown)):
-            got = seen(under, {"1": line, **lists})
-            report.check(f"{line}, without {[*lists]}", faults_of_save(got, is_waited))
-
-
-def check_inodes(report: Report, under: Preloaded) -> None:
-    """Checks lines that name the file by the inode of its description, where that can be read."""
-    for line, (known, unknown) in INODE_LINES.items():
-        for lists, is_waited in (({}, known), ({"mountinfo": b""}, unknown), ({"fdinfo": b""}, False)):
+    for line, waits in LOCK_LINES.items():
+        for lists, is_waited in zip(({}, {"mountinfo": b""}, {"fdinfo": b""}), waits):
             got = seen(under, {"1": line, **lists})
             report.check(f"{line}, without {[*lists]}", faults_of_save(got, is_waited))
 
@@ -140,5 +131,5 @@ def check_two_waits(report: Report, under: Preloaded) -> None:
 def check(report: Report, program: str) -> None:
     """Runs this topic."""
     with preloaded(report, program, "lists of locks", {"k": OLD}) as under:
-        for each in (check_readings, check_lines, check_inodes, check_ends, check_two_waits) if under else ():
+        for each in (check_readings, check_lines, check_ends, check_two_waits) if under else ():
             each(report, under)

@@ -12,7 +12,7 @@ from random import Random
 from caches import cache_files
 from caches import greatest_caches
 from keytabs.file_names import LIMIT, sized
-from keytabs.greatest import cases
+from keytabs.greatest import cases, copies
 from models.cases import ktcheck_all
 from models.modelled import NO_MEMORY
 from runs.harness import SECONDS, Case, Outcome, Report, faults_of, run_case
@@ -90,6 +90,7 @@ def check(report: Report, program: str) -> None:
     for case in all_cases():
         faults = faults_in(program, case, resource.RLIMIT_STACK, STACK)
         report.check(f"{case.name}, on a stack of 256 KB", faults)
+    for case in (*all_cases(), *copies()):
         faults = faults_in(program, case, resource.RLIMIT_AS, SPACE)
         report.check(f"{case.name}, in 64 MB of memory", faults)
 

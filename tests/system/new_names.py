@@ -8,9 +8,9 @@ from collections.abc import Callable
 from concurrent.futures import ThreadPoolExecutor
 from dataclasses import replace
 
-from makers.images import B, HOST, keytab
-from models.cases import ktedit, ktutil
+from models.cases import IN_PLACE, in_place
 from runs.harness import Case, Outcome, Report, message
+from system.placing import PLACED, changed, refused
 from system.saving import (ADD, CHANGES, NEW, OLD, SAVED, SCRIPT, USER, WALK, as_another, at, check_over, faults_over,
                            link, renamed, unsaved, write)
 
@@ -73,7 +73,9 @@ def faults_in_the_way(program: str, make: Make, mode: int, owner: int | None, ca
     if owner is not None:
         files |= case.files
         places.insert(0, at(case.words[-1], lambda path: os.chown(path, owner, -1)))
-    case = replace(case, wanted=unsaved(case), files=files, files_after=None)
+    if IN_PLACE not in case.words:
+        case = replace(case, wanted=unsaved(case), files_after=None)
+    case = replace(case, files=files)
     return faults_over(program, case, *places, **options)
 
 
@@ -83,6 +85,9 @@ def check_strange(report: Report, program: str) -> None:
     cases = [(f"{name}: {case.name}", make, 0o700, os.geteuid(), {"case": case})
              for name, make in STRANGE for case in CHANGES]
     cases += [("a folder where no file is", os.mkdir, 0o700, None, {})]
+    # A save in place looks at none of them, also not at what a killed run left.
+    cases += [(f"{name}, in place", make, 0o700, os.geteuid(), {"case": in_place(ADD)})
+              for name, make in (*STRANGE[:-1], ("a file", owned_by(os.geteuid())))]
     if root:
         cases += [("a user's file beside root's", owned_by(STRANGER), 0o700, 0, {}),
                   ("a user's file where no file is", owned_by(STRANGER), 0o700, None, {}),
@@ -121,23 +126,6 @@ def check_stale_files(report: Report, program: str) -> None:
         check_over(report, program, case, *owners, at(NEW_FILE, make), open_to_all, **options)
 
 
-def check_strangers(report: Report, program: str) -> None:
-    """Checks that a stranger's `k.new` stays as it is."""
-    files = {"k": keytab(HOST), "k.new": keytab(B)}
-    runs = (ktedit(files["k"], b"cut 2\n"), ktutil(b"rkt k.new\nwkt k\n", 0, files=files))
-    makes: list[tuple[str, Make]] = [
-        ("a keytab", lambda path: write(path, keytab(B))),
-        ("a keytab that may not be written", lambda path: write(path, keytab(B), 0o400)),
-        ("a link", lambda path: os.symlink("other", path)),
-        ("another name", lambda path: os.link(beside(path, "other"), path)),
-    ]
-    for what, make in makes:
-        for case in runs:
-            case = replace(case, name=f"{what} as k.new: {case.name}", files={"k": files["k"], "other": files["k.new"]},
-                           files_after={"k": case.files_after["k"]})
-            check_over(report, program, case, at("k.new", make))
-
-
 def check_own_names(report: Report, program: str) -> None:
     """Checks that a file with the name of a new one can be walked over, but not changed, also through a link."""
     for name in (NEW_FILE, ".krbfile", "k.krbfile.krbfile", "./k.krbfile", "link", "dangling"):
@@ -154,29 +142,24 @@ def check_own_names(report: Report, program: str) -> None:
 def check_places(report: Report, program: str) -> None:
     """Checks names under which no file can be saved, and the longest that can be."""
     longest = "x" * (255 - len(".krbfile"))
-    cases = [
-        ("k", SAVED),
-        ("./k", SAVED),
-        ("k.krbfil", SAVED),
-        ("krbfile", SAVED),
-        (longest, SAVED),
-        (longest + "x", message(3, f"{longest}x: cannot write")),
-        ("no/k", message(3, "no/k: cannot write")),
-        ("", message(3, ": cannot write")),
-    ]
-    for name, outcome in cases:
-        after = {os.path.normpath(name): NEW} if outcome == SAVED else None
-        check_over(report, program, Case(f"save as {name[:20]!r}", ("ktedit", name), outcome,
+    cases = {name: message(3, f"{name}: cannot write") for name in (f"{longest}x", "no/k", "")}
+    for name, wanted in {**dict.fromkeys(("k", "./k", "k.krbfil", "krbfile", longest), SAVED), **cases}.items():
+        after = {os.path.normpath(name): NEW} if wanted == SAVED else None
+        check_over(report, program, Case(f"save as {name[:20]!r}", ("ktedit", name), wanted,
                                          {".krbfile": b"other", ".new": b"other"}, after, SCRIPT))
 
 
 def check_no_names(report: Report, program: str) -> None:
-    """Checks that files with the name of a new one, or a name too long for a new one, are not changed."""
-    for case in CHANGES:
-        for name in (f"{case.words[-1]}.krbfile", "x" * 248):
-            one = renamed(case, name)
-            check_over(report, program, replace(one, name=f"{name[:9]} has no new file: {case.name}",
-                                                wanted=unsaved(one), files_after=one.files))
+    """Checks that files with the name of a new one are not changed, nor is, but in place, a file under a name that is
+    too long for a new one."""
+    for case in (*CHANGES, *(in_place(each) for each in PLACED if changed(each) == each.words[-1])):
+        rows = [refused(renamed(case, f"{case.words[-1]}.krbfile"), "name of saves")]
+        if IN_PLACE in case.words:
+            rows += [renamed(case, "x" * length) for length in (248, 255)]
+        else:
+            rows.append(refused(renamed(case, "x" * 248), "ENAMETOOLONG"))
+        for one in rows:
+            check_over(report, program, replace(one, name=f"a name of {len(one.words[-1])} bytes: {case.name}"))
 
 
 def check(report: Report, program: str) -> None:
@@ -185,7 +168,6 @@ def check(report: Report, program: str) -> None:
         report.skip("new files of others", "none but root may make them, or start the program")
     check_strange(report, program)
     check_stale_files(report, program)
-    check_strangers(report, program)
     check_own_names(report, program)
     check_places(report, program)
     check_no_names(report, program)

@@ -1,21 +1,31 @@
-"""Outputs that take less than the text: what they took is a prefix of it, and the status shows the failure."""
+"""Outputs that take less than the text, or nothing, inputs that give nothing, and how both are read and written.
+
+What an output took is a prefix of the text, and the status shows the failure. Long listings and JSON are written in
+pieces. Commands that need no input leave it as it is.
+"""
 
 import os
 import resource
 import signal
+import socket
 import subprocess
 from dataclasses import replace
 
 from keytabs.ktutil_lines import TWO_LISTED, lines
 from keytabs.listings import B_LINE, HOST_LINE, case
-from makers.images import HOST, TWO, Entry, keytab
-from runs.harness import SECONDS, Case, Outcome, Report, folder_of, message, run
+from makers.images import B, HOST, TWO, Entry, keytab
+from models.cases import klist, klist_cache, klist_cache_json, klist_json, ktutil
+from models.modelled import Modelled, mixed_cache, mixed_keytab, modelled, small
+from runs.harness import SECONDS, Case, Outcome, Report, differences, folder_of, message, run, run_case
 from runs.limits import limit
-from runs.rows import printed
+from runs.preload import Counted
+from runs.rows import BAD_LINE, printed, shown, words_of
 from runs.terminal import EXPLAIN
+from system.failing_streams import NO_OUTPUT, ends_in_output
+from system.saving import CHANGES, HOLDING_NOTHING, SAVING_NOTHING
 from words.phrases import code
 
-FAILED = message(3, "cannot write output")
+NO_INPUT = message(3, "cannot read input")
 
 KLIST = case("a listing", TWO, HOST_LINE, B_LINE)
 
@@ -46,11 +56,30 @@ EXPLAINED = [
                  b"krbfile: to have each once: krbfile ktcopy k NEW\n"), {"k": keytab(HOST, HOST)}),
 ]
 
+# Runs of ktutil that depend on no time.
+FILES = {"k": TWO, "j": keytab(HOST), "n": keytab(B)}
+TALKS = (b"rkt j\nl\nwkt k\n", b"rkt j\ndelent 1\n", b"frob\nrkt k\nrkt j\nwkt n\n")
+
+# Runs that print help, which the models do not cover.
+HELP = (("--help",), ("klist", "--help"))
+
+# A buffered write has at most one more line or element, none of which has 2,000 bytes here. No message is
+# longer than a write may be.
+LONGEST, MESSAGE = 32_768 + 2_000, 1 << 20
+
+# Lines of commands that need no input, each with its status over a keytab.
+LINES = {"klist -k k": 0, "klist -s no": 1, "ktcheck k k": 1, "ktremove -p b@R k": 0, "ktremove --in-place -p b@R k": 0,
+         "ktcopy k new": 0, "hold no": 1, "hold -k no/k": 3, "ktedit --help": 0, "ktedit": 2}
+
+# What reads the input after a run, and ends with its status.
+THEN_READ = '"$0" "$@" > out 2>&1; status=$?; cat; exit $status'
+GIVEN = b"k\nc\n"
+
 
 def cut(wanted: Outcome, part: str, most: int) -> Outcome:
     """Returns the outcome if that part goes to an output of that many bytes. A cut message changes nothing else."""
     text = getattr(wanted, part)
-    return replace(FAILED if part == "out" and most < len(text) else wanted, **{part: text[:most]})
+    return replace(NO_OUTPUT if part == "out" and most < len(text) else wanted, **{part: text[:most]})
 
 
 def check_each_byte(report: Report, program: str, case: Case, stream: str, part: str) -> None:
@@ -83,16 +112,95 @@ def check_closed_pipe(report: Report, program: str, taken: int, action: signal.H
     report.compare(f"pipe closed after {taken} bytes, {action.name}", cut(LONG.wanted, "out", taken), got)
 
 
+def runs() -> list[Modelled]:
+    """Returns runs of each command that do not depend on the clock, and a line that is refused."""
+    talks = (ktutil(given, 0, files=FILES, name=f"{given[:4]}") for given in TALKS)
+    others = (*CHANGES, *HOLDING_NOTHING, *SAVING_NOTHING, *talks, Case("frob", ("frob",), BAD_LINE))
+    timeless = (one for one in small() if one.case.words[0] not in ("ccremove", "ktutil"))
+    return [*timeless, *map(modelled, others)]
+
+
+def is_met(run: Modelled, stream: str, got: Outcome, files: dict[str, bytes]) -> bool:
+    """Whether a run ended as it has to without that output. It does not matter if nothing is written to it."""
+    if stream == "stdout" and run.case.wanted.out:
+        return ends_in_output(run, Counted(got, files, 0, 0))
+    wanted = run.case.wanted if stream == "stdout" else replace(run.case.wanted, err=b"")
+    return (got, files) == (wanted, run.after())
+
+
+def check_lost(report: Report, program: str, stream: str) -> None:
+    """Makes each run with that output on a full device, and then with it closed."""
+    number = {"stdout": 1, "stderr": 2}[stream]
+    with open("/dev/full", "wb") as full:
+        lost = {"full": {stream: full},
+                "closed": {stream: None, "preexec_fn": lambda: os.close(number)}}
+        for how, options in lost.items():
+            for one in runs():
+                got, files = run_case(program, one.case, **options)
+                found = [] if is_met(one, stream, got, files) else [f"{got} and {sorted(files)}"]
+                report.check(f"{how} {stream}: {one.case.name}", found)
+            for words in HELP if stream == "stdout" else ():
+                got, _ = run_case(program, Case("", words, NO_OUTPUT), **options)
+                report.check(f"{how} {stream}: {' '.join(words)}", differences(NO_OUTPUT, got))
+
+
+def check_closed_input(report: Report, program: str) -> None:
+    """Checks an input that is closed."""
+    for words in (("ktedit", "k"), ("ktutil",), ("ccedit", "c")):
+        with folder_of(FILES) as folder:
+            got = run(program, words, folder, preexec_fn=lambda: os.close(0))
+        report.compare(f"a closed input: {' '.join(words)}", NO_INPUT, got)
+
+
+def pieces_of(program: str, case: Case) -> tuple[Outcome, list[int]]:
+    """Makes a run whose output is a socket, and returns the length of each write."""
+    ours, theirs = socket.socketpair(socket.AF_UNIX, socket.SOCK_SEQPACKET)
+    with folder_of(case.files) as folder, ours, subprocess.Popen(
+        [program, *case.words], cwd=folder, stdin=subprocess.DEVNULL, stdout=theirs,
+        stderr=subprocess.PIPE,
+    ) as started:
+        theirs.close()
+        parts = [*iter(lambda: ours.recv(MESSAGE), b"")]
+        err = started.stderr.read()
+        got = Outcome(started.wait(SECONDS), b"".join(parts), err)
+    return got, [*map(len, parts)]
+
+
+def check_pieces(report: Report, program: str) -> None:
+    """Lists a keytab and a cache of more than three pieces."""
+    image, cache = mixed_keytab(3_000), mixed_cache(400)
+    for one in (klist(image), klist_json(image), klist_cache(cache, words=("-cefC", "c")),
+                klist_cache_json(cache)):
+        got, lengths = pieces_of(program, one)
+        faults = differences(one.wanted, got)
+        faults += [f"a write of {max(lengths)} bytes"] if max(lengths, default=0) > LONGEST else []
+        faults += [f"{len(lengths)} writes"] if len(lengths) < 3 else []
+        report.check(f"in pieces: {one.name}", faults)
+
+
+def check_left(report: Report, program: str) -> None:
+    """Checks that who reads from the input after a command that needs none gets all of it."""
+    for line, status in LINES.items():
+        with folder_of({"k": TWO}) as folder:
+            got = run("sh", ("-c", THEN_READ, program, *words_of(line)), folder, GIVEN)
+        report.compare(f"the input is left: {shown(line)}", Outcome(status, GIVEN), got)
+
+
 def check(report: Report, program: str) -> None:
     """Runs this topic."""
-    check_each_byte(report, program, KLIST, "stdout", "out")
     before = os.umask(0o077)
     try:
-        check_each_byte(report, program, SEVERAL, "stdout", "out")
-        for case in (FAULTY, *EXPLAINED):
-            check_each_byte(report, program, case, "stderr", "err")
+        for one in (KLIST, SEVERAL):
+            check_each_byte(report, program, one, "stdout", "out")
+        for one in (FAULTY, *EXPLAINED):
+            check_each_byte(report, program, one, "stderr", "err")
     finally:
         os.umask(before)
     for action in (signal.SIG_DFL, signal.SIG_IGN):
         for taken in (0, 1, 20, 1000, 70_000):
             check_closed_pipe(report, program, taken, action)
+    check_lost(report, program, "stdout")
+    check_lost(report, program, "stderr")
+    check_closed_input(report, program)
+    check_pieces(report, program)
+    check_left(report, program)

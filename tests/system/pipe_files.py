@@ -1,5 +1,6 @@
-"""A run that is to change a file, in either way, does not open a pipe of that name, so that it does not wait for a
-writer."""
+"""A run that is to change what is no plain file, in either way, refuses it. It does not open a pipe of that name, so
+that it does not wait for a writer.
+"""
 
 import os
 import threading
@@ -15,19 +16,10 @@ from words.phrases import CAUSES
 
 ADDENT = b"addent -key -p a@R -k 1 -e 17\n000102030405060708090a0b0c0d0e0f\n"
 
-# Runs that are to change a pipe: their words, their input, the name that they give it, and where explanations are
-# printed.
-RUNS = (
-    (("ktedit", "k"), SCRIPT, "k", ""),
-    (("ktremove", "-k", "3", "k"), b"", "k", ""),
-    (("ktremove", "-k", "3", "link"), b"", "link", ""),
-    (("ktcopy", "two", "k"), b"", "k", ""),
-    (("ccedit", "k"), b"cut 40\n", "k", ""),
-    (("ccremove", "--expired", "k"), b"", "k", ""),
-    (("hold", "-k", "k"), b"2\n\5\2", "k", ""),
-    (("hold", "link"), b"", "link", ""),
-    (("ktutil",), ADDENT + b"wkt k\n", "k", "line 3: "),
-)
+# Runs that are to change NAME, each with its input, and names: of a pipe, of a link to it, and of other things.
+RUNS = {"ktedit NAME": SCRIPT, "ktremove -k 3 NAME": b"", "ktcopy two NAME": b"", "ccedit NAME": b"cut 40\n",
+        "ccremove --expired NAME": b"", "hold -k NAME": b"2\n\5\2", "hold NAME": b"", "ktutil": ADDENT + b"wkt NAME\n"}
+PIPES, OTHERS = ("k", "link"), (".", "/dev/null", "/dev/full/k")
 
 
 @contextmanager
@@ -50,16 +42,27 @@ def fed(path: str) -> Iterator[list[bool]]:
         feeder.join()
 
 
+def check_name(report: Report, program: str, line: str, stdin: bytes, name: str) -> None:
+    """Checks a run over that name, in both ways."""
+    place, found = "line 3: " if line == "ktutil" else "", []
+    with folder_of({"two": TWO}) as folder:
+        os.symlink("k", os.path.join(folder, "link"))
+        with fed(os.path.join(folder, "k")) as opened:
+            for option in ("", f" {IN_PLACE}"):
+                command, *rest = line.replace("NAME", name).split()
+                words = (EXPLAIN, command, *option.split(), *rest)
+                found.append(run(program, words, folder, stdin.replace(b"NAME", name.encode())))
+            faults = ["it was opened"] if opened else []
+        faults += differences(*found) + ([] if found[0].status else [f"{found[0]}"])
+        if name in PIPES:
+            output = f"krbfile: {name}: cannot read\nkrbfile: {place}{CAUSES['no plain file']}\n"
+            faults += differences(Outcome(3, err=output.encode()), found[0])
+        faults += tree_faults({"k": "p", "link": "k", "two": TWO}, folder)
+    report.check(f"no plain file is changed: {line}, {name}", faults)
+
+
 def check(report: Report, program: str) -> None:
     """Runs this topic."""
-    for (command, *rest), stdin, name, place in RUNS:
-        output = f"krbfile: {name}: cannot read\nkrbfile: {place}{CAUSES['no plain file']}\n"
-        for options in ((), (IN_PLACE,)):
-            with folder_of({"two": TWO}) as folder:
-                os.symlink("k", os.path.join(folder, "link"))
-                with fed(os.path.join(folder, "k")) as opened:
-                    got = run(program, (EXPLAIN, command, *options, *rest), folder, stdin)
-                    faults = differences(Outcome(3, err=output.encode()), got)
-                    faults += ["it was opened"] if opened else []
-                    faults += tree_faults({"k": "p", "link": "k", "two": TWO}, folder)
-            report.check(f"a pipe is not changed: {' '.join((command, *options, *rest))}", faults)
+    for line, stdin in RUNS.items():
+        for name in (*PIPES, *OTHERS):
+            check_name(report, program, line, stdin, name)

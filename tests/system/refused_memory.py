@@ -16,10 +16,11 @@ from makers.images import HOST, TWO, keytab
 from makers.usual_caches import TICKET
 from models.cache_reading import listed
 from models.cases import ktcheck_all
-from models.modelled import NO_MEMORY, NOW, Modelled, Stage, large, modelled, rotated_keytab, small
+from models.modelled import NO_MEMORY, NOW, Modelled, Stage, modelled, rotated_keytab
 from runs.harness import Case, Outcome, Report, differences, message
 from runs.preload import Counted, Line, Preloaded, preloaded
 from runs.random_runs import Rounds
+from system.failing_streams import large_runs, small_runs
 
 # How many allocations of a run are refused: over small files all of them, and over larger ones
 # some.
@@ -130,11 +131,9 @@ def check(report: Report, program: str) -> None:
         if under is None:
             return
         check_defaults(report, under)
-        for run in (*command_lines(under), explained()):
+        for run in (*command_lines(under), explained(), *small_runs()):
             check_run(report, under, run, lambda requests: spread(requests, FEW))
-        for run in small():
-            check_run(report, under, run, lambda requests: spread(requests, FEW))
-        for run in large():
+        for run in large_runs():
             check_run(report, under, run, lambda requests: spread(requests, SOME))
 
 
@@ -142,7 +141,7 @@ def check_rounds(report: Report, program: str, seeds: range) -> None:
     """Refuses allocations over larger files, as many per run as there are seeds, chosen by the first seed."""
     random = Random(seeds.start)
     with preloaded(report, program, "memory that is refused", {}) as under:
-        for run in large() if under else ():
+        for run in large_runs() if under else ():
             check_run(report, under, run, lambda requests: random.sample(range(1, requests + 1),
                                                                          min(requests, len(seeds))))
 

@@ -5,9 +5,10 @@ import stat
 from collections.abc import Callable
 from dataclasses import dataclass, replace
 
-from makers.images import HOST, keytab
+from makers.images import B, HOST, TWO, keytab
 from makers.usual_caches import USUAL
-from models.cases import ccedit, ccremove, hold, ktedit
+from models.cases import ccedit, ccremove, hold, ktcopy, ktedit
+from models.copy_model import Request
 from models.ticket_removal_model import Selection
 from runs.harness import Case, Outcome, Report, differences, folder_of, message, run
 
@@ -38,6 +39,12 @@ HOLDING_NOTHING = (
     ccremove(USUAL, 0, selection=NONE, is_dry=True, name="tells of none"),
 )
 SAVING_NOTHING = (ccedit(USUAL, b"cut 3\n", name="is refused"), ccremove(USUAL, 0, selection=NONE, name="finds none"))
+
+# A keytab that clashes with one of both, and copies that save, have nothing to save, clash, and only print.
+CLASH = keytab(replace(B, key=b"other"))
+COPIES = tuple(ktcopy(TWO, target, request=Request(is_dry=is_dry), name=name) for target, is_dry, name in (
+    (keytab(HOST), False, "saves"), (TWO, False, "has nothing to save"), (CLASH, False, "clashes"),
+    (keytab(), True, "only prints")))
 
 
 def run_over(program: str, case: Case, folder: str, name: str = "", **options: object) -> Outcome:

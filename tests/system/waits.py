@@ -14,8 +14,7 @@ from contextlib import ExitStack, contextmanager
 
 from runs.harness import Case, Report, differences, folder_of
 from system.disk_faults import mounted
-from system.saving import (ADD, CHANGES, HOLDING_NOTHING, NEW, OLD, SAVED, SAVING_NOTHING, UNSAVED, edit, run_over,
-                           tree, tree_faults, unsaved, write)
+from system.saving import ADD, CHANGES, NEW, OLD, SAVED, UNSAVED, edit, run_over, tree, tree_faults, write
 
 # More locks than fit in one read of the system's list, and enough of them to make the list slow.
 MANY = 300
@@ -131,29 +130,6 @@ def faults_of_giving_up(program: str, folder: str) -> list[str]:
     return faults
 
 
-def faults_while_held(program: str, case: Case) -> list[str]:
-    """Returns the faults of a run while another holds its file."""
-    new = f"{case.words[-1]}.krbfile"
-    files = {**case.files, new: b"other"}
-    with folder_of(files) as folder, open(os.path.join(folder, new), "rb") as file:
-        fcntl.flock(file, fcntl.LOCK_EX)
-        begun = time.monotonic()
-        got = run_over(program, case, folder)
-        waited = time.monotonic() - begun
-        wanted = case.wanted if case.files == case.files_after else unsaved(case)
-        faults = differences(wanted, got) + tree_faults(files, folder)
-    is_in_time = (waited <= AT_ONCE) == (case in HOLDING_NOTHING or "-n" in case.words)
-    return faults + ([] if is_in_time else [f"it took {waited:.1f} seconds"])
-
-
-def check_held(report: Report, program: str) -> None:
-    """Checks that while another run holds the cache, what needs no hold does not wait, and nothing is saved."""
-    cases = (*HOLDING_NOTHING, *SAVING_NOTHING, CHANGES[2])
-    with ThreadPoolExecutor(len(cases)) as pool:
-        for case, faults in zip(cases, pool.map(faults_while_held, [program] * len(cases), cases)):
-            report.check(f"held by another: {case.name}", faults)
-
-
 def check_lasting_locks(report: Report, program: str) -> None:
     """Checks that each save is refused after some ten seconds of a lock that stays, however many locks others have."""
     for others in (0, MOST):
@@ -242,7 +218,6 @@ def check(report: Report, program: str) -> None:
         check_locks(report, program)
         check_many_locks(report, program)
         check_waiting_locks(report, program)
-        check_held(report, program)
         check_lasting_locks(report, program)
         check_changing_locks(report, program)
         check_other_disk(report, program)

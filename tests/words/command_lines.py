@@ -127,35 +127,28 @@ REMOVING = ["ccremove --expired c", "ccremove c --expired", "ccremove --expired 
 TELLING = ["ccremove -n --expired c", "ccremove --expired c -n", "ccremove -nn -n --expired c",
            "ccremove -npkrbtgt/R@R c"]
 
-# Lines that print help, and words that it has.
-OF_KLIST = (b"krbfile klist", b"-k", b"-t", b"-K", b"-e", b"--v1-big", b"[FILE]", b"KRB5CCNAME", b"KRB5_KTNAME",
-            b"/etc/krb5.keytab", b"/tmp/krb5cc_", b"--help", b"-c", b"-f", b"-C")
+# Lines that print help, and words that it has besides the options, which completions has.
 HELP = [
     (["--help", "-h", "help"], (b"krbfile", b"klist", b"ktfind", b"ktedit", b"ktremove", b"ktcopy", b"ktcheck",
-                                b"ktutil", b"ccedit", b"ccremove", b"hold", b"--help", b"--version")),
+                                b"ktutil", b"ccedit", b"ccremove", b"hold")),
     (["help klist", "klist --help", "klist -h", "klist -k --help", "klist -k k --help", "klist -ktKe --help",
-      "klist -c --help", "klist -cefC -h", "klist c --help"], OF_KLIST),
-    (["ccedit --help", "help ccedit"], (b"krbfile ccedit", b"FILE", b"config KEY PRINCIPAL VALUE", b"--help")),
-    (["ccremove -h", "help ccremove"],
-     (b"krbfile ccremove", b"-n, --dry-run", b"-p, --service <SERVICE>", b"--expired", b"FILE", b"--help")),
+      "klist -c --help", "klist -cefC -h", "klist c --help"],
+     (b"krbfile klist", b"[FILE]", b"KRB5CCNAME", b"KRB5_KTNAME", b"/etc/krb5.keytab", b"/tmp/krb5cc_")),
+    (["ccedit --help", "help ccedit"], (b"krbfile ccedit", b"FILE", b"config KEY PRINCIPAL VALUE")),
+    (["ccremove -h", "help ccremove"], (b"krbfile ccremove", b"-p, --service <SERVICE>", b"FILE")),
     (["help ktfind", "ktfind --help", "ktfind -h", "ktfind k --help", "ktfind k 0 0 b@R --help"],
-     (b"krbfile ktfind", b"--v1-big", b"FILE", b"KVNO", b"ETYPE", b"NAME", b"--help")),
-    (["help ktedit", "ktedit --help", "ktedit k -h"],
-     (b"krbfile ktedit", b"--v1-big", b"--in-place", b"FILE", b"--help")),
+     (b"krbfile ktfind", b"FILE", b"KVNO", b"ETYPE", b"NAME")),
+    (["help ktedit", "ktedit --help", "ktedit k -h"], (b"krbfile ktedit", b"FILE")),
     (["ktremove --help"],
-     (b"krbfile ktremove", b"-n, --dry-run", b"-p, --principal <NAME>", b"-k, --kvno <KVNO>", b"-e, --enctype <ETYPE>",
-      b"--v1-big", b"FILE")),
+     (b"krbfile ktremove", b"-p, --principal <NAME>", b"-k, --kvno <KVNO>", b"-e, --enctype <ETYPE>", b"FILE")),
     (["ktcopy --help", "help ktcopy", "ktcopy -h", "ktcopy k t -h"],
-     (b"krbfile ktcopy", b"-n, --dry-run", b"--replace", b"-p, --principal <NAME>", b"-k, --kvno <KVNO>",
-      b"-e, --enctype <ETYPE>", b"--v1-big", b"FROM", b"TO", b"--help")),
+     (b"krbfile ktcopy", b"-p, --principal <NAME>", b"-k, --kvno <KVNO>", b"-e, --enctype <ETYPE>", b"FROM", b"TO")),
     (["ktcheck -h", "ktcheck k k --help", "ktcheck --allow weak -h"],
-     (b"krbfile ktcheck", b"--v1-big", b"-q", b"--allow <WORD>", b"weak, hidden, same, clash, old or mode", b"[FILE..]",
-      b"KRB5_KTNAME", b"/etc/krb5.keytab", b"--help")),
-    (["help ktutil", "ktutil --help", "ktutil --v1-big -h"], (b"krbfile ktutil", b"--v1-big", b"--help")),
-    (["help hold", "hold --help", "hold -k k -h"],
-     (b"krbfile hold", b"-k, --keytab", b"--v1-big", b"--in-place", b"FILE", b"--help")),
+     (b"krbfile ktcheck", b"--allow <WORD>", b"weak, hidden, same, clash, old or mode", b"[FILE..]", b"KRB5_KTNAME",
+      b"/etc/krb5.keytab")),
+    (["help ktutil", "ktutil --help", "ktutil --v1-big -h"], (b"krbfile ktutil",)),
+    (["help hold", "hold --help", "hold -k k -h"], (b"krbfile hold", b"FILE")),
 ]
-
 
 # Lines with letters, and with long names.
 LONG = {

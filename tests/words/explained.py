@@ -81,6 +81,13 @@ def case(name: str, line: str | Line, image: bytes | None, *output: tuple[str, s
     return Explained(name, words_of(line), output, {} if image is None else {file: image}, **more)
 
 
+def unchanged(line: str | Line, *output: tuple[str, str], files: dict[str, bytes] | None = None, stdin: bytes = b"",
+              status: int = 1, out: bytes = b"", **more) -> Explained:
+    """Returns a run that leaves its files as they are."""
+    name = f"{shown(line)}, {stdin[:24]!r}, {[*(files or ())]}"
+    return Explained(name, words_of(line), output, files or {}, stdin, status, out, files or {}, **more)
+
+
 def no_keytab(why: tuple[int, str], name: str = "k") -> tuple[str, str]:
     """Returns the message about a file that is not a keytab."""
     return f"{name}: not a keytab ({why[0]})", why[1]
@@ -141,6 +148,12 @@ def copy(options: str, source: bytes | None, target: bytes | None, *output: tupl
     files = {file: image for file, image in (("k", source), ("t", target)) if image is not None}
     name = f"{shown(words)}, files of {[len(image) for image in files.values()]} bytes"
     return Explained(name, words, output, files, status=status, out=text(out), **more)
+
+
+def for_owner(folder: str) -> None:
+    """Lets the files of a folder be read by their owner alone."""
+    for each in os.scandir(folder):
+        os.chmod(each, 0o600)
 
 
 def socket_in(folder: str) -> None:

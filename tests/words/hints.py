@@ -10,7 +10,7 @@ from pages.readme import surroundings
 from runs.harness import Report, folder_of, run
 from runs.rows import Line, printed, shown, words_of
 from runs.terminal import EXPLAIN
-from words.explained import Explained
+from words.explained import Explained, for_owner
 from words.phrases import FAULTS, FINDINGS
 
 REMOVE, COPY = "to see what would go: krbfile ktremove", "to have each once: krbfile ktcopy"
@@ -53,12 +53,7 @@ def check_up(line: str | Line, files: dict[str, bytes], *told: str, status: int 
     """Returns a run over files that are their owner's alone, and what it has to report: a finding means its words."""
     words = ("ktcheck", *words_of(line))
     output = tuple(("", f"{each}: {FINDINGS[each]}" if each in FINDINGS else each) for each in told)
-
-    def set_modes(folder: str) -> None:
-        for name in files:
-            os.chmod(os.path.join(folder, name), 0o600)
-
-    return Explained(shown(words), words, output, files, status=status, setting=set_modes, **more)
+    return Explained(shown(words), words, output, files, status=status, setting=for_owner, **more)
 
 
 def file_of(word: str) -> str:
