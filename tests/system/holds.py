@@ -114,8 +114,7 @@ CASES = [
 
 
 def check_left(report: Report, program: str) -> None:
-    """Checks that the file stays as it is if nothing is saved, and what a killed run left beside it unless that is
-    replaced."""
+    """Checks that the file stays as it is if nothing is saved, and in place what a killed run left beside it."""
     for line, files in product((K, PLACED), ({"k": TWO}, LEFT)):
         for data, status in ((b"", 0), (frame(TWO), 0), (b"3\n\5\2", 1), (EMPTY, 0)):
             with folder_of(files) as folder:
@@ -123,7 +122,7 @@ def check_left(report: Report, program: str) -> None:
                 got = run(program, line.split(), folder, data)
                 faults = [] if (got.status, got.out) == (status, frame(TWO)) else [f"{got}"]
                 faults += [] if data == EMPTY or stands(folder)["k"] == before["k"] else ["the file was written"]
-                left = {} if (line, data) == (K, EMPTY) else {name: files[name] for name in files if name != "k"}
+                left = {name: files[name] for name in files if name != "k" and line == PLACED}
                 faults += tree_faults({"k": NONE if data == EMPTY else TWO, **left}, folder)
             report.check(f"{[*files]}: {line}, {data[:4]}", faults)
 

@@ -13,33 +13,21 @@ use crate::looks::Found;
 use crate::looks::device::{Listed, Mounted};
 use crate::looks::locks::{LockKind, is_locked};
 use crate::looks::users::Users;
-use crate::number::Numbered;
 use std::io::{self, ErrorKind};
 use std::rt;
 
 /// The mode of a file that did not exist before, and of any new file while it is written.
 pub const PRIVATE: u32 = 0o600;
 
-/// A place that this run holds: by the new file that it created and locked, or by what a killed run left there, which it
-/// locked. That goes when the file is saved.
+/// The outcome of a try to create and lock the new file.
 #[derive(Drop)]
-pub enum Place<N, S> {
-    New(N),
-    Left(S),
-}
-
-/// The outcome of a try to hold the new file's place.
-#[derive(Drop)]
-pub enum Attempt<P> {
-    Held(P),
-    /// Another program has it or has just released it: try again.
+pub enum Attempt<F> {
+    Locked(F),
+    /// Another program has it or has just released it, or a stale file was removed: try again.
     InUse,
     /// Something that is not ours is there.
     InTheWay,
 }
-
-/// The place of the new file of a save.
-pub type HeldPlace<A, F> = Place<NewFile<String<A>, F>, StaleFile<String<A>, F>>;
 
 /// Removes our new file, unless its path no longer names it.
 pub fn remove_own<R: rt::Files + Alloc>(
@@ -84,114 +72,109 @@ where
     Ok(true)
 }
 
-// Locks what may be a stale file, and holds its place if a killed run left it.
-fn take_left<R: rt::Files + Alloc>(
+// Removes a stale file that is locked, if a killed run left it.
+fn remove_abandoned<R: rt::Files>(
+    calls: &Calls<'_, R>,
+    file: &mut StaleFile<'_, R::File>,
+    users: Users,
+) -> io::Result<()>
+    requires { file.old.is_locked ≡ true }
+{
+    if calls.is_abandoned(file, users)? {
+        calls.remove_stale_file(file, users)?;
+    }
+    Ok(())
+}
+
+// Locks what may be a stale file, and removes it if a killed run left it. Returns whether to try again to create the
+// new file.
+fn clear_stale<R: rt::Files + Alloc>(
     calls: &Calls<'_, R>,
     path: &str,
     users: Users,
-) -> io::Result<Attempt<HeldPlace<R::A, R::File>>>
+) -> io::Result<bool>
 where
-    R::File: TakeLock + Numbered,
-    ensures { IfOk result (λ attempt. HoldsAt path.now attempt) }
+    R::File: TakeLock,
 {
     let mut file = calls.open_stale_file(path)?;
     match calls.lock_stale_file(&mut file) {
-        Err(error) if error.kind() == ErrorKind::Unsupported => return Ok(Attempt::InTheWay),
+        Err(error) if error.kind() == ErrorKind::Unsupported => return Ok(false),
         Err(error) => return Err(error),
-        Ok(false) => return Ok(Attempt::InUse),
+        Ok(false) => return Ok(true),
         Ok(true) => {}
     }
-    if calls.is_abandoned(&mut file, users)? {
-        Ok(Attempt::Held(Place::Left(file)))
-    } else {
-        Ok(Attempt::InUse)
-    }
+    remove_abandoned(calls, &mut file, users)?;
+    Ok(true)
 }
 
-// Holds the new file's place by what was found there, if a killed run left it.
-fn claim<R: rt::Files + Alloc>(
+// Removes what a killed run left at the new file's path. Returns whether to try again to create the new file.
+fn clear_place<R: rt::Files + Alloc>(
     calls: &Calls<'_, R>,
     path: &str,
     found: &Found,
     owner: Option<u32>,
-) -> io::Result<Attempt<HeldPlace<R::A, R::File>>>
+) -> io::Result<bool>
 where
-    R::File: TakeLock + Numbered,
-    ensures { IfOk result (λ attempt. HoldsAt path.now attempt) }
+    R::File: TakeLock,
 {
     let users = Users::of_run(calls.looks(), owner);
     if !users.may_have_left(found) || calls.spares(found) {
-        return Ok(Attempt::InTheWay);
+        return Ok(false);
     }
-    match take_left(calls, path, users) {
-        Err(error) if error.kind() == ErrorKind::NotFound => Ok(Attempt::InUse),
-        Err(error) if error.kind() == ErrorKind::PermissionDenied => Ok(Attempt::InTheWay),
-        taken => taken,
+    match clear_stale(calls, path, users) {
+        Err(error) if error.kind() == ErrorKind::NotFound => Ok(true),
+        Err(error) if error.kind() == ErrorKind::PermissionDenied => Ok(false),
+        cleared => cleared,
     }
 }
 
-// Tries to hold the new file's place by what is there, which is in use if its path is free, or what is there is locked.
-// A file without a link was removed while it was looked at.
+// Returns whether to try again to create the new file: its path is free or cleared, or what is there is locked. A file
+// without a link was removed while it was looked at.
 fn try_place<R: rt::Files + rt::Clock + Alloc>(
     calls: &Calls<'_, R>,
     path: &str,
     owner: Option<u32>,
     deadline: &Deadline,
-) -> Result<Attempt<HeldPlace<R::A, R::File>>, DiskFault>
+) -> Result<bool, DiskFault>
 where
-    R::File: TakeLock + Numbered,
-    ensures { IfOk result (λ attempt. HoldsAt path.now attempt) }
+    R::File: TakeLock,
 {
     let Some(found) = calls.looks().look(path)? else {
-        return Ok(Attempt::InUse);
+        return Ok(true);
     };
     if found.links == 0 {
-        return Ok(Attempt::InUse);
+        return Ok(true);
     }
     let place = Mounted::new(&found, Listed::unknown());
-    match claim(calls, path, &found, owner)? {
-        Attempt::InTheWay if is_locked(calls.looks(), &place, LockKind::WholeFile, deadline)? => {
-            Ok(Attempt::InUse)
-        }
-        attempt => Ok(attempt),
-    }
+    Ok(
+        clear_place(calls, path, &found, owner)?
+            || is_locked(calls.looks(), &place, LockKind::WholeFile, deadline)?,
+    )
 }
 
-/// Tries to hold the new file's place at `path`, beside a file of that owner.
-pub fn hold_place<R: rt::Files + rt::Clock + Alloc>(
+/// Tries to create and lock the new file at `path`, beside a file of that owner.
+pub fn make_locked<R: rt::Files + rt::Clock + Alloc>(
     calls: &Calls<'_, R>,
     path: &str,
     owner: Option<u32>,
     deadline: &Deadline,
-) -> Result<Attempt<HeldPlace<R::A, R::File>>, DiskFault>
+) -> Result<Attempt<NewFile<String<R::A>, R::File>>, DiskFault>
 where
-    R::File: TakeLock + Numbered,
+    R::File: TakeLock,
     ensures { IfOk result (λ attempt. HoldsAt path.now attempt) }
 {
     let Some(mut file) = make_new(calls, path)? else {
-        return try_place(calls, path, owner, deadline);
+        return match try_place(calls, path, owner, deadline)? {
+            true => Ok(Attempt::InUse),
+            false => Ok(Attempt::InTheWay),
+        };
     };
     match lock_new(calls, &mut file) {
-        Ok(true) => Ok(Attempt::Held(Place::New(file))),
+        Ok(true) => Ok(Attempt::Locked(file)),
         Ok(false) => Ok(Attempt::InUse),
         Err(error) => {
             let _ = remove_own(calls, &mut file);
             Err(DiskFault::from(error))
         }
     }
-}
-
-/// Removes what a killed run left, if it is still at its path.
-pub fn remove_left<R: rt::Files + Alloc>(
-    calls: &Calls<'_, R>,
-    file: &mut StaleFile<String<R::A>, R::File>,
-    owner: Option<u32>,
-) -> io::Result<()>
-    requires { file.old.is_locked ≡ true }
-{
-    let users = Users::of_run(calls.looks(), owner);
-    if calls.is_abandoned(file, users)? {
-        calls.remove_stale_file(file, users)?;
-    }
-    Ok(())
 }

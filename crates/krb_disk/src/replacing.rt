@@ -3,7 +3,7 @@
 ghost use Rattle.std.specs.Prelude.{◌≡◌, ◌∷◌, IfOk, OnOk, OnErr, string_bytes};
 ghost use Rattle.std.specs.Path.{path_buf_bytes};
 ghost use Rattle.krb_disk.specs.Looks.{IsPlainOrNone};
-ghost use Rattle.krb_disk.specs.NewFile.{IsHeldAt, IsPlaceAt, is_place_at-prop};
+ghost use Rattle.krb_disk.specs.NewFile.{IsHeldAt};
 ghost use Rattle.krb_disk.specs.Stages.{snapshot_file, watched};
 ghost use Rattle.krb_disk.specs.Target.{new_path};
 ghost use Rattle.krb_disk.specs.declared.stage.Stage.TheVariants.{Synced, Same, Quiet};
@@ -12,7 +12,7 @@ use crate::calls::{Calls, NewFile};
 use crate::deadline::{Deadline, MOST_TRIES};
 use crate::fault::DiskFault;
 use crate::lock::TakeLock;
-use crate::new_file::{Attempt, HeldPlace, Place, hold_place, remove_left, remove_own};
+use crate::new_file::{Attempt, make_locked, remove_own};
 use crate::number::Numbered;
 use crate::old::{Old, Way};
 use crate::owner::SetOwner;
@@ -21,28 +21,28 @@ use crate::target::Target;
 use krb_files::Cause;
 use std::rt;
 
-/// A file that is held to be replaced, by the place of the new file beside it, `NAME.krbfile`.
+/// A file that is held to be replaced. The new file beside it, `NAME.krbfile`, was created and locked.
 #[derive(Drop)]
 pub struct Replacing<R: rt::Files + Alloc> {
     pub old: Old<R>,
-    place: HeldPlace<R::A, R::File>,
-    ghost is_held: { IsPlaceAt (new_path (path_buf_bytes old.target.path)) place } by { is_place_at-prop (new_path (path_buf_bytes old.target.path)) place },
+    new_file: NewFile<String<R::A>, R::File>,
+    ghost is_held: { IsHeldAt (new_path (path_buf_bytes old.target.path)) new_file },
 }
 
-// Holds the place of the new file, after waiting for any other program that has it.
-fn wait_for_place<R: rt::Files + rt::Clock + Alloc>(
+// Creates and locks the new file, after waiting for any other program that has it.
+fn make_new_file<R: rt::Files + rt::Clock + Alloc>(
     calls: &Calls<'_, R>,
     path: &str,
     owner: Option<u32>,
     deadline: &mut Deadline,
-) -> Result<HeldPlace<R::A, R::File>, DiskFault>
+) -> Result<NewFile<String<R::A>, R::File>, DiskFault>
 where
-    R::File: TakeLock + Numbered,
-    ensures { IfOk result (λ place. IsPlaceAt path.now place) }
+    R::File: TakeLock,
+    ensures { IfOk result (λ file. IsHeldAt path.now file) }
 {
     for _ in 0..=MOST_TRIES {
-        match hold_place(calls, path, owner, deadline)? {
-            Attempt::Held(place) => return Ok(place),
+        match make_locked(calls, path, owner, deadline)? {
+            Attempt::Locked(file) => return Ok(file),
             Attempt::InTheWay if deadline.is_short(calls.looks()) => {
                 return Err(DiskFault::Failed(Cause::InTheWay));
             }
@@ -50,37 +50,6 @@ where
         }
     }
     Err(DiskFault::Failed(Cause::InUse))
-}
-
-// Makes the new file at a place that is held: what a killed run left there goes first.
-fn new_file_at<R: rt::Files + rt::Clock + Alloc>(
-    calls: &Calls<'_, R>,
-    place: HeldPlace<R::A, R::File>,
-    target: &Target<R::A>,
-) -> Result<NewFile<String<R::A>, R::File>, DiskFault>
-where
-    R::File: TakeLock + Numbered,
-    requires { IsPlaceAt (new_path (path_buf_bytes target.now.path)) place }
-    ensures { IfOk result (λ file. IsHeldAt (new_path (path_buf_bytes target.now.path)) file) }
-{
-    let mut left = match place {
-        Place::New(file) => return Ok(file),
-        Place::Left(left) => left,
-    };
-    remove_left(calls, &mut left, target.owner())?;
-    let new_path = target.new_path(calls.looks().alloc())?;
-    let mut deadline = Deadline::new(calls.looks());
-    match wait_for_place(calls, &new_path, target.owner(), &mut deadline)? {
-        Place::New(file) => Ok(file),
-        Place::Left(_) => Err(DiskFault::Failed(Cause::InUse)),
-    }
-}
-
-// Leaves a place that is held.
-fn leave<R: rt::Files + Alloc>(calls: &Calls<'_, R>, place: HeldPlace<R::A, R::File>) {
-    if let Place::New(mut file) = place {
-        let _ = remove_own(calls, &mut file);
-    }
 }
 
 // Fails unless the new file is still ours and the old one is still as it was seen.
@@ -170,11 +139,11 @@ where
     {
         let mut deadline = Deadline::new(calls.looks());
         let new_path = target.new_path(calls.looks().alloc())?;
-        let place = wait_for_place(calls, &new_path, target.owner(), &mut deadline)?;
+        let mut new_file = make_new_file(calls, &new_path, target.owner(), &mut deadline)?;
         match Old::hold(calls, target, Way::Replace, &mut deadline) {
-            Ok(old) => Ok(Replacing { old, place }),
+            Ok(old) => Ok(Replacing { old, new_file }),
             Err(fault) => {
-                leave(calls, place);
+                let _ = remove_own(calls, &mut new_file);
                 Err(fault)
             }
         }
@@ -187,8 +156,10 @@ where
             ≡ (string_bytes self.old.target.name, bytes.now) ∷ calls.old.saved.entries) }
         ensures err { OnErr result (calls.new.saved.entries ≡ calls.old.saved.entries) }
     {
-        let Replacing { mut old, place } = self;
-        let mut new_file = new_file_at(calls, place, &old.target)?;
+        let Replacing {
+            mut old,
+            mut new_file,
+        } = self;
         match replace(calls, &mut new_file, &old, bytes) {
             Ok(()) => {
                 let _ = calls.sync_folder(old.target.folder());
@@ -203,7 +174,7 @@ where
 
     /// Ends the hold, so that other programs may change the file.
     pub fn release(self, calls: &Calls<'_, R>) {
-        let Replacing { place, .. } = self;
-        leave(calls, place);
+        let Replacing { mut new_file, .. } = self;
+        let _ = remove_own(calls, &mut new_file);
     }
 }

@@ -59,8 +59,8 @@ impl<F: Drop> OldFile<F> {
     }
 }
 
-/// Returns a handle that is no standard stream: the handle that was opened may be, where one is closed.
-pub fn off_the_streams<F: OpenFile + Numbered + Drop>(file: F) -> io::Result<F> {
+// Returns a handle that is no standard stream: the handle that was opened may be, where one is closed.
+fn off_the_streams<F: OpenFile + Numbered + Drop>(file: F) -> io::Result<F> {
     if file.number() > 2 {
         return Ok(file);
     }
