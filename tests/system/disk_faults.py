@@ -123,14 +123,24 @@ def faults_of_kill(program: str, folder: str, outcome: Outcome) -> list[str]:
     return faults + tree_faults({"k": TARGET, TARGET: NEW}, folder)
 
 
+# What has to be synced, each by its handle: the new file from its mode to the rename, and then its folder.
+SYNCS = {
+    "the new file": r'^fchmod\((\d+), .*^fsync\(\1\) += 0$.*^rename',
+    "its folder": r'^rename[^\n]*"d/k\.krbfile"[^\n]* = 0\nopen[^\n]*"d", [^\n]* = (\d+)\nfsync\(\1\) += 0$',
+}
+
+
 def check_handles(report: Report, program: str) -> None:
-    """Checks what no failure shows: the new file is not written by the handle of a standard stream."""
+    """Checks what no failure shows: the new file is synced before the rename, its folder after that, and it is not
+    written by the handle of a standard stream."""
     for script, wanted in RUNS:
         with folder_of({}) as folder:
             os.mkdir(os.path.join(folder, "d"))
             write(os.path.join(folder, "d", "k"), TWO)
             outcome, trace = traced("sh", Line(("-c", script, program)), folder)
             faults = differences(wanted, outcome) + tree_faults({"d": "d", "d/k": REMOVAL.files_after["k"]}, folder)
+        faults += [f"{what} is not synced in time" for what, calls in SYNCS.items()
+                   if not re.search(calls, "\n".join(trace), re.MULTILINE | re.DOTALL)]
         handles = [int(found[1]) for found in map(WRITTEN.match, trace) if found]
         faults += [] if handles and min(handles) >= FIRST else [f"the new bytes are written by {handles}"]
         report.check(f"the handle of a save: {script}", faults)
