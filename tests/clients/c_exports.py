@@ -4,11 +4,11 @@ import glob
 import os
 import re
 
+from pages.documents import read
 from runs.harness import TOP, Report
 
-HEADER = os.path.join(TOP, "c", "krbfile.h")
-PAGE = os.path.join(TOP, "docs", "krbfile.3")
 EXPORT = re.compile(r'pub extern "C" fn (krbf_\w+)\(([^)]*)\)(?: -> (\w+))?', re.S)
+SYNOPSIS = re.compile(r"^\.Ft (\w+)\n\.Fn (krbf_\w+)(.*)$", re.M)
 PROTOTYPE = re.compile(r"^(uint32_t|void) (krbf_\w+)\(([^)]*)\);", re.S | re.M)
 
 # The C form of an export's parameter. An allocator takes no bytes.
@@ -38,9 +38,7 @@ def exports() -> dict[str, Signature]:
     """Returns the exports of the sources, by name."""
     found = {}
     for path in glob.glob(os.path.join(TOP, "crates/krb_c/src/**/*.rt"), recursive=True):
-        with open(path, encoding="utf-8") as file:
-            source = file.read()
-        for name, words, answer in EXPORT.findall(source):
+        for name, words, answer in EXPORT.findall(read(path)):
             kinds = [kind for word in parts(words) for kind in IN_C[word.split(": ", 1)[1]]]
             found[name] = {"u32": "uint32_t", "": "void"}[answer], tuple(kinds)
     return found
@@ -54,22 +52,14 @@ def kind_of(parameter: str) -> str:
 
 def prototypes() -> dict[str, Signature]:
     """Returns the calls of the header, by name."""
-    with open(HEADER, encoding="utf-8") as file:
-        header = file.read()
-    return {
-        name: (answer, tuple(kind_of(part) for part in parts(words)))
-        for answer, name, words in PROTOTYPE.findall(header)
-    }
+    return {name: (answer, tuple(kind_of(part) for part in parts(words)))
+            for answer, name, words in PROTOTYPE.findall(read("c/krbfile.h"))}
 
 
 def shown() -> dict[str, Signature]:
     """Returns the calls of the manual page's synopsis, by name."""
-    with open(PAGE, encoding="ascii") as file:
-        page = file.read()
-    return {
-        name: (answer, tuple(kind_of(word) for word in re.findall(r'"([^"]*)"', words)))
-        for answer, name, words in re.findall(r"^\.Ft (\w+)\n\.Fn (krbf_\w+)(.*)$", page, re.M)
-    }
+    return {name: (answer, tuple(kind_of(word) for word in re.findall(r'"([^"]*)"', words)))
+            for answer, name, words in SYNOPSIS.findall(read("docs/krbfile.3"))}
 
 
 def check(report: Report, _program: str) -> None:

@@ -2,7 +2,6 @@
 
 import os
 import shutil
-import struct
 import subprocess
 
 from keytabs.columns import sample
@@ -10,20 +9,6 @@ from makers.images import TWO
 from runs.harness import SECONDS, TOP, Outcome, Report, folder_of
 
 PROGRAM = os.path.join(TOP, "bin", "krbfile-static")
-
-# The kind of a program header that names an interpreter, which loads shared libraries.
-INTERPRETER = 3
-
-
-def header_kinds(program: str) -> list[int]:
-    """Returns the kinds of the program headers of a 64-bit ELF file."""
-    with open(program, "rb") as file:
-        start = file.read(64)
-        (table,) = struct.unpack_from("<Q", start, 32)
-        size, count = struct.unpack_from("<HH", start, 54)
-        file.seek(table)
-        headers = file.read(size * count)
-    return [struct.unpack_from("<I", headers, size * at)[0] for at in range(count)]
 
 
 def run_alone(program: str, words: tuple[str, ...]) -> Outcome:
@@ -61,6 +46,4 @@ def check(report: Report, program: str) -> None:
     if not os.access(PROGRAM, os.X_OK):
         report.skip("the static program", "there is none: make static builds it")
         return
-    needs = INTERPRETER in header_kinds(PROGRAM)
-    report.check("the static program loads no library", ["it does"] if needs else [])
     check_alone(report, "the static program", PROGRAM)
