@@ -1,63 +1,93 @@
--- The weak enctypes are those of the list.
-use Rattle.std.proofs.Common.{◌≡◌, ℕ, zero, suc, ◌<◌, ◌≤◌, Bool, true, false, List, [], ◌∷◌, map, inl, inr, refl, ap, ◌∙◌, sym, arith}
-use Rattle.std.specs.Prelude.{◌==◌, ◌&&◌, not, nat_lt, None}
-use Rattle.std.specs.List.{find, list_any}
-use Rattle.std.specs.Option.{option_map_or}
-use Rattle.std.proofs.lemmas.Bool.{and_parts, cases_eq, cases_lt, false≢true, ltb-true, ne_eqb}
-use Rattle.krb_text.specs.Etype.{Etype, etype_table, is_weak}
-use Rattle.krb_audit.specs.Findings.{weak_numbers}
+-- The weak enctypes that were found.
+use Rattle.std.proofs.Common.{◌≡◌, ℕ, ◌<◌, ◌≤◌, Bool, true, false, List, [], ◌∷◌, ◌++◌, Option, Some, None, map, set, get_or, length, replicate, inl, inr, refl, ap, ◌∙◌, sym, arith}
+use Rattle.std.specs.Prelude.{◌==◌, ◌&&◌, ◌||◌}
+use Rattle.std.specs.List.{AllByRecursion, find, list_any, range_with_len}
+use Rattle.std.specs.Option.{MatchOption, option_map_or}
+use Rattle.std.proofs.lemmas.Bool.{and_from, and_left, cases_eq, cases_lt, eq-eqb, eqb-true, false_from_ne_true, false≢true, ne_eqb, or_right}
+use Rattle.std.proofs.lemmas.List.{get_or-set_other, get_or-set_same, get_or_past, length-set}
+use Rattle.std.proofs.lemmas.List.Folds.{list_any-append}
+use Rattle.std.proofs.lemmas.List.FromFn.{fill_by_all, get_or-map-range_with_len, length-map-range_with_len}
+use Rattle.krb_keytab.specs.Find.{PlacedEntry}
+use Rattle.krb_text.specs.Etype.{Etype, etype_numbered, etype_table, is_weak}
+use Rattle.krb_text.proofs.Found.{MatchOption-find}
+use Rattle.krb_audit.specs.declared.weak_etypes.WeakEtypes.{WeakEtypes}
+use Rattle.krb_audit.specs.Findings.{is_weak_among, weak_among}
 
--- ---- below a number: by computing each
+-- ---- all are below 27
 
-abbrev all_below : (ℕ → Bool) → ℕ → Bool
-all_below p zero = true
-all_below p (suc m) = p m && all_below p m
+abbrev IsSmall : Etype → Type 0
+IsSmall e = e.number < 27
 
-below : (p : ℕ → Bool) (m : ℕ) → all_below p m ≡ true → (n : ℕ) → n < m → p n ≡ true
-below p zero h n lt = absurd (omega arith)
-below p (suc m) h n lt =
-    let parts = and_parts (p m) (all_below p m) h in
-    elim (cases_eq n m) [ inl same ↦ rw same parts.0 | inr other ↦ below p m parts.1 n (omega arith) ]
-
-abbrev agree : Bool → Bool → Bool
-agree true b = b
-agree false b = not b
-
-agree_is : (a b : Bool) → agree a b ≡ true → a ≡ b
-agree_is true true h = refl
-agree_is false false h = refl
-agree_is true false h = absurd (false≢true h)
-agree_is false true h = absurd (false≢true h)
-
--- ---- from that number on: none is in a list of smaller ones
-
-abbrev are_small : List ℕ → Bool
-are_small [] = true
-are_small (x ∷ xs) = nat_lt x 27 && are_small xs
-
-none_any : (xs : List ℕ) (n : ℕ) → are_small xs ≡ true → 27 ≤ n → list_any (λ x. x == n) xs ≡ false
-none_any [] n small le = refl
-none_any (x ∷ xs) n small le =
-    let parts = and_parts (nat_lt x 27) (are_small xs) small in
-    let lt = ltb-true x 27 parts.0 in
-    rw (ne_eqb x n (λ e. omega (arith, lt, e, le))) (none_any xs n parts.1 le)
-
-none_found : (es : List Etype) (n : ℕ) → are_small (map (λ e. e.number) es) ≡ true → 27 ≤ n → find (λ e. e.number == n) es ≡ None
-none_found [] n small le = refl
-none_found (e ∷ es) n small le =
-    let parts = and_parts (nat_lt e.number 27) (are_small (map (λ x. x.number) es)) small in
-    let lt = ltb-true e.number 27 parts.0 in
-    rw (ne_eqb e.number n (λ same. omega (arith, lt, same, le))) (none_found es n parts.1 le)
-
-abbrev is_among : ℕ → Bool
-is_among n = list_any (λ weak. weak == n) weak_numbers
-
-abbrev agrees : ℕ → Bool
-agrees n = agree (is_weak n) (is_among n)
-
-pub weak_is_among : (n : ℕ) → is_weak n ≡ is_among n
+all_small : AllByRecursion IsSmall etype_table
 unfolding etype_table
-weak_is_among n = elim (cases_lt n 27) [
-  | inl lt ↦ agree_is (is_weak n) (is_among n) (below agrees 27 refl n lt)
-  | inr le ↦ ap (λ o. option_map_or (λ (e : Etype). e.is_weak) o false) (none_found etype_table n refl le) ∙ sym (none_any weak_numbers n refl le)
+all_small = (arith, (arith, (arith, (arith, (arith, (arith, (arith, (arith, (arith, (arith, (arith, (arith, (arith, (arith, (arith, tt)))))))))))))))
+
+row_below : (n : ℕ) (o : Option Etype) → MatchOption o (Unit {0}) (λ e. IsSmall e × ((e.number == n) ≡ true)) → option_map_or (λ e. e.is_weak) o false ≡ true → n < 27
+row_below n (Some e) found h = let same : e.number ≡ n = eqb-true e.number n found.1 in let small : e.number < 27 = found.0 in omega (arith, same, small)
+row_below n None found h = absurd (false≢true h)
+
+pub weak_below : (n : ℕ) → is_weak n ≡ true → n < 27
+weak_below n h = row_below n (etype_numbered n) (MatchOption-find IsSmall (λ e. e.number == n) etype_table all_small) h
+
+-- ---- what is found
+
+-- one of some entries has an enctype
+abbrev has : List PlacedEntry → ℕ → Bool
+has xs etype = list_any (λ x. x.1.enctype == etype) xs
+
+pub none_found : record { found = replicate 27 false } ≡ weak_among []
+unfolding weak_among etype_table
+none_found = refl
+
+-- of any number, also of one that is not below 27
+pub found_at : (xs : List PlacedEntry) (n : ℕ) → get_or (weak_among xs).found n false ≡ is_weak_among xs n
+unfolding weak_among
+found_at xs n = elim (cases_lt n 27) [
+  | inl lt ↦ get_or-map-range_with_len (is_weak_among xs) 0 27 n n false lt refl
+  | inr le ↦ get_or_past (map (is_weak_among xs) (range_with_len 0 27)) n false (omega (arith, le, length-map-range_with_len (is_weak_among xs) 0 27))
+      ∙ sym (and_left (is_weak n) (has xs n) (false_from_ne_true (is_weak n) (λ h. omega (arith, le, weak_below n h))))
 ]
+
+-- the numbers below 27 as they were found
+among_is : (w : WeakEtypes) (xs : List PlacedEntry) → length w.found ≡ 27 → ((n : ℕ) → n < 27 → get_or w.found n false ≡ is_weak_among xs n) → w ≡ weak_among xs
+unfolding weak_among
+among_is w xs long h = ap (λ (f : List Bool). let r : WeakEtypes = record { found = f } in r) (fill_by_all (is_weak_among xs) w.found 27 false long h)
+
+many_found : (xs : List PlacedEntry) → length (weak_among xs).found ≡ 27
+unfolding weak_among
+many_found xs = length-map-range_with_len (is_weak_among xs) 0 27
+
+-- with one more entry
+more : (xs : List PlacedEntry) (x : PlacedEntry) (n : ℕ) (is : Bool) → (x.1.enctype == n) ≡ is → is_weak_among (xs ++ x ∷ []) n ≡ (is_weak n && (has xs n || (is || false)))
+more xs x n is e = ap (λ (b : Bool). is_weak n && b) (list_any-append (λ y. y.1.enctype == n) xs (x ∷ []) ∙ ap (λ (b : Bool). has xs n || (b || false)) e)
+
+or_none : (b : Bool) → (b || (false || false)) ≡ b
+or_none true = refl
+or_none false = refl
+
+-- a number that is not its enctype, or is not weak
+same_found : (xs : List PlacedEntry) (x : PlacedEntry) (n : ℕ) → (x.1.enctype == n) ≡ false → is_weak_among (xs ++ x ∷ []) n ≡ is_weak_among xs n
+same_found xs x n other = more xs x n false other ∙ ap (λ (b : Bool). is_weak n && b) (or_none (has xs n))
+
+pub with_weak : (xs : List PlacedEntry) (x : PlacedEntry) (w : WeakEtypes) (etype : ℕ) → w ≡ weak_among xs → etype ≡ x.1.enctype → is_weak etype ≡ true → record { found = set w.found etype true } ≡ weak_among (xs ++ x ∷ [])
+with_weak xs x w etype is etype_is weak =
+    let long : length w.found ≡ 27 = ap (λ (v : WeakEtypes). length v.found) is ∙ many_found xs in
+    among_is _ (xs ++ x ∷ []) (length-set w.found etype true ∙ long) (λ n lt. elim (cases_eq n etype) [
+      | inl same ↦
+          let here : (x.1.enctype == n) ≡ true = eq-eqb x.1.enctype n (sym etype_is ∙ sym same) in
+          ap (λ m. get_or (set w.found etype true) m false) same ∙ get_or-set_same w.found etype true false (omega (arith, long, weak_below etype weak))
+          ∙ sym (more xs x n true here ∙ and_from (is_weak n) (has xs n || true) (ap is_weak same ∙ weak) (or_right (has xs n) true refl))
+      | inr other ↦
+          let apart : (x.1.enctype == n) ≡ false = ne_eqb x.1.enctype n (λ e. other (sym e ∙ sym etype_is)) in
+          get_or-set_other w.found etype n true false other ∙ ap (λ (v : WeakEtypes). get_or v.found n false) is ∙ found_at xs n ∙ sym (same_found xs x n apart)
+    ])
+
+pub with_other : (xs : List PlacedEntry) (x : PlacedEntry) (w : WeakEtypes) (etype : ℕ) → w ≡ weak_among xs → etype ≡ x.1.enctype → is_weak etype ≡ false → w ≡ weak_among (xs ++ x ∷ [])
+with_other xs x w etype is etype_is strong =
+    let long : length w.found ≡ 27 = ap (λ (v : WeakEtypes). length v.found) is ∙ many_found xs in
+    among_is w (xs ++ x ∷ []) long (λ n lt. ap (λ (v : WeakEtypes). get_or v.found n false) is ∙ found_at xs n ∙ elim (cases_eq n etype) [
+      | inl same ↦
+          let none : is_weak n ≡ false = ap is_weak same ∙ strong in
+          and_left (is_weak n) (has xs n) none ∙ sym (and_left (is_weak n) (has (xs ++ x ∷ []) n) none)
+      | inr other ↦ sym (same_found xs x n (ne_eqb x.1.enctype n (λ e. other (sym e ∙ sym etype_is))))
+    ])

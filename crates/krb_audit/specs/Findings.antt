@@ -1,6 +1,6 @@
 -- What is found about the entries of a keytab.
 use Rattle.std.specs.Prelude.{ℕ, List, [], ◌∷◌, ◌++◌, length, map, find, Bool, not, ◌&&◌, ◌||◌, ◌==◌, nat_le, nat_lt, if◌then◌else◌, Option, None, Some, option_map, option_and_then}
-use Rattle.std.specs.List.{list_any}
+use Rattle.std.specs.List.{list_any, range_with_len}
 use Rattle.std.specs.Str.{bytes_eq}
 use Rattle.krb_wire.specs.SameName.{have_same_name}
 use Rattle.krb_keytab.specs.Entry.{EntryParts}
@@ -55,17 +55,13 @@ marks_of k before x = record {
   old = is_old (placed_entries k) x.1;
 }
 
--- an enctype, if one of some entries has it
-abbrev pub etype_among : List PlacedEntry → ℕ → Option ℕ
-etype_among xs etype = if list_any (λ x. x.1.enctype == etype) xs then Some etype else None
+-- a weak enctype that one of some entries has
+abbrev pub is_weak_among : List PlacedEntry → ℕ → Bool
+is_weak_among xs etype = is_weak etype && list_any (λ x. x.1.enctype == etype) xs
 
--- the weak enctypes, rising
-abbrev pub weak_numbers : List ℕ
-weak_numbers = 1 ∷ 2 ∷ 3 ∷ 4 ∷ 6 ∷ 8 ∷ 16 ∷ 23 ∷ 24 ∷ []
-
--- which of the weak enctypes some entries have, rising
+-- which numbers below 27 are weak enctypes that some entries have
 unfoldable pub weak_among : List PlacedEntry → WeakEtypes
-weak_among xs = record { found = map (etype_among xs) weak_numbers }
+weak_among xs = record { found = map (is_weak_among xs) (range_with_len 0 27) }
 
 -- an entry, and what is found about it
 abbrev pub Marked : Type 0

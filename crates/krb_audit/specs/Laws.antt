@@ -1,12 +1,11 @@
 -- Laws of the definitions.
-use Rattle.std.specs.Prelude.{◌≡◌, ◌==◌, ℕ, List, true, false, Some}
-use Rattle.std.specs.List.{Contains, list_any}
+use Rattle.std.specs.Prelude.{◌≡◌, ℕ, List, get_or, true, false, Some}
+use Rattle.std.specs.List.{Contains}
 use Rattle.krb_wire.specs.Spelling.{Parts}
 use Rattle.krb_wire.specs.SameName.{have_same_name}
 use Rattle.krb_keytab.specs.Entry.{EntryParts}
 use Rattle.krb_keytab.specs.Find.{PlacedEntry}
-use Rattle.krb_text.specs.Etype.{is_weak}
-use Rattle.krb_audit.specs.Findings.{weak_numbers}
+use Rattle.krb_audit.specs.Findings.{is_weak_among, weak_among}
 use Rattle.krb_audit.specs.Newest.{newest, is_old}
 
 -- the entry is one of the entries, at some place, and has that name
@@ -21,6 +20,6 @@ IsOfItsName = (name : Parts) (xs : List PlacedEntry) (e : EntryParts) → newest
 abbrev pub KeepsEachName : Type 0
 KeepsEachName = (xs : List PlacedEntry) (x : PlacedEntry) → Contains xs x → (e : EntryParts) × HasEntry xs x.1.principal e × (is_old xs e ≡ false)
 
--- an enctype is weak iff it is in the list
-abbrev pub AreTheWeak : Type 0
-AreTheWeak = (etype : ℕ) → is_weak etype ≡ list_any (λ weak. weak == etype) weak_numbers
+-- of any number it is found whether it is a weak enctype that one of the entries has
+abbrev pub AreAllWeak : Type 0
+AreAllWeak = (xs : List PlacedEntry) (etype : ℕ) → get_or (weak_among xs).found etype false ≡ is_weak_among xs etype

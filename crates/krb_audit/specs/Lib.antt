@@ -14,5 +14,4 @@ pub mod Prepared
 pub mod TicketText
 pub mod TicketCriteria
 pub mod Firsts
-pub mod WeakEtypes
 pub mod Before

@@ -1,7 +1,7 @@
 -- Hints: the commands that show what can be done about findings.
-use Rattle.std.specs.Prelude.{◌≡◌, ℕ, ◌+◌, ◌<◌, ◌==◌, List, [], ◌∷◌, ◌++◌, length, codes, decimal, Bool, false, not, ◌&&◌, ◌||◌, if◌then◌else◌, nat_le, Option, None, Some, is_some, unwrap_or}
+use Rattle.std.specs.Prelude.{◌≡◌, ℕ, ◌+◌, ◌<◌, ◌==◌, List, [], ◌∷◌, ◌++◌, length, codes, decimal, Bool, false, not, ◌&&◌, ◌||◌, if◌then◌else◌, nat_le, get_or, Option, None, Some, is_some, unwrap_or}
 use Rattle.std.specs.Char.{is_ascii_alphanumeric}
-use Rattle.std.specs.List.{flat_map, list_all, list_any}
+use Rattle.std.specs.List.{flat_map, list_all, list_any, range_with_len}
 use Rattle.krb_wire.specs.declared.format.Order.{Order}
 use Rattle.krb_wire.specs.declared.format.Order.TheVariants.{Big, Little}
 use Rattle.krb_text.specs.Etype.{etype_name_of}
@@ -53,9 +53,8 @@ abbrev pub etype_word : ℕ → List ℕ
 etype_word etype = unwrap_or (etype_name_of etype) (decimal etype)
 
 -- the option for an enctype, if it was found
-abbrev pub etype_option : Option ℕ → List ℕ
-etype_option None = []
-etype_option (Some etype) = codes " -e " ++ etype_word etype
+abbrev pub etype_option : List Bool → ℕ → List ℕ
+etype_option found etype = if get_or found etype false then codes " -e " ++ etype_word etype else []
 
 -- the flag for big-endian keytabs of version 1, if the check was given it
 abbrev pub order_flag : Order → List ℕ
@@ -74,7 +73,7 @@ remove_command order = remove_head ++ (order_flag order ++ codes " -n")
 abbrev pub weak_hint : Findings → List ℕ → List ℕ
 weak_hint findings operand =
     line_if findings.words.weak
-    (remove_command findings.v1_order ++ (flat_map etype_option findings.weak_etypes.found ++ (codes " " ++ (operand ++ codes "\n"))))
+    (remove_command findings.v1_order ++ (flat_map (etype_option findings.weak_etypes.found) (range_with_len 0 27) ++ (codes " " ++ (operand ++ codes "\n"))))
 
 -- the hints for a file that is this operand
 abbrev pub hints_for : Findings → List ℕ → List ℕ

@@ -8,8 +8,8 @@ use Rattle.krb_wire.specs.declared.principal.Principal.{Principal}
 use Rattle.krb_wire.specs.NameOf.{name_of}
 use Rattle.krb_wire.specs.Reading.{principal_parts}
 use Rattle.krb_wire.specs.Spelling.{Parts}
-use Rattle.krb_text.specs.Numbers.{number_in}
-use Rattle.krb_driver.specs.Mistakes.{MistakeParts, BadName, NoSeconds}
+use Rattle.krb_text.specs.Numbers.{seconds_in}
+use Rattle.krb_driver.specs.Mistakes.{MistakeParts, BadName, NoTime}
 
 -- the flags, operands and option values of a command line, by the names of its command's words, and the long names on it
 pub record Matched : Type 0 where
@@ -42,11 +42,11 @@ bad_names words = slice_get (filter_map bad_name words) 0
 abbrev pub AreSpelledNames : {A : Type 0} → List (List ℕ) → List (Principal A) → Type 0
 AreSpelledNames words names = map (λ word. name_of word None) words ≡ map (λ name. Ok (principal_parts name)) names
 
--- the mistake in the first of some words that is not a number of seconds
+-- the mistake in a word that is no time
 abbrev pub bad_seconds : Option (List ℕ) → Option MistakeParts
 bad_seconds None = None
-bad_seconds (Some word) = if is_none (number_in 32 word) then Some (NoSeconds word) else None
+bad_seconds (Some word) = if is_none (seconds_in word) then Some (NoTime word) else None
 
--- the number of seconds is the one that the word spells, or there is neither
+-- the seconds are those that the word spells, or there is neither
 abbrev pub AreSpelledSeconds : Option (List ℕ) → Option ℕ → Type 0
-AreSpelledSeconds word seconds = option_and_then (number_in 32) word ≡ seconds
+AreSpelledSeconds word seconds = option_and_then seconds_in word ≡ seconds

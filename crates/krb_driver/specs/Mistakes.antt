@@ -32,7 +32,7 @@ pub data MistakeParts : Type 0 where
   OnlyWith : List ℕ → List ℕ → MistakeParts
   NoVersion : List ℕ → MistakeParts
   NoEtype : List ℕ → MistakeParts
-  NoSeconds : List ℕ → MistakeParts
+  NoTime : List ℕ → MistakeParts
   NoFinding : List ℕ → MistakeParts
   BadName : List ℕ → NameFault → MistakeParts
   NothingSelects : List ℕ → MistakeParts
@@ -54,7 +54,7 @@ mistake_parts (mistake.ForKeytabs option) = ForKeytabs option.now
 mistake_parts (mistake.OnlyWith option other) = OnlyWith option.now other.now
 mistake_parts (mistake.NoVersion word) = NoVersion word.now
 mistake_parts (mistake.NoEtype word) = NoEtype word.now
-mistake_parts (mistake.NoSeconds word) = NoSeconds word.now
+mistake_parts (mistake.NoTime word) = NoTime word.now
 mistake_parts (mistake.NoFinding word) = NoFinding word.now
 mistake_parts (mistake.BadName word fault) = BadName word.now fault
 mistake_parts (mistake.NothingSelects options) = NothingSelects options.now
@@ -77,7 +77,7 @@ mistake_line (ForKeytabs option) rest = shown_word option ++ (codes " is for key
 mistake_line (OnlyWith option other) rest = shown_word option ++ (codes " goes with " ++ (shown_word other ++ (codes " alone" ++ rest)))
 mistake_line (NoVersion word) rest = quoted_word word ++ (codes " is no " ++ (codes "version" ++ rest))
 mistake_line (NoEtype word) rest = quoted_word word ++ (codes " is no " ++ (codes "encryption type" ++ rest))
-mistake_line (NoSeconds word) rest = quoted_word word ++ (codes " is no " ++ (codes "number of seconds" ++ rest))
+mistake_line (NoTime word) rest = quoted_word word ++ (codes " is no " ++ (codes "time (90, 15m, 10h, 7d)" ++ rest))
 mistake_line (NoFinding word) rest = quoted_word word ++ (codes " is no " ++ (codes "finding" ++ rest))
 mistake_line (BadName word fault) rest = quoted_word word ++ (codes " has " ++ (name_fault_phrase fault ++ rest))
 mistake_line (NothingSelects options) rest = codes "nothing selects; give " ++ (shown_word options ++ rest)

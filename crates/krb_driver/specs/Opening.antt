@@ -10,6 +10,7 @@ use Rattle.krb_ccache.specs.Store.{CacheState, store_of as cache_store}
 use Rattle.krb_files.specs.Loading.{Answer}
 use Rattle.krb_driver.specs.declared.error.RunError.{RunError}
 use Rattle.krb_driver.specs.declared.error.RunError.TheVariants.{Refused}
+use Rattle.krb_driver.specs.declared.verdict.FileKind.TheVariants.{Keytab, Cache}
 use Rattle.krb_driver.specs.Loading.{cache_of, keytab_of, keytab_or_fresh, keytab_or_new, result_map_err}
 use Rattle.krb_driver.specs.RunErrors.{list_error, no_keytab_error}
 
@@ -49,12 +50,12 @@ cache_refusal k = if is_read_only k.version then Some ReadOnly else (if is_some 
 
 -- the keytab of a file to change, which is not damaged
 unfoldable pub whole_in : Order → Answer → Result KeytabState RunError
-whole_in order answer = unless_refused Refused keytab_refusal (keytab_in order answer)
+whole_in order answer = unless_refused (Refused Keytab) keytab_refusal (keytab_in order answer)
 
 -- the same, but a file of no bytes, or a missing one that is not to be saved in place, gives an empty keytab
 unfoldable pub whole_or_empty : Order → Bool → Answer → Result KeytabState RunError
-whole_or_empty order in_place answer = unless_refused Refused keytab_refusal (fresh_in order in_place answer)
+whole_or_empty order in_place answer = unless_refused (Refused Keytab) keytab_refusal (fresh_in order in_place answer)
 
 -- the cache of a file to change, which is not of version 3 and not damaged
 unfoldable pub writable_in : Answer → Result CacheState RunError
-writable_in answer = unless_refused Refused cache_refusal (cache_of answer)
+writable_in answer = unless_refused (Refused Cache) cache_refusal (cache_of answer)

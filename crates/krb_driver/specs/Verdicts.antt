@@ -4,7 +4,7 @@ use Rattle.krb_walk.specs.declared.fault.Fault.{Fault}
 use Rattle.krb_walk.specs.declared.refusal.Code.TheVariants.{NotFound}
 use Rattle.krb_walk.specs.Numbers.{code_number}
 use Rattle.krb_driver.specs.declared.verdict.Verdict.{Verdict}
-use Rattle.krb_driver.specs.declared.verdict.Verdict.TheVariants.{Well, HiddenFrom, Listed, Replied, Found, NothingToRemove}
+use Rattle.krb_driver.specs.declared.verdict.Verdict.TheVariants.{Well, HiddenFrom, NoEntry, Listed, Replied, Found, NothingToRemove}
 use Rattle.krb_driver.specs.Messages.{file_number_message}
 
 -- the verdict of a listing, which reports the fault if there is one
@@ -27,6 +27,7 @@ verdict_message file verdict = []
 abbrev pub verdict_status : Verdict → ℕ
 verdict_status Well = 0
 verdict_status (HiddenFrom place) = 0
+verdict_status NoEntry = 0
 verdict_status (Found findings) = if findings.is_wrong then 1 else 0
 verdict_status verdict = 1
 

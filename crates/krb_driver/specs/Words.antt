@@ -1,7 +1,7 @@
 -- The words that explain what ended a run.
 use Rattle.std.specs.Prelude.{ℕ, List, [], ◌++◌, Bool, true, false, if◌then◌else◌, ◌||◌, Option, None, Some, is_some, option_map, unwrap_or, Ok, Err, codes, decimal, unsigned_abs}
 use Rattle.krb_walk.specs.declared.refusal.Code.{Code}
-use Rattle.krb_walk.specs.declared.refusal.Code.TheVariants.{Full, NotAPlace, NotLive}
+use Rattle.krb_walk.specs.declared.refusal.Code.TheVariants.{Damaged, Full, NotAPlace, NotLive}
 use Rattle.std.specs.List.{flat_map}
 use Rattle.krb_walk.specs.declared.fault.Fault.{Fault}
 use Rattle.krb_walk.specs.declared.fault.FaultKind.{FaultKind}
@@ -33,7 +33,7 @@ use Rattle.krb_driver.specs.declared.reporting.details.Details.{Details}
 use Rattle.krb_driver.specs.declared.reporting.reported.Reported.{Reported}
 use Rattle.krb_driver.specs.declared.verdict.Findings.{Findings}
 use Rattle.krb_driver.specs.declared.verdict.Verdict.{Verdict}
-use Rattle.krb_driver.specs.declared.verdict.Verdict.TheVariants.{Well, HiddenFrom, Listed, Replied, Found, NothingToRemove, Clashed}
+use Rattle.krb_driver.specs.declared.verdict.Verdict.TheVariants.{Well, HiddenFrom, NoEntry, Listed, Replied, Found, NothingToRemove, Clashed}
 use Rattle.krb_driver.specs.declared.first_word.FirstWord.{FirstWord}
 use Rattle.krb_driver.specs.FileNames.{shown_name, type_of, untyped}
 use Rattle.krb_driver.specs.FirstWords.{word_text}
@@ -49,6 +49,7 @@ too_large = codes "it has more than 16,777,216 bytes"
 
 -- the phrase for a refusal by a keytab
 abbrev pub keytab_phrase : Code → List ℕ
+keytab_phrase Damaged = codes "the file is damaged; klist -k tells where"
 keytab_phrase Full = codes "the file would be longer than 16,777,216 bytes"
 keytab_phrase NotAPlace = codes "no record, hole or end stands at this place"
 keytab_phrase NotLive = codes "no entry stands at this place"
@@ -58,6 +59,7 @@ keytab_phrase code = code_phrase code
 abbrev pub cache_phrase : Code → List ℕ
 cache_phrase NotAPlace = codes "no credential or end stands at this place"
 cache_phrase NotLive = codes "no ticket or configuration entry stands at this place"
+cache_phrase Damaged = code_phrase Damaged
 cache_phrase code = keytab_phrase code
 
 -- the phrase for a refusal by a keytab or a cache
@@ -213,7 +215,7 @@ error_words file line details (error.NotAKeytab why) = phrase_line line (no_keyt
 error_words file line details (error.NotAKeytabToList why) = phrase_line line (list_phrase why.fault why.is_cache)
 error_words file line details (error.NotACache why) = phrase_line line (no_cache_phrase why.fault why.is_keytab)
 error_words file line details (error.NotACacheToHold why) = phrase_line line (hold_phrase why.fault why.is_keytab)
-error_words file line details (error.Refused code) = phrase_line line (keytab_phrase code)
+error_words file line details (error.Refused kind code) = phrase_line line (refusal_phrase kind code)
 error_words file line details error.NothingToCopy = phrase_line line (nothing_phrase Keytab)
 error_words file line details error.OutputNotWritten = cause_words file line details
 error_words file line details error.OutputIsTerminal = phrase_line line (codes "the image is for a program; give it a pipe")
@@ -225,7 +227,8 @@ abbrev pub verdict_words : List ℕ → Option ℕ → Verdict → List ℕ
 verdict_words file line Well = []
 verdict_words file line (HiddenFrom place) = hidden_words file line place
 verdict_words file line (NothingToRemove kind) = phrase_line line (nothing_phrase kind)
-verdict_words file line Clashed = phrase_line line (codes "clash: TO has another key for this name, version and type")
+verdict_words file line NoEntry = words_line line (shown_name file ++ codes " has no entry\n")
+verdict_words file line Clashed = phrase_line line (codes "clash: TO has another key for this name, version and type") ++ codes "krbfile: --replace takes FROM's key\n"
 verdict_words file line (Listed fault) = listed_words file fault
 verdict_words file line (Found findings) = found_words file findings
 verdict_words file line (Replied reported) = reported_words file reported

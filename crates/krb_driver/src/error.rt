@@ -2,12 +2,14 @@
 
 ghost use Rattle.std.specs.Prelude.{◌≡◌};
 ghost use Rattle.krb_driver.specs.declared.error.RunError.TheVariants as error;
+ghost use Rattle.krb_driver.specs.declared.verdict.FileKind.TheVariants.{Keytab};
 ghost use Rattle.krb_driver.specs.FirstWords.{first_word, line_at, safe_word};
 ghost use Rattle.krb_driver.specs.RunErrors.{error_of_name, error_status, input_error, list_error, load_error, no_keytab_error, output_error, save_error, script_error, word_error};
 
 use crate::file_name::NameSource;
 use crate::first_word::FirstWord;
 use crate::loading::{NoKeytab, NotCache, NotKeytab};
+use crate::verdict::FileKind;
 use krb_files::{LoadFault, OutFault, SaveFault};
 use krb_text::{LineFault, ScriptRefusal};
 use krb_walk::{Code, Fault};
@@ -45,8 +47,8 @@ pub enum RunError {
     NotACache(NotCache),
     /// Of a file that was to be held as one.
     NotACacheToHold(NotCache),
-    /// The file refused what the run was to do.
-    Refused(Code),
+    /// A file of that kind refused what the run was to do.
+    Refused(FileKind, Code),
     /// No entry of the file is selected, so there is nothing to copy.
     NothingToCopy,
     OutputNotWritten,
@@ -182,10 +184,10 @@ impl From<OutFault> for RunError {
 }
 
 impl From<Code> for RunError {
-    ghost from_gives = { λ code given. given ≡ error.Refused code };
+    ghost from_gives = { λ code given. given ≡ error.Refused Keytab code };
 
     fn from(code: Code) -> RunError {
-        RunError::Refused(code)
+        RunError::Refused(FileKind::Keytab, code)
     }
 }
 

@@ -164,7 +164,7 @@ fn error_message(error: RunError, file: &[u8]) -> Message<'_>
         RunError::NotAKeytabToList(why) => not_keytab_message(file, why),
         RunError::NotACache(why) => not_cache_message(file, why),
         RunError::NotACacheToHold(why) => not_cache_message(file, why),
-        RunError::Refused(code) => file_number_message(file, "refused ", code.number(), ""),
+        RunError::Refused(_, code) => file_number_message(file, "refused ", code.number(), ""),
         RunError::NothingToCopy => {
             file_number_message(file, "refused ", Code::NotFound.number(), "")
         }

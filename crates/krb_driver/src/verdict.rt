@@ -31,6 +31,8 @@ pub enum Verdict {
     Well,
     /// An entry that was added is not seen by MIT's programs: they see none from this place on.
     HiddenFrom(u32),
+    /// The keytab that was saved has no entry.
+    NoEntry,
     /// The listing reports it.
     Listed(Fault),
     /// The replies report it.
@@ -64,7 +66,7 @@ impl Verdict {
         ensures { result ≡ verdict_status self }
     {
         match self {
-            Verdict::Well | Verdict::HiddenFrom(_) => 0,
+            Verdict::Well | Verdict::HiddenFrom(_) | Verdict::NoEntry => 0,
             Verdict::Found(findings) => u8::from(findings.is_wrong),
             _ => 1,
         }

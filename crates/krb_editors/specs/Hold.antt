@@ -75,7 +75,7 @@ missing_in kind in_place = Err (load_error Missing)
 
 -- the image that a load gives
 abbrev pub held_in : HoldKind → Bool → Answer → Result (List ℕ) RunError
-held_in kind in_place (Ok bytes) = whole_in (λ fault. error.Refused Damaged) kind bytes
+held_in kind in_place (Ok bytes) = whole_in (λ fault. error.Refused (file_kind kind) Damaged) kind bytes
 held_in kind in_place (Err Missing) = missing_in kind in_place
 held_in kind in_place (Err fault) = Err (load_error fault)
 

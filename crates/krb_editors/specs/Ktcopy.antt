@@ -14,6 +14,7 @@ use Rattle.krb_audit.specs.declared.selection.Selection.{Selection}
 use Rattle.krb_audit.specs.Findings.{hides_added}
 use Rattle.krb_audit.specs.Selection.{selected_in}
 use Rattle.krb_driver.specs.declared.error.RunError.TheVariants.{NothingToCopy, Refused}
+use Rattle.krb_driver.specs.declared.verdict.FileKind.TheVariants.{Keytab}
 use Rattle.krb_driver.specs.declared.file_name.FileName.{FileName}
 use Rattle.krb_driver.specs.declared.verdict.Verdict.{Verdict}
 use Rattle.krb_driver.specs.declared.verdict.Verdict.TheVariants.{Clashed, Well}
@@ -44,7 +45,7 @@ copied_verdict run = hiding (hides_added run.keytab run.places) Well
 
 -- the lines of a run are printed, and its keytab is saved if something was copied; after a clash nothing is saved, and only a dry run prints more than the clashes
 abbrev pub copied_effect : Bool → List ℕ → Result Run Code → Effect
-copied_effect dry_run to (Err code) = Fails to (Refused code)
+copied_effect dry_run to (Err code) = Fails to (Refused Keytab code)
 copied_effect dry_run to (Ok run) =
     if has_lines run.clashes then Displays to (text (if dry_run then run.text else run.clashes) Clashed)
     else (if has_lines run.text then saves_unless dry_run to (image_of run.keytab) run.text (copied_verdict run) else Displays to (text run.text Well))

@@ -208,7 +208,7 @@ fn copy<'a, A: Allocator + Copy, B: Allocator>(
         Ok(copied) => made(command, copied),
         Err(Refusal::Code(code)) => Err(FileError {
             file: command.to.name,
-            error: RunError::Refused(code),
+            error: RunError::from(code),
         }),
         Err(Refusal::NoMemory) => Err(FileError::from(NoMemory)),
     }

@@ -11,6 +11,7 @@ use Rattle.krb_text.specs.Found.{found_line}
 use Rattle.krb_text.specs.Numbers.{number_in}
 use Rattle.krb_readers.specs.declared.ktfind.FindOptions.{FindOptions}
 use Rattle.krb_driver.specs.declared.error.RunError.TheVariants.{Refused}
+use Rattle.krb_driver.specs.declared.verdict.FileKind.TheVariants.{Keytab}
 use Rattle.krb_driver.specs.declared.verdict.Verdict.TheVariants.{Well}
 use Rattle.krb_driver.specs.declared.file_name.FileName.{FileName}
 use Rattle.krb_driver.specs.Effects.{CommandPlan, Effect, Fails, Displays, opens, text}
@@ -21,7 +22,7 @@ use Rattle.krb_driver.specs.Opening.{keytab_in}
 -- the line of an entry that was found, or why none was
 abbrev pub found : List ℕ → Result PlacedEntry Code → Effect
 found file (Ok entry) = Displays file (text (found_line entry) Well)
-found file (Err code) = Fails file (Refused code)
+found file (Err code) = Fails file (Refused Keytab code)
 
 -- an entry is looked up in the keytab of a file
 abbrev pub finds : {A : Type 0} → FindOptions A → List ℕ → KeytabState → Effect

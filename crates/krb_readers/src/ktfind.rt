@@ -102,7 +102,7 @@ fn find<'a, A: Allocator, B: Allocator>(
         })),
         Err(code) => Err(FileError {
             file: command.file.name,
-            error: RunError::Refused(code),
+            error: RunError::from(code),
         }),
     }
 }

@@ -1,10 +1,9 @@
 //! Encryption types by number and by name: those of RFC 3961, 3962, 4757, 6803 and 8009, under the names that MIT
-//! prints, and others that MIT calls weak or deprecated.
+//! reads and prints, and others that MIT calls weak or deprecated.
 
-ghost use Rattle.std.specs.Prelude.{◌≡◌, IsSome, MatchOption, option_copied};
-ghost use Rattle.std.specs.List.{find};
+ghost use Rattle.std.specs.Prelude.{◌≡◌, IsSome, map, option_copied};
 ghost use Rattle.krb_wire.specs.Text.{Appended};
-ghost use Rattle.krb_text.specs.Etype.{etype_name_of, etype_text_of, etype_in, is_named, is_weak, key_size_of, named_of, number_named, unnamed};
+ghost use Rattle.krb_text.specs.Etype.{etype_name_of, etype_names, etype_text_of, etype_in, is_among, is_weak, key_size_of, number_named, unnamed};
 
 use crate::bytes::append;
 use crate::numbers::parse_u16;
@@ -12,24 +11,39 @@ use itoa::Buffer;
 use krb_wire::NoMemory;
 use std::alloc::Allocator;
 
-// Returns an enctype's name and key size, if the table names it, and whether MIT calls it weak or deprecated.
+/// What is known of an enctype: its names, of which the first is printed, the size of its keys in bytes, if it has a name,
+/// and whether MIT calls it weak or deprecated.
+#[derive(Clone, Copy)]
+struct Row {
+    names: &'static [&'static str],
+    key_size: Option<usize>,
+    is_weak: bool,
+}
+
+// Returns the row of an enctype with these names and that key size.
+fn named(names: &'static [&'static str], key_size: usize) -> Row {
+    Row { names, key_size: Some(key_size), is_weak: false }
+}
+
+// Returns the row of an enctype.
 #[tactic(auto, unfolding(crate::specs::Etype::etype_table))]
-fn row_of(etype: u16) -> (Option<(&'static str, usize)>, bool)
-    ensures named { MatchOption result.0 (named_of etype ≡ None)
-        (λ named. named_of etype ≡ Some (named.0.now, named.1)) }
-    ensures weak { result.1 ≡ is_weak etype }
+fn row_of(etype: u16) -> Row
+    ensures names { map (λ name. name.now) result.names.now ≡ etype_names etype }
+    ensures key_size { result.key_size ≡ key_size_of etype }
+    ensures weak { result.is_weak ≡ is_weak etype }
 {
+    let unnamed = Row { names: &[], key_size: None, is_weak: false };
     match etype {
-        1 | 2 | 3 | 4 | 6 | 8 | 24 => (None, true),
-        16 => (Some(("des3-cbc-sha1", 24)), true),
-        17 => (Some(("aes128-cts-hmac-sha1-96", 16)), false),
-        18 => (Some(("aes256-cts-hmac-sha1-96", 32)), false),
-        19 => (Some(("aes128-cts-hmac-sha256-128", 16)), false),
-        20 => (Some(("aes256-cts-hmac-sha384-192", 32)), false),
-        23 => (Some(("arcfour-hmac", 16)), true),
-        25 => (Some(("camellia128-cts-cmac", 16)), false),
-        26 => (Some(("camellia256-cts-cmac", 32)), false),
-        _ => (None, false),
+        1 | 2 | 3 | 4 | 6 | 8 | 24 => Row { is_weak: true, ..unnamed },
+        16 => Row { is_weak: true, ..named(&["des3-cbc-sha1", "des3-hmac-sha1", "des3-cbc-sha1-kd"], 24) },
+        17 => named(&["aes128-cts-hmac-sha1-96", "aes128-cts", "aes128-sha1"], 16),
+        18 => named(&["aes256-cts-hmac-sha1-96", "aes256-cts", "aes256-sha1"], 32),
+        19 => named(&["aes128-cts-hmac-sha256-128", "aes128-sha2"], 16),
+        20 => named(&["aes256-cts-hmac-sha384-192", "aes256-sha2"], 32),
+        23 => Row { is_weak: true, ..named(&["arcfour-hmac", "rc4-hmac", "arcfour-hmac-md5"], 16) },
+        25 => named(&["camellia128-cts-cmac", "camellia128-cts"], 16),
+        26 => named(&["camellia256-cts-cmac", "camellia256-cts"], 32),
+        _ => unnamed,
     }
 }
 
@@ -59,55 +73,53 @@ pub fn etype_text<A: Allocator>(etype: u16, out: &mut Vec<u8, A>) -> Result<(), 
     }
 }
 
-/// Returns the name of an enctype, e.g. `aes128-cts-hmac-sha1-96`, or `None` if the table has none for it.
+/// Returns the name of an enctype that is printed, e.g. `aes128-cts-hmac-sha1-96`, or `None` if it has none.
 pub fn etype_name(etype: u16) -> Option<&'static str>
     ensures { option_copied result ≡ etype_name_of etype }
 {
-    Some(row_of(etype).0?.0)
+    row_of(etype).names.first().copied()
 }
 
-/// Returns the key size of an enctype in bytes, or `None` if the table has no name for it.
+/// Returns the key size of an enctype in bytes, or `None` if it has no name.
 pub fn key_size(etype: u16) -> Option<usize>
     ensures { result ≡ key_size_of etype }
 {
-    Some(row_of(etype).0?.1)
+    row_of(etype).key_size
 }
 
 /// Returns whether the enctype is one that MIT calls weak or deprecated.
 pub fn is_weak(etype: u16) -> bool
     ensures { result ≡ is_weak etype }
 {
-    row_of(etype).1
+    row_of(etype).is_weak
 }
 
+// Returns whether a text is a name of that enctype, in either case.
 fn is_name_of(etype: u16, text: &[u8]) -> bool
-    ensures { result ≡ is_named text.now etype }
+    ensures { result ≡ is_among text.now (etype_names etype) }
 {
-    etype_name(etype).is_some_and(|name| name.as_bytes() == text)
+    row_of(etype)
+        .names
+        .iter()
+        .any(|name| name.as_bytes().eq_ignore_ascii_case(text))
 }
 
-// Returns the first of the numbers whose name is `text`.
-fn named_among(numbers: &[u16], text: &[u8]) -> Option<u16>
-    ensures { result ≡ find (is_named text.now) numbers.now }
+// Returns the number of the enctype with that name.
+#[tactic(auto, unfolding(crate::specs::Etype::etype_table))]
+fn number_named(text: &[u8]) -> Option<u16>
+    ensures { result ≡ number_named text.now }
 {
-    numbers
+    [16, 17, 18, 19, 20, 23, 25, 26]
         .iter()
         .copied()
         .find(|etype| is_name_of(*etype, text))
 }
 
-#[tactic(auto, unfolding(crate::specs::Etype::etype_table))]
-fn named(text: &[u8]) -> Option<u16>
-    ensures { result ≡ number_named text.now }
-{
-    named_among(&[16, 17, 18, 19, 20, 23, 25, 26], text)
-}
-
-/// Returns the number of the enctype that `text` is: its name, case-sensitive, or one to ten decimal digits with a
-/// value up to 65,535.
+/// Returns the number of the enctype that `text` is: one of its names, as MIT reads them, in either case, or one to ten
+/// decimal digits with a value up to 65,535.
 #[tactic(auto, unfolding(crate::specs::Etype::etype_in))]
 pub fn etype_of(text: &[u8]) -> Option<u16>
     ensures { result ≡ etype_in text.now }
 {
-    named(text).or_else(|| parse_u16(text))
+    number_named(text).or_else(|| parse_u16(text))
 }

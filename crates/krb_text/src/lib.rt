@@ -28,7 +28,7 @@ pub use gather::{room_to_gather, send_if_full};
 pub use key::{key_text, parse_key};
 pub use line_fault::{LineFault, LineRefusal};
 pub use listing::{append_fault_line, list_keytab, send_last};
-pub use numbers::parse_u32;
+pub use numbers::{parse_seconds, parse_u32};
 pub use pieces::{Lines, Words};
 pub use reply::record::RecordFormat;
 pub use reply::{reply_line, reply_lines};

@@ -3,7 +3,7 @@
 ghost use Rattle.std.specs.Prelude.{◌≡◌, MatchOption, false, nat_le, true};
 ghost use Rattle.std.specs.Char.{is_ascii_digit};
 ghost use Rattle.std.specs.List.{list_all};
-ghost use Rattle.krb_text.specs.Numbers.{is_numeral, number_in};
+ghost use Rattle.krb_text.specs.Numbers.{is_numeral, number_in, seconds_in, seconds_of_unit};
 
 fn are_digits(text: &[u8]) -> bool
     ensures { result ≡ list_all is_ascii_digit text.now }
@@ -46,4 +46,29 @@ pub fn parse_u32(text: &[u8]) -> Option<u32>
     ensures { result ≡ number_in 32 text.now }
 {
     numeral(text)?.parse().ok()
+}
+
+// Returns how many seconds the unit with that letter has, if there is one.
+fn seconds_of_unit(letter: u8) -> Option<u32>
+    ensures { result ≡ seconds_of_unit letter }
+{
+    match letter {
+        b's' => Some(1),
+        b'm' => Some(60),
+        b'h' => Some(3_600),
+        b'd' => Some(86_400),
+        _ => None,
+    }
+}
+
+/// Parses a number of seconds, or of the unit whose letter, `s`, `m`, `h` or `d`, follows it; `None` for other text, and
+/// for a value that does not fit 32 bits.
+pub fn parse_seconds(text: &[u8]) -> Option<u32>
+    ensures { result ≡ seconds_in text.now }
+{
+    let (letter, number) = text.split_last()?;
+    match seconds_of_unit(*letter) {
+        Some(unit) => parse_u32(number)?.checked_mul(unit),
+        None => parse_u32(text),
+    }
 }

@@ -7,7 +7,7 @@ ghost use Rattle.krb_driver.specs.Matches.{AreSpelledNames, AreSpelledSeconds, b
 ghost use Rattle.krb_driver.specs.Mistakes.{Reads, mistake_parts};
 
 use crate::command_line::mistake::{Mistake, WordFault};
-use krb_text::parse_u32;
+use krb_text::parse_seconds;
 use krb_wire::{NameFault, NoMemory, Order, Principal, parse_name};
 use std::alloc::Global;
 
@@ -133,7 +133,7 @@ pub fn spelled_names<'a>(
     }
 }
 
-/// Parses a word, if there is one, as a number of seconds.
+/// Parses a word, if there is one, as a time in seconds.
 pub fn spelled_seconds<'a>(word: Option<&'a str>) -> Result<Option<u32>, Mistake<'a>>
     ensures ok { IfOk result (AreSpelledSeconds (option_map (λ word. word.now) word.entry)) }
     ensures readable { OnOk result (bad_seconds (option_map (λ word. word.now) word.entry) ≡ None) }
@@ -142,8 +142,8 @@ pub fn spelled_seconds<'a>(word: Option<&'a str>) -> Result<Option<u32>, Mistake
     let Some(word) = word else {
         return Ok(None);
     };
-    match parse_u32(word.as_bytes()) {
+    match parse_seconds(word.as_bytes()) {
         Some(seconds) => Ok(Some(seconds)),
-        None => Err(Mistake::NoSeconds(word)),
+        None => Err(Mistake::NoTime(word)),
     }
 }

@@ -26,7 +26,7 @@ pub enum Mistake<'a> {
     OnlyWith(&'a str, &'a str),
     NoVersion(&'a str),
     NoEtype(&'a str),
-    NoSeconds(&'a str),
+    NoTime(&'a str),
     NoFinding(&'a str),
     BadName(&'a str, NameFault),
     /// None of these options is given.

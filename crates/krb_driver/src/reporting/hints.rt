@@ -1,7 +1,7 @@
 //! Hints: the commands that show what can be done about findings.
 
-ghost use Rattle.std.specs.Prelude.{◌≡◌, ◌++◌, codes};
-ghost use Rattle.std.specs.List.{flat_map};
+ghost use Rattle.std.specs.Prelude.{◌≡◌, ◌<◌, ◌++◌, codes};
+ghost use Rattle.std.specs.List.{flat_map, range_with_len};
 ghost use Rattle.krb_driver.specs.Hints.{etype_option, etype_word, hint_words, hints_for, order_flag, remove_command, weak_hint};
 ghost use Rattle.krb_driver.specs.Messages.{line_if};
 ghost use Rattle.krb_driver.specs.PieceTexts.{piece_text, pieces_text};
@@ -36,20 +36,22 @@ fn etype_word(etype: u16) -> MessagePiece<'static>
 }
 
 // Returns the option for an enctype, if it was found.
-fn etype_option(etype: Option<u16>) -> [MessagePiece<'static>; 2]
-    ensures { pieces_text result ≡ etype_option etype }
+fn etype_option(found: &[bool; 27], etype: u16) -> [MessagePiece<'static>; 2]
+    requires { etype < 27 }
+    ensures { pieces_text result ≡ etype_option found.now etype }
 {
-    match etype {
-        Some(etype) => [MessagePiece::Text(" -e "), etype_word(etype)],
-        None => [NONE, NONE],
+    if found[usize::from(etype)] {
+        [MessagePiece::Text(" -e "), etype_word(etype)]
+    } else {
+        [NONE, NONE]
     }
 }
 
-fn add_etypes<E: Write>(etypes: &[Option<u16>], gathered: &mut Gathered, err: &mut Watched<E>)
-    ensures { Adds err.old gathered.old.items err.new gathered.new.items (flat_map etype_option etypes.now) }
+fn add_etypes<E: Write>(found: &[bool; 27], gathered: &mut Gathered, err: &mut Watched<E>)
+    ensures { Adds err.old gathered.old.items err.new gathered.new.items (flat_map (etype_option found.now) (range_with_len 0 27)) }
 {
-    'etypes: for etype in etypes {
-        add_pieces(&etype_option(*etype), gathered, err);
+    'etypes: for etype in 0..27u16 {
+        add_pieces(&etype_option(found, etype), gathered, err);
     }
 }
 

@@ -117,7 +117,7 @@ fn mistake_pieces(mistake: Mistake<'_>) -> Line<'_>
         Mistake::OnlyWith(option, other) => only_with(option, other),
         Mistake::NoVersion(kvno) => quoted(kvno, " is no ", "version"),
         Mistake::NoEtype(etype) => quoted(etype, " is no ", "encryption type"),
-        Mistake::NoSeconds(word) => quoted(word, " is no ", "number of seconds"),
+        Mistake::NoTime(word) => quoted(word, " is no ", "time (90, 15m, 10h, 7d)"),
         Mistake::NoFinding(word) => quoted(word, " is no ", "finding"),
         Mistake::BadName(name, fault) => quoted(name, " has ", fault.phrase()),
         Mistake::NothingSelects(options) => before("nothing selects; give ", options),

@@ -10,7 +10,7 @@ use crate::error::RunError;
 use crate::first_word::FirstWord;
 use crate::loading::{NotCache, NotKeytab};
 use crate::reporting::details::Details;
-use crate::reporting::explanation::{Explanation, no_words, phrase, words};
+use crate::reporting::explanation::{Explanation, no_words, phrase, words, words_before};
 use crate::reporting::name_words::{hidden_words, missing_words, type_words, typed_words};
 use crate::reporting::piece::MessagePiece;
 use crate::verdict::{FileKind, Verdict};
@@ -31,6 +31,7 @@ fn keytab_phrase(code: Code) -> &'static str
     ensures { result.now ≡ keytab_phrase code }
 {
     match code {
+        Code::Damaged => "the file is damaged; klist -k tells where",
         Code::Full => "the file would be longer than 16,777,216 bytes",
         Code::NotAPlace => "no record, hole or end stands at this place",
         Code::NotLive => "no entry stands at this place",
@@ -45,6 +46,7 @@ fn cache_phrase(code: Code) -> &'static str
     match code {
         Code::NotAPlace => "no credential or end stands at this place",
         Code::NotLive => "no ticket or configuration entry stands at this place",
+        Code::Damaged => code.phrase(),
         code => keytab_phrase(code),
     }
 }
@@ -215,9 +217,8 @@ fn error_words<'a>(
         RunError::UnknownWord { word, .. } => unknown_words(word),
         RunError::FromPassword { .. } => phrase(line, "keys are not made from passwords here"),
         RunError::AsksForHelp { .. } => phrase(line, "see krbfile ktutil --help"),
-        RunError::LineRefused { code, .. } | RunError::Refused(code) => {
-            phrase(line, keytab_phrase(code))
-        }
+        RunError::LineRefused { code, .. } => phrase(line, keytab_phrase(code)),
+        RunError::Refused(kind, code) => phrase(line, refusal_phrase(kind, code)),
         RunError::NothingToCopy => phrase(line, nothing_phrase(FileKind::Keytab)),
         RunError::NoSuchFile(source) => missing_words(line, source),
         RunError::OtherType(source) => type_words(line, file, source),
@@ -245,9 +246,16 @@ fn verdict_words(verdict: Verdict, file: &[u8], line: Option<u64>) -> Explanatio
         Verdict::Well => no_words(),
         Verdict::HiddenFrom(place) => hidden_words(file, line, place),
         Verdict::NothingToRemove(kind) => phrase(line, nothing_phrase(kind)),
-        Verdict::Clashed => phrase(
+        Verdict::NoEntry => words(
             line,
-            "clash: TO has another key for this name, version and type",
+            MessagePiece::Name(file),
+            MessagePiece::Text(" has no entry"),
+        ),
+        Verdict::Clashed => words_before(
+            line,
+            MessagePiece::Text("clash: TO has another key for this name, version and type"),
+            NONE,
+            "krbfile: --replace takes FROM's key\n",
         ),
         Verdict::Listed(fault) => listed_words(file, fault),
         Verdict::Replied(_) | Verdict::Found(_) => unreachable!(),

@@ -5,7 +5,7 @@ ghost use Rattle.krb_walk.specs.declared.refusal.Code.TheVariants.{Damaged};
 ghost use Rattle.krb_driver.specs.declared.error.RunError.TheVariants.{Refused};
 ghost use Rattle.krb_driver.specs.Loading.{result_map};
 ghost use Rattle.krb_editors.specs.Frame.{framed};
-ghost use Rattle.krb_editors.specs.Hold.{fault_in, given_by, whole_in};
+ghost use Rattle.krb_editors.specs.Hold.{fault_in, file_kind, given_by, whole_in};
 
 use crate::hold::frame::image_in;
 use crate::hold::words::HoldKind;
@@ -42,11 +42,11 @@ fn opened<A: Allocator>(
 
 /// Returns the image of a file, which is to be of that kind and not damaged.
 pub fn whole<A: Allocator>(kind: HoldKind, image: Vec<u8, A>) -> Result<Vec<u8, A>, RunError>
-    ensures { result_map (λ image. image.items) result ≡ whole_in (λ fault. Refused Damaged) kind image.items }
+    ensures { result_map (λ image. image.items) result ≡ whole_in (λ fault. Refused (file_kind kind) Damaged) kind image.items }
 {
     match opened(kind, image)? {
         (image, None) => Ok(image),
-        (_, Some(_)) => Err(RunError::Refused(Code::Damaged)),
+        (_, Some(_)) => Err(RunError::Refused(kind.file_kind(), Code::Damaged)),
     }
 }
 

@@ -1,8 +1,7 @@
-use Rattle.std.proofs.Common.{take}
-use Rattle.std.specs.List.{flat_map}
+use Rattle.std.specs.List.{flat_map, range_with_len}
 use Rattle.krb_driver.specs.Hints.{etype_option}
 use Rattle.krb_driver.specs.Underway.{Adds}
 use Rattle.krb_driver.proofs.reporting.hints.add_etypes.Given as goal
 
 abbrev pub invariant-etypes : goal.invariant-etypes
-invariant-etypes g l = Adds l.initial.err l.initial.gathered.items l.err l.gathered.items (flat_map etype_option (take l.etype-index l.etypes))
+invariant-etypes g l = Adds l.initial.err l.initial.gathered.items l.err l.gathered.items (flat_map (etype_option l.found) (range_with_len 0 l.etype))
