@@ -2,9 +2,10 @@
 
 _krbfile() {
     local commands='klist ktfind ktedit ktremove ktcopy ktcheck ktutil ccedit ccremove hold help'
-    local etypes='des3-cbc-sha1 aes128-cts-hmac-sha1-96 aes256-cts-hmac-sha1-96
-        aes128-cts-hmac-sha256-128 aes256-cts-hmac-sha384-192 arcfour-hmac
-        camellia128-cts-cmac camellia256-cts-cmac'
+    local etypes='des3-cbc-sha1 des3-hmac-sha1 des3-cbc-sha1-kd aes128-cts-hmac-sha1-96 aes128-cts aes128-sha1
+        aes256-cts-hmac-sha1-96 aes256-cts aes256-sha1 aes128-cts-hmac-sha256-128 aes128-sha2
+        aes256-cts-hmac-sha384-192 aes256-sha2 arcfour-hmac rc4-hmac arcfour-hmac-md5
+        camellia128-cts-cmac camellia128-cts camellia256-cts-cmac camellia256-cts'
     local word=${COMP_WORDS[COMP_CWORD]} command='' options='' offered='' operands=0 first=1 at
     ((COMP_CWORD > 1)) && [[ ${COMP_WORDS[1]} == --explain ]] && first=2
     ((COMP_CWORD > first)) && command=${COMP_WORDS[first]}

@@ -1,7 +1,9 @@
 # Completion of krbfile's command lines for fish.
 
-set -l etypes 'des3-cbc-sha1 aes128-cts-hmac-sha1-96 aes256-cts-hmac-sha1-96 aes128-cts-hmac-sha256-128
-    aes256-cts-hmac-sha384-192 arcfour-hmac camellia128-cts-cmac camellia256-cts-cmac'
+set -l etypes 'des3-cbc-sha1 des3-hmac-sha1 des3-cbc-sha1-kd aes128-cts-hmac-sha1-96 aes128-cts aes128-sha1
+    aes256-cts-hmac-sha1-96 aes256-cts aes256-sha1 aes128-cts-hmac-sha256-128 aes128-sha2
+    aes256-cts-hmac-sha384-192 aes256-sha2 arcfour-hmac rc4-hmac arcfour-hmac-md5
+    camellia128-cts-cmac camellia128-cts camellia256-cts-cmac camellia256-cts'
 
 # Whether the word to come is the third operand of ktfind.
 function __krbfile_wants_etype

@@ -14,7 +14,7 @@ from caches.cache_scripts import FAULTS as CACHE_FAULTS
 from chance.random_caches import (KEYS, PRINCIPALS, filled_cache, random_cache, random_credential, random_value,
                                   with_damage)
 from chance.random_keytabs import random_bytes, random_keytab, sound_part
-from keytabs.columns import NAMES
+from keytabs.columns import ETYPES, KEY_SIZES
 from keytabs.scripts import FAULTS
 from makers.cache_images import cache
 from makers.images import BIG, LITTLE, keytab
@@ -24,7 +24,7 @@ from models.cache_reading import read_cache
 from models.cases import ccedit, klist, ktedit, ktfind
 from models.keytab_model import Keytab
 from models.reading import KeytabEntry, name_text, no_keytab
-from models.script_model import KEY_SIZES, CacheSession, KeytabSession
+from models.script_model import CacheSession, KeytabSession
 from models.walks import Event, Session, Store
 from runs.harness import Case
 from runs.random_runs import CaseAt, Topic
@@ -71,9 +71,11 @@ def random_etype_and_key(random: Random) -> tuple[str, str]:
     """Returns an enctype by number or name, and a key for it, in hexadecimal."""
     number = random.choice([*KEY_SIZES, 0, 1, 999, 65_535])
     size = KEY_SIZES.get(number, random.randrange(40))
-    named = number in NAMES and random.random() < 0.4
     key = random.randbytes(size).hex() or "-"
-    word = NAMES[number].decode() if named else str(number)
+    word = str(number)
+    if number in ETYPES and random.random() < 0.4:
+        name = random.choice(ETYPES[number][1].split())
+        word = random.choice((name, name.upper(), name.title()))
     return word, key.upper() if random.random() < 0.2 else key
 
 

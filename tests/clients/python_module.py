@@ -5,6 +5,7 @@ import sys
 from collections.abc import Iterable
 
 from clients import python_files, python_limits
+from keytabs.columns import BY_NAME, KEY_SIZES
 from makers.cache_images import Credential, Name, cache, config
 from makers.images import B, TWO, Entry, keytab
 from makers.usual_caches import PA_TYPE, TICKET
@@ -268,18 +269,6 @@ CACHE_AFTER = cache(Credential(server=Name((b"host", b"a")), is_skey=1, second_t
 NAMES = ((bytes(range(256)),), (b"a/b@c\\", b"", b"\0\b\n\t0bnt"), (b"",), (), (b"", b""),
          (b"",) * 65_535)
 
-# The numbers of the encryption types, and the lengths of their keys, by the names that the program reads.
-BY_NAME = {
-    (16, 24): ("des3-cbc-sha1", "des3-hmac-sha1", "des3-cbc-sha1-kd"),
-    (17, 16): ("aes128-cts-hmac-sha1-96", "aes128-cts", "aes128-sha1"),
-    (18, 32): ("aes256-cts-hmac-sha1-96", "aes256-cts", "aes256-sha1"),
-    (19, 16): ("aes128-cts-hmac-sha256-128", "aes128-sha2"),
-    (20, 32): ("aes256-cts-hmac-sha384-192", "aes256-sha2"),
-    (23, 16): ("arcfour-hmac", "rc4-hmac", "arcfour-hmac-md5"),
-    (25, 16): ("camellia128-cts-cmac", "camellia128-cts"),
-    (26, 32): ("camellia256-cts-cmac", "camellia256-cts"),
-}
-
 SCRIPTS: tuple[Script, ...] = (
     ("keytabs", KEYTABS, TWO, [
         "[(2, 'host/a@R', 3, 17), (53, 'b@R', 3, 17)]",
@@ -320,7 +309,7 @@ SCRIPTS: tuple[Script, ...] = (
         "True", "True True b'k' True",
     ]),
     ("encryption types", ETYPES, b"", [
-        *(line for (number, length), names in BY_NAME.items() for name in names for line in (
+        *(line for name, number in BY_NAME.items() for length in (KEY_SIZES[number],) for line in (
             f"{name} {number} {length}",
             *(f"a key of type {number} has {length} bytes, not {wrong}" for wrong in (length - 1, length + 1)))),
         "True", "23 0",

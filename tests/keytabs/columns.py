@@ -6,17 +6,20 @@ from keytabs.listings import case, listed
 from makers.images import B, BIG, HOST, Entry, keytab, old
 from runs.harness import Case
 
-# The names of the enctypes that have one.
-NAMES = {
-    16: b"des3-cbc-sha1",
-    17: b"aes128-cts-hmac-sha1-96",
-    18: b"aes256-cts-hmac-sha1-96",
-    19: b"aes128-cts-hmac-sha256-128",
-    20: b"aes256-cts-hmac-sha384-192",
-    23: b"arcfour-hmac",
-    25: b"camellia128-cts-cmac",
-    26: b"camellia256-cts-cmac",
+# The enctypes that have names: the lengths of their keys, and the names, of which the first is printed.
+ETYPES = {
+    16: (24, "des3-cbc-sha1 des3-hmac-sha1 des3-cbc-sha1-kd"),
+    17: (16, "aes128-cts-hmac-sha1-96 aes128-cts aes128-sha1"),
+    18: (32, "aes256-cts-hmac-sha1-96 aes256-cts aes256-sha1"),
+    19: (16, "aes128-cts-hmac-sha256-128 aes128-sha2"),
+    20: (32, "aes256-cts-hmac-sha384-192 aes256-sha2"),
+    23: (16, "arcfour-hmac rc4-hmac arcfour-hmac-md5"),
+    25: (16, "camellia128-cts-cmac camellia128-cts"),
+    26: (32, "camellia256-cts-cmac camellia256-cts"),
 }
+KEY_SIZES = {number: size for number, (size, _) in ETYPES.items()}
+NAMES = {number: names.split()[0].encode() for number, (_, names) in ETYPES.items()}
+BY_NAME = {name: number for number, (_, names) in ETYPES.items() for name in names.split()}
 
 # The columns of an entry of TWO.
 TIME = b"2023-11-14T22:13:20Z "

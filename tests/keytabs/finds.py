@@ -105,7 +105,8 @@ HOLES = keytab(hole(B.spelled()), HOST, 3, B)
 NUMBERS = (0, 1, 16, 17, 18, 19, 20, 23, 25, 26, 65_535)
 OF_NUMBERS = keytab(*(Entry((b"a",), enctype=number) for number in NUMBERS))
 ETYPES = {**{str(number): number for number in NUMBERS},
-          **{name.decode(): number for number, name in columns.NAMES.items()}, "0000000018": 18}
+          **columns.BY_NAME, **{name.upper(): number for name, number in columns.BY_NAME.items()},
+          "Aes256-CTS-hmac-SHA1-96": 18, "0000000018": 18}
 
 CASES = [
     # Which of several entries of one name is found.

@@ -13,7 +13,7 @@ FAULTS = LINE_FAULTS | by_line({
     2: ["add", f"add 3 17 0 {KEY}"],
     3: [f"add x 17 0 {KEY} b@R", f"add  17 0 {KEY} b@R", f"add 3 17 2023-11-14 {KEY} b@R",
         f"add 3 17 4294967296 {KEY} b@R"],
-    4: [f"add 3 {etype} 0 {KEY} b@R" for etype in ("65536", "aes128-cts", "AES128-CTS-HMAC-SHA1-96")],
+    4: [f"add 3 {etype} 0 {KEY} b@R" for etype in ("65536", "aes128", "aes128-cts-hmac")],
     5: ["add 3 17 0 00 b@R", "add 3 17 0 - b@R", f"add 3 18 0 {KEY} b@R", "add 3 1 0 0 b@R", "add 3 1 0 0x b@R",
         "add 3 1 0 -- b@R"],
     6: [f"add 3 17 0 {KEY} {name}" for name in ("", "b", "b@R@R", "b@R/a", "b@R\\")],
@@ -33,7 +33,8 @@ CASES = [
     edit("the greatest numbers", None, ["add 4294967295 65535 4294967295 - @"], ["placed 2"],
          keytab(Entry((b"",), b"", 1, 2**32 - 1, 255, 65_535, b"", 2**32 - 1))),
     edit("a key in capitals", None, [ADD_HOST.replace("0a0b0c0d0e0f", "0A0b0C0d0E0F")], ["placed 2"], keytab(HOST)),
-    edit("an enctype's name", None, [ADD_B.replace(" 17 ", " aes128-cts-hmac-sha1-96 ")], ["placed 2"], keytab(B)),
+    *(edit(f"an enctype's name, {name}", None, [ADD_B.replace(" 17 ", f" {name} ")], ["placed 2"], keytab(B))
+      for name in ("aes128-cts-hmac-sha1-96", "aes128-cts", "AES128-SHA1")),
     edit("a name with spaces and odd bytes", None, ADD.encode() + b"x y\xff /\\@\\/\\n\\0\\z@ R\\\\", ["placed 2"],
          keytab(Entry((b"x y\xff ", b"@/\n\0z"), b" R\\", key=B.key))),
     edit("the longest component", None, (ADD + "x" * 65_535 + "@R").encode(), ["placed 2"],

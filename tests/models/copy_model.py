@@ -8,7 +8,7 @@ from models.reading import KeytabEntry, no_keytab
 from models.removal_model import Selection, newest_versions
 from models.walks import DAMAGED, Refused
 from runs.harness import Outcome, message
-from words.phrases import CLASH
+from words.phrases import CLASH, TO_REPLACE
 
 NEW = "new"
 
@@ -128,7 +128,7 @@ def copied(files: dict[str, bytes], words: tuple[str, str], request: Request,
         if not copying.clashes:
             return message(1, f"{target}: refused {refused.code}"), files
     if copying.clashes:
-        err = f"krbfile: clash: {CLASH}\n".encode() * explains
+        err = f"krbfile: clash: {CLASH}\nkrbfile: {TO_REPLACE}\n".encode() * explains
         return Outcome(1, b"".join(copying.lines if request.is_dry else copying.clashes), err), files
     is_saved = copying.lines and not request.is_dry
     err = "".join(f"krbfile: {target}: {line}\n" for line in unseen(keytab, copying.places) if explains).encode()

@@ -4,7 +4,7 @@ import re
 from collections.abc import Callable
 from dataclasses import replace
 
-from keytabs.columns import NAMES
+from keytabs.columns import BY_NAME, KEY_SIZES
 from models.cache_model import Cache
 from models.cache_reading import read_cache
 from models.check_model import unseen
@@ -14,8 +14,6 @@ from models.walks import LIMIT, Event, Session, run_events
 from runs.harness import Outcome, message
 from words.phrases import FAULTS, code
 
-ETYPES = {name: number for number, name in NAMES.items()}
-KEY_SIZES = {16: 24, 17: 16, 18: 32, 19: 16, 20: 32, 23: 16, 25: 16, 26: 32}
 
 # Faults of a line.
 UNKNOWN_WORD, WORD_COUNT, BAD_NUMBER, BAD_ETYPE, BAD_KEY, BAD_NAME, BAD_SLOT, BAD_FILE = range(1, 9)
@@ -96,7 +94,8 @@ def events_in(script: bytes, event_in: Callable[[bytes], Event]) -> list[Event] 
 
 def etype_in(word: bytes) -> int:
     """Returns an enctype given by name or number."""
-    return ETYPES[word] if word in ETYPES else number_in(word, 65_535, BAD_ETYPE)
+    number = BY_NAME.get(word.decode("latin-1").lower()) if word.isascii() else None
+    return number or number_in(word, 65_535, BAD_ETYPE)
 
 
 def key_in(word: bytes, enctype: int) -> bytes:

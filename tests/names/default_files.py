@@ -40,7 +40,7 @@ CASES = [
     *(bad(words, {CCNAME: b"\xff", KTNAME: b"\xff"}, phrase) for words, phrase in (
         ("klist -x", "unknown option -x"), ("klist -k -f", "-f does not go with -k"), ("klist c c", "left over: c"),
         ("klist -t", "-t is for keytabs; give -k"), ("klist -s -e", "-s does not go with -e"),
-        ("klist --for 3", "--for goes with -s alone"), ("klist -s --for x", '"x" is no number of seconds'),
+        ("klist --for 3", "--for goes with -s alone"), ("klist -s --for x", '"x" is no time (90, 15m, 10h, 7d)'),
         ("ktcheck --allow x", '"x" is no finding'), ("ktcheck --allow", "--allow needs a value"),
         ("ktcheck -k", "unknown option -k"), ("klist --explain", "--explain stands before the command"))),
     # Other commands want the file.

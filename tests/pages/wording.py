@@ -61,8 +61,8 @@ def check_formats(report: Report) -> None:
     found = {int(number): phrase for number, phrase in rows}
     report.check(f"the codes of {FORMATS}", [] if found == phrases.LIBRARY_CODES else [f"{found}"])
     missing = [each for each in phrases.MISTAKES if f"`{each}`" not in read(FORMATS)]
-    missing += [f"{page}: {phrase}" for phrase in (f"clash: {phrases.CLASH}", *phrases.HINTS.values())
-                for page in (PAGE, FORMATS) if phrase not in read(page)]
+    of_both = (f"clash: {phrases.CLASH}", phrases.TO_REPLACE, phrases.NO_ENTRY, *phrases.HINTS.values())
+    missing += [f"{page}: {phrase}" for phrase in of_both for page in (PAGE, FORMATS) if phrase not in read(page)]
     report.check(f"the mistakes of {FORMATS}, the clashes and hints of both pages", missing)
 
 

@@ -5,6 +5,7 @@ from dataclasses import replace
 from random import Random
 
 from keytabs.checks import EVEN, ODD
+from keytabs.columns import BY_NAME, KEY_SIZES
 from keytabs.copies import OTHER, THIRD
 from keytabs.edits import ADD_B, ADD_C, ADD_HOST
 from makers.images import B, BIG, END, HOST, LITTLE, TWO, Entry, keytab, old
@@ -14,7 +15,6 @@ from models.keytab_model import Keytab
 from models.reading import KeytabEntry
 from models.removal_model import OLD as OLD_ONES
 from models.removal_model import Selection, removal
-from models.script_model import KEY_SIZES
 from peers.beside_mit import Mit, are_there, shown
 from peers.caches_beside_mit import REALM, Failed, Realm, check_in_realm
 from runs.harness import Report, differences, faults_of, files_in, folder_of, run
@@ -58,11 +58,15 @@ KEY = bytes(range(32)).hex()
 LINES = ["rkt j", "rkt k", "delent 1", f"addent -key -p host/z@R -k 300 -e aes256-cts-hmac-sha1-96\n{KEY}", "wkt n",
          "wkt k", "clear", "wkt n"]
 NARROW = Entry((b"a", b"b"), version32=None)
+# Each name of an encryption type, in either case.
+BY_NAMES = [f"addent -key -p a@R -k {at} -e {word}\n{KEY[:2 * KEY_SIZES[number]]}"
+            for at, (name, number) in enumerate(BY_NAME.items(), 1) for word in (name, name.upper())]
 SAME = [
     *((("ktcopy", "k", "t"), [], ["rkt k", "wkt t"], {"k": source} | ({} if target is None else {"t": target}), "t")
       for source, target in ((TWO, None), (keytab(NARROW, Entry((b"c",)), Entry((b"d", b"e"), key=bytes(32))), HOLES),
                              (keytab(A), MARKED), (TWO, keytab(47, A, 41, 90)))),
     (("ktutil",), LINES, LINES, {"j": keytab(HOST, NARROW), "k": HOLES}, "nk"),
+    (("ktutil",), [*BY_NAMES, "wkt n"], [*BY_NAMES, "wkt n"], {}, "n"),
 ]
 
 # A few names, and versions on both sides of where they wrap.

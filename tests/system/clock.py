@@ -51,16 +51,20 @@ ENDS = (0, 1, 1_700_000_000, 2**31, 2**32 - 2, 2**32 - 1)
 LEFT = ((1, 2), (1_699_999_999, 2), (1_700_000_000, 3), (1_700_000_001, 3), (2**31 - 1, 3), (2**31, 4),
         (2**32 - 2, 5), (2**32 - 1, 6))
 
-# A time and an age in seconds, and whether an old entry is removed then, whose newest version was made at 1,000,000.
+# A time and an age, and whether an old entry is removed then, whose newest version was made at 1,000,000.
 AGED = ((1_000_000, 0, True), (999_999, 0, False), (1_000_007, 7, True), (1_000_006, 7, False), (1_000_007, 8, False),
         (5, 6, False), (1_000_000, 1_000_001, False), (2**32 - 1, 2**32 - 1 - 1_000_000, True),
-        (2**32 - 1, 2**32 - 1_000_000, False), (2**32 - 1, 2**32 - 1, False))
+        (2**32 - 1, 2**32 - 1_000_000, False), (2**32 - 1, 2**32 - 1, False), (1_000_000, "0d", True),
+        *((1_604_800 - early, age, not early) for age in ("7d", "168h", "10080m", "604800s", "0000000007d")
+          for early in (0, 1)),
+        *((2**32 - 1, age, False) for age in ("49710d", "1193046h", "71582788m", "4294967295s")))
 
-# A ticket's end, a time and a number of seconds, and whether it is still valid then.
+# A ticket's end, a time and another from then on, and whether it is still valid then.
 ENDING = ((1_000_000, 999_999, 0, True), (1_000_000, 1_000_000, 0, False), (1_000_000, 1_000_001, 0, False),
           (1_000_000, 999_992, 7, True), (1_000_000, 999_993, 7, False), (2**31, 2**31 - 1, 0, True),
           (2**32 - 1, 2**32 - 2, 0, True), (2**32 - 1, 2**32 - 1, 0, False), (2**32 - 1, 1, 2**32 - 3, True),
-          (2**32 - 1, 1, 2**32 - 2, False), (2**32 - 1, 2**32 - 1, 1, False))
+          (2**32 - 1, 1, 2**32 - 2, False), (2**32 - 1, 2**32 - 1, 1, False), (1_000_000, 999_399, "10m", True),
+          (1_000_000, 999_400, "10m", False))
 
 # The fields of headers, whose offsets change nothing.
 HEADERS = (b"", offset(1_000_000_000, 0), offset(-1_000_000_000, 0))
@@ -80,7 +84,7 @@ def aged() -> Iterator[Row]:
     """Yields removals of an old entry: it goes once the newest version of its name is that old."""
     old, new = versioned(1, 2**32 - 1), versioned(2, 1_000_000)
     for now, age, is_removed in AGED:
-        yield (f"{age} seconds old at {now}", Line(("ktremove", "-k", "old", "--age", str(age), "k")),
+        yield (f"{age} old at {now}", Line(("ktremove", "-k", "old", "--age", str(age), "k")),
                {"k": keytab(old, new)}, {"CLOCK": now}, Outcome(0, b"removed 2 kvno 1 etype 17 a@R\n" * is_removed),
                {"k": keytab(41 if is_removed else old, new)})
     yield ("a clock below an age", Line(("ktremove", "-k", "old", "--age", "6", "k")),

@@ -99,7 +99,7 @@ CASES = [
     # The file is at fault.
     *(refused(K, image, no_keytab(why)) for image, why in ((b"\5", SHORT), (USUAL, BEGINS_AS_CACHE))),
     *(refused(C, image, no_cache(why)) for image, why in ((b"", SHORT), (TWO, HELD_AS_KEYTAB))),
-    refused(K, TWO[:-1], ("k: refused 1", code(1))), refused(C, CUT_CACHE, ("k: refused 1", code(1))),
+    refused(K, TWO[:-1], ("k: refused 1", code(1))), refused(C, CUT_CACHE, ("k: refused 1", code(1, "hold"))),
     *(refused(line, None, ("k: no such file", "")) for line in (C, f"hold {IN_PLACE} k", PLACED)),
     # It could not be saved. What the load tells comes first.
     unsaved(K, "in the way", **IN_THE_WAY), unsaved(K, "in the way", None, **IN_THE_WAY),

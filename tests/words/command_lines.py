@@ -67,11 +67,11 @@ REFUSED: list[str | Line] = [
     # Words that are not a version: not one to ten digits, or over 32 bits.
     *(("ktfind", "k", word, "0", "b@R") for word in (
         "", "-1", "+1", " 1", "1 ", "3.0", "0x3", "1e3", "1_0", "\u0663", "00000000003", "9999999999", "99999999999")),
-    # Words that are not an enctype: neither a name of the table, in its case, nor one to ten digits that fit 16 bits.
+    # Words that are not an enctype: neither a name of the table nor one to ten digits that fit 16 bits.
     *(("ktfind", "k", "0", word, "b@R") for word in (
-        "", "x", "-1", "+17", " 17", "0x11", "65536", "4294967313", "00000000017", "AES128-CTS-HMAC-SHA1-96",
-        "aes128-cts-hmac-sha1-9", "aes128-cts-hmac-sha1-96 ", "aes128-cts", "rc4-hmac", "etype 17", "etype 1",
-        "17,18")),
+        "", "x", "-1", "+17", " 17", "0x11", "65536", "4294967313", "00000000017", "aes128", "aes256",
+        "aes128-cts-hmac-sha1-9", "aes128-cts-hmac-sha1-96 ", "aes128-\u017fha1",
+        "etype 17", "etype 1", "17,18", "aes128-cts:normal")),
     # Texts that are not a name with a realm.
     *(("ktfind", "k", "0", "0", word) for word in ("", "host/a", "b\\@R", "\\", "b\\", "b@R@", "@@", "b@/")),
 ]

@@ -7,7 +7,7 @@ import shutil
 import subprocess
 from collections.abc import Iterator
 
-from keytabs.columns import NAMES
+from keytabs.columns import BY_NAME
 from makers.samples import folder_of_samples
 from pages.documents import read
 from pages.readme import surroundings
@@ -18,7 +18,7 @@ BASH = os.path.join(FOLDER, "krbfile.bash")
 ZSH = os.path.join(FOLDER, "_krbfile")
 FISH = os.path.join(FOLDER, "krbfile.fish")
 
-ETYPES = {name.decode() for name in NAMES.values()}
+ETYPES = set(BY_NAME)
 
 # The statuses that help tells, and how it ends.
 STATUSES = "01234"

@@ -24,7 +24,7 @@ from runs.rows import Line, shown, text, words_of
 from runs.terminal import EXPLAIN, WAYS, run_explained, run_on_terminal
 from words.phrases import (BAD_DEFAULT, BAD_HEADER, BEGINS_AS_CACHE, BEGINS_AS_KEYTAB, BEGINS_AS_NO_CACHE,
                            BEGINS_AS_NO_KEYTAB, CAUSES, CLASH, FAULTS, FINDINGS, LARGE, LISTED_AS_KEYTAB, NO_PASSWORDS,
-                           SEE_HELP, SHORT, code, line_fault, unknown)
+                           SEE_HELP, SHORT, TO_REPLACE, code, line_fault, unknown)
 
 ADD = f"{ADD_HOST}\n".encode()
 ADDENT = "addent -key -p host/a@R -k 3 -e 17\n"
@@ -239,7 +239,8 @@ COPIES = [
     failed(("ktcopy", "from", "d/t"), "write", "ENOENT", TWO, file="from", out=b""),
     failed(("ktcopy", "from", "k"), "write", "in the way", TWO, file="from", out=b"", setting=in_the_way),
     # Clashes are explained once.
-    copy("", keytab(B, OTHER, OTHER), None, ("", f"clash: {CLASH}"), out=[f"clash 47 2 {Y}", f"clash 92 2 {Y}"]),
+    copy("", keytab(B, OTHER, OTHER), None, ("", f"clash: {CLASH}"), ("", TO_REPLACE),
+         out=[f"clash 47 2 {Y}", f"clash 92 2 {Y}"]),
     copy("-n --replace -p b@R", TWO, keytab(OTHER), status=0, out=[f"removed 2 {Y}", f"copied 2 {Y}"]),
 ]
 

@@ -77,8 +77,9 @@ MISTAKES: dict[str, list[str | Line]] = {
     "--for goes with -s alone": ["klist --for 3 k", "klist --for=3 -k k"],
     "--for is given twice": ["klist -s --for 3 --for=3 k"],
     "--for needs a value": ["klist -s k --for"],
-    '"x" is no number of seconds': ["klist -s --for x k", "ktremove -k old --age x k"],
-    '"4294967296" is no number of seconds': ["klist -s --for=4294967296 k", "ktremove -k old --age=4294967296 k"],
+    **{f'"{word}" is no time (90, 15m, 10h, 7d)': [f"klist -s --for {word} k", f"ktremove -k old --age={word} k"]
+       for word in ("x", "d", "D", "7D", "1.5h", "1d1h", "-1s", "49711d", "99999999d", "71582789m", "1193047h")},
+    '"4294967296" is no time (90, 15m, 10h, 7d)': ["klist -s --for=4294967296 k", "ktremove -k old --age=4294967296 k"],
     "--allow needs a value": ["ktcheck k --allow", "ktcheck --allow -q k"],
     **{f'"{word}" is no finding': [("ktcheck", "--allow", word, "k"),
                                    ("ktcheck", "--allow=old", f"--allow={word}", "k")]
@@ -122,7 +123,7 @@ HIDDEN: dict[str, list[str | Line]] = {
     f"{DIGITS} is no encryption type": [f"ktfind k 0 {KEY} b@R", f"ktremove -e{KEY} k", f"ktcopy --enctype={KEY} k t"],
     f"{DIGITS} has no realm": [f"ktfind k 0 0 {KEY}", f"ktremove -p {KEY} k", f"ccremove --service={KEY}/x k"],
     f"{DIGITS} has a second @": [f"ktremove -p {KEY}@R@S k"],
-    f"{DIGITS} is no number of seconds": [f"klist -s --for {KEY} k", f"ktremove -k old --age={KEY} k"],
+    f"{DIGITS} is no time (90, 15m, 10h, 7d)": [f"klist -s --for {KEY} k", f"ktremove -k old --age={KEY} k"],
     f"{DIGITS} is no finding": [f"ktcheck --allow={KEY} k", f"ktcheck --allow {KEY} k"],
     f"unknown command {SHORT}": [SHORT],
     f'"{SHORT}" is no version': [f"ktfind k {SHORT} 0 b@R", f"ktremove --kvno={SHORT} k"],

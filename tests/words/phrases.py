@@ -5,7 +5,8 @@ A phrase is in lower case, without a full stop, and has at most 72 characters.
 
 # After `refused`: by the number, and by the command whose phrase differs.
 CODES = {
-    (1, ""): "the file is damaged; klist tells where",
+    (1, ""): "the file is damaged; klist -k tells where",
+    **{(1, command): "the file is damaged; klist tells where" for command in ("ccedit", "ccremove", "hold")},
     (2, ""): "a name or a key is too long for a keytab",
     (3, ""): "the file would be longer than 16,777,216 bytes",
     (4, ""): "no record, hole or end stands at this place",
@@ -24,6 +25,7 @@ CODES = {
 
 # The same in the library, where it differs from the first of a number; the program never prints the last.
 LIBRARY_CODES = {
+    1: "the file is damaged; klist tells where",
     3: "the file would be longer than its limit",
     4: "this is no place of the file",
     5: "nothing to remove stands at this place",
@@ -134,8 +136,10 @@ HINTS = {
     "same": "to have each once: krbfile ktcopy FILE NEW",
 }
 
-# A clash of ktcopy.
+# A clash of ktcopy, and what could be done; and a keytab that `wkt` saved.
 CLASH = "TO has another key for this name, version and type"
+TO_REPLACE = "--replace takes FROM's key"
+NO_ENTRY = "NAME has no entry"
 
 # An entry that was added, and that MIT's programs do not see; PLACE is that of the first which they do not.
 UNSEEN = "MIT's programs see no entry from PLACE on"
@@ -159,7 +163,8 @@ MISTAKES = (
     "no command", "unknown command WORD", "unknown option WORD", "no FILE", "left over: WORD", "OPTION needs a value",
     "OPTION is given twice", "OPTION does not go with OPTION", "OPTION goes with OPTION alone",
     "OPTION is for keytabs; give -k", '"WORD" is no version', '"WORD" is no encryption type',
-    '"WORD" is no number of seconds', '"WORD" is no finding', *(f'"WORD" has {fault}' for fault in NAMES.values()),
+    '"WORD" is no time (90, 15m, 10h, 7d)', '"WORD" is no finding',
+    *(f'"WORD" has {fault}' for fault in NAMES.values()),
     "nothing selects; give -p, -k or -e", "nothing selects; give -p or --expired",
     "--explain stands before the command", "an argument is not UTF-8", "VARIABLE is not UTF-8",
 )

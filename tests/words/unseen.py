@@ -12,7 +12,7 @@ from keytabs.ktutil_lines import ADDENT, KEY
 from makers.images import B, HOST, TWO, Entry, keytab, old
 from runs.rows import text
 from words.explained import Explained, copy, failed, in_the_way
-from words.phrases import CAUSES, CLASH, UNSEEN, code, unknown
+from words.phrases import CAUSES, CLASH, TO_REPLACE, UNSEEN, code, unknown
 
 # An entry that is hidden, the same with a key, a line that adds it, and how it is printed.
 HIDDEN = Entry((b"h",), timestamp=0, enctype=1, key=b"")
@@ -107,7 +107,7 @@ COPIES = [
     # Nothing is added.
     copied("", keytab(HIDDEN), keytab(HIDDEN), None), copied("-n", keytab(HIDDEN), keytab(B, HIDDEN), None),
     # A clash has its message, and nothing else has: nothing would be saved.
-    *(copy(options, keytab(HIDDEN, B), keytab(OTHER), ("", f"clash: {CLASH}"), out=out)
+    *(copy(options, keytab(HIDDEN, B), keytab(OTHER), ("", f"clash: {CLASH}"), ("", TO_REPLACE), out=out)
       for options, out in (("", [f"clash 31 2 {Y}"]), ("-n", [f"copied 47 {H}", f"clash 31 2 {Y}"]))),
     copy("", keytab(HIDDEN, LONG), old(), ("t: refused 2", code(2))),
     failed(("ktcopy", "k", "t.krbfile"), "write", "name of saves", keytab(HIDDEN), out=b""),

@@ -94,7 +94,7 @@ Asks name.Ktcopy words (Ktcopy options from to) = SpellsCopy words options × Is
 Asks name.Ktcheck words action = AsksKtcheck words action
 Asks name.Ccedit words (Ccedit file) = IsEdited Cache words (codes "FILE") file
 Asks name.Ccremove words (Ccremove options file) = SpellsTickets words options × IsEdited Cache words (codes "FILE") file
-Asks name.Ktutil words (Ktutil order in_place) = (order ≡ v1_order words) × (in_place ≡ words.flag (codes "in-place"))
+Asks name.Ktutil words (Ktutil options) = (options.v1_order ≡ v1_order words) × (options.in_place ≡ words.flag (codes "in-place"))
 Asks name.Hold words action = AsksHold words action
 Asks command words action = ⊥
 
@@ -121,7 +121,7 @@ is_timed kvno = false
 -- an action needs the time of the clock
 abbrev pub needs_clock : Action → Bool
 needs_clock (CheckTicket check file) = true
-needs_clock (Ktutil order in_place) = true
+needs_clock (Ktutil options) = true
 needs_clock (Ktremove options file) = is_timed options.selection.kvno
 needs_clock (Ccremove options file) = options.expired
 needs_clock action = false
@@ -138,7 +138,7 @@ saves_in_place (Ktremove options file) = file.in_place
 saves_in_place (Ktcopy options from to) = to.in_place
 saves_in_place (Ccedit file) = file.in_place
 saves_in_place (Ccremove options file) = file.in_place
-saves_in_place (Ktutil order in_place) = in_place
+saves_in_place (Ktutil options) = options.in_place
 saves_in_place (Hold kind file) = file.in_place
 saves_in_place action = false
 
@@ -195,7 +195,7 @@ module _ {F : Type 0} (trait : Ghosts F) (now : Option ℕ) (default : DefaultNa
   EndsAction (Ktcheck options names) = ChecksKeytabs trait old new out out' err err' status options default names.items × (input' ≡ input)
   EndsAction (Ktremove options file) = RunsKtremove trait file options old new out out' err err' status (needed_time options.selection.kvno now) × (input' ≡ input)
   EndsAction (Ktcopy options from to) = RunsCommand trait (always (ktcopy_plan options from to)) any old new out out' err err' status × (input' ≡ input)
-  EndsAction (Ktutil order in_place) = RunsKtutil trait order (unwrap_or now 0) input input' old new out out' err err' status
+  EndsAction (Ktutil options) = RunsKtutil trait options.v1_order options.prompts (unwrap_or now 0) input input' old new out out' err err' status
   EndsAction (Ccedit file) = RunsScript trait old new out out' err err' status (ccedit_plan file) ccedit_fairly cache_line_in input input'
   EndsAction (Ccremove options file) = RunsCcremove trait file options old new out out' err err' status (ended_by options now) × (input' ≡ input)
   EndsAction (Hold kind file) = RunsHold trait old new out out' err err' status kind file input input'

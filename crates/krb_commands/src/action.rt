@@ -55,6 +55,15 @@ pub fn words_of(command: CommandName) -> CommandWords {
     }
 }
 
+/// The options of ktutil.
+#[derive(Clone, Copy)]
+pub struct KtutilOptions {
+    pub v1_order: Order,
+    pub in_place: bool,
+    /// A prompt comes before each line.
+    pub prompts: bool,
+}
+
 /// What a command line says to do. Commands over a file carry its name, or none if the line leaves it out.
 #[derive(Drop)]
 pub enum Action<'a> {
@@ -69,8 +78,7 @@ pub enum Action<'a> {
     Ktcopy(CopyOptions<Global>, FileName<'a>, FileName<'a>),
     Ccedit(FileName<'a>),
     Ccremove(TicketOptions<Global>, FileName<'a>),
-    /// With the byte order of version 1 keytabs, and whether files are saved in place.
-    Ktutil(Order, bool),
+    Ktutil(KtutilOptions),
     Hold(HoldKind, FileName<'a>),
     /// Refuses to print an image to a terminal.
     HoldOnTerminal,
@@ -119,6 +127,19 @@ impl Action<'_> {
         }
     }
 
+    /// Returns the action for an input and an error output that are terminals: ktutil prompts for its lines.
+    pub fn with_prompts(self) -> Self {
+        match self {
+            Action::Ktutil(options) => Action::Ktutil(KtutilOptions { prompts: true, ..options }),
+            action => action,
+        }
+    }
+
+    /// Returns whether it reads a script.
+    pub fn reads_script(&self) -> bool {
+        matches!(self, Action::Ktedit(..) | Action::Ccedit(_))
+    }
+
     /// Returns whether it saves its file in place.
     pub fn saves_in_place(&self) -> bool
         ensures { result ≡ saves_in_place self.now }
@@ -130,7 +151,7 @@ impl Action<'_> {
             | Action::Ccedit(file)
             | Action::Ccremove(_, file)
             | Action::Hold(_, file) => file.in_place,
-            Action::Ktutil(_, in_place) => *in_place,
+            Action::Ktutil(options) => options.in_place,
             _ => false,
         }
     }
@@ -231,7 +252,11 @@ fn parsed<'a, M: Matches<'a>>(
         CommandName::Ktcheck => parsed_ktcheck(alloc, matches),
         CommandName::Ccedit => Ok(Action::Ccedit(cache)),
         CommandName::Ccremove => Ok(Action::Ccremove(ticket_options(alloc, matches)?, cache)),
-        CommandName::Ktutil => Ok(Action::Ktutil(v1_order(matches), matches.flag("in-place"))),
+        CommandName::Ktutil => Ok(Action::Ktutil(KtutilOptions {
+            v1_order: v1_order(matches),
+            in_place: matches.flag("in-place"),
+            prompts: false,
+        })),
         CommandName::Hold => parsed_hold(matches),
     }
 }

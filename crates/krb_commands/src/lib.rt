@@ -4,7 +4,7 @@
 mod action;
 mod response;
 
-pub use action::{Action, COMMANDS, action_of, words_of};
+pub use action::{Action, COMMANDS, KtutilOptions, action_of, words_of};
 pub use krb_driver::{
     BadLine, CommandName, CommandWords, ErrorOutput, FileKind, FileName, Matches, Mistake, More,
     NameSource, NotKeytab, Streams, Word, WordFault,

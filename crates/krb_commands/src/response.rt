@@ -5,7 +5,7 @@ ghost use Rattle.krb_commands.specs.Actions.{ChecksKeytabs, ChecksTickets, EndsP
 ghost use Rattle.krb_driver.specs.declared.error.RunError.TheVariants.{OutputIsTerminal};
 ghost use Rattle.krb_driver.specs.Runs.{EndsRun, ends_by};
 
-use crate::action::Action;
+use crate::action::{Action, KtutilOptions};
 use krb_driver::{
     Details, ErrorOutput, FileName, RunError, Streams, Verdict, WordFault, report,
     report_word_fault, show,
@@ -145,8 +145,9 @@ pub fn respond<A: Allocator + Copy, F: Files, R: Read, W: Write, E: Write>(
         Ok(Action::Ktcopy(options, from, to)) => {
             run_ktcopy(alloc, options, *from, *to, files, streams)
         }
-        Ok(Action::Ktutil(v1_order, _)) => {
-            run_ktutil(alloc, *v1_order, now.unwrap_or(0), files, streams)
+        Ok(Action::Ktutil(options)) => {
+            let KtutilOptions { v1_order, prompts, .. } = *options;
+            run_ktutil(alloc, v1_order, prompts, now.unwrap_or(0), files, streams)
         }
         Ok(Action::Ccedit(file)) => run_ccedit(alloc, *file, files, streams),
         Ok(Action::Ccremove(options, file)) => {

@@ -170,6 +170,9 @@ where
         self.release();
         self.aftermath = None;
         let held = Held::take(&self.calls, name, self.way);
+        if let Err(not_held) = &held {
+            self.note_in_the_way(name, not_held.why);
+        }
         self.keep(name, held);
     }
 

@@ -1,28 +1,29 @@
 -- The table of encryption types.
-use Rattle.std.proofs.Common.{◌≡◌, ℕ, List, true, false, Option, Some, None, IsSome, IfSome, ◌==◌, refl, ap, ◌∙◌}
+use Rattle.std.proofs.Common.{◌≡◌, ℕ, List, [], true, false, Option, Some, None, IsSome, IfSome, ◌==◌, refl, ap, ◌∙◌}
+use Rattle.std.specs.Prelude.{slice_get}
 use Rattle.std.proofs.lemmas.Bool.{eqb-true}
 use Rattle.std.specs.List.{AllByRecursion}
-use Rattle.std.specs.Option.{MatchOption, option_map, option_and_then, unwrap_or}
+use Rattle.std.specs.Option.{MatchOption, option_map_or, unwrap_or}
 use Rattle.krb_text.specs.Etype.{Etype, etype_table, etype_numbered, etype_name_of, etype_text_of, etype_in, unnamed}
 use Rattle.krb_text.proofs.Found.{MatchOption-find}
 
--- the name of an enctype, if it has one, is read back as its number
+-- the name that is printed of an enctype, if it has one, is read back as its number
 abbrev IsRead : Etype → Type 0
-IsRead e = IfSome e.named (λ x. etype_in x.0 ≡ Some e.number)
+IsRead e = IfSome (slice_get e.names 0) (λ name. etype_in name ≡ Some e.number)
 
--- so is each name in the table
+-- so is each of the table
 table_is_read : AllByRecursion IsRead etype_table
 unfolding etype_table etype_in
-table_is_read = (tt, (tt, (tt, (tt, (tt, (tt, (tt, (refl, (refl, (refl, (refl, (refl, (refl, (refl, (refl, tt)))))))))))))))
+table_is_read = (tt, (tt, (tt, (tt, (tt, (tt, (refl, (refl, (refl, (refl, (refl, (refl, (tt, (refl, (refl, tt)))))))))))))))
 
 -- so is the text of an enctype that has a name
-named_is_read : (n number : ℕ) (o : Option (List ℕ × ℕ)) → IfSome o (λ x. etype_in x.0 ≡ Some number) → number ≡ n → IsSome (option_map (λ x. x.0) o) → etype_in (unwrap_or (option_map (λ x. x.0) o) (unnamed n)) ≡ Some n
-named_is_read n number (Some x) read is h = read ∙ ap Some is
+named_is_read : (n number : ℕ) (o : Option (List ℕ)) → IfSome o (λ name. etype_in name ≡ Some number) → number ≡ n → IsSome o → etype_in (unwrap_or o (unnamed n)) ≡ Some n
+named_is_read n number (Some name) read is h = read ∙ ap Some is
 named_is_read n number None read is h = let no : false ≡ true = h in cc
 
-row_is_read : (n : ℕ) (o : Option Etype) → MatchOption o (Unit {0}) (λ e. IsRead e × ((e.number == n) ≡ true)) → IsSome (option_map (λ x. x.0) (option_and_then (λ e. e.named) o))
-    → etype_in (unwrap_or (option_map (λ x. x.0) (option_and_then (λ e. e.named) o)) (unnamed n)) ≡ Some n
-row_is_read n (Some e) m h = named_is_read n e.number e.named m.0 (eqb-true e.number n m.1) h
+row_is_read : (n : ℕ) (o : Option Etype) → MatchOption o (Unit {0}) (λ e. IsRead e × ((e.number == n) ≡ true)) → IsSome (slice_get (option_map_or (λ e. e.names) o []) 0)
+    → etype_in (unwrap_or (slice_get (option_map_or (λ e. e.names) o []) 0) (unnamed n)) ≡ Some n
+row_is_read n (Some e) m h = named_is_read n e.number (slice_get e.names 0) m.0 (eqb-true e.number n m.1) h
 row_is_read n None m h = let no : false ≡ true = h in cc
 
 -- the text of an enctype that has a name is read back as its number

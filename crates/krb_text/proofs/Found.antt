@@ -1,7 +1,13 @@
--- The first element of a list that passes a test.
-use Rattle.std.proofs.Common.{◌≡◌, List, [], ◌∷◌, Bool, true, false, cond, Some, refl}
-use Rattle.std.specs.List.{find, AllByRecursion}
+-- Elements of a list that pass a test.
+use Rattle.std.proofs.Common.{◌≡◌, List, [], ◌∷◌, map, Bool, true, false, cond, Some, refl, ap}
+use Rattle.std.specs.Prelude.{◌||◌}
+use Rattle.std.specs.List.{find, list_any, AllByRecursion}
 use Rattle.std.specs.Option.{MatchOption}
+
+-- a test of what a list was made of
+pub any_of_map : {X Y : Type 0} (p : Y → Bool) (f : X → Y) (xs : List X) → list_any p (map f xs) ≡ list_any (λ x. p (f x)) xs
+any_of_map p f [] = refl
+any_of_map p f (x ∷ xs) = ap (λ b. p (f x) || b) (any_of_map p f xs)
 
 -- what holds of each element holds of the one that is found, which passes the test
 pub MatchOption-find : {X : Type 0} (P : X → Type 0) (test : X → Bool) (xs : List X) → AllByRecursion P xs → MatchOption (find test xs) (Unit {0}) (λ x. P x × (test x ≡ true))

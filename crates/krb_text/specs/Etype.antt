@@ -61,13 +61,13 @@ unnamed n = codes "etype " ++ decimal n
 abbrev pub etype_text_of : ℕ → List ℕ
 etype_text_of n = unwrap_or (etype_name_of n) (unnamed n)
 
--- the text is one of some names, in either case of ASCII letters
-abbrev pub is_among : List ℕ → List (List ℕ) → Bool
-is_among text names = list_any (λ name. str_eq_ignore_ascii_case name text) names
+-- the text is a name of an enctype, in either case of ASCII letters
+abbrev pub is_named : List ℕ → ℕ → Bool
+is_named text n = list_any (λ name. str_eq_ignore_ascii_case name text) (etype_names n)
 
 -- the number of the enctype with a name
 abbrev pub number_named : List ℕ → Option ℕ
-number_named text = option_map (λ e. e.number) (find (λ e. is_among text e.names) etype_table)
+number_named text = find (is_named text) (map (λ e. e.number) etype_table)
 
 -- the first of two numbers, or the other if there is no first
 abbrev pub first_of : Option ℕ → Option ℕ → Option ℕ

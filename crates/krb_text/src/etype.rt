@@ -1,9 +1,11 @@
 //! Encryption types by number and by name: those of RFC 3961, 3962, 4757, 6803 and 8009, under the names that MIT
 //! reads and prints, and others that MIT calls weak or deprecated.
 
-ghost use Rattle.std.specs.Prelude.{◌≡◌, IsSome, map, option_copied};
+ghost use Rattle.std.specs.Prelude.{◌≡◌, [], IsSome, None, Some, map, option_copied};
+ghost use Rattle.std.specs.List.{find, list_any};
+ghost use Rattle.std.specs.Str.{str_eq_ignore_ascii_case};
 ghost use Rattle.krb_wire.specs.Text.{Appended};
-ghost use Rattle.krb_text.specs.Etype.{etype_name_of, etype_names, etype_text_of, etype_in, is_among, is_weak, key_size_of, number_named, unnamed};
+ghost use Rattle.krb_text.specs.Etype.{etype_name_of, etype_names, etype_text_of, etype_in, is_named, is_weak, key_size_of, number_named, unnamed};
 
 use crate::bytes::append;
 use crate::numbers::parse_u16;
@@ -20,9 +22,30 @@ struct Row {
     is_weak: bool,
 }
 
-// Returns the row of an enctype with these names and that key size.
-fn named(names: &'static [&'static str], key_size: usize) -> Row {
-    Row { names, key_size: Some(key_size), is_weak: false }
+// Returns the row of an enctype with these names.
+fn named(names: &'static [&'static str], key_size: usize, is_weak: bool) -> Row
+    ensures names { result.names.now ≡ names.now }
+    ensures key_size { result.key_size ≡ Some key_size }
+    ensures weak { result.is_weak ≡ is_weak }
+{
+    Row {
+        names,
+        key_size: Some(key_size),
+        is_weak,
+    }
+}
+
+// Returns the row of an enctype without a name.
+fn unnamed_row(is_weak: bool) -> Row
+    ensures names { result.names.now ≡ [] }
+    ensures key_size { result.key_size ≡ None }
+    ensures weak { result.is_weak ≡ is_weak }
+{
+    Row {
+        names: &[],
+        key_size: None,
+        is_weak,
+    }
 }
 
 // Returns the row of an enctype.
@@ -32,18 +55,17 @@ fn row_of(etype: u16) -> Row
     ensures key_size { result.key_size ≡ key_size_of etype }
     ensures weak { result.is_weak ≡ is_weak etype }
 {
-    let unnamed = Row { names: &[], key_size: None, is_weak: false };
     match etype {
-        1 | 2 | 3 | 4 | 6 | 8 | 24 => Row { is_weak: true, ..unnamed },
-        16 => Row { is_weak: true, ..named(&["des3-cbc-sha1", "des3-hmac-sha1", "des3-cbc-sha1-kd"], 24) },
-        17 => named(&["aes128-cts-hmac-sha1-96", "aes128-cts", "aes128-sha1"], 16),
-        18 => named(&["aes256-cts-hmac-sha1-96", "aes256-cts", "aes256-sha1"], 32),
-        19 => named(&["aes128-cts-hmac-sha256-128", "aes128-sha2"], 16),
-        20 => named(&["aes256-cts-hmac-sha384-192", "aes256-sha2"], 32),
-        23 => Row { is_weak: true, ..named(&["arcfour-hmac", "rc4-hmac", "arcfour-hmac-md5"], 16) },
-        25 => named(&["camellia128-cts-cmac", "camellia128-cts"], 16),
-        26 => named(&["camellia256-cts-cmac", "camellia256-cts"], 32),
-        _ => unnamed,
+        1 | 2 | 3 | 4 | 6 | 8 | 24 => unnamed_row(true),
+        16 => named(&["des3-cbc-sha1", "des3-hmac-sha1", "des3-cbc-sha1-kd"], 24, true),
+        17 => named(&["aes128-cts-hmac-sha1-96", "aes128-cts", "aes128-sha1"], 16, false),
+        18 => named(&["aes256-cts-hmac-sha1-96", "aes256-cts", "aes256-sha1"], 32, false),
+        19 => named(&["aes128-cts-hmac-sha256-128", "aes128-sha2"], 16, false),
+        20 => named(&["aes256-cts-hmac-sha384-192", "aes256-sha2"], 32, false),
+        23 => named(&["arcfour-hmac", "rc4-hmac", "arcfour-hmac-md5"], 16, true),
+        25 => named(&["camellia128-cts-cmac", "camellia128-cts"], 16, false),
+        26 => named(&["camellia256-cts-cmac", "camellia256-cts"], 32, false),
+        _ => unnamed_row(false),
     }
 }
 
@@ -94,25 +116,41 @@ pub fn is_weak(etype: u16) -> bool
     row_of(etype).is_weak
 }
 
-// Returns whether a text is a name of that enctype, in either case.
-fn is_name_of(etype: u16, text: &[u8]) -> bool
-    ensures { result ≡ is_among text.now (etype_names etype) }
+fn is_name(name: &str, text: &[u8]) -> bool
+    ensures { result ≡ str_eq_ignore_ascii_case name.now text.now }
 {
-    row_of(etype)
-        .names
-        .iter()
-        .any(|name| name.as_bytes().eq_ignore_ascii_case(text))
+    name.as_bytes().eq_ignore_ascii_case(text)
 }
 
-// Returns the number of the enctype with that name.
+fn is_one_of(names: &[&str], text: &[u8]) -> bool
+    ensures { result ≡ list_any (λ name. str_eq_ignore_ascii_case name.now text.now) names.now }
+{
+    names.iter().any(|name| is_name(name, text))
+}
+
+// Returns whether a text is a name of that enctype, in either case.
+#[tactic(auto, using(crate::proofs::Found::any_of_map))]
+fn is_name_of(etype: u16, text: &[u8]) -> bool
+    ensures { result ≡ is_named text.now etype }
+{
+    is_one_of(row_of(etype).names, text)
+}
+
+// Returns the first of the numbers that has that name.
+fn named_among(numbers: &[u16], text: &[u8]) -> Option<u16>
+    ensures { result ≡ find (is_named text.now) numbers.now }
+{
+    numbers
+        .iter()
+        .copied()
+        .find(|etype| is_name_of(*etype, text))
+}
+
 #[tactic(auto, unfolding(crate::specs::Etype::etype_table))]
 fn number_named(text: &[u8]) -> Option<u16>
     ensures { result ≡ number_named text.now }
 {
-    [16, 17, 18, 19, 20, 23, 25, 26]
-        .iter()
-        .copied()
-        .find(|etype| is_name_of(*etype, text))
+    named_among(&[16, 17, 18, 19, 20, 23, 25, 26], text)
 }
 
 /// Returns the number of the enctype that `text` is: one of its names, as MIT reads them, in either case, or one to ten

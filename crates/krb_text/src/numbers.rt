@@ -63,12 +63,18 @@ fn seconds_of_unit(letter: u8) -> Option<u32>
 
 /// Parses a number of seconds, or of the unit whose letter, `s`, `m`, `h` or `d`, follows it; `None` for other text, and
 /// for a value that does not fit 32 bits.
+#[tactic(auto, unfolding(crate::specs::Numbers::seconds_in))]
 pub fn parse_seconds(text: &[u8]) -> Option<u32>
     ensures { result ≡ seconds_in text.now }
 {
-    let (letter, number) = text.split_last()?;
-    match seconds_of_unit(*letter) {
-        Some(unit) => parse_u32(number)?.checked_mul(unit),
+    let Some(last) = text.len().checked_sub(1) else {
+        return None;
+    };
+    match seconds_of_unit(text[last]) {
+        Some(unit) => match parse_u32(&text[..last]) {
+            Some(number) => number.checked_mul(unit),
+            None => None,
+        },
         None => parse_u32(text),
     }
 }

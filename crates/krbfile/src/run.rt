@@ -7,11 +7,22 @@ use crate::clock::seconds_now;
 use crate::default_name::{FoundName, found_name};
 use crate::words::parse_words;
 use krb_commands::{Action, Mistake, Streams, WordFault, respond};
-use krb_files::Files;
+use krb_files::{Files, Watched, put};
 use std::alloc::Global;
 use std::io::{Read, Write};
+use std::env::FillError;
 use std::{env, io, rt};
 use wiping::Wiping;
+
+/// Returns whether the environment has KRBFILE_EXPLAIN, other than empty or `0`. Takes no memory.
+pub fn is_told_to_explain<R: rt::Env>(rt: &R) -> bool {
+    let mut value = [0; 1];
+    match rt.var("KRBFILE_EXPLAIN", &mut value) {
+        Ok(length) => length > 0 && value != *b"0",
+        Err(FillError::TooLong) => true,
+        Err(FillError::NotPresent) => false,
+    }
+}
 
 /// Returns whether `--explain` is the first word after the program's name. The others need not be UTF-8.
 pub fn asks_to_explain<R: rt::Env>(rt: &R) -> bool {
@@ -48,6 +59,28 @@ pub fn for_output<'a>(
     match parsed {
         Ok(action) if is_terminal => Ok(action.on_terminal()),
         parsed => parsed,
+    }
+}
+
+/// Returns the action for an input that may be typed, while the error output is a terminal too.
+pub fn for_input<'a>(
+    parsed: Result<Action<'a>, WordFault<'a>>,
+    is_typed: bool,
+) -> Result<Action<'a>, WordFault<'a>> {
+    match parsed {
+        Ok(action) if is_typed => Ok(action.with_prompts()),
+        parsed => parsed,
+    }
+}
+
+/// Says how a script that is typed ends, if the run reads one. Ignores a failure.
+pub fn announce_script<E: Write>(
+    parsed: &Result<Action<'_>, WordFault<'_>>,
+    is_typed: bool,
+    err: &mut Watched<E>,
+) {
+    if is_typed && matches!(parsed, Ok(action) if action.reads_script()) {
+        let _ = put(err, b"krbfile: reading a script; end it with Ctrl-D\n");
     }
 }
 

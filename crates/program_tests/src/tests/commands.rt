@@ -5,7 +5,7 @@ use krb_audit::{FindingWords, SelectedKvno, Selection};
 use krb_cache_text::CcColumns;
 use krb_commands::{
     Action, CheckOptions, CopyOptions, FileKind, FileName, FindOptions, HoldKind, KlistOptions,
-    ListKind, NameSource, RemoveOptions, TicketCheck, TicketOptions, WordFault,
+    KtutilOptions, ListKind, NameSource, RemoveOptions, TicketCheck, TicketOptions, WordFault,
 };
 use krb_text::KtColumns;
 use krb_wire::{Order, Principal, parse_name};
@@ -289,7 +289,11 @@ impl ActionKind {
             }
             ActionKind::Ccedit => Action::Ccedit(cache),
             ActionKind::Ccremove => Action::Ccremove(tickets(alloc)?, cache),
-            ActionKind::Ktutil => Action::Ktutil(Order::Little, false),
+            ActionKind::Ktutil => Action::Ktutil(KtutilOptions {
+                v1_order: Order::Little,
+                in_place: false,
+                prompts: false,
+            }),
             ActionKind::Hold => Action::Hold(HoldKind::Keytab(Order::Little), keytab),
         }))
     }
