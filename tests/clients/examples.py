@@ -21,6 +21,10 @@ REMOVED, FOUND = b"removed 2 kvno 3 etype 17 host/a@R", b"./mixed.keytab: weak 5
 
 # The scripts, also over a cache with an offset and two tickets for one service, and the files that they leave.
 SCRIPTS = {
+    "check_keytabs.sh host.keytab": Outcome(0, b"KEYTABS OK\n"),
+    "check_keytabs.sh damaged.keytab": Outcome(2, b"KEYTABS CRITICAL: fault 2 at 53;entries 1 free 0 holes 0\n"),
+    "check_keytabs.sh host.keytab .": Outcome(3, b"KEYTABS UNKNOWN: krbfile: .: cannot read\n"),
+    "tickets.prom.sh odd tickets.prom": Outcome(0),
     "reset-offset.pl odd": Outcome(0),
     "edit-keytab.sh host.keytab sh -c 'cat; tail -c +3 other.keytab'": Outcome(0),
     "edit-keytab.sh mixed.keytab sh -c 'kill -KILL $PPID; cat host.keytab'": Outcome(-signal.SIGKILL),
@@ -29,7 +33,9 @@ ODD = replace(TICKET, server=Name((b'a"\\\1',)))
 BEFORE, AFTER = (cache(ODD, replace(ODD, endtime=8), fields=fields)
                  for fields in (FIELDS, header_field(9, b"\xab\xcd") + offset(0, 0)))
 LEFT = {"host.keytab": SAMPLES["host.keytab"] + SAMPLES["other.keytab"][2:], "mixed.keytab": SAMPLES["mixed.keytab"],
-        "odd": AFTER}
+        "odd": AFTER, "tickets.prom": rb"""# TYPE krbfile_ticket_end_seconds gauge
+krbfile_ticket_end_seconds{file="odd",client="u@R",server="a\"\\\\?@R"} 1700036000
+"""}
 
 
 @contextmanager
