@@ -6,7 +6,6 @@ import shutil
 from collections.abc import Iterator
 from itertools import takewhile
 
-from clients.examples import folder_with, root_of
 from makers.samples import folder_of_samples
 from pages.documents import read
 from runs.harness import TOP, Outcome, Report, folder_of, run
@@ -14,11 +13,6 @@ from runs.harness import TOP, Outcome, Report, folder_of, run
 SHOWN = "README.md"
 LIBRARY = os.path.join(TOP, "lib", "libkrbfile.so.1")
 PROVED = "crates/store_tests/src/tests/readme.rt"
-
-# Keytabs in /etc by samples, two of which have nothing to report, and what cron mails of them.
-IN_CRON = {"etc/a.keytab": "host.keytab", "etc/b.keytab": "mixed.keytab", "etc/c.keytab": "old.keytab",
-           "etc/d": "mixed.keytab"}
-MAILED = "ETC/b.keytab: weak 53 kvno 3 etype 23 b@R\nETC/b.keytab: entries 2 free 0 holes 0\n"
 
 
 def lines_of(text: str) -> list[str]:
@@ -96,17 +90,7 @@ def check_sessions(report: Report, program: str) -> None:
                 check_session(report, program, folder, "session of README", session)
 
 
-def check_cron(report: Report, program: str) -> None:
-    """Runs README's line for cron over the keytabs of a host, below a root of its own."""
-    (line,) = re.findall(r"`(krbfile ktcheck [^`]*)` in cron", read(SHOWN))
-    with root_of(IN_CRON) as root, folder_with(program) as programs:
-        got = run("/bin/sh", ("-c", line.replace("/etc/", f"{root}/etc/")), "/", env=surroundings(programs))
-        wanted = MAILED.replace("ETC", os.path.join(root, "etc")).encode()
-    report.compare("README's line for cron", Outcome(1, wanted), got)
-
-
 def check(report: Report, program: str) -> None:
     """Runs this topic."""
     check_snippets(report)
     check_sessions(report, program)
-    check_cron(report, program)
