@@ -56,8 +56,8 @@ WRONG_BODIES = {
         "follows-no-rewrite new-over-TO nothing-of-a-version-is-well removed-keys-stay-in-the-file "
         "tells-of-removed-entries"),
     "krb_ktutil": (
-        "a-list-tells-what-a-save-left every-command-wants-a-password saves-part wkt-holds-nothing "
-        "writes-under-a-type"),
+        "a-list-tells-what-a-save-left a-password-runs-as-a-command every-command-wants-a-password saves-part "
+        "wkt-holds-nothing writes-under-a-type"),
     "krb_terminal": "escapes-no-c1 forgets-a-parted-pair",
     "krb_c": "tells-the-length-that-was-cut",
 }

@@ -1,6 +1,7 @@
 pub mod NewlineLemmas
 pub mod InputLemmas
 pub mod WordLemmas
+pub mod PromptLemmas
 pub mod KtutilLists
 pub mod KtutilHandles
 pub mod KtutilOptions
