@@ -1,0 +1,91 @@
+-- Credential caches: what their bytes hold, and their listings. Hexadecimal digits are as `xxd -p` prints them.
+use Rattle.std.specs.Prelude.{◌≡◌, ◌++◌, codes, None, Some, Ok, Err, pos, negsuc}
+use Rattle.std.proofs.Common.{refl}
+use Rattle.krb_ccache.specs.declared.open.CcOpenFault.TheVariants.{BadVersion, BadHeader, BadDefault}
+use Rattle.krb_ccache.specs.Config.{config_of}
+use Rattle.krb_ccache.specs.Header.{offset_in}
+use Rattle.krb_ccache.specs.Store.{open_result}
+use Rattle.krb_files.specs.Loading.{most_bytes}
+use Rattle.samples.proofs.Given.{hex, cache, cache_listed, details, tickets, front, worked}
+use Rattle.samples.proofs.Times.{time-1700000000, time-1700036000}
+use Rattle.samples.proofs.Unfolded.{on_literals}
+
+-- ---- listings
+
+-- a ticket has a line; configuration entries and removed credentials have none
+worked-tickets : cache_listed tickets (codes "c") worked
+    ≡ Ok (codes "Ticket cache: FILE:c\nDefault principal: u@R\n\nValid starting       Expires              Service principal\n2023-11-14T22:13:20Z 2023-11-15T08:13:20Z krbtgt/R@R\n")
+unfolding on_literals
+worked-tickets i = Ok (codes "Ticket cache: FILE:c\nDefault principal: u@R\n\nValid starting       Expires              Service principal\n" ++ (time-1700000000 i ++ (codes " " ++ (time-1700036000 i ++ codes " krbtgt/R@R\n"))))
+
+-- a ticket's flags are letters, and a configuration entry is shown with its principal
+worked-details : cache_listed details (codes "c") worked
+    ≡ Ok (codes "Ticket cache: FILE:c\nDefault principal: u@R\n\nValid starting       Expires              Service principal\n2023-11-14T22:13:20Z 2023-11-15T08:13:20Z krbtgt/R@R\n    Flags: FRIA\n    Etype: aes128-cts-hmac-sha1-96\nconfig: pa_type(krbtgt/R@R) = 2\n")
+unfolding on_literals
+worked-details i = Ok (codes "Ticket cache: FILE:c\nDefault principal: u@R\n\nValid starting       Expires              Service principal\n" ++ (time-1700000000 i ++ (codes " " ++ (time-1700036000 i ++ codes " krbtgt/R@R\n    Flags: FRIA\n    Etype: aes128-cts-hmac-sha1-96\nconfig: pa_type(krbtgt/R@R) = 2\n"))))
+
+-- bytes that do not print are escaped in a value, and a backslash is doubled
+value-escaped : cache_listed details (codes "c") (hex (codes "0504000000000001000000010000000152000000017500000001000000010000000152000000017500000001000000020000000c582d4341434845434f4e463a000000156b7262355f6363616368655f636f6e665f64617461000000016b000000000000000000000000000000000000000000000000000000000000000000000000000005615c200aff00000000"))
+    ≡ Ok (codes "Ticket cache: FILE:c\nDefault principal: u@R\n\nValid starting       Expires              Service principal\nconfig: k = a\\\\ \\x0a\\xff\n")
+unfolding on_literals
+value-escaped = refl
+
+-- bytes that begin no credential are fault 4, here a client's name that counts 2 ^ 32 - 1 components
+bad-credential : cache_listed tickets (codes "c") (front ++ hex (codes "00000001ffffffff0000000152"))
+    ≡ Ok (codes "Ticket cache: FILE:c\nDefault principal: u@R\n\nValid starting       Expires              Service principal\nfault 4 at 40\n")
+unfolding on_literals
+bad-credential = refl
+
+-- ---- the header
+
+-- a field of tag 1 is the time offset, two signed numbers; other tags are passed over
+offset : offset_in (cache worked).header
+    ≡ Some (record { seconds = pos 5; micros = negsuc 9 })
+unfolding on_literals
+offset = refl
+
+-- a cache of version 3 has no header
+version-3 : cache_listed tickets (codes "c") (hex (codes "0503000000010000000100000001520000000175"))
+    ≡ Ok (codes "Ticket cache: FILE:c\nDefault principal: u@R\n\nValid starting       Expires              Service principal\n")
+unfolding on_literals
+version-3 = refl
+
+-- ---- configuration values
+
+-- a value is found by its key and its principal
+value : config_of (cache worked) (codes "pa_type") (Some (codes "krbtgt/R@R"))
+    ≡ Some (codes "2")
+unfolding on_literals
+value = refl
+
+-- and not by its key alone
+value-none : config_of (cache worked) (codes "pa_type") None
+    ≡ None
+unfolding on_literals
+value-none = refl
+
+-- ---- what is no cache
+
+-- versions 1 and 2, and keytabs
+bad-version : open_result most_bytes (hex (codes "0502"))
+    ≡ Err BadVersion
+unfolding on_literals
+bad-version = refl
+
+-- a header that is longer than the file
+bad-header : open_result most_bytes (hex (codes "05040001"))
+    ≡ Err BadHeader
+unfolding on_literals
+bad-header = refl
+
+-- a header that ends within a field
+bad-field : open_result most_bytes (hex (codes "0504000400010001ff"))
+    ≡ Err BadHeader
+unfolding on_literals
+bad-field = refl
+
+-- no default principal, here one of 2 ^ 32 - 1 components
+bad-default : open_result most_bytes (hex (codes "0504000000000001ffffffff0000000152"))
+    ≡ Err BadDefault
+unfolding on_literals
+bad-default = refl

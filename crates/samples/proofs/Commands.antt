@@ -1,0 +1,168 @@
+-- What commands find, copy, remove and print. A command's output is a definition over what its files hold.
+use Rattle.std.specs.Prelude.{◌≡◌, ℕ, List, [], ◌++◌, codes, replicate, filter, Bool, true, false, Option, None, Some, Result, Ok, Err}
+use Rattle.std.specs.List.{flat_map}
+use Rattle.std.proofs.Common.{refl}
+use Rattle.krb_walk.specs.declared.refusal.Code.{Code}
+use Rattle.krb_walk.specs.declared.refusal.Code.TheVariants.{NotFound, KvnoNotFound}
+use Rattle.krb_keytab.specs.Find.{PlacedEntry, find_result, placed_entries}
+use Rattle.krb_keytab.specs.Store.{KeytabState, image_of}
+use Rattle.krb_text.specs.declared.line_fault.LineFault.TheVariants.{BadKey}
+use Rattle.krb_text.specs.Found.{found_line, removed_line}
+use Rattle.krb_text.specs.Script.{event_in, script_by}
+use Rattle.krb_json.specs.Cache.{cache_json_text}
+use Rattle.krb_json.specs.Keytab.{keytab_json_text}
+use Rattle.krb_audit.specs.declared.selection.SelectedKvno.TheVariants.{Old}
+use Rattle.krb_audit.specs.Report.{report}
+use Rattle.krb_audit.specs.Selection.{has_selected_kvno}
+use Rattle.krb_copy.specs.Copying.{copy_run}
+use Rattle.krb_driver.specs.Loading.{result_map}
+use Rattle.samples.proofs.Given.{hex, keytab, cache, name, host, b, two, worked}
+use Rattle.samples.proofs.Unfolded.{on_literals}
+
+-- ---- ktfind
+
+-- host/a@R at 2 with version 3, at 53 and 120 with version 5, of encryption types 17, 18 and 17
+abbrev three : List ℕ
+three = hex (codes "0502") ++ (host ++ (hex (codes "0000003f00020001520004686f7374000161000000016553f1000500120020000102030405060708090a0b0c0d0e0f101112131415161718191a1b1c1d1e1f000000050000002f00020001520004686f7374000161000000016553f1000500110010000102030405060708090a0b0c0d0e0f00000005")))
+
+-- the line that a look-up prints, or why there is none; version 0 asks for the highest, encryption type 0 for any
+abbrev found : List ℕ → List ℕ → ℕ → ℕ → Result (List ℕ) Code
+found image text kvno etype = result_map found_line (find_result (keytab image) (name text) kvno etype)
+
+-- the highest version is found, and of several entries the first
+found-highest : found three (codes "host/a@R") 0 0
+    ≡ Ok (codes "found 53 kvno 5 etype 18 host/a@R\n")
+unfolding on_literals
+found-highest = refl
+
+-- of an encryption type, its own highest
+found-etype : found three (codes "host/a@R") 0 17
+    ≡ Ok (codes "found 120 kvno 5 etype 17 host/a@R\n")
+unfolding on_literals
+found-etype = refl
+
+-- a version that is asked for
+found-version : found three (codes "host/a@R") 3 0
+    ≡ Ok (codes "found 2 kvno 3 etype 17 host/a@R\n")
+unfolding on_literals
+found-version = refl
+
+-- an entry of the name and the type, but none of the version
+found-no-version : found three (codes "host/a@R") 4 0
+    ≡ Err KvnoNotFound
+unfolding on_literals
+found-no-version = refl
+
+-- none of the name and the type
+found-none : found three (codes "host/a@R") 0 23
+    ≡ Err NotFound
+unfolding on_literals
+found-none = refl
+
+-- ---- ktcheck
+
+-- what is found about a keytab whose file has a mode
+abbrev checked : Option ℕ → List ℕ → List ℕ
+checked mode image = report [] mode (keytab image)
+
+-- the same key twice: the later place, then the first
+check-same : checked None (hex (codes "0502") ++ (host ++ host))
+    ≡ codes "same 53 2 kvno 3 etype 17 host/a@R\nentries 2 free 0 holes 0\n"
+unfolding on_literals
+check-same = refl
+
+-- another key of the same name, version and encryption type
+check-clash : checked None (two ++ (hex (codes "000000290001000152000162000000016553f1000300110010000102030405060708090a0b0c0d0e0f00000003")))
+    ≡ codes "clash 98 53 kvno 3 etype 17 b@R\nentries 3 free 0 holes 0\n"
+unfolding on_literals
+check-clash = refl
+
+-- an entry that is weak, has a twin and is old has a line for each, in this order
+check-order : checked None (hex (codes "0502000000290001000152000162000000016553f1000300170010000102030405060708090a0b0c0d0e0f00000003000000290001000152000162000000016553f1000300170010000102030405060708090a0b0c0d0e0f00000003000000290001000152000162000000016553f1000400110010000102030405060708090a0b0c0d0e0f00000004"))
+    ≡ codes "weak 2 kvno 3 etype 23 b@R\nold 2 kvno 3 etype 23 b@R\nweak 47 kvno 3 etype 23 b@R\nsame 47 2 kvno 3 etype 23 b@R\nold 47 kvno 3 etype 23 b@R\nentries 3 free 0 holes 0\n"
+unfolding on_literals
+check-order = refl
+
+-- MIT's programs stop at an entry with an empty component, and see none after it
+check-hidden : checked None (hex (codes "05020000002e00030001520001610000000162000000016553f1000300110010000102030405060708090a0b0c0d0e0f00000003") ++ b)
+    ≡ codes "hidden 2 kvno 3 etype 17 a//b@R\nentries 2 free 0 holes 0\n"
+unfolding on_literals
+check-hidden = refl
+
+-- of the versions 255 and 1 the second is the newer: a version of 8 bits has begun again
+check-wrapped : checked None (hex (codes "0502000000290001000152000162000000016553f100ff00110010000102030405060708090a0b0c0d0e0f000000ff000000290001000152000162000000016553f10001001100100102030405060708090a0b0c0d0e0f1000000001"))
+    ≡ codes "old 2 kvno 255 etype 17 b@R\nentries 2 free 0 holes 0\n"
+unfolding on_literals
+check-wrapped = refl
+
+-- a mode that lets others in, holes, and a fault
+check-mode : checked (Some 0o100644) (hex (codes "0502ffffffd1") ++ (replicate 47 0 ++ (b ++ (hex (codes "0000")))))
+    ≡ codes "mode 644\nfault 1 at 98\nentries 1 free 47 holes 1\n"
+unfolding on_literals
+check-mode = refl
+
+-- ---- ktremove
+
+-- the entries of a keytab that -k old selects
+abbrev old : KeytabState → List PlacedEntry
+old k = filter (λ x. has_selected_kvno Old 0 (placed_entries k) x.1) (placed_entries k)
+
+-- all but the newest version of a name are old
+remove-old : flat_map removed_line (old (keytab three))
+    ≡ codes "removed 2 kvno 3 etype 17 host/a@R\n"
+unfolding on_literals
+remove-old = refl
+
+-- ---- ktcopy
+
+-- b@R alone, with another key than in `two`
+abbrev other : List ℕ
+other = hex (codes "0502000000290001000152000162000000016553f1000300110010000102030405060708090a0b0c0d0e0f00000003")
+
+-- the lines of copying all entries of `two` into it, with --replace or without, and the image after that
+abbrev copied : Bool → Result (List ℕ × List ℕ) Code
+copied replace = result_map (λ run. (run.text, image_of run.keytab)) (copy_run replace (placed_entries (keytab two)) (keytab other))
+
+-- another key of the same name, version and encryption type clashes
+copy-clash : copied false
+    ≡ Ok (codes "copied 47 kvno 3 etype 17 host/a@R\nclash 53 2 kvno 3 etype 17 b@R\n", other ++ host)
+unfolding on_literals
+copy-clash = refl
+
+-- or is replaced
+copy-replace : copied true
+    ≡ Ok (codes "copied 47 kvno 3 etype 17 host/a@R\nremoved 2 kvno 3 etype 17 b@R\ncopied 2 kvno 3 etype 17 b@R\n", hex (codes "0502") ++ (b ++ host))
+unfolding on_literals
+copy-replace = refl
+
+-- the same key is copied once
+copy-same : result_map (λ run. run.text) (copy_run false (placed_entries (keytab two)) (keytab two)) ≡ Ok []
+unfolding on_literals
+copy-same = refl
+
+-- ---- scripts
+
+-- the first faulty line is named, with the first fault of its words; here the key has not the size of its type
+script-fault : script_by event_in (codes "start\n\n# a comment\nadd 3 17 0 00 b@R\nstep x\n") ≡ Err (record { line = 4; kind = BadKey })
+unfolding on_literals
+script-fault = refl
+
+-- ---- klist --json
+
+-- the worked keytab
+json-keytab : keytab_json_text (codes "k") false (keytab two)
+    ≡ codes "{\"file\":\"k\",\"kind\":\"keytab\",\"version\":2,\"entries\":[{\"place\":2,\"principal\":\"host/a@R\",\"kvno\":3,\"etype\":17,\"etype_name\":\"aes128-cts-hmac-sha1-96\",\"timestamp\":1700000000},{\"place\":53,\"principal\":\"b@R\",\"kvno\":3,\"etype\":17,\"etype_name\":\"aes128-cts-hmac-sha1-96\",\"timestamp\":1700000000}],\"fault\":null}\n"
+unfolding on_literals
+json-keytab = refl
+
+-- the worked cache
+json-cache : cache_json_text (codes "c") (cache worked)
+    ≡ codes "{\"file\":\"c\",\"kind\":\"ccache\",\"version\":4,\"default_principal\":\"u@R\",\"tickets\":[{\"place\":40,\"client\":\"u@R\",\"server\":\"krbtgt/R@R\",\"authtime\":1700000000,\"starttime\":0,\"endtime\":1700036000,\"renew_till\":0,\"flags\":\"FRIA\",\"flags_value\":1088421888,\"etype\":17,\"etype_name\":\"aes128-cts-hmac-sha1-96\",\"is_skey\":false,\"addresses\":0,\"ticket_length\":3}],\"config\":[{\"place\":148,\"key\":\"pa_type\",\"principal\":\"krbtgt/R@R\",\"value\":\"2\"}],\"fault\":null}\n"
+unfolding on_literals
+json-cache = refl
+
+-- a name that is not UTF-8 is given in hexadecimal, a type without a name has none, and so is a fault
+json-odd : keytab_json_text (codes "k") true (keytab (hex (codes "05020000001700010001520001ff000000010000000001ffff00020aff00")))
+    ≡ codes "{\"file\":\"k\",\"kind\":\"keytab\",\"version\":2,\"entries\":[{\"place\":2,\"principal_hex\":\"ff4052\",\"kvno\":1,\"etype\":65535,\"etype_name\":null,\"timestamp\":0,\"key_hex\":\"0aff\"}],\"fault\":{\"kind\":1,\"place\":29}}\n"
+unfolding on_literals
+json-odd = refl

@@ -1,0 +1,8 @@
+pub mod Given
+pub mod Times
+pub mod Unfolded
+mod Keytabs
+mod Caches
+mod NamesAndTimes
+mod Edits
+mod Commands

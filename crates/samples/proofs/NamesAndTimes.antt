@@ -1,0 +1,103 @@
+-- Names, encryption types, flags and times as text.
+use Rattle.std.specs.Prelude.{◌≡◌, [], ◌∷◌, codes, None, Some, Ok, Err, true, false}
+use Rattle.std.proofs.Common.{refl}
+use Rattle.krb_wire.specs.declared.name_fault.NameFault.TheVariants.{NoRealm, LoneBackslash, SecondAt, SlashInRealm}
+use Rattle.krb_wire.specs.NameOf.{name_of}
+use Rattle.krb_wire.specs.Names.{name_text}
+use Rattle.krb_text.specs.Etype.{etype_in, etype_text_of, key_size_of, is_weak}
+use Rattle.krb_text.specs.Flags.{flag_letters_of}
+use Rattle.krb_text.specs.Numbers.{seconds_in}
+use Rattle.samples.proofs.Given.{hex, name}
+use Rattle.samples.proofs.Unfolded.{on_literals}
+
+-- ---- names
+
+-- `/` separates components, and `@` begins the realm
+plain : name_of (codes "host/a@R") None
+    ≡ Ok (record { name_type = 1; realm = codes "R"; components = codes "host" ∷ codes "a" ∷ [] })
+unfolding on_literals
+plain = refl
+
+-- a backslash quotes the byte after it, and `\n`, `\t`, `\b` and `\0` are newline, tab, backspace and NUL
+quoted : name_of (codes "a\\/b\\@c\\\\\\n\\0@R") None
+    ≡ Ok (record { name_type = 1; realm = codes "R"; components = hex (codes "612f6240635c0a00") ∷ [] })
+unfolding on_literals
+quoted = refl
+
+-- it prints as it was read
+printed : name_text (name (codes "a\\/b\\@c\\\\\\n\\0@R")) ≡ codes "a\\/b\\@c\\\\\\n\\0@R"
+unfolding on_literals
+printed = refl
+
+-- components may be empty, and so may the realm
+empty : name_of (codes "a//@") None
+    ≡ Ok (record { name_type = 1; realm = []; components = codes "a" ∷ [] ∷ [] ∷ [] })
+unfolding on_literals
+empty = refl
+
+-- without `@` the realm is the default one
+default-realm : name_of (codes "a") (Some (codes "R"))
+    ≡ Ok (record { name_type = 1; realm = codes "R"; components = codes "a" ∷ [] })
+unfolding on_literals
+default-realm = refl
+
+-- if there is one
+no-realm : name_of (codes "a") None ≡ Err NoRealm
+unfolding on_literals
+no-realm = refl
+
+-- a backslash at the end quotes nothing
+lone-backslash : name_of (codes "a\\") None ≡ Err LoneBackslash
+unfolding on_literals
+lone-backslash = refl
+
+-- of several faults the one furthest left counts
+second-at : name_of (codes "a@b@c/\\") None ≡ Err SecondAt
+unfolding on_literals
+second-at = refl
+
+-- a realm has no components
+slash-in-realm : name_of (codes "a@b/c") None ≡ Err SlashInRealm
+unfolding on_literals
+slash-in-realm = refl
+
+-- ---- encryption types, by IANA's numbers and MIT's names
+
+-- of its names the first is printed, any is read, in either case of letters, and so is its number
+etype : (etype_text_of 23 ≡ codes "arcfour-hmac") × (etype_in (codes "RC4-hmac") ≡ Some 23) × (etype_in (codes "23") ≡ Some 23)
+unfolding on_literals
+etype = (refl, refl, refl)
+
+-- one without a name prints as its number
+etype-number : etype_text_of 65535 ≡ codes "etype 65535"
+unfolding on_literals
+etype-number = refl
+
+-- the size of its keys in bytes (RFC 3962)
+key-size : (key_size_of 17 ≡ Some 16) × (key_size_of 18 ≡ Some 32)
+unfolding on_literals
+key-size = (refl, refl)
+
+-- MIT calls triple DES and RC4 deprecated
+weak : (is_weak 16 ≡ true) × (is_weak 23 ≡ true) × (is_weak 18 ≡ false)
+unfolding on_literals
+weak = (refl, refl, refl)
+
+-- ---- flags of tickets
+
+-- all that have a letter, in the order in which MIT prints them
+flags : flag_letters_of 0x7ffc8000 ≡ codes "FfPpDdiRIHATOa"
+unfolding on_literals
+flags = refl
+
+-- forwardable, renewable, initial and preauthenticated (RFC 4120)
+flags-initial : flag_letters_of 0x40e00000 ≡ codes "FRIA"
+unfolding on_literals
+flags-initial = refl
+
+-- ---- durations; Times.antt has times
+
+-- a number of seconds, or of the unit whose letter is after it: seconds, minutes, hours or days
+seconds : (seconds_in (codes "90") ≡ Some 90) × (seconds_in (codes "15m") ≡ Some 900) × (seconds_in (codes "7d") ≡ Some 604800)
+unfolding on_literals
+seconds = (refl, refl, refl)
