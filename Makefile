@@ -94,11 +94,12 @@ samples:
 
 # The programs and libraries that the gate leaves are what is tested, so each crate is proved once. The gate would put
 # libraries of earlier checks back in their place, and it takes no folder that holds a link. A program that it took over
-# from an earlier run has no object file: then the static one is left out. The wrong bodies are tried even if a test
-# failed.
+# from an earlier run has no object file: then the static one is left out. The theorems about the files of other
+# programs are written before. The wrong bodies are tried even if a test failed.
 test:
 	rm -f $(BUILT) $(BUILT).o $(STATIC) $(LINKER_NAME) $(ARCHIVE)
 	rm -rf crates/*/out/rlib
+	tests/samples_of_corpus
 	rt ci
 	touch -c crates/*/out/rlib/*.rlib $(BUILT)
 	$(MAKE) --no-print-directory $(BUILT)

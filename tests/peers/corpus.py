@@ -1,4 +1,4 @@
-"""Cases over the files in `corpus`, which other programs wrote.
+"""Cases over the files in `corpus`, which other programs wrote. `NAME.txt` beside a file is what MIT's klist prints.
 
 The folder has `cases.jsonl`, one case a line: an object with `id`, `dir` (the folder in it with the
 case's files), `argv` (the program's arguments), `status`, `stdout`, `stderr`, and perhaps `stdin`,
@@ -31,7 +31,8 @@ def read(path: str) -> bytes:
 def files(kind: str) -> list[tuple[str, bytes]]:
     """Returns the files of a kind, `keytab` or `ccache`, each with its name."""
     folder = os.path.join(FOLDER, kind)
-    return [(name, read(os.path.join(folder, name))) for name in sorted(os.listdir(folder))]
+    names = [name for name in sorted(os.listdir(folder)) if not name.endswith(".txt")]
+    return [(name, read(os.path.join(folder, name))) for name in names]
 
 
 def images(kind: str) -> list[bytes]:

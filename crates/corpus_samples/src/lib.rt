@@ -1,0 +1,3 @@
+//! Theorems about the files in tests/corpus, which other programs wrote: `tests/samples_of_corpus` writes them into
+//! `proofs/`. Without that folder the crate is empty.
+#![tactic(auto)]

@@ -1,0 +1,118 @@
+"""Theorems and modules of antt, as text in the layout of `rt fmt`."""
+
+import datetime
+import re
+from dataclasses import dataclass
+
+# Names that a module may import, by the module that they come from.
+IMPORTS = {
+    "Rattle.std.specs.Prelude": ("◌≡◌", "ℕ", "List", "[]", "◌∷◌", "◌++◌", "codes", "length", "map", "filter", "get_or",
+                                 "Option", "None", "Some", "true", "false", "Result", "Ok", "Err"),
+    "Rattle.std.proofs.Common": ("refl",),
+    "Rattle.krb_walk.specs.declared.event.Event.TheVariants": ("Cut", "Rewrite"),
+    "Rattle.krb_walk.specs.declared.refusal.Code": ("Code",),
+    "Rattle.krb_walk.specs.declared.refusal.Code.TheVariants": ("NotFound", "KvnoNotFound"),
+    "Rattle.krb_keytab.specs.Changes": ("without",),
+    "Rattle.krb_keytab.specs.Find": ("PlacedEntry", "find_result", "placed_entries"),
+    "Rattle.krb_keytab.specs.Store": ("image_of",),
+    "Rattle.krb_ccache.specs.declared.open.CcOpenFault.TheVariants": ("BadVersion",),
+    "Rattle.krb_ccache.specs.SetConfig": ("SettingParts", "setting_events"),
+    "Rattle.krb_text.specs.Calendar": ("day_number", "day_text", "time_text_of"),
+    "Rattle.krb_text.specs.Found": ("found_line",),
+    "Rattle.krb_cache_text.specs.declared.columns.CcColumns": ("CcColumns",),
+    "Rattle.krb_audit.specs.declared.selection.SelectedKvno.TheVariants": ("Old",),
+    "Rattle.krb_audit.specs.Selection": ("has_selected_kvno",),
+    "Rattle.krb_driver.specs.Loading": ("result_map",),
+    "Rattle.samples.proofs.Given": ("hex", "keytab", "cache", "name", "listed", "cache_listed", "plain", "all", "tickets",
+                                    "details", "left", "printed", "cache_left"),
+    "Rattle.samples.proofs.Unfolded": ("on_literals",),
+}
+TIME = re.compile(rb"(\d{4}-\d\d-\d\dT\d\d:\d\d:\d\dZ)")
+WORD = re.compile(r"◌?[^\s(){};,.]+")
+ESCAPES = {10: "\\n", 34: '\\"', 92: "\\\\"}
+EPOCH = datetime.datetime(1970, 1, 1)
+
+
+def bytes_of_digits(data: bytes) -> str:
+    """Returns bytes as hexadecimal digits."""
+    return f'hex (codes "{data.hex()}")'
+
+
+def text(data: bytes) -> str:
+    """Returns bytes as text if they are ASCII that prints, otherwise as hexadecimal digits."""
+    if all(it == 10 or 32 <= it < 127 for it in data):
+        return 'codes "' + "".join(ESCAPES.get(it, chr(it)) for it in data) + '"'
+    return bytes_of_digits(data)
+
+
+def identifier(word: str) -> str:
+    """Returns a word as a name."""
+    return re.sub(r"[^A-Za-z0-9]+", "-", word).strip("-")
+
+
+def seconds(moment: bytes) -> int:
+    """Returns the seconds from 1970 to a time."""
+    return int((datetime.datetime.fromisoformat(moment.decode().rstrip("Z")) - EPOCH).total_seconds())
+
+
+def theorem(comment: str, name: str, sides: tuple[str, str], proof: str = "refl") -> str:
+    """Returns a theorem that two sides are equal."""
+    return f"-- {comment}\n{name} : {sides[0]}\n    ≡ {sides[1]}\nunfolding on_literals\n{name} = {proof}\n"
+
+
+def proof_of_listing(listing: bytes) -> str:
+    """Returns the proof of a listing. It uses the theorem of each time, since days are too many to count again."""
+    parts = TIME.split(listing)
+    if len(parts) == 1:
+        return "refl"
+    terms = [f"time-{seconds(part)} i" if place % 2 else text(part) for place, part in enumerate(parts)]
+    return "λ i. Ok (" + " ++ (".join(terms) + ")" * len(terms)
+
+
+def theorem_of_listing(comment: str, name: str, listed: str, listing: bytes) -> str:
+    """Returns the theorem that a file is listed so."""
+    return theorem(comment, name, (listed, f"Ok ({text(listing)})"), proof_of_listing(listing))
+
+
+def day_theorem(number: int) -> str:
+    """Returns the theorem of the date of a day."""
+    day = EPOCH + datetime.timedelta(number)
+    return (f"day-{number} : day_number {number} ≡ record {{ year = {day.year}; month = {day.month}; day = {day.day} }}\n"
+            f"unfolding day_number\nday-{number} = refl\n")
+
+
+def time_theorems(moments: set[bytes]) -> list[str]:
+    """Returns the theorems of times, each after that of its day."""
+    found = []
+    for day in sorted({seconds(it) // 86400 for it in moments}):
+        found.append(day_theorem(day))
+        for moment in sorted(it for it in moments if seconds(it) // 86400 == day):
+            number = seconds(moment)
+            found.append(f"pub time-{number} : time_text_of {number} ≡ {text(moment)}\n"
+                         f"time-{number} i = day_text (day-{day} i) {number % 86400}\n")
+    return found
+
+
+@dataclass(frozen=True)
+class Module:
+    """A module: its name, its comment, and its theorems and definitions."""
+
+    name: str
+    comment: str
+    items: tuple[str, ...]
+
+    def uses(self) -> dict[str, list[str]]:
+        """Returns the names that it imports, by the modules that these come from."""
+        words = set(WORD.findall(re.sub(r'"(?:[^"\\]|\\.)*"|^--.*$', "", "\n".join(self.items), flags=re.M)))
+        words |= {f"◌{it}◌" for it in words}
+        found = {source: [it for it in those if it in words] for source, those in IMPORTS.items()}
+        if self.name != "Times":
+            found["Rattle.corpus_samples.proofs.Times"] = sorted(it for it in words if it.startswith("time-"))
+        if self.name != "Files":
+            found["Rattle.corpus_samples.proofs.Files"] = sorted(it for it in words if it.startswith("file-"))
+        return {source: those for source, those in found.items() if those}
+
+    def written(self) -> str:
+        """Returns its text."""
+        imports = "".join(f"use {source}.{{{', '.join(those)}}}\n" for source, those in self.uses().items())
+        return f"-- {self.comment}\n{imports}\n" + "\n".join(self.items)
