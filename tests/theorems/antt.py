@@ -17,7 +17,7 @@ IMPORTS = {
     "Rattle.krb_keytab.specs.Store": ("image_of",),
     "Rattle.krb_ccache.specs.declared.open.CcOpenFault.TheVariants": ("BadVersion",),
     "Rattle.krb_ccache.specs.SetConfig": ("SettingParts", "setting_events"),
-    "Rattle.krb_text.specs.Calendar": ("day_number", "day_text", "time_text_of"),
+    "Rattle.krb_text.specs.Calendar": ("day_number", "day_text", "next_day", "time_text_of"),
     "Rattle.krb_text.specs.Found": ("found_line",),
     "Rattle.krb_cache_text.specs.declared.columns.CcColumns": ("CcColumns",),
     "Rattle.krb_audit.specs.declared.selection.SelectedKvno.TheVariants": ("Old",),
@@ -74,23 +74,25 @@ def theorem_of_listing(comment: str, name: str, listed: str, listing: bytes) -> 
     return theorem(comment, name, (listed, f"Ok ({text(listing)})"), proof_of_listing(listing))
 
 
-def day_theorem(number: int) -> str:
-    """Returns the theorem of the date of a day."""
+def day_theorem(number: int, is_next: bool) -> str:
+    """Returns the theorem of the date of a day, perhaps from that of the day before."""
     day = EPOCH + datetime.timedelta(number)
+    proof = f"day-{number} i = next_day (day-{number - 1} i)" if is_next else f"day-{number} = refl"
     return (f"day-{number} : day_number {number} ≡ record {{ year = {day.year}; month = {day.month}; day = {day.day} }}\n"
-            f"unfolding day_number\nday-{number} = refl\n")
+            f"unfolding day_number\n{proof}\n")
+
+
+def time_theorem(moment: bytes) -> str:
+    """Returns the theorem of a time, from that of its day."""
+    number = seconds(moment)
+    return (f"pub time-{number} : time_text_of {number} ≡ {text(moment)}\n"
+            f"time-{number} i = day_text (day-{number // 86400} i) {number % 86400}\n")
 
 
 def time_theorems(moments: set[bytes]) -> list[str]:
-    """Returns the theorems of times, each after that of its day."""
-    found = []
-    for day in sorted({seconds(it) // 86400 for it in moments}):
-        found.append(day_theorem(day))
-        for moment in sorted(it for it in moments if seconds(it) // 86400 == day):
-            number = seconds(moment)
-            found.append(f"pub time-{number} : time_text_of {number} ≡ {text(moment)}\n"
-                         f"time-{number} i = day_text (day-{day} i) {number % 86400}\n")
-    return found
+    """Returns the theorems of days and times."""
+    days = sorted({seconds(it) // 86400 for it in moments})
+    return [day_theorem(it, it - 1 in days) for it in days] + [time_theorem(it) for it in sorted(moments)]
 
 
 @dataclass(frozen=True)

@@ -1,7 +1,7 @@
 -- Seconds after 1970-01-01T00:00:00Z as text. A day is found by counting; each is counted once.
 use Rattle.std.specs.Prelude.{◌≡◌, codes}
 use Rattle.std.proofs.Common.{refl}
-use Rattle.krb_text.specs.Calendar.{day_number, day_text, time_text_of}
+use Rattle.krb_text.specs.Calendar.{day_number, day_text, next_day, time_text_of}
 
 day-0 : day_number 0 ≡ record { year = 1970; month = 1; day = 1 }
 unfolding day_number
@@ -28,7 +28,7 @@ time-1700000000 i = day_text (day-19675 i) 80000
 
 day-19676 : day_number 19676 ≡ record { year = 2023; month = 11; day = 15 }
 unfolding day_number
-day-19676 = refl
+day-19676 i = next_day (day-19675 i)
 
 pub time-1700036000 : time_text_of 1700036000 ≡ codes "2023-11-15T08:13:20Z"
 time-1700036000 i = day_text (day-19676 i) 29600
