@@ -1,4 +1,4 @@
-use Rattle.std.proofs.Common.{◌≡◌, [], subst, sym, ap, ◌∙◌}
+use Rattle.std.proofs.Common.{[], subst, sym, ap, ◌∙◌}
 use Rattle.krb_ktutil.specs.KtutilPlan.{KtutilState, LinePlan, plan_of}
 use Rattle.krb_ktutil.specs.KtutilFiles.{Finishes, Handles}
 use Rattle.krb_ktutil.proofs.KtutilDue.{plan_of-by}
