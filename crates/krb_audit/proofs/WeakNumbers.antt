@@ -1,9 +1,9 @@
 -- The weak enctypes that were found.
-use Rattle.std.proofs.Common.{◌≡◌, ℕ, ◌<◌, ◌≤◌, Bool, true, false, List, [], ◌∷◌, ◌++◌, Option, Some, None, map, set, get_or, length, replicate, inl, inr, refl, ap, ◌∙◌, sym, arith}
-use Rattle.std.specs.Prelude.{◌==◌, ◌&&◌, ◌||◌}
-use Rattle.std.specs.List.{AllByRecursion, find, list_any, range_with_len}
+use Rattle.std.proofs.Common.{◌≡◌, ℕ, ◌<◌, Bool, true, false, List, [], ◌∷◌, ◌++◌, Option, Some, None, map, set, get_or, length, replicate, inl, inr, refl, ap, ◌∙◌, sym, arith}
+use Rattle.std.specs.Prelude.{◌==◌, ◌&&◌, ◌||◌, nat_lt}
+use Rattle.std.specs.List.{AllByRecursion, list_any, range_with_len}
 use Rattle.std.specs.Option.{MatchOption, option_map_or}
-use Rattle.std.proofs.lemmas.Bool.{and_from, and_left, cases_eq, cases_lt, eq-eqb, eqb-true, false_from_ne_true, false≢true, ne_eqb, or_right}
+use Rattle.std.proofs.lemmas.Bool.{and_from, and_left, cases_eq, cases_lt, eq-eqb, eqb-true, false_from_ne_true, false≢true, ltb-true, ne_eqb, or_right}
 use Rattle.std.proofs.lemmas.List.{get_or-set_other, get_or-set_same, get_or_past, length-set}
 use Rattle.std.proofs.lemmas.List.Folds.{list_any-append}
 use Rattle.std.proofs.lemmas.List.FromFn.{fill_by_all, get_or-map-range_with_len, length-map-range_with_len}
@@ -16,14 +16,14 @@ use Rattle.krb_audit.specs.Findings.{is_weak_among, weak_among}
 -- ---- all are below 27
 
 abbrev IsSmall : Etype → Type 0
-IsSmall e = e.number < 27
+IsSmall e = nat_lt e.number 27 ≡ true
 
 all_small : AllByRecursion IsSmall etype_table
 unfolding etype_table
-all_small = (arith, (arith, (arith, (arith, (arith, (arith, (arith, (arith, (arith, (arith, (arith, (arith, (arith, (arith, (arith, tt)))))))))))))))
+all_small = (refl, (refl, (refl, (refl, (refl, (refl, (refl, (refl, (refl, (refl, (refl, (refl, (refl, (refl, (refl, tt)))))))))))))))
 
 row_below : (n : ℕ) (o : Option Etype) → MatchOption o (Unit {0}) (λ e. IsSmall e × ((e.number == n) ≡ true)) → option_map_or (λ e. e.is_weak) o false ≡ true → n < 27
-row_below n (Some e) found h = let same : e.number ≡ n = eqb-true e.number n found.1 in let small : e.number < 27 = found.0 in omega (arith, same, small)
+row_below n (Some e) found h = let same : e.number ≡ n = eqb-true e.number n found.1 in let small : e.number < 27 = ltb-true e.number 27 found.0 in omega (arith, same, small)
 row_below n None found h = absurd (false≢true h)
 
 pub weak_below : (n : ℕ) → is_weak n ≡ true → n < 27
@@ -43,7 +43,7 @@ none_found = refl
 pub found_at : (xs : List PlacedEntry) (n : ℕ) → get_or (weak_among xs).found n false ≡ is_weak_among xs n
 unfolding weak_among
 found_at xs n = elim (cases_lt n 27) [
-  | inl lt ↦ get_or-map-range_with_len (is_weak_among xs) 0 27 n n false lt refl
+  | inl lt ↦ get_or-map-range_with_len (is_weak_among xs) 0 27 n n false lt (omega arith)
   | inr le ↦ get_or_past (map (is_weak_among xs) (range_with_len 0 27)) n false (omega (arith, le, length-map-range_with_len (is_weak_among xs) 0 27))
       ∙ sym (and_left (is_weak n) (has xs n) (false_from_ne_true (is_weak n) (λ h. omega (arith, le, weak_below n h))))
 ]

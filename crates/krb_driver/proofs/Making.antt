@@ -5,6 +5,7 @@ use Rattle.std.proofs.lemmas.Bool.{false≢true, true≢false}
 use Rattle.krb_files.specs.declared.files.LoadFault.TheVariants as load
 use Rattle.krb_files.specs.declared.files.Files.{Ghosts}
 use Rattle.krb_driver.specs.declared.error.RunError.{RunError}
+use Rattle.krb_driver.specs.declared.verdict.FileKind.{FileKind}
 use Rattle.krb_driver.specs.declared.file_name.FileName.{FileName}
 use Rattle.krb_driver.specs.declared.error.RunError.TheVariants as error
 use Rattle.krb_walk.specs.declared.refusal.Code.{Code}
@@ -107,29 +108,29 @@ pub opens-by : {F X : Type 0} (trait : Ghosts F) (old : F) (file : FileName) (gi
 opens-by trait old file gives (Ok x) new o = λ then_ effect end made. makes-opened file then_ trait old gives x effect new end o made
 opens-by trait old file gives (Err met) new o = λ then_. makes-failed file then_ trait old gives met.0 met.1 new o
 
-or-refused : {X : Type 0} (why : Code → RunError) (file : FileName) (k : X) (o : Option Code) → or_refused (λ code. (file.name.now, why code)) k o ≡ of_file file (or_refused why k o)
-or-refused why file k None = refl
-or-refused why file k (Some code) = refl
+or-refused : {X : Type 0} (kind : FileKind) (file : FileName) (k : X) (o : Option Code) → or_refused (λ code. (file.name.now, error.Refused kind code)) k o ≡ of_file file (or_refused (error.Refused kind) k o)
+or-refused kind file k None = refl
+or-refused kind file k (Some code) = refl
 
-of-refused : {X : Type 0} (why : Code → RunError) (refusal : X → Option Code) (file : FileName) (given : Result X RunError) → unless_refused (λ code. (file.name.now, why code)) refusal (of_file file given) ≡ of_file file (unless_refused why refusal given)
-of-refused why refusal file (Ok k) = or-refused why file k (refusal k)
-of-refused why refusal file (Err error) = refl
+of-refused : {X : Type 0} (kind : FileKind) (refusal : X → Option Code) (file : FileName) (given : Result X RunError) → unless_refused (λ code. (file.name.now, error.Refused kind code)) refusal (of_file file given) ≡ of_file file (unless_refused (error.Refused kind) refusal given)
+of-refused kind refusal file (Ok k) = or-refused kind file k (refusal k)
+of-refused kind refusal file (Err error) = refl
 
 -- something was given, unless it has a refusal
-pub gives-unless : {F X : Type 0} (trait : Ghosts F) (old : F) (file : FileName) (gives : Answer → Result X RunError) (why : Code → RunError) (refusal : X → Option Code) (given : Result X (List ℕ × RunError)) (new : F) → GivesOf trait old file gives given new
-    → GivesOf trait old file (λ answer. unless_refused why refusal (gives answer)) (unless_refused (λ code. (file.name.now, why code)) refusal given) new
-gives-unless trait old file gives why refusal given new (inl o) = inl (record {
+pub gives-unless : {F X : Type 0} (trait : Ghosts F) (old : F) (file : FileName) (gives : Answer → Result X RunError) (kind : FileKind) (refusal : X → Option Code) (given : Result X (List ℕ × RunError)) (new : F) → GivesOf trait old file gives given new
+    → GivesOf trait old file (λ answer. unless_refused (error.Refused kind) refusal (gives answer)) (unless_refused (λ code. (file.name.now, error.Refused kind code)) refusal given) new
+gives-unless trait old file gives kind refusal given new (inl o) = inl (record {
   answer = o.answer;
   loads = o.loads;
   given_is = elim o.given_is [
-    | inl spent ↦ inl (ap (unless_refused (λ code. (file.name.now, why code)) refusal) spent)
-    | inr is ↦ inr (ap (unless_refused (λ code. (file.name.now, why code)) refusal) is ∙ of-refused why refusal file (gives o.answer))
+    | inl spent ↦ inl (ap (unless_refused (λ code. (file.name.now, error.Refused kind code)) refusal) spent)
+    | inr is ↦ inr (ap (unless_refused (λ code. (file.name.now, error.Refused kind code)) refusal) is ∙ of-refused kind refusal file (gives o.answer))
   ];
-  failed = ap (unless_refused why refusal) o.failed;
-  spent = ap (unless_refused why refusal) o.spent;
+  failed = ap (unless_refused (error.Refused kind) refusal) o.failed;
+  spent = ap (unless_refused (error.Refused kind) refusal) o.spent;
   read = o.read;
 })
-gives-unless trait old file gives why refusal given new (inr o) = inr (o.0, o.1, ap (unless_refused (λ code. (file.name.now, why code)) refusal) o.2)
+gives-unless trait old file gives kind refusal given new (inr o) = inr (o.0, o.1, ap (unless_refused (λ code. (file.name.now, error.Refused kind code)) refusal) o.2)
 
 -- a file was held, or not
 pub makes_holds : {F : Type 0} (trait : Ghosts F) (old new : F) (held : Bool) (file : List ℕ) → HeldIf trait held file old new → HoldsIf trait old held file new

@@ -1,8 +1,10 @@
 -- A text on its way to the error output, piece by piece.
-use Rattle.std.proofs.Common.{◌≡◌, ℕ, ◌+◌, add-one, ◌<◌, List, [], ◌∷◌, ◌++◌, Option, sym, ap, ◌∙◌, append_assoc, append-nil, length, get_or, take, refl, subst}
+use Rattle.std.proofs.Common.{◌≡◌, ℕ, ◌+◌, add-one, ◌<◌, List, [], ◌∷◌, ◌++◌, Option, sym, ap, ◌∙◌, append_assoc, append-nil, arith, length, get_or, take, refl, subst}
 use Rattle.std.proofs.Math.Seq.{take-suc}
 use Rattle.std.proofs.lemmas.Grind.{flat_map-append}
-use Rattle.std.specs.List.{flat_map}
+use Rattle.std.proofs.lemmas.List.{map-id}
+use Rattle.std.proofs.lemmas.List.FromFn.{map-range_with_len_more}
+use Rattle.std.specs.List.{flat_map, range_with_len}
 use Rattle.std.specs.Prelude.{Result, Ok, Err, OnOk, OnErr, is_err, IsFalse}
 use Rattle.std.specs.Io.KnownBytes.{Appends}
 use Rattle.std.proofs.lemmas.Bool.{false≢true}
@@ -29,6 +31,15 @@ pub Adds-piece : {X : Type 0} (piece : X → List ℕ) (xs : List X) (i : ℕ) (
 Adds-piece piece xs i d a b c g h k lt p q =
     let whole = ap (λ n. flat_map piece (take n xs)) (add-one i) ∙ ap (flat_map piece) (take-suc xs i d lt) ∙ flat_map-append piece (take i xs) (get_or xs i d ∷ [])
     ∙ ap (λ l. flat_map piece (take i xs) ++ l) (append-nil (piece (get_or xs i d))) in
+    subst (Adds a g c k) (sym whole) (Adds-then a b c g h k _ _ p q)
+
+-- the piece of the next number was added
+pub Adds-number : (piece : ℕ → List ℕ) (n : ℕ) (a b c : Watch) (g h k : List ℕ)
+    → Adds a g b h (flat_map piece (range_with_len 0 n)) → Adds b h c k (piece n) → Adds a g c k (flat_map piece (range_with_len 0 (n + 1)))
+Adds-number piece n a b c g h k p q =
+    let next : range_with_len 0 (n + 1) ≡ range_with_len 0 n ++ n ∷ [] =
+      sym (map-id (range_with_len 0 (n + 1))) ∙ map-range_with_len_more (λ m. m) 0 n n (omega arith) ∙ ap (λ l. l ++ n ∷ []) (map-id (range_with_len 0 n)) in
+    let whole = ap (flat_map piece) next ∙ flat_map-append piece (range_with_len 0 n) (n ∷ []) ∙ ap (λ l. flat_map piece (range_with_len 0 n) ++ l) (append-nil (piece n)) in
     subst (Adds a g c k) (sym whole) (Adds-then a b c g h k _ _ p q)
 
 -- all that was gathered before was written

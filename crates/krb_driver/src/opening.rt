@@ -2,7 +2,6 @@
 
 ghost use Rattle.std.specs.Prelude.{◌≡◌, false, is_some};
 ghost use Rattle.krb_driver.specs.declared.error.RunError.TheVariants.{OtherType, Refused};
-ghost use Rattle.krb_driver.specs.declared.verdict.FileKind.TheVariants.{Cache, Keytab};
 ghost use Rattle.krb_driver.specs.Commands.{GivesOf, Opens, opened};
 ghost use Rattle.krb_driver.specs.Loading.{cache_of};
 ghost use Rattle.krb_driver.specs.Opening.{cache_refusal, fresh_in, keytab_in, keytab_or_empty, keytab_refusal, listed_in, unless_refused, whole_in, whole_or_empty, writable_in};
@@ -159,7 +158,7 @@ fn whole<'a, A: Allocator>(
     given: Result<Keytab<A>, FileError<'a>>,
 ) -> Result<Keytab<A>, FileError<'a>>
     ensures { opened (λ k. k.state) result
-        ≡ unless_refused (λ code. (file.entry.name.now, Refused Keytab code)) keytab_refusal (opened (λ k. k.state) given.entry) }
+        ≡ unless_refused (λ code. (file.entry.name.now, Refused FileKind.Keytab code)) keytab_refusal (opened (λ k. k.state) given.entry) }
 {
     match given {
         Ok(keytab) if keytab.fault().is_some() => Err(FileError {
@@ -224,7 +223,7 @@ fn writable<'a, A: Allocator>(
     given: Result<Ccache<A>, FileError<'a>>,
 ) -> Result<Ccache<A>, FileError<'a>>
     ensures { opened (λ k. k.state) result
-        ≡ unless_refused (λ code. (file.entry.name.now, Refused Cache code)) cache_refusal (opened (λ k. k.state) given.entry) }
+        ≡ unless_refused (λ code. (file.entry.name.now, Refused FileKind.Cache code)) cache_refusal (opened (λ k. k.state) given.entry) }
 {
     let cache = given?;
     let code = if cache.version() == Version::V3 {

@@ -1,6 +1,5 @@
 use Rattle.krb_driver.specs.Loading.{cache_of}
 use Rattle.krb_driver.specs.Opening.{cache_refusal, writable_in}
-use Rattle.krb_driver.specs.declared.error.RunError.TheVariants.{Refused}
 use Rattle.krb_driver.specs.declared.verdict.FileKind.TheVariants.{Cache}
 use Rattle.krb_driver.proofs.Making.{gives-unless, opens-by}
 use Rattle.krb_driver.proofs.opening.open_writable.Goals as goal
@@ -9,4 +8,4 @@ pub returns : goal.returns
 unfolding writable_in
 returns g c =
     let file = c.args.file in
-    rw c.writable.ensures (opens-by g.F.Files c.args.files.now file writable_in _ c.give_cache-given.new.files (gives-unless g.F.Files c.args.files.now file cache_of (Refused Cache) cache_refusal _ c.give_cache-given.new.files c.give_cache-given.ensures))
+    rw c.writable.ensures (opens-by g.F.Files c.args.files.now file writable_in _ c.give_cache-given.new.files (gives-unless g.F.Files c.args.files.now file cache_of Cache cache_refusal _ c.give_cache-given.new.files c.give_cache-given.ensures))
