@@ -60,7 +60,7 @@ def check(report: Report, program: str) -> None:
             got = typed(program, words, lines, folder, True)
             report.check(f"{words}, {lines!r}", [] if got.err.decode() == wanted else [f"{got}, not {wanted!r}"])
             silent = typed(program, words, lines, folder, False)
-            told = [f"{silent.err!r}"] if b": " in silent.err.replace(b"krbfile: line ", b"") else []
+            told = [each for each in (COMMAND, KEY_PROMPT, PASSWORD, SCRIPT) if each.encode() in silent.err]
             report.check(f"{words}, {lines!r}: no prompt in a pipe", told)
     with folder_of({}) as folder:
         typed(program, "ktutil", "wkt n\nq\n", folder, True)

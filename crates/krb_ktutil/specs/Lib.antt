@@ -10,3 +10,4 @@ pub mod KtutilPrompts
 pub mod KtutilTalk
 pub mod KtutilDue
 pub mod Ktutil
+pub mod Laws
