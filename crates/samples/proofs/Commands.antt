@@ -1,11 +1,12 @@
 -- What commands find, copy, remove and print. A command's output is a definition over what its files hold.
-use Rattle.std.specs.Prelude.{◌≡◌, ℕ, List, [], ◌++◌, codes, replicate, filter, Bool, true, false, Option, None, Some, Result, Ok, Err}
+use Rattle.std.specs.Prelude.{◌≡◌, ℕ, List, [], ◌∷◌, ◌++◌, codes, replicate, filter, Bool, true, false, Option, None, Some, Result, Ok, Err}
 use Rattle.std.specs.List.{flat_map}
 use Rattle.std.proofs.Common.{refl}
 use Rattle.krb_walk.specs.declared.refusal.Code.{Code}
 use Rattle.krb_walk.specs.declared.refusal.Code.TheVariants.{NotFound, KvnoNotFound}
 use Rattle.krb_keytab.specs.Find.{PlacedEntry, find_result, placed_entries}
 use Rattle.krb_keytab.specs.Store.{KeytabState, image_of}
+use Rattle.krb_ccache.specs.Store.{image_of as cache_image}
 use Rattle.krb_text.specs.declared.line_fault.LineFault.TheVariants.{BadKey}
 use Rattle.krb_text.specs.Found.{found_line, removed_line}
 use Rattle.krb_text.specs.Script.{event_in, script_by}
@@ -16,7 +17,12 @@ use Rattle.krb_audit.specs.Report.{report}
 use Rattle.krb_audit.specs.Selection.{has_selected_kvno}
 use Rattle.krb_copy.specs.Copying.{copy_run}
 use Rattle.krb_driver.specs.Loading.{result_map}
-use Rattle.samples.proofs.Given.{hex, keytab, cache, name, host, b, two, worked}
+use Rattle.krb_driver.specs.declared.verdict.Verdict.TheVariants.{Well}
+use Rattle.krb_driver.specs.Effects.{Saves, Displays}
+use Rattle.krb_readers.specs.TicketCheck.{has_ticket}
+use Rattle.krb_editors.specs.Ccremove.{cache_after}
+use Rattle.krb_editors.specs.Ktedit as ktedit
+use Rattle.samples.proofs.Given.{hex, keytab, cache, name, events, host, b, two, pa_type, worked}
 use Rattle.samples.proofs.Unfolded.{on_literals}
 
 -- ---- ktfind
@@ -161,8 +167,35 @@ json-cache : cache_json_text (codes "c") (cache worked)
 unfolding on_literals
 json-cache = refl
 
--- a name that is not UTF-8 is given in hexadecimal, a type without a name has none, and so is a fault
+-- a name that is not UTF-8 is given in hexadecimal; the name of an encryption type that has none is null
 json-odd : keytab_json_text (codes "k") true (keytab (hex (codes "05020000001700010001520001ff000000010000000001ffff00020aff00")))
     ≡ codes "{\"file\":\"k\",\"kind\":\"keytab\",\"version\":2,\"entries\":[{\"place\":2,\"principal_hex\":\"ff4052\",\"kvno\":1,\"etype\":65535,\"etype_name\":null,\"timestamp\":0,\"key_hex\":\"0aff\"}],\"fault\":{\"kind\":1,\"place\":29}}\n"
 unfolding on_literals
 json-odd = refl
+
+-- ---- klist -s
+
+-- a ticket is good until the second before its end
+silent : (has_ticket 1700035999 (cache worked) ≡ true) × (has_ticket 1700036000 (cache worked) ≡ false)
+unfolding on_literals
+silent = (refl, refl)
+
+-- ---- ktedit and ccremove
+
+-- what changes a keytab is saved, and then the lines are printed
+edit-saves : ktedit.edits (events (codes "cut 2\n")) (codes "k") (keytab two)
+    ≡ Saves (codes "k") (hex (codes "0502ffffffd1") ++ (replicate 47 0 ++ b)) (codes "gone 2\n") Well
+unfolding on_literals
+edit-saves = refl
+
+-- what changes nothing is not saved
+edit-displays : ktedit.edits (events (codes "start\nstep 0\n")) (codes "k") (keytab (hex (codes "0502")))
+    ≡ Displays (codes "k") (record { out = codes "walk 0 at 2\nwalk 0 end 2\n"; verdict = Well; takes = false })
+unfolding on_literals
+edit-displays = refl
+
+-- of a ticket that is removed nothing is left, nor of one that MIT marked before
+remove-ticket : cache_image (cache_after (cache worked) (40 ∷ []))
+    ≡ hex (codes "0504000c0001000800000005fffffff6000000010000000100000001520000000175") ++ pa_type
+unfolding on_literals
+remove-ticket = refl

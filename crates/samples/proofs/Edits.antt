@@ -1,5 +1,5 @@
 -- Changes of keytabs and caches, and walks over them while they change.
-use Rattle.std.specs.Prelude.{◌≡◌, [], ◌∷◌, ◌++◌, codes, replicate, None, Some, option_map, Ok, true}
+use Rattle.std.specs.Prelude.{◌≡◌, [], ◌∷◌, ◌++◌, codes, replicate, map, Some, None, option_map, Ok, true, false}
 use Rattle.std.specs.Result.{result_map_both, result_ok}
 use Rattle.std.proofs.Common.{refl}
 use Rattle.krb_wire.specs.declared.format.Order.TheVariants.{Little}
@@ -53,8 +53,9 @@ damaged : printed (two ++ (hex (codes "0000"))) (codes "add 3 17 1700000000 1011
 unfolding on_literals
 damaged = refl
 
--- an addition that no hole takes is refused where the image would be longer than the limit
-full : option_map (λ k. is_refused (put_result k (record { principal = name (codes "b@R"); timestamp = 0; version = 1; enctype = 17; key = replicate 16 0 }))) (result_ok (open_result Little 98 two)) ≡ Some true
+-- an addition is refused if the image would be longer than the limit, and not if it would be as long
+full : map (λ limit. option_map (λ k. is_refused (put_result k (record { principal = name (codes "b@R"); timestamp = 0; version = 1; enctype = 17; key = replicate 16 0 }))) (result_ok (open_result Little limit (hex (codes "0502") ++ host)))) (97 ∷ 98 ∷ [])
+    ≡ Some true ∷ Some false ∷ []
 unfolding on_literals
 full = refl
 
