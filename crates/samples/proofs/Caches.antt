@@ -1,8 +1,10 @@
 -- Credential caches: what their bytes hold, and their listings. Hexadecimal digits are as `xxd -p` prints them.
-use Rattle.std.specs.Prelude.{◌≡◌, ◌++◌, codes, None, Some, Ok, Err, pos, negsuc}
+use Rattle.std.specs.Prelude.{◌≡◌, ◌++◌, codes, None, Some, Ok, Err, pos, negsuc, option_map}
 use Rattle.std.proofs.Common.{refl}
 use Rattle.krb_ccache.specs.declared.open.CcOpenFault.TheVariants.{BadVersion, BadHeader, BadDefault}
+use Rattle.krb_ccache.specs.declared.version.Version.TheVariants.{V3}
 use Rattle.krb_ccache.specs.Config.{config_of}
+use Rattle.krb_ccache.specs.Credential.{credential_at}
 use Rattle.krb_ccache.specs.Header.{offset_in}
 use Rattle.krb_ccache.specs.Store.{open_result}
 use Rattle.krb_files.specs.Loading.{most_bytes}
@@ -24,9 +26,9 @@ worked-details : cache_listed details (codes "c") worked
 unfolding on_literals
 worked-details i = Ok (codes "Ticket cache: FILE:c\nDefault principal: u@R\n\nValid starting       Expires              Service principal\n" ++ (time-1700000000 i ++ (codes " " ++ (time-1700036000 i ++ codes " krbtgt/R@R\n    Flags: FRIA\n    Etype: aes128-cts-hmac-sha1-96\nconfig: pa_type(krbtgt/R@R) = 2\n"))))
 
--- bytes that do not print are escaped in a value, and a backslash is doubled
-value-escaped : cache_listed details (codes "c") (hex (codes "0504000000000001000000010000000152000000017500000001000000010000000152000000017500000001000000020000000c582d4341434845434f4e463a000000156b7262355f6363616368655f636f6e665f64617461000000016b000000000000000000000000000000000000000000000000000000000000000000000000000005615c200aff00000000"))
-    ≡ Ok (codes "Ticket cache: FILE:c\nDefault principal: u@R\n\nValid starting       Expires              Service principal\nconfig: k = a\\\\ \\x0a\\xff\n")
+-- bytes other than 20 to 7e are escaped in a value, and a backslash is doubled
+value-escaped : cache_listed details (codes "c") (hex (codes "0504000000000001000000010000000152000000017500000001000000010000000152000000017500000001000000020000000c582d4341434845434f4e463a000000156b7262355f6363616368655f636f6e665f64617461000000016b000000000000000000000000000000000000000000000000000000000000000000000000000007615c200a7e7fff00000000"))
+    ≡ Ok (codes "Ticket cache: FILE:c\nDefault principal: u@R\n\nValid starting       Expires              Service principal\nconfig: k = a\\\\ \\x0a~\\x7f\\xff\n")
 unfolding on_literals
 value-escaped = refl
 
@@ -44,11 +46,21 @@ offset : offset_in (cache worked).header
 unfolding on_literals
 offset = refl
 
+-- of several the first counts that has the length 8
+offset-first : offset_in (cache (hex (codes "0504002000010004000000010001000800000005fffffff6000100080000000000000000000000010000000100000001520000000175"))).header ≡ Some (record { seconds = pos 5; micros = negsuc 9 })
+unfolding on_literals
+offset-first = refl
+
 -- a cache of version 3 has no header
 version-3 : cache_listed tickets (codes "c") (hex (codes "0503000000010000000100000001520000000175"))
     ≡ Ok (codes "Ticket cache: FILE:c\nDefault principal: u@R\n\nValid starting       Expires              Service principal\n")
 unfolding on_literals
 version-3 = refl
+
+-- and writes the encryption type of a key twice, of which the first counts
+version-3-key : option_map (λ c. c.0.key.enctype) (credential_at V3 (hex (codes "000000010000000100000001520000000175000000010000000100000001520000000175001100170000000000000000000000000000000000000000000000000000000000000000000000000000000000"))) ≡ Some 17
+unfolding on_literals
+version-3-key = refl
 
 -- ---- configuration values
 

@@ -1,5 +1,5 @@
 -- What commands find, copy, remove and print. A command's output is a definition over what its files hold.
-use Rattle.std.specs.Prelude.{◌≡◌, ℕ, List, [], ◌∷◌, ◌++◌, codes, replicate, filter, Bool, true, false, Option, None, Some, Result, Ok, Err}
+use Rattle.std.specs.Prelude.{◌≡◌, ℕ, List, [], ◌∷◌, ◌++◌, codes, length, replicate, map, filter, Bool, true, false, Option, None, Some, Result, Ok, Err}
 use Rattle.std.specs.List.{flat_map}
 use Rattle.std.proofs.Common.{refl}
 use Rattle.krb_walk.specs.declared.refusal.Code.{Code}
@@ -12,9 +12,11 @@ use Rattle.krb_text.specs.Found.{found_line, removed_line}
 use Rattle.krb_text.specs.Script.{event_in, script_by}
 use Rattle.krb_json.specs.Cache.{cache_json_text}
 use Rattle.krb_json.specs.Keytab.{keytab_json_text}
-use Rattle.krb_audit.specs.declared.selection.SelectedKvno.TheVariants.{Old}
+use Rattle.krb_audit.specs.declared.selection.SelectedKvno.TheVariants.{Old, OldFor}
+use Rattle.krb_audit.specs.Findings.{is_out}
+use Rattle.krb_audit.specs.Newest.{has_wrapped}
 use Rattle.krb_audit.specs.Report.{report}
-use Rattle.krb_audit.specs.Selection.{has_selected_kvno}
+use Rattle.krb_audit.specs.Selection.{has_selected_kvno, is_young}
 use Rattle.krb_copy.specs.Copying.{copy_run}
 use Rattle.krb_driver.specs.Loading.{result_map}
 use Rattle.krb_driver.specs.declared.verdict.Verdict.TheVariants.{Well}
@@ -95,17 +97,32 @@ check-hidden : checked None (hex (codes "05020000002e000300015200016100000001620
 unfolding on_literals
 check-hidden = refl
 
+-- they read counts and lengths as signed numbers of 16 bits, and take none of 0
+check-out : map is_out (0 ∷ 1 ∷ 32767 ∷ 32768 ∷ []) ≡ true ∷ false ∷ false ∷ true ∷ []
+unfolding on_literals
+check-out = refl
+
 -- of the versions 255 and 1 the second is the newer: a version of 8 bits has begun again
 check-wrapped : checked None (hex (codes "0502000000290001000152000162000000016553f100ff00110010000102030405060708090a0b0c0d0e0f000000ff000000290001000152000162000000016553f10001001100100102030405060708090a0b0c0d0e0f1000000001"))
     ≡ codes "old 2 kvno 255 etype 17 b@R\nentries 2 free 0 holes 0\n"
 unfolding on_literals
 check-wrapped = refl
 
+-- which it has between a version below 128 and one above 240
+check-wraps : (has_wrapped 127 241 ≡ true) × (has_wrapped 128 241 ≡ false) × (has_wrapped 127 240 ≡ false)
+unfolding on_literals
+check-wraps = (refl, refl, refl)
+
 -- a mode that lets others in, holes, and a fault
 check-mode : checked (Some 0o100644) (hex (codes "0502ffffffd1") ++ (replicate 47 0 ++ (b ++ (hex (codes "0000")))))
     ≡ codes "mode 644\nfault 1 at 98\nentries 1 free 47 holes 1\n"
 unfolding on_literals
 check-mode = refl
+
+-- of a mode the twelve low bits are printed, in octal
+check-mode-bits : checked (Some 0o104666) (hex (codes "0502")) ≡ codes "mode 4666\nentries 0 free 0 holes 0\n"
+unfolding on_literals
+check-mode-bits = refl
 
 -- ---- ktremove
 
@@ -118,6 +135,16 @@ remove-old : flat_map removed_line (old (keytab three))
     ≡ codes "removed 2 kvno 3 etype 17 host/a@R\n"
 unfolding on_literals
 remove-old = refl
+
+-- with an age, only of names whose newest entries are all that old
+remove-old-age : map (λ now. length (filter (λ x. has_selected_kvno (OldFor 60) now (placed_entries (keytab three)) x.1) (placed_entries (keytab three)))) (1700000059 ∷ 1700000060 ∷ []) ≡ 0 ∷ 1 ∷ []
+unfolding on_literals
+remove-old-age = refl
+
+-- an entry without a time may be young
+remove-old-time : is_young 1700000000 60 (record { principal = name (codes "b@R"); timestamp = 0; version = 1; enctype = 17; key = [] }) ≡ true
+unfolding on_literals
+remove-old-time = refl
 
 -- ---- ktcopy
 

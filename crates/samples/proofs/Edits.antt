@@ -4,8 +4,9 @@ use Rattle.std.specs.Result.{result_map_both, result_ok}
 use Rattle.std.proofs.Common.{refl}
 use Rattle.krb_wire.specs.declared.format.Order.TheVariants.{Little}
 use Rattle.krb_walk.specs.declared.event.Event.TheVariants.{Cut, Rewrite}
-use Rattle.krb_walk.specs.declared.refusal.Code.TheVariants.{ReadOnly}
-use Rattle.krb_walk.specs.ReplyContent.{Refused, Rewritten}
+use Rattle.krb_walk.specs.declared.refusal.Code.TheVariants.{TooManyWalks, ReadOnly}
+use Rattle.krb_walk.specs.Events.{start_reply}
+use Rattle.krb_walk.specs.ReplyContent.{Started, Refused, Rewritten}
 use Rattle.krb_keytab.specs.Changes.{put_result, is_refused}
 use Rattle.krb_keytab.specs.Store.{open_result}
 use Rattle.krb_ccache.specs.Changes.{create_result}
@@ -104,6 +105,11 @@ faulted : printed (two ++ (hex (codes "0000"))) (codes "resume 98\nstep 0\nstep 
     ≡ codes "walk 0 at 98\nwalk 0 fault 1 at 98\nwalk 0 fault 1 at 98\n"
 unfolding on_literals
 faulted = refl
+
+-- there are 1,024 walks at most
+walks : (start_reply (replicate 1023 2) 2 ≡ Started 1023 2) × (start_reply (replicate 1024 2) 2 ≡ Refused TooManyWalks)
+unfolding on_literals
+walks = (refl, refl)
 
 -- ---- rewrites of a keytab
 

@@ -1,5 +1,6 @@
 -- Names, encryption types, flags and times as text.
 use Rattle.std.specs.Prelude.{◌≡◌, [], ◌∷◌, codes, None, Some, Ok, Err, true, false}
+use Rattle.std.specs.List.{filter_map}
 use Rattle.std.proofs.Common.{refl}
 use Rattle.krb_wire.specs.declared.name_fault.NameFault.TheVariants.{NoRealm, LoneBackslash, SecondAt, SlashInRealm}
 use Rattle.krb_wire.specs.NameOf.{name_of}
@@ -73,10 +74,11 @@ etype-number : etype_text_of 65535 ≡ codes "etype 65535"
 unfolding on_literals
 etype-number = refl
 
--- the size of its keys in bytes (RFC 3962)
-key-size : (key_size_of 17 ≡ Some 16) × (key_size_of 18 ≡ Some 32)
+-- the size of its keys in bytes (RFC 3961, 3962, 8009, 4757, 6803)
+key-size : filter_map key_size_of (16 ∷ 17 ∷ 18 ∷ 19 ∷ 20 ∷ 23 ∷ 25 ∷ 26 ∷ [])
+    ≡ 24 ∷ 16 ∷ 32 ∷ 16 ∷ 32 ∷ 16 ∷ 16 ∷ 32 ∷ []
 unfolding on_literals
-key-size = (refl, refl)
+key-size = refl
 
 -- MIT calls triple DES and RC4 deprecated
 weak : (is_weak 16 ≡ true) × (is_weak 23 ≡ true) × (is_weak 18 ≡ false)
