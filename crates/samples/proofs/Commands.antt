@@ -85,9 +85,9 @@ check-clash : checked None (two ++ (hex (codes "00000029000100015200016200000001
 unfolding on_literals
 check-clash = refl
 
--- an entry that is weak, has a twin and is old has a line for each, in this order
-check-order : checked None (hex (codes "0502000000290001000152000162000000016553f1000300170010000102030405060708090a0b0c0d0e0f00000003000000290001000152000162000000016553f1000300170010000102030405060708090a0b0c0d0e0f00000003000000290001000152000162000000016553f1000400110010000102030405060708090a0b0c0d0e0f00000004"))
-    ≡ codes "weak 2 kvno 3 etype 23 b@R\nold 2 kvno 3 etype 23 b@R\nweak 47 kvno 3 etype 23 b@R\nsame 47 2 kvno 3 etype 23 b@R\nold 47 kvno 3 etype 23 b@R\nentries 3 free 0 holes 0\n"
+-- what is found about an entry has a line each, in this order; here the second one also has an empty key
+check-order : checked None (hex (codes "0502000000290001000152000162000000016553f1000300170010000102030405060708090a0b0c0d0e0f00000003000000190001000152000162000000016553f100030017000000000003000000290001000152000162000000016553f1000400110010000102030405060708090a0b0c0d0e0f00000004"))
+    ≡ codes "weak 2 kvno 3 etype 23 b@R\nold 2 kvno 3 etype 23 b@R\nweak 47 kvno 3 etype 23 b@R\nhidden 47 kvno 3 etype 23 b@R\nclash 47 2 kvno 3 etype 23 b@R\nold 47 kvno 3 etype 23 b@R\nentries 3 free 0 holes 0\n"
 unfolding on_literals
 check-order = refl
 
