@@ -6,25 +6,21 @@ from dataclasses import dataclass
 
 # Names that a module may import, by the module that they come from.
 IMPORTS = {
-    "Rattle.std.specs.Prelude": ("◌≡◌", "ℕ", "List", "[]", "◌∷◌", "◌++◌", "codes", "length", "map", "filter", "get_or",
-                                 "Option", "None", "Some", "true", "false", "Result", "Ok", "Err"),
+    "Rattle.std.specs.Prelude": ("◌≡◌", "ℕ", "List", "[]", "◌∷◌", "◌++◌", "codes", "length", "map", "get_or", "None",
+                                 "Some", "true", "false", "Ok", "Err"),
     "Rattle.std.proofs.Common": ("refl",),
     "Rattle.krb_walk.specs.declared.event.Event.TheVariants": ("Cut", "Rewrite"),
-    "Rattle.krb_walk.specs.declared.refusal.Code": ("Code",),
     "Rattle.krb_walk.specs.declared.refusal.Code.TheVariants": ("NotFound", "KvnoNotFound"),
     "Rattle.krb_keytab.specs.Changes": ("without",),
-    "Rattle.krb_keytab.specs.Find": ("PlacedEntry", "find_result", "placed_entries"),
+    "Rattle.krb_keytab.specs.Find": ("PlacedEntry",),
     "Rattle.krb_keytab.specs.Store": ("image_of",),
     "Rattle.krb_ccache.specs.declared.open.CcOpenFault.TheVariants": ("BadVersion",),
     "Rattle.krb_ccache.specs.SetConfig": ("SettingParts", "setting_events"),
     "Rattle.krb_text.specs.Calendar": ("day_number", "day_text", "next_day", "time_text_of"),
     "Rattle.krb_text.specs.Found": ("found_line",),
-    "Rattle.krb_cache_text.specs.declared.columns.CcColumns": ("CcColumns",),
-    "Rattle.krb_audit.specs.declared.selection.SelectedKvno.TheVariants": ("Old",),
-    "Rattle.krb_audit.specs.Selection": ("has_selected_kvno",),
     "Rattle.krb_driver.specs.Loading": ("result_map",),
-    "Rattle.samples.proofs.Given": ("hex", "keytab", "cache", "name", "listed", "cache_listed", "plain", "all", "tickets",
-                                    "details", "left", "printed", "cache_left"),
+    "Rattle.samples.proofs.Given": ("hex", "keytab", "cache", "found", "old", "listed", "cache_listed", "plain", "all",
+                                    "tickets", "details", "left", "printed", "cache_left"),
     "Rattle.samples.proofs.Unfolded": ("on_literals",),
 }
 TIME = re.compile(rb"(\d{4}-\d\d-\d\dT\d\d:\d\d:\d\dZ)")
@@ -55,9 +51,9 @@ def seconds(moment: bytes) -> int:
     return int((datetime.datetime.fromisoformat(moment.decode().rstrip("Z")) - EPOCH).total_seconds())
 
 
-def theorem(comment: str, name: str, sides: tuple[str, str], proof: str = "refl") -> str:
+def theorem(comment: str, name: str, left: str, right: str, proof: str = "refl") -> str:
     """Returns a theorem that two sides are equal."""
-    return f"-- {comment}\n{name} : {sides[0]}\n    ≡ {sides[1]}\nunfolding on_literals\n{name} = {proof}\n"
+    return f"-- {comment}\n{name} : {left}\n    ≡ {right}\nunfolding on_literals\n{name} = {proof}\n"
 
 
 def proof_of_listing(listing: bytes) -> str:
@@ -71,15 +67,15 @@ def proof_of_listing(listing: bytes) -> str:
 
 def theorem_of_listing(comment: str, name: str, listed: str, listing: bytes) -> str:
     """Returns the theorem that a file is listed so."""
-    return theorem(comment, name, (listed, f"Ok ({text(listing)})"), proof_of_listing(listing))
+    return theorem(comment, name, listed, f"Ok ({text(listing)})", proof_of_listing(listing))
 
 
 def day_theorem(number: int, is_next: bool) -> str:
     """Returns the theorem of the date of a day, perhaps from that of the day before."""
     day = EPOCH + datetime.timedelta(number)
     proof = f"day-{number} i = next_day (day-{number - 1} i)" if is_next else f"day-{number} = refl"
-    return (f"day-{number} : day_number {number} ≡ record {{ year = {day.year}; month = {day.month}; day = {day.day} }}\n"
-            f"unfolding day_number\n{proof}\n")
+    date = f"record {{ year = {day.year}; month = {day.month}; day = {day.day} }}"
+    return f"day-{number} : day_number {number} ≡ {date}\nunfolding day_number\n{proof}\n"
 
 
 def time_theorem(moment: bytes) -> str:

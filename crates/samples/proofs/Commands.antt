@@ -4,15 +4,15 @@ use Rattle.std.specs.List.{flat_map}
 use Rattle.std.proofs.Common.{refl}
 use Rattle.krb_walk.specs.declared.refusal.Code.{Code}
 use Rattle.krb_walk.specs.declared.refusal.Code.TheVariants.{NotFound, KvnoNotFound}
-use Rattle.krb_keytab.specs.Find.{PlacedEntry, find_result, placed_entries}
-use Rattle.krb_keytab.specs.Store.{KeytabState, image_of}
+use Rattle.krb_keytab.specs.Find.{placed_entries}
+use Rattle.krb_keytab.specs.Store.{image_of}
 use Rattle.krb_ccache.specs.Store.{image_of as cache_image}
 use Rattle.krb_text.specs.declared.line_fault.LineFault.TheVariants.{BadKey}
 use Rattle.krb_text.specs.Found.{found_line, removed_line}
 use Rattle.krb_text.specs.Script.{event_in, script_by}
 use Rattle.krb_json.specs.Cache.{cache_json_text}
 use Rattle.krb_json.specs.Keytab.{keytab_json_text}
-use Rattle.krb_audit.specs.declared.selection.SelectedKvno.TheVariants.{Old, OldFor}
+use Rattle.krb_audit.specs.declared.selection.SelectedKvno.TheVariants.{OldFor}
 use Rattle.krb_audit.specs.Findings.{is_out}
 use Rattle.krb_audit.specs.Newest.{has_wrapped}
 use Rattle.krb_audit.specs.Report.{report}
@@ -24,7 +24,7 @@ use Rattle.krb_driver.specs.Effects.{Saves, Displays}
 use Rattle.krb_readers.specs.TicketCheck.{has_ticket}
 use Rattle.krb_editors.specs.Ccremove.{cache_after}
 use Rattle.krb_editors.specs.Ktedit as ktedit
-use Rattle.samples.proofs.Given.{hex, keytab, cache, name, events, host, b, two, pa_type, worked}
+use Rattle.samples.proofs.Given.{hex, keytab, cache, name, found, old, events, host, b, two, pa_type, worked}
 use Rattle.samples.proofs.Unfolded.{on_literals}
 
 -- ---- ktfind
@@ -33,36 +33,36 @@ use Rattle.samples.proofs.Unfolded.{on_literals}
 abbrev three : List ℕ
 three = hex (codes "0502") ++ (host ++ (hex (codes "0000003f00020001520004686f7374000161000000016553f1000500120020000102030405060708090a0b0c0d0e0f101112131415161718191a1b1c1d1e1f000000050000002f00020001520004686f7374000161000000016553f1000500110010000102030405060708090a0b0c0d0e0f00000005")))
 
--- the line that a look-up prints, or why there is none; version 0 asks for the highest, encryption type 0 for any
-abbrev found : List ℕ → List ℕ → ℕ → ℕ → Result (List ℕ) Code
-found image text kvno etype = result_map found_line (find_result (keytab image) (name text) kvno etype)
+-- the line that a look-up prints, or why there is none
+abbrev found_text : List ℕ → List ℕ → ℕ → ℕ → Result (List ℕ) Code
+found_text image text kvno etype = result_map found_line (found image text kvno etype)
 
 -- the highest version is found, and of several entries the first
-found-highest : found three (codes "host/a@R") 0 0
+found-highest : found_text three (codes "host/a@R") 0 0
     ≡ Ok (codes "found 53 kvno 5 etype 18 host/a@R\n")
 unfolding on_literals
 found-highest = refl
 
 -- of an encryption type, its own highest
-found-etype : found three (codes "host/a@R") 0 17
+found-etype : found_text three (codes "host/a@R") 0 17
     ≡ Ok (codes "found 120 kvno 5 etype 17 host/a@R\n")
 unfolding on_literals
 found-etype = refl
 
 -- a version that is asked for
-found-version : found three (codes "host/a@R") 3 0
+found-version : found_text three (codes "host/a@R") 3 0
     ≡ Ok (codes "found 2 kvno 3 etype 17 host/a@R\n")
 unfolding on_literals
 found-version = refl
 
 -- an entry of the name and the type, but none of the version
-found-no-version : found three (codes "host/a@R") 4 0
+found-no-version : found_text three (codes "host/a@R") 4 0
     ≡ Err KvnoNotFound
 unfolding on_literals
 found-no-version = refl
 
 -- none of the name and the type
-found-none : found three (codes "host/a@R") 0 23
+found-none : found_text three (codes "host/a@R") 0 23
     ≡ Err NotFound
 unfolding on_literals
 found-none = refl
@@ -125,10 +125,6 @@ unfolding on_literals
 check-mode-bits = refl
 
 -- ---- ktremove
-
--- the entries of a keytab that -k old selects
-abbrev old : KeytabState → List PlacedEntry
-old k = filter (λ x. has_selected_kvno Old 0 (placed_entries k) x.1) (placed_entries k)
 
 -- all but the newest version of a name are old
 remove-old : flat_map removed_line (old (keytab three))

@@ -1,6 +1,6 @@
 -- What the samples are over: bytes as hexadecimal digits, the worked keytab and cache of docs/FORMATS.md, and the keytab
 -- or the cache in an image.
-use Rattle.std.specs.Prelude.{ℕ, ◌+◌, ◌-◌, ◌*◌, List, [], ◌∷◌, ◌++◌, codes, nat_lt, if◌then◌else◌, Result, None, true, false}
+use Rattle.std.specs.Prelude.{ℕ, ◌+◌, ◌-◌, ◌*◌, List, [], ◌∷◌, ◌++◌, codes, filter, nat_lt, if◌then◌else◌, Result, None, true, false}
 use Rattle.std.specs.List.{flat_map}
 use Rattle.std.specs.Result.{result_unwrap_or}
 use Rattle.krb_wire.specs.declared.format.Order.TheVariants.{Little}
@@ -8,11 +8,13 @@ use Rattle.krb_wire.specs.declared.format.KtFormat.TheVariants.{V2}
 use Rattle.krb_wire.specs.NameOf.{name_of}
 use Rattle.krb_wire.specs.Spelling.{Parts}
 use Rattle.krb_walk.specs.declared.event.Event.{Event}
+use Rattle.krb_walk.specs.declared.refusal.Code.{Code}
 use Rattle.krb_walk.specs.Events.{SessionState}
 use Rattle.krb_walk.specs.History.{history, replies, state_after}
 use Rattle.krb_walk.specs.ReplyContent.{ReplyContent}
 use Rattle.krb_keytab.specs.declared.open.KtOpenFault.{KtOpenFault}
 use Rattle.krb_keytab.specs.Entry.{EntryParts}
+use Rattle.krb_keytab.specs.Find.{PlacedEntry, find_result, placed_entries}
 use Rattle.krb_keytab.specs.Placed.{keytab_rules}
 use Rattle.krb_keytab.specs.Store.{KeytabState, open_result, image_of, empty}
 use Rattle.krb_ccache.specs.declared.open.CcOpenFault.{CcOpenFault}
@@ -27,6 +29,8 @@ use Rattle.krb_text.specs.Reply.{reply_text}
 use Rattle.krb_text.specs.Script.{event_in, script_by}
 use Rattle.krb_cache_text.specs.declared.columns.CcColumns.{CcColumns}
 use Rattle.krb_cache_text.specs.Listing.{cache_text}
+use Rattle.krb_audit.specs.declared.selection.SelectedKvno.TheVariants.{Old}
+use Rattle.krb_audit.specs.Selection.{has_selected_kvno}
 use Rattle.krb_driver.specs.Loading.{result_map}
 
 -- ---- bytes
@@ -58,6 +62,16 @@ cache image = result_unwrap_or (cache_result most_bytes image) (empty_cache nobo
 -- the name of a text with a realm, `nobody` if it has a fault
 abbrev pub name : List ℕ → Parts
 name text = result_unwrap_or (name_of text None) nobody
+
+-- ---- entries
+
+-- the entry of a name with a version and an encryption type, 0 for any, or why there is none
+abbrev pub found : List ℕ → List ℕ → ℕ → ℕ → Result PlacedEntry Code
+found image text kvno etype = find_result (keytab image) (name text) kvno etype
+
+-- the entries of a keytab that `-k old` selects
+abbrev pub old : KeytabState → List PlacedEntry
+old k = filter (λ x. has_selected_kvno Old 0 (placed_entries k) x.1) (placed_entries k)
 
 -- ---- listings
 

@@ -1,0 +1,77 @@
+"""Theorems of changes: the definitions leave the bytes that other programs left of files in `corpus`."""
+
+from peers.corpus import given
+from theorems.antt import Module, bytes_of_digits, identifier, text, theorem
+from theorems.corpus_files import cases, file_of, writers
+
+# Files that are as their writers left them, without holes. Written anew, each has the same bytes.
+WRITTEN = {
+    "keytab": ("empty-v2", "gokrb5-new", "ktadd-all-etypes", "ktadd-basic", "ktadd-kvno-history", "ktadd-kvno300",
+               "ktadd-two-princs", "ktutil-key", "ktutil-kvno-edge", "mit-t_keytab-c", "name-at", "name-slash",
+               "name-tabnl", "name-utf8"),
+    "ccache": ("copied", "kinit", "kinit-addresses", "kinit-fast", "kinit-forwardable", "kinit-offset-faketime",
+               "kinit-renewable", "kinit-service", "lib-authdata-addrs", "lib-config-values", "lib-removed-before",
+               "mit-t_marshal-v4", "u2u"),
+}
+REWRITE = {"keytab": 'left {} (codes "rewrite\\n")', "ccache": "cache_left {} (Rewrite ∷ [])"}
+
+# What MIT's krb5_cc_set_config was given, in turn, to write lib-config-values: key, principal and value. It began with
+# a new cache of u@R.
+SETTINGS = (
+    (b"k", None, b""),
+    (b"sp", None, b"a b"),
+    (b"nl", None, b"x\ny\x7f\xc3\xbc\\z"),
+    (b"long", None, b"v" * 200),
+    (b"odd=key(x)", b"a/b@R", b"1"),
+)
+NEW_CACHE = bytes.fromhex("05040000" "000000010000000100000001520000000175")
+
+SET = """-- the image after a configuration value is set in the cache of an image
+abbrev set : List ℕ → SettingParts → List ℕ
+set image setting = cache_left image (setting_events (cache image) setting)
+"""
+MARKED = theorem("MIT krb5_cc_remove_cred left the same bytes", "cache-removal",
+                 f"cache_left {file_of('lib-removed-before')} (Cut 120 ∷ [])", file_of("lib-removed"))
+OLD = theorem("what -k old selects: MIT kadmin ktremove old left the same bytes", "old-removal",
+              f"image_of (without (keytab {file_of('ktadd-kvno-history')}) "
+              f"(map (λ x. x.0) (old (keytab {file_of('ktadd-kvno-history')}))))", file_of("ktremove-old"))
+
+
+def setting(key: bytes, principal: bytes | None, value: bytes) -> str:
+    """Returns a configuration value with its name."""
+    about = "None" if principal is None else f"Some ({text(principal)})"
+    return f"record {{ key = {text(key)}; principal = {about}; value = {text(value)} }}"
+
+
+def settings() -> str:
+    """Returns the theorem of configuration values that are set one after the other."""
+    image = bytes_of_digits(NEW_CACHE)
+    for words in SETTINGS:
+        image = f"set ({image}) ({setting(*words)})"
+    return theorem("MIT krb5_cc_set_config, of five values in turn, left the same bytes", "settings",
+                   image, file_of("lib-config-values"))
+
+
+def edit(number: int, case: dict) -> list[str]:
+    """Returns the theorems of a script over a keytab: the bytes that it leaves, and its lines."""
+    before, script, after = case["copy"][0], case["stdin"].encode(), case["result_file"]["k"]
+    is_file = isinstance(after, str)
+    comment = f"{writers()[after]} left the same bytes" if is_file else f"krbfile alone: {case['note']}"
+    image = file_of(after) if is_file else bytes_of_digits(given(after))
+    words = f"{file_of(before)} ({text(script)})"
+    return [theorem(comment, f"edit-{number}", f"left {words}", image),
+            theorem("and krbfile's lines", f"lines-{number}", f"printed {words}", text(given(case["stdout"])))]
+
+
+def rewritten(kind: str, name: str) -> str:
+    """Returns the theorem that a file has the same bytes when it is written anew."""
+    return theorem(f"{writers()[name]}: written anew it has the same bytes", f"{identifier(name)}-written",
+                   REWRITE[kind].format(file_of(name)), file_of(name))
+
+
+def changes() -> Module:
+    """Returns the theorems of all changes."""
+    items = [it for number, case in enumerate(cases("ktedit")) for it in edit(number, case)]
+    items += [rewritten(kind, name) for kind, names in WRITTEN.items() for name in names]
+    return Module("Changes", "Changes of files that other programs wrote, and the bytes that those programs left.",
+                  (*items, OLD, MARKED, SET, settings()))
