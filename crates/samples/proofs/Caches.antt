@@ -46,7 +46,7 @@ offset : offset_in (cache worked).header
 unfolding on_literals
 offset = refl
 
--- of several the first counts that has the length 8
+-- of several fields of tag 1 the first with length 8 counts
 offset-first : offset_in (cache (hex (codes "0504002000010004000000010001000800000005fffffff6000100080000000000000000000000010000000100000001520000000175"))).header ≡ Some (record { seconds = pos 5; micros = negsuc 9 })
 unfolding on_literals
 offset-first = refl
@@ -57,7 +57,7 @@ version-3 : cache_listed tickets (codes "c") (hex (codes "0503000000010000000100
 unfolding on_literals
 version-3 = refl
 
--- and writes the encryption type of a key twice, of which the first counts
+-- a cache of version 3 has the encryption type of a key twice, and the first counts
 version-3-key : option_map (λ c. c.0.key.enctype) (credential_at V3 (hex (codes "000000010000000100000001520000000175000000010000000100000001520000000175001100170000000000000000000000000000000000000000000000000000000000000000000000000000000000"))) ≡ Some 17
 unfolding on_literals
 version-3-key = refl
@@ -70,7 +70,7 @@ value : config_of (cache worked) (codes "pa_type") (Some (codes "krbtgt/R@R"))
 unfolding on_literals
 value = refl
 
--- and not by its key alone
+-- the value for a principal is not found by its key alone
 value-none : config_of (cache worked) (codes "pa_type") None
     ≡ None
 unfolding on_literals
@@ -78,25 +78,25 @@ value-none = refl
 
 -- ---- what is no cache
 
--- versions 1 and 2, and keytabs
+-- versions 1 and 2 are refused, and so are keytabs
 bad-version : open_result most_bytes (hex (codes "0502"))
     ≡ Err BadVersion
 unfolding on_literals
 bad-version = refl
 
--- a header that is longer than the file
+-- a header longer than the file is refused
 bad-header : open_result most_bytes (hex (codes "05040001"))
     ≡ Err BadHeader
 unfolding on_literals
 bad-header = refl
 
--- a header that ends within a field
+-- a header that ends within a field is refused
 bad-field : open_result most_bytes (hex (codes "0504000400010001ff"))
     ≡ Err BadHeader
 unfolding on_literals
 bad-field = refl
 
--- no default principal, here one of 2 ^ 32 - 1 components
+-- an image without a whole default principal is refused; this one counts 2 ^ 32 - 1 components
 bad-default : open_result most_bytes (hex (codes "0504000000000001ffffffff0000000152"))
     ≡ Err BadDefault
 unfolding on_literals

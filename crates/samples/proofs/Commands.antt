@@ -37,31 +37,31 @@ three = hex (codes "0502") ++ (host ++ (hex (codes "0000003f00020001520004686f73
 abbrev found_text : List ℕ → List ℕ → ℕ → ℕ → Result (List ℕ) Code
 found_text image text kvno etype = result_map found_line (found image text kvno etype)
 
--- the highest version is found, and of several entries the first
+-- version 0 asks for the highest version, encryption type 0 for any; of several such entries the first is found
 found-highest : found_text three (codes "host/a@R") 0 0
     ≡ Ok (codes "found 53 kvno 5 etype 18 host/a@R\n")
 unfolding on_literals
 found-highest = refl
 
--- of an encryption type, its own highest
+-- of one encryption type the highest version of that type is found
 found-etype : found_text three (codes "host/a@R") 0 17
     ≡ Ok (codes "found 120 kvno 5 etype 17 host/a@R\n")
 unfolding on_literals
 found-etype = refl
 
--- a version that is asked for
+-- a version that is asked for is found, even if it is not the highest
 found-version : found_text three (codes "host/a@R") 3 0
     ≡ Ok (codes "found 2 kvno 3 etype 17 host/a@R\n")
 unfolding on_literals
 found-version = refl
 
--- an entry of the name and the type, but none of the version
+-- code 10: there are entries of the name and the type, but none of the version
 found-no-version : found_text three (codes "host/a@R") 4 0
     ≡ Err KvnoNotFound
 unfolding on_literals
 found-no-version = refl
 
--- none of the name and the type
+-- code 9: no entry has the name and the type
 found-none : found_text three (codes "host/a@R") 0 23
     ≡ Err NotFound
 unfolding on_literals
@@ -73,71 +73,71 @@ found-none = refl
 abbrev checked : Option ℕ → List ℕ → List ℕ
 checked mode image = report [] mode (keytab image)
 
--- the same key twice: the later place, then the first
+-- `same`: the entry at the first place has the key of the one at the second
 check-same : checked None (hex (codes "0502") ++ (host ++ host))
     ≡ codes "same 53 2 kvno 3 etype 17 host/a@R\nentries 2 free 0 holes 0\n"
 unfolding on_literals
 check-same = refl
 
--- another key of the same name, version and encryption type
+-- `clash`: it has another key, and the same name, version and encryption type
 check-clash : checked None (two ++ (hex (codes "000000290001000152000162000000016553f1000300110010000102030405060708090a0b0c0d0e0f00000003")))
     ≡ codes "clash 98 53 kvno 3 etype 17 b@R\nentries 3 free 0 holes 0\n"
 unfolding on_literals
 check-clash = refl
 
--- what is found about an entry has a line each, in this order; here the second one also has an empty key
+-- each finding about an entry has a line, in this order; MIT's programs stop at the second entry, whose key is empty
 check-order : checked None (hex (codes "0502000000290001000152000162000000016553f1000300170010000102030405060708090a0b0c0d0e0f00000003000000190001000152000162000000016553f100030017000000000003000000290001000152000162000000016553f1000400110010000102030405060708090a0b0c0d0e0f00000004"))
     ≡ codes "weak 2 kvno 3 etype 23 b@R\nold 2 kvno 3 etype 23 b@R\nweak 47 kvno 3 etype 23 b@R\nhidden 47 kvno 3 etype 23 b@R\nclash 47 2 kvno 3 etype 23 b@R\nold 47 kvno 3 etype 23 b@R\nentries 3 free 0 holes 0\n"
 unfolding on_literals
 check-order = refl
 
--- MIT's programs stop at an entry with an empty component, and see none after it
+-- `hidden`: MIT's programs stop at an entry with an empty component, and see none after it
 check-hidden : checked None (hex (codes "05020000002e00030001520001610000000162000000016553f1000300110010000102030405060708090a0b0c0d0e0f00000003") ++ b)
     ≡ codes "hidden 2 kvno 3 etype 17 a//b@R\nentries 2 free 0 holes 0\n"
 unfolding on_literals
 check-hidden = refl
 
--- they read counts and lengths as signed numbers of 16 bits, and take none of 0
+-- MIT's programs take counts and lengths from 1 to 32,767
 check-out : map is_out (0 ∷ 1 ∷ 32767 ∷ 32768 ∷ []) ≡ true ∷ false ∷ false ∷ true ∷ []
 unfolding on_literals
 check-out = refl
 
--- of the versions 255 and 1 the second is the newer: a version of 8 bits has begun again
+-- `old`: of versions 255 and 1, 1 is the newer, since a version of 8 bits begins again after 255
 check-wrapped : checked None (hex (codes "0502000000290001000152000162000000016553f100ff00110010000102030405060708090a0b0c0d0e0f000000ff000000290001000152000162000000016553f10001001100100102030405060708090a0b0c0d0e0f1000000001"))
     ≡ codes "old 2 kvno 255 etype 17 b@R\nentries 2 free 0 holes 0\n"
 unfolding on_literals
 check-wrapped = refl
 
--- which it has between a version below 128 and one above 240
+-- it has begun again between a version above 240 and one below 128
 check-wraps : (has_wrapped 127 241 ≡ true) × (has_wrapped 128 241 ≡ false) × (has_wrapped 127 240 ≡ false)
 unfolding on_literals
 check-wraps = (refl, refl, refl)
 
--- a mode that lets others in, holes, and a fault
+-- `mode`: group or others may read or write the file; after the findings come the fault and the counts
 check-mode : checked (Some 0o100644) (hex (codes "0502ffffffd1") ++ (replicate 47 0 ++ (b ++ (hex (codes "0000")))))
     ≡ codes "mode 644\nfault 1 at 98\nentries 1 free 47 holes 1\n"
 unfolding on_literals
 check-mode = refl
 
--- of a mode the twelve low bits are printed, in octal
+-- the twelve low bits of a mode are printed, in octal
 check-mode-bits : checked (Some 0o104666) (hex (codes "0502")) ≡ codes "mode 4666\nentries 0 free 0 holes 0\n"
 unfolding on_literals
 check-mode-bits = refl
 
 -- ---- ktremove
 
--- all but the newest version of a name are old
+-- `-k old` selects all but the newest version of a name
 remove-old : flat_map removed_line (old (keytab three))
     ≡ codes "removed 2 kvno 3 etype 17 host/a@R\n"
 unfolding on_literals
 remove-old = refl
 
--- with an age, only of names whose newest entries are all that old
+-- with `--age 60`, only if the newest version is 60 seconds old
 remove-old-age : map (λ now. length (filter (λ x. has_selected_kvno (OldFor 60) now (placed_entries (keytab three)) x.1) (placed_entries (keytab three)))) (1700000059 ∷ 1700000060 ∷ []) ≡ 0 ∷ 1 ∷ []
 unfolding on_literals
 remove-old-age = refl
 
--- an entry without a time may be young
+-- an entry whose time is 0 may be younger
 remove-old-time : is_young 1700000000 60 (record { principal = name (codes "b@R"); timestamp = 0; version = 1; enctype = 17; key = [] }) ≡ true
 unfolding on_literals
 remove-old-time = refl
@@ -152,19 +152,19 @@ other = hex (codes "0502000000290001000152000162000000016553f1000300110010000102
 abbrev copied : Bool → Result (List ℕ × List ℕ) Code
 copied replace = result_map (λ run. (run.text, image_of run.keytab)) (copy_run replace (placed_entries (keytab two)) (keytab other))
 
--- another key of the same name, version and encryption type clashes
+-- an entry with another key of the same name, version and encryption type clashes
 copy-clash : copied false
     ≡ Ok (codes "copied 47 kvno 3 etype 17 host/a@R\nclash 53 2 kvno 3 etype 17 b@R\n", other ++ host)
 unfolding on_literals
 copy-clash = refl
 
--- or is replaced
+-- with `--replace` it takes the place of the other
 copy-replace : copied true
     ≡ Ok (codes "copied 47 kvno 3 etype 17 host/a@R\nremoved 2 kvno 3 etype 17 b@R\ncopied 2 kvno 3 etype 17 b@R\n", hex (codes "0502") ++ (b ++ host))
 unfolding on_literals
 copy-replace = refl
 
--- the same key is copied once
+-- an entry that is there is not copied again
 copy-same : result_map (λ run. run.text) (copy_run false (placed_entries (keytab two)) (keytab two)) ≡ Ok []
 unfolding on_literals
 copy-same = refl
@@ -178,13 +178,13 @@ script-fault = refl
 
 -- ---- klist --json
 
--- the worked keytab
+-- a keytab: its entries with their places
 json-keytab : keytab_json_text (codes "k") false (keytab two)
     ≡ codes "{\"file\":\"k\",\"kind\":\"keytab\",\"version\":2,\"entries\":[{\"place\":2,\"principal\":\"host/a@R\",\"kvno\":3,\"etype\":17,\"etype_name\":\"aes128-cts-hmac-sha1-96\",\"timestamp\":1700000000},{\"place\":53,\"principal\":\"b@R\",\"kvno\":3,\"etype\":17,\"etype_name\":\"aes128-cts-hmac-sha1-96\",\"timestamp\":1700000000}],\"fault\":null}\n"
 unfolding on_literals
 json-keytab = refl
 
--- the worked cache
+-- a cache: its tickets, and its configuration entries apart
 json-cache : cache_json_text (codes "c") (cache worked)
     ≡ codes "{\"file\":\"c\",\"kind\":\"ccache\",\"version\":4,\"default_principal\":\"u@R\",\"tickets\":[{\"place\":40,\"client\":\"u@R\",\"server\":\"krbtgt/R@R\",\"authtime\":1700000000,\"starttime\":0,\"endtime\":1700036000,\"renew_till\":0,\"flags\":\"FRIA\",\"flags_value\":1088421888,\"etype\":17,\"etype_name\":\"aes128-cts-hmac-sha1-96\",\"is_skey\":false,\"addresses\":0,\"ticket_length\":3}],\"config\":[{\"place\":148,\"key\":\"pa_type\",\"principal\":\"krbtgt/R@R\",\"value\":\"2\"}],\"fault\":null}\n"
 unfolding on_literals
@@ -198,7 +198,7 @@ json-odd = refl
 
 -- ---- klist -s
 
--- a ticket is good until the second before its end
+-- a ticket serves until the second before its end
 silent : (has_ticket 1700035999 (cache worked) ≡ true) × (has_ticket 1700036000 (cache worked) ≡ false)
 unfolding on_literals
 silent = (refl, refl)

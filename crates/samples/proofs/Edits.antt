@@ -24,7 +24,7 @@ into-hole : left (hex (codes "0502ffffffec") ++ (replicate 20 255 ++ (hex (codes
 unfolding on_literals
 into-hole = refl
 
--- if none is, the record comes after the cells
+-- if no hole is large enough the record is appended
 appended : left (hex (codes "0502") ++ host) (codes "add 3 17 1700000000 101112131415161718191a1b1c1d1e1f b@R\n")
     ≡ two
 unfolding on_literals
@@ -42,7 +42,7 @@ version-300 : left (hex (codes "0502")) (codes "add 300 17 1700000000 1011121314
 unfolding on_literals
 version-300 = refl
 
--- version 1 has no name type, and counts the realm
+-- in version 1 an entry has no name type, and its count includes the realm
 version-1 : left (hex (codes "0501")) (codes "add 3 17 1700000000 000102030405060708090a0b0c0d0e0f host/a@R\n")
     ≡ hex (codes "05012b00000003000100520400686f737401006100f153650311001000000102030405060708090a0b0c0d0e0f03000000")
 unfolding on_literals
@@ -68,7 +68,7 @@ removal : left two (codes "cut 2\n")
 unfolding on_literals
 removal = refl
 
--- only where a record begins
+-- a place where no record begins is refused
 no-record : printed two (codes "cut 3\n")
     ≡ codes "refused 5\n"
 unfolding on_literals
@@ -82,7 +82,7 @@ behind-a-walk : printed two (codes "start\nstep 0\ncut 2\nadd 3 17 1700000000 20
 unfolding on_literals
 behind-a-walk = refl
 
--- it gives one that comes to a place before it
+-- a walk gives a record that comes to a place which it has not passed
 before-a-walk : printed two (codes "start\ncut 2\nadd 3 17 1700000000 202122232425262728292a2b2c2d2e2f c@R\nstep 0\n")
     ≡ codes "walk 0 at 2\ngone 2\nplaced 2\nwalk 0 gave 2 next 53 kvno 3 etype 17 c@R\n"
 unfolding on_literals
@@ -113,7 +113,7 @@ walks = (refl, refl)
 
 -- ---- rewrites of a keytab
 
--- holes go, and the records move together
+-- a rewrite leaves only the records
 rewritten : left two (codes "cut 2\nrewrite\n")
     ≡ hex (codes "0502") ++ b
 unfolding on_literals

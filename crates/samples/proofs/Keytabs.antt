@@ -65,7 +65,7 @@ overrun : listed plain (codes "k") (hex (codes "0502") ++ (host ++ hex (codes "7
 unfolding on_literals
 overrun = refl
 
--- so is a hole, here of 2 ^ 31 bytes
+-- a hole longer than what is left is fault 2 too; this one has 2 ^ 31 bytes
 overrun-hole : listed plain (codes "k") (hex (codes "0502") ++ (host ++ hex (codes "80000000")))
     ≡ Ok (codes "Keytab name: FILE:k\nKVNO Principal\n---- ---------\n   3 host/a@R\nfault 2 at 53\n")
 unfolding on_literals
@@ -94,26 +94,26 @@ version-0 : option_map (λ e. e.version) (entry_at V2 (hex (codes "0001000152000
 unfolding on_literals
 version-0 = refl
 
--- any other replaces the 8-bit one
+-- a 32-bit version other than 0 replaces the 8-bit one
 version-32 : option_map (λ e. e.version) (entry_at V2 (hex (codes "00010001520001620000000100000000070011000000000100"))) ≡ Some 256
 unfolding on_literals
 version-32 = refl
 
 -- ---- version 1
 
--- numbers in the byte order of the machine that wrote them, the realm counted as a component, and no name type
+-- in version 1 numbers are in the byte order of the machine that wrote them, the count includes the realm, and there is no name type
 version-1 : listed plain (codes "k") (hex (codes "05012b00000003000100520400686f737401006100f153650311001000000102030405060708090a0b0c0d0e0f03000000"))
     ≡ Ok (codes "Keytab name: FILE:k\nKVNO Principal\n---- ---------\n   3 host/a@R\n")
 unfolding on_literals
 version-1 = refl
 
--- the same entry as a big-endian machine writes it
+-- version 1 as a big-endian machine writes it
 version-1-big : result_map (list_text plain (codes "k")) (open_result Big most_bytes (hex (codes "05010000002b00030001520004686f73740001616553f1000300110010000102030405060708090a0b0c0d0e0f00000003")))
     ≡ Ok (codes "Keytab name: FILE:k\nKVNO Principal\n---- ---------\n   3 host/a@R\n")
 unfolding on_literals
 version-1-big = refl
 
--- in the wrong order its length is 721,420,288
+-- version 1 read in the wrong order: the length is 721,420,288
 version-1-order : listed plain (codes "k") (hex (codes "05010000002b00030001520004686f73740001616553f1000300110010000102030405060708090a0b0c0d0e0f00000003"))
     ≡ Ok (codes "Keytab name: FILE:k\nKVNO Principal\n---- ---------\nfault 2 at 2\n")
 unfolding on_literals
@@ -121,17 +121,17 @@ version-1-order = refl
 
 -- ---- what is no keytab
 
--- fewer than two bytes
+-- an image of fewer than two bytes is refused
 too-short : open_result Little most_bytes (hex (codes "05")) ≡ Err TooShort
 unfolding on_literals
 too-short = refl
 
--- a first byte other than 5, or a second other than 1 and 2
+-- a first byte other than 5 is refused, and a second other than 1 and 2
 bad-version : (open_result Little most_bytes (hex (codes "0402")) ≡ Err BadVersion) × (open_result Little most_bytes (hex (codes "0503")) ≡ Err BadVersion)
 unfolding on_literals
 bad-version = (refl, refl)
 
--- more bytes than the limit
+-- an image longer than the limit is refused
 too-large : open_result Little 2 (hex (codes "050200")) ≡ Err TooLarge
 unfolding on_literals
 too-large = refl

@@ -25,7 +25,7 @@ quoted : name_of (codes "a\\/b\\@c\\\\\\n\\0@R") None
 unfolding on_literals
 quoted = refl
 
--- it prints as it was read
+-- a name prints with the same quotes
 printed : name_text (name (codes "a\\/b\\@c\\\\\\n\\0@R")) ≡ codes "a\\/b\\@c\\\\\\n\\0@R"
 unfolding on_literals
 printed = refl
@@ -42,39 +42,39 @@ default-realm : name_of (codes "a") (Some (codes "R"))
 unfolding on_literals
 default-realm = refl
 
--- if there is one
+-- without `@` and without a default realm a text is no name
 no-realm : name_of (codes "a") None ≡ Err NoRealm
 unfolding on_literals
 no-realm = refl
 
--- a backslash at the end quotes nothing
+-- a backslash at the end quotes nothing: a fault
 lone-backslash : name_of (codes "a\\") None ≡ Err LoneBackslash
 unfolding on_literals
 lone-backslash = refl
 
--- of several faults the one furthest left counts
+-- a second `@` is a fault; of several faults the one furthest left counts
 second-at : name_of (codes "a@b@c/\\") None ≡ Err SecondAt
 unfolding on_literals
 second-at = refl
 
--- a realm has no components
+-- a `/` in the realm is a fault
 slash-in-realm : name_of (codes "a@b/c") None ≡ Err SlashInRealm
 unfolding on_literals
 slash-in-realm = refl
 
 -- ---- encryption types, by IANA's numbers and MIT's names
 
--- of its names the first is printed, any is read, in either case of letters, and so is its number
+-- the first of a type's names is printed; any is read, in either case of letters, and so is the number
 etype : (etype_text_of 23 ≡ codes "arcfour-hmac") × (etype_in (codes "RC4-hmac") ≡ Some 23) × (etype_in (codes "23") ≡ Some 23)
 unfolding on_literals
 etype = (refl, refl, refl)
 
--- one without a name prints as its number
+-- a type without a name prints as its number
 etype-number : etype_text_of 65535 ≡ codes "etype 65535"
 unfolding on_literals
 etype-number = refl
 
--- the size of its keys in bytes (RFC 3961, 3962, 8009, 4757, 6803)
+-- the sizes of keys in bytes (RFC 3961, 3962, 8009, 4757, 6803)
 key-size : filter_map key_size_of (16 ∷ 17 ∷ 18 ∷ 19 ∷ 20 ∷ 23 ∷ 25 ∷ 26 ∷ [])
     ≡ 24 ∷ 16 ∷ 32 ∷ 16 ∷ 32 ∷ 16 ∷ 16 ∷ 32 ∷ []
 unfolding on_literals
@@ -87,7 +87,7 @@ weak = (refl, refl, refl)
 
 -- ---- flags of tickets
 
--- all that have a letter, in the order in which MIT prints them
+-- all flags that have a letter, in the order in which they are printed
 flags : flag_letters_of 0x7ffc8000 ≡ codes "FfPpDdiRIHATOa"
 unfolding on_literals
 flags = refl
