@@ -3,9 +3,9 @@
 from dataclasses import dataclass
 from functools import cache
 
-from peers.corpus import files, given
+from peers.corpus import given
 from theorems.antt import Module, identifier, theorem, theorem_of_listing
-from theorems.corpus_files import cases, file_of, writers
+from theorems.corpus_files import cases, file_of, small_files, writers
 from theorems.mit_listings import cache_listing, keytab_listing
 
 # Files of which MIT's programs say something else, and why. They are listed as krbfile's cases have it.
@@ -86,7 +86,7 @@ def undecoded(name: str) -> str:
 
 def listings(kind: str) -> Module:
     """Returns the theorems of all files of a kind."""
-    names = [name for name, _ in files(kind)]
+    names = [name for name, _ in small_files(kind)]
     items = [Listing(kind, name, columns).written() for name in names for columns in (False, True)]
     items += [undecoded(name) for name in names if name in UNDECODED]
     return Module(TITLES[kind], f"{TITLES[kind]} that other programs wrote, and their listings.", tuple(items))
