@@ -1,5 +1,5 @@
 -- Names, encryption types, flags and times as text.
-use Rattle.std.specs.Prelude.{◌≡◌, [], ◌∷◌, codes, None, Some, Ok, Err, true, false}
+use Rattle.std.specs.Prelude.{◌≡◌, [], ◌∷◌, codes, map, None, Some, Ok, Err, true, false}
 use Rattle.std.specs.List.{filter_map}
 use Rattle.std.proofs.Common.{refl}
 use Rattle.krb_wire.specs.declared.name_fault.NameFault.TheVariants.{NoRealm, LoneBackslash, SecondAt, SlashInRealm}
@@ -7,6 +7,7 @@ use Rattle.krb_wire.specs.NameOf.{name_of}
 use Rattle.krb_wire.specs.Names.{name_text}
 use Rattle.krb_text.specs.Etype.{etype_in, etype_text_of, key_size_of, is_weak}
 use Rattle.krb_text.specs.Flags.{flag_letters_of}
+use Rattle.krb_text.specs.Pieces.{pieces}
 use Rattle.krb_text.specs.Numbers.{seconds_in}
 use Rattle.samples.proofs.Given.{hex, name}
 use Rattle.samples.proofs.Unfolded.{on_literals}
@@ -68,6 +69,12 @@ slash-in-realm = refl
 etype : (etype_text_of 23 ≡ codes "arcfour-hmac") × (etype_in (codes "RC4-hmac") ≡ Some 23) × (etype_in (codes "23") ≡ Some 23)
 unfolding on_literals
 etype = (refl, refl, refl)
+
+-- all names that are read, which MIT's programs read too
+etype-names : map etype_in (pieces 32 (codes "des3-cbc-sha1 des3-hmac-sha1 des3-cbc-sha1-kd aes128-cts-hmac-sha1-96 aes128-cts aes128-sha1 aes256-cts-hmac-sha1-96 aes256-cts aes256-sha1 aes128-cts-hmac-sha256-128 aes128-sha2 aes256-cts-hmac-sha384-192 aes256-sha2 arcfour-hmac rc4-hmac arcfour-hmac-md5 camellia128-cts-cmac camellia128-cts camellia256-cts-cmac camellia256-cts"))
+    ≡ Some 16 ∷ Some 16 ∷ Some 16 ∷ Some 17 ∷ Some 17 ∷ Some 17 ∷ Some 18 ∷ Some 18 ∷ Some 18 ∷ Some 19 ∷ Some 19 ∷ Some 20 ∷ Some 20 ∷ Some 23 ∷ Some 23 ∷ Some 23 ∷ Some 25 ∷ Some 25 ∷ Some 26 ∷ Some 26 ∷ []
+unfolding on_literals
+etype-names = refl
 
 -- a type without a name prints as its number
 etype-number : etype_text_of 65535 ≡ codes "etype 65535"
