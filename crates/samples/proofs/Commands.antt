@@ -1,5 +1,5 @@
 -- What commands find, copy, remove and print. A command's output is a definition over what its files hold.
-use Rattle.std.specs.Prelude.{◌≡◌, ℕ, List, [], ◌∷◌, ◌++◌, codes, length, replicate, map, filter, Bool, true, false, Option, None, Some, Result, Ok, Err}
+use Rattle.std.specs.Prelude.{◌≡◌, ℕ, List, [], ◌∷◌, ◌++◌, codes, length, drop, replicate, map, filter, Bool, true, false, Option, None, Some, Result, Ok, Err}
 use Rattle.std.specs.List.{flat_map}
 use Rattle.std.proofs.Common.{refl}
 use Rattle.krb_walk.specs.declared.refusal.Code.{Code}
@@ -148,26 +148,42 @@ remove-old-time = refl
 abbrev other : List ℕ
 other = hex (codes "0502000000290001000152000162000000016553f1000300110010000102030405060708090a0b0c0d0e0f00000003")
 
--- the lines of copying all entries of `two` into it, with --replace or without, and the image after that
-abbrev copied : Bool → Result (List ℕ × List ℕ) Code
-copied replace = result_map (λ run. (run.text, image_of run.keytab)) (copy_run replace (placed_entries (keytab two)) (keytab other))
+-- b@R with its key in `two` and with the other
+abbrev twins : List ℕ
+twins = hex (codes "0502") ++ (b ++ drop 2 other)
+
+-- the lines of copying all entries of a keytab into another, with `--replace` or without, and the image after that
+abbrev copied : Bool → List ℕ → List ℕ → Result (List ℕ × List ℕ) Code
+copied replace from to = result_map (λ run. (run.text, image_of run.keytab)) (copy_run replace (placed_entries (keytab from)) (keytab to))
 
 -- an entry with another key of the same name, version and encryption type clashes
-copy-clash : copied false
+copy-clash : copied false two other
     ≡ Ok (codes "copied 47 kvno 3 etype 17 host/a@R\nclash 53 2 kvno 3 etype 17 b@R\n", other ++ host)
 unfolding on_literals
 copy-clash = refl
 
 -- with `--replace` it takes the place of the other
-copy-replace : copied true
+copy-replace : copied true two other
     ≡ Ok (codes "copied 47 kvno 3 etype 17 host/a@R\nremoved 2 kvno 3 etype 17 b@R\ncopied 2 kvno 3 etype 17 b@R\n", hex (codes "0502") ++ (b ++ host))
 unfolding on_literals
 copy-replace = refl
 
 -- an entry that is there is not copied again
-copy-same : result_map (λ run. run.text) (copy_run false (placed_entries (keytab two)) (keytab two)) ≡ Ok []
+copy-same : copied false two two ≡ Ok ([], two)
 unfolding on_literals
 copy-same = refl
+
+-- with `--replace` an entry does not take the place of one that the same run copied
+copy-twins : copied true twins (hex (codes "0502"))
+    ≡ Ok (codes "copied 2 kvno 3 etype 17 b@R\nclash 47 2 kvno 3 etype 17 b@R\n", hex (codes "0502") ++ b)
+unfolding on_literals
+copy-twins = refl
+
+-- with `--replace` an entry does not take the place of one that was asked for before it
+copy-kept : copied true twins (hex (codes "0502") ++ b)
+    ≡ Ok (codes "clash 47 2 kvno 3 etype 17 b@R\n", hex (codes "0502") ++ b)
+unfolding on_literals
+copy-kept = refl
 
 -- ---- scripts
 
