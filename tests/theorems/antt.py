@@ -6,8 +6,9 @@ from dataclasses import dataclass
 
 # Names that a module may import, by the module that they come from.
 IMPORTS = {
-    "Rattle.std.specs.Prelude": ("◌≡◌", "ℕ", "List", "[]", "◌∷◌", "◌++◌", "codes", "length", "map", "get_or", "None",
-                                 "Some", "true", "false", "Ok", "Err"),
+    "Rattle.std.specs.Prelude": ("◌≡◌", "ℕ", "List", "[]", "◌∷◌", "◌++◌", "◌==◌", "◌||◌", "codes", "length", "map",
+                                 "filter", "get_or", "None", "Some", "true", "false", "not", "if◌then◌else◌", "Ok",
+                                 "Err", "pos", "negsuc"),
     "Rattle.std.proofs.Common": ("refl",),
     "Rattle.krb_walk.specs.declared.event.Event.TheVariants": ("Cut", "Rewrite"),
     "Rattle.krb_walk.specs.declared.refusal.Code.TheVariants": ("NotFound", "KvnoNotFound"),
@@ -15,6 +16,10 @@ IMPORTS = {
     "Rattle.krb_keytab.specs.Find": ("PlacedEntry",),
     "Rattle.krb_keytab.specs.Store": ("image_of",),
     "Rattle.krb_ccache.specs.declared.open.CcOpenFault.TheVariants": ("BadVersion",),
+    "Rattle.krb_ccache.specs.Config": ("is_config",),
+    "Rattle.krb_ccache.specs.Credential": ("TypedData",),
+    "Rattle.krb_ccache.specs.Header": ("offset_in",),
+    "Rattle.krb_ccache.specs.Store": ("PlacedCredential", "placed_credentials"),
     "Rattle.krb_ccache.specs.SetConfig": ("SettingParts", "setting_events"),
     "Rattle.krb_text.specs.Calendar": ("day_number", "day_text", "next_day", "time_text_of"),
     "Rattle.krb_text.specs.Found": ("found_line",),
@@ -102,7 +107,7 @@ class Module:
     def uses(self) -> dict[str, list[str]]:
         """Returns the names that it imports, by the modules that these come from."""
         words = set(WORD.findall(re.sub(r'"(?:[^"\\]|\\.)*"|^--.*$', "", "\n".join(self.items), flags=re.M)))
-        words |= {f"◌{it}◌" for it in words}
+        words |= {f"◌{it}◌" for it in words} | ({"if◌then◌else◌"} if "if" in words else set())
         found = {source: [it for it in those if it in words] for source, those in IMPORTS.items()}
         if self.name != "Times":
             found["Rattle.corpus_samples.proofs.Times"] = sorted(it for it in words if it.startswith("time-"))

@@ -2,6 +2,7 @@
 
 from theorems.antt import TIME, Module, bytes_of_digits, time_theorems
 from theorems.corpus_files import file_of, small_files, writers
+from theorems.of_addresses import addresses
 from theorems.of_changes import changes
 from theorems.of_listings import listings
 from theorems.of_look_ups import look_ups
@@ -15,7 +16,7 @@ def bytes_of(name: str, image: bytes) -> str:
 
 def modules() -> list[Module]:
     """Returns all modules."""
-    found = [listings("keytab"), listings("ccache"), look_ups(), changes()]
+    found = [listings("keytab"), listings("ccache"), addresses(), look_ups(), changes()]
     moments = {moment for module in found for item in module.items for moment in TIME.findall(item.encode())}
     images = [*small_files("keytab"), *small_files("ccache")]
     return [Module("Files", "The files in tests/corpus.", tuple(bytes_of(*file) for file in images)),

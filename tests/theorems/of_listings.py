@@ -27,6 +27,10 @@ COLUMNS = {("keytab", False): "plain", ("keytab", True): "all",
 LISTED = {"keytab": "listed", "ccache": "cache_listed"}
 TITLES = {"keytab": "Keytabs", "ccache": "Caches"}
 
+OFFSET = theorem("MIT kinit, with a clock that was 200 seconds ahead of the KDC's", "kinit-offset",
+                 f"offset_in (cache {file_of('kinit-offset-faketime')}).header",
+                 "Some (record { seconds = negsuc 199; micros = pos 0 })")
+
 
 @cache
 def printed(name: str, has_all_columns: bool) -> bytes:
@@ -89,4 +93,6 @@ def listings(kind: str) -> Module:
     names = [name for name, _ in small_files(kind)]
     items = [Listing(kind, name, columns).written() for name in names for columns in (False, True)]
     items += [undecoded(name) for name in names if name in UNDECODED]
+    if kind == "ccache":
+        items.append(OFFSET)
     return Module(TITLES[kind], f"{TITLES[kind]} that other programs wrote, and their listings.", tuple(items))
