@@ -16,6 +16,7 @@ use Rattle.krb_audit.specs.declared.selection.SelectedKvno.TheVariants.{OldFor}
 use Rattle.krb_audit.specs.Findings.{is_out}
 use Rattle.krb_audit.specs.Newest.{has_wrapped}
 use Rattle.krb_audit.specs.Report.{report}
+use Rattle.krb_audit.specs.Tickets.{removed_ticket_line, selected_tickets}
 use Rattle.krb_audit.specs.Selection.{has_selected_kvno, is_young}
 use Rattle.krb_copy.specs.Copying.{copy_run}
 use Rattle.krb_driver.specs.Loading.{result_map}
@@ -23,8 +24,9 @@ use Rattle.krb_driver.specs.declared.verdict.Verdict.TheVariants.{Well}
 use Rattle.krb_driver.specs.Effects.{Saves, Displays}
 use Rattle.krb_readers.specs.TicketCheck.{has_ticket}
 use Rattle.krb_editors.specs.Ccremove.{cache_after}
+use Rattle.krb_editors.specs.Frame.{frame, framed}
 use Rattle.krb_editors.specs.Ktedit as ktedit
-use Rattle.samples.proofs.Given.{hex, keytab, cache, name, found, old, events, host, b, two, pa_type, worked}
+use Rattle.samples.proofs.Given.{hex, keytab, cache, name, found, old, events, host, b, two, front, ticket, pa_type, worked}
 use Rattle.samples.proofs.Unfolded.{on_literals}
 
 -- ---- ktfind
@@ -219,7 +221,16 @@ silent : (has_ticket 1700035999 (cache worked) ≡ true) × (has_ticket 17000360
 unfolding on_literals
 silent = (refl, refl)
 
--- ---- ktedit and ccremove
+-- a ticket of host/a@R that does not end until 2106
+abbrev service : List ℕ
+service = hex (codes "0000000100000001000000015200000001750000000100000002000000015200000004686f73740000000161001100000010000102030405060708090a0b0c0d0e0f6553f10000000000ffffffff000000000040e00000000000000000000000000003746b7400000000")
+
+-- if there is a ticket-granting ticket of the own realm it counts, and otherwise any ticket
+silent-granting : (has_ticket 1700036000 (cache (front ++ (ticket ++ service))) ≡ false) × (has_ticket 1700036000 (cache (front ++ service)) ≡ true)
+unfolding on_literals
+silent-granting = (refl, refl)
+
+-- ---- ktedit, ccremove and hold
 
 -- what changes a keytab is saved, and then the lines are printed
 edit-saves : ktedit.edits (events (codes "cut 2\n")) (codes "k") (keytab two)
@@ -238,3 +249,19 @@ remove-ticket : cache_image (cache_after (cache worked) (40 ∷ []))
     ≡ hex (codes "0504000c0001000800000005fffffff6000000010000000100000001520000000175") ++ pa_type
 unfolding on_literals
 remove-ticket = refl
+
+-- `--expired` selects the tickets that end at that second or before, and no configuration entry
+remove-expired : map (λ now. flat_map removed_ticket_line (selected_tickets {A = ℕ} [] (Some now) (cache worked))) (1700035999 ∷ 1700036000 ∷ [])
+    ≡ [] ∷ codes "removed 40 krbtgt/R@R\n" ∷ []
+unfolding on_literals
+remove-expired = refl
+
+-- between programs an image is handed over after its length and a newline
+hold-frame : frame (hex (codes "0502")) ≡ hex (codes "320a0502")
+unfolding on_literals
+hold-frame = refl
+
+-- what is not as long as it says is no image
+hold-framed : (framed (hex (codes "320a0502")) ≡ Some (hex (codes "0502"))) × (framed (hex (codes "330a0502")) ≡ None)
+unfolding on_literals
+hold-framed = (refl, refl)
