@@ -4,7 +4,7 @@ import re
 
 from peers.corpus import given
 from theorems.antt import Module, text, theorem
-from theorems.corpus_files import cases, file_of
+from theorems.corpus_files import cases, file_of, writers
 
 FOUND = re.compile(r"found kvno (\d+) etype (\d+) time (\d+) keylen (\d+) first (\w\w)")
 
@@ -14,7 +14,7 @@ CODES = {b"9": "NotFound", b"10": "KvnoNotFound"}
 
 # A look-up to which MIT's library answers otherwise.
 WRAPPED = "find-java-new-300-18-user@PEER.TEST"
-WHY_WRAPPED = "krbfile alone: MIT's library takes version 300 for 44, which has the same low 8 bits"
+WHY_WRAPPED = "krbfile's answer: MIT's library takes version 300 for 44, which has the same low 8 bits"
 
 FACTS = """-- the version, encryption type and time of an entry, the length of its key, and the first byte of that
 abbrev facts : PlacedEntry → ℕ × ℕ × ℕ × ℕ × ℕ
@@ -39,9 +39,9 @@ def look_up(number: int, case: dict) -> list[str]:
     _, file, kvno, etype, name = case["argv"]
     found = f'(found {file_of(file)} (codes "{name}") {kvno} {etype})'
     is_alone = case["id"] == WRAPPED
-    comment = WHY_WRAPPED if is_alone else f"MIT's library: {case['mit'].removeprefix('get: ')}"
+    said = WHY_WRAPPED if is_alone else f"MIT's library: {case['mit'].removeprefix('get: ')}"
     answer = refused(case) if is_alone else answered(case["mit"])
-    theorems = [theorem(comment, f"look-up-{number}", f"result_map facts {found}", answer)]
+    theorems = [theorem(f"{writers()[file]}; {said}", f"look-up-{number}", f"result_map facts {found}", answer)]
     if not case["status"]:
         line = f"Ok ({text(given(case['stdout']))})"
         theorems.append(theorem("and krbfile's line", f"line-{number}", f"result_map found_line {found}", line))
