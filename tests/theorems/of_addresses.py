@@ -1,4 +1,4 @@
-"""Theorems of addresses and authorization data: the tickets of each cache in `corpus` have those that MIT's klist shows.
+"""Theorems of addresses and authorization data: each ticket in `corpus` has those that MIT's klist shows.
 
 MIT's `klist -a -n -d` shows the types of a ticket's authorization data, signed, and its addresses, of IPv4 and IPv6 in
 their own forms and of the others only the types.

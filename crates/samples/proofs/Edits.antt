@@ -113,8 +113,8 @@ walks = (refl, refl)
 
 -- ---- rewrites of a keytab
 
--- a rewrite leaves only the records
-rewritten : left two (codes "cut 2\nrewrite\n")
+-- a rewrite leaves only the records: no hole, no end mark and nothing after it
+rewritten : left (two ++ hex (codes "0000000001")) (codes "cut 2\nrewrite\n")
     ≡ hex (codes "0502") ++ b
 unfolding on_literals
 rewritten = refl
