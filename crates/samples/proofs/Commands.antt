@@ -3,7 +3,7 @@ use Rattle.std.specs.Prelude.{◌≡◌, ℕ, List, [], ◌∷◌, ◌++◌, cod
 use Rattle.std.specs.List.{flat_map}
 use Rattle.std.proofs.Common.{refl}
 use Rattle.krb_walk.specs.declared.refusal.Code.{Code}
-use Rattle.krb_walk.specs.declared.refusal.Code.TheVariants.{NotFound, KvnoNotFound}
+use Rattle.krb_walk.specs.declared.refusal.Code.TheVariants.{Damaged, NotFound, KvnoNotFound}
 use Rattle.krb_keytab.specs.Find.{placed_entries}
 use Rattle.krb_keytab.specs.Store.{image_of}
 use Rattle.krb_ccache.specs.Store.{image_of as cache_image}
@@ -68,6 +68,12 @@ found-none : found_text three (codes "host/a@R") 0 23
     ≡ Err NotFound
 unfolding on_literals
 found-none = refl
+
+-- code 1: a damaged keytab gives nothing, not even an entry before the damage
+found-damaged : found_text (two ++ hex (codes "00")) (codes "host/a@R") 0 0
+    ≡ Err Damaged
+unfolding on_literals
+found-damaged = refl
 
 -- ---- ktcheck
 

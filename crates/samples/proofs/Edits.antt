@@ -2,18 +2,19 @@
 use Rattle.std.specs.Prelude.{◌≡◌, [], ◌∷◌, ◌++◌, codes, replicate, map, Some, None, option_map, Ok, true, false}
 use Rattle.std.specs.Result.{result_map_both, result_ok}
 use Rattle.std.proofs.Common.{refl}
+use Rattle.krb_wire.specs.Spelling.{is_short}
 use Rattle.krb_wire.specs.declared.format.Order.TheVariants.{Little}
-use Rattle.krb_walk.specs.declared.event.Event.TheVariants.{Cut, Rewrite}
-use Rattle.krb_walk.specs.declared.refusal.Code.TheVariants.{TooManyWalks, ReadOnly}
+use Rattle.krb_walk.specs.declared.event.Event.TheVariants.{Put, Cut, Rewrite}
+use Rattle.krb_walk.specs.declared.refusal.Code.TheVariants.{TooManyWalks, ReadOnly, Marked}
 use Rattle.krb_walk.specs.Events.{start_reply}
-use Rattle.krb_walk.specs.ReplyContent.{Started, Refused, Rewritten}
+use Rattle.krb_walk.specs.ReplyContent.{Started, Placed, Refused, Rewritten}
 use Rattle.krb_keytab.specs.Changes.{put_result, is_refused}
 use Rattle.krb_keytab.specs.Store.{open_result}
 use Rattle.krb_ccache.specs.Changes.{create_result}
 use Rattle.krb_ccache.specs.SetConfig.{setting_events}
 use Rattle.krb_ccache.specs.Store.{image_of as cache_image}
 use Rattle.krb_files.specs.Loading.{most_bytes}
-use Rattle.samples.proofs.Given.{hex, cache, name, left, printed, cache_left, cache_replies, host, b, two, front, ticket, pa_type, removed}
+use Rattle.samples.proofs.Given.{hex, cache, name, left, printed, cache_left, cache_replies, host, b, two, front, ticket, pa_type, removed, worked}
 use Rattle.samples.proofs.Unfolded.{on_literals}
 
 -- ---- additions to a keytab
@@ -60,6 +61,11 @@ full : map (λ limit. option_map (λ k. is_refused (put_result k (record { princ
 unfolding on_literals
 full = refl
 
+-- a realm, a component or a key of 65,536 bytes is too long
+too-long : (is_short (replicate 65535 0) ≡ true) × (is_short (replicate 65536 0) ≡ false)
+unfolding on_literals
+too-long = (refl, refl)
+
 -- ---- removals from a keytab
 
 -- a record becomes a hole of its size, all zeros
@@ -68,9 +74,9 @@ removal : left two (codes "cut 2\n")
 unfolding on_literals
 removal = refl
 
--- a place where no record begins is refused
-no-record : printed two (codes "cut 3\n")
-    ≡ codes "refused 5\n"
+-- a place where no record begins is refused, also that of a hole
+no-record : printed two (codes "cut 3\ncut 2\ncut 2\n")
+    ≡ codes "refused 5\ngone 2\nrefused 5\n"
 unfolding on_literals
 no-record = refl
 
@@ -132,6 +138,18 @@ unfolding on_literals
 to-version-2 = refl
 
 -- ---- changes of a cache
+
+-- a credential is appended, but not one with the removed mark
+stored : cache_replies front (map Put (cache worked).contents.cells)
+    ≡ Placed 40 ∷ Placed 148 ∷ Refused Marked ∷ []
+unfolding on_literals
+stored = refl
+
+-- it is appended as it was written
+stored-bytes : cache_left front (map Put (cache worked).contents.cells)
+    ≡ front ++ (ticket ++ pa_type)
+unfolding on_literals
+stored-bytes = refl
 
 -- a removal writes the removed mark, and no other byte
 mark : cache_left (front ++ ticket) (Cut 40 ∷ [])

@@ -21,13 +21,13 @@ unfolding on_literals
 plain = refl
 
 -- a backslash quotes the byte after it, and `\n`, `\t`, `\b` and `\0` are newline, tab, backspace and NUL
-quoted : name_of (codes "a\\/b\\@c\\\\\\n\\0@R") None
-    ≡ Ok (record { name_type = 1; realm = codes "R"; components = hex (codes "612f6240635c0a00") ∷ [] })
+quoted : name_of (codes "a\\/b\\@c\\\\\\n\\0@R\\/S\\@T") None
+    ≡ Ok (record { name_type = 1; realm = codes "R/S@T"; components = hex (codes "612f6240635c0a00") ∷ [] })
 unfolding on_literals
 quoted = refl
 
 -- a name prints with the same quotes
-printed : name_text (name (codes "a\\/b\\@c\\\\\\n\\0@R")) ≡ codes "a\\/b\\@c\\\\\\n\\0@R"
+printed : name_text (name (codes "a\\/b\\@c\\\\\\n\\0@R\\/S\\@T")) ≡ codes "a\\/b\\@c\\\\\\n\\0@R\\/S\\@T"
 unfolding on_literals
 printed = refl
 
