@@ -145,41 +145,34 @@ def check_unknown(report: Report, program: str) -> None:
                 compare(KLIST.row(program, KEYTAB, TWO, None, {}, {}))
 
 
-def open_to_all(program: str, folder: str) -> str:
-    """Copies a program to a folder, so that all users may run it, and returns its path."""
-    copy = os.path.join(folder, "krbfile")
-    shutil.copy(program, copy)
-    for path in (folder, copy):
-        os.chmod(path, 0o755)
-    return copy
-
-
 def by_user(user: int) -> tuple[str, ...]:
     """Returns the words before those of a run by a user."""
     return "setpriv", f"--reuid={user}", f"--regid={user}", "--clear-groups"
 
 
 def check_users(report: Report, program: str) -> None:
-    """Checks the default caches of users, as the system tells them. That of who runs the tests is not made."""
+    """Checks the default caches of users, as the system tells them: of a real user beside root, of another user, and of
+    root for another user. That of who runs the tests is not made."""
+    ways = {(): os.getuid()}
+    if os.geteuid() == 0 and shutil.which("setpriv"):
+        ways |= {("setpriv", f"--ruid={NOBODY}"): NOBODY, by_user(NOBODY): NOBODY, ("setpriv", f"--euid={NOBODY}"): 0}
+    else:
+        report.skip("default caches of other users", "none but root may run as another, by setpriv")
     with folder_of({}) as folder:
-        ways = [((), os.getuid(), program)]
-        if os.geteuid() == 0 and shutil.which("setpriv"):
-            # A real user beside root, another user, and root for another user.
-            copy = open_to_all(program, folder)
-            ways += [(("setpriv", f"--ruid={NOBODY}"), NOBODY, program), (by_user(NOBODY), NOBODY, copy),
-                     (("setpriv", f"--euid={NOBODY}"), 0, copy)]
-        else:
-            report.skip("default caches of other users", "none but root may run as another, by setpriv")
-        for front, user, path in ways:
+        # All users may run a copy of the program.
+        copy = shutil.copy(program, folder)
+        for path in (folder, copy):
+            os.chmod(path, 0o755)
+        for front, user in ways.items():
             image = CACHE if user not in (os.getuid(), 0) else None
             with own_cache(user, image) as is_free:
                 if not is_free:
                     report.skip(f"the default cache of user {user}", "it is there")
                     continue
-                first, *rest = [*front, path, "klist"]
+                first, *rest = [*front, copy, "klist"]
                 got = run(first, rest, folder, env={"PATH": os.environ["PATH"]})
-                wanted = KLIST_CACHE.row(program, cache_of(user), image, None, {}, {})
-                report.compare(f"the default cache of user {user}, {front}", wanted.wanted(False, wanted.out), got)
+                row = KLIST_CACHE.row(program, cache_of(user), image, None, {}, {})
+                report.compare(f"the default cache of user {user}, {front}", row.wanted(False, row.out), got)
 
 
 def check(report: Report, program: str) -> None:

@@ -10,7 +10,7 @@ from itertools import product
 from keytabs.ktutil_lines import TWO_LISTED, lines
 from makers.images import TWO, keytab
 from models.check_model import FOLDER
-from models.name_model import FileName, Kind, named
+from models.name_model import Kind, named
 from models.named_runs import COMMANDS, IMAGES, KLIST, KLIST_CACHE, LARGE_FILE, NEITHER
 from runs.harness import Report
 from runs.rows import check_rows

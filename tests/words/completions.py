@@ -4,13 +4,12 @@ help ends: the statuses, a line each, and an example, which is run on sample fil
 import os
 import re
 import shutil
-import subprocess
 from functools import cache
 
 from keytabs.columns import BY_NAME
 from makers.samples import folder_of_samples
 from pages.readme import surroundings
-from runs.harness import SECONDS, TOP, Report, folder_of, run
+from runs.harness import TOP, Report, folder_of, run
 from words.phrases import FINDINGS
 
 # Each completes the last word of each line of TYPED, and prints `found` and the words on a line; zsh on a terminal.
