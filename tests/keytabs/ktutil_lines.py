@@ -59,11 +59,21 @@ def new_entries(now: int) -> list[Case]:
     ]
 
 
+# Lines with a password in place of a key, and their faults.
+PASSWORD = "addent -password -p a@R -k 1 -e 17"
+PASSWORDS = by_line({
+    2: [PASSWORD, "add_entry -key -p b@R -k 3 -e 17 -password", "addent -password", "addent x -password"],
+    3: ["addent -key -p b@R -k -password -e 17"],
+    4: ["addent -key -p b@R -k 3 -e -password"],
+    6: ["addent -key -p -password -k 3 -e 17"],
+})
+
 # Lines that are faulty over a list of two entries, and their faults.
 FAULTS = by_line({
     1: ["frob", "L", "l\r", "\\l", "list_requests", "?", "ktutil:"],
     2: ["l -x", "l -t -t", "l -te", "l k", "clear 1", "q now", "rkt", "rkt k k", "wkt", "wkt k k", "delent",
-        "delent 1 2", "addent", "addent -password -p b@R -k 3 -e 17", "addent -p b@R -k 3 -e 17",
+        "delent 1 2", "addent", "addent -Password -p b@R -k 3 -e 17", "addent -passwords", "rkt -password k",
+        "l -password", "addent -p b@R -k 3 -e 17",
         "addent -key -p b@R -k 3", "addent -key -p b@R -k 3 -e", "addent -key -key -p b@R -k 3 -e 17",
         "addent -key -p b@R -k 3 -k 3 -e 17", "addent -key -p b@R -k 3 -e 17 x", "addent -key -p b c@R -k 3 -e 17",
         "addent -key -p b@R\\ -k 3 -e 17"],
@@ -72,7 +82,7 @@ FAULTS = by_line({
     4: ["addent -key -p b -k 3 -e x", "addent -key -p b@R -k 3 -e 65536"],
     6: ["addent -key -p b -k 3 -e 17", "addent -key -k 3 -e 17 -p b@R\\"],
     7: ["delent 0", "delent 3", "delent 4294967295"],
-})
+}) | PASSWORDS
 
 # Key lines that are refused for an entry of enctype 17.
 NO_KEYS = "", " \t", "-", "0" * 30, "0" * 34, "0" * 31, "0x" + "0" * 30, "0" * 30 + "0g", KEY + " 0", "q", "l"
@@ -102,15 +112,23 @@ CASES = [
     *(lines(f"an end by {word}", ["l", word, "l", "frob"], HEADING) for word in ("q", "quit", "exit", " q ")),
     lines("the last line needs no end", b"l\nl", [*HEADING, *HEADING]),
     lines("an end in the midst of a word", b"l\nquit\0", HEADING, "line 2: fault 1"),
-    # Each faulty line between two others, which are handled.
-    *(lines(f"faulty line {line!r}", ["rkt k", line, "l"], TWO_LISTED, f"line 2: fault {fault}", files=FILES)
-      for line, fault in FAULTS.items()),
+    # Each faulty line between two others, which are handled; the line after one with a password is that.
+    *(lines(f"faulty line {line!r}", ["rkt k", line, *["quit"] * (line in PASSWORDS), "l"], TWO_LISTED,
+            f"line 2: fault {fault}", files=FILES) for line, fault in FAULTS.items()),
+    *(lines(f"password {line!r}", ["rkt k", PASSWORD, line, "l"], TWO_LISTED, "line 2: fault 2", files=FILES)
+      for line in ("", " \t", "frob", "clear", PASSWORD, ADDENT, KEY)),
+    lines("a password is counted", [PASSWORD, "quit", "frob", "l"], HEADING, "line 1: fault 2", "line 3: fault 1"),
+    lines("a password of any bytes", f"{PASSWORD}\n\xff\0\r\nl\n".encode("latin-1"), HEADING, "line 1: fault 2"),
+    lines("a key line is no command", [ADDENT, PASSWORD, "l"], HEADING, "line 2: fault 5"),
+    lines("two passwords", [PASSWORD, "x", PASSWORD, "", "l"], HEADING, "line 1: fault 2", "line 3: fault 2"),
     *(lines(f"key line {line[:40]!r}", ["rkt k", ADDENT, line, "l"], TWO_LISTED, "line 3: fault 5", files=FILES)
       for line in NO_KEYS),
     *(lines(f"file name {name!r}", b"rkt k\n" + name + b"\nl\n", TWO_LISTED, "line 2: fault 8", files=FILES)
       for name in (b"rkt \xff", b"wkt k\xc3")),
     lines("lines that are passed over count", ["", " ", "frob", "", "l 1"], [], "line 3: fault 1", "line 5: fault 2"),
     lines("the input ends where a key is awaited", [ADDENT], []),
+    lines("the input ends where a password is awaited", [PASSWORD], [], "line 1: fault 2"),
+    lines("the input ends in a password", f"{PASSWORD}\nx".encode(), [], "line 1: fault 2"),
     lines("the input ends before the end of the line", ADDENT.encode(), []),
     # Files that are read, and those without entries.
     lines("version 1", ["rkt k", "l"], ONE_LISTED, files={"k": old(HOST)}),

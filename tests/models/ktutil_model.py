@@ -12,7 +12,7 @@ from models.script_model import (BAD_FILE, BAD_KEY, BAD_SLOT, UNKNOWN_WORD, WORD
                                  name_in, number_in)
 from models.walks import DAMAGED, LIMIT, Refused
 from runs.harness import Outcome
-from words.phrases import CAUSES, NO_PASSWORDS, SEE_HELP, code, line_fault
+from words.phrases import CAUSES, NO_ENTRY, NO_PASSWORDS, SEE_HELP, code, line_fault
 
 # The options of a listing, and the letters of their columns.
 COLUMNS = {b"-t": "t", b"-k": "K", b"-e": "e"}
@@ -73,7 +73,7 @@ def options_of_entry(words: list[bytes]) -> dict[bytes, bytes]:
 
 
 class Ktutil:
-    """The list, the entry whose key is due next, the files, and the output and messages so far."""
+    """The list, what is due next, the files, and the output and messages so far."""
 
     def __init__(self, files: dict[str, bytes], now: int, v1_big: bool, explains: bool = False) -> None:
         self.files = dict(files)
@@ -81,6 +81,7 @@ class Ktutil:
         self.number = 0
         self.entries: list[KeytabEntry] = []
         self.awaited: KeytabEntry | None = None
+        self.awaits_password = False
         self.is_over = False
         self.out, self.err, self.status = b"", b"", 0
 
@@ -98,7 +99,9 @@ class Ktutil:
         """Does what the line of that number says, or reports its fault."""
         self.number = number
         try:
-            if self.awaited is None:
+            if self.awaits_password:
+                self.awaits_password = False
+            elif self.awaited is None:
                 self.command(words_in(line))
             else:
                 self.take_key(line.strip(b" \t"))
@@ -174,9 +177,12 @@ class Ktutil:
         self.files[name] = keytab.image()
         for line in unseen(keytab, places):
             self.explain(line)
+        if not keytab.entries():
+            self.explain(NO_ENTRY.replace("NAME", name))
 
     def add_entry(self, words: list[bytes]) -> None:
-        """`add_entry`, whose key comes with the next line."""
+        """`add_entry`, whose key comes with the next line. One with a password is faulty, and passes over that line."""
+        self.awaits_password = b"-password" in words
         found = options_of_entry(words)
         kvno, enctype = number_in(found[b"-k"]), etype_in(found[b"-e"])
         self.awaited = KeytabEntry(name_in(found[b"-p"]), 1, self.now, kvno, enctype, b"")

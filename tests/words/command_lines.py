@@ -35,14 +35,14 @@ REFUSED: list[str | Line] = [
         "-s c c", "-s -k c", "-sk c", "-k -s c", "-s --json c", "--json c -s", "-se c", "-s -f c", "-C -s c", "-st c",
         "-sK c", "-s --v1-big c", "-s=yes c", "--for 3 c", "-c --for=3 c", "-k --for 3 c", "--json --for 3 c",
         "-s --for 3 --for 3 c", "-s --for=3 --for 4 c", "-s --for c", "-s c --for", "-s --for x c", "-s --for= c",
-        "-s --for -1 c", "-s --for +1 c", "-s --for 1.5 c", "-s --for 1h c", "-s --for 0x3 c",
+        "-s --for -1 c", "-s --for +1 c", "-s --for 1.5 c", "-s --for 0x3 c",
         "-s --for 4294967296 c", "-s --for 00000000003 c", "-s --fo 3 c", "-s -for 3 c")),
     *(f"ktremove {rest}" for rest in (
         "-p", "-p b@R", "-e 17", "-p b@R -p b k", "-k 3 -k 3 k", "-k old -k old k", "-k -1 k", "-k 4294967296 k",
         "-k Old k", "-k= k", "-e any k", "-e 65536 k", "-p b@R@R k", "-p b@R/ k", "-p b@R k more", "-p= k",
         "-nk=old k", "-x -k old k", "-k old -n=yes k", "--dry-run=yes -k old k", "-K old k", "--age 3 k",
         "-e 17 --age 3 k", "-k new --age 3 k", "-k old --age k", "-k old --age", "-k old --age= k", "-k old --age -1 k",
-        "-k old --age +1 k", "-k old --age 1d k", "-k old --age 00000000003 k", "-k old --ag 3 k", "-k old -age 3 k")),
+        "-k old --age +1 k", "-k old --age 00000000003 k", "-k old --ag 3 k", "-k old -age 3 k")),
     *(f"ktcopy {rest}" for rest in (
         "-n k", "-p b@R k", "-p", "-k", "-e", "-p b@R@R k t", "-p b@R/ k t", "-p= k t", "-k 3 -k 3 k t",
         "-k new -k 3 k t", "-k New k t", "-k any k t", "-k -1 k t", "-k 4294967296 k t", "-k=new k t", "-e any k t",

@@ -23,8 +23,8 @@ from runs.harness import Outcome, Report, differences, files_in, folder_of, mess
 from runs.rows import Line, shown, text, words_of
 from runs.terminal import EXPLAIN, WAYS, run_explained, run_on_terminal
 from words.phrases import (BAD_DEFAULT, BAD_HEADER, BEGINS_AS_CACHE, BEGINS_AS_KEYTAB, BEGINS_AS_NO_CACHE,
-                           BEGINS_AS_NO_KEYTAB, CAUSES, CLASH, FAULTS, FINDINGS, LARGE, LISTED_AS_KEYTAB, NO_PASSWORDS,
-                           SEE_HELP, SHORT, TO_REPLACE, code, line_fault, unknown)
+                           BEGINS_AS_NO_KEYTAB, CAUSES, CLASH, FAULTS, FINDINGS, LARGE, LISTED_AS_KEYTAB, NO_ENTRY,
+                           NO_PASSWORDS, SEE_HELP, SHORT, TO_REPLACE, code, line_fault, unknown)
 
 ADD = f"{ADD_HOST}\n".encode()
 ADDENT = "addent -key -p host/a@R -k 3 -e 17\n"
@@ -218,6 +218,10 @@ KEYTABS = [
     *(failed(("ktedit", file), "write", cause, None, stdin=ADD, **more) for file, cause, more in (
         ("d/k", "ENOENT", {}), ("k.krbfile", "name of saves", {}), ("x" * 248, "ENAMETOOLONG", {}),
         ("k", "in the way", {"setting": in_the_way}), ("l", "bad link", {"setting": link(b"\xff")}))),
+    *(case(f"wkt of no entry over {image}", "ktutil", image, ("", f"line 1: {NO_ENTRY.replace('NAME', 'k')}"),
+           stdin=b"wkt k\n", status=0, after={"k": image or keytab()})
+      for image in (None, keytab(), keytab(41), b"\5\2\0")),
+    case("wkt of no entry over two", "ktutil", TWO, stdin=b"wkt k\n", status=0),
     case("wkt to a name of saves", "ktutil", None,
          ("k.krbfile: cannot write", f"line 1: {CAUSES['name of saves']}"), stdin=b"wkt k.krbfile\n", status=3),
     # Damaged files, and replies of ktedit.
@@ -334,9 +338,24 @@ def check_keys(report: Report, program: str) -> None:
             report.check(f"{command}: {key} is never shown", told)
 
 
+def check_told(report: Report, program: str) -> None:
+    """Sets KRBFILE_EXPLAIN: `klist -s` prints nothing with it too."""
+    (number, phrase), command = SHORT, "krbfile: unknown command x; see krbfile --help\n"
+    for value, explains in ((b"1", True), (b"00", True), (b"no", True), (b"\xff", True), (b"0", False), (b"", False)):
+        env = {**os.environb, b"KRBFILE_EXPLAIN": value}
+        with folder_of({"k": b""}) as folder:
+            for words, status, said, more in ((("klist", "-k", "k"), 1, f"krbfile: k: not a keytab ({number})\n",
+                                               f"krbfile: {phrase}\n"),
+                                              (("x",), 2, "krbfile: bad command line\n", command),
+                                              (("klist", "-s", "k"), 1, "", "")):
+                wanted = Outcome(status, err=(said + more * explains).encode())
+                report.compare(f"{value!r} in the environment, {words}", wanted, run(program, words, folder, env=env))
+
+
 def check(report: Report, program: str) -> None:
     """Checks keys in lines, and an input and an output that fail."""
     check_keys(report, program)
+    check_told(report, program)
     rows = [(("klist", "-k", "k"), "> /dev/full", "cannot write output", CAUSES["ENOSPC"]),
             *((words, "< .", "cannot read input", CAUSES["EISDIR"])
               for words in (("ktutil",), ("ktedit", "k"), ("ccedit", "k")))]

@@ -78,7 +78,7 @@ MISTAKES: dict[str, list[str | Line]] = {
     "--for is given twice": ["klist -s --for 3 --for=3 k"],
     "--for needs a value": ["klist -s k --for"],
     **{f'"{word}" is no time (90, 15m, 10h, 7d)': [f"klist -s --for {word} k", f"ktremove -k old --age={word} k"]
-       for word in ("x", "d", "D", "7D", "1.5h", "1d1h", "-1s", "49711d", "99999999d", "71582789m", "1193047h")},
+       for word in ("x", "d", "D", "7D", "1.5h", "1d1h", "49711d", "99999999d", "71582789m", "1193047h")},
     '"4294967296" is no time (90, 15m, 10h, 7d)': ["klist -s --for=4294967296 k", "ktremove -k old --age=4294967296 k"],
     "--allow needs a value": ["ktcheck k --allow", "ktcheck --allow -q k"],
     **{f'"{word}" is no finding': [("ktcheck", "--allow", word, "k"),

@@ -130,7 +130,10 @@ impl Action<'_> {
     /// Returns the action for an input and an error output that are terminals: ktutil prompts for its lines.
     pub fn with_prompts(self) -> Self {
         match self {
-            Action::Ktutil(options) => Action::Ktutil(KtutilOptions { prompts: true, ..options }),
+            Action::Ktutil(options) => Action::Ktutil(KtutilOptions {
+                prompts: true,
+                ..options
+            }),
             action => action,
         }
     }

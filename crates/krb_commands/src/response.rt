@@ -146,7 +146,11 @@ pub fn respond<A: Allocator + Copy, F: Files, R: Read, W: Write, E: Write>(
             run_ktcopy(alloc, options, *from, *to, files, streams)
         }
         Ok(Action::Ktutil(options)) => {
-            let KtutilOptions { v1_order, prompts, .. } = *options;
+            let KtutilOptions {
+                v1_order,
+                prompts,
+                ..
+            } = *options;
             run_ktutil(alloc, v1_order, prompts, now.unwrap_or(0), files, streams)
         }
         Ok(Action::Ccedit(file)) => run_ccedit(alloc, *file, files, streams),

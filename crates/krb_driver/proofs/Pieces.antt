@@ -38,7 +38,7 @@ pub Adds-number : (piece : ℕ → List ℕ) (n : ℕ) (a b c : Watch) (g h k : 
     → Adds a g b h (flat_map piece (range_with_len 0 n)) → Adds b h c k (piece n) → Adds a g c k (flat_map piece (range_with_len 0 (n + 1)))
 Adds-number piece n a b c g h k p q =
     let next : range_with_len 0 (n + 1) ≡ range_with_len 0 n ++ n ∷ [] =
-      sym (map-id (range_with_len 0 (n + 1))) ∙ map-range_with_len_more (λ m. m) 0 n n (omega arith) ∙ ap (λ l. l ++ n ∷ []) (map-id (range_with_len 0 n)) in
+    sym (map-id (range_with_len 0 (n + 1))) ∙ map-range_with_len_more (λ m. m) 0 n n (omega arith) ∙ ap (λ l. l ++ n ∷ []) (map-id (range_with_len 0 n)) in
     let whole = ap (flat_map piece) next ∙ flat_map-append piece (range_with_len 0 n) (n ∷ []) ∙ ap (λ l. flat_map piece (range_with_len 0 n) ++ l) (append-nil (piece n)) in
     subst (Adds a g c k) (sym whole) (Adds-then a b c g h k _ _ p q)
 

@@ -11,7 +11,7 @@ use Rattle.krb_files.specs.Bytes.{Watch}
 use Rattle.krb_files.specs.Plan.{Ends}
 use Rattle.krb_text.specs.Etype.{etype_in}
 use Rattle.krb_text.specs.Found.{removed_line}
-use Rattle.krb_text.specs.Numbers.{number_in}
+use Rattle.krb_text.specs.Numbers.{seconds_in}
 use Rattle.krb_audit.specs.declared.selection.SelectedKvno.{SelectedKvno}
 use Rattle.krb_audit.specs.declared.selection.SelectedKvno.TheVariants.{Old, OldFor}
 use Rattle.krb_audit.specs.declared.selection.Selection.{Selection}
@@ -104,7 +104,7 @@ with_age age kvno = kvno
 pub record SpellsKvno (words : Matched) (kvno : SelectedKvno) : Type 0 where
   pub plain : SelectedKvno
   pub is_spelled : IsSpelledKvno (codes "old") Old (slice_get (words.values (codes "kvno")) 0) plain
-  pub aged : kvno ≡ with_age (option_and_then (number_in 32) (slice_get (words.values (codes "age")) 0)) plain
+  pub aged : kvno ≡ with_age (option_and_then seconds_in (slice_get (words.values (codes "age")) 0)) plain
 
 -- each option is what its own word spells
 pub record SpellsRemoval {A : Type 0} (words : Matched) (options : RemoveOptions A) : Type 0 where

@@ -1,5 +1,5 @@
 -- What a line of ktutil that was run by its plan comes to.
-use Rattle.std.proofs.Common.{◌≡◌, ◌≢◌, ◌⊎◌, inl, inr, ◌∙◌, ℕ, ◌≤◌, Bool, true, false, List, [], ◌∷◌, ◌++◌, Option, Some, None, is_some, length, refl, sym, ap, subst, cond, arith}
+use Rattle.std.proofs.Common.{◌≡◌, ◌≢◌, ◌⊎◌, inl, inr, ◌∙◌, ℕ, ◌≤◌, Bool, true, false, List, [], ◌∷◌, ◌++◌, is_some, length, refl, sym, ap, subst, cond, arith}
 use Rattle.std.specs.Prelude.{Result, Ok, Err}
 use Rattle.std.proofs.lemmas.Bool.{true≢false}
 use Rattle.std.proofs.lemmas.List.{append-nil}
@@ -23,8 +23,12 @@ use Rattle.krb_driver.specs.declared.loading.NoKeytab.TheVariants.{Load, Open}
 use Rattle.krb_driver.specs.declared.verdict.FileKind.TheVariants.{Keytab}
 use Rattle.krb_driver.specs.FileNames.{has_type, is_other_type}
 use Rattle.krb_driver.specs.Loading.{keytab_of, keytab_or_new}
-use Rattle.krb_ktutil.specs.KtutilCommand.{Awaited, Command, Skip, ListSlots, ReadFile, WriteFile, AwaitKey, DeleteSlot, ClearList, Quit, command_of}
-use Rattle.krb_ktutil.specs.KtutilPlan.{KtutilState, Outcome, LineEffect, ComesTo, Saves, LinePlan, Added, kept, line_faults, no_keytab_end, none_added, save_end, with_entries, with_added, saved_as, stays, written_to, key_line, with_key, command_plan, plan_by, plan_of}
+use Rattle.krb_ktutil.specs.KtutilCommand.{Awaited, Command, Skip, ListSlots, ReadFile, WriteFile, AwaitKey, DeleteSlot, ClearList, Quit, asks_for_password, command_of}
+use Rattle.krb_ktutil.specs.KtutilWords.{words}
+use Rattle.krb_ktutil.specs.declared.ktutil.awaiting.Awaiting.{Awaiting}
+use Rattle.krb_ktutil.specs.declared.ktutil.awaiting.Awaiting.TheVariants.{Nothing, Key, Password}
+use Rattle.krb_ktutil.specs.declared.ktutil.save_note.SaveNote.{SaveNote}
+use Rattle.krb_ktutil.specs.KtutilPlan.{KtutilState, Outcome, LineEffect, ComesTo, Saves, LinePlan, Added, after_fault, kept, line_faults, no_keytab_end, none_added, save_end, with_entries, with_added, saved_as, stays, written_to, key_line, with_key, command_plan, plan_by, plan_of}
 use Rattle.krb_ktutil.specs.KtutilFiles.{Shows, RunsOut, Settles, Handles}
 use Rattle.krb_ktutil.specs.KtutilHonest.{ShowsDue, FailsBy, FailsCall, HandlesHonestly, Spares, ReportsMemory, is_done, line_files}
 
@@ -39,7 +43,7 @@ pub record IsCareful (s : KtutilState) (due : Outcome) : Type 0 where
 -- each outcome that a plan comes to without a save is careful
 abbrev Careful : KtutilState → LineEffect → Type 0
 Careful s (ComesTo takes due) = IsCareful s due
-Careful s (Saves name bytes hidden) = Unit {0}
+Careful s (Saves name bytes told) = Unit {0}
 
 abbrev AllCareful : KtutilState → LinePlan → Type 0
 AllCareful s (Ends effect) = Careful s effect
@@ -53,10 +57,10 @@ no_keytab-reported (Load load.Failed) = tt
 no_keytab-reported (Load load.NoMemory) = tt
 no_keytab-reported (Open fault) = tt
 
-save-reported : (hidden : Option ℕ) (answer : Result (Unit {0}) SaveFault) → ReportsMemory (save_end hidden answer)
-save-reported hidden (Ok done) = tt
-save-reported hidden (Err save.Failed) = tt
-save-reported hidden (Err save.NoMemory) = tt
+save-reported : (told : SaveNote) (answer : Result (Unit {0}) SaveFault) → ReportsMemory (save_end told answer)
+save-reported told (Ok done) = tt
+save-reported told (Err save.Failed) = tt
+save-reported told (Err save.NoMemory) = tt
 
 module _ (s : KtutilState) where
   kept-careful : (ending : LineEnd) → ReportsMemory ending → IsCareful s (kept s ending)
@@ -85,24 +89,29 @@ module _ (s : KtutilState) where
   either-all true p q first second = first
   either-all false p q first second = second
 
-  command-careful : (command : Result Command LineFault) → AllCareful s (command_plan s command)
-  command-careful (Err fault) = kept-careful (end.Fault fault) tt
-  command-careful (Ok Skip) = done-careful s []
-  command-careful (Ok (ListSlots columns)) = done-careful s _
-  command-careful (Ok (ReadFile word)) = either-all (is_other_type Keytab word) _ _ (kept-careful end.OtherType tt) (λ answer. entries-careful (keytab_of s.order answer))
-  command-careful (Ok (WriteFile word)) = either-all (has_type word) _ _ (kept-careful end.TypedName tt) (λ answer. written-careful word (keytab_or_new s.order answer))
-  command-careful (Ok (AwaitKey awaited)) = done-careful _ []
-  command-careful (Ok (DeleteSlot slot)) = done-careful _ []
-  command-careful (Ok ClearList) = done-careful _ []
-  command-careful (Ok Quit) = kept-careful end.Quit tt
+  fault-careful : (asks : Bool) (fault : LineFault) → IsCareful s (kept (after_fault asks s) (end.Fault fault))
+  fault-careful true fault = record { entries = λ _. refl; reported = tt; memory = λ is. absurd cc }
+  fault-careful false fault = kept-careful (end.Fault fault) tt
+
+  command-careful : (asks : Bool) (command : Result Command LineFault) → AllCareful s (command_plan s asks command)
+  command-careful asks (Err fault) = fault-careful asks fault
+  command-careful asks (Ok Skip) = done-careful s []
+  command-careful asks (Ok (ListSlots columns)) = done-careful s _
+  command-careful asks (Ok (ReadFile word)) = either-all (is_other_type Keytab word) _ _ (kept-careful end.OtherType tt) (λ answer. entries-careful (keytab_of s.order answer))
+  command-careful asks (Ok (WriteFile word)) = either-all (has_type word) _ _ (kept-careful end.TypedName tt) (λ answer. written-careful word (keytab_or_new s.order answer))
+  command-careful asks (Ok (AwaitKey awaited)) = done-careful _ []
+  command-careful asks (Ok (DeleteSlot slot)) = done-careful _ []
+  command-careful asks (Ok ClearList) = done-careful _ []
+  command-careful asks (Ok Quit) = kept-careful end.Quit tt
 
   key-careful : (x : Awaited) (now : ℕ) (key : Result (List ℕ) LineFault) → Careful s (with_key s x now key)
   key-careful x now (Ok key) = done-careful _ []
   key-careful x now (Err fault) = record { entries = λ _. refl; reported = tt; memory = λ is. absurd cc }
 
-  plan-careful : (now : ℕ) (line : List ℕ) (awaited : Option Awaited) → AllCareful s (plan_by s now line awaited)
-  plan-careful now line None = command-careful (command_of line (length s.entries))
-  plan-careful now line (Some x) = key-careful x now (key_line x.enctype line)
+  plan-careful : (now : ℕ) (line : List ℕ) (awaiting : Awaiting Awaited) → AllCareful s (plan_by s now line awaiting)
+  plan-careful now line Nothing = command-careful (asks_for_password (words line)) (command_of line (length s.entries))
+  plan-careful now line (Key x) = key-careful x now (key_line x.enctype line)
+  plan-careful now line Password = done-careful _ []
 
   by-careful : (plan : LinePlan) (answers : List Answer) → AllCareful s plan → Careful s (by (line_faults s) plan answers)
   by-careful (Ends effect) answers careful = careful
@@ -114,10 +123,9 @@ module _ (s : KtutilState) where
   by-careful (Loads name then_) (Err load.Failed ∷ answers) careful = kept-careful (end.Load load.Failed) tt
   by-careful (Loads name then_) (Err load.NoMemory ∷ answers) careful = kept-careful end.NoMemory tt
 
--- if no key is awaited, a line is a command
-pub plan_of-none : (s : KtutilState) (now : ℕ) (line : List ℕ) (awaited : Option Awaited) → is_some awaited ≡ false → plan_by s now line awaited ≡ command_plan s (command_of line (length s.entries))
-plan_of-none s now line None is = refl
-plan_of-none s now line (Some x) is = absurd (true≢false is)
+-- the plan of a line by what it is awaited as
+pub plan_of-by : (s : KtutilState) (now : ℕ) (line : List ℕ) (awaiting : Awaiting Awaited) → s.awaiting ≡ awaiting → plan_by s now line awaiting ≡ plan_of s now line
+plan_of-by s now line awaiting is = ap (plan_by s now line) (sym is)
 
 -- honest files stay honest, and the count of failures never falls
 abbrev pub Lasts : {F : Type 0} → Ghosts F → F → F → Type 0
@@ -130,11 +138,11 @@ module _ {F : Type 0} (trait : Ghosts F) (old new : KtutilState) (out out' : Lis
 
   settles-careful : (effect : LineEffect) (files files' : F) → Careful old effect → Settles trait old new out out' ending effect files files' → ShowsCareful
   settles-careful (ComesTo takes due) files files' careful settles = (due, careful, settles.1)
-  settles-careful (Saves name bytes hidden) files files' careful settles = (kept old (save_end hidden settles.0), kept-careful old (save_end hidden settles.0) (save-reported hidden settles.0), settles.1.1)
+  settles-careful (Saves name bytes told) files files' careful settles = (kept old (save_end told settles.0), kept-careful old (save_end told settles.0) (save-reported told settles.0), settles.1.1)
 
   settles-lasts : (effect : LineEffect) (files files' : F) → Settles trait old new out out' ending effect files files' → Lasts trait files files'
   settles-lasts (ComesTo takes due) files files' settles = subst (λ (x : F). Lasts trait files x) (sym settles.0) (λ h. h, omega arith)
-  settles-lasts (Saves name bytes hidden) files files' settles = (settles.1.0.honest, settles.1.0.count)
+  settles-lasts (Saves name bytes told) files files' settles = (settles.1.0.honest, settles.1.0.count)
 
   fails-call : (files files' : F) (fault : LineEnd) → SameFiles (trait.file files) (trait.file files') → Shows new out out' ending (kept old fault) → FailsBy trait files files' fault → FailsCall trait files files' old new out out' ending
   fails-call files files' fault same shows why = record {
@@ -146,24 +154,24 @@ module _ {F : Type 0} (trait : Ghosts F) (old new : KtutilState) (out out' : Lis
 
   due-spared : (effect : LineEffect) (files files' : F) → ShowsDue trait effect files files' old new out out' ending → is_done ending ≡ false → SameFiles (trait.file files) (trait.file files')
   due-spared (ComesTo takes due) files files' shows differ = shows.files_are
-  due-spared (Saves name bytes hidden) files files' shows differ = absurd (true≢false (sym (ap is_done shows.shows.ending_is) ∙ differ))
+  due-spared (Saves name bytes told) files files' shows differ = absurd (true≢false (sym (ap is_done shows.shows.ending_is) ∙ differ))
 
   module _ (files between files' : F) (same : SameFiles (trait.file files) (trait.file between)) (le : trait.failure_count files ≤ trait.failure_count between) (h : trait.is_honest between) where
     same-then : files' ≡ between → SameFiles (trait.file files) (trait.file files')
     same-then is = subst (λ (x : F). SameFiles (trait.file files) (trait.file x)) (sym is) same
 
-    saved-comes : (name bytes : List ℕ) (hidden : Option ℕ) (answer : Result (Unit {0}) SaveFault) → SavesFile trait between name bytes answer files' → Shows new out out' ending (kept old (save_end hidden answer))
-        → ShowsDue trait (Saves name bytes hidden) files files' old new out out' ending ⊎ FailsCall trait files files' old new out out' ending
-    saved-comes name bytes hidden (Ok done) saves shows = inl (record { shows = shows; files_are = with_bytes-set (trait.file files) (trait.file between) (trait.file files') name bytes same (saves.sets h) })
-    saved-comes name bytes hidden (Err save.Failed) saves shows =
+    saved-comes : (name bytes : List ℕ) (told : SaveNote) (answer : Result (Unit {0}) SaveFault) → SavesFile trait between name bytes answer files' → Shows new out out' ending (kept old (save_end told answer))
+        → ShowsDue trait (Saves name bytes told) files files' old new out out' ending ⊎ FailsCall trait files files' old new out out' ending
+    saved-comes name bytes told (Ok done) saves shows = inl (record { shows = shows; files_are = with_bytes-set (trait.file files) (trait.file between) (trait.file files') name bytes same (saves.sets h) })
+    saved-comes name bytes told (Err save.Failed) saves shows =
         let counted = count-trans (trait.failure_count files) (trait.failure_count between) (trait.failure_count files') le saves.count (saves.failed refl) in
         inr (fails-call files files' (end.Save save.Failed) (same-trans (trait.file files) (trait.file between) (trait.file files') same (saves.same h)) shows (inl (counted, inr refl)))
-    saved-comes name bytes hidden (Err save.NoMemory) saves shows =
+    saved-comes name bytes told (Err save.NoMemory) saves shows =
         inr (fails-call files files' end.NoMemory (same-trans (trait.file files) (trait.file between) (trait.file files') same (saves.same h)) shows (inr refl))
 
     settles-comes : (effect : LineEffect) → Settles trait old new out out' ending effect between files' → ShowsDue trait effect files files' old new out out' ending ⊎ FailsCall trait files files' old new out out' ending
     settles-comes (ComesTo takes due) settles = inl (record { shows = settles.1; files_are = same-then settles.0 })
-    settles-comes (Saves name bytes hidden) settles = saved-comes name bytes hidden settles.0 settles.1.0 settles.1.1
+    settles-comes (Saves name bytes told) settles = saved-comes name bytes told settles.0 settles.1.0 settles.1.1
 
     -- a line that ended with its loads
     stays-fails : (fault : LineEnd) → FailsBy trait files between fault → Settles trait old new out out' ending (stays old fault) between files' → FailsCall trait files files' old new out out' ending
@@ -175,7 +183,7 @@ module _ {F : Type 0} (trait : Ghosts F) {old new : KtutilState} {out out' : Lis
   handles-careful : (now : ℕ) (line : List ℕ) {files files' : F} → Handles trait (plan_of old now line) files files' old new out out' ending → ShowsCareful trait old new out out' ending
   handles-careful now line handles =
       settles-careful trait old new out out' ending handles.effect handles.between handles.done (elim handles.made [
-        | inl is ↦ subst (Careful old) (sym is) (by-careful old (plan_of old now line) handles.answers (plan-careful old now line old.awaited))
+        | inl is ↦ subst (Careful old) (sym is) (by-careful old (plan_of old now line) handles.answers (plan-careful old now line old.awaiting))
         | inr spent ↦ subst (Careful old) (sym spent.1) (kept-careful old end.NoMemory tt)
       ]) handles.settles
 

@@ -1,5 +1,5 @@
 -- A line was run by its plan, from its steps.
-use Rattle.std.proofs.Common.{◌≡◌, inl, inr, ℕ, true, List, [], ◌∷◌, ◌++◌, refl, sym, ap, subst, ◌∙◌}
+use Rattle.std.proofs.Common.{◌≡◌, inl, inr, ℕ, Bool, true, false, List, [], ◌∷◌, ◌++◌, refl, sym, ap, subst, ◌∙◌}
 use Rattle.std.specs.Prelude.{None, Some, Result, Ok, Err, IsOk}
 use Rattle.std.proofs.lemmas.Bool.{false≢true}
 use Rattle.std.proofs.lemmas.List.{append-nil}
@@ -15,18 +15,17 @@ use Rattle.krb_text.specs.declared.line_fault.LineFault.{LineFault}
 use Rattle.krb_ktutil.specs.declared.ktutil.line_end.LineEnd.{LineEnd}
 use Rattle.krb_ktutil.specs.declared.ktutil.line_end.LineEnd.TheVariants as end
 use Rattle.krb_driver.specs.declared.loading.NoKeytab.{NoKeytab}
-use Rattle.krb_audit.specs.Findings.{hides_added}
 use Rattle.krb_driver.specs.FileNames.{has_type}
 use Rattle.krb_walk.specs.declared.refusal.Code.{Code}
 use Rattle.krb_driver.specs.Loading.{keytab_of, keytab_or_new, Gives, GivesOrRunsOut}
 use Rattle.krb_ktutil.specs.KtutilCommand.{Awaited, AwaitKey, WriteFile, after}
-use Rattle.krb_ktutil.specs.KtutilPlan.{KtutilState, Outcome, LineEffect, ComesTo, Saves, LinePlan, Added, command_plan, kept, line_faults, none_added, reading_plan, save_end, saved_as, stays, with_added, with_entries, writing_plan, written_to}
+use Rattle.krb_ktutil.specs.KtutilPlan.{KtutilState, Outcome, LineEffect, ComesTo, Saves, LinePlan, Added, command_plan, kept, line_faults, none_added, note_of, reading_plan, save_end, saved_as, stays, with_added, with_entries, writing_plan, written_to}
 use Rattle.krb_ktutil.specs.KtutilFiles.{Shows, EndsAt, Finishes, Settles, GoesOn, Handles}
 
 -- memory ran out for an entry that would have awaited its key
-pub finishes_spent : (s : KtutilState) (given : Result Awaited LineFault) → IsOk given → Finishes (command_plan s (after (λ awaited. Ok (AwaitKey awaited)) given)) s s end.NoMemory
-finishes_spent s (Ok awaited) is = inr (refl, record { state_is = refl; same = refl; ending_is = refl })
-finishes_spent s (Err fault) is = absurd (false≢true is)
+pub finishes_spent : (s : KtutilState) (asks : Bool) (given : Result Awaited LineFault) → IsOk given → Finishes (command_plan s asks (after (λ awaited. Ok (AwaitKey awaited)) given)) s s end.NoMemory
+finishes_spent s asks (Ok awaited) is = inr (refl, record { state_is = refl; same = refl; ending_is = refl })
+finishes_spent s asks (Err fault) is = absurd (false≢true is)
 
 -- nothing was printed, after any text
 shows_quiet : {new : KtutilState} {ending : LineEnd} {due : Outcome} → Shows new [] [] ending due → (out : List ℕ) → Shows new out out ending due
@@ -48,7 +47,7 @@ module _ {F : Type 0} (trait : Ghosts F) where
   handles_end (Ends (ComesTo takes due)) files old new out out' ending (inr out_of) =
       let spent : Shows new out out' ending (kept old end.NoMemory) = record { state_is = out_of.1.state_is; appended = out_of.1.same ∙ sym (append-nil out); ending_is = out_of.1.ending_is } in
       record { answers = []; between = files; loads = (refl, refl); effect = stays old end.NoMemory; made = inr (out_of.0, refl); done = files; settles = (refl, spent); leaves = refl }
-  handles_end (Ends (Saves name bytes hidden)) files old new out out' ending e = absurd e
+  handles_end (Ends (Saves name bytes told)) files old new out out' ending e = absurd e
   handles_end (Holds held name plan) files old new out out' ending e = absurd e
   handles_end (Loads name then_) files old new out out' ending e = absurd e
 
@@ -59,12 +58,12 @@ module _ {F : Type 0} (trait : Ghosts F) where
       record { answers = []; between = files; loads = (refl, refl); effect = stays s ending; made = inl refl; done = files; settles = (refl, shows); leaves = refl }
 
   -- nothing is written under a name that begins with a type
-  pub handles_typed : (s : KtutilState) (word : List ℕ) (files : F) → has_type word ≡ true → Handles trait (command_plan s (Ok (WriteFile word))) files files s s [] [] end.TypedName
+  pub handles_typed : (s : KtutilState) (word : List ℕ) (files : F) → has_type word ≡ true → Handles trait (command_plan s false (Ok (WriteFile word))) files files s s [] [] end.TypedName
   handles_typed s word files typed = rw typed handles_stays
 
   settles_quiet : (effect : LineEffect) (files files' : F) (old new : KtutilState) (ending : LineEnd) → Settles trait old new [] [] ending effect files files' → (out : List ℕ) → Settles trait old new out out ending effect files files'
   settles_quiet (ComesTo takes due) files files' old new ending settles out = (settles.0, shows_quiet settles.1 out)
-  settles_quiet (Saves name bytes hidden) files files' old new ending settles out = (settles.0, (settles.1.0, shows_quiet settles.1.1 out))
+  settles_quiet (Saves name bytes told) files files' old new ending settles out = (settles.0, (settles.1.0, shows_quiet settles.1.1 out))
 
   -- a plan that prints nothing
   pub handles_quiet : {plan : LinePlan} {files files' : F} {old new : KtutilState} {ending : LineEnd} → Handles trait plan files files' old new [] [] ending → (out : List ℕ) → Handles trait plan files files' old new out out ending
@@ -91,7 +90,7 @@ module _ {F : Type 0} (trait : Ghosts F) where
   goes_finished : (effect : LineEffect) (files : F) (old new : KtutilState) (ending : LineEnd) → Finishes (Ends effect) old new ending → GoesOn trait old new ending effect files files
   goes_finished (ComesTo takes due) files old new ending (inl shows) = inl (refl, shows)
   goes_finished (ComesTo takes due) files old new ending (inr out_of) = inr (refl, record { state_is = out_of.1.state_is; appended = out_of.1.same; ending_is = out_of.1.ending_is })
-  goes_finished (Saves name bytes hidden) files old new ending e = absurd e
+  goes_finished (Saves name bytes told) files old new ending e = absurd e
 
   -- a load whose keytab was read
   pub handles_read : (s new : KtutilState) (name : List ℕ) (files between : F) (given : Result KeytabState NoKeytab) (ending : LineEnd)
@@ -129,7 +128,7 @@ module _ {F : Type 0} (trait : Ghosts F) where
 
   -- a keytab to which entries were added was saved, or the save failed
   pub goes_saved : (s : KtutilState) (name : List ℕ) (x : Added) (files files' : F) (answer : Result (Unit {0}) SaveFault) (ending : LineEnd)
-      → SavesFile trait files name (image_of x.keytab) answer files' → ending ≡ save_end (hides_added x.keytab x.places) answer → GoesOn trait s s ending (saved_as s name (Ok x)) files files'
+      → SavesFile trait files name (image_of x.keytab) answer files' → ending ≡ save_end (note_of x) answer → GoesOn trait s s ending (saved_as s name (Ok x)) files files'
   goes_saved s name x files files' answer ending saves ends = inl (answer, (saves, record { state_is = refl; appended = refl; ending_is = ends }))
 
   -- entries were added to a keytab, and what is due was done with it

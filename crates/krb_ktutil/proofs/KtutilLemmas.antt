@@ -16,6 +16,7 @@ use Rattle.krb_ktutil.specs.InputLines.{InputParts, lines_of, with_newlines, Has
 use Rattle.krb_files.specs.Loading.{most_bytes}
 use Rattle.krb_ktutil.specs.KtutilTalk.{Talk, first_talk, goes_on, AreFirst, Continues, EndsTalk, HandlesLine, Stops, TalksOver}
 use Rattle.krb_ktutil.specs.Ktutil.{HandlesNext, RunsKtutil}
+use Rattle.krb_ktutil.specs.KtutilPrompts.{Prompts, prompt_of, last_prompt}
 use Rattle.krb_ktutil.specs.KtutilDue.{TalksHonestly}
 use Rattle.krb_ktutil.proofs.KtutilHonestly.{honest_after, honest_in_line, honest_unread}
 use Rattle.krb_files.specs.Reader.{Source, ConsumesAtMost, is_failed}
@@ -87,16 +88,18 @@ too_long None left read consumes long = tt
 too_long (Some bytes) None read consumes long = absurd consumes
 too_long (Some bytes) (Some rest) read consumes long = rw consumes (omega (arith, long, length-append read rest))
 
-module _ {F : Type 0} (trait : Ghosts F) (now : ℕ) where
-  -- one more line was run
-  TalksOver-line : (number : ℕ) (lines : List (List ℕ)) (next : ℕ) (line : List ℕ) (old mid new : Talk F) → TalksOver trait now number lines old mid → next ≡ number + length lines
-      → Continues trait now next line mid new → TalksOver trait now number (lines ++ line ∷ []) old new
-  TalksOver-line number [] next line old mid new talked is continues =
+module _ {F : Type 0} (trait : Ghosts F) (prompts : Bool) (now : ℕ) where
+  -- one more line was run, after its prompt
+  TalksOver-line : (number : ℕ) (lines : List (List ℕ)) (next : ℕ) (line : List ℕ) (old mid new : Talk F) (asked : ErrorWatch) → TalksOver trait now prompts number lines old mid → next ≡ number + length lines
+      → Prompts prompts (prompt_of mid.state.awaiting) mid.err asked → Continues trait now next line (record mid { err = asked }) new → TalksOver trait now prompts number (lines ++ line ∷ []) old new
+  TalksOver-line number [] next line old mid new asked talked is prompted continues =
       let at : next ≡ number = omega (arith, is) in
-      (new, subst (λ (t : Talk F). Continues trait now number line t new) talked (subst (λ (n : ℕ). Continues trait now n line mid new) at continues), refl)
-  TalksOver-line number (first ∷ lines) next line old mid new talked is continues =
+      let Proceeds : Talk F → Type 0 = λ t. Prompts prompts (prompt_of t.state.awaiting) t.err asked × Continues trait now number line (record t { err = asked }) new in
+      let proceeds = subst Proceeds talked (prompted, subst (λ (n : ℕ). Continues trait now n line (record mid { err = asked }) new) at continues) in
+      (asked, new, proceeds.0, proceeds.1, refl)
+  TalksOver-line number (first ∷ lines) next line old mid new asked talked is prompted continues =
       let after_first : next ≡ number + 1 + length lines = omega (arith, is) in
-      (talked.0, talked.1, TalksOver-line (number + 1) lines next line talked.0 mid new talked.2 after_first continues)
+      (talked.0, talked.1, talked.2, talked.3, TalksOver-line (number + 1) lines next line talked.1 mid new asked talked.4 after_first prompted continues)
 
 -- the end of a line decides whether another may come, and the output
 pub HandlesNext-by : {F : Type 0} (trait : Ghosts F) (now number : ℕ) (line : List ℕ) (old new : Talk F) (ending : LineEnd) → HandlesLine trait now number line old new ending
@@ -106,9 +109,9 @@ HandlesNext-by trait now number line old new ending handles true false goes is =
 HandlesNext-by trait now number line old new ending handles false failed goes is = record { ending = ending; handles = handles; why = inl (sym goes) }
 
 -- lines were run, and the run goes on
-pub record Underway {F : Type 0} (trait : Ghosts F) (now : ℕ) (given : Option (List ℕ)) (first : Talk F) (input : InputParts) (left : Option (List ℕ)) (number : ℕ) (talk : Talk F) : Type 0 where
+pub record Underway {F : Type 0} (trait : Ghosts F) (prompts : Bool) (now : ℕ) (given : Option (List ℕ)) (first : Talk F) (input : InputParts) (left : Option (List ℕ)) (number : ℕ) (talk : Talk F) : Type 0 where
   pub lines : List (List ℕ)
-  pub talked : TalksOver trait now 1 lines first talk
+  pub talked : TalksOver trait now prompts 1 lines first talk
   pub counted : number ≡ length lines
   pub to_come : ToCome given lines input left
   pub consumes : Consumes given left input.read
@@ -129,10 +132,10 @@ none_consumed : (given : Option (List ℕ)) → Consumes given given []
 none_consumed None = tt
 none_consumed (Some bytes) = refl
 
-module _ {F : Type 0} (trait : Ghosts F) (now : ℕ) (given : Option (List ℕ)) where
-  pub Underway-first : (first : Talk F) → IsFalse first.out.failed → (input : InputParts) → input ≡ nothing → Underway trait now given first input given 0 first
+module _ {F : Type 0} (trait : Ghosts F) (prompts : Bool) (now : ℕ) (given : Option (List ℕ)) where
+  pub Underway-first : (first : Talk F) → IsFalse first.out.failed → (input : InputParts) → input ≡ nothing → Underway trait prompts now given first input given 0 first
   Underway-first first well input is =
-      subst (λ (i : InputParts). Underway trait now given first i given 0 first) (sym is) (record {
+      subst (λ (i : InputParts). Underway trait prompts now given first i given 0 first) (sym is) (record {
         lines = [];
         talked = refl;
         counted = refl;
@@ -144,16 +147,17 @@ module _ {F : Type 0} (trait : Ghosts F) (now : ℕ) (given : Option (List ℕ))
         well = well;
       })
 
-  pub Underway-line : (first : Talk F) (old new : InputParts) (left left' : Option (List ℕ)) (number : ℕ) (talk talk' : Talk F) → Underway trait now given first old left number talk
-      → TakesLine old new left left' → EndsInNewline old new ⊎ IsSpent new left' → Grows old.read new.read left left' → IsWithin new → Continues trait now (number + 1) new.line talk talk'
-      → Underway trait now given first new left' (number + 1) talk'
-  Underway-line first old new left left' number talk talk' u takes ends grows within continues =
+  pub Underway-line : (first : Talk F) (old new : InputParts) (left left' : Option (List ℕ)) (number : ℕ) (talk talk' : Talk F) (asked : ErrorWatch) → Underway trait prompts now given first old left number talk
+      → TakesLine old new left left' → EndsInNewline old new ⊎ IsSpent new left' → Grows old.read new.read left left' → IsWithin new
+      → Prompts prompts (prompt_of talk.state.awaiting) talk.err asked → Continues trait now (number + 1) new.line (record talk { err = asked }) talk'
+      → Underway trait prompts now given first new left' (number + 1) talk'
+  Underway-line first old new left left' number talk talk' asked u takes ends grows within prompted continues =
       let counted = u.counted in
       let below = u.below in
       let further = takes.further in
       record {
         lines = u.lines ++ new.line ∷ [];
-        talked = TalksOver-line trait now 1 u.lines (number + 1) new.line first talk talk' u.talked (omega (arith, counted)) continues;
+        talked = TalksOver-line trait prompts now 1 u.lines (number + 1) new.line first talk talk' asked u.talked (omega (arith, counted)) prompted continues;
         counted = omega (arith, counted, length-append u.lines (new.line ∷ []));
         to_come = ToCome-line given u.lines old new left left' u.to_come takes;
         consumes = grown given left left' old.read new.read u.consumes grows;
@@ -193,29 +197,31 @@ due_of lines old new left left' within grows no_more ended =
           ∙ ap (λ (bs : List ℕ). bs ++ slice_range new.read old.next most_bytes) (front ∙ ended.read);
     }
 
-module _ {F : Type 0} (trait : Ghosts F) (now : ℕ) (order : Order) (files : F) (out : Watch) (err : ErrorWatch) (first last : Source) (old new : InputParts) (left : Option (List ℕ)) (number : ℕ) (talk : Talk F)
-    (u : Underway trait now first.left (first_talk order files out err) old left number talk) (grows : Grows old.read new.read left last.left) (within : IsWithin new) where
-  runs : (end : Talk F) → EndsTalk trait now first last u.lines talk end → (trait.is_honest files → TalksHonestly trait now first.left (first_talk order files out err) end) → RunsKtutil trait order now first last files end.files out end.out err end.err end.status
+module _ {F : Type 0} (trait : Ghosts F) (prompts : Bool) (now : ℕ) (order : Order) (files : F) (out : Watch) (err : ErrorWatch) (first last : Source) (old new : InputParts) (left : Option (List ℕ)) (number : ℕ) (talk : Talk F)
+    (u : Underway trait prompts now first.left (first_talk order files out err) old left number talk) (grows : Grows old.read new.read left last.left) (within : IsWithin new) where
+  runs : (end : Talk F) → EndsTalk trait now prompts first last u.lines talk end → (trait.is_honest files → TalksHonestly trait prompts now first.left (first_talk order files out err) end) → RunsKtutil trait order prompts now first last files end.files out end.out err end.err end.status
   runs end ends honest = record { lines = u.lines; last = talk; state = end.state; talked = u.talked; ends = ends; honest = honest; taken = taken first.left left last.left old new u.consumes grows within }
 
   -- the input has ended
-  pub RunsKtutil-after : HasLines old left [] → last.failed ≡ first.failed → RunsKtutil trait order now first last files talk.files out talk.out err talk.err talk.status
-  RunsKtutil-after has well =
-      runs talk (inl (record { all = none_more first.left u.lines (u.to_come [] has); well = well; same = refl }))
-      (honest_after trait now first.left u.lines (first_talk order files out err) talk u.talked (u.to_come [] has))
+  pub RunsKtutil-after : (err' : ErrorWatch) → Prompts prompts (last_prompt talk.state.awaiting) talk.err err' → HasLines old left [] → last.failed ≡ first.failed → RunsKtutil trait order prompts now first last files talk.files out talk.out err err' talk.status
+  RunsKtutil-after err' prompted has well =
+      runs (record talk { err = err' }) (inl (record { all = none_more first.left u.lines (u.to_come [] has); well = well; prompted = prompted; same = refl }))
+      (honest_after trait prompts now first.left u.lines (first_talk order files out err) talk u.talked err' prompted (u.to_come [] has))
 
   -- a line was the last
-  pub RunsKtutil-in_line : (talk' : Talk F) → TakesLine old new left last.left → last.failed ≡ first.failed → Stops trait now (number + 1) new.line talk talk' → RunsKtutil trait order now first last files talk'.files out talk'.out err talk'.err talk'.status
-  RunsKtutil-in_line talk' takes well stops =
+  pub RunsKtutil-in_line : (talk' : Talk F) (asked : ErrorWatch) → Prompts prompts (prompt_of talk.state.awaiting) talk.err asked → TakesLine old new left last.left → last.failed ≡ first.failed → Stops trait now (number + 1) new.line (record talk { err = asked }) talk'
+      → RunsKtutil trait order prompts now first last files talk'.files out talk'.out err talk'.err talk'.status
+  RunsKtutil-in_line talk' asked prompted takes well stops =
       let are_first = ToCome-first first.left (u.lines ++ new.line ∷ []) new last.left (ToCome-line first.left u.lines old new left last.left u.to_come takes) in
-      let stopped = subst (λ (n : ℕ). Stops trait now (n + 1) new.line talk talk') u.counted stops in
-      runs talk' (inr (inl (record { line = new.line; well = well; first = are_first; stops = stopped })))
-      (honest_in_line trait now first.left u.lines (first_talk order files out err) talk u.talked new.line talk' are_first stopped)
+      let stopped = subst (λ (n : ℕ). Stops trait now (n + 1) new.line (record talk { err = asked }) talk') u.counted stops in
+      runs talk' (inr (inl (record { line = new.line; well = well; first = are_first; asked = asked; prompted = prompted; stops = stopped })))
+      (honest_in_line trait prompts now first.left u.lines (first_talk order files out err) talk u.talked new.line talk' asked prompted are_first stopped)
 
   -- the input was not read further
-  pub RunsKtutil-unread : (fault : LoadFault) (details : Details) (err' : ErrorWatch) (status : ℕ) → KeepsLines old new left last.left → IsWithin old → HasNoMore old new → last.failed ≡ (is_failed fault || first.failed) → fault ≢ Missing → (fault ≡ TooLarge → most_bytes < length new.read)
-      → Reports [] None details (Err (input_error fault)) talk.err err' (error_status (input_error fault)) → details.aftermath ≡ None → status ≡ max talk.status (error_status (input_error fault)) → RunsKtutil trait order now first last files talk.files out talk.out err err' status
-  RunsKtutil-unread fault details err' status keeps was no_more failed never too_large reported untold worst =
+  pub RunsKtutil-unread : (fault : LoadFault) (details : Details) (asked err' : ErrorWatch) (status : ℕ) → Prompts prompts (prompt_of talk.state.awaiting) talk.err asked
+      → KeepsLines old new left last.left → IsWithin old → HasNoMore old new → last.failed ≡ (is_failed fault || first.failed) → fault ≢ Missing → (fault ≡ TooLarge → most_bytes < length new.read)
+      → Reports [] None details (Err (input_error fault)) asked err' (error_status (input_error fault)) → details.aftermath ≡ None → status ≡ max talk.status (error_status (input_error fault)) → RunsKtutil trait order prompts now first last files talk.files out talk.out err err' status
+  RunsKtutil-unread fault details asked err' status prompted keeps was no_more failed never too_large reported untold worst =
       let are_first = ToCome-first first.left u.lines new last.left (λ more has. u.to_come more (keeps more has)) in
       let consumes = grown first.left left last.left old.read new.read u.consumes grows in
       runs (record { files = talk.files; state = talk.state; out = talk.out; err = err'; status = status }) (inr (inr (record {
@@ -227,10 +233,12 @@ module _ {F : Type 0} (trait : Ghosts F) (now : ℕ) (order : Order) (files : F)
         first = are_first;
         never = never;
         too_large = λ e. too_long first.left last.left new.read consumes (too_large e);
+        asked = asked;
+        prompted = prompted;
         details = details;
         writes = reported.reports;
         untold = untold;
         worst = worst;
         files = refl;
         out = refl;
-      }))) (honest_unread trait now first.left u.lines (first_talk order files out err) talk u.talked fault are_first details err' status reported untold worst)
+      }))) (honest_unread trait prompts now first.left u.lines (first_talk order files out err) talk u.talked fault are_first details asked err' status prompted reported untold worst)

@@ -1,9 +1,11 @@
 pub mod NewlineLemmas
 pub mod InputLemmas
 pub mod WordLemmas
+pub mod PromptLemmas
 pub mod KtutilLists
 pub mod KtutilHandles
 pub mod KtutilOptions
+pub mod PasswordLemmas
 pub mod KtutilDue
 pub mod KtutilHonestly
 pub mod KtutilLemmas

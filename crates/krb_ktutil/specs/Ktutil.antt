@@ -10,15 +10,15 @@ use Rattle.krb_ktutil.specs.KtutilTalk.{Talk, first_talk, Continues, Stops, Talk
 use Rattle.krb_ktutil.specs.KtutilDue.{TalksHonestly}
 use Rattle.krb_files.specs.Reader.{Source, ConsumesAtMost}
 
--- a run of ktutil: the lines of the input are run in order, up to one that is the last or to the end
-pub record RunsKtutil {F : Type 0} (trait : Ghosts F) (order : Order) (now : ℕ) (input input' : Source) (old new : F) (out out' : Watch) (err err' : ErrorWatch) (status : ℕ) : Type 0 where
+-- a run of ktutil: the lines of the input are run in order, each after its prompt if there are prompts, up to one that is the last or to the end
+pub record RunsKtutil {F : Type 0} (trait : Ghosts F) (order : Order) (prompts : Bool) (now : ℕ) (input input' : Source) (old new : F) (out out' : Watch) (err err' : ErrorWatch) (status : ℕ) : Type 0 where
   pub lines : List (List ℕ)
   pub last : Talk F
   pub state : KtutilState
-  pub talked : TalksOver trait now 1 lines (first_talk order old out err) last
-  pub ends : EndsTalk trait now input input' lines last (record { files = new; state = state; out = out'; err = err'; status = status })
+  pub talked : TalksOver trait now prompts 1 lines (first_talk order old out err) last
+  pub ends : EndsTalk trait now prompts input input' lines last (record { files = new; state = state; out = out'; err = err'; status = status })
   pub taken : ConsumesAtMost input.left input'.left (most_bytes + 1)
-  pub honest : trait.is_honest old → TalksHonestly trait now input.left (first_talk order old out err) (record { files = new; state = state; out = out'; err = err'; status = status })
+  pub honest : trait.is_honest old → TalksHonestly trait prompts now input.left (first_talk order old out err) (record { files = new; state = state; out = out'; err = err'; status = status })
 
 -- ---- for private contracts
 

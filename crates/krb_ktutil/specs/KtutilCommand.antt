@@ -1,5 +1,6 @@
 -- The command of a line of ktutil.
 use Rattle.std.specs.Prelude.{ℕ, List, [], ◌∷◌, Bool, true, false, not, ◌||◌, ◌&&◌, nat_lt, nat_le, codes, Option, None, Some, is_none, ok_or, Result, Ok, Err, if◌then◌else◌}
+use Rattle.std.specs.List.{list_any}
 use Rattle.std.specs.Str.{bytes_eq, is_utf8}
 use Rattle.krb_wire.specs.Spelling.{Parts}
 use Rattle.krb_wire.specs.Reading.{◌>>=◌}
@@ -166,6 +167,10 @@ awaited_of x =
 abbrev pub addition : List (List ℕ) → Result Command LineFault
 addition words = after (λ awaited. Ok (AwaitKey awaited)) (after awaited_of (add_words words))
 
+-- one of the words is just `-password`
+abbrev pub has_password : List (List ℕ) → Bool
+has_password words = list_any (λ word. bytes_eq word (codes "-password")) words
+
 -- ---- a line
 
 -- the command of a verb with these words after it, over `count` slots
@@ -178,6 +183,16 @@ command_by count (Some verb.Add) words = addition words
 command_by count (Some verb.Delete) words = deletion count words
 command_by count (Some verb.Clear) words = alone ClearList words
 command_by count (Some verb.Quit) words = alone Quit words
+
+-- the command is an addition
+abbrev pub is_addition : Option Verb → Bool
+is_addition (Some verb.Add) = true
+is_addition verb = false
+
+-- the words of a line are those of an addition with a key from a password
+abbrev pub asks_for_password : List (List ℕ) → Bool
+asks_for_password [] = false
+asks_for_password (command ∷ options) = is_addition (verb_of command) && has_password options
 
 -- the command of words, over `count` slots; without words it is `Skip`
 abbrev pub command_in : ℕ → List (List ℕ) → Result Command LineFault

@@ -1,23 +1,27 @@
 -- What is due after the lines of ktutil if the files are honest.
-use Rattle.std.specs.Prelude.{◌≡◌, ◌⊎◌, ℕ, ◌+◌, max, Bool, false, IsTrue, IsFalse, List, [], ◌∷◌, ◌++◌, if◌then◌else◌, Option, None, Some, IfSome, Ok}
+use Rattle.std.specs.Prelude.{◌≡◌, ◌⊎◌, ℕ, ◌+◌, max, Bool, false, IsTrue, IsFalse, List, [], ◌∷◌, ◌++◌, if◌then◌else◌, Option, None, Some, IfSome, Ok, Err}
 use Rattle.std.specs.Io.KnownBytes.{Appends}
 use Rattle.krb_files.specs.declared.files.Files.{Ghosts}
 use Rattle.krb_files.specs.declared.files.LoadFault.{LoadFault}
 use Rattle.krb_files.specs.Files.{FileMap, SameFiles, CountsFailure}
 use Rattle.krb_driver.specs.ErrorOutput.{ErrorWatch}
 use Rattle.krb_driver.specs.declared.reporting.details.Details.{Details}
+use Rattle.krb_ktutil.specs.declared.ktutil.awaiting.Awaiting.{Awaiting}
+use Rattle.krb_ktutil.specs.declared.ktutil.line_end.LineEnd.{LineEnd}
 use Rattle.krb_ktutil.specs.KtutilPlan.{KtutilState, is_of_save, plan_of}
 use Rattle.krb_files.specs.Plan.{follow}
 use Rattle.krb_ktutil.specs.KtutilHonest.{line_outcome, line_files}
 use Rattle.krb_ktutil.specs.InputLines.{lines_of}
-use Rattle.krb_ktutil.specs.KtutilCommand.{named_in}
+use Rattle.krb_ktutil.specs.KtutilCommand.{Awaited, named_in}
+use Rattle.krb_ktutil.specs.KtutilPrompts.{Prompts, prompt_of, last_prompt}
 use Rattle.krb_ktutil.specs.KtutilTalk.{Talk, line_run, goes_on, AreFirst}
 use Rattle.krb_driver.specs.Runs.{Run, Reports, ends_by}
 use Rattle.krb_driver.specs.declared.verdict.Verdict.TheVariants.{Well}
 use Rattle.krb_driver.specs.RunErrors.{Ending, input_error}
 
--- a report: an ending, the file that may be named, the line, and whether that ended with its save
+-- a report: the prompt before it, an ending, the file that may be named, the line, and whether that ended with its save
 pub record DueReport : Type 0 where
+  pub prompt : List ℕ
   pub file : List ℕ
   pub line : Option ℕ
   pub ending : Ending
@@ -29,28 +33,42 @@ pub record TalkDue : Type 0 where
   pub out : List ℕ
   pub reported : List DueReport
 
--- the report of a run of that line, which may name that file
-abbrev pub report_of : List ℕ → Option ℕ → Bool → Run → DueReport
-report_of file line saves run = record { file = file; line = line; ending = run.ending; saves = saves }
+-- the report of a run of that line, which may name that file, after that prompt
+abbrev pub report_of : List ℕ → List ℕ → Option ℕ → Bool → Run → DueReport
+report_of prompt file line saves run = record { prompt = prompt; file = file; line = line; ending = run.ending; saves = saves }
 
--- one run, of that line, which may name that file, and no line after it
-abbrev pub last_due : List ℕ → Option ℕ → Bool → Run → FileMap → TalkDue
-last_due file line saves run files = record { files = files; out = run.out; reported = report_of file line saves run ∷ [] }
+-- one run with that report, and no line after it
+abbrev pub last_due : List ℕ → DueReport → FileMap → TalkDue
+last_due out report files = record { files = files; out = out; reported = report ∷ [] }
 
--- one run, and then what is due after it
-abbrev pub due_after : List ℕ → Option ℕ → Bool → Run → TalkDue → TalkDue
-due_after file line saves run due = record { files = due.files; out = run.out ++ due.out; reported = report_of file line saves run ∷ due.reported }
+-- one run with that report, and then what is due after it
+abbrev pub due_after : List ℕ → DueReport → TalkDue → TalkDue
+due_after out report due = record { files = due.files; out = out ++ due.out; reported = report ∷ due.reported }
+
+-- the prompt after all lines: at the end of the input a newline follows it
+abbrev pub final_prompt : Awaiting Awaited → Ending → List ℕ
+final_prompt awaiting (Ok verdict) = last_prompt awaiting
+final_prompt awaiting (Err error) = prompt_of awaiting
+
+-- the report after all lines
+abbrev pub final_report : Awaiting Awaited → Run → DueReport
+final_report awaiting run = report_of (final_prompt awaiting run.ending) [] None false run
+
+-- the report of a line's run after its prompt
+abbrev pub line_report : Awaiting Awaited → ℕ → List ℕ → LineEnd → Run → DueReport
+line_report awaiting number line ending run = report_of (prompt_of awaiting) (named_in line) (Some number) (is_of_save ending) run
 
 -- what is due after lines, run in order from that number up to one that is the last; `final` is due after all of them
 abbrev pub talk_due : Run → ℕ → ℕ → List (List ℕ) → KtutilState → FileMap → TalkDue
-talk_due final now number [] state files = last_due [] None false final files
+talk_due final now number [] state files = last_due final.out (final_report state.awaiting final) files
 talk_due final now number (line ∷ lines) state files =
     let effect = follow files (plan_of state now line) in
     let due = line_outcome state effect in
     let run = line_run number line due.ending due.text in
+    let report = line_report state.awaiting number line due.ending run in
     if goes_on due.ending
-    then due_after (named_in line) (Some number) (is_of_save due.ending) run (talk_due final now (number + 1) lines due.state (line_files files effect))
-    else last_due (named_in line) (Some number) (is_of_save due.ending) run (line_files files effect)
+    then due_after run.out report (talk_due final now (number + 1) lines due.state (line_files files effect))
+    else last_due run.out report (line_files files effect)
 
 -- an ending was reported, with that status, its message whole unless the writer has failed; only a line that ended with its save tells what that left behind
 pub record ReportsDue (due : DueReport) (old new : ErrorWatch) (status : ℕ) : Type 0 where
@@ -58,10 +76,12 @@ pub record ReportsDue (due : DueReport) (old new : ErrorWatch) (status : ℕ) : 
   pub reported : Reports due.file due.line details due.ending old new status
   pub untold : IsFalse due.saves → details.aftermath ≡ None
 
--- these endings were reported in order, and this is the worst of their statuses
-abbrev pub ReportsInTurn : ErrorWatch → ErrorWatch → List DueReport → ℕ → Type 0
-ReportsInTurn old new [] worst = (new ≡ old) × (worst ≡ 0)
-ReportsInTurn old new (t ∷ others) worst = (between : ErrorWatch) × (status : ℕ) × (rest : ℕ) × (ReportsDue t old between status × (ReportsInTurn between new others rest × (worst ≡ max status rest)))
+-- these endings were reported in order, each after its prompt, and this is the worst of their statuses
+abbrev pub ReportsInTurn : Bool → ErrorWatch → ErrorWatch → List DueReport → ℕ → Type 0
+ReportsInTurn prompts old new [] worst = (new ≡ old) × (worst ≡ 0)
+ReportsInTurn prompts old new (t ∷ others) worst =
+    (asked : ErrorWatch) × (between : ErrorWatch) × (status : ℕ) × (rest : ℕ) × (Prompts prompts t.prompt old asked
+    × (ReportsDue t asked between status × (ReportsInTurn prompts between new others rest × (worst ≡ max status rest))))
 
 -- nothing is printed, and all is well
 abbrev pub quiet_run : Run
@@ -71,13 +91,13 @@ quiet_run = record { out = []; ending = Ok Well }
 pub record GivesLines (given : Option (List ℕ)) (lines : List (List ℕ)) (final : Run) : Type 0 where
   pub gives : (IfSome given (λ bytes. lines_of bytes ≡ lines) × (final ≡ quiet_run)) ⊎ (AreFirst lines given × ((fault : LoadFault) × (final ≡ ends_by (input_error fault))))
 
-module _ {F : Type 0} (trait : Ghosts F) where
+module _ {F : Type 0} (trait : Ghosts F) (prompts : Bool) where
   -- a run left what was due
   pub record LeavesDue (due : TalkDue) (old new : Talk F) : Type 0 where
     pub files : SameFiles due.files (trait.file new.files)
     pub out : Appends old.out.contents new.out.contents due.out
     pub worst : ℕ
-    pub err : ReportsInTurn old.err new.err due.reported worst
+    pub err : ReportsInTurn prompts old.err new.err due.reported worst
     pub status : new.status ≡ max old.status worst
 
   -- a run left what was due, unless a file call failed, which is counted, or the output failed

@@ -41,8 +41,8 @@ module _ {F : Type 0} (trait : Ghosts F) where
   -- the effect of a line was done: its bytes, if any, were saved, or the save failed, and its outcome was shown
   abbrev pub Settles : KtutilState → KtutilState → List ℕ → List ℕ → LineEnd → LineEffect → F → F → Type 0
   Settles old new out out' ending (ComesTo takes due) files files' = (files' ≡ files) × Shows new out out' ending due
-  Settles old new out out' ending (Saves name bytes hidden) files files' =
-      (answer : Result (Unit {0}) SaveFault) × (SavesFile trait files name bytes answer files' × Shows new out out' ending (kept old (save_end hidden answer)))
+  Settles old new out out' ending (Saves name bytes told) files files' =
+      (answer : Result (Unit {0}) SaveFault) × (SavesFile trait files name bytes answer files' × Shows new out out' ending (kept old (save_end told answer)))
 
   -- the same for an effect that prints nothing; or memory ran out before it was done
   abbrev pub GoesOn : KtutilState → KtutilState → LineEnd → LineEffect → F → F → Type 0

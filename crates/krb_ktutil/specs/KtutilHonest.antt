@@ -13,16 +13,16 @@ use Rattle.krb_ktutil.specs.KtutilFiles.{Shows}
 -- the outcome of a line if no call fails, and the files after it
 abbrev pub line_outcome : KtutilState → LineEffect → Outcome
 line_outcome s (ComesTo takes due) = due
-line_outcome s (Saves name bytes hidden) = kept s (end.Saved hidden)
+line_outcome s (Saves name bytes told) = kept s (end.Saved told)
 
 abbrev pub line_files : FileMap → LineEffect → FileMap
 line_files files (ComesTo takes due) = files
-line_files files (Saves name bytes hidden) = with_bytes files name bytes
+line_files files (Saves name bytes told) = with_bytes files name bytes
 
 -- a line is done
 abbrev pub is_done : LineEnd → Bool
 is_done end.Done = true
-is_done (end.Saved hidden) = true
+is_done (end.Saved told) = true
 is_done ending = false
 
 -- if an allocation fails, in a file call too, the line ends with `NoMemory` and not with an error of the file

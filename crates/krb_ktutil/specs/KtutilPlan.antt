@@ -6,6 +6,7 @@ use Rattle.krb_walk.specs.declared.refusal.Code.TheVariants as code
 use Rattle.krb_walk.specs.Store.{fault_of}
 use Rattle.krb_keytab.specs.Entry.{EntryParts}
 use Rattle.krb_keytab.specs.Store.{KeytabState, image_of, store_of, entries}
+use Rattle.krb_keytab.specs.Find.{PlacedEntry, placed_entries}
 use Rattle.krb_keytab.specs.Changes.{put_result}
 use Rattle.krb_files.specs.declared.files.LoadFault.TheVariants as load
 use Rattle.krb_files.specs.declared.files.SaveFault.{SaveFault}
@@ -13,8 +14,12 @@ use Rattle.krb_files.specs.declared.files.SaveFault.TheVariants as save
 use Rattle.krb_files.specs.Plan.{Plan, Ends, Holds, Loads, Faults}
 use Rattle.krb_text.specs.declared.line_fault.LineFault.{LineFault}
 use Rattle.krb_text.specs.declared.line_fault.LineFault.TheVariants.{BadKey}
+use Rattle.krb_ktutil.specs.declared.ktutil.awaiting.Awaiting.{Awaiting}
+use Rattle.krb_ktutil.specs.declared.ktutil.awaiting.Awaiting.TheVariants.{Nothing, Key, Password}
 use Rattle.krb_ktutil.specs.declared.ktutil.line_end.LineEnd.{LineEnd}
 use Rattle.krb_ktutil.specs.declared.ktutil.line_end.LineEnd.TheVariants as end
+use Rattle.krb_ktutil.specs.declared.ktutil.save_note.SaveNote.{SaveNote}
+use Rattle.krb_ktutil.specs.declared.ktutil.save_note.SaveNote.TheVariants as note
 use Rattle.krb_driver.specs.declared.loading.NoKeytab.{NoKeytab}
 use Rattle.krb_driver.specs.declared.loading.NoKeytab.TheVariants.{Load, Open}
 use Rattle.krb_driver.specs.Loading.{keytab_of, keytab_or_new, result_map}
@@ -24,14 +29,24 @@ use Rattle.krb_driver.specs.FileNames.{bare_name, has_type, is_other_type}
 use Rattle.krb_audit.specs.Findings.{hides_added}
 use Rattle.krb_text.specs.Slots.{slot_text}
 use Rattle.krb_text.specs.Word.{key_word}
-use Rattle.krb_ktutil.specs.KtutilWords.{is_word, trimmed}
-use Rattle.krb_ktutil.specs.KtutilCommand.{Awaited, Command, Skip, ListSlots, ReadFile, WriteFile, AwaitKey, DeleteSlot, ClearList, Quit, command_of}
+use Rattle.krb_ktutil.specs.KtutilWords.{is_word, trimmed, words}
+use Rattle.krb_ktutil.specs.KtutilCommand.{Awaited, Command, Skip, ListSlots, ReadFile, WriteFile, AwaitKey, DeleteSlot, ClearList, Quit, asks_for_password, command_of}
 
--- a list of entries, an entry that awaits its key, if there is one, and the byte order of version 1 keytabs
+-- a list of entries, what is awaited, and the byte order of version 1 keytabs
 pub record KtutilState : Type 0 where
   pub order : Order
   pub entries : List EntryParts
-  pub awaited : Option Awaited
+  pub awaiting : Awaiting Awaited
+
+-- a key or a password is awaited
+abbrev pub is_pending : {K : Type 0} → Awaiting K → Bool
+is_pending Nothing = false
+is_pending awaiting = true
+
+-- the entry that awaits its key
+abbrev pub awaited_entry : {K : Type 0} → Awaiting K → Option K
+awaited_entry (Key x) = Some x
+awaited_entry awaiting = None
 
 -- the outcome of a line: the state after it, the text that it prints, and how it ends
 pub record Outcome : Type 0 where
@@ -39,10 +54,10 @@ pub record Outcome : Type 0 where
   pub text : List ℕ
   pub ending : LineEnd
 
--- the effect of a line: an outcome, and whether it takes memory; or bytes to save under a name, where the state stays, and the place from which on MIT's programs see no entry, if they do not see one that was added
+-- the effect of a line: an outcome, and whether it takes memory; or bytes to save under a name, where the state stays, and what is told of their keytab
 pub data LineEffect : Type 0 where
   ComesTo : Bool → Outcome → LineEffect
-  Saves : List ℕ → List ℕ → Option ℕ → LineEffect
+  Saves : List ℕ → List ℕ → SaveNote → LineEffect
 
 -- all that a line does
 abbrev pub LinePlan : Type 0
@@ -78,15 +93,15 @@ no_keytab_end (Load load.Failed) = end.Load load.Failed
 no_keytab_end (Load load.NoMemory) = end.NoMemory
 no_keytab_end (Open why) = end.NotAKeytab why
 
--- how a line ends after the save of its file: it tells the place from which on MIT's programs see no entry, if there is one and the save did not fail
-abbrev pub save_end : Option ℕ → Result (Unit {0}) SaveFault → LineEnd
-save_end hidden (Ok done) = end.Saved hidden
-save_end hidden (Err save.Failed) = end.Save save.Failed
-save_end hidden (Err save.NoMemory) = end.NoMemory
+-- how a line ends after the save of its file: nothing is told of a keytab whose save failed
+abbrev pub save_end : SaveNote → Result (Unit {0}) SaveFault → LineEnd
+save_end told (Ok done) = end.Saved told
+save_end told (Err save.Failed) = end.Save save.Failed
+save_end told (Err save.NoMemory) = end.NoMemory
 
 -- a line ends with its save, done or failed
 abbrev pub is_of_save : LineEnd → Bool
-is_of_save (end.Saved hidden) = true
+is_of_save (end.Saved told) = true
 is_of_save (end.Save fault) = true
 is_of_save ending = false
 
@@ -106,6 +121,16 @@ pub record Added : Type 0 where
   pub keytab : KeytabState
   pub places : List ℕ
 
+-- what is told of a keytab with these entries, some of which MIT's programs do not see
+abbrev pub note_by : List PlacedEntry → Option ℕ → SaveNote
+note_by [] hidden = note.NoEntry
+note_by (entry ∷ others) None = note.Plain
+note_by (entry ∷ others) (Some place) = note.HiddenFrom place
+
+-- what is told of a keytab to which entries were added: that it has no entry, or from where on MIT's programs see none, if one that was added is among those
+abbrev pub note_of : Added → SaveNote
+note_of x = note_by (placed_entries x.keytab) (hides_added x.keytab x.places)
+
 -- a keytab before the first addition
 abbrev pub none_added : KeytabState → Added
 none_added k = record { keytab = k; places = [] }
@@ -122,7 +147,7 @@ with_added (e ∷ es) (Err refused) = Err refused
 
 -- the keytab is saved under the name, or the line ends with the refusal
 abbrev pub saved_as : KtutilState → List ℕ → Result Added Code → LineEffect
-saved_as s name (Ok x) = Saves name (image_of x.keytab) (hides_added x.keytab x.places)
+saved_as s name (Ok x) = Saves name (image_of x.keytab) (note_of x)
 saved_as s name (Err refused) = stays s (end.Refused refused)
 
 -- the entries of the list are added to a keytab, and the keytab is saved
@@ -142,8 +167,8 @@ entry_of x now key = record { principal = x.principal; timestamp = now; version 
 
 -- the entry is appended to the list; after a faulty key it is dropped
 abbrev pub with_key : KtutilState → Awaited → ℕ → Result (List ℕ) LineFault → LineEffect
-with_key s x now (Ok key) = grows_to (record s { entries = s.entries ++ entry_of x now key ∷ []; awaited = None })
-with_key s x now (Err fault) = stays (record s { awaited = None }) (end.Fault fault)
+with_key s x now (Ok key) = grows_to (record s { entries = s.entries ++ entry_of x now key ∷ []; awaiting = Nothing })
+with_key s x now (Err fault) = stays (record s { awaiting = Nothing }) (end.Fault fault)
 
 -- ---- a line
 
@@ -155,28 +180,34 @@ reading_plan s name = Loads name (λ answer. Ends (with_entries s (keytab_of s.o
 abbrev pub writing_plan : KtutilState → List ℕ → LinePlan
 writing_plan s name = Loads name (λ answer. Ends (written_to s name (keytab_or_new s.order answer)))
 
--- the plan of a command, or of a faulty line: only a file is read, named with its type or without it, and nothing is written under a name that begins with a type
-abbrev pub command_plan : KtutilState → Result Command LineFault → LinePlan
-command_plan s (Err fault) = Ends (stays s (end.Fault fault))
-command_plan s (Ok Skip) = Ends (becomes s)
-command_plan s (Ok (ListSlots columns)) = Ends (ComesTo true (record { state = s; text = slot_text columns s.entries; ending = end.Done }))
-command_plan s (Ok (ReadFile word)) =
-    if is_other_type Keytab word then Ends (stays s end.OtherType) else reading_plan s (bare_name Keytab word)
-command_plan s (Ok (WriteFile word)) =
-    if has_type word then Ends (stays s end.TypedName) else Holds true word (writing_plan s word)
-command_plan s (Ok (AwaitKey awaited)) = Ends (grows_to (record s { awaited = Some awaited }))
-command_plan s (Ok (DeleteSlot slot)) = Ends (becomes (record s { entries = remove s.entries (slot - 1) }))
-command_plan s (Ok ClearList) = Ends (becomes (record s { entries = [] }))
-command_plan s (Ok Quit) = Ends (stays s end.Quit)
+-- the state after a faulty line: a password is awaited if the line asks for one
+abbrev pub after_fault : Bool → KtutilState → KtutilState
+after_fault true s = record s { awaiting = Password }
+after_fault false s = s
 
--- if a key is awaited, the line is that key, whatever it is
-abbrev pub plan_by : KtutilState → ℕ → List ℕ → Option Awaited → LinePlan
-plan_by s now line None = command_plan s (command_of line (length s.entries))
-plan_by s now line (Some x) = Ends (with_key s x now (key_line x.enctype line))
+-- the plan of a command, or of a faulty line, which may ask for a password: only a file is read, named with its type or without it, and nothing is written under a name that begins with a type
+abbrev pub command_plan : KtutilState → Bool → Result Command LineFault → LinePlan
+command_plan s asks (Err fault) = Ends (stays (after_fault asks s) (end.Fault fault))
+command_plan s asks (Ok Skip) = Ends (becomes s)
+command_plan s asks (Ok (ListSlots columns)) = Ends (ComesTo true (record { state = s; text = slot_text columns s.entries; ending = end.Done }))
+command_plan s asks (Ok (ReadFile word)) =
+    if is_other_type Keytab word then Ends (stays s end.OtherType) else reading_plan s (bare_name Keytab word)
+command_plan s asks (Ok (WriteFile word)) =
+    if has_type word then Ends (stays s end.TypedName) else Holds true word (writing_plan s word)
+command_plan s asks (Ok (AwaitKey awaited)) = Ends (grows_to (record s { awaiting = Key awaited }))
+command_plan s asks (Ok (DeleteSlot slot)) = Ends (becomes (record s { entries = remove s.entries (slot - 1) }))
+command_plan s asks (Ok ClearList) = Ends (becomes (record s { entries = [] }))
+command_plan s asks (Ok Quit) = Ends (stays s end.Quit)
+
+-- if a key or a password is awaited, the line is that, whatever it is; a password is passed over
+abbrev pub plan_by : KtutilState → ℕ → List ℕ → Awaiting Awaited → LinePlan
+plan_by s now line Nothing = command_plan s (asks_for_password (words line)) (command_of line (length s.entries))
+plan_by s now line (Key x) = Ends (with_key s x now (key_line x.enctype line))
+plan_by s now line Password = Ends (becomes (record s { awaiting = Nothing }))
 
 -- the plan of a line
 abbrev pub plan_of : KtutilState → ℕ → List ℕ → LinePlan
-plan_of s now line = plan_by s now line s.awaited
+plan_of s now line = plan_by s now line s.awaiting
 
 -- a plan takes memory; a file call may take some
 abbrev pub takes_memory : LinePlan → Bool

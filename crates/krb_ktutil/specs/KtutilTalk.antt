@@ -7,29 +7,39 @@ use Rattle.krb_files.specs.declared.files.LoadFault.TheVariants.{Missing, TooLar
 use Rattle.std.specs.Io.KnownBytes.{Consumes}
 use Rattle.krb_files.specs.Bytes.{Watch}
 use Rattle.krb_files.specs.Reader.{Source, is_failed}
+use Rattle.krb_ktutil.specs.declared.ktutil.awaiting.Awaiting.TheVariants.{Nothing}
+use Rattle.krb_ktutil.specs.declared.ktutil.save_note.SaveNote.{SaveNote}
+use Rattle.krb_ktutil.specs.declared.ktutil.save_note.SaveNote.TheVariants as note
 use Rattle.krb_ktutil.specs.declared.ktutil.line_end.LineEnd.{LineEnd}
 use Rattle.krb_ktutil.specs.declared.ktutil.line_end.LineEnd.TheVariants as end
 use Rattle.krb_driver.specs.declared.file_name.NameSource.TheVariants.{Word}
 use Rattle.krb_driver.specs.declared.reporting.details.Details.{Details}
-use Rattle.krb_driver.specs.declared.verdict.Verdict.TheVariants.{Well}
+use Rattle.krb_driver.specs.declared.verdict.Verdict.{Verdict}
+use Rattle.krb_driver.specs.declared.verdict.Verdict.TheVariants as verdict
 use Rattle.krb_driver.specs.declared.error.RunError.TheVariants as error
-use Rattle.krb_driver.specs.Verdicts.{hiding}
 use Rattle.krb_driver.specs.ErrorOutput.{ErrorWatch}
 use Rattle.krb_ktutil.specs.KtutilCommand.{named_in}
 use Rattle.krb_ktutil.specs.FaultyLines.{fault_error}
 use Rattle.krb_ktutil.specs.KtutilWords.{words}
 use Rattle.krb_ktutil.specs.KtutilPlan.{KtutilState, is_of_save, plan_of}
 use Rattle.krb_ktutil.specs.KtutilFiles.{Handles}
+use Rattle.krb_ktutil.specs.KtutilPrompts.{Prompts, prompt_of, last_prompt}
 use Rattle.krb_ktutil.specs.InputLines.{CutsOff, lines_of}
 use Rattle.krb_files.specs.Loading.{most_bytes}
 use Rattle.krb_driver.specs.Runs.{Run, ReportsEnd, EndsRun}
 use Rattle.krb_driver.specs.RunErrors.{Ending, input_error, load_error, save_error, error_status}
 
+-- the verdict of a save of which that is told
+abbrev pub saved_verdict : SaveNote → Verdict
+saved_verdict note.Plain = verdict.Well
+saved_verdict (note.HiddenFrom place) = verdict.HiddenFrom place
+saved_verdict note.NoEntry = verdict.NoEntry
+
 -- the ending of a line, which has that number
 abbrev pub ending_of : ℕ → List ℕ → LineEnd → Ending
-ending_of number line end.Done = Ok Well
-ending_of number line (end.Saved hidden) = Ok (hiding hidden Well)
-ending_of number line end.Quit = Ok Well
+ending_of number line end.Done = Ok verdict.Well
+ending_of number line (end.Saved told) = Ok (saved_verdict told)
+ending_of number line end.Quit = Ok verdict.Well
 ending_of number line (end.Fault fault) = Err (fault_error number (words line) fault)
 ending_of number line (end.Refused code) = Err (error.LineRefused number code)
 ending_of number line (end.NotAKeytab why) = Err (error.NotAKeytab why)
@@ -49,7 +59,7 @@ goes_on end.Quit = false
 goes_on end.NoMemory = false
 goes_on ending = true
 
--- a run between two lines: the files, the list of entries, the outputs, and the worst status so far
+-- a run between two lines: the files, the list of entries and what is awaited, the outputs, and the worst status so far
 pub record Talk (F : Type 0) : Type 0 where
   pub files : F
   pub state : KtutilState
@@ -61,7 +71,7 @@ pub record Talk (F : Type 0) : Type 0 where
 abbrev pub first_talk : {F : Type 0} → Order → F → Watch → ErrorWatch → Talk F
 first_talk order files out err = record {
   files = files;
-  state = record { order = order; entries = []; awaited = None };
+  state = record { order = order; entries = []; awaiting = Nothing };
   out = out;
   err = err;
   status = 0;
@@ -94,43 +104,51 @@ module _ {F : Type 0} (trait : Ghosts F) (now : ℕ) where
     pub handles : HandlesLine number line old new ending
     pub why : IsFalse (goes_on ending) ⊎ IsTrue new.out.failed
 
-  -- lines were run one after the other, the first of them with that number
-  abbrev pub TalksOver : ℕ → List (List ℕ) → Talk F → Talk F → Type 0
-  TalksOver number [] old new = new ≡ old
-  TalksOver number (line ∷ lines) old new = (between : Talk F) × Continues number line old between × TalksOver (number + 1) lines between new
+  module _ (prompts : Bool) where
+    -- lines were run one after the other, each after its prompt, the first of them with that number
+    abbrev pub TalksOver : ℕ → List (List ℕ) → Talk F → Talk F → Type 0
+    TalksOver number [] old new = new ≡ old
+    TalksOver number (line ∷ lines) old new =
+        (asked : ErrorWatch) × (between : Talk F) × Prompts prompts (prompt_of old.state.awaiting) old.err asked
+        × Continues number line (record old { err = asked }) between × TalksOver (number + 1) lines between new
 
-  module _ (input input' : Source) (lines : List (List ℕ)) (last end : Talk F) where
-    -- the input has these lines and no more
-    pub record EndsAfterLines : Type 0 where
-      pub all : IfSome input.left (λ bytes. lines_of bytes ≡ lines)
-      pub well : input'.failed ≡ input.failed
-      pub same : end ≡ last
+    module _ (input input' : Source) (lines : List (List ℕ)) (last end : Talk F) where
+      -- the input has these lines and no more; a newline follows the prompt that stands there
+      pub record EndsAfterLines : Type 0 where
+        pub all : IfSome input.left (λ bytes. lines_of bytes ≡ lines)
+        pub well : input'.failed ≡ input.failed
+        pub prompted : Prompts prompts (last_prompt last.state.awaiting) last.err end.err
+        pub same : end ≡ record last { err = end.err }
 
-    -- one more line was run, and it was the last
-    pub record EndsInLine : Type 0 where
-      pub line : List ℕ
-      pub first : AreFirst (lines ++ line ∷ []) input.left
-      pub well : input'.failed ≡ input.failed
-      pub stops : Stops (length lines + 1) line last end
+      -- one more line was run after its prompt, and it was the last
+      pub record EndsInLine : Type 0 where
+        pub line : List ℕ
+        pub first : AreFirst (lines ++ line ∷ []) input.left
+        pub well : input'.failed ≡ input.failed
+        pub asked : ErrorWatch
+        pub prompted : Prompts prompts (prompt_of last.state.awaiting) last.err asked
+        pub stops : Stops (length lines + 1) line (record last { err = asked }) end
 
-    -- no more of the input was read, and the reason was reported; what was cut off is not a line
-    pub record EndsUnread : Type 0 where
-      pub fault : LoadFault
-      pub first : AreFirst lines input.left
-      pub never : fault ≢ Missing
-      pub too_large : fault ≡ TooLarge → IfSome input.left (λ bytes. most_bytes < length bytes)
-      pub failed : input'.failed ≡ (is_failed fault || input.failed)
-      -- of what was read, within what an input may have, each line that has its newline was run
-      pub read : List ℕ
-      pub consumes : Consumes input.left input'.left read
-      pub due : CutsOff lines (take most_bytes read) ⊎ IfSome input.left (λ bytes. lines_of bytes ≡ lines)
-      pub details : Details
-      pub writes : ReportsEnd [] None details (Err (input_error fault)) last.err end.err
-      pub untold : details.aftermath ≡ None
-      pub worst : end.status ≡ max last.status (error_status (input_error fault))
-      pub files : end.files ≡ last.files
-      pub out : end.out ≡ last.out
+      -- no more of the input was read after the prompt, and the reason was reported; what was cut off is not a line
+      pub record EndsUnread : Type 0 where
+        pub fault : LoadFault
+        pub first : AreFirst lines input.left
+        pub never : fault ≢ Missing
+        pub too_large : fault ≡ TooLarge → IfSome input.left (λ bytes. most_bytes < length bytes)
+        pub failed : input'.failed ≡ (is_failed fault || input.failed)
+        -- of what was read, within what an input may have, each line that has its newline was run
+        pub read : List ℕ
+        pub consumes : Consumes input.left input'.left read
+        pub due : CutsOff lines (take most_bytes read) ⊎ IfSome input.left (λ bytes. lines_of bytes ≡ lines)
+        pub asked : ErrorWatch
+        pub prompted : Prompts prompts (prompt_of last.state.awaiting) last.err asked
+        pub details : Details
+        pub writes : ReportsEnd [] None details (Err (input_error fault)) asked end.err
+        pub untold : details.aftermath ≡ None
+        pub worst : end.status ≡ max last.status (error_status (input_error fault))
+        pub files : end.files ≡ last.files
+        pub out : end.out ≡ last.out
 
-    -- why no line came after these
-    abbrev pub EndsTalk : Type 0
-    EndsTalk = EndsAfterLines ⊎ (EndsInLine ⊎ EndsUnread)
+      -- why no line came after these
+      abbrev pub EndsTalk : Type 0
+      EndsTalk = EndsAfterLines ⊎ (EndsInLine ⊎ EndsUnread)

@@ -6,6 +6,8 @@ pub mod KtutilPlan
 pub mod KtutilFiles
 pub mod KtutilHonest
 pub mod FaultyLines
+pub mod KtutilPrompts
 pub mod KtutilTalk
 pub mod KtutilDue
 pub mod Ktutil
+pub mod Laws

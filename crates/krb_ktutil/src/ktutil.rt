@@ -1,10 +1,12 @@
 //! ktutil: runs the lines of the input.
 
-ghost use Rattle.std.specs.Prelude.{◌≡◌, ◌&&◌, [], None, IsFalse, not};
+ghost use Rattle.std.specs.Prelude.{◌≡◌, ◌&&◌, [], IsFalse, not};
 ghost use Rattle.krb_ktutil.specs.Ktutil.{HandlesNext, RunsKtutil};
-ghost use Rattle.krb_ktutil.specs.KtutilTalk.{ending_of, goes_on};
+ghost use Rattle.krb_ktutil.specs.KtutilTalk.{ending_of, goes_on, saved_verdict};
+ghost use Rattle.krb_ktutil.specs.declared.ktutil.awaiting.Awaiting.TheVariants.{Nothing};
 
 mod addition;
+mod awaiting;
 mod command;
 mod entries;
 mod faulty_lines;
@@ -12,12 +14,15 @@ mod key;
 mod line_end;
 mod named;
 mod options;
+mod prompts;
+mod save_note;
 mod state;
 mod verb;
 mod words;
 
 use crate::input_lines::InputLines;
 use crate::ktutil::faulty_lines::fault_error;
+use crate::ktutil::prompts::show_prompt;
 use krb_driver::{
     CommandName, CommandWords, Details, ErrorOutput, IN_PLACE, NameSource, RunError, Streams,
     V1_BIG, Verdict, details_of, report, show,
@@ -27,6 +32,7 @@ use krb_wire::Order;
 pub use line_end::LineEnd;
 use line_end::details_to_tell;
 pub use named::file_word;
+pub use save_note::SaveNote;
 pub use state::Ktutil;
 use std::alloc::Allocator;
 use std::io::{Read, Write};
@@ -79,13 +85,24 @@ fn goes_on(ending: LineEnd, has_out_failed: bool) -> bool
     !matches!(ending, LineEnd::Quit | LineEnd::NoMemory) && !has_out_failed
 }
 
+// Returns the verdict of a save of which that is told.
+fn saved_verdict(note: SaveNote) -> Verdict
+    ensures { result ≡ saved_verdict note }
+{
+    match note {
+        SaveNote::Plain => Verdict::Well,
+        SaveNote::HiddenFrom(place) => Verdict::HiddenFrom(place),
+        SaveNote::NoEntry => Verdict::NoEntry,
+    }
+}
+
 // Returns the ending of a line, which has that number.
 fn ending_of(number: u64, line: &[u8], ending: LineEnd) -> Result<Verdict, RunError>
     ensures { result ≡ ending_of number line.now ending }
 {
     match ending {
         LineEnd::Done | LineEnd::Quit => Ok(Verdict::Well),
-        LineEnd::Saved(hidden_from) => Ok(Verdict::Well.hiding(hidden_from)),
+        LineEnd::Saved(note) => Ok(saved_verdict(note)),
         LineEnd::Fault(fault) => Err(fault_error(number, line, fault)),
         LineEnd::Refused(code) => Err(RunError::LineRefused { line: number, code }),
         LineEnd::NotAKeytab(why) => Err(RunError::NotAKeytab(why)),
@@ -99,7 +116,7 @@ fn ending_of(number: u64, line: &[u8], ending: LineEnd) -> Result<Verdict, RunEr
 
 impl<A: Allocator + Copy> Talk<A> {
     fn new(alloc: A, v1_order: Order, now: u32) -> Talk<A>
-        ensures state { result.ktutil ≡ record { order = v1_order; entries = []; awaited = None } }
+        ensures state { result.ktutil ≡ record { order = v1_order; entries = []; awaiting = Nothing } }
         ensures now { result.now ≡ now }
         ensures status { result.status ≡ 0 }
     {
@@ -139,16 +156,18 @@ impl<A: Allocator + Copy> Talk<A> {
 
 /// Runs the lines of the input, each as soon as its end is read, up to one that quits, and returns the worst status.
 /// Prints the text of a line before it reads the next one. The run also ends if memory runs out, if `out` fails, or
-/// if the input fails or is too large. Reports errors on `err`; a failure of `err` changes nothing else.
+/// if the input fails or is too large. Writes errors to `err`, and with `prompts` a prompt before it reads a line, and
+/// a newline at the end of the input; a failure of `err` changes nothing else.
 pub fn run_ktutil<A: Allocator + Copy, F: Files, R: Read, W: Write, E: Write>(
     alloc: A,
     v1_order: Order,
+    prompts: bool,
     now: u32,
     files: &mut F,
     streams: &mut Streams<R, W, E>,
 ) -> u8
     requires { IsFalse streams.old.out.failed }
-    ensures { RunsKtutil F.Files v1_order now streams.old.input streams.new.input
+    ensures { RunsKtutil F.Files v1_order prompts now streams.old.input streams.new.input
         files.old files.new streams.old.out streams.new.out streams.old.err streams.new.err result }
 {
     let Streams { input, out, err } = streams;
@@ -156,9 +175,13 @@ pub fn run_ktutil<A: Allocator + Copy, F: Files, R: Read, W: Write, E: Write>(
     let mut talk = Talk::new(alloc, v1_order, now);
     let mut number = 0u64;
     'lines: loop {
+        show_prompt(prompts, talk.ktutil.prompt(), err);
         match lines.read_line(input) {
             Ok(true) => {}
-            Ok(false) => return talk.status,
+            Ok(false) => {
+                show_prompt(prompts, "\n", err);
+                return talk.status;
+            }
             Err(fault) => {
                 let status = report(
                     Err(RunError::of_input(fault)),

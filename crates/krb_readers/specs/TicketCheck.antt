@@ -10,7 +10,7 @@ use Rattle.krb_ccache.specs.Store.{CacheState, PlacedCredential, open_result, pl
 use Rattle.krb_files.specs.declared.files.Files.{Ghosts}
 use Rattle.krb_files.specs.declared.files.LoadFault.TheVariants as load
 use Rattle.krb_files.specs.Loading.{Answer, LoadsFile, most_bytes}
-use Rattle.krb_text.specs.Numbers.{number_in}
+use Rattle.krb_text.specs.Numbers.{seconds_in}
 use Rattle.krb_readers.specs.declared.klist.ticket_check.TicketCheck.{TicketCheck}
 use Rattle.krb_driver.specs.declared.file_name.FileName.{FileName}
 use Rattle.krb_driver.specs.Matches.{Matched, bad_seconds, typed}
@@ -96,4 +96,4 @@ check_mistake words = option_or (odd_check words) (bad_seconds (slice_get (words
 
 -- the seconds are those that the word spells, or 0 if there is none
 abbrev pub check_of : Matched → TicketCheck
-check_of words = record { seconds = unwrap_or (option_and_then (number_in 32) (slice_get (words.values (codes "for")) 0)) 0 }
+check_of words = record { seconds = unwrap_or (option_and_then seconds_in (slice_get (words.values (codes "for")) 0)) 0 }

@@ -1,6 +1,6 @@
 -- Encryption types by IANA's numbers. Key sizes: RFC 3961 (16), 3962 (17, 18), 8009 (19, 20), 4757 (23), 6803 (25, 26).
 -- The names are those that MIT Kerberos reads.
-use Rattle.std.specs.Prelude.{ℕ, List, [], ◌∷◌, ◌++◌, ◌==◌, codes, decimal, Option, None, Some, map, option_map, unwrap_or, Bool, true, false, slice_get}
+use Rattle.std.specs.Prelude.{ℕ, List, [], ◌∷◌, ◌++◌, ◌==◌, codes, decimal, Option, None, Some, map, unwrap_or, Bool, true, false, slice_get}
 use Rattle.std.specs.List.{find, list_any}
 use Rattle.std.specs.Option.{option_and_then, option_map_or}
 use Rattle.std.specs.Str.{str_eq_ignore_ascii_case}

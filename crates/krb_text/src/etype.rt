@@ -57,9 +57,21 @@ fn row_of(etype: u16) -> Row
 {
     match etype {
         1 | 2 | 3 | 4 | 6 | 8 | 24 => unnamed_row(true),
-        16 => named(&["des3-cbc-sha1", "des3-hmac-sha1", "des3-cbc-sha1-kd"], 24, true),
-        17 => named(&["aes128-cts-hmac-sha1-96", "aes128-cts", "aes128-sha1"], 16, false),
-        18 => named(&["aes256-cts-hmac-sha1-96", "aes256-cts", "aes256-sha1"], 32, false),
+        16 => named(
+            &["des3-cbc-sha1", "des3-hmac-sha1", "des3-cbc-sha1-kd"],
+            24,
+            true,
+        ),
+        17 => named(
+            &["aes128-cts-hmac-sha1-96", "aes128-cts", "aes128-sha1"],
+            16,
+            false,
+        ),
+        18 => named(
+            &["aes256-cts-hmac-sha1-96", "aes256-cts", "aes256-sha1"],
+            32,
+            false,
+        ),
         19 => named(&["aes128-cts-hmac-sha256-128", "aes128-sha2"], 16, false),
         20 => named(&["aes256-cts-hmac-sha384-192", "aes256-sha2"], 32, false),
         23 => named(&["arcfour-hmac", "rc4-hmac", "arcfour-hmac-md5"], 16, true),

@@ -9,8 +9,8 @@ use crate::words::parse_words;
 use krb_commands::{Action, Mistake, Streams, WordFault, respond};
 use krb_files::{Files, Watched, put};
 use std::alloc::Global;
-use std::io::{Read, Write};
 use std::env::FillError;
+use std::io::{Read, Write};
 use std::{env, io, rt};
 use wiping::Wiping;
 

@@ -1,9 +1,11 @@
 //! The errors for lines that have a fault.
 
-ghost use Rattle.std.specs.Prelude.{◌≡◌, codes};
-ghost use Rattle.krb_ktutil.specs.FaultyLines.{asks_for_help, asks_for_password, fault_error, has_word, is_addition};
+ghost use Rattle.std.specs.Prelude.{◌≡◌};
+ghost use Rattle.krb_ktutil.specs.FaultyLines.{asks_for_help, fault_error};
+ghost use Rattle.krb_ktutil.specs.KtutilCommand.{asks_for_password, is_addition};
 ghost use Rattle.krb_ktutil.specs.KtutilWords.{words};
 
+use crate::ktutil::options::has_password;
 use crate::ktutil::verb::{Verb, is_either, verb_of};
 use crate::ktutil::words::next_word;
 use krb_driver::RunError;
@@ -15,28 +17,12 @@ fn is_addition(verb: Option<Verb>) -> bool
     matches!(verb, Some(Verb::Add))
 }
 
-// Returns whether one of the words is that one.
-fn has_word(rest: &[u8], name: &str) -> bool
-    ensures { result ≡ has_word name.now (words rest.now) }
-{
-    let mut rest = rest;
-    'words: while let Some((word, after)) = next_word(rest) {
-        if word == name.as_bytes() {
-            return true;
-        }
-        rest = after;
-    }
-    false
-}
-
 // Returns whether a line adds an entry with a key from a password.
 fn asks_for_password(line: &[u8]) -> bool
     ensures { result ≡ asks_for_password (words line.now) }
 {
     match next_word(line) {
-        Some((command, options)) => {
-            is_addition(verb_of(command)) && has_word(options, "-password")
-        }
+        Some((command, options)) => { is_addition(verb_of(command)) && has_password(options) }
         None => false,
     }
 }

@@ -3,6 +3,7 @@
 ghost use Rattle.std.specs.Prelude.{◌≡◌};
 ghost use Rattle.krb_ktutil.specs.KtutilPlan.{no_keytab_end, save_end, told_by};
 
+use crate::ktutil::save_note::SaveNote;
 use krb_driver::{Details, NoKeytab, NotKeytab};
 use krb_files::{LoadFault, SaveFault};
 use krb_text::LineFault;
@@ -12,9 +13,8 @@ use krb_walk::Code;
 #[derive(Clone, Copy, PartialEq, Eq)]
 pub enum LineEnd {
     Done,
-    /// Done, and a file was saved. If there is a place, MIT's programs see no entry from it on, and one that was added is
-    /// among those.
-    Saved(Option<u32>),
+    /// Done, and a file was saved.
+    Saved(SaveNote),
     Quit,
     Fault(LineFault),
     /// A keytab refused what was read from it or added to it.
@@ -41,12 +41,12 @@ impl From<NoKeytab> for LineEnd {
     }
 }
 
-/// Returns how a line ends after the save of its file. If the save failed, nothing is said of what MIT's programs see.
-pub fn save_end(hidden_from: Option<u32>, saved: Result<(), SaveFault>) -> LineEnd
-    ensures { result ≡ save_end hidden_from saved }
+/// Returns how a line ends after the save of its file. If the save failed, nothing is told of the keytab.
+pub fn save_end(note: SaveNote, saved: Result<(), SaveFault>) -> LineEnd
+    ensures { result ≡ save_end note saved }
 {
     match saved {
-        Ok(()) => LineEnd::Saved(hidden_from),
+        Ok(()) => LineEnd::Saved(note),
         Err(SaveFault::NoMemory) => LineEnd::NoMemory,
         Err(SaveFault::Failed) => LineEnd::Save(SaveFault::Failed),
     }

@@ -2,7 +2,7 @@
 
 ghost use Rattle.std.specs.Prelude.{◌≡◌, ◌<◌, ◌+◌, ◌∷◌, None, IfSome, MatchOption, length};
 ghost use Rattle.krb_ktutil.specs.KtutilWords.{words};
-ghost use Rattle.krb_ktutil.specs.KtutilCommand.{after, no_options, is_new_key, with_option, options_in, add_words, awaited_of};
+ghost use Rattle.krb_ktutil.specs.KtutilCommand.{after, no_options, is_new_key, with_option, options_in, add_words, awaited_of, has_password};
 ghost use Rattle.krb_text.specs.LineFault.{Reads};
 
 use crate::ktutil::addition::Addition;
@@ -117,6 +117,20 @@ fn addition_of<A: Allocator + Copy>(
         kvno,
         enctype,
     })
+}
+
+/// Returns whether one of the words is just `-password`.
+pub fn has_password(rest: &[u8]) -> bool
+    ensures { result ≡ has_password (words rest.now) }
+{
+    let mut rest = rest;
+    'words: while let Some((word, after)) = next_word(rest) {
+        if word == b"-password".as_slice() {
+            return true;
+        }
+        rest = after;
+    }
+    false
 }
 
 /// Parses the words after `add_entry` as an entry whose key is still to come.

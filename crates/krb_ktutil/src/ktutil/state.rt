@@ -1,36 +1,36 @@
 //! The list of entries that the lines of ktutil change.
 
+mod additions;
 mod transfer;
 
-ghost use Rattle.std.specs.Prelude.{Some, IsSome, IfSome, ◌≡◌, ◌≤◌, [], None, is_some, length};
-ghost use Rattle.krb_files.specs.Plan.{Ends};
+ghost use Rattle.std.specs.Prelude.{Some, ◌≡◌, ◌≤◌, ◌&&◌, [], false, length};
 ghost use Rattle.krb_ktutil.specs.KtutilWords.{words};
-ghost use Rattle.krb_ktutil.specs.KtutilCommand.{ClearList, Quit, alone, listing, addition, deletion, command_by, command_of};
-ghost use Rattle.krb_ktutil.specs.KtutilPlan.{KtutilState, with_key, command_plan, plan_of};
+ghost use Rattle.krb_ktutil.specs.KtutilCommand.{ClearList, Quit, alone, asks_for_password, has_password, is_addition, listing, deletion, command_by, command_of};
+ghost use Rattle.krb_ktutil.specs.KtutilPlan.{KtutilState, is_pending, command_plan, plan_of};
+ghost use Rattle.krb_ktutil.specs.KtutilPrompts.{prompt_of};
 ghost use Rattle.krb_ktutil.specs.KtutilFiles.{EndsAt, Finishes, Handles, RunsOut};
 ghost use Rattle.krb_ktutil.specs.KtutilHonest.{HandlesHonestly, Spares, ReportsMemory};
 
 use crate::ktutil::addition::Addition;
+use crate::ktutil::awaiting::Awaiting;
 use crate::ktutil::command::{columns, file_name, is_bare, slot};
-use crate::ktutil::key::key_of;
 use crate::ktutil::line_end::LineEnd;
-use crate::ktutil::options::addition;
 use crate::ktutil::verb::{Verb, verb_of};
 use crate::ktutil::words::next_word;
 use krb_files::Files;
 use krb_keytab::NewEntry;
-use krb_text::{LineFault, LineRefusal, list_slots};
+use krb_text::{LineFault, list_slots};
 use krb_wire::Order;
 use std::alloc::Allocator;
 use std::marker::Model;
 
-/// A list of entries, and an entry that awaits its key, if there is one.
+/// A list of entries, and what the next line is.
 #[derive(Drop)]
 pub struct Ktutil<A: Allocator> {
     alloc: A,
     v1_order: Order,
     entries: Vec<NewEntry<A>, A>,
-    awaited: Option<Addition<A>>,
+    awaiting: Awaiting<Addition<A>>,
 }
 
 impl<A: Allocator> Model for Ktutil<A> {
@@ -39,20 +39,20 @@ impl<A: Allocator> Model for Ktutil<A> {
     ghost view = { λ k. record {
       order = k.v1_order;
       entries = k.entries.items;
-      awaited = k.awaited;
+      awaiting = k.awaiting;
     } };
 }
 
 impl<A: Allocator + Copy> Ktutil<A> {
     /// Returns an empty list. `v1_order` is the byte order of version 1 keytabs.
     pub fn new(alloc: A, v1_order: Order) -> Ktutil<A>
-        ensures { result ≡ record { order = v1_order; entries = []; awaited = None } }
+        ensures { result ≡ record { order = v1_order; entries = []; awaiting = Awaiting.Nothing } }
     {
         Ktutil {
             alloc,
             v1_order,
             entries: Vec::new(alloc),
-            awaited: None,
+            awaiting: Awaiting::Nothing,
         }
     }
 
@@ -63,16 +63,23 @@ impl<A: Allocator + Copy> Ktutil<A> {
         &self.entries
     }
 
-    /// Returns whether the next line is read as a key.
+    /// Returns whether the next line is read as a key, or passed over as a password.
     pub fn pending(&self) -> bool
-        ensures { result ≡ is_some self.now.awaited }
+        ensures { result ≡ is_pending self.now.awaiting }
     {
-        self.awaited.is_some()
+        self.awaiting.is_pending()
+    }
+
+    /// Returns the prompt before the next line.
+    pub fn prompt(&self) -> &'static str
+        ensures { result.now ≡ prompt_of self.now.awaiting }
+    {
+        self.awaiting.prompt()
     }
 
     // Lists the slots.
     fn list(&self, rest: &[u8], out: &mut Vec<u8, A>) -> LineEnd
-        ensures { EndsAt (command_plan self.now (listing (words rest.now))) self.now self.now
+        ensures { EndsAt (command_plan self.now false (listing (words rest.now))) self.now self.now
             out.old.items out.new.items result }
     {
         let Some(columns) = columns(rest) else {
@@ -84,67 +91,9 @@ impl<A: Allocator + Copy> Ktutil<A> {
         }
     }
 
-    // Adds the entry that awaits its key, with the time `now`.
-    fn add_with_key(&mut self, key: Vec<u8, A>, now: u32) -> LineEnd
-        requires { IsSome self.old.awaited }
-        ensures { IfSome self.old.awaited (λ x.
-            Finishes (Ends (with_key self.old x now (Ok key.items))) self.old self.new result) }
-    {
-        let Ok(()) = self.entries.reserve(1) else {
-            return LineEnd::NoMemory;
-        };
-        let Some(addition) = self.awaited.take() else {
-            unreachable!()
-        };
-        let entry = NewEntry {
-            principal: addition.principal,
-            timestamp: now,
-            kvno: addition.kvno,
-            enctype: addition.enctype,
-            key,
-        };
-        let Ok(()) = self.entries.push(entry) else {
-            unreachable!()
-        };
-        LineEnd::Done
-    }
-
-    // Reads a line as the key that is awaited: adds its entry, or drops it if the key is faulty.
-    fn take_key(&mut self, line: &[u8], now: u32) -> LineEnd
-        requires { IsSome self.old.awaited }
-        ensures { Finishes (plan_of self.old now line.now) self.old self.new result }
-    {
-        let Some(addition) = &self.awaited else {
-            unreachable!()
-        };
-        match key_of(self.alloc, addition.enctype, line) {
-            Ok(key) => self.add_with_key(key, now),
-            Err(LineRefusal::Fault(fault)) => {
-                self.awaited = None;
-                LineEnd::Fault(fault)
-            }
-            Err(LineRefusal::NoMemory) => LineEnd::NoMemory,
-        }
-    }
-
-    // Parses an entry, whose key is the next line.
-    fn add(&mut self, rest: &[u8]) -> LineEnd
-        ensures { Finishes (command_plan self.old (addition (words rest.now)))
-            self.old self.new result }
-    {
-        match addition(self.alloc, rest) {
-            Ok(addition) => {
-                self.awaited = Some(addition);
-                LineEnd::Done
-            }
-            Err(LineRefusal::Fault(fault)) => LineEnd::Fault(fault),
-            Err(LineRefusal::NoMemory) => LineEnd::NoMemory,
-        }
-    }
-
     // Deletes a slot.
     fn delete(&mut self, rest: &[u8]) -> LineEnd
-        ensures { Finishes (command_plan self.old (deletion (length self.old.entries) (words rest.now)))
+        ensures { Finishes (command_plan self.old false (deletion (length self.old.entries) (words rest.now)))
             self.old self.new result }
     {
         match slot(rest, self.entries.len()) {
@@ -158,7 +107,7 @@ impl<A: Allocator + Copy> Ktutil<A> {
 
     // Empties the list.
     fn clear(&mut self, rest: &[u8]) -> LineEnd
-        ensures { Finishes (command_plan self.old (alone ClearList (words rest.now)))
+        ensures { Finishes (command_plan self.old false (alone ClearList (words rest.now)))
             self.old self.new result }
     {
         if !is_bare(rest) {
@@ -171,7 +120,7 @@ impl<A: Allocator + Copy> Ktutil<A> {
 
 // Ends the run.
 fn quit(rest: &[u8]) -> LineEnd
-    ensures { (s : KtutilState) → Finishes (command_plan s (alone Quit (words rest.now))) s s result }
+    ensures { (s : KtutilState) → Finishes (command_plan s false (alone Quit (words rest.now))) s s result }
 {
     if is_bare(rest) {
         LineEnd::Quit
@@ -190,7 +139,8 @@ impl<A: Allocator + Copy> Ktutil<A> {
         out: &mut Vec<u8, A>,
     ) -> LineEnd
         ensures { Handles F.Files
-            (command_plan self.old (command_by (length self.old.entries) (Some verb) (words rest.now)))
+            (command_plan self.old (is_addition (Some verb) && has_password (words rest.now))
+            (command_by (length self.old.entries) (Some verb) (words rest.now)))
             files.old files.new self.old self.new out.old.items out.new.items result }
     {
         match verb {
@@ -210,9 +160,10 @@ impl<A: Allocator + Copy> Ktutil<A> {
         }
     }
 
-    // Runs a line that is not a key.
+    // Runs a line that is not awaited.
     fn command<F: Files>(&mut self, files: &mut F, line: &[u8], out: &mut Vec<u8, A>) -> LineEnd
-        ensures { Handles F.Files (command_plan self.old (command_of line.now (length self.old.entries)))
+        ensures { Handles F.Files
+            (command_plan self.old (asks_for_password (words line.now)) (command_of line.now (length self.old.entries)))
             files.old files.new self.old self.new out.old.items out.new.items result }
     {
         let Some((word, rest)) = next_word(line) else {
@@ -224,7 +175,26 @@ impl<A: Allocator + Copy> Ktutil<A> {
         }
     }
 
-    /// Runs a line, or reads it as the key if one is awaited. Appends what it prints to `out`.
+    // Runs a line by its plan.
+    fn run_line<F: Files>(
+        &mut self,
+        files: &mut F,
+        line: &[u8],
+        now: u32,
+        out: &mut Vec<u8, A>,
+    ) -> LineEnd
+        ensures { Handles F.Files (plan_of self.old now line.now)
+            files.old files.new self.old self.new out.old.items out.new.items result }
+    {
+        match &self.awaiting {
+            Awaiting::Nothing => self.command(files, line, out),
+            Awaiting::Key(_) => self.take_key(line, now),
+            Awaiting::Password => self.pass_over(),
+        }
+    }
+
+    /// Runs a line, or reads it as the key if one is awaited, or passes over it if a password is. Appends what it prints
+    /// to `out`.
     pub fn line<F: Files>(
         &mut self,
         files: &mut F,
@@ -244,9 +214,6 @@ impl<A: Allocator + Copy> Ktutil<A> {
             → RunsOut self.old self.new out.old.items out.new.items result }
         ensures count { F.Files.failure_count files.old ≤ F.Files.failure_count files.new }
     {
-        if self.pending() {
-            return self.take_key(line, now);
-        }
-        self.command(files, line, out)
+        self.run_line(files, line, now, out)
     }
 }

@@ -61,7 +61,7 @@ fn odd_check<'a, M: Matches<'a>>(matches: &M) -> Option<Mistake<'a>>
     odd_with_cache(matches)
 }
 
-/// Returns what `klist -s` asks for. Refuses options that do not go together, and SECONDS that are no number.
+/// Returns what `klist -s` asks for. Refuses options that do not go together, and a time that cannot be read.
 pub fn ticket_check<'a, M: Matches<'a>>(matches: &M) -> Result<TicketCheck, WordFault<'a>>
     ensures { Reads (check_mistake (M.matched matches.now)) (λ check. check ≡ check_of (M.matched matches.now)) result }
 {

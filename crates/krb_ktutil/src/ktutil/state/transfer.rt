@@ -1,6 +1,6 @@
 //! Reads entries from a file into the list, and adds the list to a file.
 
-ghost use Rattle.std.specs.Prelude.{◌≡◌, [], true, Ok};
+ghost use Rattle.std.specs.Prelude.{◌≡◌, [], true, false, Ok};
 ghost use Rattle.krb_driver.specs.FileNames.{has_type};
 ghost use Rattle.krb_ktutil.specs.KtutilCommand.{ReadFile, WriteFile};
 ghost use Rattle.krb_ktutil.specs.KtutilPlan.{KtutilState, with_entries, reading_plan, writing_plan, saved_as, written_to, command_plan};
@@ -10,7 +10,7 @@ ghost use Rattle.krb_files.specs.Plan.{Ends, Holds};
 use super::Ktutil;
 use crate::ktutil::entries::{add_all, copy_entries};
 use crate::ktutil::line_end::{LineEnd, save_end};
-use krb_audit::hides_added;
+use crate::ktutil::save_note::note_of;
 use krb_driver::{
     FileKind, FileName, NameSource, hold, load_keytab, load_or_new, release, type_of,
 };
@@ -30,7 +30,7 @@ fn save<B: Allocator, F: Files>(
         (saved_as s name.now (Ok (record { keytab = keytab.now.state; places = places.now }))) files.old files.new }
 {
     let saved = files.save(name, keytab.image());
-    save_end(hides_added(keytab, places), saved)
+    save_end(note_of(keytab, places), saved)
 }
 
 // Adds entries to a keytab, with a table of its cells, and saves it under a name.
@@ -91,7 +91,7 @@ impl<A: Allocator + Copy> Ktutil<A> {
 
     // Appends the entries of the file that a word names, unless its type is not read.
     pub(crate) fn read<F: Files>(&mut self, files: &mut F, word: &str) -> LineEnd
-        ensures { Handles F.Files (command_plan self.old (Ok (ReadFile word.now)))
+        ensures { Handles F.Files (command_plan self.old false (Ok (ReadFile word.now)))
             files.old files.new self.old self.new [] [] result }
     {
         let file = FileName::of(FileKind::Keytab, word, NameSource::Word);
@@ -127,7 +127,7 @@ impl<A: Allocator + Copy> Ktutil<A> {
     // Adds the list to the file that a word names, unless the word begins with a type.
     #[tactic(auto, using(crate::proofs::KtutilHandles::handles_typed))]
     pub(crate) fn write<F: Files>(&self, files: &mut F, word: &str) -> LineEnd
-        ensures { Handles F.Files (command_plan self.now (Ok (WriteFile word.now)))
+        ensures { Handles F.Files (command_plan self.now false (Ok (WriteFile word.now)))
             files.old files.new self.now self.now [] [] result }
     {
         if has_type(word) {

@@ -15,4 +15,4 @@ returns g c =
       sets = rw c.image.ensures.spelled at c.save-saved.ensures.ok;
       same = c.save-saved.ensures.err;
     } in
-    λ s. goes_saved g.F.Files s c.args.name.now (record { keytab = c.args.keytab.now.state; places = c.args.places.now }) c.args.files.now c.save-saved.new.self c.save-saved.result c.save_end.result saves (rw c.hides_added.ensures at c.save_end.ensures)
+    λ s. goes_saved g.F.Files s c.args.name.now (record { keytab = c.args.keytab.now.state; places = c.args.places.now }) c.args.files.now c.save-saved.new.self c.save-saved.result c.save_end.result saves (rw c.note_of.ensures at c.save_end.ensures)

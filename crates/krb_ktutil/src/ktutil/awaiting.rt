@@ -1,0 +1,46 @@
+//! What the next line of ktutil is.
+
+ghost use Rattle.std.specs.Prelude.{◌≡◌};
+ghost use Rattle.krb_ktutil.specs.KtutilPlan.{awaited_entry, is_pending};
+ghost use Rattle.krb_ktutil.specs.KtutilPrompts.{prompt_of};
+
+use std::mem;
+
+/// What the next line is: a command, the key of an entry, or a password, which is passed over.
+#[derive(Drop)]
+pub enum Awaiting<K> {
+    Nothing,
+    Key(K),
+    Password,
+}
+
+impl<K: Drop> Awaiting<K> {
+    /// Returns whether the next line is not read as a command.
+    pub fn is_pending(&self) -> bool
+        ensures { result ≡ is_pending self.now }
+    {
+        !matches!(self, Awaiting::Nothing)
+    }
+
+    /// Takes out the entry that awaits its key, if there is one. Nothing is awaited then.
+    pub fn take_entry(&mut self) -> Option<K>
+        ensures taken { result ≡ awaited_entry self.old }
+        ensures nothing { self.new ≡ Awaiting.Nothing }
+    {
+        match mem::replace(self, Awaiting::Nothing) {
+            Awaiting::Key(entry) => Some(entry),
+            _ => None,
+        }
+    }
+
+    /// Returns the prompt before the next line.
+    pub fn prompt(&self) -> &'static str
+        ensures { result.now ≡ prompt_of self.now }
+    {
+        match self {
+            Awaiting::Nothing => "ktutil: ",
+            Awaiting::Key(_) => "key: ",
+            Awaiting::Password => "password (not used): ",
+        }
+    }
+}
