@@ -1,6 +1,7 @@
 """Which file a word names, with a type or without, or the variable of its kind, as every command takes it.
 
-Every command is also given a folder, files of neither kind, and what is not UTF-8. No other variable is looked at.
+Every command is also given a folder, and files of neither kind. No other variable is looked at. default_files has empty
+values and those that are not UTF-8.
 """
 
 from collections.abc import Iterator
