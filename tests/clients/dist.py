@@ -1,5 +1,5 @@
-"""`make dist` packs the same bytes each time, and the program runs where README's line unpacks the archive. `make install`
-puts each file where its readers look."""
+"""`make dist` packs the same bytes each time, and the program runs where README's line unpacks the archive.
+`make install` puts each file where its readers look."""
 
 import os
 import re
@@ -32,8 +32,9 @@ def check(report: Report, program: str) -> None:
         (unpack,) = re.findall(r"^    (tar .*)$", read("README.md"), re.MULTILINE)
         got = run("sh", ("-c", f"{unpack} && printf '\\5\\2' | bin/krbfile ktcheck /dev/stdin"), one)
         report.compare("the archive's program", Outcome(0, b"entries 0 free 0 holes 0\n"), got)
-        olds = (f"-o{name}" for name in (*BUILT, "all", "lib"))
-        made = run("make", (*olds, f"PROGRAM={program}", f"PREFIX={two}", f"PYTHONDIR={two}/py", "install"), TOP, env=env)
+        words = (*(f"-o{name}" for name in (*BUILT, "all", "lib")), f"PROGRAM={program}", f"PREFIX={two}",
+                 f"PYTHONDIR={two}/py", "install")
+        made = run("make", words, TOP, env=env)
         missing = [name for name in (*INSTALLED.split(), "py/krbfile/__init__.py")
                    if not os.path.isfile(os.path.join(two, name))]
         report.check("make install", [f"{made}, without {missing}"] if made.status or missing else [])
