@@ -34,8 +34,8 @@ NAME = krbfile-$(VERSION)-linux-x86_64
 PACKED = $(DIST)/$(NAME).tar.gz
 PARTS = $(PACKED).parts
 MODULE = $(wildcard python/krbfile/*.py) python/krbfile/py.typed
-PAGES = README.md docs/krbfile.1 docs/krbfile.3 completions/krbfile.bash completions/_krbfile completions/krbfile.fish \
-	c/krbfile.h c/krbfile.pc.in python/pyproject.toml $(MODULE)
+PAGES = README.md docs/krbfile.1 docs/krbfile.3 completions/generate c/krbfile.h c/krbfile.pc.in python/pyproject.toml \
+	$(MODULE)
 
 .PHONY: all try check static lib samples test long-test install-program install dist
 
@@ -110,13 +110,11 @@ test:
 long-test: all
 	tests/long $(PROGRAM)
 
-# Puts the program $(2) below $(1), with its manual page and completions.
+# Puts the program $(2) below $(1), with its manual page, and the completions that its help gives.
 define put_program
 	install -D -m 755 $(2) $(1)/bin/krbfile
 	install -D -m 644 docs/krbfile.1 $(1)/share/man/man1/krbfile.1
-	install -D -m 644 completions/krbfile.bash $(1)/share/bash-completion/completions/krbfile
-	install -D -m 644 completions/_krbfile $(1)/share/zsh/site-functions/_krbfile
-	install -D -m 644 completions/krbfile.fish $(1)/share/fish/vendor_completions.d/krbfile.fish
+	completions/generate $(2) $(1)/share
 endef
 
 # Puts the library below $(1), with its header and manual page. It is found below $(2).

@@ -16,15 +16,8 @@ class Kind(Enum):
     KEYTAB = ((b"FILE:", b"WRFILE:"), "KRB5_KTNAME")
     CACHE = ((b"FILE:",), "KRB5CCNAME")
 
-    @property
-    def types(self) -> tuple[bytes, ...]:
-        """The types, each of which is taken off."""
-        return self.value[0]
-
-    @property
-    def variable(self) -> str:
-        """The name of the variable."""
-        return self.value[1]
+    def __init__(self, types: tuple[bytes, ...], variable: str) -> None:
+        self.types, self.variable = types, variable
 
 
 @dataclass(frozen=True)

@@ -1,158 +1,101 @@
-"""Commands over a file of any name: what each prints, and the file afterwards, where it is there or not."""
+"""Commands over a file of any name: each does what it does over another name, or says why there is no such file."""
 
 import os
-from dataclasses import dataclass, field, replace
+import re
+from dataclasses import dataclass, replace
+from functools import cache
 
-from caches.cache_listings import TICKET_LINE
 from keytabs.edits import ADD_C, C
 from keytabs.file_names import LIMIT
-from keytabs.ktutil_lines import TWO_LISTED
-from keytabs.listings import B_LINE, HOST_LINE
-from keytabs.listings import listed as listed_keytab
-from makers.cache_images import cache
-from makers.images import HOST, TWO, keytab
+from makers.cache_images import cache as tickets
+from makers.images import TWO, keytab
 from makers.usual_caches import TICKET
-from models import json_model
-from models.cache_reading import listed as listed_cache
 from models.cases import frame
 from models.check_model import FOLDER
+from models.json_model import spelled
 from models.name_model import FileName, Kind
-from runs.harness import Outcome
-from runs.rows import text
+from runs.harness import Outcome, files_in, folder_of, run
+from runs.rows import Line, shown, text
+from words.explained import Explained, Output, for_owner
 from words.phrases import BEGINS_AS_NO_CACHE, BEGINS_AS_NO_KEYTAB, CAUSES, LARGE
 
-# Stands for the name in what is printed, and for the name as JSON has it.
-NAME, JSON = b"<name>", b'"<name in JSON>"'
-
-# Files that are neither a keytab nor a cache, the second of which is too large.
+# Files that are neither a keytab nor a cache, the second of which is too large, and what is said of the first.
 NEITHER = b"xy"
 LARGE_FILE = bytes(LIMIT + 1)
-NEITHERS = {Kind.KEYTAB: (b"keytab", BEGINS_AS_NO_KEYTAB), Kind.CACHE: (b"cache", BEGINS_AS_NO_CACHE)}
+NEITHERS = {Kind.KEYTAB: ("keytab", BEGINS_AS_NO_KEYTAB), Kind.CACHE: ("cache", BEGINS_AS_NO_CACHE)}
 
-# A ticket that is valid whenever a test runs.
-VALID = replace(TICKET, endtime=2**32 - 1)
-CACHE = cache(TICKET)
+# A file of each kind; its ticket is valid whenever a test runs.
+IMAGES = {Kind.KEYTAB: TWO, Kind.CACHE: tickets(replace(TICKET, endtime=2**32 - 1))}
 
-
-@dataclass(frozen=True)
-class Ended:
-    """The end of a run: the messages with the lines that explain each, and the file afterwards, if it changed."""
-
-    status: int
-    out: bytes = b""
-    messages: tuple[tuple[bytes, ...], ...] = ()
-    after: bytes | None = None
-
-    def outcome(self, explains: bool) -> Outcome:
-        """Returns the outcome, with or without the lines that explain."""
-        lines = [line for one in self.messages for line in (one if explains else one[:1])]
-        return Outcome(self.status, self.out, b"".join(b"krbfile: " + line + b"\n" for line in lines))
+# The name whose place others take, and the file that is beside it.
+NAME = "<name>"
+BESIDE = {"from": keytab(C)}
 
 
 @dataclass(frozen=True)
 class Command:
-    """A command over a file: its line, in which NAME stands for the name, and its output over its image."""
+    """A command over a file: its line, in which NAME stands for the name, and its input."""
 
-    kind: Kind
     line: str
-    image: bytes
-    printed: bytes
-    # The file afterwards, if it changes.
-    after: bytes | None = None
-    # The output and the file where a missing one is made.
-    made: tuple[bytes, bytes] | None = None
     given: bytes = b""
-    # Other files, and one that the run makes.
-    beside: dict[str, bytes] = field(default_factory=dict)
-    makes: dict[str, bytes] = field(default_factory=dict)
-    # Whether the file may be left out, and whether nothing is printed.
-    has_default: bool = False
-    is_silent: bool = False
 
     @property
-    def is_talk(self) -> bool:
-        """Whether the name is in a line of ktutil."""
-        return self.line == "ktutil"
+    def kind(self) -> Kind:
+        """The kind of the file."""
+        return Kind.KEYTAB if re.search("^kt| -k ", self.line) else Kind.CACHE
 
-    def words(self, name: bytes | None) -> tuple[str | bytes, ...]:
+    @property
+    def has_default(self) -> bool:
+        """Whether the file may be left out."""
+        return self.line.startswith(("klist", "ktcheck"))
+
+    def words(self, name: bytes | None) -> Line:
         """Returns its words for a name, or for none."""
-        words = (name if word == "NAME" else word for word in self.line.split())
+        words = (name if word == NAME else word for word in self.line.split())
         return tuple(word for word in words if word is not None)
 
-    def stdin(self, name: bytes | None) -> bytes:
-        """Returns its input for a name."""
-        return self.given.replace(NAME, name or b"")
+    @cache
+    def usual(self, program: str, is_there: bool) -> tuple[Outcome, dict[str, bytes]]:
+        """Runs it over NAME, which is there or not, and returns its end and the files that it made or changed."""
+        files = BESIDE | ({NAME: IMAGES[self.kind]} if is_there else {})
+        with folder_of(files) as folder:
+            for_owner(folder)
+            got = run(program, self.words(NAME.encode()), folder, self.given)
+            return got, {each: data for each, data in files_in(folder).items() if files.get(each) != data}
 
-    def can_take(self, name: bytes) -> bool:
-        """Whether it can be given that name: a line of ktutil parts words at blanks."""
-        return not self.is_talk or (name != b"" and not set(name) & set(b" \t\n\\"))
+    def ended(self, program: str, name: FileName, place: bytes | str | None) -> tuple[int, Output]:
+        """Returns the status over what is under a name, and the message, if there is one. Some commands make a missing
+        file, but none without a name."""
+        own, (what, (number, why)) = name.shown.decode(), NEITHERS[self.kind]
+        ends = {FOLDER: (3, (f"{own}: cannot read", CAUSES["EISDIR"])),
+                NEITHER: (1, (f"{own}: not a {what} ({number})", why)),
+                LARGE_FILE: (1, (f"{own}: file too large", LARGE))}
+        if name.other or place is None and NAME not in self.usual(program, False)[1]:
+            ends[place] = 1, tuple(line.decode() for line in name.missing())
+        elif name.text == b"":
+            ends[place] = 3, (": cannot write", CAUSES["ENOENT"])
+        status, *told = ends.get(place, (0,))
+        return status, () if " -s " in self.line else tuple(told)
 
-    def shown(self, name: FileName, printed: bytes) -> bytes:
-        """Returns an output over a file of that name."""
-        spelled = os.fsencode(json_model.spelled(os.fsdecode(name.text)))
-        return printed.replace(JSON, spelled).replace(NAME, name.text)
+    def row(self, program: str, name: FileName, place: bytes | str | None, word: bytes | None,
+            files: dict[str, bytes], env: dict[str, str | bytes]) -> Explained:
+        """Returns a run by a word, or by none, over what is under the name that is read, beside other files."""
+        own, path = os.fsdecode(name.text), os.path.normpath(os.fsdecode(name.text))
+        status, told = self.ended(program, name, place)
+        usual, changed = self.usual(program, place is not None) if status == 0 else (Outcome(0), {})
+        spelling = os.fsencode(spelled(own)[1:-1]) if "--json" in self.line else name.text
+        out, words = usual.out.replace(NAME.encode(), spelling), self.words(word)
+        files = {**BESIDE, **files, **({path: place} if isinstance(place, bytes) else {})}
+        after = files | {path if each == NAME else each: data for each, data in changed.items()}
+        title = f"{shown(words)} with {env}, {'none' if place is None else place[:9]}"
+        return Explained(title, words, told, files, self.given, status, out, after, {"env": env}, for_owner)
 
-    def failed(self, status: int, line: bytes, *explained: bytes) -> Ended:
-        """Returns the end of a run that fails: a message, and lines that explain it."""
-        if self.is_silent:
-            return Ended(status)
-        front = b"line 1: " if self.is_talk else b""
-        return Ended(status, text(TWO_LISTED[:2]) if self.is_talk else b"",
-                     ((line, *(front + each for each in explained)),))
-
-    def missing(self, name: FileName) -> Ended:
-        """Returns the end of a run over a file that is not there. One without a name is not made."""
-        line, *explained = name.missing()
-        if self.made is None or name.other:
-            return self.failed(1, line, *(explained or [b"no such file"] * self.is_talk))
-        if name.text == b"":
-            return self.failed(3, b": cannot write", CAUSES["ENOENT"].encode())
-        printed, image = self.made
-        return Ended(0, self.shown(name, printed), after=image)
-
-    def ended(self, name: FileName, place: bytes | str | None) -> Ended:
-        """Returns the end of a run over what is under a name."""
-        if name.other or place is None:
-            return self.missing(name)
-        if place == FOLDER:
-            return self.failed(3, name.shown + b": cannot read", CAUSES["EISDIR"].encode())
-        if place == NEITHER:
-            what, (number, why) = NEITHERS[self.kind]
-            return self.failed(1, name.shown + b": not a %s (%d)" % (what, number), why.encode())
-        if place == LARGE_FILE:
-            return self.failed(1, name.shown + b": file too large", LARGE.encode())
-        return Ended(0, self.shown(name, self.printed), after=self.after)
-
-
-def in_json(printed: Outcome) -> bytes:
-    """Returns a JSON object with another name of its file."""
-    front, _, rest = printed.out.partition(b",")
-    return front.split(b":")[0] + b":" + JSON + b"," + rest
-
-
-KLIST = Command(Kind.KEYTAB, "klist -k -- NAME", TWO, listed_keytab(HOST_LINE, B_LINE, name=NAME), has_default=True)
-KLIST_CACHE = Command(Kind.CACHE, "klist -- NAME", CACHE, listed_cache(b"u@R", TICKET_LINE, name=NAME),
-                      has_default=True)
 
 COMMANDS = (
-    KLIST,
-    Command(Kind.KEYTAB, "klist -k --json -- NAME", TWO, in_json(json_model.keytab_json(TWO)), has_default=True),
-    Command(Kind.KEYTAB, "ktfind -- NAME 0 0 b@R", TWO, b"found 53 kvno 3 etype 17 b@R\n"),
-    Command(Kind.KEYTAB, "ktcheck -- NAME", TWO, b"entries 2 free 0 holes 0\n", has_default=True),
-    Command(Kind.KEYTAB, "ktedit -- NAME", TWO, b"placed 98\n", after=keytab(TWO[2:], C),
-            made=(b"placed 2\n", keytab(C)), given=text([ADD_C])),
-    Command(Kind.KEYTAB, "ktremove -p b@R -- NAME", TWO, b"removed 53 kvno 3 etype 17 b@R\n", after=keytab(HOST, 41)),
-    Command(Kind.KEYTAB, "ktcopy -p b@R -- NAME to", TWO, b"copied 2 kvno 3 etype 17 b@R\n",
-            makes={"to": keytab(TWO[53:])}),
-    Command(Kind.KEYTAB, "ktcopy -- from NAME", TWO, b"copied 98 kvno 3 etype 17 c@R\n", after=keytab(TWO[2:], C),
-            made=(b"copied 2 kvno 3 etype 17 c@R\n", keytab(C)), beside={"from": keytab(C)}),
-    Command(Kind.KEYTAB, "ktutil", TWO, text(TWO_LISTED), given=b"rkt " + NAME + b"\nl\n"),
-    KLIST_CACHE,
-    Command(Kind.CACHE, "klist --json -- NAME", CACHE, in_json(json_model.cache_json(CACHE)), has_default=True),
-    Command(Kind.CACHE, "klist -s -- NAME", cache(VALID), b"", has_default=True, is_silent=True),
-    Command(Kind.CACHE, "ccedit -- NAME", CACHE, b"walk 0 at 22\n", given=b"start\n"),
-    Command(Kind.CACHE, "ccremove -p krbtgt/R@R -- NAME", CACHE, b"removed 22 krbtgt/R@R\n", after=cache()),
-    Command(Kind.KEYTAB, "hold -k -- NAME", TWO, frame(TWO), after=keytab(C), made=(frame(keytab()), keytab(C)),
-            given=frame(keytab(C))),
-    Command(Kind.CACHE, "hold -- NAME", CACHE, frame(CACHE), after=cache(), given=frame(cache())),
+    *map(Command, ("klist -k -- <name>", "klist -- <name>", "klist -k --json -- <name>", "klist --json -- <name>",
+                   "klist -s -- <name>", "ktfind -- <name> 0 0 b@R", "ktcheck -- <name>", "ktremove -p b@R -- <name>",
+                   "ktcopy -p b@R -- <name> to", "ktcopy -- from <name>", "ccremove -p krbtgt/R@R -- <name>")),
+    Command("ktedit -- <name>", text([ADD_C])), Command("ccedit -- <name>", b"start\n"),
+    Command("hold -k -- <name>", frame(keytab(C))), Command("hold -- <name>", frame(tickets())),
 )
+KLIST, KLIST_CACHE = COMMANDS[:2]

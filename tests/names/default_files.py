@@ -1,33 +1,51 @@
-"""Lines that leave out the file, beside those that give one: which is bad, and for what reason first."""
+"""Lines that leave out the file: that which a variable names, or the default, beside another /etc, by what the system
+tells of a run, and for other users. What is wrong with a line comes first."""
 
-from collections.abc import Iterator
-from dataclasses import replace
+import os
+import shutil
+from collections.abc import Callable, Iterator
+from contextlib import contextmanager, nullcontext
 
+from keytabs.file_names import NOBODY
 from makers.images import TWO
-from models.named_runs import CACHE
+from models.name_model import FileName, Kind
+from models.named_runs import COMMANDS, IMAGES, KLIST, KLIST_CACHE, NEITHER
+from runs.harness import Report, folder_of, run
+from runs.namespaces import STATUS, can_mount, run_within
+from runs.terminal import EXPLAIN
+from system.saving import write
 from words.explained import Explained, unchanged
+from words.phrases import DEFAULT
 
 CCNAME, KTNAME = "KRB5CCNAME", "KRB5_KTNAME"
-FILES = {"k": TWO, "c": CACHE}
-BAD = "bad command line"
+CACHE = IMAGES[Kind.CACHE]
+KEYTAB = FileName(b"/etc/krb5.keytab", source=DEFAULT)
 
+# A user whom no system has, and the name of that user's cache.
+USER = 4_000_123_456
+OWN = "/tmp/krb5cc_{}"
 
-def line(words: str, env: dict[str, str | bytes], status: int, *output: tuple[str, str]) -> Explained:
-    """Returns a line in an environment that has nothing else, and its messages."""
-    one = unchanged(words, *output, files=FILES, status=status, options={"env": env})
-    return replace(one, name=f"{words} with {env}")
+# What the system tells of a process: the first number is that of the real user.
+OF_USER = "Name:\tUid:\nUmask:\t0022\nTgid:\t5\nUid:\t{}\t0\t7\t8\nGid:\t9\t9\t9\t9\n"
+
+# What no number can be had of: a text of no bytes, without the line, or without a number in it.
+UNKNOWN = (b"", b"Name:\tkrbfile\nGid:\t9\t9\t9\t9\n", b"Uid:\n", b"Uid:\tx\t0\t0\t0\n", b"xUid:\t5\t5\t5\t5\n")
+
+# Environments in which the default is taken: none, an empty value, and a value for the other kind.
+UNNAMED = {Kind.KEYTAB: ({}, {KTNAME: ""}, {CCNAME: "c"}), Kind.CACHE: ({}, {CCNAME: ""}, {KTNAME: "c"})}
 
 
 def bad(words: str, env: dict[str, str | bytes], phrase: str) -> Explained:
     """Returns a bad line, and what is wrong with it."""
-    return line(words, env, 2, (BAD, f"{phrase}; see krbfile {words.split()[0]} --help"))
+    told = ("bad command line", f"{phrase}; see krbfile {words.split()[0]} --help")
+    return unchanged(words, told, files={"k": TWO, "c": CACHE}, status=2, options={"env": env})
 
 
 def read(variable: str, *lines: str) -> Iterator[Explained]:
     """Yields lines whose file a variable names: one that is missing, and a value that is not UTF-8."""
     for words in lines:
         missing = [] if "-s" in words else [("no: no such file", f"{variable} names it")]
-        yield line(words, {variable: "FILE:no"}, 1, *missing)
+        yield unchanged(words, *missing, options={"env": {variable: "FILE:no"}})
         for value in (b"\xff", b"FILE:c\xc3", b"\xed\xa0\x80"):
             yield bad(words, {variable: value}, f"{variable} is not UTF-8")
 
@@ -46,5 +64,120 @@ CASES = [
     # Other commands want the file.
     *(bad(words, {CCNAME: "c", KTNAME: "k"}, f"no {what}") for words, what in (
         ("ktfind", "FILE"), ("ktedit", "FILE"), ("ktremove -k old", "FILE"), ("ktcopy", "FROM"), ("ktcopy k", "TO"),
-        ("ccedit", "FILE"), ("ccremove --expired", "FILE"))),
+        ("ccedit", "FILE"), ("ccremove --expired", "FILE"), ("hold -k", "FILE"))),
 ]
+
+
+def cache_of(user: int) -> FileName:
+    """Returns the default cache of a user."""
+    return FileName(OWN.format(user).encode(), source=DEFAULT)
+
+
+@contextmanager
+def own_cache(user: int, image: bytes | None) -> Iterator[bool]:
+    """Makes the cache of a user meanwhile, or none. Yields whether none was there before."""
+    path = OWN.format(user)
+    is_free = not os.path.lexists(path)
+    if is_free and image is not None:
+        with open(path, "xb") as file:
+            file.write(image)
+        os.chmod(path, 0o644)
+    try:
+        yield is_free
+    finally:
+        if is_free and image is not None:
+            os.remove(path)
+
+
+@contextmanager
+def other_system(report: Report, program: str, keytab: bytes | None, status: bytes = b"",
+                 mounts: dict[str, str] | None = None) -> Iterator[Callable[[Explained], None]]:
+    """Yields what checks the end of a line beside a default keytab or none, another text that tells of the run, and
+    other mounts."""
+    with folder_of({"c": CACHE, "status": status}) as folder:
+        os.mkdir(os.path.join(folder, "etc"))
+        if keytab is not None:
+            write(os.path.join(folder, "etc", "krb5.keytab"), keytab)
+        places = {"/etc": os.path.join(folder, "etc"), STATUS: os.path.join(folder, "status"), **(mounts or {})}
+
+        def compare(row: Explained) -> None:
+            for explains in (False, True):
+                env = {"PATH": os.environ["PATH"], **row.options["env"]}
+                got = run_within(program, (*[EXPLAIN] * explains, *row.words), folder, places, env=env)
+                report.compare(f"{row.name}, beside {status[:20]}", row.wanted(explains, row.out), got)
+
+        yield compare
+
+
+def check_defaults(report: Report, program: str) -> None:
+    """Checks each command that may leave out its file: the default keytab, and the default cache, whose name has the
+    number of the real user."""
+    rows = [(Kind.KEYTAB, KEYTAB, None, each) for each in (TWO, NEITHER, None)]
+    rows += [(Kind.CACHE, cache_of(user), user, image) for user, image in (
+        (USER, CACHE), (USER, NEITHER), (0, None), (USER, None), (2**32 - 2, None))]
+    for kind, name, user, image in rows:
+        status = OF_USER.format(user).encode()
+        with (other_system(report, program, image if kind is Kind.KEYTAB else None, status) as compare,
+              own_cache(user, image) if kind is Kind.CACHE else nullcontext(True) as is_free):
+            if not is_free:
+                report.skip("a default cache", f"there is one of user {user}")
+                continue
+            for command in (each for each in COMMANDS if each.has_default and each.kind is kind):
+                for env in UNNAMED[kind]:
+                    compare(command.row(program, name, image, None, {}, env))
+
+
+def check_unknown(report: Report, program: str) -> None:
+    """Checks that a line which leaves out the cache is bad if the user's number cannot be had, and no other line."""
+    ways = [{"status": each} for each in UNKNOWN] + [{"mounts": {STATUS: "/proc/$$/mem"}}]
+    with folder_of({}) as none:
+        if report.is_proved:
+            ways.append({"mounts": {"/proc": none}})
+        else:
+            report.skip("a run without /proc", "the program is not proved: its checks read there")
+        for way in ways:
+            with other_system(report, program, TWO, **way) as compare:
+                for line in ("klist", "klist -c", "klist --json", "klist -s"):
+                    compare(bad(line, {}, "no FILE"))
+                compare(bad("klist -x", {}, "unknown option -x"))
+                compare(KLIST_CACHE.row(program, FileName(b"c"), CACHE, b"c", {}, {}))
+                compare(KLIST_CACHE.row(program, FileName(b"c"), CACHE, None, {}, {CCNAME: "c"}))
+                compare(KLIST.row(program, KEYTAB, TWO, None, {}, {}))
+
+
+def by_user(user: int) -> tuple[str, ...]:
+    """Returns the words before those of a run by a user."""
+    return "setpriv", f"--reuid={user}", f"--regid={user}", "--clear-groups"
+
+
+def check_users(report: Report, program: str) -> None:
+    """Checks the default caches of users, as the system tells them: of a real user beside root, of another user, and of
+    root for another user. That of who runs the tests is not made."""
+    ways = {(): os.getuid()}
+    if os.geteuid() == 0 and shutil.which("setpriv"):
+        ways |= {("setpriv", f"--ruid={NOBODY}"): NOBODY, by_user(NOBODY): NOBODY, ("setpriv", f"--euid={NOBODY}"): 0}
+    else:
+        report.skip("default caches of other users", "none but root may run as another, by setpriv")
+    with folder_of({}) as folder:
+        # All users may run a copy of the program.
+        copy = shutil.copy(program, folder)
+        for path in (folder, copy):
+            os.chmod(path, 0o755)
+        for front, user in ways.items():
+            image = CACHE if user not in (os.getuid(), 0) else None
+            with own_cache(user, image) as is_free:
+                if not is_free:
+                    report.skip(f"the default cache of user {user}", "it is there")
+                    continue
+                first, *rest = [*front, copy, "klist"]
+                got = run(first, rest, folder, env={"PATH": os.environ["PATH"]})
+                row = KLIST_CACHE.row(program, cache_of(user), image, None, {}, {})
+                report.compare(f"the default cache of user {user}, {front}", row.wanted(False, row.out), got)
+
+
+def check(report: Report, program: str) -> None:
+    """Runs this topic."""
+    if can_mount(report, "default files beside other folders"):
+        check_defaults(report, program)
+        check_unknown(report, program)
+    check_users(report, program)

@@ -1,48 +1,32 @@
-"""Names of files that begin with a type, as every command takes them by a word, and some by their variable: what is
-read under each is written by hand.
+"""Which file a word names, with a type or without, or the variable of its kind, as every command takes it.
 
-Every command is also given a folder, and files of neither kind. No other variable is looked at.
+Every command is also given a folder, and files of neither kind. No other variable is looked at. default_files has empty
+values and those that are not UTF-8.
 """
 
-import os
 from collections.abc import Iterator
 from dataclasses import replace
-from functools import partial
 from itertools import product
 
 from keytabs.ktutil_lines import TWO_LISTED, lines
 from makers.images import TWO, keytab
 from models.check_model import FOLDER
-from models.name_model import FileName, Kind
-from models.named_runs import COMMANDS, KLIST, KLIST_CACHE, LARGE_FILE, NEITHER, Command
+from models.name_model import Kind, named
+from models.named_runs import COMMANDS, IMAGES, KLIST, KLIST_CACHE, LARGE_FILE, NEITHER
 from runs.harness import Report
-from runs.rows import check_rows, shown
-from words.explained import Explained, for_owner, unchanged
+from runs.rows import check_rows
+from words.explained import Explained, unchanged
 from words.phrases import BEGINS_AS_NO_KEYTAB, LEAVE_OUT, NAMED, NOT_READ, code, unknown
 
-# Names whose type is taken off, and the name that is left. A type is taken off once.
-TYPED = {
-    "FILE:k": "k", "FILE:./k": "./k", "FILE:FILE:k": "FILE:k", "FILE:KCM:k": "KCM:k", "FILE::k": ":k", "FILE: k": " k",
-    "FILE:C:k": "C:k", "FILE:WRFILE:k": "WRFILE:k",
-}
-OF_KEYTABS = {"WRFILE:k": "k", "WRFILE:FILE:k": "FILE:k", "WRFILE:WRFILE:k": "WRFILE:k"}
-
-# Names without a type: it has two letters or more, and nothing but letters, before the first colon.
-UNTYPED = ("./FILE:k", "./KCM:k", "C:k", "f:FILE:k", ":k", ":FILE:k", "1:k", "k1:k", "X509:k", "a b:k", " FILE:k",
-           "FILE :k", "%{uid}", "-FILE:k", "FI_LE:k", "é:k", 'ключ "\\:k', "FILE", "KCM", "FILE;k")
-
-# Names of other types, and the type.
-OTHERS = {
-    "KCM:": "KCM:", "KCM:k": "KCM:", "KEYRING:persistent:0": "KEYRING:", "MEMORY:k": "MEMORY:", "DIR::k": "DIR:",
-    "file:k": "file:", "File:k": "File:", "FILe:k": "FILe:", "FILEX:k": "FILEX:", "XFILE:k": "XFILE:", "ab:k": "ab:",
-    "KCM:FILE:k": "KCM:", "wrfile:k": "wrfile:", "WRFile:k": "WRFile:",
-}
-OTHERS_OF_CACHES = {"WRFILE:k": "WRFILE:", "WRFILE:FILE:k": "WRFILE:"}
-
-# Those that every command is tried with, by a word and by its variable.
+# Words that every command is tried with, and its variable. A type has two letters or more, and nothing but letters,
+# before the first colon; one that the kind has is taken off, once.
 SOME = ("FILE:k", "FILE:FILE:k", "WRFILE:k", "WRFILE:FILE:k", "./FILE:k", "C:k", "1:k", 'ключ "\\:k', "KCM:",
-        "KCM:k", "file:k")
-
+        "KCM:k", "file:k", "FILE:", "")
+# Words for the listings.
+ALL = (*SOME, "FILE:./k", "FILE:KCM:k", "FILE::k", "FILE: k", "FILE:C:k", "FILE:WRFILE:k", "WRFILE:WRFILE:k", "./KCM:k",
+       "f:FILE:k", ":k", ":FILE:k", "k1:k", "X509:k", "a b:k", " FILE:k", "FILE :k", "%{uid}", "-FILE:k", "FI_LE:k",
+       "é:k", "FILE", "KCM", "FILE;k", "KEYRING:persistent:0", "MEMORY:k", "DIR::k", "File:k", "FILe:k", "FILEX:k",
+       "XFILE:k", "ab:k", "KCM:FILE:k", "wrfile:k", "WRFile:k", "k:FILE:k", "c:k")
 
 # No run looks at these, but for the variable of its kind where the file is left out.
 IGNORED = {"KRB5_CLIENT_KTNAME": b"\xff", **{kind.variable: b"\xff" for kind in Kind}}
@@ -56,50 +40,21 @@ def decoys(word: str, name: str) -> dict[str, bytes]:
     return {each: NEITHER for each in names if "/" not in each}
 
 
-def row(command: Command, word: str, name: FileName, place: bytes | str | None, is_variable: bool = False) -> Explained:
-    """Returns a command over a word, or over the value of its variable, which names that file, and what is there."""
-    given, path, variable = os.fsencode(word), os.path.normpath(os.fsdecode(name.text)), command.kind.variable
-    there = {path: place} if isinstance(place, bytes) else {}
-    files, env, source = {**decoys(word, path), **command.beside, **there}, IGNORED, "a word"
-    if is_variable:
-        env, source = {**IGNORED, variable: given}, variable
-        name = replace(name, source=NAMED.replace("VARIABLE", variable))
-    words, wanted = command.words(None if is_variable else given), command.ended(name, place)
-    after = {**files, **(command.makes if wanted.status == 0 else {})}
-    after |= {} if wanted.after is None else {path: wanted.after}
-    state = "missing" if place is None else f"{place[:9]!r}"
-    output = tuple(tuple(map(bytes.decode, one)) for one in wanted.messages)
-    return Explained(f"{shown(words)} of {word!r} by {source}, {state}", words, output, files, command.stdin(given),
-                     wanted.status, wanted.out, after, {"env": env}, for_owner)
-
-
-def names_of(command: Command) -> tuple[dict[str, str], dict[str, str]]:
-    """Returns the names that a command may be tried with, each with the name that is read, and those of types that are
-    not read, with the type."""
-    is_keytab = command.kind is Kind.KEYTAB
-    return ({**TYPED, **(OF_KEYTABS if is_keytab else {}), **{name: name for name in UNTYPED}},
-            {**OTHERS, **({} if is_keytab else OTHERS_OF_CACHES)})
-
-
-def rows() -> Iterator[Explained]:
-    """Yields each command over its names, where the file is there and where it is not: the listings over all."""
-    for command, is_variable in product(COMMANDS, (False, True)):
-        if is_variable and not command.has_default:
+def rows(program: str) -> Iterator[Explained]:
+    """Yields each command over words, where the file is there and where it is not, and over what is no such file."""
+    for command, variable in product(COMMANDS, (False, True)):
+        if variable and not command.has_default:
             continue
-        gets_all = command in (KLIST, KLIST_CACHE) and not is_variable
-        one, (read, others) = partial(row, command, is_variable=is_variable), names_of(command)
-        for word in (*read, *others) if gets_all else SOME:
-            if word in others:
-                # What is there is never read.
-                yield one(word, FileName(word.encode(), others[word].encode()), command.image)
-            elif word in read and command.can_take(word.encode()):
-                yield from (one(word, FileName(read[word].encode()), place) for place in (command.image, None))
-        # The folder of all, and files that are neither a keytab nor a cache.
-        yield one(".", FileName(b"."), FOLDER)
-        yield from (one("k", FileName(b"k"), place) for place in (NEITHER, LARGE_FILE))
-        # Of a type alone nothing is left, as of an empty word: no such file, and none is made.
-        yield from (one(word, FileName(b""), None) for word in ("FILE:", "")
-                    if word or command.has_default and not is_variable)
+        words = ALL if command in (KLIST, KLIST_CACHE) and not variable else SOME[:-1] if variable else SOME
+        places = [(word, place) for word in words for place in (IMAGES[command.kind], None)]
+        for word, place in (*places, (".", FOLDER), ("k", NEITHER), ("k", LARGE_FILE)):
+            name, given = named(command.kind, word.encode()), word.encode()
+            if variable:
+                name = replace(name, source=NAMED.replace("VARIABLE", command.kind.variable))
+            # What is under a name of another type is never read; under that of a type alone nothing is.
+            if (place is None) == (name.text == b"") or place is None and not name.other:
+                yield command.row(program, name, place, None if variable else given, decoys(word, name.text.decode()),
+                                  IGNORED | ({command.kind.variable: given} if variable else {}))
 
 
 def not_read(name: str) -> str:
@@ -143,13 +98,21 @@ WRITES = [
           "FILE:k: cannot write", "KCM:k: cannot write", files={"j": TWO}, after={"k": TWO}, status=3),
     lines("wkt of two words", ["wkt FILE:k FILE:k", "wkt"], [], "line 1: fault 2", "line 2: fault 2"),
     lines("write_kt", ["write_kt FILE:k"], [], "FILE:k: cannot write", status=3),
-    lines("rkt of a type goes on", ["rkt KCM:k", "rkt FILE:k", "l"], TWO_LISTED, "KCM:k: no such file",
-          files={"k": TWO}),
 ]
 
-CASES = [*ORDER, *WRITES]
+# It reads by the same rules.
+READS = [
+    *(lines(f"rkt {word}", [f"rkt {word}", "l"], TWO_LISTED, files={**decoys(word, name), name: TWO}) for word, name in
+      (("FILE:k", "k"), ("WRFILE:k", "k"), ("FILE:FILE:k", "FILE:k"), ("C:k", "C:k"), ("1:k", "1:k"))),
+    *(unchanged("ktutil", (f"{word}: no such file", f"line 1: {not_read(word)}"), files={word: TWO, "k": TWO},
+                stdin=f"rkt {word}\n".encode()) for word in ("KCM:", "KCM:k", "file:k")),
+    lines("rkt of a type goes on", ["rkt KCM:k", "rkt FILE:", "rkt FILE:k", "l"], TWO_LISTED, "KCM:k: no such file",
+          ": no such file", files={"k": TWO}),
+]
+
+CASES = [*ORDER, *WRITES, *READS]
 
 
 def check(report: Report, program: str) -> None:
     """Runs each command over each name."""
-    check_rows(report, program, rows())
+    check_rows(report, program, rows(program))

@@ -1,5 +1,5 @@
-"""The map has each crate in its place and a reason for each library, each link in a document leads to a file, and TRUST
-names what exists."""
+"""What the documents name exists: the files of their links, headings, files and tests, and what stands between
+backticks. Each piece of code on a page is in the sources. The map has each crate in its place."""
 
 import glob
 import os
@@ -8,10 +8,9 @@ import re
 from runs.harness import TOP, Report
 
 MAP = os.path.join("docs", "DESIGN.md")
-TRUST = os.path.join("docs", "TRUST.md")
 
-# The libraries that the program is written over.
-MEANT = ("byteorder", "clap", "hex", "jiff", "thiserror")
+# The proved code of the pages that lead to no source.
+PROVED = "crates/store_tests/src/tests/readme.rt"
 
 
 def read(path: str) -> str:
@@ -25,68 +24,64 @@ def literals(path: str) -> list[str]:
     return re.findall(r"^\.Bd -literal.*\n((?s:.*?))^\.Ed$", read(path), re.MULTILINE)
 
 
+def paths(*patterns: str) -> list[str]:
+    """Returns the files of those patterns."""
+    return [path for pattern in patterns for path in sorted(glob.glob(pattern, root_dir=TOP, recursive=True))]
+
+
 def sources(*patterns: str) -> str:
-    """Returns the files of those patterns one after the other."""
-    return "".join(read(path) for pattern in patterns for path in glob.glob(pattern, root_dir=TOP, recursive=True))
+    """Returns the text of those files."""
+    return "".join(map(read, paths(*patterns)))
 
 
 def check_map(report: Report) -> None:
-    """Checks that the first paragraph's crates are the rows of the map, in order; it names all others below, and the
-    libraries of the program besides those that it is meant to use, and uses."""
+    """Checks that the first paragraph's crates are the rows of the map, in order, and that it names all other crates
+    and libraries; the program uses each library that it has."""
     uses = re.compile(r"^(\w+)(?: staticlib)?:(.*)$", re.MULTILINE)
-    first, text = read("crates.txt").split("\n\n")[0], read(MAP)
     below = {crate: those.split() for crate, those in uses.findall(read("crates.txt"))}
-    rows, own = re.findall(r"^\| `(krb\w+)` \|", text, re.MULTILINE), [crate for crate, _ in uses.findall(first)]
+    own = [crate for crate, _ in uses.findall(read("crates.txt").split("\n\n")[0])]
+    rows = re.findall(r"^\| `(krb\w+)` \|", read(MAP), re.MULTILINE)
     report.check("the rows of the map", [] if rows == own else [f"{rows}, not {own}"])
-    program = ["krbfile"]
-    for crate in program:
-        program += [each for each in below[crate] if each in below and each not in program]
-    libraries = {each for crate in program for each in below[crate]} - {*below}
-    used = {each for each in MEANT for crate in program
-            if each in below[crate] and re.search(rf"\b{each}::", sources(f"crates/{crate}/src/**/*.rt"))}
-    report.check("the libraries of the program", sorted({*MEANT} - used))
-    others = {*below, *libraries} - {*own, *MEANT}
-    report.check("the other crates and libraries of the map", sorted(it for it in others if f"`{it}`" not in text))
+    named = {*below, *(each for those in below.values() for each in those)}
+    report.check("the crates and libraries of the map", sorted(it for it in named if f"`{it}`" not in read(MAP)))
+    report.check("the libraries that a crate has and does not use", [
+        f"{crate} {each}" for crate in own for each in {*below[crate]} - {*below}
+        if f"{each}::" not in sources(f"crates/{crate}/src/**/*.rt")])
 
 
-def anchors(path: str) -> set[str]:
-    """Returns the names by which links lead to the headings of a page."""
-    return {re.sub(r"[^\w -]", "", heading).lower().replace(" ", "-")
-            for heading in re.findall(r"^#+ (.*)$", read(path), re.MULTILINE)}
+def faults_of_links(path: str, page: str) -> list[str]:
+    """Returns the links that lead to no file, or to no heading of the page."""
+    headings = {re.sub(r"[^\w -]", "", heading).lower().replace(" ", "-")
+                for heading in re.findall(r"^#+ (.*)$", page, re.MULTILINE)}
+    links = [link for link in re.findall(r"\]\(([\w./]+)\)", page)
+             if not os.path.exists(os.path.join(TOP, os.path.dirname(path), link))]
+    return links + sorted({*re.findall(r"\]\(#([\w-]+)\)", page)} - headings)
 
 
-def check_links(report: Report) -> None:
-    """Checks that the file of each link exists, and each heading of its own page."""
-    pages = [path for pattern in ("docs/*.md", "crates/*/CALLING.md")
-             for path in sorted(glob.glob(pattern, root_dir=TOP))]
-    for path in ["README.md", "bench/README.md", *pages]:
-        links = re.findall(r"\]\(([\w./]+)\)", read(path))
-        folder = os.path.join(TOP, os.path.dirname(path))
-        wrong = [link for link in links if not os.path.exists(os.path.join(folder, link))]
-        wrong += sorted(set(re.findall(r"\]\(#([\w-]+)\)", read(path))) - anchors(path))
-        report.check(f"the links of {path}", wrong)
-
-
-def cells_of_tables(text: str, column: int) -> str:
-    """Returns the cells of a column of all tables, each on a line."""
-    rows = re.findall(r"^\| (.*) \|$", text, re.MULTILINE)
-    return "\n".join(row.split(" | ")[column] for row in rows)
-
-
-def check_trust(report: Report) -> None:
-    """Checks that what carries a promise is named in the sources, and that each test exists."""
-    proved, _, tested = read(TRUST).partition("\n## What only tests show\n")
-    known = sources("crates/*/src/**/*.rt", "crates/*/specs/**/*.antt")
-    names = re.findall(r"`(?:\w+::)?(\w*[A-Za-z])`", cells_of_tables(proved, -1))
-    report.check("the names in TRUST", sorted(set(names) - set(re.findall(r"\w+", known))))
-    there = [os.path.basename(path) for top in ("tests", "crates/program_tests")
-             for path in glob.glob(f"{top}/**/*.*", root_dir=TOP, recursive=True)]
-    tests = re.findall(r"(\w+\.(?:py|rt|c))\b", cells_of_tables(tested, -1))
-    report.check("the tests in TRUST", sorted(set(tests) - set(there)))
+def faults_of_code(path: str, page: str) -> list[str]:
+    """Returns the pieces of code that are not in the last source that a link before them leads to."""
+    wrong, parts = [], re.split(r"```rust\n(.*?)```", page, flags=re.DOTALL)
+    for at in range(1, len(parts), 2):
+        links = re.findall(r"\]\(([\w./]+\.rt)\)", "".join(parts[:at:2]))
+        source = os.path.join(os.path.dirname(path), links[-1]) if links else PROVED
+        piece, whole = (re.sub(r"(?m)^ +", "", text) for text in (parts[at], read(source)))
+        wrong += [] if f"\n{piece}" in whole else [f"{parts[at].splitlines()[0]} .. is not in {source}"]
+    return wrong
 
 
 def check(report: Report, program: str) -> None:
     """Reads the documents and the sources. The program is not run."""
     check_map(report)
-    check_links(report)
-    check_trust(report)
+    pages = paths("README.md", "*/README.md", "docs/*.md", "crates/*/CALLING.md")
+    for path in pages:
+        report.check(f"the links of {path}", faults_of_links(path, read(path)))
+        report.check(f"the code of {path}", faults_of_code(path, read(path)))
+    files, texts = paths("**/*"), ("crates.txt", "crates/*/src/**/*.rt", "crates/*/specs/**/*.antt")
+    known = {*re.findall(r"\w+", " ".join(files) + sources(*texts))}
+    # The pages that speak of sources and tests. What is in capitals, or the start or end of a name, stands for others.
+    for path in (MAP, "docs/TRUST.md", *(each for each in pages if each.endswith("CALLING.md"))):
+        text = re.sub(r"```.*?```", "", read(path), flags=re.DOTALL)
+        words = {word for name in re.findall(r"`([^`\n]+)`", text) for word in re.findall(r"\b[^\W_]\w*[^\W_]\b", name)}
+        wrong = {word for word in words - known if not word.isupper()}
+        wrong |= {*re.findall(r"\b\w+\.(?:py|rt|c|h|antt|edit)\b", text)} - {*map(os.path.basename, files)}
+        report.check(f"the names of {path}", sorted(wrong))

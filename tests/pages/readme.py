@@ -1,4 +1,4 @@
-"""README's sessions print what it shows, and its snippets are code that the gate proves and runs."""
+"""The sessions of README and the examples of the manual page, one of each command, print what they show."""
 
 import os
 import re
@@ -7,32 +7,11 @@ from collections.abc import Iterator
 from itertools import takewhile
 
 from makers.samples import folder_of_samples
-from pages.documents import read
+from pages.documents import literals, read
 from runs.harness import TOP, Outcome, Report, folder_of, run
+from words.mistakes import COMMANDS
 
-SHOWN = "README.md"
 LIBRARY = os.path.join(TOP, "lib", "libkrbfile.so.1")
-PROVED = "crates/store_tests/src/tests/readme.rt"
-
-
-def lines_of(text: str) -> list[str]:
-    """Returns the lines without their indentation."""
-    return [line.strip() for line in text.strip().splitlines()]
-
-
-def is_part_of(part: list[str], whole: list[str]) -> bool:
-    """Whether some lines occur consecutively in others."""
-    return any(whole[at : at + len(part)] == part for at in range(len(whole)))
-
-
-def check_snippets(report: Report) -> None:
-    """Compares each snippet with the test that contains it."""
-    snippets = re.findall(r"```rust\n(.*?)```", read(SHOWN), re.DOTALL)
-    proved = lines_of(read(PROVED))
-    report.check("README has snippets", [] if snippets else ["none"])
-    for number, snippet in enumerate(snippets, 1):
-        is_there = is_part_of(lines_of(snippet), proved)
-        report.check(f"snippet {number} of README", [] if is_there else [f"is not in {PROVED}"])
 
 
 def parted(session: str) -> tuple[str, bytes]:
@@ -42,8 +21,8 @@ def parted(session: str) -> tuple[str, bytes]:
 
 
 def sessions() -> Iterator[tuple[str, bytes]]:
-    """Yields the commands of the sessions, each with its output."""
-    for part in re.split(r"^    \$ ", read(SHOWN), flags=re.MULTILINE)[1:]:
+    """Yields the commands of README, each with its output."""
+    for part in re.split(r"^    \$ ", read("README.md"), flags=re.MULTILINE)[1:]:
         lines = takewhile(lambda line: line[:4] in ("", "    "), ("    " + part).splitlines())
         yield parted("\n".join(line[4:] for line in lines).rstrip("\n") + "\n")
 
@@ -66,31 +45,30 @@ def surroundings(programs: str) -> dict[str, str]:
             "PYTHONDONTWRITEBYTECODE": "1", "KRBFILE": os.path.join(programs, "krbfile")}
 
 
-def check_session(report: Report, program: str, folder: str, what: str, session: tuple[str, bytes]) -> None:
+def check_session(report: Report, program: str, folder: str, session: tuple[str, bytes]) -> None:
     """Runs a session in a folder. A fault, or a key that occurs twice, ends with status 1."""
     command, wanted = session
+    if lack := lacks(command):
+        report.skip(f"session: {command.splitlines()[0]}", lack)
+        return
     with folder_of({}) as programs:
         os.symlink(program, os.path.join(programs, "krbfile"))
         got = run("sh", ("-c", command), folder, env=surroundings(programs))
     status = 1 if b"\nfault " in wanted or wanted.startswith(b"same ") else 0
-    report.compare(f"{what}: {command.splitlines()[0]}", Outcome(status, wanted), got)
-
-
-def check_sessions(report: Report, program: str) -> None:
-    """Runs them one after the other over the samples."""
-    found = [*sessions()]
-    report.check("README has sessions", [] if found else ["none"])
-    with folder_of_samples() as folder:
-        with open(os.path.join(folder, "list.c"), "w", encoding="utf-8") as file:
-            file.writelines(re.findall(r"```c\n(.*?)```", read(SHOWN), re.DOTALL))
-        for session in found:
-            if lacks(session[0]):
-                report.skip(f"session of README: {session[0].splitlines()[0]}", lacks(session[0]))
-            else:
-                check_session(report, program, folder, "session of README", session)
+    report.compare(f"session: {command.splitlines()[0]}", Outcome(status, wanted), got)
 
 
 def check(report: Report, program: str) -> None:
-    """Runs this topic."""
-    check_snippets(report)
-    check_sessions(report, program)
+    """Runs the sessions one after the other over the samples, and each example over new ones."""
+    examples = [parted(each[2:]) for each in literals("docs/krbfile.1")]
+    wrong = {command.split()[1] for command, _ in examples} ^ {*COMMANDS}
+    report.check("the commands of the examples", sorted(wrong))
+    report.check("README has sessions", [] if [*sessions()] else ["none"])
+    with folder_of_samples() as folder:
+        with open(os.path.join(folder, "list.c"), "w", encoding="utf-8") as file:
+            file.writelines(re.findall(r"```c\n(.*?)```", read("README.md"), re.DOTALL))
+        for session in sessions():
+            check_session(report, program, folder, session)
+    for example in examples:
+        with folder_of_samples() as folder:
+            check_session(report, program, folder, example)

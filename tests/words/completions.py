@@ -1,102 +1,69 @@
-"""What the shells complete on a command line: the commands and options that help lists. How help ends: the statuses,
-a line each, and an example, which is run on sample files."""
+"""What each shell that is there completes on a command line: the commands and options that help lists, and values. How
+help ends: the statuses, a line each, and an example, which is run on sample files."""
 
 import os
 import re
 import shutil
-import subprocess
-from collections.abc import Iterator
+from functools import cache
 
 from keytabs.columns import BY_NAME
 from makers.samples import folder_of_samples
-from pages.documents import read
 from pages.readme import surroundings
 from runs.harness import TOP, Report, folder_of, run
+from words.phrases import FINDINGS
 
-FOLDER = os.path.join(TOP, "completions")
-BASH = os.path.join(FOLDER, "krbfile.bash")
-ZSH = os.path.join(FOLDER, "_krbfile")
-FISH = os.path.join(FOLDER, "krbfile.fish")
+# Each completes the last word of each line of TYPED, and prints `found` and the words on a line; zsh on a terminal.
+BASH = """source "$0"; while IFS= read -r line; do
+    COMP_WORDS=($line); [[ $line == *" " ]] && COMP_WORDS+=(""); COMP_CWORD=$((${#COMP_WORDS[@]} - 1)); _krbfile
+    [[ ${#COMPREPLY[@]} == 0 && $(complete -p krbfile) == *"-o default"* ]] && COMPREPLY=($(compgen -f))
+    echo found "${COMPREPLY[@]}"
+done <<< "$TYPED\""""
+ZSH = """zmodload zsh/zpty; export AT=$0:h; zpty z zsh -fi
+zpty -w z 'eval $SETTING'; zpty -r z all '*END'; print -r -- $all"""
+SETTING = """PROMPT=; fpath=($AT $fpath); autoload -Uz compinit; compinit -D -u
+compadd() {
+    [[ ${@[1,(i)--#]} == *-[OAD]* ]] && { builtin compadd "$@"; return }
+    local -a own; builtin compadd -O own "$@"; all+=($own)
+}
+zle-line-init() {
+    for LBUFFER in "${(@f)TYPED}"; do all=(); zle complete-word; print -r -- found $all; done
+    print END; exit
+}
+zle -N zle-line-init"""
+FISH = r"""source $argv[1]; for line in (string split \n $TYPED)
+    echo found (complete -C $line | string replace -r '\t.*' '')
+end"""
+SHELLS = {"bash": ("-c", BASH, "bash-completion/completions/krbfile"),
+          "zsh": ("-fc", ZSH, "zsh/site-functions/_krbfile"),
+          "fish": ("-Nc", FISH, "fish/vendor_completions.d/krbfile.fish")}
 
-ETYPES = set(BY_NAME)
+# Lines, and what completes the last word, beside a file `k`.
+LINES = {
+    "klist -k --v": {"--v1-big"}, "--explain klist --js": {"--json"}, "--explain ktr": {"ktremove"},
+    "help kte": {"ktedit"}, "ktfind --v1-big k 0 ": {*BY_NAME}, "ktremove k -e ": {*BY_NAME}, "ktremove -k ": {"old"},
+    "ktcopy --kvno ": {"new"}, "ktcopy --enctype aes256-cts-hmac-sha1": {"aes256-cts-hmac-sha1-96"},
+    "ktcheck --allow ": {*FINDINGS}, "klist ": {"k"}, "ktcopy -n k ": {"k"}, "hold -k ": {"k"},
+}
 
 # The statuses that help tells, and how it ends.
 STATUSES = "01234"
 END = re.compile(r"\nStatuses:\n((?:  \d  .*\n)*)Example: (.*)\n  (.*krbfile.*)\n\Z")
 
 
-def part(text: str, heading: str) -> str:
-    """Returns the lines of help under a heading."""
-    return text.partition(f"\n{heading}:\n")[2].partition("\n\n")[0]
+@cache
+def helped(program: str, command: str) -> str:
+    """Returns the help of a command, or of none."""
+    with folder_of({}) as folder:
+        return run(program, [*command.split(), "--help"], folder).out.decode()
 
 
 def offered(program: str, command: str) -> tuple[set[str], set[str]]:
     """Returns the commands and the options that the help of a command, or of none, lists."""
-    with folder_of({}) as folder:
-        text = run(program, [*command.split(), "--help"], folder).out.decode()
-    commands = set(re.findall(r"^  (\w+)", part(text, "Commands"), re.MULTILINE))
-    heads = re.findall(r"^ +(-.*?)(?:  |$)", part(text, "Options"), re.MULTILINE)
-    return commands, {option for head in heads for option in re.findall(r"--?[\w-]+", head)}
-
-
-def by_bash(*words: str) -> set[str]:
-    """Returns the words that bash completes the last word of a line to."""
-    script = 'source "$0"; COMP_WORDS=("$@"); COMP_CWORD=$(($# - 1)); _krbfile; printf "%s\\n" "${COMPREPLY[@]}"'
-    done = subprocess.run(["bash", "-c", script, BASH, "krbfile", *words], capture_output=True, text=True, check=True)
-    return set(done.stdout.split())
-
-
-def by_zsh(command: str) -> set[str]:
-    """Returns the options that the text for zsh has for a command, or for none."""
-    text = read(ZSH)
-    case = rf"^ +{command}\)(?s:(.*?));;" if command else r"^_arguments -C ((?:.*\\\n)*.*)"
-    own = (re.search(case, text, re.MULTILINE) or ["", ""])[1]
-    for name, value in re.findall(r"^(\w+)=((?:.*\n    )*.*)", text, re.MULTILINE):
-        own = own.replace(f"${name}", value)
-    return {option for item in re.findall(r"'(?:(?:\(.*?\)|\*)')?(\S+?)'?\[", own)
-            for option in item.strip("{}*").split(",")}
-
-
-def by_fish(command: str) -> set[str]:
-    """Returns the options that the text for fish has for a command, or for none."""
-    found = set()
-    for line in re.findall("^complete .*", read(FISH), re.MULTILINE):
-        where = re.search(r"-n '?__fish_(?:use_subcommand|seen_subcommand_from ([^']*))", line)
-        if where is None or command in (where.group(1) or "").split(" "):
-            found |= {f"-{letter}" for letter in re.findall(r" -s (\w)", line)}
-            found |= {f"--{word}" for word in re.findall(r" -l ([\w-]+)", line)}
-    return found
-
-
-# Lines in bash, and what completes the last word.
-LINES = {
-    ("klist", "-k", "--v"): {"--v1-big"},
-    ("klist", ""): set(),
-    ("ktfind", "--v1-big", "k", "0", ""): ETYPES,
-    ("ktremove", "k", "-e", ""): ETYPES,
-    ("ktremove", "-k", ""): {"old"},
-    ("ktcopy", "--kvno", ""): {"new"},
-    ("ktcopy", "--enctype", "aes256-cts-hmac-sha1"): {"aes256-cts-hmac-sha1-96"},
-    ("ktcheck", "--allow", ""): {"weak", "hidden", "same", "clash", "old", "mode"},
-    ("ccremove", "c", "--e"): {"--expired"},
-    ("ccremove", "--expired", ""): set(),
-    ("hold", "-k", "--v"): {"--v1-big"},
-    ("hold", "-k", ""): set(),
-}
-
-
-def completed(has_bash: bool, command: str) -> Iterator[tuple[str, set[str]]]:
-    """Yields what completes a command's options, or the first word, by shell. zsh and fish need not be installed."""
-    if has_bash:
-        for words in ((command, "-"), (command, "k", "-"), ("--explain", command, "-")) if command else ():
-            yield f"{words} in bash", by_bash(*words)
-        if not command:
-            yield "the first word in bash", by_bash("")
-    # Their texts have the commands once.
-    own = {"zsh": r"^    '(\w+):", "fish": r"-n \$at -a (\w+)"}
-    for shell, path, options in (("zsh", ZSH, by_zsh(command)), ("fish", FISH, by_fish(command))):
-        names = set() if command else set(re.findall(own[shell], read(path), re.MULTILINE))
-        yield f"{command} in {shell}", options | names
+    commands, options = (helped(program, command).partition(f"\n{heading}:\n")[2].partition("\n\n")[0]
+                         for heading in ("Commands", "Options"))
+    heads = re.findall(r"^ +(-.*?)(?:  |$)", options, re.MULTILINE)
+    return ({*re.findall(r"^  (\w+)", commands, re.MULTILINE)},
+            {option for head in heads for option in re.findall(r"--?[\w-]+", head)})
 
 
 def check_example(report: Report, program: str, command: str, line: str) -> None:
@@ -113,9 +80,7 @@ def check_example(report: Report, program: str, command: str, line: str) -> None
 def check_ends(report: Report, program: str) -> None:
     """Reads the end of each command's help, and runs its example."""
     for command in sorted(offered(program, "")[0] - {"help"}):
-        with folder_of({}) as folder:
-            shown = run(program, (command, "--help"), folder).out.decode()
-        end = END.search(shown)
+        end = END.search(helped(program, command))
         told = [line.split()[0] for line in end[1].splitlines()] if end else []
         wrong = [] if told == list(STATUSES) else [f"it tells {told}"]
         report.check(f"the statuses of krbfile {command} --help", wrong)
@@ -123,21 +88,28 @@ def check_ends(report: Report, program: str) -> None:
             check_example(report, program, command, end[3])
 
 
-def check(report: Report, program: str) -> None:
-    """Compares what help lists with what is completed, and has each installed shell read its file."""
-    check_ends(report, program)
-    has_bash = shutil.which("bash") is not None
+def check_shell(report: Report, program: str, shell: str) -> None:
+    """Compares what a shell completes with what help lists, and with the lines."""
+    option, script, path = SHELLS[shell]
     commands, _ = offered(program, "")
-    for command in sorted({"", *commands} - {"help"}):
-        named, options = offered(program, command)
-        for name, got in completed(has_bash, command):
-            report.check(f"completion: {name}", sorted((named | options) ^ got))
-    for words, wanted in LINES.items() if has_bash else ():
-        report.check(f"completion: {words} in bash", sorted(wanted ^ by_bash(*words)))
-    for shell, path in (("bash", BASH), ("zsh", ZSH), ("fish", FISH)):
-        report.check(f"encryption types in {shell}", [name for name in sorted(ETYPES) if name not in read(path)])
-        if shutil.which(shell) is None:
+    wanted = {**{first: {each for each in commands if each[0] == first} for first in {each[0] for each in commands}},
+              **{f"{each} -": offered(program, each)[1] for each in {"", *commands} - {"help"}}, **LINES}
+    with folder_of({"k": b""}) as folder, folder_of({}) as share:
+        run(os.path.join(TOP, "completions", "generate"), (program, share), folder)
+        env = {**os.environ, "HOME": share, "SETTING": SETTING,
+               "TYPED": "\n".join(f"krbfile {line.lstrip()}" for line in wanted)}
+        got = run(shell, (option, script, os.path.join(share, path)), folder, env=env)
+    found = [{*line.split()} for line in re.findall(r"(?m)found(.*)$", got.out.decode())]
+    report.check(f"the lines of {shell}", [] if len(found) == len(wanted) and not got.err else [f"{got}"])
+    for (line, words), those in zip(wanted.items(), found):
+        report.check(f"{shell} completes {line!r}", sorted(words ^ those))
+
+
+def check(report: Report, program: str) -> None:
+    """Runs this topic."""
+    check_ends(report, program)
+    for shell in SHELLS:
+        if shutil.which(shell):
+            check_shell(report, program, shell)
+        else:
             report.skip(f"completions of {shell}", f"{shell} is not there")
-            continue
-        done = subprocess.run([shell, "-n", path], capture_output=True, text=True, check=False)
-        report.check(f"what {shell} says of its completions", done.stderr.splitlines())

@@ -5,7 +5,6 @@ pub mod PromptLemmas
 pub mod KtutilLists
 pub mod KtutilHandles
 pub mod KtutilOptions
-pub mod PasswordLemmas
 pub mod KtutilDue
 pub mod KtutilHonestly
 pub mod KtutilLemmas

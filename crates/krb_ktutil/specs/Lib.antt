@@ -10,4 +10,3 @@ pub mod KtutilPrompts
 pub mod KtutilTalk
 pub mod KtutilDue
 pub mod Ktutil
-pub mod Laws

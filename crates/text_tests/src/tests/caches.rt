@@ -1,9 +1,7 @@
-//! Caches and their changes. Images are spelled out by hand.
-
-mod credentials;
-mod memory;
+//! The lists of a credential, and one with the mark of a removed credential.
 
 use krb_ccache::{Ccache, Cred};
+use krb_walk::{Code, Refusal};
 use krb_wire::Limits;
 use std::alloc::Allocator;
 use std::test::Fail;
@@ -20,23 +18,7 @@ const KEY: &[u8] =
 
 const TIMES: &[u8] = b"eS\xf1\0\0\0\0\0eT}\xa0\0\0\0\0";
 
-const REMOVED: &[u8] = b"\xff\xff\xff\xff\0\0\0\0\0\0\0\0\0\0\0\0";
-
 const TICKET: &[u8] = b"\0@\xe0\0\0\0\0\0\0\0\0\0\0\0\0\0\x03tkt\0\0\0\0";
-
-// The server and the empty key of the configuration entry `pa_type` for `krbtgt/R@R`, and what follows its times.
-const CONFIG: &[u8] =
-    b"\0\0\0\x01\0\0\0\x03\0\0\0\x0cX-CACHECONF:\0\0\0\x15krb5_ccache_conf_data\0\0\0\x07pa_type\0\0\0\x0akrbtgt/R@R\0\0\0\0\0\0";
-
-const NO_TIMES: &[u8] = b"\0\0\0\0\0\0\0\0\0\0\0\0\0\0\0\0";
-
-const TWO: &[u8] = b"\0\0\0\0\0\0\0\0\0\0\0\0\0\0\0\0\x012\0\0\0\0";
-
-// A ticket at 40, a configuration entry at 148, and at 284 a ticket that is removed.
-const CACHE: &[&[u8]] = &[
-    HEADER, OWNER, OWNER, KRBTGT, KEY, TIMES, TICKET, OWNER, CONFIG, NO_TIMES, TWO, OWNER, KRBTGT,
-    KEY, REMOVED, TICKET,
-];
 
 fn is(holds: bool, otherwise: &'static str) -> Result<(), Fail> {
     if holds {
@@ -58,9 +40,9 @@ fn is_spelled(image: &[u8], parts: &[&[u8]]) -> bool {
     rest.is_empty()
 }
 
-// Returns the cache of those parts with that capacity at least.
-fn cache_with<A: Allocator>(alloc: A, parts: &[&[u8]], room: usize) -> Result<Ccache<A>, Fail> {
-    let mut image = Vec::with_capacity(alloc, room)?;
+// Returns the cache of those parts.
+fn cache_of<A: Allocator>(alloc: A, parts: &[&[u8]]) -> Result<Ccache<A>, Fail> {
+    let mut image = Vec::new(alloc);
     for part in parts {
         image.extend_from_slice(part)?;
     }
@@ -70,12 +52,45 @@ fn cache_with<A: Allocator>(alloc: A, parts: &[&[u8]], room: usize) -> Result<Cc
     }
 }
 
-// Returns the cache `CACHE` with that capacity at least.
-fn cache_in<A: Allocator>(alloc: A, room: usize) -> Result<Ccache<A>, Fail> {
-    cache_with(alloc, CACHE, room)
+// Returns a copy of the ticket at 40.
+fn ticket_in<A: Allocator + Copy>(alloc: A, cache: &Ccache<A>) -> Option<Cred<A>> {
+    cache.cred_at(40)?.copy(alloc).ok()
 }
 
-// Returns a copy of the ticket at 40.
-fn ticket_of<A: Allocator + Copy>(alloc: A, cache: &Ccache<A>) -> Option<Cred<A>> {
-    cache.cred_at(40)?.copy(alloc).ok()
+// Two addresses, an element of authorization data, and the ticket.
+const LISTS: &[u8] = b"\0@\xe0\0\0\0\0\0\x02\0\x02\0\0\0\x04abcd\0\x02\0\0\0\0\
+\0\0\0\x01\0\x01\0\0\0\x01x\0\0\0\x03tkt\0\0\0\0";
+
+#[test]
+fn addresses_and_authorization_data(rt: HostRuntime) -> Result<(), Fail> {
+    let parts = [HEADER, OWNER, OWNER, KRBTGT, KEY, TIMES, LISTS];
+    let cache = cache_of(rt.alloc(), &parts)?;
+    let credential = cache.cred_at(40).ok_or("no credential")?;
+    is(
+        credential.address_count() == 2
+            && credential.address(0) == Some((2, b"abcd".as_slice()))
+            && credential.address(1) == Some((2, b"".as_slice()))
+            && credential.address(2).is_none(),
+        "other addresses",
+    )?;
+    is(
+        credential.authdata_count() == 1
+            && credential.authdata(0) == Some((1, b"x".as_slice()))
+            && credential.authdata(1).is_none(),
+        "other authorization data",
+    )
+}
+
+#[test]
+fn a_credential_with_the_mark_is_refused(rt: HostRuntime) -> Result<(), Fail> {
+    let parts = [HEADER, OWNER, OWNER, KRBTGT, KEY, TIMES, TICKET];
+    let mut cache = cache_of(rt.alloc(), &parts)?;
+    let mut ticket = ticket_in(rt.alloc(), &cache).ok_or("no ticket")?;
+    ticket.authtime = u32::MAX;
+    ticket.endtime = 0;
+    is(
+        cache.store(&ticket) == Err(Refusal::Code(Code::Marked))
+            && is_spelled(cache.image(), &parts),
+        "a marked credential was stored",
+    )
 }
