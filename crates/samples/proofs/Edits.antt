@@ -2,13 +2,14 @@
 use Rattle.std.specs.Prelude.{◌≡◌, [], ◌∷◌, ◌++◌, codes, replicate, map, Some, None, option_map, Ok, true, false}
 use Rattle.std.specs.Result.{result_map_both, result_ok}
 use Rattle.std.proofs.Common.{refl}
-use Rattle.krb_wire.specs.Spelling.{is_short}
+use Rattle.krb_wire.specs.declared.format.KtFormat.TheVariants.{V2}
 use Rattle.krb_wire.specs.declared.format.Order.TheVariants.{Little}
 use Rattle.krb_walk.specs.declared.event.Event.TheVariants.{Put, Cut, Rewrite}
 use Rattle.krb_walk.specs.declared.refusal.Code.TheVariants.{TooManyWalks, ReadOnly, Marked}
 use Rattle.krb_walk.specs.Events.{start_reply}
 use Rattle.krb_walk.specs.ReplyContent.{Started, Placed, Refused, Rewritten}
 use Rattle.krb_keytab.specs.Changes.{put_result, is_refused}
+use Rattle.krb_keytab.specs.Form.{fits}
 use Rattle.krb_keytab.specs.Store.{open_result}
 use Rattle.krb_ccache.specs.Changes.{create_result}
 use Rattle.krb_ccache.specs.SetConfig.{setting_events}
@@ -61,10 +62,11 @@ full : map (λ limit. option_map (λ k. is_refused (put_result k (record { princ
 unfolding on_literals
 full = refl
 
--- a realm, a component or a key of 65,536 bytes is too long
-too-long : (is_short (replicate 65535 0) ≡ true) × (is_short (replicate 65536 0) ≡ false)
+-- a key of 65,536 bytes is too long, and so is a realm or a component
+too-long : map (λ n. fits V2 (record { principal = name (codes "b@R"); timestamp = 0; version = 1; enctype = 17; key = replicate n 0 })) (65535 ∷ 65536 ∷ [])
+    ≡ true ∷ false ∷ []
 unfolding on_literals
-too-long = (refl, refl)
+too-long = refl
 
 -- ---- removals from a keytab
 
