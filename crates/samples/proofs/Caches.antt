@@ -1,5 +1,5 @@
 -- Credential caches: what their bytes hold, and their listings. Hexadecimal digits are as `xxd -p` prints them.
-use Rattle.std.specs.Prelude.{◌≡◌, ◌++◌, codes, None, Some, Ok, Err, pos, negsuc, option_map}
+use Rattle.std.specs.Prelude.{◌≡◌, ◌++◌, codes, true, false, None, Some, Ok, Err, pos, negsuc, option_map}
 use Rattle.std.proofs.Common.{refl}
 use Rattle.krb_ccache.specs.declared.open.CcOpenFault.TheVariants.{BadVersion, BadHeader, BadDefault}
 use Rattle.krb_ccache.specs.declared.version.Version.TheVariants.{V3}
@@ -8,7 +8,7 @@ use Rattle.krb_ccache.specs.Credential.{credential_at}
 use Rattle.krb_ccache.specs.Header.{offset_in}
 use Rattle.krb_ccache.specs.Store.{open_result}
 use Rattle.krb_files.specs.Loading.{most_bytes}
-use Rattle.samples.proofs.Given.{hex, cache, cache_listed, details, tickets, front, worked}
+use Rattle.samples.proofs.Given.{hex, cache, cache_listed, details, tickets, front, pa_type, worked}
 use Rattle.samples.proofs.Times.{time-1700000000, time-1700036000}
 use Rattle.samples.proofs.Unfolded.{on_literals}
 
@@ -25,6 +25,18 @@ worked-details : cache_listed details (codes "c") worked
     ≡ Ok (codes "Ticket cache: FILE:c\nDefault principal: u@R\n\nValid starting       Expires              Service principal\n2023-11-14T22:13:20Z 2023-11-15T08:13:20Z krbtgt/R@R\n    Flags: FRIA\n    Etype: aes128-cts-hmac-sha1-96\nconfig: pa_type(krbtgt/R@R) = 2\n")
 unfolding on_literals
 worked-details i = Ok (codes "Ticket cache: FILE:c\nDefault principal: u@R\n\nValid starting       Expires              Service principal\n" ++ (time-1700000000 i ++ (codes " " ++ (time-1700036000 i ++ codes " krbtgt/R@R\n    Flags: FRIA\n    Etype: aes128-cts-hmac-sha1-96\nconfig: pa_type(krbtgt/R@R) = 2\n"))))
+
+-- `-f` alone adds the flags
+worked-flags : cache_listed (record { flags = true; etypes = false; configs = false }) (codes "c") worked
+    ≡ Ok (codes "Ticket cache: FILE:c\nDefault principal: u@R\n\nValid starting       Expires              Service principal\n2023-11-14T22:13:20Z 2023-11-15T08:13:20Z krbtgt/R@R\n    Flags: FRIA\n")
+unfolding on_literals
+worked-flags i = Ok (codes "Ticket cache: FILE:c\nDefault principal: u@R\n\nValid starting       Expires              Service principal\n" ++ (time-1700000000 i ++ (codes " " ++ (time-1700036000 i ++ codes " krbtgt/R@R\n    Flags: FRIA\n"))))
+
+-- `-C` alone adds the configuration entries
+worked-configs : cache_listed (record { flags = false; etypes = false; configs = true }) (codes "c") (front ++ pa_type)
+    ≡ Ok (codes "Ticket cache: FILE:c\nDefault principal: u@R\n\nValid starting       Expires              Service principal\nconfig: pa_type(krbtgt/R@R) = 2\n")
+unfolding on_literals
+worked-configs = refl
 
 -- bytes other than 20 to 7e are escaped in a value, and a backslash is doubled
 value-escaped : cache_listed details (codes "c") (hex (codes "0504000000000001000000010000000152000000017500000001000000010000000152000000017500000001000000020000000c582d4341434845434f4e463a000000156b7262355f6363616368655f636f6e665f64617461000000016b000000000000000000000000000000000000000000000000000000000000000000000000000007615c200a7e7fff00000000"))

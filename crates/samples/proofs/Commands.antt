@@ -7,7 +7,7 @@ use Rattle.krb_walk.specs.declared.refusal.Code.TheVariants.{Damaged, NotFound, 
 use Rattle.krb_keytab.specs.Find.{placed_entries}
 use Rattle.krb_keytab.specs.Store.{image_of}
 use Rattle.krb_ccache.specs.Store.{image_of as cache_image}
-use Rattle.krb_text.specs.declared.line_fault.LineFault.TheVariants.{BadKey}
+use Rattle.krb_text.specs.declared.line_fault.LineFault.TheVariants.{BadNumber, BadKey}
 use Rattle.krb_text.specs.Found.{found_line, removed_line}
 use Rattle.krb_text.specs.Script.{event_in, script_by}
 use Rattle.krb_json.specs.Cache.{cache_json_text}
@@ -26,7 +26,7 @@ use Rattle.krb_readers.specs.TicketCheck.{has_ticket}
 use Rattle.krb_editors.specs.Ccremove.{cache_after}
 use Rattle.krb_editors.specs.Frame.{frame, framed}
 use Rattle.krb_editors.specs.Ktedit as ktedit
-use Rattle.samples.proofs.Given.{hex, keytab, cache, name, found, old, events, host, b, two, front, ticket, pa_type, worked}
+use Rattle.samples.proofs.Given.{hex, keytab, cache, name, found, old, events, printed, host, b, two, front, ticket, pa_type, worked}
 use Rattle.samples.proofs.Unfolded.{on_literals}
 
 -- ---- ktfind
@@ -63,11 +63,10 @@ found-no-version : found_text three (codes "host/a@R") 4 0
 unfolding on_literals
 found-no-version = refl
 
--- code 9: no entry has the name and the type
-found-none : found_text three (codes "host/a@R") 0 23
-    ≡ Err NotFound
+-- code 9: no entry has the name, which includes the realm, and the type
+found-none : (found_text three (codes "host/a@R") 0 23 ≡ Err NotFound) × (found_text three (codes "host/a@S") 0 17 ≡ Err NotFound)
 unfolding on_literals
-found-none = refl
+found-none = (refl, refl)
 
 -- code 1: a damaged keytab gives nothing, not even an entry before the damage
 found-damaged : found_text (two ++ hex (codes "00")) (codes "host/a@R") 0 0
@@ -99,9 +98,9 @@ check-order : checked None (hex (codes "0502000000290001000152000162000000016553
 unfolding on_literals
 check-order = refl
 
--- `hidden`: MIT's programs stop at an entry with an empty component, and see none after it
-check-hidden : checked None (hex (codes "05020000002e00030001520001610000000162000000016553f1000300110010000102030405060708090a0b0c0d0e0f00000003") ++ b)
-    ≡ codes "hidden 2 kvno 3 etype 17 a//b@R\nentries 2 free 0 holes 0\n"
+-- `hidden`: the first entry with an empty component, where MIT's programs stop; they see none after it
+check-hidden : checked None (hex (codes "05020000002e00030001520001610000000162000000016553f1000300110010000102030405060708090a0b0c0d0e0f000000030000002e00030001520001610000000163000000016553f1000300110010000102030405060708090a0b0c0d0e0f00000003") ++ b)
+    ≡ codes "hidden 2 kvno 3 etype 17 a//b@R\nentries 3 free 0 holes 0\n"
 unfolding on_literals
 check-hidden = refl
 
@@ -122,8 +121,8 @@ unfolding on_literals
 check-wraps = (refl, refl, refl)
 
 -- `mode`: group or others may read or write the file; after the findings come the fault and the counts
-check-mode : checked (Some 0o100644) (hex (codes "0502ffffffd1") ++ (replicate 47 0 ++ (b ++ (hex (codes "0000")))))
-    ≡ codes "mode 644\nfault 1 at 98\nentries 1 free 47 holes 1\n"
+check-mode : checked (Some 0o100640) (hex (codes "0502ffffffd1") ++ (replicate 47 0 ++ (b ++ (hex (codes "0000")))))
+    ≡ codes "mode 640\nfault 1 at 98\nentries 1 free 47 holes 1\n"
 unfolding on_literals
 check-mode = refl
 
@@ -199,6 +198,11 @@ copy-kept = refl
 script-fault : script_by event_in (codes "start\n\n# a comment\nadd 3 17 0 00 b@R\nstep x\n") ≡ Err (record { line = 4; kind = BadKey })
 unfolding on_literals
 script-fault = refl
+
+-- numbers have 32 bits
+script-numbers : (printed two (codes "resume 4294967295\n") ≡ codes "refused 4\n") × (script_by event_in (codes "resume 4294967296\n") ≡ Err (record { line = 1; kind = BadNumber }))
+unfolding on_literals
+script-numbers = (refl, refl)
 
 -- ---- klist --json
 

@@ -12,6 +12,7 @@ use Rattle.krb_keytab.specs.Changes.{put_result, is_refused}
 use Rattle.krb_keytab.specs.Form.{fits}
 use Rattle.krb_keytab.specs.Store.{open_result}
 use Rattle.krb_ccache.specs.Changes.{create_result}
+use Rattle.krb_ccache.specs.Credential.{marked_times}
 use Rattle.krb_ccache.specs.SetConfig.{setting_events}
 use Rattle.krb_ccache.specs.Store.{image_of as cache_image}
 use Rattle.krb_files.specs.Loading.{most_bytes}
@@ -158,6 +159,12 @@ mark : cache_left (front ++ ticket) (Cut 40 ∷ [])
     ≡ front ++ removed
 unfolding on_literals
 mark = refl
+
+-- the mark leaves starttime and renew_till
+mark-times : marked_times (record { authtime = 1; starttime = 2; endtime = 3; renew_till = 4 })
+    ≡ record { authtime = 4294967295; starttime = 2; endtime = 0; renew_till = 4 }
+unfolding on_literals
+mark-times = refl
 
 -- a rewrite leaves removed credentials out, and of the header all but the time offset
 cache-rewritten : cache_left (front ++ (removed ++ ticket)) (Rewrite ∷ [])

@@ -1,5 +1,5 @@
 -- Keytabs: what their bytes hold, and their listings. Hexadecimal digits are as `xxd -p` prints them.
-use Rattle.std.specs.Prelude.{◌≡◌, ◌++◌, codes, replicate, Some, option_map, Ok, Err}
+use Rattle.std.specs.Prelude.{◌≡◌, ◌++◌, codes, replicate, true, false, Some, option_map, Ok, Err}
 use Rattle.std.proofs.Common.{refl}
 use Rattle.krb_wire.specs.declared.format.KtFormat.TheVariants.{V2}
 use Rattle.krb_wire.specs.declared.format.Order.TheVariants.{Big, Little}
@@ -26,6 +26,12 @@ worked-all : listed all (codes "k") (hex (codes "0502") ++ b)
     ≡ Ok (codes "Keytab name: FILE:k\nKVNO Timestamp            Principal\n---- -------------------- ---------\n   3 2023-11-14T22:13:20Z b@R (aes128-cts-hmac-sha1-96) (0x101112131415161718191a1b1c1d1e1f)\n")
 unfolding on_literals
 worked-all i = Ok (codes "Keytab name: FILE:k\nKVNO Timestamp            Principal\n---- -------------------- ---------\n   3 " ++ (time-1700000000 i ++ codes " b@R (aes128-cts-hmac-sha1-96) (0x101112131415161718191a1b1c1d1e1f)\n"))
+
+-- `-e` alone adds the encryption types
+worked-etypes : listed (record { times = false; etypes = true; keys = false }) (codes "k") two
+    ≡ Ok (codes "Keytab name: FILE:k\nKVNO Principal\n---- ---------\n   3 host/a@R (aes128-cts-hmac-sha1-96)\n   3 b@R (aes128-cts-hmac-sha1-96)\n")
+unfolding on_literals
+worked-etypes = refl
 
 -- a keytab may have no entries
 no-entries : listed plain (codes "k") (hex (codes "0502"))
