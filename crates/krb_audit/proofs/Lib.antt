@@ -13,3 +13,5 @@ pub mod WeakNumbers
 pub mod FirstsLemmas
 pub mod FindingsLemmas
 pub mod NewestLemmas
+pub mod OnLiterals
+mod Samples

@@ -18,3 +18,4 @@ pub mod NewTexts
 pub mod Rewrites
 pub mod Removals
 pub mod ConfigValues
+pub mod OnLiterals

@@ -4,3 +4,4 @@ pub mod CursorLemmas
 pub mod Formats
 pub mod Given
 pub mod NewPlaces
+pub mod OnLiterals

@@ -13,3 +13,4 @@ pub mod LawRuns
 pub mod Gone
 pub mod LawHistories
 pub mod NothingElse
+pub mod OnLiterals

@@ -8,3 +8,4 @@ pub mod Chains
 pub mod Sending
 pub mod ReadBack
 pub mod Wholes
+pub mod OnLiterals

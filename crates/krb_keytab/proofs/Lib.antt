@@ -30,3 +30,4 @@ pub mod IndexLemmas
 pub mod LiveLemmas
 pub mod ChangeLemmas
 pub mod GrownLemmas
+pub mod OnLiterals

@@ -14,3 +14,5 @@ pub mod Digits
 pub mod NameFaults
 pub mod Numbering
 pub mod Made
+pub mod OnLiterals
+mod Samples

@@ -9,3 +9,5 @@ pub mod TextLemmas
 pub mod AtomLemmas
 pub mod PlainRuns
 pub mod RoundTrip
+pub mod OnLiterals
+mod Samples

@@ -1,4 +1,4 @@
--- Names, encryption types, flags and times as text.
+-- Names, encryption types and times as text.
 use Rattle.std.specs.Prelude.{◌≡◌, [], ◌∷◌, codes, map, None, Some, Ok, Err, true, false}
 use Rattle.std.specs.List.{filter_map}
 use Rattle.std.proofs.Common.{refl}
@@ -6,7 +6,6 @@ use Rattle.krb_wire.specs.declared.name_fault.NameFault.TheVariants.{NoRealm, Lo
 use Rattle.krb_wire.specs.NameOf.{name_of}
 use Rattle.krb_wire.specs.Names.{name_text}
 use Rattle.krb_text.specs.Etype.{etype_in, etype_text_of, key_size_of, is_weak}
-use Rattle.krb_text.specs.Flags.{flag_letters_of}
 use Rattle.krb_text.specs.Pieces.{pieces}
 use Rattle.krb_text.specs.Numbers.{seconds_in}
 use Rattle.samples.proofs.Given.{hex, name}
@@ -91,18 +90,6 @@ key-size = refl
 weak : (is_weak 16 ≡ true) × (is_weak 23 ≡ true) × (is_weak 18 ≡ false)
 unfolding on_literals
 weak = (refl, refl, refl)
-
--- ---- flags of tickets
-
--- all flags that have a letter, in the order in which they are printed
-flags : flag_letters_of 0x7ffc8000 ≡ codes "FfPpDdiRIHATOa"
-unfolding on_literals
-flags = refl
-
--- forwardable, renewable, initial and preauthenticated (RFC 4120)
-flags-initial : flag_letters_of 0x40e00000 ≡ codes "FRIA"
-unfolding on_literals
-flags-initial = refl
 
 -- ---- durations; Times.antt has times
 
