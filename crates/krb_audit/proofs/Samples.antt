@@ -5,7 +5,7 @@ use Rattle.krb_audit.specs.Report.{mark_lines}
 use Rattle.krb_audit.proofs.OnLiterals.{krb_audit_on_literals}
 
 -- what is found about an entry has its order: weak, hidden, same or clash, old
-order : mark_lines [] (
+pub order : mark_lines [] (
   (9, record { principal = record { name_type = 1; realm = codes "R"; components = codes "a" ∷ [] }; timestamp = 0; version = 1; enctype = 23; key = [] }),
   record { weak = true; hidden = true; alike = Some (record { place = 2; has_same_key = false }); old = true },
 )

@@ -6,16 +6,16 @@ use Rattle.krb_text.specs.Flags.{flag_letters_of}
 use Rattle.krb_text.proofs.OnLiterals.{krb_text_on_literals}
 
 -- all flags that have a letter, in the order in which MIT's klist prints them
-flags : flag_letters_of 0x7ffc8000 ≡ codes "FfPpDdiRIHATOa"
+pub flags : flag_letters_of 0x7ffc8000 ≡ codes "FfPpDdiRIHATOa"
 unfolding krb_text_on_literals
 flags = refl
 
 -- forwardable, renewable, initial and preauthenticated (RFC 4120)
-initial-flags : flag_letters_of 0x40e00000 ≡ codes "FRIA"
+pub initial-flags : flag_letters_of 0x40e00000 ≡ codes "FRIA"
 unfolding krb_text_on_literals
 initial-flags = refl
 
 -- a year that 4 divides has a 29th of February
-leap-day : day_number 789 ≡ record { year = 1972; month = 2; day = 29 }
+pub leap-day : day_number 789 ≡ record { year = 1972; month = 2; day = 29 }
 unfolding day_number
 leap-day = refl
