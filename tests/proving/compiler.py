@@ -22,6 +22,7 @@ NOT_FOUND = re.compile(r"; `search` did not prove (.*)")
 VERDICT = re.compile(r"fn \w+::(\S+): (.*)")
 # A function that is proved by hand has no open goals: its proof is refused.
 BY_HAND = re.compile(r"\./proofs/(\S+)/Proof\.antt:\S+ error: ")
+BAD_LEMMA = re.compile(r"\./proofs/(\w+)\.antt:\S+ error: `([\w-]+)`")
 # A goal's name has its branch in it; the clause's name does not.
 GOAL = re.compile(r"(returns|.*?-requires)(?:-.*?)??(-clause-[\w-]+)?")
 ENDED = re.compile(r"^only=\d+ proved=\d+$", re.M)
@@ -30,7 +31,7 @@ REJECTED = re.compile(r"^(?:error\b.*|(?:\./)?src/\S+: error.*)", re.M)
 
 @dataclass(frozen=True)
 class Answer:
-    """The output of a check: the proved functions, the others with their open clauses, and why it ended early."""
+    """The output of a check: the proved functions, the open clauses of others and of lemmas, and why it ended early."""
 
     proved: set[str]
     clauses: dict[str, list[str]]
@@ -115,9 +116,14 @@ def proved_in(output: str) -> set[str]:
 
 
 def clauses_of(output: str) -> dict[str, list[str]]:
-    """Returns the open clauses of each function that is not proved. Its goals come before its verdict, or in it."""
+    """Returns the open clauses of each function that is not proved, and the refused lemmas of each module of proofs.
+
+    The goals of a function come before its verdict, or in it.
+    """
     found, before, by_hand = {}, [], set()
     for line in output.splitlines():
+        if lemma := BAD_LEMMA.match(line):
+            found.setdefault(lemma[1], []).append(lemma[2])
         goal, verdict, refused = OPEN_GOAL.match(line), VERDICT.match(line), BY_HAND.match(line)
         if refused:
             by_hand.add(refused[1].replace("/", "::"))

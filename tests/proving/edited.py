@@ -6,6 +6,9 @@ names a function to check, by its path below the crate. `refused: FUNCTION CLAUS
 then not proved, as `wrong CRATE NAME` prints it: an `ensures` of the function, or a `requires` of a
 call in it. A loop invariant is not a clause: it only serves the proof. A function that is proved by hand
 has no unproved clause: `refused: FUNCTION proof` means that its proof is refused.
+
+An edit of a definition makes the function use a lemma of the crate's proofs, and `refused: MODULE LEMMA`
+names those that are refused then.
 """
 
 import glob
@@ -21,7 +24,7 @@ PARTS = ("src", "specs", "proofs")
 
 # The functions and clauses that lines `only:` and `refused:` name.
 FUNCTION = re.compile(r"[\w:]+")
-CLAUSE = re.compile(r"([\w:]+) ((?:returns|[\w-]+-requires)(?:-clause-[\w-]+)?|proof)")
+CLAUSE = re.compile(r"([\w:]+) ((?:returns|[\w-]+-requires)(?:-clause-[\w-]+)?|proof)|([A-Z]\w*) ([\w-]+)")
 
 
 class BadEdit(Exception):
@@ -46,6 +49,11 @@ class Edit:
     pairs: tuple[Pair, ...]
     only: tuple[str, ...]
     refused: tuple[tuple[str, str], ...]
+
+    @property
+    def is_of_a_definition(self) -> bool:
+        """Whether it changes what contracts say, and not a body."""
+        return any(pair.path.startswith("specs/") for pair in self.pairs)
 
     def __str__(self) -> str:
         return f"{self.crate}/{self.name}"
@@ -88,7 +96,7 @@ def read(path: str) -> Edit:
     if not only or not refused or None in only or None in refused:
         raise BadEdit("it needs lines `only: FUNCTION` and `refused: FUNCTION CLAUSE`")
     return Edit(*crate_and_name(path), pairs_of(lines), tuple(it[0] for it in only),
-                tuple((it[1], it[2]) for it in refused))
+                tuple((it[1] or it[3], it[2] or it[4]) for it in refused))
 
 
 def copy_crate(crate: str, folder: str) -> None:
