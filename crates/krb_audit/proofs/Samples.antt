@@ -9,6 +9,6 @@ pub order : mark_lines [] (
   (9, record { principal = record { name_type = 1; realm = codes "R"; components = codes "a" ∷ [] }; timestamp = 0; version = 1; enctype = 23; key = [] }),
   record { weak = true; hidden = true; alike = Some (record { place = 2; has_same_key = false }); old = true },
 )
-    ≡ codes "weak 9 1 arcfour-hmac a@R\nhidden 9 1 arcfour-hmac a@R\nclash 9 2 1 arcfour-hmac a@R\nold 9 1 arcfour-hmac a@R\n"
+    ≡ codes "weak 9 kvno 1 etype 23 a@R\nhidden 9 kvno 1 etype 23 a@R\nclash 9 2 kvno 1 etype 23 a@R\nold 9 kvno 1 etype 23 a@R\n"
 unfolding krb_audit_on_literals
 order = refl
