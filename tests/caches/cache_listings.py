@@ -5,10 +5,10 @@ from functools import partial
 
 from keytabs.columns import KNOWN_TIMES, NAMES
 from keytabs.listings import QUOTED, QUOTES
-from makers.cache_images import (CONFIG_FIRST, CONFIG_REALM, KRBTGT, Credential, Name, cache, config, header_field,
+from makers.cache_images import (CONFIG_FIRST, CONFIG_REALM, FLAGS, KRBTGT, Credential, Name, cache, config, header_field,
                                  offset)
 from makers.usual_caches import PA_TYPE, TICKET, USUAL, VERSION_3, config_ticket
-from models.cache_reading import FLAGS, listed
+from models.cache_reading import listed
 from runs.harness import Case, Outcome, message
 from runs.rows import over
 

@@ -6,7 +6,7 @@ from functools import partial
 from random import Random
 
 from chance.random_commands import random_copy
-from chance.random_keytabs import Choices, random_keytab
+from makers.random_keytabs import Choices, random_keytab
 from chance.random_scripts import (Scripts, chosen, random_etype_and_key, random_name, random_number, random_place,
                                    session_over)
 from keytabs.ktutil_lines import FAULTS as KTUTIL_FAULTS

@@ -9,7 +9,7 @@ from dataclasses import dataclass
 from random import Random
 
 from chance.random_commands import REMOVED
-from chance.random_keytabs import Choices
+from makers.random_keytabs import Choices
 from makers.images import TWO
 from models.check_model import FOLDER, File, Options, Placed, checked_files
 from models.name_model import Kind, named

@@ -10,9 +10,9 @@ from dataclasses import replace
 from functools import partial
 from random import Random
 
-from chance import random_caches, random_keytabs
-from chance.random_caches import filled_cache, random_cache, random_credential, with_damage
-from chance.random_keytabs import Choices, random_image
+from makers import random_caches, random_keytabs
+from makers.random_caches import filled_cache, random_cache, random_credential, with_damage
+from makers.random_keytabs import Choices, random_image
 from makers.cache_images import CONFIG_FIRST, CONFIG_REALM, Credential, Name, cache
 from makers.images import BIG, LITTLE, hole, keytab
 from makers.mutations import damaged, mutated

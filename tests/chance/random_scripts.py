@@ -11,9 +11,9 @@ from functools import partial
 from random import Random
 
 from caches.cache_scripts import FAULTS as CACHE_FAULTS
-from chance.random_caches import (KEYS, PRINCIPALS, filled_cache, random_cache, random_credential, random_value,
+from makers.random_caches import (KEYS, PRINCIPALS, filled_cache, random_cache, random_credential, random_value,
                                   with_damage)
-from chance.random_keytabs import random_bytes, random_keytab, sound_part
+from makers.random_keytabs import random_bytes, random_keytab, sound_part
 from keytabs.columns import ETYPES, KEY_SIZES
 from keytabs.scripts import FAULTS
 from makers.cache_images import cache

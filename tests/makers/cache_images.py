@@ -17,6 +17,24 @@ CONFIG_FIRST = b"krb5_ccache_conf_data"
 # The two times that mark a credential as removed.
 REMOVED = {"authtime": 2**32 - 1, "endtime": 0}
 
+# The letters of a ticket's flags, in the order in which they are printed.
+FLAGS = {
+    b"F": 0x40000000,
+    b"f": 0x20000000,
+    b"P": 0x10000000,
+    b"p": 0x08000000,
+    b"D": 0x04000000,
+    b"d": 0x02000000,
+    b"i": 0x01000000,
+    b"R": 0x00800000,
+    b"I": 0x00400000,
+    b"H": 0x00100000,
+    b"A": 0x00200000,
+    b"T": 0x00080000,
+    b"O": 0x00040000,
+    b"a": 0x00008000,
+}
+
 # An address, or an element of the authorization data: its type and its bytes.
 Typed = tuple[int, bytes]
 

@@ -2,28 +2,10 @@
 
 from dataclasses import dataclass
 
-from makers.cache_images import CONFIG_FIRST, CONFIG_REALM, Typed
+from makers.cache_images import CONFIG_FIRST, CONFIG_REALM, FLAGS, Typed
 from makers.images import BIG
 from models.reading import Fields, NoEntry, etype_text, name_text, time_text
 from runs.harness import Outcome, message
-
-# The letters of the flags, in the order in which they are printed.
-FLAGS = {
-    b"F": 0x40000000,
-    b"f": 0x20000000,
-    b"P": 0x10000000,
-    b"p": 0x08000000,
-    b"D": 0x04000000,
-    b"d": 0x02000000,
-    b"i": 0x01000000,
-    b"R": 0x00800000,
-    b"I": 0x00400000,
-    b"H": 0x00100000,
-    b"A": 0x00200000,
-    b"T": 0x00080000,
-    b"O": 0x00040000,
-    b"a": 0x00008000,
-}
 
 HEADING = b"Valid starting       Expires              Service principal"
 

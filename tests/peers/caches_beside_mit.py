@@ -12,7 +12,7 @@ from contextlib import contextmanager
 from dataclasses import replace
 from random import Random
 
-from chance.random_caches import random_credential, random_name
+from makers.random_caches import random_credential, random_name
 from makers.cache_images import cache, offset
 from makers.images import Entry, keytab
 from models.reading import read_image

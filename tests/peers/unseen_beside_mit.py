@@ -9,7 +9,7 @@ from dataclasses import replace
 from random import Random
 
 from chance.random_additions import adding_line
-from chance.random_keytabs import Choices
+from makers.random_keytabs import Choices
 from chance.random_scripts import Scripts, session_over
 from keytabs.scripts import FAULTS
 from makers.images import BIG, hole, keytab

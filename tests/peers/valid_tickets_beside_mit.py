@@ -6,7 +6,7 @@ from dataclasses import replace
 from random import Random
 
 from caches.valid_tickets import TICKETS
-from chance.random_caches import random_credential
+from makers.random_caches import random_credential
 from makers.cache_images import CONFIG_FIRST, CONFIG_REALM, Credential, Name, cache, header_field, number
 from makers.usual_caches import TICKET, config_ticket
 from models.cache_reading import read_cache, silent

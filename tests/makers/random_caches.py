@@ -4,12 +4,11 @@ from collections.abc import Callable
 from dataclasses import replace
 from random import Random
 
-from chance.random_keytabs import random_bytes
 from keytabs.columns import NAMES
-from makers.cache_images import CONFIG_FIRST, CONFIG_REALM, Credential, Name, cache, config, header_field, offset
+from makers.cache_images import CONFIG_FIRST, CONFIG_REALM, FLAGS, Credential, Name, cache, config, header_field, offset
 from makers.images import number
 from makers.mutations import damaged, mutated
-from models.cache_reading import FLAGS
+from makers.random_keytabs import random_bytes
 from peers import corpus
 
 # Caches of other programs.

@@ -1,0 +1,90 @@
+"""Runs that nothing disturbs. A test that disturbs a run compares it with the same run undisturbed; what such runs print
+and save is compared with the definitions by `computed`."""
+from __future__ import annotations
+
+import tempfile
+from dataclasses import dataclass, field, replace
+from functools import cache, cached_property
+
+from runs.harness import Case, Outcome, run_case
+from runs.preload import built_library
+from runs.rows import Line, shown, words_of
+from runs.terminal import EXPLAIN
+
+# The option by which a file is saved in place.
+IN_PLACE = "--in-place"
+
+# The program that is tested, once `use` has named it.
+PROGRAM: list[str] = []
+
+
+def use(program: str) -> None:
+    """Names the program that is tested."""
+    PROGRAM[:] = [program]
+
+
+@cache
+def clock_library() -> tuple[str | None, object]:
+    """Returns the library under which a run has a given clock, or None, with the folder that it is in."""
+    folder = tempfile.TemporaryDirectory()
+    return built_library(folder.name), folder
+
+
+@dataclass(frozen=True)
+class Undisturbed:
+    """A run: its words, the files in its folder, its input, and the time of its clock, if it is not that of the system."""
+
+    name: str
+    words: Line
+    files: dict[str, bytes] = field(default_factory=dict)
+    stdin: bytes = b""
+    clock: int | None = None
+    # The words of the run that it is compared with, if these are others.
+    plain: Line | None = None
+
+    @cached_property
+    def done(self) -> tuple[Outcome, dict[str, bytes]]:
+        """How it ends, and the files afterwards."""
+        case = Case(self.name, self.plain or self.words, Outcome(0), self.files, stdin=self.stdin)
+        library, _ = (None, None) if self.clock is None else clock_library()
+        options = {"env": {"LD_PRELOAD": library, "CLOCK": str(self.clock)}} if library else {}
+        return run_case(PROGRAM[0], case, **options)
+
+    @property
+    def wanted(self) -> Outcome:
+        """How it ends."""
+        return self.done[0]
+
+    @property
+    def files_after(self) -> dict[str, bytes]:
+        """The files after it."""
+        return self.done[1]
+
+    def as_case(self) -> Case:
+        """Returns it as a case with its result."""
+        return Case(self.name, self.words, self.wanted, self.files, self.files_after, self.stdin)
+
+
+def undisturbed(line: str | Line, stdin: bytes = b"", *, name: str = "", clock: int | None = None,
+                **files: bytes | None) -> Undisturbed:
+    """Returns the run of a line over files, by name; one that is None is missing."""
+    words = words_of(line)
+    those = {each: image for each, image in files.items() if image is not None}
+    size = len(stdin) + sum(map(len, those.values()))
+    return Undisturbed(f"{words[0]} {name}" if name else f"{shown(words)}, {size} bytes", words, those, stdin, clock)
+
+
+def in_place(made: Undisturbed) -> Undisturbed:
+    """Returns the same run, which saves in place; it is compared with the one that does not."""
+    command, *rest = made.words
+    return replace(made, name=f"{made.name}, in place", words=(command, IN_PLACE, *rest), plain=made.plain or made.words)
+
+
+def explained(made: Undisturbed) -> Undisturbed:
+    """Returns the same run, with its messages explained."""
+    return replace(made, words=(EXPLAIN, *made.words), plain=made.plain and (EXPLAIN, *made.plain))
+
+
+def frame(image: bytes) -> bytes:
+    """Returns an image as `hold` gives and takes it."""
+    return b"%d\n%b" % (len(image), image)
