@@ -14,13 +14,12 @@ from dataclasses import replace
 from keytabs.ktutil_lines import TWO_LISTED, lines
 from keytabs.listings import B_LINE, HOST_LINE, case
 from makers.images import B, HOST, TWO, Entry, keytab
-from models.cases import klist, klist_cache, klist_cache_json, klist_json, ktutil
-from models.modelled import Modelled, mixed_cache, mixed_keytab, modelled, small
 from runs.harness import SECONDS, Case, Outcome, Report, differences, folder_of, message, run, run_case
 from runs.limits import limit
-from runs.preload import Counted
-from runs.rows import BAD_LINE, printed, shown, words_of
+from runs.rows import printed, shown, words_of
 from runs.terminal import EXPLAIN
+from runs.undisturbed import Undisturbed, undisturbed
+from system.early_ends import End, Ends, mixed_cache, mixed_keytab, small_runs
 from system.failing_streams import NO_OUTPUT, ends_in_output
 from system.saving import CHANGES, HOLDING_NOTHING, SAVING_NOTHING
 from words.phrases import code
@@ -56,12 +55,14 @@ EXPLAINED = [
                  b"krbfile: to have each once: krbfile ktcopy k NEW\n"), {"k": keytab(HOST, HOST)}),
 ]
 
-# Runs of ktutil that depend on no time.
+# Runs of ktutil that do not depend on the clock, of help, and of a line that is refused.
 FILES = {"k": TWO, "j": keytab(HOST), "n": keytab(B)}
-TALKS = (b"rkt j\nl\nwkt k\n", b"rkt j\ndelent 1\n", b"frob\nrkt k\nrkt j\nwkt n\n")
-
-# Runs that print help, which the models do not cover.
-HELP = (("--help",), ("klist", "--help"))
+OTHERS = (
+    undisturbed("ktutil", b"rkt j\nl\nwkt k\n", name="saves", **FILES),
+    undisturbed("ktutil", b"rkt j\ndelent 1\n", name="prints nothing", **FILES),
+    undisturbed("ktutil", b"frob\nrkt k\nrkt j\nwkt n\n", name="is at fault", **FILES),
+    undisturbed("--help"), undisturbed("klist --help"), undisturbed("frob"),
+)
 
 # A buffered write has at most one more line or element, none of which has 2,000 bytes here. No message is
 # longer than a write may be.
@@ -112,36 +113,26 @@ def check_closed_pipe(report: Report, program: str, taken: int, action: signal.H
     report.compare(f"pipe closed after {taken} bytes, {action.name}", cut(LONG.wanted, "out", taken), got)
 
 
-def runs() -> list[Modelled]:
-    """Returns runs of each command that do not depend on the clock, and a line that is refused."""
-    talks = (ktutil(given, 0, files=FILES, name=f"{given[:4]}") for given in TALKS)
-    others = (*CHANGES, *HOLDING_NOTHING, *SAVING_NOTHING, *talks, Case("frob", ("frob",), BAD_LINE))
-    timeless = (one for one in small() if one.case.words[0] not in ("ccremove", "ktutil"))
-    return [*timeless, *map(modelled, others)]
-
-
-def is_met(run: Modelled, stream: str, got: Outcome, files: dict[str, bytes]) -> bool:
+def is_met(ends: Ends, stream: str, end: End) -> bool:
     """Whether a run ended as it has to without that output. It does not matter if nothing is written to it."""
-    if stream == "stdout" and run.case.wanted.out:
-        return ends_in_output(run, Counted(got, files, 0, 0))
-    wanted = run.case.wanted if stream == "stdout" else replace(run.case.wanted, err=b"")
-    return (got, files) == (wanted, run.after())
+    wanted, files = ends.whole
+    if stream == "stdout" and wanted.out:
+        return ends_in_output(ends, end)
+    return end == (wanted if stream == "stdout" else replace(wanted, err=b""), files)
 
 
 def check_lost(report: Report, program: str, stream: str) -> None:
-    """Makes each run with that output on a full device, and then with it closed."""
+    """Makes runs that do not depend on the clock with that output on a full device, and then with it closed."""
     number = {"stdout": 1, "stderr": 2}[stream]
+    timeless = [ends for ends in small_runs() if ends.command not in ("ccremove", "ktutil")]
+    others = (*CHANGES, *HOLDING_NOTHING, *SAVING_NOTHING, *OTHERS)
     with open("/dev/full", "wb") as full:
-        lost = {"full": {stream: full},
-                "closed": {stream: None, "preexec_fn": lambda: os.close(number)}}
-        for how, options in lost.items():
-            for one in runs():
-                got, files = run_case(program, one.case, **options)
-                found = [] if is_met(one, stream, got, files) else [f"{got} and {sorted(files)}"]
-                report.check(f"{how} {stream}: {one.case.name}", found)
-            for words in HELP if stream == "stdout" else ():
-                got, _ = run_case(program, Case("", words, NO_OUTPUT), **options)
-                report.check(f"{how} {stream}: {' '.join(words)}", differences(NO_OUTPUT, got))
+        lost = {"full": {stream: full}, "closed": {stream: None, "preexec_fn": lambda: os.close(number)}}
+        for ends in (*timeless, *map(Ends, others)):
+            for how, options in lost.items():
+                got, files = run_case(program, ends.run, **options)
+                found = [] if is_met(ends, stream, (got, files)) else [f"{got} and {sorted(files)}"]
+                report.check(f"{how} {stream}: {ends.run.name}", found)
 
 
 def check_closed_input(report: Report, program: str) -> None:
@@ -152,7 +143,7 @@ def check_closed_input(report: Report, program: str) -> None:
         report.compare(f"a closed input: {' '.join(words)}", NO_INPUT, got)
 
 
-def pieces_of(program: str, case: Case) -> tuple[Outcome, list[int]]:
+def pieces_of(program: str, case: Undisturbed) -> tuple[Outcome, list[int]]:
     """Makes a run whose output is a socket, and returns the length of each write."""
     ours, theirs = socket.socketpair(socket.AF_UNIX, socket.SOCK_SEQPACKET)
     with folder_of(case.files) as folder, ours, subprocess.Popen(
@@ -169,8 +160,8 @@ def pieces_of(program: str, case: Case) -> tuple[Outcome, list[int]]:
 def check_pieces(report: Report, program: str) -> None:
     """Lists a keytab and a cache of more than three pieces."""
     image, cache = mixed_keytab(3_000), mixed_cache(400)
-    for one in (klist(image), klist_json(image), klist_cache(cache, words=("-cefC", "c")),
-                klist_cache_json(cache)):
+    for one in (undisturbed("klist -k k", k=image), undisturbed("klist -kK --json k", k=image),
+                undisturbed("klist -cefC c", c=cache), undisturbed("klist --json c", c=cache)):
         got, lengths = pieces_of(program, one)
         faults = differences(one.wanted, got)
         faults += [f"a write of {max(lengths)} bytes"] if max(lengths, default=0) > LONGEST else []
