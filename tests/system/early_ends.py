@@ -195,7 +195,7 @@ def talk(count: int, list_columns: str = "-t -k -e") -> Undisturbed:
 
 
 def small_runs() -> list[Ends]:
-    """Returns runs of each command over small files."""
+    """Returns runs of each command over small files, of help, and of lines that are refused."""
     image, tickets, rotated, many = mixed_keytab(12), mixed_cache(4), rotated_keytab(4), many_keytab()
     script, cache_script, others = mixed_script(image, 4), mixed_script(tickets, 3), many_keytab(has_other_keys=True)
     edits = at_now("ktedit k", script, name="a small script", k=image)
@@ -212,6 +212,7 @@ def small_runs() -> list[Ends]:
         at_now("klist -c c", c=tickets[:-1]),
         at_now("klist -kK --json k", k=image),
         at_now("klist --json c", c=tickets),
+        at_now("klist -s c", c=cache(replace(TICKET, endtime=2**32 - 1))),
         edits,
         in_place(edits),
         at_now("ktedit k", b"add 3 1 0 - b@R\nadd 3 1 0 00 c@R\nstart\nstep 0\n", name="no file"),
@@ -240,6 +241,7 @@ def small_runs() -> list[Ends]:
         at_now("hold -k k", frame(image), name="no file"),
         in_place(at_now("hold c", frame(USUAL), name="a cache", c=tickets)),
         talk(3),
+        *map(at_now, ("--help", "klist --help", "frob", "klist -k k --nosuch")),
     ))]
 
 

@@ -7,14 +7,14 @@ place is read once more too, and that is said.
 
 from collections.abc import Iterable
 from errno import EACCES, EAGAIN, EINTR, ENOMEM, ENOSPC, errorcode
+from itertools import product
 from random import Random
 
-from makers.usual_caches import USUAL
 from runs.harness import Report, differences, message
 from runs.preload import MOST_CALLS, WHOLE, Preloaded, preloaded
 from runs.random_runs import Rounds
 from runs.undisturbed import IN_PLACE
-from system.early_ends import NOW, End, Ends, Stage, at_now, large_runs, small_runs
+from system.early_ends import NOW, End, Ends, Stage, large_runs, small_runs
 from system.placing import told
 
 ERRORS = (EINTR, EAGAIN, ENOSPC, ENOMEM, EACCES)
@@ -27,8 +27,7 @@ NO_OUTPUT = message(3, "cannot write output")
 # What may fail in a run that reads a file, in one that saves it, and in one that also reads an input, by the command.
 OF_READER = ("FAIL_READ", "FAIL_WRITE", "ZERO_WRITE")
 OF_REMOVER = (*OF_READER, "FAIL_SAVE", "ZERO_SAVE")
-SETTINGS = {**dict.fromkeys(("klist", "ktfind", "ktcheck"), OF_READER),
-            **dict.fromkeys(("ktremove", "ktcopy", "ccremove"), OF_REMOVER),
+SETTINGS = {**dict.fromkeys(("ktremove", "ktcopy", "ccremove"), OF_REMOVER),
             **dict.fromkeys(("ktedit", "ktutil", "ccedit", "hold"), ("FAIL_INPUT", *OF_REMOVER))}
 
 # How many bytes a call moves, and how one fails: over small files, and over larger ones.
@@ -96,14 +95,13 @@ def check_few_bytes(report: Report, over: Preloaded, ends: Ends, most: int) -> N
 
 
 def check(report: Report, program: str) -> None:
-    """Runs this topic. `klist -s` says nothing."""
+    """Runs this topic."""
     with preloaded(report, program, "failing streams", {}) as under:
         if under is None:
             return
-        small = [*small_runs(), Ends(at_now("klist -s c", c=USUAL))]
-        for ends, ways in [*((each, OF_SMALL) for each in small), *((each, OF_LARGE) for each in large_runs())]:
+        for ends, ways in (*product(small_runs(), [OF_SMALL]), *product(large_runs(), [OF_LARGE])):
             over = under.over(ends.run.files)
-            for setting in SETTINGS[ends.command]:
+            for setting in SETTINGS.get(ends.command, OF_READER):
                 check_setting(report, over, ends, setting, ways)
             for most in (1, 7, 4_095):
                 check_few_bytes(report, over, ends, most)
@@ -116,7 +114,7 @@ def check_rounds(report: Report, program: str, seeds: range) -> None:
         for seed in seeds if under else ():
             random = Random(seed)
             ends = random.choice(those)
-            setting, error = random.choice(SETTINGS[ends.command]), random.choice(ERRORS)
+            setting, error = random.choice(SETTINGS.get(ends.command, OF_READER)), random.choice(ERRORS)
             nth, most = int(2 ** random.uniform(0, 7)), int(2 ** random.uniform(0, 17))
             faults, _, _ = faults_of_call(under.over(ends.run.files), ends, setting, nth, most, error)
             name = f"{setting} {errorcode[error]}, at most {most} bytes, number {seed}"

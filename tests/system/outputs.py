@@ -55,13 +55,12 @@ EXPLAINED = [
                  b"krbfile: to have each once: krbfile ktcopy k NEW\n"), {"k": keytab(HOST, HOST)}),
 ]
 
-# Runs of ktutil that do not depend on the clock, of help, and of a line that is refused.
+# Runs of ktutil that do not depend on the clock.
 FILES = {"k": TWO, "j": keytab(HOST), "n": keytab(B)}
-OTHERS = (
+TALKS = (
     undisturbed("ktutil", b"rkt j\nl\nwkt k\n", name="saves", **FILES),
     undisturbed("ktutil", b"rkt j\ndelent 1\n", name="prints nothing", **FILES),
     undisturbed("ktutil", b"frob\nrkt k\nrkt j\nwkt n\n", name="is at fault", **FILES),
-    undisturbed("--help"), undisturbed("klist --help"), undisturbed("frob"),
 )
 
 # A buffered write has at most one more line or element, none of which has 2,000 bytes here. No message is
@@ -125,7 +124,7 @@ def check_lost(report: Report, program: str, stream: str) -> None:
     """Makes runs that do not depend on the clock with that output on a full device, and then with it closed."""
     number = {"stdout": 1, "stderr": 2}[stream]
     timeless = [ends for ends in small_runs() if ends.command not in ("ccremove", "ktutil")]
-    others = (*CHANGES, *HOLDING_NOTHING, *SAVING_NOTHING, *OTHERS)
+    others = (*CHANGES, *HOLDING_NOTHING, *SAVING_NOTHING, *TALKS)
     with open("/dev/full", "wb") as full:
         lost = {"full": {stream: full}, "closed": {stream: None, "preexec_fn": lambda: os.close(number)}}
         for ends in (*timeless, *map(Ends, others)):
