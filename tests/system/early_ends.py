@@ -22,8 +22,9 @@ at_now = partial(undisturbed, clock=NOW)
 
 NO_MEMORY = message(4, "out of memory")
 
-# What a run says of the folder `.` in place of a file: the same as of a file that cannot be read.
-FOLDER = message(3, ".: cannot read").err
+# What a run says of a file that is never there, and the line of ktutil that reads it. What else it does and says is as
+# if a file could not be read or written.
+MISSING, READ_MISSING = message(1, "none: no such file").err, b"rkt none\n"
 
 AES128 = "aes128-cts-hmac-sha1-96"
 KEYS = {16: bytes(range(16)).hex(), 32: bytes(range(32)).hex()}
@@ -41,10 +42,10 @@ class Stage:
     files: dict[str, bytes]
 
 
-def without_file(run: Undisturbed, name: bytes, use: bytes = b"read") -> End:
-    """Returns how a run that names the folder `.` would end if it named a file that cannot be used in that way."""
-    outcome, files = run.done
-    return replace(outcome, err=outcome.err.replace(FOLDER, b"krbfile: %b: cannot %b\n" % (name, use))), files
+def failed(run: Undisturbed, unused: str) -> End:
+    """Returns how a run of which a file is missing would end with that message of a file that it cannot use."""
+    (outcome, files), end = run.done, message(3, unused)
+    return replace(end, out=outcome.out, err=outcome.err.replace(MISSING, end.err)), files
 
 
 class Ends:
@@ -73,8 +74,8 @@ class Ends:
             ends = [replace(run, stdin=b"".join(self.lines[:count])).done for count in range(len(self.lines) + 1)]
             return [Stage(got.out, got.err, files) for got, files in ends]
         if self.command == "ktcheck":
-            cut = [replace(run, words=(*run.words[:to], ".")).wanted for to in range(at, len(run.words))]
-            return [Stage(got.out, got.err.partition(FOLDER)[0], run.files) for got in cut]
+            cut = [replace(run, words=(*run.words[:to], "none")).wanted for to in range(at, len(run.words))]
+            return [Stage(got.out, got.err.removesuffix(MISSING), run.files) for got in cut]
         return [Stage(b"", b"", run.files)]
 
     def stops(self, end: End, last: Outcome, stages: list[Stage], may_print: bool = True) -> bool:
@@ -85,22 +86,22 @@ class Ends:
             got.err == stage.err + last.err and files == stage.files and (is_front or got.out == stage.out)
             for stage in stages)
 
-    def failing_lines(self, commands: tuple[bytes, ...], use: bytes) -> Iterator[tuple[int, End]]:
+    def failing_lines(self, commands: tuple[str, ...], use: str) -> Iterator[tuple[int, End]]:
         """Yields each line of ktutil with one of these commands, and how the run ends if its file cannot be so used."""
         for at, line in enumerate(self.lines):
-            command, _, name = line.rstrip(b"\n").partition(b" ")
+            command, _, name = line.decode().strip().partition(" ")
             if command in commands:
-                lines = (*self.lines[:at], command, b" .\n", *self.lines[at + 1:])
-                yield at, without_file(replace(self.run, stdin=b"".join(lines)), name, use)
+                lines = (*self.lines[:at], READ_MISSING, *self.lines[at + 1:])
+                yield at, failed(replace(self.run, stdin=b"".join(lines)), f"{name}: cannot {use}")
 
     @cached_property
     def of_loads(self) -> list[End]:
         """How it ends for each load that fails."""
         run, words = self.run, self.run.words
         if self.command == "ktutil":
-            return [end for _, end in self.failing_lines((b"rkt", b"wkt"), b"read")]
+            return [end for _, end in self.failing_lines(("rkt", "wkt"), "read")]
         if self.command == "ktcheck":
-            return [without_file(replace(run, words=(*words[:at], ".", *words[at + 1:])), words[at].encode())
+            return [failed(replace(run, words=(*words[:at], "none", *words[at + 1:])), f"{words[at]}: cannot read")
                     for at in range(1, len(words))]
         if "-s" in words:
             return [(Outcome(3), run.files)]
@@ -111,7 +112,7 @@ class Ends:
     def of_saves(self) -> list[End]:
         """How it ends for each save that fails. A hold that cannot be had, or not save, prints nothing yet."""
         if self.command == "ktutil":
-            return [end for at, end in self.failing_lines((b"wkt",), b"write")
+            return [end for at, end in self.failing_lines(("wkt",), "write")
                     if self.stages[at].files != self.stages[at + 1].files]
         unsaved = message(3, f"{self.run.words[-1]}: cannot write")
         printed = [replace(unsaved, out=self.run.wanted.out)] if self.command == "hold" else []
