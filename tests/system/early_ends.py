@@ -22,8 +22,8 @@ at_now = partial(undisturbed, clock=NOW)
 
 NO_MEMORY = message(4, "out of memory")
 
-# What a run says of a file that is never there, and the line of ktutil that reads it. What else it does and says is as
-# if a file could not be read or written.
+# What a run says of a file that is never there, and the line of ktutil that reads it. What else a run does is the same
+# if a file cannot be read or written.
 MISSING, READ_MISSING = message(1, "none: no such file").err, b"rkt none\n"
 
 AES128 = "aes128-cts-hmac-sha1-96"
@@ -195,13 +195,9 @@ def talk(count: int, list_columns: str = "-t -k -e") -> Undisturbed:
     return at_now("ktutil", text(lines), a=mixed_keytab(count), b=marked, d=DAMAGED)
 
 
-def small_runs() -> list[Ends]:
-    """Returns runs of each command over small files, of help, and of lines that are refused."""
-    image, tickets, rotated, many = mixed_keytab(12), mixed_cache(4), rotated_keytab(4), many_keytab()
-    script, cache_script, others = mixed_script(image, 4), mixed_script(tickets, 3), many_keytab(has_other_keys=True)
-    edits = at_now("ktedit k", script, name="a small script", k=image)
-    removes = at_now("ccremove -p krbtgt/R@R c", name="of a service", c=USUAL)
-    return [*map(Ends, (
+def small_reads(image: bytes, tickets: bytes) -> list[Undisturbed]:
+    """Returns runs that read a keytab and a cache, or show help, and lines that are refused."""
+    return [
         at_now("klist -ktKe k", k=image),
         at_now("klist -k k", k=DAMAGED),
         at_now("ktfind k 0 17 -- xxx/3@R", k=image),
@@ -214,14 +210,42 @@ def small_runs() -> list[Ends]:
         at_now("klist -kK --json k", k=image),
         at_now("klist --json c", c=tickets),
         at_now("klist -s c", c=cache(replace(TICKET, endtime=2**32 - 1))),
+        *map(at_now, ("--help", "klist --help", "frob", "klist -k k --nosuch")),
+    ]
+
+
+def small_edits(image: bytes, tickets: bytes) -> list[Undisturbed]:
+    """Returns scripts over a keytab and a cache, and holds of them."""
+    script, rotated = mixed_script(image, 4), rotated_keytab(4)
+    edits = at_now("ktedit k", script, name="a small script", k=image)
+    return [
         edits,
         in_place(edits),
         at_now("ktedit k", b"add 3 1 0 - b@R\nadd 3 1 0 00 c@R\nstart\nstep 0\n", name="no file"),
         at_now("ktedit k", script + b"frob\n", name="a faulty script", k=image),
+        at_now("ccedit c", mixed_script(tickets, 3), name="a small script", c=tickets),
+        at_now("ccedit c", b"start\nstep 0\nconfig k - v\ncut 3\n", name="a damaged cache", c=tickets[:-1]),
+        at_now("ccedit c", b"config k a@R v\nconfig k a v\n", name="a faulty script", c=tickets),
+        at_now("ccedit c", b"start\ncut 20\nconfig k - v\nrewrite\nstep 0\n", name="version 3", c=VERSION_3),
+        at_now("hold -k k", frame(rotated), name="a keytab", k=image),
+        at_now("hold -k k", frame(image), name="no file"),
+        in_place(at_now("hold c", frame(USUAL), name="a cache", c=tickets)),
+    ]
+
+
+def small_removals(image: bytes, tickets: bytes) -> list[Undisturbed]:
+    """Returns removals from a keytab and a cache, and copies."""
+    rotated, many, others = rotated_keytab(4), many_keytab(), many_keytab(has_other_keys=True)
+    removes = at_now("ccremove -p krbtgt/R@R c", name="of a service", c=USUAL)
+    return [
         at_now("ktremove -k old k", name="of old versions", k=rotated),
         at_now("ktremove -k old --age 0 k", name="of versions old for long", k=rotated),
         at_now("ktremove -p xxx/3@R -e 17 -e 23 k", name="of a name", k=image),
         at_now("ktremove -k 4000 k", name="of nothing", k=image),
+        removes,
+        in_place(removes),
+        at_now("ccremove --expired c", name="of expired ones", c=tickets),
+        at_now("ccremove -p no@R c", name="of nothing", c=tickets),
         at_now("ktcopy k t", name="of what is missing", k=image, t=mixed_keytab(5)),
         at_now("ktcopy -p /0@R -p x/1@R -k new k t", name="of new versions", k=rotated),
         at_now("ktcopy k t", name="into no bytes", k=TWO, t=b""),
@@ -230,20 +254,13 @@ def small_runs() -> list[Ends]:
         at_now("ktcopy -n --replace k t", name="that only prints", k=many, t=others),
         at_now("ktcopy k t", name="of what is there", k=many, t=many),
         at_now("ktcopy -k 4000 k t", name="of nothing", k=many, t=many),
-        at_now("ccedit c", cache_script, name="a small script", c=tickets),
-        at_now("ccedit c", b"start\nstep 0\nconfig k - v\ncut 3\n", name="a damaged cache", c=tickets[:-1]),
-        at_now("ccedit c", b"config k a@R v\nconfig k a v\n", name="a faulty script", c=tickets),
-        at_now("ccedit c", b"start\ncut 20\nconfig k - v\nrewrite\nstep 0\n", name="version 3", c=VERSION_3),
-        removes,
-        in_place(removes),
-        at_now("ccremove --expired c", name="of expired ones", c=tickets),
-        at_now("ccremove -p no@R c", name="of nothing", c=tickets),
-        at_now("hold -k k", frame(rotated), name="a keytab", k=image),
-        at_now("hold -k k", frame(image), name="no file"),
-        in_place(at_now("hold c", frame(USUAL), name="a cache", c=tickets)),
-        talk(3),
-        *map(at_now, ("--help", "klist --help", "frob", "klist -k k --nosuch")),
-    ))]
+    ]
+
+
+def small_runs() -> list[Ends]:
+    """Returns runs of each command over small files."""
+    those = mixed_keytab(12), mixed_cache(4)
+    return [*map(Ends, (*small_reads(*those), *small_edits(*those), *small_removals(*those), talk(3)))]
 
 
 def large_runs() -> list[Ends]:
