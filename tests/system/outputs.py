@@ -11,49 +11,29 @@ import socket
 import subprocess
 from dataclasses import replace
 
-from keytabs.ktutil_lines import TWO_LISTED, lines
-from keytabs.listings import B_LINE, HOST_LINE, case
 from makers.images import B, HOST, TWO, Entry, keytab
-from runs.harness import SECONDS, Case, Outcome, Report, differences, folder_of, message, run, run_case
+from runs.harness import SECONDS, Outcome, Report, differences, folder_of, message, run, run_case
 from runs.limits import limit
-from runs.rows import printed, shown, words_of
+from runs.rows import shown, words_of
 from runs.terminal import EXPLAIN
 from runs.undisturbed import Undisturbed, undisturbed
 from system.early_ends import End, Ends, mixed_cache, mixed_keytab, small_runs
 from system.failing_streams import NO_OUTPUT, ends_in_output
 from system.saving import CHANGES, HOLDING_NOTHING, SAVING_NOTHING
-from words.phrases import code
 
 NO_INPUT = message(3, "cannot read input")
 
-KLIST = case("a listing", TWO, HOST_LINE, B_LINE)
+# Runs whose output is cut at each byte, and runs whose messages are.
+CUT = (undisturbed("klist -k k", k=TWO), undisturbed("ktcheck k s k", k=TWO, s=keytab(HOST, HOST)))
+CUT_MESSAGES = (
+    undisturbed("ktutil", b"frob\nrkt k\ndelent 9\nl\nrkt n\nl\n", name="is at fault between lists", k=TWO),
+    undisturbed(f"{EXPLAIN} ktfind k 0 0 c@R", k=TWO),
+    undisturbed(f"{EXPLAIN} ktcheck k", k=keytab(HOST, HOST)),
+    undisturbed(f"{EXPLAIN} frob"),
+)
 
-# More than a pipe takes: 300 lines of 1000 bytes.
-LONG_NAME = b"x" * 992
-LONG = case("a long listing", keytab(*[Entry((LONG_NAME,))] * 300), *[b"   3 " + LONG_NAME + b"@R"] * 300)
-
-# Three faulty lines with others between, and a status of 1.
-FAULTY = lines("faults between lists", ["frob", "rkt k", "delent 9", "l", "rkt n", "l"], TWO_LISTED * 2,
-               "line 1: fault 1", "line 3: fault 7", "n: no such file", files={"k": TWO})
-
-# Three keytabs, with findings and without: the run ends with the file whose lines are cut.
-SEVERAL = Case("several keytabs", ("ktcheck", "k", "s", "k"),
-               printed("k: entries 2 free 0 holes 0", "s: same 53 2 kvno 3 etype 17 host/a@R",
-                       "s: entries 2 free 0 holes 0", "k: entries 2 free 0 holes 0", status=1),
-               {"k": TWO, "s": keytab(HOST, HOST)})
-
-# Messages with their explanations.
-EXPLAINED = [
-    Case("a look-up that finds nothing", (EXPLAIN, "ktfind", "k", "0", "0", "c@R"),
-         Outcome(1, err=f"krbfile: k: refused 9\nkrbfile: {code(9)}\n".encode()), {"k": TWO}),
-    Case("a bad command line", (EXPLAIN, "frob"),
-         Outcome(2, err=b"krbfile: bad command line\n"
-                 b"krbfile: unknown command frob; see krbfile --help\n")),
-    Case("a finding with a hint", (EXPLAIN, "ktcheck", "k"),
-         Outcome(1, b"same 53 2 kvno 3 etype 17 host/a@R\nentries 2 free 0 holes 0\n",
-                 b"krbfile: same: this key stands there twice\n"
-                 b"krbfile: to have each once: krbfile ktcopy k NEW\n"), {"k": keytab(HOST, HOST)}),
-]
+# A listing of more than a pipe takes: 300 lines of 1000 bytes.
+LONG = undisturbed("klist -k k", k=keytab(*[Entry((b"x" * 992,))] * 300))
 
 # Runs of ktutil that do not depend on the clock.
 FILES = {"k": TWO, "j": keytab(HOST), "n": keytab(B)}
@@ -82,7 +62,7 @@ def cut(wanted: Outcome, part: str, most: int) -> Outcome:
     return replace(NO_OUTPUT if part == "out" and most < len(text) else wanted, **{part: text[:most]})
 
 
-def check_each_byte(report: Report, program: str, case: Case, stream: str, part: str) -> None:
+def check_each_byte(report: Report, program: str, case: Undisturbed, stream: str, part: str) -> None:
     """Checks each number of bytes that the output takes, up to those of the text. The write that exceeds it is cut."""
     with folder_of(case.files) as folder:
         path = os.path.join(folder, stream)
@@ -95,7 +75,7 @@ def check_each_byte(report: Report, program: str, case: Case, stream: str, part:
             report.compare(f"{stream} of {most} bytes: {case.name}", cut(case.wanted, part, most), got)
 
 
-def piped(program: str, case: Case, folder: str, **more) -> subprocess.Popen[bytes]:
+def piped(program: str, case: Undisturbed, folder: str, **more) -> subprocess.Popen[bytes]:
     """Makes a run whose outputs are pipes."""
     return subprocess.Popen([program, *case.words], cwd=folder, stdin=subprocess.DEVNULL, stdout=subprocess.PIPE,
                             stderr=subprocess.PIPE, **more)
@@ -180,9 +160,9 @@ def check(report: Report, program: str) -> None:
     """Runs this topic."""
     before = os.umask(0o077)
     try:
-        for one in (KLIST, SEVERAL):
+        for one in CUT:
             check_each_byte(report, program, one, "stdout", "out")
-        for one in (FAULTY, *EXPLAINED):
+        for one in CUT_MESSAGES:
             check_each_byte(report, program, one, "stderr", "err")
     finally:
         os.umask(before)
