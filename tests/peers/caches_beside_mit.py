@@ -103,22 +103,18 @@ class Realm:
     def call(self, *words: str, folder: str | None = None, version: int = 4) -> bytes:
         """Runs a program, which has to succeed, and returns its output."""
         done = subprocess.run(words, cwd=folder or self.folder, env=self.surroundings(version),
-                              stdin=subprocess.DEVNULL, capture_output=True, timeout=SECONDS,
-                              check=False)
+                              stdin=subprocess.DEVNULL, capture_output=True, timeout=SECONDS, check=False)
         if done.returncode != 0:
             raise Failed(f"{' '.join(words)}: {done.stderr.decode(errors='replace').strip()}")
         return done.stdout
 
-    def create(self) -> None:
-        """Creates the database."""
+    def create(self, names: tuple[str, ...]) -> None:
+        """Creates the database, and the principals of those names, by an edited dump."""
         self.call("kdb5_util", "create", "-s", "-P", "master", "-r", "CACHE.TEST")
-
-    def fill(self, names: tuple[str, ...]) -> None:
-        """Creates the principals of those names, by an edited dump."""
         head, *lines = self.call("kdb5_util", "dump").decode().splitlines()
         master = next(line for line in lines if "\tK/M@" in line)
-        more = [principal_line(master, name) for name in names]
-        self.write("more", "".join(line + "\n" for line in [head, *more]))
+        more = (principal_line(master, name) for name in names)
+        self.write("more", "".join(f"{line}\n" for line in (head, *more)))
         self.call("kdb5_util", "load", "-update", "more")
 
     def keys(self) -> tuple[Entry, Entry]:
@@ -164,8 +160,7 @@ def realm(more: tuple[str, ...] = ()) -> Iterator[Realm]:
     with folder_of({}) as folder:
         port = free_port()
         made = Realm(folder, port)
-        made.create()
-        made.fill((*PRINCIPALS, *more))
+        made.create((*PRINCIPALS, *more))
         with subprocess.Popen(["krb5kdc", "-n"], cwd=folder, env=made.surroundings(),
                               stdout=subprocess.DEVNULL, stderr=subprocess.DEVNULL) as started:
             try:
@@ -193,8 +188,7 @@ def random_sound(random: Random) -> bytes:
     default = random_name(random, False)
     names = (random_name(random, False) for _ in range(random.randrange(8)))
     those = [replace(random_credential(random), client=default, server=name) for name in names]
-    version = random.choice([3, 4])
-    return cache(*those, default=default, fields=offset(5, -10), version=version)
+    return cache(*those, default=default, fields=offset(5, -10), version=random.choice([3, 4]))
 
 
 def check_random(report: Report, program: str, _: Realm) -> None:

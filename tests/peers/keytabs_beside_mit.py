@@ -121,7 +121,7 @@ def faults_of_hidden(program: str, image: bytes, place: int | None, options: tup
         count = len(mit.klist("k"))
         status = run(program, ("ktremove", *options, "-p", name, "k"), folder).status
         left = len(mit.klist("k"))
-    found = [] if reported == [place] * (place is not None) else [f"{reported} are told as hidden"]
+    found = [] if reported == ([place] if place else []) else [f"{reported} are told as hidden"]
     found += [] if count == (1 if place else 3) else [f"MIT's klist lists {count}"]
     return found + ([] if (status, left) == (0, 2) else [f"status {status}, then it lists {left}"])
 

@@ -6,10 +6,11 @@ A key that MIT's ktutil adds while a run writes stays, and the run tells of it.
 import subprocess
 import time
 
-from makers.images import B, HOST, Entry, keytab
+from makers.images import HOST, Entry, keytab
 from peers.beside_mit import SURROUNDINGS, are_there, as_json
 from runs.harness import SECONDS, Outcome, Report, differences, folder_of, run
 from runs.preload import Line
+from runs.rows import printed
 from runs.system_calls import Halt, check_traced, halted
 from runs.undisturbed import IN_PLACE, Undisturbed, in_place, undisturbed
 from system.failing_system_calls import READINGS
@@ -22,9 +23,17 @@ MOMENT = 0.3
 # The names in the file at first, of the entry that MIT's ktutil adds, and of the one that a run adds.
 FIRST, MITS, OURS = "host/a@R", "b@R", "a/long/name@R"
 
-# MIT's programs, halted while they have the lock: one that reads the file, and one that has begun to add an entry.
-READS = (("klist", Line(("-k", "k"))), Halt("read", paths=("k",)))
-ADDS = (("ktutil", Line((), b"rkt j\nwkt k\nq\n")), Halt("write", paths=("k",)))
+# MIT's programs, halted while they have the lock: one that reads the file, and one that has begun to add the entry of
+# another.
+Peer = tuple[str, Line, Halt]
+READS: Peer = ("klist", Line(("-k", "k")), Halt("read", paths=("k",)))
+ADDS: Peer = ("ktutil", Line((), b"rkt j\nwkt k\nq\n"), Halt("write", paths=("k",)))
+J = keytab(Entry((b"b",)))
+
+# One of these, the options of a run beside it, whether that waits, where it puts its entry, and the names then.
+ROWS: tuple[tuple[Peer, tuple[str, ...], bool, int, list[str]], ...] = (
+    (READS, (IN_PLACE,), True, 53, [FIRST, OURS]), (READS, (), False, 53, [FIRST, OURS]),
+    (ADDS, (IN_PLACE,), True, 98, [FIRST, MITS, OURS]), (ADDS, (), True, 98, [FIRST, MITS, OURS]))
 
 
 def names_in(program: str, folder: str) -> list[str]:
@@ -33,7 +42,7 @@ def names_in(program: str, folder: str) -> list[str]:
     return [] if listed["fault"] else [entry["principal"] for entry in listed["entries"]]
 
 
-def ended_beside(program: str, options: tuple[str, ...], folder: str, mits: tuple[tuple[str, Line], Halt],
+def ended_beside(program: str, options: tuple[str, ...], folder: str, mits: Peer,
                  seconds: float) -> tuple[Outcome, bool, Outcome]:
     """Returns how a run ends that begins while one of MIT's programs is halted, whether it waits for so many seconds,
     and how MIT's program ends."""
@@ -53,7 +62,7 @@ def ended_beside(program: str, options: tuple[str, ...], folder: str, mits: tupl
         started.append(ours)
         waits.append(ours.poll() is None)
 
-    (peer, line), halt = mits
+    peer, line, halt = mits
     theirs = halted(peer, line, folder, halt, begin, SURROUNDINGS)
     out, err = started[0].communicate(timeout=SECONDS)
     return Outcome(started[0].returncode, out, err), waits[0], theirs
@@ -61,31 +70,25 @@ def ended_beside(program: str, options: tuple[str, ...], folder: str, mits: tupl
 
 def check_peers(report: Report, program: str) -> None:
     """Checks that a save in place waits for who reads or adds, and that one that replaces waits for who adds."""
-    added = keytab(HOST, B)
-    rows = [(READS, (IN_PLACE,), True, keytab(HOST), [FIRST, OURS]), (READS, (), False, keytab(HOST), [FIRST, OURS]),
-            (ADDS, (IN_PLACE,), True, added, [FIRST, MITS, OURS]), (ADDS, (), True, added, [FIRST, MITS, OURS])]
-    for mits, options, has_to_wait, before, wanted in rows:
-        with folder_of({"k": keytab(HOST), "j": keytab(Entry((b"b",)))}) as folder:
+    for mits, options, has_to_wait, place, wanted in ROWS:
+        with folder_of({"k": keytab(HOST), "j": J}) as folder:
             ours, waits, theirs = ended_beside(program, options, folder, mits, MOMENT if has_to_wait else SECONDS)
             names = names_in(program, folder)
-        faults = differences(Outcome(0, b"placed %d\n" % len(before)), ours)
+        faults = differences(printed(f"placed {place}"), ours)
         faults += [] if names == wanted else [f"{names}, not {wanted}"]
         faults += [] if waits == has_to_wait else [f"it waits: {waits}"]
         is_listed = FIRST.encode() in theirs.out and OURS.encode() not in theirs.out
         faults += [f"{theirs}"] if theirs.status or (mits is READS and not is_listed) else []
-        report.check(f"beside MIT's {mits[0][0]}, {' '.join(options) or 'replacing'}", faults)
+        report.check(f"beside MIT's {mits[0]}, {' '.join(options) or 'replacing'}", faults)
 
 
 def added_while(program: str, made: Undisturbed, halt: Halt) -> tuple[Outcome, list[str], Outcome]:
     """Returns how a run ends that is halted while MIT's ktutil adds an entry, the names then, and how ktutil ends."""
-    (peer, line), _ = ADDS
+    peer, line, _ = ADDS
     theirs: list[Outcome] = []
-    with folder_of({**made.files, "j": keytab(Entry((b"b",)))}) as folder:
-
-        def add(folder: str) -> None:
-            theirs.append(run(peer, line.words, folder, line.stdin, env=SURROUNDINGS))
-
-        ours = halted(program, Line(made.words, made.stdin), folder, halt, add)
+    with folder_of({**made.files, "j": J}) as folder:
+        ours = halted(program, Line(made.words, made.stdin), folder, halt, lambda folder: theirs.append(
+            run(peer, line.words, folder, line.stdin, env=SURROUNDINGS)))
         return ours, names_in(program, folder), theirs[0]
 
 

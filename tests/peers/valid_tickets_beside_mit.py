@@ -1,7 +1,6 @@
 """`klist -s` of MIT's and ours over one cache and at one time: they agree, but for the differences named here."""
 
 import sys
-from collections.abc import Iterable
 from dataclasses import replace
 from random import Random
 
@@ -57,16 +56,15 @@ def by_mit(under: Preloaded, folder: str, now: int) -> Outcome:
     return run("klist", ("-s", "c"), folder, env=SURROUNDINGS | {"LD_PRELOAD": under.library, "CLOCK": str(now)})
 
 
-def faults_of(under: Preloaded, image: bytes, times: Iterable[int] = (), ahead: int = 0) -> list[str]:
-    """Returns where the programs differ at some times, by default around each end of a ticket, and around the usual
-    one's; ours may be asked that many seconds ahead."""
+def faults_of(under: Preloaded, image: bytes, ahead: int = 0) -> list[str]:
+    """Returns where the programs differ around each end of a ticket, and around the usual one's; ours may be asked that
+    many seconds ahead."""
     found = []
+    words = ("klist", "-s", *(["--for", str(ahead)] if ahead else []), "c")
     with folder_of({"c": image}) as folder:
         ends = {END, *(one["endtime"] for one in as_json(under.program, folder, "c").get("tickets", ()))}
-        for now in times or sorted(end + more for end in ends for more in (-1, 0, 1) if 0 < end + more < 2**32):
-            theirs = by_mit(under, folder, now)
-            words = ("klist", "-s", *(["--for", str(ahead)] if ahead else []), "c")
-            ours = under.run_in(folder, Line(words), CLOCK=now - ahead).outcome
+        for now in sorted(end + more for end in ends for more in (-1, 0, 1) if 0 < end + more < 2**32):
+            theirs, ours = by_mit(under, folder, now), under.run_in(folder, Line(words), CLOCK=now - ahead).outcome
             if ours != theirs:
                 found.append(f"at {now} ours is {ours}, MIT's {theirs}, the cache {image[:2000].hex()}")
     return found
@@ -93,7 +91,7 @@ def check_same(report: Report, under: Preloaded) -> None:
         if image not in (image for image, _, _ in DIFFERENT.values()):
             report.check(f"MIT's klist -s and ours: {name}", faults_of(under, image)[:1])
     image = cache(TICKET)
-    report.check("MIT's klist -s and ours with --for", faults_of(under, image, ahead=86_400))
+    report.check("MIT's klist -s and ours with --for", faults_of(under, image, 86_400))
 
 
 def random_ticket(random: Random) -> Credential:
@@ -110,7 +108,7 @@ def check_random(report: Report, under: Preloaded) -> None:
         tickets = (random_ticket(random) for _ in range(random.randrange(6)))
         image = cache(*tickets, version=random.choice((3, 4)))
         image = image[: random.randrange(len(image))] if random.random() < 0.2 else image
-        wrong += faults_of(under, image, (END - 1, END, LATER - 1, LATER))
+        wrong += faults_of(under, image)
     report.check("MIT's klist -s and ours: random caches", wrong[:3])
 
 
