@@ -23,15 +23,13 @@ MOMENT = 0.3
 # The names in the file at first, of the entry that MIT's ktutil adds, and of the one that a run adds.
 FIRST, MITS, OURS = "host/a@R", "b@R", "a/long/name@R"
 
-# MIT's programs, halted while they have the lock: one that reads the file, and one that has begun to add the entry of
-# another.
-Peer = tuple[str, Line, Halt]
-READS: Peer = ("klist", Line(("-k", "k")), Halt("read", paths=("k",)))
-ADDS: Peer = ("ktutil", Line((), b"rkt j\nwkt k\nq\n"), Halt("write", paths=("k",)))
+# MIT's programs, halted while they have the lock: one that reads the file, and one that begins to add what is in J.
+READS = ("klist", Line(("-k", "k")), Halt("read", paths=("k",)))
+ADDS = ("ktutil", Line((), b"rkt j\nwkt k\nq\n"), Halt("write", paths=("k",)))
 J = keytab(Entry((b"b",)))
 
 # One of these, the options of a run beside it, whether that waits, where it puts its entry, and the names then.
-ROWS: tuple[tuple[Peer, tuple[str, ...], bool, int, list[str]], ...] = (
+ROWS = (
     (READS, (IN_PLACE,), True, 53, [FIRST, OURS]), (READS, (), False, 53, [FIRST, OURS]),
     (ADDS, (IN_PLACE,), True, 98, [FIRST, MITS, OURS]), (ADDS, (), True, 98, [FIRST, MITS, OURS]))
 
@@ -39,15 +37,14 @@ ROWS: tuple[tuple[Peer, tuple[str, ...], bool, int, list[str]], ...] = (
 def names_in(program: str, folder: str) -> list[str]:
     """Returns the names in the keytab `k`, or none where it is damaged."""
     listed = as_json(program, folder, "-k", "k")
-    return [] if listed["fault"] else [entry["principal"] for entry in listed["entries"]]
+    return [entry["principal"] for entry in listed["entries"]] if listed.get("fault", "none") is None else []
 
 
-def ended_beside(program: str, options: tuple[str, ...], folder: str, mits: Peer,
+def ended_beside(program: str, options: tuple[str, ...], folder: str, mits: tuple[str, Line, Halt],
                  seconds: float) -> tuple[Outcome, bool, Outcome]:
     """Returns how a run ends that begins while one of MIT's programs is halted, whether it waits for so many seconds,
     and how MIT's program ends."""
-    started: list[subprocess.Popen[bytes]] = []
-    waits: list[bool] = []
+    started: list[tuple[subprocess.Popen[bytes], bool]] = []
 
     def begin(folder: str) -> None:
         """Starts the run."""
@@ -59,13 +56,13 @@ def ended_beside(program: str, options: tuple[str, ...], folder: str, mits: Peer
         until = time.monotonic() + seconds
         while ours.poll() is None and time.monotonic() < until:
             time.sleep(0.01)
-        started.append(ours)
-        waits.append(ours.poll() is None)
+        started.append((ours, ours.poll() is None))
 
     peer, line, halt = mits
     theirs = halted(peer, line, folder, halt, begin, SURROUNDINGS)
-    out, err = started[0].communicate(timeout=SECONDS)
-    return Outcome(started[0].returncode, out, err), waits[0], theirs
+    (ours, waits), = started
+    out, err = ours.communicate(timeout=SECONDS)
+    return Outcome(ours.returncode, out, err), waits, theirs
 
 
 def check_peers(report: Report, program: str) -> None:
