@@ -56,8 +56,8 @@ NARROW = Entry((b"a", b"b"), version32=None)
 BY_NAMES = [*(f"addent -key -p a@R -k {at} -e {word}\n{KEY[:2 * KEY_SIZES[number]]}"
               for at, (name, number) in enumerate(BY_NAME.items(), 1) for word in (name, name.upper())), "wkt n"]
 
-# Runs at the time of the entries, and lines of MIT's ktutil, which sets that of each, that leave the same files. The
-# keytabs of the copies have no entry in common.
+# Runs at the time of the entries, and lines of MIT's ktutil that leave the same files: it sets the time of all that it
+# writes. The keytabs of the copies have no entry in common.
 NOW = HOST.timestamp
 SAME = [
     *((undisturbed("ktcopy k t", clock=NOW, k=source, t=target), ["rkt k", "wkt t"]) for source, target in (
