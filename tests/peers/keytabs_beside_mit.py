@@ -168,10 +168,9 @@ def check_used(report: Report, program: str, made: Realm) -> None:
 def rotated_entry(random: Random) -> Entry:
     """Returns an entry with a 32-bit version, or sometimes with 8 bits only, if they suffice."""
     kvno = random.choice(VERSIONS)
-    is_wide = kvno > 255 or random.random() < 0.5
-    return Entry(random.choice(NAMES), timestamp=1_700_000_000 + random.randrange(3),
-                 version8=kvno % 256, enctype=random.choice((17, 18)),
-                 version32=kvno if is_wide else None)
+    wide = kvno if kvno > 255 or random.random() < 0.5 else None
+    return Entry(random.choice(NAMES), timestamp=NOW + random.randrange(3), version8=kvno % 256,
+                 enctype=random.choice((17, 18)), version32=wide)
 
 
 def removed_by_mit(realm: Realm, name: bytes, image: bytes) -> bytes:
