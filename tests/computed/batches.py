@@ -12,6 +12,7 @@ from contextlib import suppress
 from computed.terms import NotComputed, row_of
 from proving import compiler
 from runs.harness import Case, Report
+from runs.random_runs import keep
 from theorems.antt import TIME, Module, seconds, time_theorems
 
 # The crate of a batch, how many rows a module has, the most bytes that a row is about, and how many days there are: the
@@ -103,4 +104,4 @@ def compare(report: Report, seen: list[Case], are_sources: bool, jobs: int) -> N
         for part, found in zip(parts, pool.map(lambda part: refusals(part, are_sources), parts), strict=True):
             report.passed += len(part) - len(found)
             for number, why in found.items():
-                report.check(f"computed: {rows[number][0].name}", [why])
+                report.check(f"computed: {rows[number][0].name}", [keep(f"computed {number}", rows[number][0]), why])
