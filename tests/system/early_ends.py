@@ -74,7 +74,7 @@ class Ends:
             ends = [replace(run, stdin=b"".join(self.lines[:count])).done for count in range(len(self.lines) + 1)]
             return [Stage(got.out, got.err, files) for got, files in ends]
         if self.command == "ktcheck":
-            cut = [replace(run, words=(*run.words[:to], "none")).wanted for to in range(at, len(run.words))]
+            cut = [replace(run, words=(*run.words[:to], "none"), plain=None).wanted for to in range(at, len(run.words))]
             return [Stage(got.out, got.err.removesuffix(MISSING), run.files) for got in cut]
         return [Stage(b"", b"", run.files)]
 

@@ -7,12 +7,13 @@ some line. Help is printed, or a prefix of it.
 
 import os
 from collections.abc import Callable, Iterable
+from dataclasses import replace
 from random import Random
 
 from makers.cache_images import cache
 from makers.images import HOST, TWO, keytab
 from makers.usual_caches import TICKET
-from runs.harness import Case, Outcome, Report, differences
+from runs.harness import Outcome, Report, differences
 from runs.preload import Counted, Preloaded, preloaded
 from runs.random_runs import Rounds
 from runs.rows import words_of
@@ -91,7 +92,7 @@ def check_defaults(report: Report, under: Preloaded) -> None:
         if file == OWN and os.path.lexists(OWN):
             report.skip(f"memory refused to {name}", f"{OWN} is there")
         else:
-            ends = Ends(Case(name, words_of(line), named.wanted, named.files, named.files))
+            ends = Ends(replace(named, name=name, words=words_of(line), plain=named.words))
             check_run(report, under, ends, lambda requests: spread(requests, FEW), **env)
 
 
