@@ -9,17 +9,13 @@ from dataclasses import replace
 
 from makers.images import B, HOST, TWO, keytab
 from makers.usual_caches import USUAL
-from models.cases import (ccedit, ccremove, in_place, klist, klist_cache, klist_cache_json, klist_json, ktcheck, ktcopy,
-                          ktedit, ktfind, ktremove, ktutil)
-from models.copy_model import Request
-from models.removal_model import Selection
 from runs.harness import Case, Report, differences, faults_of, files_in, folder_of, run
 from runs.preload import Line
-from runs.rows import BAD_LINE
 from runs.system_calls import Halt, check_traced, halted, traced, under_strace
 from runs.terminal import EXPLAIN
+from runs.undisturbed import Undisturbed, in_place, undisturbed
 from system.placing import ADD_LONG, EQUAL, LAST_OF_EACH, LONGER, PLACED, SHORTER, explained, refused, with_words
-from system.saving import (CHANGES, CLASH, COPIES, HOLDING_NOTHING, OLD, SAVING_NOTHING, TGT, WALK, check_over, stands,
+from system.saving import (CHANGES, CLASH, COPIES, HOLDING_NOTHING, OLD, SAVING_NOTHING, WALK, Run, check_over, stands,
                            tree_faults, unsaved)
 from system.waits import AT_ONCE, LEAST_WAIT, LONGEST_WAIT, faults_of_waiting, ofd_lock
 from words.phrases import CAUSES
@@ -32,27 +28,29 @@ SCRIPTS = (b"", b"# none\n", WALK, b"resume 2\n", b"start\nfrob\n")
 
 # Runs that take no lock: those that list, such scripts, dry runs, copies of nothing, and lines of ktutil that read.
 LOCKING_NOTHING = (
-    klist(TWO), klist_json(TWO), klist_cache(USUAL), klist_cache_json(USUAL), ktcheck(TWO),
-    ktfind(TWO, name=(b"b", b"R")), *(ktedit(OLD, script, name=f"{script}") for script in SCRIPTS), *HOLDING_NOTHING,
-    ktcopy(TWO, CLASH, request=Request(is_dry=True), name="tells of a clash"),
-    ktcopy(TWO[:-1], keytab(HOST), request=Request(), name="has a damaged source"),
-    ktcopy(b"", keytab(HOST), request=Request(), name="has no keytab as source"),
-    ktcopy(TWO, keytab(HOST), request=Request(Selection((b"c@R",))), name="finds none"),
-    Case("ktcopy is at fault", ("ktcopy", "-k", "old", "k", "t"), BAD_LINE, {"k": TWO, "t": keytab(HOST)}),
-    *(way for case in (ktremove(TWO, selection=Selection((b"b@R",)), is_dry=True, name="tells"),
-                       ccremove(USUAL, 0, selection=TGT, is_dry=True, name="tells"),
-                       ktcopy(TWO, keytab(HOST), request=Request(is_dry=True), name="tells"),
-                       ktutil(b"rkt k\nl\ndelent 1\n", 0, files={"k": TWO}, name="reads"),
-                       ccedit(USUAL, b"start\n", name="walks")) for way in (case, in_place(case))),
+    *(undisturbed(line, k=TWO) for line in ("klist -k k", "klist -kK --json k", "ktcheck k", "ktfind k 0 0 b@R")),
+    *(undisturbed(line, c=USUAL) for line in ("klist -c c", "klist --json c")),
+    *(undisturbed("ktedit k", script, k=OLD, name=f"{script}") for script in SCRIPTS), *HOLDING_NOTHING,
+    undisturbed("ktcopy -n k t", t=CLASH, k=TWO, name="tells of a clash"),
+    undisturbed("ktcopy k t", t=keytab(HOST), k=TWO[:-1], name="has a damaged source"),
+    undisturbed("ktcopy k t", t=keytab(HOST), k=b"", name="has no keytab as source"),
+    undisturbed("ktcopy -p c@R k t", t=keytab(HOST), k=TWO, name="finds none"),
+    undisturbed("ktcopy -k old k t", t=keytab(HOST), k=TWO, name="is at fault"),
+    *(way for run in (undisturbed("ktremove -n -p b@R k", k=TWO, name="tells"),
+                      undisturbed("ccremove -n -p krbtgt/R@R c", c=USUAL, name="tells"),
+                      undisturbed("ktcopy -n k t", t=keytab(HOST), k=TWO, name="tells"),
+                      undisturbed("ktutil", b"rkt k\nl\ndelent 1\n", k=TWO, name="reads"),
+                      undisturbed("ccedit c", b"start\n", c=USUAL, name="walks")) for way in (run, in_place(run))),
 )
 
 # Runs that lock their file and then have nothing to save.
-LEAVING = (*SAVING_NOTHING, ktedit(TWO, b"cut 3\n", name="is refused"),
-           ktremove(TWO, selection=Selection((b"c@R",)), name="finds none"),
-           *(ktcopy(source, target, request=Request(), is_same=target is None, name=name) for source, target, name in (
+LEAVING = (*SAVING_NOTHING, undisturbed("ktedit k", b"cut 3\n", k=TWO, name="is refused"),
+           undisturbed("ktremove -p c@R k", k=TWO, name="finds none"),
+           *(undisturbed("ktcopy k t", t=target, k=source, name=name) for source, target, name in (
                (keytab(B), TWO, "has it already"), (TWO, TWO, "has all already"), (TWO, CLASH, "clashes"),
                (keytab(), keytab(HOST), "has nothing to copy"), (keytab(), b"", "has nothing for no bytes"),
-               (TWO, TWO[:-1], "has a damaged target"), (TWO, None, "copies a keytab into itself"))))
+               (TWO, TWO[:-1], "has a damaged target"))),
+           undisturbed("ktcopy k k", k=TWO, name="copies a keytab into itself"))
 
 # The name of a new file.
 NEW_FILE = "NAME.krbfile"
@@ -68,7 +66,7 @@ LOCKS: dict[str, Callable[[object], None]] = {
 }
 
 
-def file_of(case: Case) -> str:
+def file_of(case: Run) -> str:
     """Returns the file that a run changes, or would."""
     return "t" if "t" in case.files else "c" if "c" in case.files else "k"
 
@@ -95,10 +93,10 @@ def check_waits(report: Report, program: str) -> None:
     rows = [(case, FLOCK) for case in (*BOTH_WAYS, *LEAVING, *map(in_place, LEAVING))]
     rows += [(in_place(EQUAL), lock) for lock in LOCKS] + [(EQUAL, "a shared flock"), (EQUAL, TO_WRITE)]
     for case, lock in rows:
-        report.check(f"{lock} is waited for: {case.name}", waited_for(program, case, lock))
+        report.check(f"{lock} is waited for: {case.name}", waited_for(program, case.as_case(), lock))
 
 
-def ended_beside(program: str, case: Case, lock: str, file: str) -> tuple[list[str], float]:
+def ended_beside(program: str, case: Run, lock: str, file: str) -> tuple[list[str], float]:
     """Returns the faults of a run while another program has a lock of a file, and how long it took."""
     with folder_of(case.files) as folder, open(os.path.join(folder, file), "r+b") as locked:
         before = set_back(folder)
@@ -110,10 +108,10 @@ def ended_beside(program: str, case: Case, lock: str, file: str) -> tuple[list[s
         return faults + (["the folder, or a file, was changed"] if is_changed else []), seconds
 
 
-def with_file(case: Case, name: str) -> Case:
+def with_file(case: Undisturbed, name: str) -> Case:
     """Returns a run beside another file, named after its own, which it leaves."""
     beside = {name.replace("NAME", file_of(case)): b"held"}
-    return replace(case, files={**case.files, **beside}, files_after={**case.files_after, **beside})
+    return replace(case.as_case(), files={**case.files, **beside}, files_after={**case.files_after, **beside})
 
 
 def check_no_waits(report: Report, program: str) -> None:
@@ -133,12 +131,12 @@ def check_no_waits(report: Report, program: str) -> None:
         report.check(f"{lock} of {file} is not waited for: {case.name}", faults)
 
 
-def gives_up(program: str, case: Case, file: str) -> list[str]:
+def gives_up(program: str, case: Run, file: str) -> list[str]:
     """Returns the faults of a run while another program keeps a lock: after ten seconds its save is refused."""
     if case.files_after != case.files:
         line = "line 2: " if case.words[0] == "ktutil" else ""
         wanted = explained(unsaved(case, file_of(case)), line + CAUSES["in use"])
-        case = replace(case, words=(EXPLAIN, *case.words), wanted=wanted, files_after=case.files)
+        case = Case(case.name, (EXPLAIN, *case.words), wanted, case.files, case.files, case.stdin)
     faults, seconds = ended_beside(program, case, FLOCK, file)
     return faults + ([] if LEAST_WAIT <= seconds <= LONGEST_WAIT else [f"it took {seconds:.1f} seconds"])
 
@@ -173,9 +171,9 @@ def renamed_while_held(program: str, case: Case) -> list[str]:
 
 def check_renamed(report: Report, program: str) -> None:
     """Checks a lock that is held while another file takes the name: that one is changed."""
-    add = ktedit(keytab(B), ADD_LONG, name="adds")
+    add = undisturbed("ktedit k", ADD_LONG, k=keytab(B), name="adds")
     for case in (add, in_place(add)):
-        report.check(f"a lock that is held through a rename: {case.name}", renamed_while_held(program, case))
+        report.check(f"a lock that is held through a rename: {case.name}", renamed_while_held(program, case.as_case()))
 
 
 def check_without(report: Report, program: str) -> None:
@@ -184,7 +182,7 @@ def check_without(report: Report, program: str) -> None:
     rows = [*((LONGER, error, ":when=2+") for error in ("ENOLCK", "EOPNOTSUPP", "EBADF")),
             *((placed, error, "") for error in ("ENOLCK", "EOPNOTSUPP", "EBADF", "EIO"))]
     for case, error, when in rows:
-        one = refused(case, "ENOLCK") if case is placed else with_words(case)
+        one = refused(case, "ENOLCK") if case is placed else with_words(case).as_case()
         one = replace(one, name=f"no lock can be had, {error}: {case.name}")
         check_over(report, "strace", under_strace(program, one, "-e", f"inject=flock:error={error}{when}"))
 

@@ -5,13 +5,13 @@ Each file has the number 0 on the device 0:0. That of its mount is 0:38, if that
 
 import os
 
-from models.cases import in_place
-from runs.harness import Case, Report, differences, folder_of
+from runs.harness import Report, differences, folder_of
 from runs.preload import Counted, Line, Preloaded, preloaded
 from runs.terminal import EXPLAIN
+from runs.undisturbed import in_place
 from system.failing_system_calls import READINGS
 from system.placing import EQUAL, explained
-from system.saving import ADD, OLD, SCRIPT, UNSAVED
+from system.saving import ADD, OLD, SCRIPT, UNSAVED, Run
 from words.phrases import CAUSES
 
 LINE = Line((EXPLAIN, "ktedit", "k"), SCRIPT)
@@ -80,7 +80,7 @@ def seen(under: Preloaded, lists: dict[str, bytes | None], pace: int = 0, is_tak
         return under.run_in(folder, line, PROC=proc, PACE=pace)
 
 
-def faults_of_save(got: Counted, is_waited: bool, case: Case = ADD) -> list[str]:
+def faults_of_save(got: Counted, is_waited: bool, case: Run = ADD) -> list[str]:
     """Returns the faults of a run that saves, after a moment or at once."""
     found = differences(case.wanted, got.outcome) + ([] if got.files == case.files_after else ["other files"])
     is_due = 0 < got.slept <= MOMENT if is_waited else got.slept == 0

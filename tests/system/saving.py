@@ -7,10 +7,8 @@ from dataclasses import dataclass, replace
 
 from makers.images import B, HOST, TWO, keytab
 from makers.usual_caches import USUAL
-from models.cases import ccedit, ccremove, hold, ktcopy, ktedit
-from models.copy_model import Request
-from models.ticket_removal_model import Selection
 from runs.harness import Case, Outcome, Report, differences, folder_of, message, run
+from runs.undisturbed import Undisturbed, frame, undisturbed
 
 # The script of each run, and the file before and after it.
 SCRIPT = b"add 3 17 1700000000 000102030405060708090a0b0c0d0e0f host/a@R\n"
@@ -26,46 +24,47 @@ USER = 65_534
 GROUP = 54_321
 
 Place = Callable[[str], object]
+Run = Case | Undisturbed
 
 # Runs that change a file, those that take no hold, and those that take one and then have nothing to save. None depends
 # on the clock.
-ADD = ktedit(OLD, SCRIPT, name="adds")
-TGT, NONE = Selection(b"krbtgt/R@R"), Selection(b"b@R")
-CHANGES = (ADD, ccedit(USUAL, b"cut 40\n", name="cuts"), ccremove(USUAL, 0, selection=TGT, name="takes"),
-           hold(OLD, NEW, name="saves"))
-HOLDING_NOTHING = (
-    ccedit(USUAL, b"start\n", name="walks"), ccedit(USUAL, b"frob\n", name="is at fault"),
-    ccremove(USUAL, 0, selection=TGT, is_dry=True, name="tells"),
-    ccremove(USUAL, 0, selection=NONE, is_dry=True, name="tells of none"),
-)
-SAVING_NOTHING = (ccedit(USUAL, b"cut 3\n", name="is refused"), ccremove(USUAL, 0, selection=NONE, name="finds none"))
+ADD = undisturbed("ktedit k", SCRIPT, k=OLD, name="adds")
+CHANGES = (ADD, undisturbed("ccedit c", b"cut 40\n", c=USUAL, name="cuts"),
+           undisturbed("ccremove -p krbtgt/R@R c", c=USUAL, name="takes"),
+           undisturbed("hold -k k", frame(NEW), k=OLD, name="saves"))
+HOLDING_NOTHING = (undisturbed("ccedit c", b"start\n", c=USUAL, name="walks"),
+                   undisturbed("ccedit c", b"frob\n", c=USUAL, name="is at fault"),
+                   undisturbed("ccremove -n -p krbtgt/R@R c", c=USUAL, name="tells"),
+                   undisturbed("ccremove -n -p b@R c", c=USUAL, name="tells of none"))
+SAVING_NOTHING = (undisturbed("ccedit c", b"cut 3\n", c=USUAL, name="is refused"),
+                  undisturbed("ccremove -p b@R c", c=USUAL, name="finds none"))
 
 # A keytab that clashes with one of both, and copies that save, have nothing to save, clash, and only print.
 CLASH = keytab(replace(B, key=b"other"))
-COPIES = tuple(ktcopy(TWO, target, request=Request(is_dry=is_dry), name=name) for target, is_dry, name in (
-    (keytab(HOST), False, "saves"), (TWO, False, "has nothing to save"), (CLASH, False, "clashes"),
-    (keytab(), True, "only prints")))
+COPIES = tuple(undisturbed(line, t=target, k=TWO, name=name) for line, target, name in (
+    ("ktcopy k t", keytab(HOST), "saves"), ("ktcopy k t", TWO, "has nothing to save"), ("ktcopy k t", CLASH, "clashes"),
+    ("ktcopy -n k t", keytab(), "only prints")))
 
 
-def run_over(program: str, case: Case, folder: str, name: str = "", **options: object) -> Outcome:
+def run_over(program: str, case: Run, folder: str, name: str = "", **options: object) -> Outcome:
     """Makes a run of a case over the file of that name, by default the case's."""
     return run(program, (*case.words[:-1], name or case.words[-1]), folder, case.stdin, **options)
 
 
-def renamed(case: Case, name: str) -> Case:
+def renamed(case: Undisturbed, name: str) -> Case:
     """Returns the same run over a file of another name."""
     last = case.words[-1]
     files, after = ({name if each == last else each: data for each, data in those.items()}
                     for those in (case.files, case.files_after))
-    return replace(case, words=(*case.words[:-1], name), files=files, files_after=after)
+    return Case(case.name, (*case.words[:-1], name), case.wanted, files, after, case.stdin)
 
 
-def unsaved(case: Case, name: str = "") -> Outcome:
+def unsaved(case: Run, name: str = "") -> Outcome:
     """Returns the outcome if that file is not saved."""
     return message(3, f"{name or case.words[-1]}: cannot write")
 
 
-def faults_over(program: str, case: Case, *places: Place, **options: object) -> list[str]:
+def faults_over(program: str, case: Run, *places: Place, **options: object) -> list[str]:
     """Returns the faults of a case in a folder where more is made before: what it does not change stays as it was."""
     with folder_of(case.files) as folder:
         for place in places:
@@ -79,7 +78,7 @@ def faults_over(program: str, case: Case, *places: Place, **options: object) -> 
         return faults + tree_faults(wanted, folder)
 
 
-def check_over(report: Report, program: str, case: Case, *places: Place, **options: object) -> None:
+def check_over(report: Report, program: str, case: Run, *places: Place, **options: object) -> None:
     """Checks a case in a folder where more is made before."""
     report.check(case.name, faults_over(program, case, *places, **options))
 
