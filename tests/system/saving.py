@@ -10,12 +10,11 @@ from makers.usual_caches import USUAL
 from runs.harness import Case, Outcome, Report, differences, folder_of, message, run
 from runs.undisturbed import Undisturbed, frame, undisturbed
 
-# The script of each run, and the file before and after it.
+# The script of most runs, the file before and after it, and what it prints; and so for a file with another entry.
 SCRIPT = b"add 3 17 1700000000 000102030405060708090a0b0c0d0e0f host/a@R\n"
+OLD, NEW, SAVED = keytab(), keytab(HOST), Outcome(0, b"placed 2\n")
+B_OLD, B_NEW, B_SAVED = keytab(B), keytab(B, HOST), Outcome(0, b"placed 47\n")
 WALK = b"start\nstep 0\n"
-OLD = keytab()
-NEW = keytab(HOST)
-SAVED = Outcome(0, b"placed 2\n")
 UNSAVED = message(3, "k: cannot write")
 UNREAD = message(3, "k: cannot read")
 
