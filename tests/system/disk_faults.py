@@ -8,13 +8,13 @@ import subprocess
 from collections.abc import Iterator
 from contextlib import contextmanager
 
-from makers.images import TWO
-from models.cases import IN_PLACE, ktremove
-from models.removal_model import Selection
+from makers.images import B, TWO, keytab
 from runs.harness import Case, Outcome, Report, differences, folder_of, message
 from runs.preload import Line
+from runs.rows import printed
 from runs.system_calls import Call, calls_of, check_traced, traced, under_strace
 from runs.terminal import EXPLAIN
+from runs.undisturbed import IN_PLACE
 from system.placing import explained
 from system.saving import (GROUP, NEW, OLD, SAVED, SCRIPT, UNREAD, UNSAVED, USER, Owned, Place, at, check_over, edit,
                            owned, tree, tree_faults, write)
@@ -56,11 +56,11 @@ FAILED = {
 TRACES = {"open": r"open.*O_CREAT", "lstat": r'\w*stat\w*\(.*"k"'}
 
 # A run that needs no input, over a file in another folder than its own. The shell's first word is the program.
-REMOVAL = ktremove(TWO, selection=Selection((b"host/a@R",)), name="removes")
 REMOVE = 'exec "$0" ktremove -p host/a@R d/k'
 
-# With the standard streams, and with the error output alone.
-RUNS = ((REMOVE, REMOVAL.wanted), (f"{REMOVE} <&- >&-", message(3, "cannot write output")))
+# With the standard streams, and with the error output alone; and the file afterwards.
+RUNS = ((REMOVE, printed("removed 2 kvno 3 etype 17 host/a@R")), (f"{REMOVE} <&- >&-", UNPRINTED))
+LEFT = keytab(47, B)
 
 # A write of the new bytes, which begin as every keytab does, and the first number of a handle that is no stream.
 WRITTEN = re.compile(r'write\((\d+), "\\5\\2')
@@ -138,7 +138,7 @@ def check_handles(report: Report, program: str) -> None:
             os.mkdir(os.path.join(folder, "d"))
             write(os.path.join(folder, "d", "k"), TWO)
             outcome, trace = traced("sh", Line(("-c", script, program)), folder)
-            faults = differences(wanted, outcome) + tree_faults({"d": "d", "d/k": REMOVAL.files_after["k"]}, folder)
+            faults = differences(wanted, outcome) + tree_faults({"d": "d", "d/k": LEFT}, folder)
         faults += [f"{what} is not synced in time" for what, calls in SYNCS.items()
                    if not re.search(calls, "\n".join(trace), re.MULTILINE | re.DOTALL)]
         handles = [int(found[1]) for found in map(WRITTEN.match, trace) if found]

@@ -6,28 +6,28 @@ import subprocess
 from dataclasses import replace
 
 from makers.images import B, HOST, TWO, keytab
-from models.cases import hold, in_place, ktcopy, ktedit
-from models.copy_model import Request
 from runs.harness import Case, Outcome, Report, differences, folder_of, message, run
 from runs.rows import Line, printed, words_of
 from runs.terminal import EXPLAIN
+from runs.undisturbed import frame, in_place, undisturbed
 from system.pipe_files import fed
 from system.placing import PLACED, explained
 from system.saving import (ADD, CHANGES, CLASH, GROUP, HOLDING_NOTHING, NEW, OLD, SAVED, SAVING_NOTHING, SCRIPT, UNREAD,
-                           UNSAVED, USER, WALK, Owned, Place, as_another, as_user, at, check_over, link, owned,
+                           UNSAVED, USER, WALK, Owned, Place, Run, as_another, as_user, at, check_over, link, owned,
                            run_over, tree, tree_faults, unsaved, write)
 from words.phrases import CAUSES
 
 # Runs that make a file, and copies over a keytab, and over a file of no bytes.
-MADE = (ktedit(None, SCRIPT, name="adds"), ktcopy(TWO, None, request=Request(), name="adds"),
-        hold(None, NEW, name="saves"))
-COPIES = tuple(ktcopy(TWO, target, request=Request(), name=f"into {len(target)} bytes") for target in (keytab(), b""))
+MADE = (undisturbed("ktedit k", SCRIPT, name="adds"), undisturbed("ktcopy k t", k=TWO, name="adds"),
+        undisturbed("hold -k k", frame(NEW), name="saves"))
+COPIES = tuple(undisturbed("ktcopy k t", t=target, k=TWO, name=f"into {len(target)} bytes")
+               for target in (keytab(), b""))
 
 # Modes of files that are replaced by their owner.
 MODES = (0o400, 0o600, 0o640, 0o664, 0o604, 0o6755)
 
 
-def check_owned(report: Report, name: str, program: str, old: Owned, new: Owned, case: Case = ADD, **options) -> None:
+def check_owned(report: Report, name: str, program: str, old: Owned, new: Owned, case: Run = ADD, **options) -> None:
     """Checks a save over a file of that mode, owner and group, in a folder of the user who makes the run."""
     with folder_of(case.files) as folder:
         path = os.path.join(folder, case.words[-1])
@@ -41,7 +41,7 @@ def check_owned(report: Report, name: str, program: str, old: Owned, new: Owned,
     report.check(f"{name}, mode {old.mode:o}: {case.name}", faults)
 
 
-def check_new_files(report: Report, program: str, cases: tuple[Case, ...] = MADE) -> None:
+def check_new_files(report: Report, program: str, cases: tuple[Run, ...] = MADE) -> None:
     """Checks that a new file is readable by its owner only, whatever the umask."""
     for case in cases:
         for umask in (0, 0o022, 0o077, 0o777):
@@ -53,7 +53,7 @@ def check_new_files(report: Report, program: str, cases: tuple[Case, ...] = MADE
             report.check(f"a new file under the umask {umask:o}: {case.name}", faults)
 
 
-def check_own_files(report: Report, program: str, cases: tuple[Case, ...] = CHANGES) -> None:
+def check_own_files(report: Report, program: str, cases: tuple[Run, ...] = CHANGES) -> None:
     """Checks that an owner who is in a file's group saves it with its mode."""
     for case in cases:
         for mode in MODES:
@@ -61,7 +61,7 @@ def check_own_files(report: Report, program: str, cases: tuple[Case, ...] = CHAN
             check_owned(report, "an own file", program, here, here, case, umask=0o077)
 
 
-def check_others_files(report: Report, program: str, cases: tuple[Case, ...] = CHANGES) -> None:
+def check_others_files(report: Report, program: str, cases: tuple[Run, ...] = CHANGES) -> None:
     """Checks that root keeps owner and group, and that others give no user more rights than the old file did."""
     if os.geteuid() != 0 or as_another(program) is None:
         report.skip("files of others", "none but root may make them, or start the program")
@@ -127,7 +127,7 @@ def check_links(report: Report, program: str) -> None:
         check_over(report, program, Case(f"save over {name}", ("ktedit", "k"), wanted, {}, after, SCRIPT), place)
 
 
-def check_hard_links(report: Report, program: str, cases: tuple[Case, ...] = CHANGES) -> None:
+def check_hard_links(report: Report, program: str, cases: tuple[Run, ...] = CHANGES) -> None:
     """Checks that a link is followed, a hard link is broken, a stale file is removed, and all else stays."""
     for case in cases:
         name = case.words[-1]
@@ -174,9 +174,10 @@ def check_locked_folder(report: Report, program: str) -> None:
     if options is None:
         report.skip("a locked folder", "none but root may start the program")
         return
-    scripts = [ktedit(before, script, name=f"{script[-6:-1]!r} over {before}")
+    scripts = [undisturbed("ktedit k", script, k=before, name=f"{script[-6:-1]!r} over {before}")
                for before in (OLD, None) for script in (SCRIPT, WALK, b"cut 3\n", WALK + b"cut 2\n")]
-    cases = [case if case.files == case.files_after else replace(case, wanted=unsaved(case), files_after=case.files)
+    cases = [case if case.files == case.files_after else Case(case.name, case.words, unsaved(case), case.files,
+                                                              stdin=case.stdin)
              for case in (*CHANGES[1:], *scripts, *HOLDING_NOTHING, *SAVING_NOTHING)]
     for case in (*cases, *map(in_place, PLACED)):
         check_over(report, program, replace(case, name=f"a locked folder: {case.name}"), lock_folder, **options)

@@ -15,23 +15,23 @@ from keytabs.ktutil_lines import KEY
 from keytabs.scripts import FAULTS as LINE_FAULTS
 from makers.images import B, HOST, TWO, Entry, keytab
 from makers.usual_caches import USUAL
-from models.cases import IN_PLACE, in_place, ktedit
 from runs.harness import Case, Report, differences, faults_of, files_in, folder_of, message, run
 from runs.limits import limit
 from runs.namespaces import can_mount, run_within
-from runs.rows import printed, words_of
+from runs.rows import words_of
 from runs.terminal import EXPLAIN
+from runs.undisturbed import IN_PLACE, Undisturbed, in_place, undisturbed
 from system.disk_faults import mounted
 from system.placing import EQUAL, LONGER, MIXED, PLACED, changed, explained, kept, refused, with_words
-from system.saving import (ADD, GROUP, NEW, OLD, SCRIPT, UNSAVED, USER, as_another, check_over, link, renamed,
-                           tree_faults, write)
+from system.saving import (ADD, B_NEW, B_OLD, B_SAVED, GROUP, NEW, OLD, SCRIPT, UNSAVED, USER, Run, as_another,
+                           check_over, link, tree_faults, write)
 from words.explained import Explained, unchanged
 from words.phrases import AFTERMATHS, BEGINS_AS_CACHE, CAUSES, LEAVE_OUT, NOT_READ, code, line_fault
 
 # A keytab that fills a page of 4,096 bytes but for less than an entry.
 FULL = keytab(*[HOST] * 79, Entry((b"x" * 14,)))
-TOO_MUCH = ktedit(FULL, SCRIPT, name="adds to a full page")
-LESS = ktedit(FULL, b"cut 2\n", name="removes from a full page")
+TOO_MUCH = undisturbed("ktedit k", SCRIPT, k=FULL, name="adds to a full page")
+LESS = undisturbed("ktedit k", b"cut 2\n", k=FULL, name="removes from a full page")
 
 # A keytab whose hole takes no room on a disk, the room that is left there, and a script that adds 20,000 bytes to the
 # hole and 15,000 behind it.
@@ -63,7 +63,7 @@ def kinds(report: Report) -> list[dict[str, bytes]]:
     return found
 
 
-def check_kept(report: Report, program: str, case: Case, attributes: dict[str, bytes]) -> None:
+def check_kept(report: Report, program: str, case: Undisturbed, attributes: dict[str, bytes]) -> None:
     """Checks a save of a file that has another name, those attributes, and if root makes it another owner."""
     placed, name = in_place(case), changed(case)
     with folder_of(case.files) as folder:
@@ -131,11 +131,12 @@ FULL_DISKS = (refused(in_place(TOO_MUCH), "ENOSPC"), refused(LESS, "ENOSPC"), in
               Case("ktutil writes what it has read", ("ktutil",), UNSAVED, TWO_FILES, stdin=b"rkt k.new\nwkt k\n"))
 
 # Rows over one that is read-only: a file there is loaded, and only its save is refused.
-WALK_OVER, MAKE = ktedit(OLD, b"start\n", name="walks"), renamed(ktedit(None, SCRIPT, name="adds"), "n")
-READ_ONLY = (*(refused(case, "EROFS") for case in (ADD, in_place(ADD), MAKE)), WALK_OVER, in_place(WALK_OVER))
+WALK_OVER = undisturbed("ktedit k", b"start\n", k=OLD, name="walks")
+READ_ONLY = (*(refused(case, "EROFS") for case in (ADD, in_place(ADD), undisturbed("ktedit n", SCRIPT, name="adds"))),
+             WALK_OVER, in_place(WALK_OVER))
 
 
-def check_on_disk(report: Report, program: str, what: str, case: Case, is_read_only: bool) -> bool:
+def check_on_disk(report: Report, program: str, what: str, case: Run, is_read_only: bool) -> bool:
     """Checks a row on a disk of its own, and returns whether one can be mounted."""
     size = f"size={4 * (len(case.files) + is_read_only)}k"
     with folder_of({}) as folder, mounted(folder, "-t", "tmpfs", "-o", size, "krbfile") as is_mounted:
@@ -255,10 +256,10 @@ CASES = [
 def check_links(report: Report, program: str) -> None:
     """Checks links to no file, and one to a file, which is saved where it is."""
     missing = message(1, "l: no such file")
-    for name, target, wanted, after in (("a link to nothing", "no", missing, keytab(B)),
-                                        ("a link into no folder", "no/k", missing, keytab(B)),
-                                        ("a link to a file", "k", printed("placed 47"), keytab(B, HOST))):
-        case = Case(f"{name}, in place", ("ktedit", IN_PLACE, "l"), wanted, {"k": keytab(B)}, {"k": after}, SCRIPT)
+    for name, target, wanted, after in (("a link to nothing", "no", missing, B_OLD),
+                                        ("a link into no folder", "no/k", missing, B_OLD),
+                                        ("a link to a file", "k", B_SAVED, B_NEW)):
+        case = Case(f"{name}, in place", ("ktedit", IN_PLACE, "l"), wanted, {"k": B_OLD}, {"k": after}, SCRIPT)
         check_over(report, program, case, link("l", target))
 
 

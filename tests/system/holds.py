@@ -12,9 +12,9 @@ from keytabs.file_names import LIMIT, sized
 from keytabs.listings import B_LINE, HOST_LINE, listed
 from makers.images import B, BIG, HOST, TWO, keytab, old, record
 from makers.usual_caches import USUAL, VERSION_3
-from models.cases import IN_PLACE, frame
 from runs.harness import SECONDS, Outcome, Report, differences, folder_of, message, run
 from runs.terminal import EXPLAIN, all_of
+from runs.undisturbed import IN_PLACE, frame
 from system.failing_streams import NO_OUTPUT
 from system.placing import explained
 from system.saving import as_another, stands, tree_faults

@@ -8,8 +8,8 @@ from collections.abc import Callable
 from concurrent.futures import ThreadPoolExecutor
 from dataclasses import replace
 
-from models.cases import IN_PLACE, in_place
 from runs.harness import Case, Outcome, Report, message
+from runs.undisturbed import IN_PLACE, Undisturbed, in_place
 from system.placing import PLACED, changed, refused
 from system.saving import (ADD, CHANGES, NEW, OLD, SAVED, SCRIPT, USER, WALK, as_another, at, check_over, faults_over,
                            link, renamed, unsaved, write)
@@ -66,17 +66,17 @@ STRANGE: list[tuple[str, Make]] = [
 ]
 
 
-def faults_in_the_way(program: str, make: Make, mode: int, owner: int | None, case: Case = ADD, **options) -> list[str]:
+def faults_in_the_way(program: str, make: Make, mode: int, owner: int | None, case: Undisturbed = ADD,
+                      **options) -> list[str]:
     """Returns the faults of a run with something in place of its new file, in a folder of that mode."""
     files = {"other": b"other"}
     places = [at(f"{case.words[-1]}.krbfile", make), at(".", lambda path: os.chmod(path, mode))]
     if owner is not None:
         files |= case.files
         places.insert(0, at(case.words[-1], lambda path: os.chown(path, owner, -1)))
-    if IN_PLACE not in case.words:
-        case = replace(case, wanted=unsaved(case), files_after=None)
-    case = replace(case, files=files)
-    return faults_over(program, case, *places, **options)
+    if IN_PLACE in case.words:
+        return faults_over(program, replace(case.as_case(), files=files), *places, **options)
+    return faults_over(program, Case(case.name, case.words, unsaved(case), files, stdin=case.stdin), *places, **options)
 
 
 def check_strange(report: Report, program: str) -> None:

@@ -8,9 +8,9 @@ from collections.abc import Iterator
 from contextlib import contextmanager, suppress
 
 from makers.images import TWO
-from models.cases import IN_PLACE
 from runs.harness import Outcome, Report, differences, folder_of, run
 from runs.terminal import EXPLAIN
+from runs.undisturbed import IN_PLACE
 from system.saving import OLD, SCRIPT, tree_faults
 from words.phrases import CAUSES
 
