@@ -17,7 +17,7 @@ from runs.random_runs import Rounds
 from runs.storms import Run, rage
 from runs.undisturbed import IN_PLACE, use
 from system.saving import tree, write
-from system.storm_kinds import COPIES, HOLDS, KINDS, MANY, PLACES, Kind, change, removes
+from system.storm_kinds import COPIES, HOLDS, KINDS, MANY, PLACES, Kind, change, names_of, removes
 
 # The names by which the runs call the file, and the contents of the folder at the end.
 PATHS = ("k", "./k", "link")
@@ -88,7 +88,7 @@ class Storm:
     def judge(self, folder: str) -> None:
         """Judges what was seen meanwhile, and the file at the end: each saved change is there, and no entry twice."""
         found = tree(folder)
-        names = self.kind.names(found.get("k", b""))
+        names = names_of(self.kind.option, found.get("k", b""))
         if names is None:
             self.found.append(f"the file is not whole at the end: {found.get('k')}")
         names = names or []
@@ -107,7 +107,7 @@ class Storm:
         words, text = change(command, name, source=source_of(name, sources))
         got = run(self.program, words, folder, text.encode())
         found = tree(folder)
-        names = self.kind.names(found.get("k", b"")) or []
+        names = names_of(self.kind.option, found.get("k", b"")) or []
         is_done = got.status == 0 and (name in names) != removes(command)
         if not is_done or found.keys() != LEFT:
             self.found.append(f"the next run: {got}, then {sorted(found)} are there")

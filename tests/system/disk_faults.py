@@ -36,20 +36,19 @@ KILLED = Outcome(-signal.SIGKILL)
 # How a run in place ends whose last look fails, and what its file has then.
 UNSEEN = {explained(Outcome(1, SAVED.out), f"k: {AFTERMATHS['mixed']}"): NEW}
 
+def named(errors: str) -> dict[str, str]:
+    """Returns errors with their phrases."""
+    return {error: CAUSES[error] for error in errors.split()}
+
+
 # What a call fails with, and the phrase of it. With what a save goes on without an owner or a lock stands below.
+NO_MEMORY = {"ENOMEM": "error 12"}
 FAILED = {
-    "open": {"EACCES": CAUSES["EACCES"], "EPERM": CAUSES["EACCES"], "ENOENT": CAUSES["ENOENT"],
-             "ENOTDIR": CAUSES["ENOTDIR"], "EISDIR": CAUSES["EISDIR"], "EROFS": CAUSES["EROFS"],
-             "ENAMETOOLONG": CAUSES["ENAMETOOLONG"]},
-    "lstat": {"EACCES": CAUSES["EACCES"], "ENOTDIR": CAUSES["ENOTDIR"], "ELOOP": CAUSES["ELOOP"], "ENOMEM": "error 12"},
-    "flock": {"ENOLCK": CAUSES["ENOLCK"]},
-    "write": {"EINTR": CAUSES["EINTR"], "EFBIG": CAUSES["EFBIG"], "ENOSPC": CAUSES["ENOSPC"],
-              "EPIPE": CAUSES["EPIPE"], "EDQUOT": CAUSES["EDQUOT"], "EIO": CAUSES["EIO"], "EPROTO": "error 71",
-              "ENOMEM": "error 12"},
-    "fchown": {"EIO": CAUSES["owner"]},
-    "fchmod": {"EIO": CAUSES["EIO"]},
-    "fsync": {"EBUSY": "error 16"},
-    "rename": {"EBUSY": CAUSES["EBUSY"], "EIO": CAUSES["EIO"]},
+    "open": named("EACCES ENOENT ENOTDIR EISDIR EROFS ENAMETOOLONG") | {"EPERM": CAUSES["EACCES"]},
+    "lstat": named("EACCES ENOTDIR ELOOP") | NO_MEMORY, "flock": named("ENOLCK"),
+    "write": named("EINTR EFBIG ENOSPC EPIPE EDQUOT EIO") | {"EPROTO": "error 71"} | NO_MEMORY,
+    "fchown": {"EIO": CAUSES["owner"]}, "fchmod": named("EIO"),
+    "fsync": {"EBUSY": "error 16"}, "rename": named("EBUSY EIO"),
 }
 
 # How the traces begin of calls that have other names in FAILED.

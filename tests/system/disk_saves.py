@@ -4,6 +4,7 @@ a pipe, leave alone, and keep of the file that is saved."""
 import os
 import subprocess
 from dataclasses import replace
+from itertools import product
 
 from makers.images import B, HOST, TWO, keytab
 from runs.harness import Case, Outcome, Report, differences, folder_of, message, run
@@ -17,11 +18,11 @@ from system.saving import (ADD, CHANGES, CLASH, GROUP, HOLDING_NOTHING, NEW, OLD
                            run_over, tree, tree_faults, unsaved, write)
 from words.phrases import CAUSES
 
-# Runs that make a file, and copies over a keytab, and over a file of no bytes.
+# Runs that make a file, and that change one: the last ones copy over a keytab, and over a file of no bytes.
 MADE = (undisturbed("ktedit k", SCRIPT, name="adds"), undisturbed("ktcopy k t", k=TWO, name="adds"),
         undisturbed("hold -k k", frame(NEW), name="saves"))
-COPIES = tuple(undisturbed("ktcopy k t", t=target, k=TWO, name=f"into {len(target)} bytes")
-               for target in (keytab(), b""))
+ALL = (*CHANGES, *(undisturbed("ktcopy k t", t=target, k=TWO, name=f"into {len(target)} bytes")
+                   for target in (keytab(), b"")))
 
 # Modes of files that are replaced by their owner.
 MODES = (0o400, 0o600, 0o640, 0o664, 0o604, 0o6755)
@@ -41,9 +42,9 @@ def check_owned(report: Report, name: str, program: str, old: Owned, new: Owned,
     report.check(f"{name}, mode {old.mode:o}: {case.name}", faults)
 
 
-def check_new_files(report: Report, program: str, cases: tuple[Run, ...] = MADE) -> None:
+def check_new_files(report: Report, program: str) -> None:
     """Checks that a new file is readable by its owner only, whatever the umask."""
-    for case in cases:
+    for case in MADE:
         for umask in (0, 0o022, 0o077, 0o777):
             with folder_of(case.files) as folder:
                 faults = differences(case.wanted, run_over(program, case, folder, umask=umask))
@@ -53,36 +54,37 @@ def check_new_files(report: Report, program: str, cases: tuple[Run, ...] = MADE)
             report.check(f"a new file under the umask {umask:o}: {case.name}", faults)
 
 
-def check_own_files(report: Report, program: str, cases: tuple[Run, ...] = CHANGES) -> None:
+def check_own_files(report: Report, program: str) -> None:
     """Checks that an owner who is in a file's group saves it with its mode."""
-    for case in cases:
-        for mode in MODES:
-            here = Owned(mode, os.geteuid(), os.getegid())
-            check_owned(report, "an own file", program, here, here, case, umask=0o077)
+    for case, mode in product(ALL, MODES):
+        here = Owned(mode, os.geteuid(), os.getegid())
+        check_owned(report, "an own file", program, here, here, case, umask=0o077)
 
 
-def check_others_files(report: Report, program: str, cases: tuple[Run, ...] = CHANGES) -> None:
+# What is lost in a save by another user, the owner and the group before and after it, the groups of that user, and
+# modes before and after it.
+LOST = (
+    ("the owner is", (0, GROUP), (USER, GROUP), (GROUP,),
+     ((0o6664, 0o664), (0o264, 0o220), (0o666, 0o666), (0o474, 0o444))),
+    ("the group is", (USER, 0), (USER, USER), (), ((0o6664, 0o604), (0o604, 0o600), (0o647, 0o604), (0o775, 0o705))),
+    ("both are", (0, 0), (USER, USER), (), ((0o644, 0o604), (0o6777, 0o707), (0o657, 0o604), (0o464, 0o404))),
+)
+
+
+def check_others_files(report: Report, program: str) -> None:
     """Checks that root keeps owner and group, and that others give no user more rights than the old file did."""
     if os.geteuid() != 0 or as_another(program) is None:
         report.skip("files of others", "none but root may make them, or start the program")
         return
     for mode in MODES:
         theirs = Owned(mode, USER, GROUP)
-        for case in cases:
+        for case in ALL:
             check_owned(report, "a user's file saved by root", program, theirs, theirs, case)
         inside = as_user((GROUP,))
         check_owned(report, "a user's file in one of its groups", program, theirs, theirs, **inside)
-    # The mode that is left if the owner is lost, the group, or both.
-    for old, new in ((0o6664, 0o664), (0o264, 0o220), (0o666, 0o666), (0o474, 0o444)):
-        after = Owned(new, USER, GROUP)
-        old_file = Owned(old, 0, GROUP)
-        check_owned(report, "the owner is lost", program, old_file, after, **as_user((GROUP,)))
-    for old, new in ((0o6664, 0o604), (0o604, 0o600), (0o647, 0o604), (0o775, 0o705)):
-        after = Owned(new, USER, USER)
-        check_owned(report, "the group is lost", program, Owned(old, USER, 0), after, **as_user())
-    for old, new in ((0o644, 0o604), (0o6777, 0o707), (0o657, 0o604), (0o464, 0o404)):
-        after = Owned(new, USER, USER)
-        check_owned(report, "both are lost", program, Owned(old, 0, 0), after, **as_user())
+    for what, before, after, groups, modes in LOST:
+        for old, new in modes:
+            check_owned(report, f"{what} lost", program, Owned(old, *before), Owned(new, *after), **as_user(groups))
 
 
 def links_to(*links: tuple[str, str], data: bytes | None = OLD, target: str = "t/k") -> Place:
@@ -127,9 +129,9 @@ def check_links(report: Report, program: str) -> None:
         check_over(report, program, Case(f"save over {name}", ("ktedit", "k"), wanted, {}, after, SCRIPT), place)
 
 
-def check_hard_links(report: Report, program: str, cases: tuple[Run, ...] = CHANGES) -> None:
+def check_hard_links(report: Report, program: str) -> None:
     """Checks that a link is followed, a hard link is broken, a stale file is removed, and all else stays."""
-    for case in cases:
+    for case in ALL:
         name = case.words[-1]
         others = {each: data for each, data in case.files.items() if each != name}
         with folder_of({**others, "file": case.files[name], "file.krbfile": b"left", "file.new": b"new"}) as folder:
@@ -185,10 +187,6 @@ def check_locked_folder(report: Report, program: str) -> None:
 
 COPY = ("ktcopy", "k", "t")
 COPIED = printed("copied 2 kvno 3 etype 17 host/a@R", "copied 53 kvno 3 etype 17 b@R")
-CUT = TWO[:-1]
-
-# What stands under the name of the new file.
-IN_THE_WAY = at("t.krbfile", os.mkdir)
 
 
 def copy(name: str, line: str | Line, files: dict[str, bytes], wanted: Outcome = COPIED, after: bytes | None = None,
@@ -197,37 +195,33 @@ def copy(name: str, line: str | Line, files: dict[str, bytes], wanted: Outcome =
     return Case(name, words_of(line), wanted, files, None if after is None else {"t": after}, stdin)
 
 
-def by_input(image: bytes, wanted: Outcome, after: bytes | None = None) -> Case:
-    """Returns a copy from the standard input, which is read to its end."""
-    return copy(f"{len(image)} bytes on the standard input", "ktcopy /dev/stdin t", {}, wanted, after, image)
-
-
-def from_new_file(source: str, target: str, before: bytes, wanted: Outcome) -> list[tuple[Case, tuple[Place, ...]]]:
+def from_new_file(source: str, target: str, before: bytes, wanted: Outcome) -> list[tuple[Case, Place, Place]]:
     """Returns copies from a file that has the name of the new one, as a killed run leaves it: it stays as it is."""
     ways = [((), wanted)]
     if wanted.err:
         ways.append(((EXPLAIN,), explained(wanted, CAUSES["in the way"].replace("NAME", "t"))))
     return [(copy(f"{' '.join(options)} from {source} into {target} of {len(before)} bytes",
                   (*options, "ktcopy", source, target), {"t.krbfile": keytab(B), "t": before}, outcome),
-             (link("link", "t.krbfile"), link("to", "t"))) for options, outcome in ways]
+             link("link", "t.krbfile"), link("to", "t")) for options, outcome in ways]
 
 
 # Copies, and what is made in their folders before.
-ROWS: list[tuple[Case, tuple[Place, ...]]] = [
-    (by_input(TWO, COPIED, TWO), ()),
-    (by_input(b"", message(1, "/dev/stdin: not a keytab (1)")), ()),
-    (by_input(CUT, message(1, "/dev/stdin: refused 1")), ()),
+ROWS: list[tuple[Case, *tuple[Place, ...]]] = [
+    # The standard input is read to its end.
+    *((copy(f"{len(image)} bytes on the standard input", "ktcopy /dev/stdin t", {}, wanted, after, image),)
+      for image, wanted, after in ((TWO, COPIED, TWO), (b"", message(1, "/dev/stdin: not a keytab (1)"), None),
+                                   (TWO[:-1], message(1, "/dev/stdin: refused 1"), None))),
     # Two names of one keytab are one keytab.
-    *((copy(f"{what} of the same keytab", COPY, {"k": TWO}, Outcome(0)), (place,)) for what, place in (
+    *((copy(f"{what} of the same keytab", COPY, {"k": TWO}, Outcome(0)), place) for what, place in (
         ("a link", link("t", "k")),
         ("a second name", lambda folder: os.link(os.path.join(folder, "k"), os.path.join(folder, "t"))))),
     # What stands under the name of the new file: only a save is refused.
     *((copy(f"a folder in the way: {' '.join(words)}, {wanted.status}", words, {"k": TWO, "t": target}, wanted),
-       (IN_THE_WAY,)) for words, target, wanted in (
+       at("t.krbfile", os.mkdir)) for words, target, wanted in (
            (COPY, keytab(HOST), message(3, "t: cannot write")), (COPY, TWO, Outcome(0)),
            (("ktcopy", "-n", "k", "t"), keytab(), COPIED))),
     (copy("a keytab to copy from that may not be written", COPY, {"k": TWO}, after=TWO),
-     (at("k", lambda path: os.chmod(path, 0o400)),)),
+     at("k", lambda path: os.chmod(path, 0o400))),
     *(row for source, target in (("t.krbfile", "t"), ("./t.krbfile", "t"), ("link", "t"), ("t.krbfile", "to"))
       for row in from_new_file(source, target, keytab(HOST), message(3, f"{target}: cannot write"))),
     *from_new_file("t.krbfile", "t", CLASH, printed("clash 2 2 kvno 3 etype 17 b@R", status=1)),
@@ -257,10 +251,8 @@ def check_input(report: Report, program: str) -> None:
 
 def check(report: Report, program: str) -> None:
     """Runs this topic."""
-    check_new_files(report, program)
-    for each in (check_own_files, check_others_files, check_hard_links):
-        each(report, program, (*CHANGES, *COPIES))
-    for each in (check_links, check_removed, check_locked_folder, check_pipes, check_input):
+    for each in (check_new_files, check_own_files, check_others_files, check_hard_links, check_links, check_removed,
+                 check_locked_folder, check_pipes, check_input):
         each(report, program)
-    for case, places in ROWS:
-        check_over(report, program, case, *places)
+    for row in ROWS:
+        check_over(report, program, *row)

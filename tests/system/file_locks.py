@@ -30,17 +30,16 @@ SCRIPTS = (b"", b"# none\n", WALK, b"resume 2\n", b"start\nfrob\n")
 LOCKING_NOTHING = (
     *(undisturbed(line, k=TWO) for line in ("klist -k k", "klist -kK --json k", "ktcheck k", "ktfind k 0 0 b@R")),
     *(undisturbed(line, c=USUAL) for line in ("klist -c c", "klist --json c")),
-    *(undisturbed("ktedit k", script, k=OLD, name=f"{script}") for script in SCRIPTS), *HOLDING_NOTHING,
+    *(undisturbed("ktedit k", script, k=OLD, name=f"{script}") for script in SCRIPTS),
     undisturbed("ktcopy -n k t", t=CLASH, k=TWO, name="tells of a clash"),
     undisturbed("ktcopy k t", t=keytab(HOST), k=TWO[:-1], name="has a damaged source"),
     undisturbed("ktcopy k t", t=keytab(HOST), k=b"", name="has no keytab as source"),
     undisturbed("ktcopy -p c@R k t", t=keytab(HOST), k=TWO, name="finds none"),
     undisturbed("ktcopy -k old k t", t=keytab(HOST), k=TWO, name="is at fault"),
     *(way for run in (undisturbed("ktremove -n -p b@R k", k=TWO, name="tells"),
-                      undisturbed("ccremove -n -p krbtgt/R@R c", c=USUAL, name="tells"),
                       undisturbed("ktcopy -n k t", t=keytab(HOST), k=TWO, name="tells"),
                       undisturbed("ktutil", b"rkt k\nl\ndelent 1\n", k=TWO, name="reads"),
-                      undisturbed("ccedit c", b"start\n", c=USUAL, name="walks")) for way in (run, in_place(run))),
+                      *HOLDING_NOTHING) for way in (run, in_place(run))),
 )
 
 # Runs that lock their file and then have nothing to save.

@@ -11,7 +11,6 @@ from dataclasses import replace
 from itertools import product
 from shlex import quote
 
-from keytabs.ktutil_lines import KEY
 from keytabs.scripts import FAULTS as LINE_FAULTS
 from makers.images import B, HOST, TWO, Entry, keytab
 from makers.usual_caches import USUAL
@@ -23,7 +22,7 @@ from runs.terminal import EXPLAIN
 from runs.undisturbed import IN_PLACE, Undisturbed, in_place, undisturbed
 from system.disk_faults import mounted
 from system.placing import EQUAL, LONGER, MIXED, PLACED, changed, explained, kept, refused, with_words
-from system.saving import (ADD, B_NEW, B_OLD, B_SAVED, GROUP, NEW, OLD, SCRIPT, UNSAVED, USER, Run, as_another,
+from system.saving import (ADD, B_NEW, B_OLD, B_SAVED, GROUP, LINES, NEW, OLD, SCRIPT, UNSAVED, USER, Run, as_another,
                            check_over, link, tree_faults, write)
 from words.explained import Explained, unchanged
 from words.phrases import AFTERMATHS, BEGINS_AS_CACHE, CAUSES, LEAVE_OUT, NOT_READ, code, line_fault
@@ -192,7 +191,6 @@ def check_sparse(report: Report, program: str) -> None:
     report.check("a sparse file on a full disk", faults)
 
 
-ADDENT = f"addent -key -p a@R -k 1 -e 17\n{KEY}\n".encode()
 NO_FILE = CAUSES["no file"]
 
 
@@ -234,11 +232,11 @@ CASES = [
     unchanged("ktedit --in-place KCM:k", ("KCM:k: no such file", NOT_READ.replace("TYPE", "KCM:")), stdin=SCRIPT),
     # ktutil: what is read, and what is written.
     unchanged("ktutil --in-place", ("k: no such file", f"line 1: {NO_FILE}"), stdin=b"rkt k\n"),
-    unwritten("k", 3, NO_FILE, ADDENT + b"wkt k\n"),
+    unwritten("k", 3, NO_FILE, LINES + b"wkt k\n"),
     unwritten("k", 1, NO_FILE, b"wkt k\n"),
-    unwritten("no/k", 3, NO_FILE, ADDENT + b"wkt no/k\n"),
-    unwritten("FILE:k", 3, LEAVE_OUT.replace("TYPE", "FILE:"), ADDENT + b"wkt FILE:k\n"),
-    unwritten("k.krbfile", 3, CAUSES["name of saves"], ADDENT + b"wkt k.krbfile\n", files={"k.krbfile": TWO}),
+    unwritten("no/k", 3, NO_FILE, LINES + b"wkt no/k\n"),
+    unwritten("FILE:k", 3, LEAVE_OUT.replace("TYPE", "FILE:"), LINES + b"wkt FILE:k\n"),
+    unwritten("k.krbfile", 3, CAUSES["name of saves"], LINES + b"wkt k.krbfile\n", files={"k.krbfile": TWO}),
     # A file that is not a keytab.
     unchanged("ktedit --in-place k", (f"k: not a keytab ({BEGINS_AS_CACHE[0]})", BEGINS_AS_CACHE[1]), stdin=SCRIPT,
          files={"k": USUAL}),

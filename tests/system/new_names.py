@@ -8,11 +8,12 @@ from collections.abc import Callable
 from concurrent.futures import ThreadPoolExecutor
 from dataclasses import replace
 
-from runs.harness import Case, Outcome, Report, message
+from runs.harness import Case, Report, message
+from runs.rows import printed
 from runs.undisturbed import IN_PLACE, Undisturbed, in_place
 from system.placing import PLACED, changed, refused
-from system.saving import (ADD, CHANGES, NEW, OLD, SAVED, SCRIPT, USER, WALK, as_another, at, check_over, faults_over,
-                           link, renamed, unsaved, write)
+from system.saving import (ADD, CHANGES, LINES, NEW, OLD, SAVED, SCRIPT, USER, WALK, as_another, at, check_over,
+                           faults_over, link, renamed, unsaved, write)
 
 # Another user who is not root.
 STRANGER = 1234
@@ -21,15 +22,6 @@ NEW_FILE = "k.krbfile"
 
 # Makes something at a path.
 Make = Callable[[str], None]
-
-# The output of a walk over a keytab without entries.
-WALKED = Outcome(0, b"walk 0 at 2\nwalk 0 end 2\n")
-
-
-def beside(path: str, name: str) -> str:
-    """Returns another path in the same folder."""
-    return os.path.join(os.path.dirname(path), name)
-
 
 def own(path: str) -> str:
     """Returns the file whose new file has that path."""
@@ -61,7 +53,7 @@ STRANGE: list[tuple[str, Make]] = [
     ("a link that dangles", lambda path: os.symlink("no", path)),
     ("a link to itself", lambda path: os.symlink(os.path.basename(path), path)),
     ("a pipe", os.mkfifo),
-    ("another name of a file", lambda path: os.link(beside(path, "other"), path)),
+    ("another name of a file", lambda path: os.link(os.path.join(os.path.dirname(path), "other"), path)),
     ("another name of the file", lambda path: os.link(own(path), path)),
 ]
 
@@ -131,9 +123,9 @@ def check_own_names(report: Report, program: str) -> None:
     for name in (NEW_FILE, ".krbfile", "k.krbfile.krbfile", "./k.krbfile", "link", "dangling"):
         path = "t.krbfile" if name == "link" else os.path.normpath(name)
         files = {} if name == "dangling" else {path: OLD}
-        unsaved, talk = message(3, f"{name}: cannot write"), f"addent -key -p a@R -k 1 -e 1\n00\nwkt {name}\n"
-        rows = [(("ktedit", name), SCRIPT, unsaved), (("ktutil",), talk.encode(), unsaved)]
-        rows += [(("ktedit", name), WALK, WALKED)] if files else []
+        unsaved, talk = message(3, f"{name}: cannot write"), LINES + f"wkt {name}\n".encode()
+        rows = [(("ktedit", name), SCRIPT, unsaved), (("ktutil",), talk, unsaved)]
+        rows += [(("ktedit", name), WALK, printed("walk 0 at 2", "walk 0 end 2"))] if files else []
         for words, given, wanted in rows:
             case = Case(f"{given[:6]} as {name}, which has a new file's name", words, wanted, files, stdin=given)
             check_over(report, program, case, link("link", "t.krbfile"), link("dangling", "no.krbfile"))

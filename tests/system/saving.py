@@ -5,9 +5,11 @@ import stat
 from collections.abc import Callable
 from dataclasses import dataclass, replace
 
+from keytabs.ktutil_lines import ADDENT, KEY
 from makers.images import B, HOST, TWO, keytab
 from makers.usual_caches import USUAL
 from runs.harness import Case, Outcome, Report, differences, folder_of, message, run
+from runs.rows import text
 from runs.undisturbed import Undisturbed, frame, undisturbed
 
 # The script of most runs, the file before and after it, and what it prints; and so for a file with another entry.
@@ -15,6 +17,8 @@ SCRIPT = b"add 3 17 1700000000 000102030405060708090a0b0c0d0e0f host/a@R\n"
 OLD, NEW, SAVED = keytab(), keytab(HOST), Outcome(0, b"placed 2\n")
 B_OLD, B_NEW, B_SAVED = keytab(B), keytab(B, HOST), Outcome(0, b"placed 47\n")
 WALK = b"start\nstep 0\n"
+# Lines of ktutil that add an entry to its list.
+LINES = text([ADDENT, KEY])
 UNSAVED = message(3, "k: cannot write")
 UNREAD = message(3, "k: cannot read")
 

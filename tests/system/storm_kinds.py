@@ -4,6 +4,7 @@ import json
 from dataclasses import dataclass, replace
 from functools import partial
 
+from keytabs.ktutil_lines import KEY
 from makers.cache_images import Name, cache
 from makers.images import Entry, keytab
 from makers.usual_caches import TICKET
@@ -12,8 +13,6 @@ from runs.undisturbed import PROGRAM
 
 # How many runs there are at once.
 MANY = 60
-
-KEY = "000102030405060708090a0b0c0d0e0f"
 
 # The line of each command that adds or removes NAME, and its input.
 LINES = {
@@ -82,10 +81,6 @@ class Kind:
         if self.option == "-c":
             return cache(*(replace(TICKET, server=Name((name,))) for name in names))
         return keytab(*(Entry((name,)) for name in names))
-
-    def names(self, image: bytes) -> list[str] | None:
-        """Returns the names that the file has, or None if it is not whole."""
-        return names_of(self.option, image)
 
     def is_bad(self, image: bytes) -> bool:
         """Whether an image may not be seen meanwhile. What MIT's write, or a save in place, may be half written."""
