@@ -7,7 +7,7 @@ from collections.abc import Callable
 from concurrent.futures import ThreadPoolExecutor
 from dataclasses import replace
 
-from makers.images import B, HOST, TWO, keytab
+from makers.images import TWO
 from makers.usual_caches import USUAL
 from runs.harness import Case, Report, differences, faults_of, files_in, folder_of, run
 from runs.preload import Line
@@ -15,8 +15,8 @@ from runs.system_calls import Halt, check_traced, halted, traced, under_strace
 from runs.terminal import EXPLAIN
 from runs.undisturbed import Undisturbed, in_place, undisturbed
 from system.placing import ADD_LONG, EQUAL, LAST_OF_EACH, LONGER, PLACED, SHORTER, explained, refused, with_words
-from system.saving import (CHANGES, CLASH, COPIES, HOLDING_NOTHING, OLD, SAVING_NOTHING, WALK, Run, check_over, stands,
-                           tree_faults, unsaved)
+from system.saving import (B_OLD, CHANGES, CLASH, HOLDING_NOTHING, NEW, OLD, SAVING_NOTHING, WALK, Run, check_over,
+                           stands, tree_faults, unsaved)
 from system.waits import AT_ONCE, LEAST_WAIT, LONGEST_WAIT, faults_of_waiting, ofd_lock
 from words.phrases import CAUSES
 
@@ -26,33 +26,30 @@ BOTH_WAYS = [way for case in LAST_OF_EACH for way in (case, in_place(case))]
 # Scripts that can change nothing.
 SCRIPTS = (b"", b"# none\n", WALK, b"resume 2\n", b"start\nfrob\n")
 
+# A copy that saves, and one that only prints.
+COPY, DRY_COPY = LAST_OF_EACH[2], undisturbed("ktcopy -n k t", t=NEW, k=TWO, name="tells")
+
 # Runs that take no lock: those that list, such scripts, dry runs, copies of nothing, and lines of ktutil that read.
 LOCKING_NOTHING = (
     *(undisturbed(line, k=TWO) for line in ("klist -k k", "klist -kK --json k", "ktcheck k", "ktfind k 0 0 b@R")),
     *(undisturbed(line, c=USUAL) for line in ("klist -c c", "klist --json c")),
     *(undisturbed("ktedit k", script, k=OLD, name=f"{script}") for script in SCRIPTS),
-    undisturbed("ktcopy -n k t", t=CLASH, k=TWO, name="tells of a clash"),
-    undisturbed("ktcopy k t", t=keytab(HOST), k=TWO[:-1], name="has a damaged source"),
-    undisturbed("ktcopy k t", t=keytab(HOST), k=b"", name="has no keytab as source"),
-    undisturbed("ktcopy -p c@R k t", t=keytab(HOST), k=TWO, name="finds none"),
-    undisturbed("ktcopy -k old k t", t=keytab(HOST), k=TWO, name="is at fault"),
-    *(way for run in (undisturbed("ktremove -n -p b@R k", k=TWO, name="tells"),
-                      undisturbed("ktcopy -n k t", t=keytab(HOST), k=TWO, name="tells"),
+    *(undisturbed(line, t=target, k=source, name=name) for line, source, target, name in (
+        ("ktcopy -n k t", TWO, CLASH, "tells of a clash"), ("ktcopy k t", TWO[:-1], NEW, "has a damaged source"),
+        ("ktcopy k t", b"", NEW, "has no keytab as source"), ("ktcopy -p c@R k t", TWO, NEW, "finds none"),
+        ("ktcopy -k old k t", TWO, NEW, "is at fault"))),
+    *(way for run in (undisturbed("ktremove -n -p b@R k", k=TWO, name="tells"), DRY_COPY,
                       undisturbed("ktutil", b"rkt k\nl\ndelent 1\n", k=TWO, name="reads"),
                       *HOLDING_NOTHING) for way in (run, in_place(run))),
 )
 
-# Runs that lock their file and then have nothing to save.
-LEAVING = (*SAVING_NOTHING, undisturbed("ktedit k", b"cut 3\n", k=TWO, name="is refused"),
+# Runs that lock their file and then have nothing to save: the first two copies copy a keytab of two entries.
+LEAVING_COPIES = tuple(undisturbed("ktcopy k t", t=target, k=source, name=name) for source, target, name in (
+    (TWO, TWO, "has all already"), (TWO, CLASH, "clashes"), (B_OLD, TWO, "has it already"),
+    (OLD, NEW, "has nothing to copy"), (OLD, b"", "has nothing for no bytes"), (TWO, TWO[:-1], "has a damaged target")))
+LEAVING = (*SAVING_NOTHING, *LEAVING_COPIES, undisturbed("ktedit k", b"cut 3\n", k=TWO, name="is refused"),
            undisturbed("ktremove -p c@R k", k=TWO, name="finds none"),
-           *(undisturbed("ktcopy k t", t=target, k=source, name=name) for source, target, name in (
-               (keytab(B), TWO, "has it already"), (TWO, TWO, "has all already"), (TWO, CLASH, "clashes"),
-               (keytab(), keytab(HOST), "has nothing to copy"), (keytab(), b"", "has nothing for no bytes"),
-               (TWO, TWO[:-1], "has a damaged target"))),
            undisturbed("ktcopy k k", k=TWO, name="copies a keytab into itself"))
-
-# The name of a new file.
-NEW_FILE = "NAME.krbfile"
 
 # Kinds of locks: of a whole file, and record locks.
 FLOCK, TO_READ, TO_WRITE = "a flock", "a lock to read", "a lock to write"
@@ -107,10 +104,11 @@ def ended_beside(program: str, case: Run, lock: str, file: str) -> tuple[list[st
         return faults + (["the folder, or a file, was changed"] if is_changed else []), seconds
 
 
-def with_file(case: Undisturbed, name: str) -> Case:
-    """Returns a run beside another file, named after its own, which it leaves."""
-    beside = {name.replace("NAME", file_of(case)): b"held"}
-    return replace(case.as_case(), files={**case.files, **beside}, files_after={**case.files_after, **beside})
+def beside(case: Undisturbed, name: str = "") -> tuple[Case, str]:
+    """Returns a run beside another file, which it leaves, and that file's name: by default that of the new file."""
+    name = name or f"{file_of(case)}.krbfile"
+    before, after = ({**files, name: b"held"} for files in (case.files, case.files_after))
+    return replace(case.as_case(), files=before, files_after=after), name
 
 
 def check_no_waits(report: Report, program: str) -> None:
@@ -118,13 +116,11 @@ def check_no_waits(report: Report, program: str) -> None:
 
     They make no file beside theirs either, not even one that is removed again.
     """
-    rows = [(case, lock, file) for case in LOCKING_NOTHING for lock in (FLOCK, TO_WRITE) for file in case.files]
-    rows += [(case, TO_READ, file_of(case)) for case in PLACED]
-    rows += [(case, lock, "k") for case in BOTH_WAYS if case.words[0] == "ktcopy" for lock in (FLOCK, TO_WRITE)]
-    rows.append((with_file(COPIES[0], "k.krbfile"), FLOCK, "k.krbfile"))
-    rows += [(with_file(case, NEW_FILE), FLOCK, NEW_FILE.replace("NAME", file_of(case)))
-             for case in (*HOLDING_NOTHING, COPIES[3])]
-    for case, lock, file in rows:
+    rows = [(case, file, lock) for case in LOCKING_NOTHING for lock in (FLOCK, TO_WRITE) for file in case.files]
+    rows += [(case, file_of(case), TO_READ) for case in PLACED]
+    rows += [(case, "k", lock) for case in (COPY, in_place(COPY)) for lock in (FLOCK, TO_WRITE)]
+    rows += [(*beside(COPY, "k.krbfile"), FLOCK), *((*beside(case), FLOCK) for case in (*HOLDING_NOTHING, DRY_COPY))]
+    for case, file, lock in rows:
         faults, seconds = ended_beside(program, case, lock, file)
         faults += [] if seconds < AT_ONCE else [f"it took {seconds:.1f} seconds"]
         report.check(f"{lock} of {file} is not waited for: {case.name}", faults)
@@ -143,8 +139,7 @@ def gives_up(program: str, case: Run, file: str) -> list[str]:
 def check_given_up(report: Report, program: str) -> None:
     """Checks that a lock of the file that stays, or of its new file, is waited for some ten seconds."""
     rows = [(case, file_of(case)) for case in (*BOTH_WAYS, LEAVING[0], in_place(LEAVING[0]))]
-    rows += [(with_file(case, NEW_FILE), NEW_FILE.replace("NAME", file_of(case)))
-             for case in (*SAVING_NOTHING, CHANGES[2], *COPIES[:3])]
+    rows += map(beside, (*SAVING_NOTHING, CHANGES[2], COPY, *LEAVING_COPIES[:2]))
     with ThreadPoolExecutor(len(rows)) as pool:
         found = [pool.submit(gives_up, program, case, file) for case, file in rows]
     for (case, file), faults in zip(rows, found):
@@ -170,7 +165,7 @@ def renamed_while_held(program: str, case: Case) -> list[str]:
 
 def check_renamed(report: Report, program: str) -> None:
     """Checks a lock that is held while another file takes the name: that one is changed."""
-    add = undisturbed("ktedit k", ADD_LONG, k=keytab(B), name="adds")
+    add = undisturbed("ktedit k", ADD_LONG, k=B_OLD, name="adds")
     for case in (add, in_place(add)):
         report.check(f"a lock that is held through a rename: {case.name}", renamed_while_held(program, case.as_case()))
 

@@ -13,7 +13,7 @@ from runs.rows import printed
 from runs.undisturbed import IN_PLACE, Undisturbed, in_place
 from system.placing import PLACED, changed, refused
 from system.saving import (ADD, CHANGES, LINES, NEW, OLD, SAVED, SCRIPT, USER, WALK, as_another, at, check_over,
-                           faults_over, link, renamed, unsaved, write)
+                           faults_over, link, unsaved, write)
 
 # Another user who is not root.
 STRANGER = 1234
@@ -139,6 +139,14 @@ def check_places(report: Report, program: str) -> None:
         after = {os.path.normpath(name): NEW} if wanted == SAVED else None
         check_over(report, program, Case(f"save as {name[:20]!r}", ("ktedit", name), wanted,
                                          {".krbfile": b"other", ".new": b"other"}, after, SCRIPT))
+
+
+def renamed(case: Undisturbed, name: str) -> Case:
+    """Returns the same run over a file of another name."""
+    last = case.words[-1]
+    files, after = ({name if each == last else each: data for each, data in those.items()}
+                    for those in (case.files, case.files_after))
+    return Case(case.name, (*case.words[:-1], name), case.wanted, files, after, case.stdin)
 
 
 def check_no_names(report: Report, program: str) -> None:

@@ -6,7 +6,7 @@ from collections.abc import Callable
 from dataclasses import dataclass, replace
 
 from keytabs.ktutil_lines import ADDENT, KEY
-from makers.images import B, HOST, TWO, keytab
+from makers.images import B, HOST, keytab
 from makers.usual_caches import USUAL
 from runs.harness import Case, Outcome, Report, differences, folder_of, message, run
 from runs.rows import text
@@ -42,24 +42,13 @@ HOLDING_NOTHING = (undisturbed("ccedit c", b"start\n", c=USUAL, name="walks"),
 SAVING_NOTHING = (undisturbed("ccedit c", b"cut 3\n", c=USUAL, name="is refused"),
                   undisturbed("ccremove -p b@R c", c=USUAL, name="finds none"))
 
-# A keytab that clashes with one of both, and copies that save, have nothing to save, clash, and only print.
+# A keytab that clashes with one of both entries.
 CLASH = keytab(replace(B, key=b"other"))
-COPIES = tuple(undisturbed(line, t=target, k=TWO, name=name) for line, target, name in (
-    ("ktcopy k t", keytab(HOST), "saves"), ("ktcopy k t", TWO, "has nothing to save"), ("ktcopy k t", CLASH, "clashes"),
-    ("ktcopy -n k t", keytab(), "only prints")))
 
 
 def run_over(program: str, case: Run, folder: str, name: str = "", **options: object) -> Outcome:
     """Makes a run of a case over the file of that name, by default the case's."""
     return run(program, (*case.words[:-1], name or case.words[-1]), folder, case.stdin, **options)
-
-
-def renamed(case: Undisturbed, name: str) -> Case:
-    """Returns the same run over a file of another name."""
-    last = case.words[-1]
-    files, after = ({name if each == last else each: data for each, data in those.items()}
-                    for those in (case.files, case.files_after))
-    return Case(case.name, (*case.words[:-1], name), case.wanted, files, after, case.stdin)
 
 
 def unsaved(case: Run, name: str = "") -> Outcome:
