@@ -21,7 +21,7 @@ STRANGER = 1234
 NEW_FILE = "k.krbfile"
 
 # Makes something at a path.
-Make = Callable[[str], None]
+Make = Callable[[str], object]
 
 def own(path: str) -> str:
     """Returns the file whose new file has that path."""
@@ -36,12 +36,7 @@ def filled(path: str) -> None:
 
 def owned_by(owner: int, mode: int = 0o600) -> Make:
     """Returns a function that makes a file of that owner."""
-
-    def make(path: str) -> None:
-        write(path, b"strange", mode)
-        os.chown(path, owner, -1)
-
-    return make
+    return lambda path: (write(path, b"strange", mode), os.chown(path, owner, -1))
 
 
 # What no killed run leaves.
@@ -153,13 +148,10 @@ def check_no_names(report: Report, program: str) -> None:
     """Checks that files with the name of a new one are not changed, nor is, but in place, a file under a name that is
     too long for a new one."""
     for case in (*CHANGES, *(in_place(each) for each in PLACED if changed(each) == each.words[-1])):
-        rows = [refused(renamed(case, f"{case.words[-1]}.krbfile"), "name of saves")]
-        if IN_PLACE in case.words:
-            rows += [renamed(case, "x" * length) for length in (248, 255)]
-        else:
-            rows.append(refused(renamed(case, "x" * 248), "ENAMETOOLONG"))
-        for one in rows:
-            check_over(report, program, replace(one, name=f"a name of {len(one.words[-1])} bytes: {case.name}"))
+        if_long = "" if IN_PLACE in case.words else "ENAMETOOLONG"
+        for name, cause in ((f"{case.words[-1]}.krbfile", "name of saves"), ("x" * 248, if_long), ("x" * 255, if_long)):
+            one = refused(renamed(case, name), cause) if cause else renamed(case, name)
+            check_over(report, program, replace(one, name=f"a name of {len(name)} bytes: {case.name}"))
 
 
 def check(report: Report, program: str) -> None:

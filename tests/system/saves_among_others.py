@@ -37,12 +37,8 @@ def edited_while(program: str, folder: str, call: str, change: Place, *options: 
 
 def named(name: str, make: Callable[[str], None]) -> Place:
     """Returns a change that makes a file under another name and renames it to that name."""
-
-    def change(folder: str) -> None:
-        make(os.path.join(folder, "spare"))
-        os.rename(os.path.join(folder, "spare"), os.path.join(folder, name))
-
-    return change
+    return lambda folder: (make(os.path.join(folder, "spare")),
+                           os.rename(os.path.join(folder, "spare"), os.path.join(folder, name)))
 
 
 at_name = partial(at, "k")
@@ -149,8 +145,8 @@ def added(name: str, wanted: Outcome, files: dict[str, bytes], after: dict[str, 
     return Case(name, ("ktedit", *options, "k"), wanted, files, after, SCRIPT)
 
 
-# Runs that end well though others change the name of their file: each with the call behind which that happens, the
-# change, and what is made before.
+# Runs while which others change the name of their file: each with the call behind which that happens, the change, and
+# what is made before.
 MOVED: list[tuple[Case, str, Place, *tuple[Place, ...]]] = [
     # A link that changes: the file that was loaded is saved, and no other gets its keys.
     *((added(f"{what} in place of a link", SAVED, {"file": OLD, "other": OLD},
