@@ -22,10 +22,11 @@ from words.phrases import AFTERMATHS, CAUSES
 
 LINE = Line(("ktedit", "k"), SCRIPT)
 
-# The file to which the link `k` leads, and the new one in the same folder.
-TARGET = "file"
-NEW_NAME = "file.krbfile"
-REMAINS = b"remains"
+# What makes a file alone.
+ALONE = at("k", lambda path: write(path, OLD))
+
+# The file to which the link `k` leads, the new one in the same folder, and what an earlier save left in it.
+TARGET, NEW_NAME, REMAINS = "file", "file.krbfile", b"remains"
 
 # The mode of that file. Until it is set only the owner may read the new one.
 MODE = 0o640
@@ -36,13 +37,15 @@ KILLED = Outcome(-signal.SIGKILL)
 # How a run in place ends whose last look fails, and what its file has then.
 UNSEEN = {explained(Outcome(1, SAVED.out), f"k: {AFTERMATHS['mixed']}"): NEW}
 
+
 def named(errors: str) -> dict[str, str]:
     """Returns errors with their phrases."""
     return {error: CAUSES[error] for error in errors.split()}
 
 
-# What a call fails with, and the phrase of it. With what a save goes on without an owner or a lock stands below.
 NO_MEMORY = {"ENOMEM": "error 12"}
+
+# What a call fails with, and the phrase of it. With what a save goes on without an owner or a lock stands below.
 FAILED = {
     "open": named("EACCES ENOENT ENOTDIR EISDIR EROFS ENAMETOOLONG") | {"EPERM": CAUSES["EACCES"]},
     "lstat": named("EACCES ENOTDIR ELOOP") | NO_MEMORY, "flock": named("ENOLCK"),
@@ -74,11 +77,6 @@ def place(folder: str) -> None:
     write(os.path.join(folder, TARGET), OLD, MODE)
     write(os.path.join(folder, NEW_NAME), REMAINS)
     os.symlink(TARGET, os.path.join(folder, "k"))
-
-
-def alone(folder: str) -> None:
-    """Makes a file alone."""
-    write(os.path.join(folder, "k"), OLD)
 
 
 def calls_of_run(program: str, setting: Place, line: Line = LINE) -> list[Call]:
@@ -174,13 +172,13 @@ def check_kills(report: Report, program: str) -> None:
 
 def check_causes(report: Report, program: str) -> None:
     """Checks the cause that is reported for each error: the first call of that name fails with it."""
-    calls = calls_of_run(program, alone)
+    calls = calls_of_run(program, ALONE)
     for name, errors in FAILED.items():
         call = next(call for call in calls if re.match(TRACES.get(name, name), call.line))
         for error, phrase in errors.items():
             case = Case(f"{name} fails with {error}", (EXPLAIN, *LINE.words), explained(UNSAVED, phrase), {},
                         stdin=SCRIPT)
-            check_over(report, "strace", under_strace(program, case, *call.to(f"error={error}")), alone)
+            check_over(report, "strace", under_strace(program, case, *call.to(f"error={error}")), ALONE)
 
 
 def check_missing(report: Report, program: str) -> None:
