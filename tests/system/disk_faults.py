@@ -7,6 +7,7 @@ import signal
 import subprocess
 from collections.abc import Iterator
 from contextlib import contextmanager
+from itertools import product
 
 from makers.images import B, TWO, keytab
 from runs.harness import Case, Outcome, Report, differences, folder_of, message
@@ -208,21 +209,13 @@ def check_owner(report: Report, program: str) -> None:
     narrow = ("EPERM", "EACCES", "ENOSYS", "EOPNOTSUPP", "EINVAL")
     me = os.geteuid()
     old = Owned(0o644, USER, GROUP) if me == 0 else Owned(0o644, me, os.getegid())
-    for error in (*narrow, "EIO", "EDQUOT", "ENOSPC", "EROFS", "EINTR"):
-        for when in ("", ":when=1"):
-            with folder_of({"k": OLD}) as folder:
-                path = os.path.join(folder, "k")
-                os.chown(path, old.owner, old.group)
-                os.chmod(path, old.mode)
-                call = ("-e", f"inject=fchown:error={error}{when}")
-                outcome, _ = traced(program, LINE, folder, *call)
-                is_saved = error in narrow
-                new = Owned(0o644 if when else 0o604, 0, GROUP if when else 0)
-                new = new if is_saved and me == 0 else old
-                faults = differences(SAVED if is_saved else UNSAVED, outcome)
-                faults += [] if owned(path) == new else [f"{owned(path)}, not {new}"]
-                faults += tree_faults({"k": NEW if is_saved else OLD}, folder)
-            report.check(f"no owner can be given: {error}{when}", faults)
+    for error, when in product((*narrow, "EIO", "EDQUOT", "ENOSPC", "EROFS", "EINTR"), ("", ":when=1")):
+        is_saved = error in narrow
+        new = Owned(0o644 if when else 0o604, 0, GROUP if when else 0) if is_saved and me == 0 else old
+        case = Case(f"no owner can be given: {error}{when}", LINE.words, SAVED if is_saved else UNSAVED, {"k": OLD},
+                    {"k": NEW if is_saved else OLD}, SCRIPT)
+        case = under_strace(program, case, "-e", f"inject=fchown:error={error}{when}")
+        check_over(report, "strace", case, at("k", old.give), left=new)
 
 
 def check_lock(report: Report, program: str) -> None:

@@ -14,8 +14,8 @@ from runs.undisturbed import frame, in_place, undisturbed
 from system.pipe_files import fed
 from system.placing import PLACED, explained
 from system.saving import (ADD, CHANGES, CLASH, GROUP, HOLDING_NOTHING, NEW, OLD, SAVED, SAVING_NOTHING, SCRIPT, UNREAD,
-                           UNSAVED, USER, WALK, Owned, Place, Run, as_another, as_user, at, check_over, link, owned,
-                           run_over, tree, tree_faults, unsaved, write)
+                           UNSAVED, USER, WALK, Owned, Place, Run, as_another, as_user, at, check_over,
+                           faults_over, link, run_over, tree, tree_faults, unsaved, write)
 from words.phrases import CAUSES
 
 # Runs that make a file, and that change one: the last ones copy over a keytab, and over a file of no bytes.
@@ -30,28 +30,16 @@ MODES = (0o400, 0o600, 0o640, 0o664, 0o604, 0o6755)
 
 def check_owned(report: Report, name: str, program: str, old: Owned, new: Owned, case: Run = ADD, **options) -> None:
     """Checks a save over a file of that mode, owner and group, in a folder of the user who makes the run."""
-    with folder_of(case.files) as folder:
-        path = os.path.join(folder, case.words[-1])
-        os.chown(folder, options.get("user", -1), options.get("group", -1))
-        os.chown(path, old.owner, old.group)
-        os.chmod(path, old.mode)
-        faults = differences(case.wanted, run_over(program, case, folder, **options))
-        if owned(path) != new:
-            faults.append(f"{owned(path)}, not {new}")
-        faults += tree_faults(case.files_after, folder)
-    report.check(f"{name}, mode {old.mode:o}: {case.name}", faults)
+    folder = Owned(0o700, options.get("user", -1), options.get("group", -1))
+    report.check(f"{name}, mode {old.mode:o}: {case.name}", faults_over(
+        program, case, at(".", folder.give), at(case.words[-1], old.give), left=new, **options))
 
 
 def check_new_files(report: Report, program: str) -> None:
     """Checks that a new file is readable by its owner only, whatever the umask."""
-    for case in MADE:
-        for umask in (0, 0o022, 0o077, 0o777):
-            with folder_of(case.files) as folder:
-                faults = differences(case.wanted, run_over(program, case, folder, umask=umask))
-                faults += tree_faults(case.files_after, folder)
-                mode = owned(os.path.join(folder, case.words[-1])).mode
-            faults += [] if mode == 0o600 else [f"mode {mode:o}"]
-            report.check(f"a new file under the umask {umask:o}: {case.name}", faults)
+    for case, umask in product(MADE, (0, 0o022, 0o077, 0o777)):
+        faults = faults_over(program, case, left=Owned(0o600, os.geteuid(), os.getegid()), umask=umask)
+        report.check(f"a new file under the umask {umask:o}: {case.name}", faults)
 
 
 def check_own_files(report: Report, program: str) -> None:

@@ -20,8 +20,8 @@ from runs.terminal import EXPLAIN
 from runs.undisturbed import IN_PLACE, Undisturbed, in_place, undisturbed
 from system.disk_faults import mounted
 from system.placing import EQUAL, LONGER, MIXED, PLACED, changed, explained, kept, refused, with_words
-from system.saving import (ADD, B_NEW, B_OLD, B_SAVED, GROUP, LINES, NEW, OLD, SCRIPT, UNSAVED, USER, WALK, Run,
-                           as_another, check_over, link, tree_faults, write)
+from system.saving import (ADD, B_NEW, B_OLD, B_SAVED, GROUP, LINES, NEW, OLD, SCRIPT, UNSAVED, USER, WALK, Owned, Run,
+                           as_another, at, check_over, faults_over, link, tree_faults, write)
 from words.explained import Explained, copy, no_keytab, unchanged
 from words.phrases import AFTERMATHS, BEGINS_AS_CACHE, CAUSES, LEAVE_OUT, NOT_READ, code, line_fault
 
@@ -92,16 +92,10 @@ def check_set_id(report: Report, program: str) -> None:
     if options is None:
         report.skip("files with setuid", "none but root may start the program")
         return
-    with folder_of(case.files) as folder:
-        path = os.path.join(folder, "k")
-        if os.geteuid() == 0:
-            os.chown(path, USER, USER)
-            os.chmod(folder, 0o777)
-        os.chmod(path, 0o4600)
-        faults = differences(case.wanted, run(program, case.words, folder, case.stdin, **options))
-        mode = os.stat(path).st_mode & 0o7777
-        faults += [] if mode == 0o600 else [f"mode {mode:o}"]
-        report.check(f"setuid: {case.name}", faults + tree_faults(case.files_after, folder))
+    mine = (USER, USER) if os.geteuid() == 0 else (os.geteuid(), os.getegid())
+    report.check(f"setuid: {case.name}", faults_over(
+        program, case, at(".", lambda path: os.chmod(path, 0o777)), at("k", Owned(0o4600, *mine).give),
+        left=Owned(0o600, *mine), **options))
 
 
 def check_mounted(report: Report, program: str) -> None:

@@ -1,4 +1,5 @@
 """Runs that save a file, and what they leave in its folder."""
+from __future__ import annotations
 
 import os
 import stat
@@ -56,8 +57,9 @@ def unsaved(case: Run, name: str = "") -> Outcome:
     return message(3, f"{name or case.words[-1]}: cannot write")
 
 
-def faults_over(program: str, case: Run, *places: Place, **options: object) -> list[str]:
-    """Returns the faults of a case in a folder where more is made before: what it does not change stays as it was."""
+def faults_over(program: str, case: Run, *places: Place, left: Owned | None = None, **options: object) -> list[str]:
+    """Returns the faults of a case in a folder where more is made before: what it does not change stays as it was, and
+    its file is owned in that way then."""
     with folder_of(case.files) as folder:
         for place in places:
             place(folder)
@@ -67,6 +69,8 @@ def faults_over(program: str, case: Run, *places: Place, **options: object) -> l
         after = stands(folder)
         faults += [f"{name} is not as it was" for name, own in before.items()
                    if own[0] == wanted[name] != "d" and own != after.get(name)]
+        found = left and owned(os.path.join(folder, case.words[-1]))
+        faults += [] if found == left else [f"{found}, not {left}"]
         return faults + tree_faults(wanted, folder)
 
 
@@ -154,6 +158,11 @@ class Owned:
     mode: int
     owner: int
     group: int
+
+    def give(self, path: str) -> None:
+        """Gives a file these."""
+        os.chown(path, self.owner, self.group)
+        os.chmod(path, self.mode)
 
 
 def owned(path: str) -> Owned:
