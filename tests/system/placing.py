@@ -70,12 +70,7 @@ def told(case: Run, aftermath: str) -> Outcome:
     return replace(front, err=front.err + case.wanted.err)
 
 
-def attributes(path: str) -> dict[str, bytes]:
-    """Returns the extended attributes of a file."""
-    return {name: os.getxattr(path, name) for name in os.listxattr(path)}
-
-
 def kept(path: str) -> tuple[object, ...]:
     """Returns what a save in place keeps of a file."""
-    own = os.stat(path)
-    return own.st_ino, own.st_mode, own.st_uid, own.st_gid, own.st_nlink, attributes(path)
+    own, attributes = os.stat(path), {name: os.getxattr(path, name) for name in os.listxattr(path)}
+    return own.st_ino, own.st_mode, own.st_uid, own.st_gid, own.st_nlink, attributes

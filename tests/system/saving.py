@@ -47,9 +47,9 @@ SAVING_NOTHING = (undisturbed("ccedit c", b"cut 3\n", c=USUAL, name="is refused"
 CLASH = keytab(replace(B, key=b"other"))
 
 
-def run_over(program: str, case: Run, folder: str, name: str = "", **options: object) -> Outcome:
-    """Makes a run of a case over the file of that name, by default the case's."""
-    return run(program, (*case.words[:-1], name or case.words[-1]), folder, case.stdin, **options)
+def run_over(program: str, case: Run, folder: str, **options: object) -> Outcome:
+    """Makes a run of a case in a folder."""
+    return run(program, case.words, folder, case.stdin, **options)
 
 
 def unsaved(case: Run, name: str = "") -> Outcome:
@@ -65,7 +65,7 @@ def faults_over(program: str, case: Run, *places: Place, left: Owned | None = No
             place(folder)
         before = stands(folder)
         wanted = {**tree(folder), **(case.files_after or {})}
-        faults = differences(case.wanted, run(program, case.words, folder, case.stdin, **options))
+        faults = differences(case.wanted, run_over(program, case, folder, **options))
         after = stands(folder)
         faults += [f"{name} is not as it was" for name, own in before.items()
                    if own[0] == wanted[name] != "d" and own != after.get(name)]
