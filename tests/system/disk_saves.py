@@ -75,7 +75,7 @@ def check_others_files(report: Report, program: str) -> None:
             check_owned(report, f"{what} lost", program, Owned(old, *before), Owned(new, *after), **as_user(groups))
 
 
-def links_to(*links: tuple[str, str], data: bytes | None = OLD, target: str = "t/k") -> Place:
+def links_to(*links: tuple[str, str], data: bytes | None = OLD) -> Place:
     """Returns a place with two folders, links of these names and texts, and a file unless `data` is None."""
 
     def place(folder: str) -> None:
@@ -84,7 +84,7 @@ def links_to(*links: tuple[str, str], data: bytes | None = OLD, target: str = "t
         for name, text in links:
             os.symlink(text.replace("FOLDER", folder), os.path.join(folder, name))
         if data is not None:
-            write(os.path.join(folder, target), data)
+            write(os.path.join(folder, "t/k"), data)
 
     return place
 
@@ -95,26 +95,22 @@ def long_chain(count: int) -> list[tuple[str, str]]:
     return [*zip(names, names[1:])]
 
 
-def check_links(report: Report, program: str) -> None:
-    """Checks that the file at the end of links is replaced or made, if they lead to one, and that each link stays."""
-    chain = (("k", "u/a"), ("u/a", "../u/b"), ("u/b", "FOLDER/t/k"))
-    cases = [
-        ("a relative link", SAVED, links_to(("k", "t/k"))),
-        ("a link through a parent folder", SAVED, links_to(("k", "u/../t/k"))),
-        ("an absolute link", SAVED, links_to(("k", "FOLDER/t/k"))),
-        ("a chain of links", SAVED, links_to(*chain)),
-        ("a link through a link to a folder", SAVED, links_to(("d", "t"), ("k", "d/k"))),
-        ("a link that dangles", SAVED, links_to(("k", "t/k"), data=None)),
-        ("a chain that dangles", SAVED, links_to(*chain, data=None)),
-        ("a chain of 40 links", SAVED, links_to(*long_chain(40))),
-        ("a link into no folder", UNSAVED, links_to(("k", "no/k"))),
-        ("a link to no folder", UNSAVED, links_to(("k", "no/"), data=None)),
-        ("a link in a circle", UNREAD, links_to(("k", "u/k"), ("u/k", "../k"))),
-        ("a chain of 41 links", UNREAD, links_to(*long_chain(41))),
-    ]
-    for name, wanted, place in cases:
-        after = {"t/k": NEW} if wanted == SAVED else None
-        check_over(report, program, Case(f"save over {name}", ("ktedit", "k"), wanted, {}, after, SCRIPT), place)
+# What leads to the file that is replaced or made, if anything does. Each link stays.
+CHAIN = (("k", "u/a"), ("u/a", "../u/b"), ("u/b", "FOLDER/t/k"))
+LINKS = (
+    ("a relative link", SAVED, links_to(("k", "t/k"))),
+    ("a link through a parent folder", SAVED, links_to(("k", "u/../t/k"))),
+    ("an absolute link", SAVED, links_to(("k", "FOLDER/t/k"))),
+    ("a chain of links", SAVED, links_to(*CHAIN)),
+    ("a link through a link to a folder", SAVED, links_to(("d", "t"), ("k", "d/k"))),
+    ("a link that dangles", SAVED, links_to(("k", "t/k"), data=None)),
+    ("a chain that dangles", SAVED, links_to(*CHAIN, data=None)),
+    ("a chain of 40 links", SAVED, links_to(*long_chain(40))),
+    ("a link into no folder", UNSAVED, links_to(("k", "no/k"))),
+    ("a link to no folder", UNSAVED, links_to(("k", "no/"), data=None)),
+    ("a link in a circle", UNREAD, links_to(("k", "u/k"), ("u/k", "../k"))),
+    ("a chain of 41 links", UNREAD, links_to(*long_chain(41))),
+)
 
 
 def check_hard_links(report: Report, program: str) -> None:
@@ -193,8 +189,10 @@ def from_new_file(source: str, target: str, before: bytes, wanted: Outcome) -> l
              link("link", "t.krbfile"), link("to", "t")) for options, outcome in ways]
 
 
-# Copies, and what is made in their folders before.
+# Saves over links, copies, and what is made in their folders before.
 ROWS: list[tuple[Case, *tuple[Place, ...]]] = [
+    *((Case(f"save over {name}", ("ktedit", "k"), wanted, {}, {"t/k": NEW} if wanted == SAVED else None, SCRIPT), place)
+      for name, wanted, place in LINKS),
     # The standard input is read to its end.
     *((copy(f"{len(image)} bytes on the standard input", "ktcopy /dev/stdin t", {}, wanted, after, image),)
       for image, wanted, after in ((TWO, COPIED, TWO), (b"", message(1, "/dev/stdin: not a keytab (1)"), None),
@@ -239,7 +237,7 @@ def check_input(report: Report, program: str) -> None:
 
 def check(report: Report, program: str) -> None:
     """Runs this topic."""
-    for each in (check_new_files, check_own_files, check_others_files, check_hard_links, check_links, check_removed,
+    for each in (check_new_files, check_own_files, check_others_files, check_hard_links, check_removed,
                  check_locked_folder, check_pipes, check_input):
         each(report, program)
     for row in ROWS:

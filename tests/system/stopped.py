@@ -9,6 +9,7 @@ import subprocess
 import time
 from collections.abc import Iterator
 from contextlib import contextmanager
+from itertools import product
 
 from keytabs.conversations import LISTED, Talk, terminal
 from keytabs.ktutil_lines import HEADING, NO_SLOTS
@@ -17,6 +18,7 @@ from runs.harness import SECONDS, Outcome, Report, differences, folder_of, messa
 from runs.rows import text
 from runs.undisturbed import IN_PLACE
 from system.outputs import LONG, piped
+from system.placing import TALK
 from system.saving import B_NEW, B_OLD, B_SAVED, NEW, OLD, SAVED, SCRIPT, edit, tree_faults, write
 
 # How long a run has to reach the point where it waits.
@@ -76,13 +78,11 @@ def waits_for(process: subprocess.Popen[bytes], stream: int) -> bool:
 
 def check_unread(report: Report, program: str) -> None:
     """Checks that while nobody reads a run's output, another run can change the file."""
-    cases = [(1, "ktedit", "k", SCRIPT, OLD), (1, "ktedit", "k", b"cut 3\n", OLD),
-             (2, "ktedit", "k", SCRIPT, b"other"), (2, "ktutil", "", b"rkt j\nwkt k\n", b"other"),
-             (2, "ktutil", "", b"rkt j\nwkt k\n", TWO[:-1])]
-    rows = [(number, f"{command} {option} {name}", text, data)
-            for number, command, name, text, data in cases for option in ("", IN_PLACE)]
-    for number, words, text, data in rows:
-        stream = {1: "stdout", 2: "stderr"}[number]
+    rows = ((1, "ktedit OPTION k", SCRIPT, OLD), (1, "ktedit OPTION k", b"cut 3\n", OLD),
+            (2, "ktedit OPTION k", SCRIPT, b"other"), (2, "ktutil OPTION", TALK, b"other"),
+            (2, "ktutil OPTION", TALK, TWO[:-1]))
+    for (number, line, text, data), option in product(rows, ("", IN_PLACE)):
+        words, stream = line.replace("OPTION", option), {1: "stdout", 2: "stderr"}[number]
         with full_pipe() as given, folder_of({"j": B_OLD, "k": data}) as folder:
             slow = subprocess.Popen([program, *words.split()], cwd=folder, stdin=subprocess.PIPE,
                                     **{stream: given})
