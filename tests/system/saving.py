@@ -17,15 +17,14 @@ from runs.undisturbed import Undisturbed, frame, undisturbed
 SCRIPT = b"add 3 17 1700000000 000102030405060708090a0b0c0d0e0f host/a@R\n"
 OLD, NEW, SAVED = keytab(), keytab(HOST), Outcome(0, b"placed 2\n")
 B_OLD, B_NEW, B_SAVED = keytab(B), keytab(B, HOST), Outcome(0, b"placed 47\n")
+UNSAVED, UNREAD = message(3, "k: cannot write"), message(3, "k: cannot read")
 WALK = b"start\nstep 0\n"
+
 # Lines of ktutil that add an entry to its list.
 LINES = text([ADDENT, KEY])
-UNSAVED = message(3, "k: cannot write")
-UNREAD = message(3, "k: cannot read")
 
 # A user who is not root, and a group that user may be in.
-USER = 65_534
-GROUP = 54_321
+USER, GROUP = 65_534, 54_321
 
 Place = Callable[[str], object]
 Run = Case | Undisturbed
@@ -120,18 +119,14 @@ def write(path: str, data: bytes, mode: int = 0o600) -> None:
 def tree(folder: str) -> dict[str, object]:
     """Returns the contents of a folder, by path: bytes of files, texts of links, and the kind of all else."""
     found: dict[str, object] = {}
-    for at, folders, files in os.walk(folder):
-        for name in (*folders, *files):
-            path = os.path.join(at, name)
-            mode = os.lstat(path).st_mode
-            where = os.path.relpath(path, folder)
-            if stat.S_ISLNK(mode):
-                found[where] = os.readlink(path)
-            elif stat.S_ISREG(mode):
+    for top, folders, files in os.walk(folder):
+        for path in (os.path.join(top, name) for name in (*folders, *files)):
+            kind, where = stat.filemode(os.lstat(path).st_mode)[0], os.path.relpath(path, folder)
+            if kind == "-":
                 with open(path, "rb") as file:
                     found[where] = file.read()
             else:
-                found[where] = stat.filemode(mode)[0]
+                found[where] = os.readlink(path) if kind == "l" else kind
     return found
 
 
