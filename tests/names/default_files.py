@@ -8,8 +8,7 @@ from contextlib import contextmanager, nullcontext
 
 from keytabs.file_names import NOBODY
 from makers.images import TWO
-from models.name_model import FileName, Kind
-from models.named_runs import COMMANDS, IMAGES, KLIST, KLIST_CACHE, NEITHER
+from names.named_files import COMMANDS, IMAGES, KLIST, KLIST_CACHE, NEITHER, FileName, Kind
 from runs.harness import Report, folder_of, run
 from runs.namespaces import STATUS, can_mount, run_within
 from runs.terminal import EXPLAIN
@@ -17,9 +16,9 @@ from system.saving import write
 from words.explained import Explained, unchanged
 from words.phrases import DEFAULT
 
-CCNAME, KTNAME = "KRB5CCNAME", "KRB5_KTNAME"
+CCNAME, KTNAME = Kind.CACHE.variable, Kind.KEYTAB.variable
 CACHE = IMAGES[Kind.CACHE]
-KEYTAB = FileName(b"/etc/krb5.keytab", source=DEFAULT)
+KEYTAB = FileName("/etc/krb5.keytab", source=DEFAULT)
 
 # A user whom no system has, and the name of that user's cache.
 USER = 4_000_123_456
@@ -70,7 +69,7 @@ CASES = [
 
 def cache_of(user: int) -> FileName:
     """Returns the default cache of a user."""
-    return FileName(OWN.format(user).encode(), source=DEFAULT)
+    return FileName(OWN.format(user), source=DEFAULT)
 
 
 @contextmanager
@@ -124,7 +123,7 @@ def check_defaults(report: Report, program: str) -> None:
                 continue
             for command in (each for each in COMMANDS if each.has_default and each.kind is kind):
                 for env in UNNAMED[kind]:
-                    compare(command.row(program, name, image, None, {}, env))
+                    compare(command.row(name, image, None, {}, env))
 
 
 def check_unknown(report: Report, program: str) -> None:
@@ -140,9 +139,9 @@ def check_unknown(report: Report, program: str) -> None:
                 for line in ("klist", "klist -c", "klist --json", "klist -s"):
                     compare(bad(line, {}, "no FILE"))
                 compare(bad("klist -x", {}, "unknown option -x"))
-                compare(KLIST_CACHE.row(program, FileName(b"c"), CACHE, b"c", {}, {}))
-                compare(KLIST_CACHE.row(program, FileName(b"c"), CACHE, None, {}, {CCNAME: "c"}))
-                compare(KLIST.row(program, KEYTAB, TWO, None, {}, {}))
+                compare(KLIST_CACHE.row(FileName("c"), CACHE, "c", {}, {}))
+                compare(KLIST_CACHE.row(FileName("c"), CACHE, None, {}, {CCNAME: "c"}))
+                compare(KLIST.row(KEYTAB, TWO, None, {}, {}))
 
 
 def by_user(user: int) -> tuple[str, ...]:
@@ -171,7 +170,7 @@ def check_users(report: Report, program: str) -> None:
                     continue
                 first, *rest = [*front, copy, "klist"]
                 got = run(first, rest, folder, env={"PATH": os.environ["PATH"]})
-                row = KLIST_CACHE.row(program, cache_of(user), image, None, {}, {})
+                row = KLIST_CACHE.row(cache_of(user), image, None, {}, {})
                 report.compare(f"the default cache of user {user}, {front}", row.wanted(False, row.out), got)
 
 

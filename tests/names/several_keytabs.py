@@ -6,7 +6,7 @@ from dataclasses import replace
 
 from keytabs.finds import FIVE
 from makers.images import B, HOST, TWO, hole, keytab
-from models.named_runs import NEITHER
+from names.named_files import NEITHER
 from runs.harness import Outcome, Report, folder_of, run
 from runs.rows import Line, shown, text, words_of
 from runs.terminal import EXPLAIN
