@@ -3,14 +3,14 @@
 The expected results are computed by hand: most of them repeat one part.
 """
 
+import os
 from dataclasses import replace
 
 from keytabs.file_names import LIMIT, TOO_LARGE, sized
 from makers.images import HOST, Entry, hole, keytab, record
-from models.cases import hold
-from models.check_model import mode_of_files
 from runs.harness import Case, Outcome, message
 from runs.rows import over, printed, text
+from runs.undisturbed import frame
 
 # The smallest entry with a component: 23 bytes with its 32-bit version, in a record of 27.
 LEAST = Entry((b"",), b"", 1, 0, 0, 0, b"", 0)
@@ -79,8 +79,8 @@ def reads() -> list[Case]:
     form = b'{"place":%d,"principal":"@","kvno":0,"etype":0,"etype_name":null,"timestamp":0}'
     long_entry = (b'{"place":2,"principal":"%s@R","kvno":3,"etype":17,'
                   b'"etype_name":"aes128-cts-hmac-sha1-96","timestamp":1700000000}' % many_quoted(b"\\\\/"))
-    mode = mode_of_files()
-    mode_line = b"mode %o\n" % mode if mode & 0o66 else b""
+    os.umask(mask := os.umask(0))
+    mode_line = b"mode %o\n" % (0o666 & ~mask) if mask & 0o66 != 0o66 else b""
     same = at_each(b"same %d 2 kvno 0 etype 0 @\n", PLACES[1:])
     most = b"hidden 2 kvno 0 etype 0 @\n" + same + b"entries %d free %d holes 1\n" % (COUNT, LIMIT - END - 4)
     hidden = b"hidden 2 kvno 3 etype 17 " + many_quoted(b"\\/") + b"@R\nentries 1 free %d holes 1\n"
@@ -177,7 +177,8 @@ def edits() -> list[Case]:
         edit("each of the most entries goes and comes again", least(), cuts + again,
              Outcome(0, at_each(b"gone %d\n") + at_each(b"placed %d\n"))),
         edit("the most steps", least(), b"start\n" + steps, Outcome(0, b"walk 0 at 2\n" + gave + ends)),
-        hold(sized(LIMIT), least(), name="of the greatest file, and another as great"),
+        over("hold, of the greatest file, and another as great", "hold -k k", sized(LIMIT),
+             Outcome(0, frame(sized(LIMIT))), least(), frame(least())),
     ]
 
 

@@ -5,13 +5,12 @@ import subprocess
 from dataclasses import replace
 from itertools import permutations
 
-from caches.cache_listings import CONFIG_LINE, ETYPE_LINE, FLAGS_LINE, TICKET_LINE
+from caches.cache_listings import CONFIG_LINE, ETYPE_LINE, FLAGS_LINE, TICKET_LINE, listed
 from keytabs.columns import sample
 from makers.cache_images import cache
 from makers.images import B, TWO, keytab
 from makers.samples import folder_of_samples
 from makers.usual_caches import OFFSET, PA_TYPE, TICKET, USUAL
-from models.cache_reading import listed
 from runs.harness import Case, Outcome, Report, files_in, message, run
 from runs.rows import BAD_LINE, Help, Line, over, printed, shown, words_of
 
