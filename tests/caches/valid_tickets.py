@@ -5,9 +5,9 @@ from dataclasses import replace
 
 from caches.cache_listings import of_host
 from keytabs.file_names import LIMIT, check_unreadable
-from makers.cache_images import Credential, Name, cache, header_field, offset
+from makers.cache_images import Credential, Name, cache, offset
 from makers.images import TWO
-from makers.usual_caches import OFFSET, PA_TYPE, TICKET, VERSION_3, config_ticket
+from makers.usual_caches import PA_TYPE, TICKET, VERSION_3, config_ticket
 from runs.harness import Case, Outcome, Report, differences, folder_of, run
 from runs.rows import check_rows, words_of
 from runs.terminal import runs_with_words
@@ -69,19 +69,16 @@ TICKETS: list[tuple[str, tuple[Credential | bytes, ...], Outcome]] = [
     ("a fault before it", (b"\xff" * 9, TGT), NONE),
 ]
 
-# Files that are no caches, and those that are read whatever their header has.
+# Files that are no caches, and default principals of other realms.
 FILES: list[tuple[str, bytes, Outcome]] = [
     ("no bytes", b"", NONE),
     ("a keytab", TWO, NONE),
-    *((f"version {version}", bytes([5, version]) + VERSION_3[2:], NONE) for version in (1, 2, 5)),
-    ("a cut header", b"\x05\x04\0", NONE),
     ("a damaged header", cache(TGT, fields=b"\0\x01\0"), NONE),
     ("no default principal", b"\x05\x04\0\0", NONE),
     ("version 3", cache(replace(TGT, second_enctype=23), version=3), VALID),
     ("a default principal of another realm", cache(OVER, HOST, default=Name((b"u",), b"S")), VALID),
     ("its ticket is over", cache(service(b"krbtgt", b"S", realm=b"S", endtime=1), TGT, default=Name(realm=b"S")), NONE),
     ("an offset", cache(TGT, fields=offset(2**31 - 1, 0)), VALID),
-    ("a header of an unknown tag, and two offsets", cache(TGT, fields=header_field(9, b"x") + OFFSET * 2), VALID),
 ]
 
 # Words that mean the same: whether a ticket is left in this many seconds.

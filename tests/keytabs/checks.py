@@ -67,7 +67,7 @@ ROWS = [
     check_up("other versions and enctypes are others", keytab(AES256, FIVE, B3), "entries 3 free 0 holes 0"),
     *(check_up(f"hidden, {name}", keytab(FIRST, entry, B3), f"hidden 51 kvno 3 etype 17 {text}",
                "entries 3 free 0 holes 0", status=1) for (name, entry), text in zip(ODD.items(), TEXTS)),
-    *(check_up(f"not hidden, {name}", keytab(FIRST, entry), "entries 2 free 0 holes 0") for name, entry in EVEN.items()),
+    *(check_up(f"not hidden, {name}", keytab(FIRST, each), "entries 2 free 0 holes 0") for name, each in EVEN.items()),
     check_up("holes", keytab(3, B, hole(b"xyz12"), END, b"more"), "entries 1 free 8 holes 2"),
     check_up("a damaged keytab", keytab(HOST, 9, record(bytes(10)), B), "fault 3 at 66", "entries 1 free 9 holes 1",
              status=1),

@@ -63,8 +63,8 @@ CASES = [
     case("version 1, big-endian", old(HOST, B, order=BIG), b"   3 " + TIME + b"host/a@R" + ETYPE + HOST_KEY,
          b"   3 " + TIME + b"b@R" + ETYPE + B_KEY, letters="teK", options="--v1-big"),
     # All enctypes, with the names of those that have one.
-    lambda: case("enctypes", keytab(*(Entry((b"a",), enctype=number, key=b"") for number in range(65_536))),
-                 *(b"   3 a@R (%s)" % NAMES.get(number, b"etype %d" % number) for number in range(65_536)), letters="e"),
+    lambda: case("enctypes", keytab(*(Entry((b"a",), enctype=each, key=b"") for each in range(65_536))),
+                 *(b"   3 a@R (%s)" % NAMES.get(each, b"etype %d" % each) for each in range(65_536)), letters="e"),
     # Keys of several lengths, some of which have each byte.
     case("keys", keytab(*(Entry((b"a",), key=key) for key in KEYS)),
          *(b"   3 a@R (0x%s)" % key.hex().encode() for key in KEYS), letters="K"),

@@ -29,9 +29,9 @@ def find(name: str, image: bytes, query: str, wanted: Outcome | str, *options: s
 
 CASES = [
     *(find(f"{query} of three", THREE, f"{query} host/a@R", wanted) for query, wanted in {
-        "0 0": "53 kvno 5 etype 18 host/a@R", "3 0": "2 kvno 3 etype 17 host/a@R", "0 17": "120 kvno 5 etype 17 host/a@R",
-        "0 aes256-cts-hmac-sha1-96": "53 kvno 5 etype 18 host/a@R", "3 18": NO_SUCH_VERSION, "0 23": NOT_FOUND,
-        "4 23": NOT_FOUND}.items()),
+        "0 0": "53 kvno 5 etype 18 host/a@R", "3 0": "2 kvno 3 etype 17 host/a@R",
+        "0 17": "120 kvno 5 etype 17 host/a@R", "0 AES256-cts": "53 kvno 5 etype 18 host/a@R",
+        "3 18": NO_SUCH_VERSION, "0 23": NOT_FOUND, "4 23": NOT_FOUND}.items()),
     *(find(f"no name {text!r}", TWO, f"0 0 {text}", NOT_FOUND) for text in NEAR),
     # Names that are long, or begin as an option; one of no components is not of an empty one; its type does not count.
     *(find(f"name {text[:9]!r}", keytab(Entry(parts)), f"0 0 {text}@R", f"2 kvno 3 etype 17 {text}@R")
