@@ -3,10 +3,9 @@
 from dataclasses import replace
 
 from caches.cache_listings import of_host
-from keytabs.removals import check_left_alone, check_mode
 from makers.cache_images import Credential, Name, cache, config
 from makers.usual_caches import FIELDS, OFFSET, PA_TYPE, TICKET, USUAL, VERSION_3, config_ticket
-from runs.harness import Case, Outcome, Report, message
+from runs.harness import Case, Outcome, message
 from runs.rows import over
 
 NOT_FOUND = message(1, "c: refused 9")
@@ -88,10 +87,3 @@ CASES = [
     *(remove(name, image, words, wanted) for name, (image, wanted) in UNCHANGED.items()
       for words in ("--expired", "-n -p c@R")),
 ]
-
-
-def check(report: Report, program: str) -> None:
-    """Checks a file's bytes, time and mode."""
-    for words in ("--expired", "-p c@R", "-n -p krbtgt/R@R"):
-        check_left_alone(report, program, left(LATER), f"ccremove {words} c")
-    check_mode(report, program, MANY, "ccremove --expired c")

@@ -74,8 +74,7 @@ CASES = [
     remove_old("through the middle", [(250, 1), (200, 2), (3, 3)], [0, 1]),
     remove_old("a version twice", [(4, 1), (5, 1), (4, 9), (5, 9)], [0, 2]),
     # Old versions whose name has had its newest one for that long: all entries of that version, and no others.
-    *(remove(f"old for long: {words}", FOUR, words, [X], keytab(47, AES256, FIVE, B3))
-      for words in ("-k old --age=1", "--age 0000086400 -kold", "-k old -p host/a@R --age 0")),
+    remove("old for long", FOUR, "--age 0000086400 -kold", [X], keytab(47, AES256, FIVE, B3)),
     remove("for longer than there are clocks", FOUR, "-k old --age 4294967295", []),
     remove("a new version of an enctype that is not selected", keytab(replace(HOST, enctype=18), AES256, LATE),
            "-k old -e 18 --age 0", []),
@@ -97,32 +96,14 @@ CASES = [
 ]
 
 
-def check_left_alone(report: Report, program: str, image: bytes, line: str) -> None:
-    """Checks that a run that removes nothing leaves the file named last alone, its time too."""
-    words = line.split()
-    with folder_of({words[-1]: image}) as folder:
-        path = os.path.join(folder, words[-1])
-        os.utime(path, ns=(1_000_000_000, 2_000_000_001))
-        before = os.stat(path)
-        run(program, words, folder)
-        after = os.stat(path)
-    same = (before.st_ino, before.st_mtime_ns) == (after.st_ino, after.st_mtime_ns)
-    report.check(f"{line} leaves the file alone", [] if same else ["it changed"])
-
-
-def check_mode(report: Report, program: str, image: bytes, line: str) -> None:
-    """Checks that a run that removes something keeps the mode of the file named last."""
-    words = line.split()
-    with folder_of({words[-1]: image}) as folder:
-        path = os.path.join(folder, words[-1])
-        os.chmod(path, 0o640)
-        run(program, words, folder)
-        mode = os.stat(path).st_mode & 0o7777
-    report.check("the mode stays", [] if mode == 0o640 else [f"mode {mode:o}"])
-
-
 def check(report: Report, program: str) -> None:
-    """Checks a file's bytes, time and mode."""
-    for words in ("-k old", "-k 4", "-n -e 17"):
-        check_left_alone(report, program, keytab(HOST, B3), f"ktremove {words} k")
-    check_mode(report, program, FOUR, "ktremove -k old k")
+    """Checks that runs that remove nothing leave the file alone, its time too."""
+    for line in ("-k old", "-k 4", "-n -e 17"):
+        with folder_of({"k": keytab(HOST, B3)}) as folder:
+            path = os.path.join(folder, "k")
+            os.utime(path, ns=(1_000_000_000, 2_000_000_001))
+            before = os.stat(path)
+            run(program, ("ktremove", *line.split(), "k"), folder)
+            after = os.stat(path)
+        same = (before.st_ino, before.st_mtime_ns) == (after.st_ino, after.st_mtime_ns)
+        report.check(f"ktremove {line} leaves the file alone", [] if same else ["it changed"])

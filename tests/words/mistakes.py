@@ -75,8 +75,8 @@ MISTAKES: dict[str, str | list[Line]] = {
     **{f"-s does not go with {option}": f"klist -s {option} k" for option in ("--json", "-e", "-f", "-C")},
     **{f'"{word}" is no time (90, 15m, 10h, 7d)': f"klist -s --for {word} k, ktremove -k old --age={word} k"
        for word in ("x", "d", "D", "7D", "1.5h", "1d1h", "49711d", "99999999d", "71582789m", "1193047h")},
-    **{f'"{each}" is no finding': [("ktcheck", "--allow", each, "k"), ("ktcheck", "--allow=old", f"--allow={each}", "k")]
-       for each in ("", "x", "Weak", "weak,old", " weak", "fault", "entries")},
+    **{f'"{it}" is no finding': [("ktcheck", "--allow", it, "k"), ("ktcheck", "--allow=old", f"--allow={it}", "k")]
+       for it in ("", "x", "Weak", "weak,old", " weak", "fault", "entries")},
 }
 
 # Lines with what may be a key, which is not shown, however it is given, and lines whose word is too short for that.
