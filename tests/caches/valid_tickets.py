@@ -45,10 +45,9 @@ TICKETS: list[tuple[str, tuple[Credential | bytes, ...], Outcome]] = [
     ("one that is over, and another ticket", (OVER, HOST), NONE),
     ("another ticket, and one that is over", (HOST, OVER), NONE),
     # Only of its own realm, by its name: two components in that case, of any type, for any client.
-    *((f"krbtgt of {b'/'.join(parts).decode()}@{realm.decode()}", (OVER, service(*parts, realm=realm)), NONE)
-      for parts, realm in (((b"krbtgt", b"S"), b"R"), ((b"krbtgt", b"R"), b"S"), ((b"krbtgt",), b"R"),
-                           ((b"krbtgt", b"R", b""), b"R"), ((b"KRBTGT", b"R"), b"R"), ((b"krbtgt", b"r"), b"R"),
-                           ((b"krbtgt/R",), b"R"), ((), b"R"))),
+    *((f"krbtgt of {'/'.join(parts)}@{realm}", (OVER, service(*map(str.encode, parts), realm=realm.encode())), NONE)
+      for *parts, realm in (("krbtgt", "S", "R"), ("krbtgt", "R", "S"), ("krbtgt", "R"), ("krbtgt", "R", "", "R"),
+                            ("KRBTGT", "R", "R"), ("krbtgt", "r", "R"), ("krbtgt/R", "R"), ("R",))),
     ("one of another realm alone", (service(b"krbtgt", b"S"),), VALID),
     ("one of another realm, over, and another ticket", (service(b"krbtgt", b"S", endtime=1), HOST), VALID),
     ("one of another name type", (replace(OVER, server=Name((b"krbtgt", b"R"), name_type=99)), HOST), NONE),
@@ -71,9 +70,7 @@ TICKETS: list[tuple[str, tuple[Credential | bytes, ...], Outcome]] = [
 
 # Files that are no caches, and default principals of other realms.
 FILES: list[tuple[str, bytes, Outcome]] = [
-    ("no bytes", b"", NONE),
-    ("a keytab", TWO, NONE),
-    ("a damaged header", cache(TGT, fields=b"\0\x01\0"), NONE),
+    ("no bytes", b"", NONE), ("a keytab", TWO, NONE), ("a damaged header", cache(TGT, fields=b"\0\x01\0"), NONE),
     ("no default principal", b"\x05\x04\0\0", NONE),
     ("version 3", cache(replace(TGT, second_enctype=23), version=3), VALID),
     ("a default principal of another realm", cache(OVER, HOST, default=Name((b"u",), b"S")), VALID),

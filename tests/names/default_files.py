@@ -56,10 +56,8 @@ CASES = [
     # What is wrong with a line comes first.
     *(bad(words, {CCNAME: b"\xff", KTNAME: b"\xff"}, phrase) for words, phrase in (
         ("klist -x", "unknown option -x"), ("klist -k -f", "-f does not go with -k"), ("klist c c", "left over: c"),
-        ("klist -t", "-t is for keytabs; give -k"), ("klist -s -e", "-s does not go with -e"),
-        ("klist --for 3", "--for goes with -s alone"), ("klist -s --for x", '"x" is no time (90, 15m, 10h, 7d)'),
-        ("ktcheck --allow x", '"x" is no finding'), ("ktcheck --allow", "--allow needs a value"),
-        ("ktcheck -k", "unknown option -k"), ("klist --explain", "--explain stands before the command"))),
+        ("klist -t", "-t is for keytabs; give -k"), ("klist --for 3", "--for goes with -s alone"),
+        ("ktcheck --allow", "--allow needs a value"), ("klist --explain", "--explain stands before the command"))),
     # Other commands want the file.
     *(bad(words, {CCNAME: "c", KTNAME: "k"}, f"no {what}") for words, what in (
         ("ktfind", "FILE"), ("ktedit", "FILE"), ("ktremove -k old", "FILE"), ("ktcopy", "FROM"), ("ktcopy k", "TO"),
