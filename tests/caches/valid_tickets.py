@@ -7,7 +7,7 @@ from caches.cache_listings import of_host
 from keytabs.file_names import LIMIT, check_unreadable
 from makers.cache_images import Credential, Name, cache, offset
 from makers.images import TWO
-from makers.usual_caches import PA_TYPE, TICKET, VERSION_3, config_ticket
+from makers.usual_caches import PA_TYPE, TICKET, config_ticket
 from runs.harness import Case, Outcome, Report, differences, folder_of, run
 from runs.rows import check_rows, words_of
 from runs.terminal import runs_with_words

@@ -7,6 +7,7 @@ from collections.abc import Callable, Iterator
 from dataclasses import dataclass, field
 from errno import ENXIO
 from functools import partial
+from itertools import product
 
 from caches.cache_edits import long_ticket
 from caches.cache_scripts import FAULTS as CACHE_FAULTS
@@ -19,7 +20,7 @@ from keytabs.scripts import FAULTS as LINE_FAULTS
 from makers.cache_images import cache
 from makers.images import B, HOST, TWO, keytab, record
 from makers.usual_caches import USUAL, VERSION_3
-from runs.harness import Outcome, Report, differences, files_in, folder_of, message, run
+from runs.harness import Outcome, Report, differences, files_in, folder_of, run
 from runs.rows import Line, shown, text, words_of
 from runs.terminal import EXPLAIN, WAYS, run_explained, run_on_terminal
 from words.phrases import (BAD_DEFAULT, BAD_HEADER, BEGINS_AS_CACHE, BEGINS_AS_KEYTAB, BEGINS_AS_NO_CACHE,
@@ -266,9 +267,7 @@ CASES = [
 LINES = {
     "ktedit k": ("start", "resume 2", "step 0", f"add 3 17 0 {KEY} b@R", "cut 2", "rewrite"),
     "ccedit c": ("start", "resume 40", "step 0", "config k - v", "cut 40", "rewrite"),
-    "ktutil": ("list -t -k", "rkt k", "wkt k",
-               f"addent -key -p host/a@R -k 3 -e aes128-cts-hmac-sha1-96\n{KEY}", "delent 1",
-               "clear", "quit"),
+    "ktutil": ("list -t -k", "rkt k", "wkt k", f"{ADDENT}{KEY}", "delent 1", "clear", "quit"),
 }
 
 # Words that may be keys.
@@ -297,31 +296,25 @@ def check_keys(report: Report, program: str) -> None:
 
 def check_told(report: Report, program: str) -> None:
     """Sets KRBFILE_EXPLAIN: `klist -s` prints nothing with it too."""
-    (number, phrase), command = SHORT, "krbfile: unknown command x; see krbfile --help\n"
-    for value, explains in ((b"1", True), (b"00", True), (b"no", True), (b"\xff", True), (b"0", False), (b"", False)):
-        env = {**os.environb, b"KRBFILE_EXPLAIN": value}
-        with folder_of({"k": b""}) as folder:
-            for words, status, said, more in ((("klist", "-k", "k"), 1, f"krbfile: k: not a keytab ({number})\n",
-                                               f"krbfile: {phrase}\n"),
-                                              (("x",), 2, "krbfile: bad command line\n", command),
-                                              (("klist", "-s", "k"), 1, "", "")):
-                wanted = Outcome(status, err=(said + more * explains).encode())
-                report.compare(f"{value!r} in the environment, {words}", wanted, run(program, words, folder, env=env))
+    rows = (case("a listing", "klist -k k", b"", no_keytab(SHORT)), case("a question", "klist -s k", b""),
+            case("a bad line", "x", b"", ("bad command line", "unknown command x; see krbfile --help"), status=2))
+    for value, row in product((b"1", b"00", b"no", b"\xff", b"0", b""), rows):
+        with folder_of(row.files) as folder:
+            got = run(program, row.words, folder, env={**os.environb, b"KRBFILE_EXPLAIN": value})
+        report.compare(f"{value!r} in the environment, {row.name}", row.wanted(value not in (b"0", b""), b""), got)
 
 
 def check(report: Report, program: str) -> None:
     """Checks keys in lines, and an input and an output that fail."""
     check_keys(report, program)
     check_told(report, program)
-    rows = [(("klist", "-k", "k"), "> /dev/full", "cannot write output", CAUSES["ENOSPC"]),
-            *((words, "< .", "cannot read input", CAUSES["EISDIR"])
-              for words in (("ktutil",), ("ktedit", "k"), ("ccedit", "k")))]
-    with folder_of({"k": TWO}) as folder:
-        for words, redirection, said, phrase in rows:
-            shell = ("-c", f'exec "$0" {redirection} "$@"', program)
-            name = f"{' '.join(words)} {redirection}"
-            alone = message(3, said)
-            explained = Outcome(3, err=alone.err + f"krbfile: {phrase}\n".encode())
-            report.compare(f"{name}, on a pipe", alone, run("sh", (*shell, *words), folder))
-            report.compare(f"{name}, {EXPLAIN}", explained, run("sh", (*shell, EXPLAIN, *words), folder))
-            report.compare(f"{name}, on a terminal", explained, run_on_terminal("sh", (*shell, *words), folder))
+    for line, redirection, *told in (("klist -k k", "> /dev/full", "cannot write output", CAUSES["ENOSPC"]),
+                                     *((line, "< .", "cannot read input", CAUSES["EISDIR"])
+                                       for line in ("ktutil", "ktedit k", "ccedit k"))):
+        row = case(f"{line} {redirection}", line, TWO, tuple(told), status=3)
+        for way, (make, explains) in WAYS.items():
+            words = (*[EXPLAIN] * (way == EXPLAIN), *row.words)
+            with folder_of(row.files) as folder:
+                got = (run_on_terminal if make is run_on_terminal else run)(
+                    "sh", ("-c", f'exec "$0" {redirection} "$@"', program, *words), folder)
+            report.compare(f"{row.name}, {way}", row.wanted(explains, b""), got)

@@ -6,7 +6,7 @@ from makers.images import TWO
 from runs.harness import Case, Outcome, Report, differences, folder_of, run
 from runs.rows import Line, shown, words_of
 from runs.terminal import EXPLAIN, run_on_terminal, runs_with_words
-from words.command_lines import REFUSED, lines_of
+from words.command_lines import HELP, REFUSED, lines_of
 from words.explained import Explained
 
 MESSAGE = b"krbfile: bad command line\n"
@@ -113,7 +113,7 @@ NEAR: dict[tuple[str, str], str] = {
     ("unknown option --v1-big=yes", "--v1-big"): "klist -k --v1-big=yes k",
 }
 
-COMMANDS = ("klist", "ktfind", "ktedit", "ktremove", "ktcopy", "ktcheck", "ktutil", "ccedit", "ccremove", "hold")
+COMMANDS = tuple(HELP)
 
 
 def mistake(line: str | Line, phrase: str) -> Explained:
