@@ -6,7 +6,7 @@ import stat
 from keytabs.finds import AES256, FIVE
 from keytabs.removals import B3
 from makers.images import B, BIG, END, HOST, TWO, Entry, hole, keytab, old, record
-from runs.harness import Case, Outcome, Report, folder_of, run
+from runs.harness import Case, Report, folder_of, run
 from runs.rows import check_rows, over, printed
 
 # The smallest length that MIT's reader takes for the end.
@@ -75,25 +75,25 @@ ROWS = [
 ]
 
 
+# Modes, and the status; None where the mode has no line, since no other than the owner may read or write the file.
+MODES = {0o600: None, 0o400: None, 0o611: None, 0o7711: None, 0o640: 0, 0o660: 0, 0o620: 0, 0o604: 1, 0o602: 1,
+         0o644: 1, 0o666: 1, 0o4640: 0, 0o1644: 1, 0o060: 0, 0o006: 1}
+
+
 def check_modes(report: Report, program: str) -> None:
-    """Checks that the mode of a plain file, also through a link, is reported if others may read or write it."""
-    rows = [(0o600, None, 0), (0o400, None, 0), (0o611, None, 0), (0o7711, None, 0),
-            (0o640, "640", 0), (0o660, "660", 0), (0o620, "620", 0), (0o604, "604", 1),
-            (0o602, "602", 1), (0o644, "644", 1), (0o666, "666", 1), (0o4640, "4640", 0),
-            (0o1644, "1644", 1), (0o060, "60", 0), (0o006, "6", 1)]
+    """Checks the mode of a plain file, also through a link."""
     with folder_of({"k": TWO}) as folder:
-        os.symlink("k", os.path.join(folder, "link"))
         path = os.path.join(folder, "k")
-        for mode, reported, status in rows:
+        os.symlink("k", os.path.join(folder, "link"))
+        for mode, status in MODES.items():
             os.chmod(path, mode)
             if stat.S_IMODE(os.stat(path).st_mode) != mode:
                 report.skip(f"mode {mode:o}", "the file does not take it")
-                continue
-            out = (f"mode {reported}\n" if reported else "") + "entries 2 free 0 holes 0\n"
-            for name in ("k", "link"):
-                got = run(program, ("ktcheck", name), folder)
-                if mode & 0o400 or os.geteuid() == 0:
-                    report.compare(f"mode {mode:o} of {name}", Outcome(status, out.encode()), got)
+            elif mode & 0o400 or os.geteuid() == 0:
+                lines = [*[f"mode {mode:o}"] * (status is not None), "entries 2 free 0 holes 0"]
+                for name in ("k", "link"):
+                    got = run(program, ("ktcheck", name), folder)
+                    report.compare(f"mode {mode:o} of {name}", printed(*lines, status=status or 0), got)
 
 
 def check(report: Report, program: str) -> None:

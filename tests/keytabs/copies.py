@@ -48,8 +48,8 @@ def select(options: str, source: bytes, *those: Entry) -> Case:
     return copy("selected", options, source, None, lines, image)
 
 
-# Keytabs of version 1, and odd numbers.
-V1, V1_BIG = (old(HOST, B, order=order) for order in ("little", BIG))
+# A keytab of version 1, its entries in version 2, and odd numbers.
+V1_BIG = old(HOST, B, order=BIG)
 ODD = replace(B, name_type=7, timestamp=2**32 - 1, version8=255, enctype=65_535, key=b"k", version32=2**32 - 1)
 UNTYPED = keytab(*(replace(entry, name_type=0) for entry in (HOST, B)))
 
@@ -75,7 +75,6 @@ CASES = [
     copy("all", "", TWO, None, [f"copied 2 {X}", f"copied 53 {Y}"], TWO),
     copy("one that is missing", "", TWO, keytab(HOST), [f"copied 53 {Y}"], TWO),
     copy("all into no bytes", "", TWO, b"", [f"copied 2 {X}", f"copied 53 {Y}"], TWO),
-    copy("nothing into no bytes", "", keytab(), b"", []),
     copy("a dry run", "-n", TWO, None, [f"copied 2 {X}", f"copied 53 {Y}"]),
     copy("a dry run with nothing to do", "-n", TWO, TWO, []),
     # Other keys: without --replace nothing is saved, and a dry run alone tells of the rest.
@@ -87,7 +86,6 @@ CASES = [
     copy("two other keys", "--replace", keytab(B), keytab(OTHER, HOST, THIRD),
          [f"removed 2 {Y}", f"removed 98 {Y}", f"copied 2 {Y}"], keytab(B, HOST, 41)),
     copy("its key behind another", "", keytab(B), keytab(OTHER, B), []),
-    copy("two keys", "--replace", keytab(B, OTHER), None, printed(f"clash 47 2 {Y}", status=1)),
     copy("two keys, both there", "--replace", keytab(B, OTHER), keytab(OTHER, B), []),
     # What makes two entries the same: name, version and enctype, not time and name type.
     copy("another time and name type", "", keytab(B), keytab(replace(B, timestamp=9, name_type=3)), []),
@@ -97,14 +95,8 @@ CASES = [
          ["copied 46 kvno 3 etype 17 @R"], keytab(replace(OTHER, components=(b"",)), replace(B, components=()))),
     # The fields that are written. Version 1 has no name type; an entry of it has type 0 in version 2.
     copy("all fields", "", keytab(ODD), None, ["copied 2 kvno 4294967295 etype 65535 b@R"], keytab(ODD)),
-    copy("the low 8 bits of a version", "", keytab(replace(ODD, version8=7)), None,
-         ["copied 2 kvno 4294967295 etype 65535 b@R"], keytab(ODD)),
-    copy("a 32-bit version always, and nothing after it", "",
-         keytab(replace(HOST, version32=None), record(B.spelled() + b"\xff" * 9)), None,
-         [f"copied 2 {X}", f"copied 53 {Y}"], TWO),
     copy("a replaced entry with bytes after it", "--replace", keytab(B), keytab(record(OTHER.spelled() + b"\xff" * 9)),
          [f"removed 2 {Y}", f"copied 2 {Y}"], keytab(record(B.spelled() + bytes(9)))),
-    copy("version 2 into version 1", "", TWO, old(), [f"copied 2 {X}", f"copied 49 {Y}"], V1),
     copy("version 1 into version 1", "--v1-big", V1_BIG, old(HOST, order=BIG), [f"copied 49 {Y}"], V1_BIG),
     copy("version 1, big-endian, into none", "--v1-big", V1_BIG, None, [f"copied 2 {X}", f"copied 53 {Y}"], UNTYPED),
     copy("version 1, big-endian, read as little", "", V1_BIG, None, FROM_DAMAGED),
