@@ -66,7 +66,6 @@ CASES = [
          refused("walk 0 at 40", GAVE_TICKET, GAVE_CONFIG, *["walk 0 fault 4 at 392"] * 2)),
     # How a reply reports what a walk is given.
     given("an enctype without a name", replace(TICKET, enctype=65_535), b"etype 65535 krbtgt/R@R"),
-    given("bytes that are no text", replace(TICKET, server=Name((b"\xff",))), b"etype 17 \xff@R"),
     given("a value without a key, of no bytes of a principal", config(b"", b"v", b""), b"config ()"),
     given("escapes", config(ODD_KEY, b"v", ODD_KEY), b"config " + ESCAPED + b"(" + ESCAPED + b")"),
     given("another client's value, with times and a key", config_ticket(b"k", client=KRBTGT), b"config k"),
@@ -75,7 +74,6 @@ CASES = [
          cache(TICKET.removed(), PA_TYPE, TICKET.removed(), fields=FIELDS)),
     edit("a configuration entry", USUAL, ["cut 148"], ["gone 148"],
          cache(TICKET, PA_TYPE.removed(), TICKET.removed(), fields=FIELDS)),
-    edit("nothing stands there", USUAL, ["cut 3", "cut 284", "cut 392", "cut 4294967295"], refused(*["refused 5"] * 4)),
     # Values that are set: the new one is added, and then each old one is removed.
     edit("in place of two, in the order of the file", cache(K_1, TICKET, K_2), ["config k - 3"],
          ["placed 362", "gone 22", "gone 246"], cache(K_1.removed(), TICKET, K_2.removed(), K_3)),

@@ -12,7 +12,7 @@ from runs.rows import check_rows, over, printed
 # The smallest length that MIT's reader takes for the end.
 LONG = 32_768
 
-# Entries at which MIT's programs stop, and some that they list.
+# Entries at which MIT's programs stop, and some that they list: another topic shows each beside these programs.
 ODD = {
     "no components": Entry(()),
     "no components and an empty realm": Entry((), b""),
@@ -39,12 +39,6 @@ EVEN = {
 }
 
 
-# The names of the odd ones, as they are printed.
-TEXTS = ("@R", "@", "@R", "/x@R", "a//b@R", "host/@R", "a@", *["host/a@R"] * 3, "x" * LONG + "@R",
-         "a/" + "x" * 65_535 + "@R", "a@" + "R" * LONG, "/".join("p" * LONG) + "@R")
-# An entry of 49 bytes with its length.
-FIRST = Entry((b"first",))
-
 
 def check_up(name: str, image: bytes, *lines: str, status: int = 0, options: str = "") -> Case:
     """Returns a check of that image, readable by its owner only."""
@@ -65,9 +59,10 @@ ROWS = [
     check_up("another name type is no other name", keytab(HOST, Entry(name_type=7)),
              "same 53 2 kvno 3 etype 17 host/a@R", "entries 2 free 0 holes 0", status=1),
     check_up("other versions and enctypes are others", keytab(AES256, FIVE, B3), "entries 3 free 0 holes 0"),
-    *(check_up(f"hidden, {name}", keytab(FIRST, entry, B3), f"hidden 51 kvno 3 etype 17 {text}",
-               "entries 3 free 0 holes 0", status=1) for (name, entry), text in zip(ODD.items(), TEXTS)),
-    *(check_up(f"not hidden, {name}", keytab(FIRST, each), "entries 2 free 0 holes 0") for name, each in EVEN.items()),
+    *(check_up(f"hidden, {name}", keytab(B3, ODD[name], Entry((b"c",))), f"hidden 47 kvno 3 etype 17 {text}",
+               "entries 3 free 0 holes 0", status=1)
+      for name, text in {"an empty realm": "a@", "no key": "host/a@R", "a long component": "x" * LONG + "@R"}.items()),
+    *(check_up(f"not hidden, {name}", keytab(B3, each), "entries 2 free 0 holes 0") for name, each in EVEN.items()),
     check_up("holes", keytab(3, B, hole(b"xyz12"), END, b"more"), "entries 1 free 8 holes 2"),
     check_up("a damaged keytab", keytab(HOST, 9, record(bytes(10)), B), "fault 3 at 66", "entries 1 free 9 holes 1",
              status=1),

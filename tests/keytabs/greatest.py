@@ -72,8 +72,8 @@ def reads() -> list[Case]:
     keys = keytab(*[Entry(key=bytes(LONGEST), version32=None)] * 255)
     front, end = b'{"file":"k","kind":"keytab","version":2,"entries":[', b'],"fault":null}\n'
     form = b'{"place":%d,"principal":"@","kvno":0,"etype":0,"etype_name":null,"timestamp":0}'
-    long_entry = (b'{"place":2,"principal":"%s@R","kvno":3,"etype":17,'
-                  b'"etype_name":"aes128-cts-hmac-sha1-96","timestamp":1700000000}' % b"/".join([b"\\\\/" * 253] * MANY))
+    long_entry = (b'{"place":2,"principal":"%s@R","kvno":3,"etype":17,"etype_name":"aes128-cts-hmac-sha1-96",'
+                  b'"timestamp":1700000000}' % b"/".join([b"\\\\/" * 253] * MANY))
     os.umask(mask := os.umask(0))
     mode_line = b"mode %o\n" % (0o666 & ~mask) if mask & 0o66 != 0o66 else b""
     same = at_each(b"same %d 2 kvno 0 etype 0 @\n", PLACES[1:])
