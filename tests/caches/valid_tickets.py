@@ -10,7 +10,6 @@ from makers.images import TWO
 from makers.usual_caches import PA_TYPE, TICKET, config_ticket
 from runs.harness import Case, Outcome, Report, differences, folder_of, run
 from runs.rows import check_rows, words_of
-from runs.terminal import runs_with_words
 from system.pipe_files import fed
 
 # A time that does not come during a test; the usual ticket ended before.
@@ -98,14 +97,6 @@ PLACES = {"no": NONE, "no/c": NONE, "c/x": UNREAD, "folder": UNREAD, "link": VAL
           "device": UNREAD, "way": UNREAD, "x" * 256: UNREAD}
 
 
-def check_silence(report: Report, program: str) -> None:
-    """Checks that nothing is printed where messages are explained either."""
-    with folder_of({"c": cache(TGT), "d": cache(OVER), "k": TWO}) as folder:
-        for file, wanted in (("c", VALID), ("d", NONE), ("k", NONE), ("no", NONE), (".", UNREAD)):
-            for way, got in runs_with_words(program, ("klist", "-s", file), folder):
-                report.compare(f"{file}, {way}", wanted, got)
-
-
 def check_places(report: Report, program: str) -> None:
     """Checks names that lead to no plain file, a pipe among them, which is not opened."""
     with folder_of({"c": cache(TGT)}) as folder:
@@ -122,6 +113,5 @@ def check_places(report: Report, program: str) -> None:
 def check(report: Report, program: str) -> None:
     """Checks large files, and those that are not in a table."""
     check_rows(report, program, [ask("the greatest file", cache(TGT, bytes(LIMIT - len(cache(TGT)))), VALID)])
-    check_silence(report, program)
     check_places(report, program)
     check_unreadable(report, program, "-s", cache(TGT), UNREAD)

@@ -65,11 +65,6 @@ CASES = [
 ]
 
 
-def cache_of(user: int) -> FileName:
-    """Returns the default cache of a user."""
-    return FileName(OWN.format(user), source=DEFAULT)
-
-
 @contextmanager
 def own_cache(user: int, image: bytes | None) -> Iterator[bool]:
     """Makes the cache of a user meanwhile, or none. Yields whether none was there before."""
@@ -110,7 +105,7 @@ def check_defaults(report: Report, program: str) -> None:
     """Checks each command that may leave out its file: the default keytab, and the default cache, whose name has the
     number of the real user."""
     rows = [(Kind.KEYTAB, KEYTAB, None, each) for each in (TWO, NEITHER, None)]
-    rows += [(Kind.CACHE, cache_of(user), user, image) for user, image in (
+    rows += [(Kind.CACHE, FileName(OWN.format(user), source=DEFAULT), user, image) for user, image in (
         (USER, CACHE), (USER, NEITHER), (0, None), (USER, None), (2**32 - 2, None))]
     for kind, name, user, image in rows:
         status = OF_USER.format(user).encode()
@@ -168,7 +163,7 @@ def check_users(report: Report, program: str) -> None:
                     continue
                 first, *rest = [*front, copy, "klist"]
                 got = run(first, rest, folder, env={"PATH": os.environ["PATH"]})
-                row = KLIST_CACHE.row(cache_of(user), image, None, {}, {})
+                row = KLIST_CACHE.row(FileName(OWN.format(user), source=DEFAULT), image, None, {}, {})
                 report.compare(f"the default cache of user {user}, {front}", row.wanted(False, row.out), got)
 
 

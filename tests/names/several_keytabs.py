@@ -30,10 +30,8 @@ ALL = ["mode 644", *(f"{word} kvno 3 etype 23 host/a@R" for word in (
     "weak 2", "hidden 2", "old 2", "weak 37", "clash 37 2", "old 37", "weak 88", "same 88 2", "old 88")),
        "entries 4 free 0 holes 0"]
 
-NO_KEYTAB = ("x: not a keytab (2)", BEGINS_AS_NO_KEYTAB[1])
-UNREAD = (".: cannot read", CAUSES["EISDIR"])
-MISSING = ("no: no such file", "")
-OTHER = ("KCM:k: no such file", NOT_READ.replace("TYPE", "KCM:"))
+NO_KEYTAB, UNREAD = ("x: not a keytab (2)", BEGINS_AS_NO_KEYTAB[1]), (".: cannot read", CAUSES["EISDIR"])
+MISSING, OTHER = ("no: no such file", ""), ("KCM:k: no such file", NOT_READ.replace("TYPE", "KCM:"))
 
 
 def set_modes(folder: str) -> None:

@@ -92,10 +92,10 @@ SAME: dict[str, str] = {
     "ktremove -p=b@R k": "ktremove --principal==b@R k",
     "ktcopy -n -p b@R -k new r t": "ktcopy --dry-run --principal=b@R --kvno=new r t",
     "ktcopy -e aes128-cts-hmac-sha1-96 r t": "ktcopy --enctype aes128-cts-hmac-sha1-96 r t",
-    "ktcheck -q k m": "ktcheck --quiet k m", "--version": "-V, --version klist, -V klist -x",
-    "--help": "-h, help", "ccedit --help": "help ccedit", "ccremove --help": "ccremove -h, help ccremove",
+    "ktcheck -q k m": "ktcheck --quiet k m", "--version": "-V, --version klist, -V klist -x, --explain -V",
+    "--help": "-h, help, --explain help", "ccedit --help": "help ccedit", "ccremove --help": "help ccremove",
     "klist --help": "help klist, klist -h, klist -k --help, klist -k k --help, klist -ktKe --help, klist -c --help, "
-                    "klist -cefC -h, klist c --help",
+                    "klist -cefC -h, klist c --help, --explain help klist",
     "ktfind --help": "help ktfind, ktfind -h, ktfind k --help, ktfind k 0 0 b@R --help",
     "ktedit --help": "help ktedit, ktedit k -h", "ktcopy --help": "help ktcopy, ktcopy -h, ktcopy k t -h",
     "ktcheck --help": "ktcheck -h, ktcheck k k --help, ktcheck --allow weak -h",

@@ -162,14 +162,8 @@ def check_no_command(report: Report, program: str) -> None:
         report.compare("no command, on a pipe", Outcome(2, err=MESSAGE), run(program, (), folder))
 
 
-def check_good_lines(report: Report, program: str) -> None:
-    """Checks that explanations change nothing if nothing goes wrong."""
-    with folder_of({"k": TWO}) as folder:
-        for words in (("klist", "-k", "k"), ("--version",), ("help", "klist"), ("klist", "--help"),
-                      ("klist", "-k", "--", "k")):
-            wanted = run(program, words, folder)
-            for way, got in runs_with_words(program, words, folder):
-                report.compare(f"{way}: {shown(words)}", wanted, got)
+def check_file(report: Report, program: str) -> None:
+    """Checks that a file may be called --explain."""
     with folder_of({EXPLAIN: TWO}) as folder:
         words = ("klist", "-k", "--", EXPLAIN)
         found = run(program, words, folder)
@@ -181,4 +175,4 @@ def check(report: Report, program: str) -> None:
     """Runs the lines of other topics."""
     check_others(report, program)
     check_no_command(report, program)
-    check_good_lines(report, program)
+    check_file(report, program)
