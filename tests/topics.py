@@ -7,7 +7,7 @@ from importlib import import_module
 from pkgutil import iter_modules
 from types import ModuleType
 
-from runs.random_runs import Topic
+from computed.topic import Topic
 
 FOLDER = os.path.dirname(os.path.abspath(__file__))
 

@@ -14,6 +14,16 @@ LITTLE = "little"
 END = bytes(4)
 
 
+# The bytes that are special in the text of a name.
+SPECIAL = {47: b"\\/", 64: b"\\@", 92: b"\\\\", 10: b"\\n", 9: b"\\t", 8: b"\\b", 0: b"\\0"}
+
+
+def name_text(name: tuple[bytes, ...]) -> bytes:
+    """Returns the text of a name, which is its components followed by its realm."""
+    *components, realm = (b"".join(SPECIAL.get(byte, bytes([byte])) for byte in part) for part in name)
+    return b"/".join(components) + b"@" + realm
+
+
 @dataclass(frozen=True)
 class Entry:
     """The fields of an entry, without a 32-bit version if that is None."""

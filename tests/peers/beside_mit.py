@@ -1,27 +1,25 @@
-"""MIT's klist and ktutil, and the form in which their listings and ours are compared."""
+"""MIT's klist and ktutil, and the form in which their listings and ours are compared: that of ours, by the rule of
+theorems/mit_listings."""
 
+import json
 import os
 import re
 import select
 import shutil
 import subprocess
-import time
 
-from keytabs.columns import NAMES
-from models.reading import KeytabEntry
-from runs.harness import SECONDS, Report
+from runs.harness import SECONDS, Report, run
+from theorems.mit_listings import credential_lines, entry_line
 
-# A line of MIT's klist or ktutil that lists an entry, without its slot.
-LINE = re.compile(rb" *(\d+) (\d\d/\d\d/\d\d \d\d:\d\d:\d\d) +(.*) \((?:DEPRECATED:)?(\S+)\)  ?\(0x([0-9a-f]*)\) *")
+# The century of a time, which MIT's programs leave out.
+CENTURY = re.compile(r"\b\d\d(?=\d\d-\d\d-\d\dT)")
 
-# A line of a cache's listing that begins a ticket, by MIT's klist and by ours, and a part of the lines below it. MIT's
-# prints several parts on a line, and omits those that are missing.
-MIT_TICKET = re.compile(rb"(\d\d/\d\d/\d\d \d\d:\d\d:\d\d)  (\d\d/\d\d/\d\d \d\d:\d\d:\d\d)  (.*)")
-OUR_TICKET = re.compile(rb"(\S{20}) (\S{20}) (.*)")
-PART = re.compile(rb"(renew|Flags|Etype)(?: until|:| \(skey, tkt\):) (?:DEPRECATED:)?([^,]*)")
+# The dashes below the heading of a keytab's listing; and the line of an entry by klist, or by ktutil without its slot.
+DASHES = re.compile(r"^----[- ]*\n", re.MULTILINE)
+ENTRY = re.compile(r" *(\d+) (.{17}) +(.*) (\(\S+\))  ?(\(0x[0-9a-f]*\)) *")
 
-# A ticket, as a listing shows it, or the line of a configuration entry.
-Parsed = dict[bytes, bytes] | bytes
+# Where a credential begins.
+CREDENTIAL = re.compile(r"^(?! )(?=.)", re.MULTILINE)
 
 # The prompt of MIT's ktutil, which it prints into a pipe too.
 PROMPT = b"ktutil:  "
@@ -40,44 +38,46 @@ def mit_klist(folder: str, *words: str) -> bytes:
                           check=False).stdout
 
 
-def shown(entry: KeytabEntry) -> tuple[bytes, ...]:
-    """Returns an entry as a listing with all columns shows it."""
-    then = time.gmtime(entry.timestamp)
-    second = time.strftime("%m/%d/%y %H:%M:%S", then).encode()
-    return (b"%d" % entry.kvno, second, entry.text(), NAMES[entry.enctype], entry.key.hex().encode())
+def as_json(program: str, folder: str, *words: str) -> dict:
+    """Returns what our klist says of a file, and nothing of one that it cannot list."""
+    return json.loads(run(program, ("klist", "--json", *words), folder).out or "{}")
 
 
-def as_mit(text: bytes) -> bytes:
-    """Returns a time of ours as MIT prints it, or another part."""
-    if not re.fullmatch(rb"[-\d]{10}T[:\d]{8}Z", text):
-        return text
-    then = time.strptime(text.decode(), "%Y-%m-%dT%H:%M:%SZ")
-    return time.strftime("%m/%d/%y %H:%M:%S", then).encode()
+def credentials(listed: bytes, is_mits: bool) -> tuple[str, list[str]]:
+    """Returns the heading of a cache's listing with flags, and the lines of each credential without centuries."""
+    heading, _, rest = listed.decode("latin-1").partition("\n\n")
+    lines = rest.partition("\n")[2]
+    lines = "".join(credential_lines(lines.rstrip("\n"))) if is_mits else lines
+    return heading, [one for one in CREDENTIAL.split(CENTURY.sub("", lines)) if one]
 
 
-def parsed(listed: bytes, ticket: re.Pattern[bytes]) -> list[Parsed]:
-    """Returns what the lines after the heading of a cache's listing show, with the pattern that begins a ticket."""
-    found: list[Parsed] = []
-    for line in listed.splitlines()[4:]:
-        if begun := ticket.fullmatch(line):
-            start, end, server = begun.groups()
-            found.append({b"start": as_mit(start), b"end": as_mit(end), b"server": server})
-        elif line[:1] not in (b" ", b"\t") or not found or isinstance(found[-1], bytes):
-            found.append(line)
-        else:
-            found[-1] |= {name: as_mit(part) for name, part in PART.findall(line) if part}
-    return found
+def differences_of(program: str, folder: str, *options: str) -> list[str]:
+    """Returns what differs between the listings of the cache `c` by MIT's klist and ours."""
+    ours = run(program, ("klist", *options, "c"), folder)
+    wanted, got = credentials(mit_klist(folder, *options, "c"), True), credentials(ours.out, False)
+    found = [] if got == wanted else [f"{got}, not {wanted}"]
+    return found + ([] if (ours.status, ours.err) == (0, b"") else [f"ended with {ours}"])
+
+
+def entries_in(listed: bytes) -> list[str]:
+    """Returns the lines after the heading of a keytab's listing."""
+    return DASHES.split(listed.decode("latin-1"))[-1].splitlines()
+
+
+def entries(program: str, folder: str, name: str) -> list[str]:
+    """Returns the entries of a file, as our klist lists them."""
+    return entries_in(run(program, ("klist", "-kteK", name), folder).out)
 
 
 class Mit:
-    """MIT's programs, in a folder."""
+    """MIT's programs, in a folder, with more in their environment."""
 
-    def __init__(self, folder: str) -> None:
-        self.folder = folder
+    def __init__(self, folder: str, **env: str) -> None:
+        self.folder, self.env = folder, SURROUNDINGS | env
 
-    def klist(self, name: str) -> list[tuple[bytes, ...]]:
-        """Returns the entries of a file, as klist lists them."""
-        return self.entries_in(mit_klist(self.folder, "-k", "-t", "-K", "-e", name), rb"")
+    def klist(self, name: str) -> list[str]:
+        """Returns the entries of a file, as klist lists them, in the form of ours."""
+        return [as_ours(line) for line in entries_in(mit_klist(self.folder, "-k", "-t", "-K", "-e", name))]
 
     def ktutil(self, *requests: str) -> list[bytes]:
         """Returns what ktutil prints after each request. A line that a request asks for follows it.
@@ -85,7 +85,7 @@ class Mit:
         Each request is written only after a prompt. Nothing else may be in the pipe until then:
         a request that reads a line takes all that is there.
         """
-        with subprocess.Popen(["ktutil"], cwd=self.folder, env=SURROUNDINGS, bufsize=0, stdin=subprocess.PIPE,
+        with subprocess.Popen(["ktutil"], cwd=self.folder, env=self.env, bufsize=0, stdin=subprocess.PIPE,
                               stdout=subprocess.PIPE, stderr=subprocess.STDOUT) as started:
             answers = [self.answer(started)]
             for request in requests:
@@ -106,22 +106,16 @@ class Mit:
             heard += piece
         return heard.removesuffix(PROMPT)
 
-    def ktutil_list(self, name: str) -> list[tuple[bytes, ...]]:
-        """Returns the entries of a file, as ktutil lists them."""
+    def ktutil_list(self, name: str) -> list[str]:
+        """Returns the entries of a file, as ktutil lists them, in the form of ours."""
         listed = self.ktutil(f"rkt {name}", "l -t -k -e")[1]
-        return self.entries_in(listed, rb" *\d+ ")
+        return [as_ours(re.sub(r"^ *\d+ ", "", line)) for line in entries_in(listed)]
 
-    def entries_in(self, listed: bytes, slot: bytes) -> list[tuple[bytes, ...]]:
-        """Returns the entries in the lines after a listing's heading."""
-        lines = listed.splitlines()
-        headings = [number for number, line in enumerate(lines) if line.startswith(b"----")]
-        if not headings:
-            return [(listed,)]
-        found = []
-        for line in lines[headings[0] + 1 :]:
-            match = LINE.fullmatch(re.sub(rb"^" + slot, b"", line, count=1))
-            found.append(match.groups() if match else (line,))
-        return found
+
+def as_ours(line: str) -> str:
+    """Returns the line of an entry in the form of ours, or as it is."""
+    found = ENTRY.fullmatch(line)
+    return entry_line("{} {} {} {}  {}".format(*found.groups())).removesuffix("\n") if found else line
 
 
 def are_there(report: Report, what: str, tools: tuple[str, ...] = ("klist", "ktutil")) -> bool:

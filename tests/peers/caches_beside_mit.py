@@ -4,6 +4,7 @@ The KDC listens on an address of this machine only, while the test runs.
 """
 
 import os
+import re
 import socket
 import subprocess
 import time
@@ -12,12 +13,12 @@ from contextlib import contextmanager
 from dataclasses import replace
 from random import Random
 
-from makers.random_caches import random_credential, random_name
+from keytabs.columns import BY_NAME
 from makers.cache_images import cache, offset
 from makers.images import Entry, keytab
-from models.reading import read_image
-from peers.beside_mit import MIT_TICKET, OUR_TICKET, SURROUNDINGS, are_there, mit_klist, parsed
-from runs.harness import SECONDS, Report, files_in, folder_of, run
+from makers.random_caches import random_credential, random_name
+from peers.beside_mit import SURROUNDINGS, Mit, are_there, differences_of, mit_klist
+from runs.harness import SECONDS, Report, files_in, folder_of
 
 # MIT's programs.
 TOOLS = ("klist", "kinit", "kvno", "kdb5_util", "krb5kdc")
@@ -102,30 +103,26 @@ class Realm:
     def call(self, *words: str, folder: str | None = None, version: int = 4) -> bytes:
         """Runs a program, which has to succeed, and returns its output."""
         done = subprocess.run(words, cwd=folder or self.folder, env=self.surroundings(version),
-                              stdin=subprocess.DEVNULL, capture_output=True, timeout=SECONDS,
-                              check=False)
+                              stdin=subprocess.DEVNULL, capture_output=True, timeout=SECONDS, check=False)
         if done.returncode != 0:
             raise Failed(f"{' '.join(words)}: {done.stderr.decode(errors='replace').strip()}")
         return done.stdout
 
-    def create(self) -> None:
-        """Creates the database."""
+    def create(self, names: tuple[str, ...]) -> None:
+        """Creates the database, and the principals of those names, by an edited dump."""
         self.call("kdb5_util", "create", "-s", "-P", "master", "-r", "CACHE.TEST")
-
-    def fill(self, names: tuple[str, ...]) -> None:
-        """Creates the principals of those names, by an edited dump."""
         head, *lines = self.call("kdb5_util", "dump").decode().splitlines()
         master = next(line for line in lines if "\tK/M@" in line)
-        more = [principal_line(master, name) for name in names]
-        self.write("more", "".join(line + "\n" for line in [head, *more]))
+        more = (principal_line(master, name) for name in names)
+        self.write("more", "".join(f"{line}\n" for line in (head, *more)))
         self.call("kdb5_util", "load", "-update", "more")
 
-    def keytab(self) -> bytes:
-        """Returns a keytab with the key of each principal, which is that of the database."""
-        (_, master), = read_image(files_in(self.folder)["stash"], False)[0]
-        names = (tuple(part.encode() for part in name.split("/")) for name in ("user", "svc/h"))
-        return keytab(*(Entry(name, REALM, enctype=master.enctype, key=master.key, version8=1,
-                              version32=1) for name in names))
+    def keys(self) -> tuple[Entry, Entry]:
+        """Returns the keys of two principals, a user and a service; they are that of the database."""
+        master, = Mit(self.folder).klist("stash")
+        etype, key = re.findall(r"\((?:0x)?(\S+)\)", master)
+        user = Entry((b"user",), REALM, enctype=BY_NAME[etype], key=bytes.fromhex(key), version8=1, version32=1)
+        return user, replace(user, components=(b"svc", b"h"))
 
 
 def principal_line(master: str, name: str) -> str:
@@ -163,8 +160,7 @@ def realm(more: tuple[str, ...] = ()) -> Iterator[Realm]:
     with folder_of({}) as folder:
         port = free_port()
         made = Realm(folder, port)
-        made.create()
-        made.fill((*PRINCIPALS, *more))
+        made.create((*PRINCIPALS, *more))
         with subprocess.Popen(["krb5kdc", "-n"], cwd=folder, env=made.surroundings(),
                               stdout=subprocess.DEVNULL, stderr=subprocess.DEVNULL) as started:
             try:
@@ -174,22 +170,11 @@ def realm(more: tuple[str, ...] = ()) -> Iterator[Realm]:
                 started.terminate()
 
 
-def differences_of(program: str, folder: str, *options: str) -> list[str]:
-    """Returns what differs between the listings of the cache `c` by MIT's klist and ours."""
-    ours = run(program, ("klist", *options, "c"), folder)
-    theirs = mit_klist(folder, *options, "c")
-    heads = [out.splitlines()[:2] for out in (ours.out, theirs)]
-    wanted, got = parsed(theirs, MIT_TICKET), parsed(ours.out, OUR_TICKET)
-    found = [] if got == wanted else [f"{got}, not {wanted}"]
-    found += [] if heads[0] == heads[1] else [f"first lines {heads[0]}, not {heads[1]}"]
-    return found + ([] if (ours.status, ours.err) == (0, b"") else [f"ended with {ours}"])
-
-
 def check_filled(report: Report, program: str, realm_of: Realm) -> None:
     """Fills each cache with MIT's programs, and lists it."""
-    keytab = realm_of.keytab()
+    image = keytab(*realm_of.keys())
     for name, (version, commands) in FILLED.items():
-        with folder_of({"k": keytab}) as folder:
+        with folder_of({"k": image}) as folder:
             for words in commands:
                 realm_of.call(*words, folder=folder, version=version)
             found = differences_of(program, folder, "-f", "-e", "-C")
@@ -203,8 +188,7 @@ def random_sound(random: Random) -> bytes:
     default = random_name(random, False)
     names = (random_name(random, False) for _ in range(random.randrange(8)))
     those = [replace(random_credential(random), client=default, server=name) for name in names]
-    version = random.choice([3, 4])
-    return cache(*those, default=default, fields=offset(5, -10), version=version)
+    return cache(*those, default=default, fields=offset(5, -10), version=random.choice([3, 4]))
 
 
 def check_random(report: Report, program: str, _: Realm) -> None:

@@ -1,23 +1,20 @@
-"""Caches of other programs that ccedit and ccremove change: MIT's klist shows the tickets that are left.
+"""Caches of other programs that ccedit and ccremove change: MIT's klist shows what it showed before without what a run
+tells that it removed, and then the values that it set. Where the file was saved, ours shows the same."""
 
-Each change is also compared with the models.
-"""
-
-import time
 from collections.abc import Iterator
+from functools import cache
 
-from models.cache_model import Cache
-from models.cache_reading import read_cache
-from models.cases import ccedit, ccremove
-from models.reading import name_text
-from models.ticket_removal_model import Selection, tickets_of
-from peers.beside_mit import MIT_TICKET, OUR_TICKET, are_there, mit_klist, parsed
+from peers.beside_mit import are_there, as_json, credentials, differences_of, mit_klist
 from peers.corpus import files
-from runs.harness import Case, Report, faults_of, files_in, folder_of, run
+from runs.harness import Report, folder_of
+from runs.undisturbed import Undisturbed, undisturbed
 
-# Lines that set values in each cache.
+# Lines that set values in a cache, and how MIT's klist shows these.
 SETTING = b"config fast_avail krbtgt/R@R no\nconfig mine - 1\n"
+SET = ["config: fast_avail(krbtgt/R@R) = no\n", "config: mine = 1\n"]
 
+# A time at which some of the tickets have expired.
+NOW = 1_800_000_000
 
 # A value, and where the file in which MIT's library set it ended before and after.
 VALUES = (
@@ -28,72 +25,63 @@ VALUES = (
 )
 
 
-def is_text(name: bytes) -> bool:
-    """Whether a name can be an argument of a command line."""
-    try:
-        name.decode()
-    except UnicodeDecodeError:
-        return False
-    return b"\0" not in name
-
-
-def changes(image: bytes) -> Iterator[Case]:
-    """Yields changes of a cache: a removal at each place, values set, and a removal of each service's tickets."""
-    yield ccedit(image, b"rewrite\n", name="rewrite")
-    yield ccedit(image, SETTING, name="values")
-    yield ccedit(image, b"rewrite\n" + SETTING + SETTING, name="values anew")
-    for place in Cache(image).live_places():
-        yield ccedit(image, b"start\nstep 0\ncut %d\nstep 0\n" % place, name=f"cut {place}")
-    # None of these caches expires while this runs.
-    now = int(time.time())
-    yield ccremove(image, now, selection=Selection(is_expired=True), name="--expired")
-    services = {name_text(output.server) for _, output in tickets_of(Cache(image))}
-    for service in sorted(filter(is_text, services)):
-        yield ccremove(image, now, selection=Selection(service), name=f"-p {service.decode()}")
-
-
-def faults_beside_mit(program: str, folder: str) -> list[str]:
-    """Returns what MIT's klist shows differently from ours of the tickets in `c`."""
-    shown = (parsed(run(program, ("klist", "-f", "c"), folder).out, OUR_TICKET),
-             parsed(mit_klist(folder, "-f", "c"), MIT_TICKET))
-    ours, theirs = ([one for one in those if not isinstance(one, bytes)] for those in shown)
-    return [] if ours == theirs else [f"MIT's klist shows {theirs}, not {ours}"]
-
-
-def check_change(report: Report, program: str, name: str, case: Case, has_mit: bool) -> None:
-    """Makes a change, and compares the listings of the result."""
-    with folder_of(case.files) as folder:
-        got = run(program, case.words, folder, case.stdin)
-        found = faults_of(case, got, files_in(folder))
-        found += faults_beside_mit(program, folder) if has_mit and got.status == 0 else []
-    report.check(f"{name}, {case.name}", found)
-
-
-def changed(program: str, image: bytes, line: str) -> bytes:
-    """Returns the cache that ccedit leaves after a line."""
+@cache
+def listed(program: str, image: bytes) -> tuple[dict, list[str]]:
+    """Returns what our klist says of a cache, and the credentials that MIT's shows."""
     with folder_of({"c": image}) as folder:
-        run(program, ("ccedit", "c"), folder, f"{line}\n".encode())
-        return files_in(folder)["c"]
+        return as_json(program, folder, "c"), credentials(mit_klist(folder, "-f", "-C", "c"), True)[1]
 
 
-def check_as_mit(report: Report, program: str) -> None:
+def edited(image: bytes, script: bytes, name: str) -> Undisturbed:
+    """Returns a script over a cache."""
+    return undisturbed("ccedit c", script, name=name, c=image)
+
+
+def changes(image: bytes, said: dict) -> Iterator[tuple[Undisturbed, list[str]]]:
+    """Yields changes of a cache, each with what it sets: a removal at each place, values set, also anew in one that is
+    written anew, and a removal of each service's tickets."""
+    anew = edited(image, b"rewrite\n", "rewrite")
+    yield anew, []
+    yield edited(image, SETTING, "values"), SET
+    yield edited(anew.files_after["c"], SETTING * 2, "values anew"), SET
+    for one in (*said.get("tickets", ()), *said.get("config", ())):
+        yield edited(image, b"start\nstep 0\ncut %d\nstep 0\n" % one["place"], f"cut {one['place']}"), []
+    yield undisturbed("ccremove --expired c", name="--expired", clock=NOW, c=image), []
+    for service in sorted({one["server"] for one in said.get("tickets", ()) if "server" in one}):
+        yield undisturbed(("ccremove", "-p", service, "c"), name=f"-p {service}", c=image), []
+
+
+def faults_of(program: str, made: Undisturbed, those: list[str]) -> list[str]:
+    """Returns what MIT's klist shows otherwise after a change that sets those values."""
+    said, before = listed(program, made.files["c"])
+    places = sorted(one["place"] for kind in ("tickets", "config") for one in said.get(kind, ()))
+    words = (line.split() for line in made.wanted.out.splitlines())
+    gone = [places.index(int(at)) for word, at, *_ in words if word in (b"gone", b"removed") and int(at) in places]
+    is_saved = made.wanted.status == 0
+    wanted = [one for at, one in enumerate(before) if at not in gone] + those * is_saved
+    got = listed(program, made.files_after["c"])[1]
+    with folder_of(made.files_after) as folder:
+        found = differences_of(program, folder, "-f", "-C") if is_saved else []
+    return found + ([] if got == wanted else [f"MIT's klist shows {got}, not {wanted}"])
+
+
+def check_as_mit(report: Report) -> None:
     """Makes changes that MIT's library made: the same bytes are left of a removed ticket, and of each value set after
     those before it."""
     caches = dict(files("ccache"))
-    got = changed(program, caches["lib-removed-before"], "cut 120")
-    report.check("a removed ticket as MIT's library marks it", [] if got == caches["lib-removed"] else [got.hex()])
     image = caches["lib-config-values"]
-    for line, start, end in VALUES:
-        got = changed(program, image[:start], line)
-        report.check(f"{line} as MIT's library sets it", [] if got == image[:end] else [got.hex()])
+    rows = [("cut 120", caches["lib-removed-before"], caches["lib-removed"]),
+            *((line, image[:start], image[:end]) for line, start, end in VALUES)]
+    for line, before, after in rows:
+        got = edited(before, f"{line}\n".encode(), line).files_after["c"]
+        report.check(f"{line} as MIT's library does it", [] if got == after else [got.hex()])
 
 
 def check(report: Report, program: str) -> None:
     """Changes each cache."""
-    check_as_mit(report, program)
-    has_mit = are_there(report, "changed caches beside MIT's klist", ("klist",))
+    check_as_mit(report)
+    if not are_there(report, "changed caches beside MIT's klist", ("klist",)):
+        return
     for name, image in files("ccache"):
-        is_cache = not isinstance(read_cache(image), int)
-        cases = changes(image) if is_cache else [ccedit(image, b"rewrite\n", name="no cache")]
-        for case in cases:
-            check_change(report, program, name, case, has_mit)
+        for made, those in changes(image, listed(program, image)[0]):
+            report.check(f"{name}, {made.name}", faults_of(program, made, those))

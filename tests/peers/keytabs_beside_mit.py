@@ -9,142 +9,131 @@ from keytabs.columns import BY_NAME, KEY_SIZES
 from keytabs.copies import OTHER, THIRD
 from keytabs.edits import ADD_B, ADD_C, ADD_HOST
 from makers.images import B, BIG, END, HOST, LITTLE, TWO, Entry, keytab, old
-from models.cases import ktcopy, ktedit
-from models.copy_model import Request
-from models.keytab_model import Keytab
-from models.reading import KeytabEntry
-from models.removal_model import OLD as OLD_ONES
-from models.removal_model import Selection, removal
-from peers.beside_mit import Mit, are_there, shown
+from peers.beside_mit import Mit, are_there, as_json, entries
 from peers.caches_beside_mit import REALM, Failed, Realm, check_in_realm
-from runs.harness import Report, differences, faults_of, files_in, folder_of, run
-from runs.random_runs import ONE_IN
+from runs.harness import Report, files_in, folder_of, run
 from runs.rows import text
+from runs.undisturbed import clock_library, undisturbed
 
 # Entries of each enctype that has a name, with quoted names, and versions of more than 8 bits.
 EACH_ETYPE = [f"add {300 * number} {number} {number} {bytes(range(size)).hex()} a\\/b\\@/c d\\n\\\\/e@R\\/S"
               for number, size in KEY_SIZES.items()]
 HOLES = keytab(60, HOST, 41, B)
 OLD = old(HOST, Entry((b"a",), b"R", version32=None))
-A, MARKED = Entry((b"a",)), keytab(HOST, END, b"\xff" * 50)
+A, MARKED = Entry((b"a",)), keytab(HOST, END, b"\xff" * 20)
 
-# Scripts over a keytab, or over none, and copies into a keytab, or into none. MIT's programs read a file of version 1
-# in the byte order of the machine.
+# Scripts over a keytab, or over none, and copies into a keytab, or into none, with how many entries there are then.
+# MIT's programs read a file of version 1 in the byte order of the machine.
 CHANGES = [
-    *(ktedit(image, text(script), name=name) for name, image, script in (
-        ("a new file", None, [ADD_HOST, *EACH_ETYPE]),
-        ("holes that are filled", HOLES, [ADD_B, ADD_C, ADD_HOST]),
-        ("removals and additions", TWO, ["cut 2", ADD_C, *EACH_ETYPE, "cut 53", "cut 98", ADD_B]),
-        ("a rewrite", HOLES, [ADD_C, *EACH_ETYPE, "cut 66", "rewrite", ADD_HOST]),
-        ("all removed", TWO, ["cut 2", "cut 53"]),
-        ("an end mark", MARKED, [ADD_B, ADD_C]),
-        ("version 1", OLD, ["cut 2", ADD_B, ADD_HOST]),
-        ("version 1 that is rewritten", OLD, ["cut 2", "rewrite", ADD_B]))),
-    *(ktcopy(source, target, request=Request(replaces=name == "other keys"), name=name) for name, source, target in (
-        ("a new file", TWO, None),
-        ("a file of no bytes", TWO, b""),
-        ("holes", TWO, keytab(60, A, 41)),
-        ("an end mark", TWO, keytab(A, END, b"\xff" * 50)),
-        ("other keys", TWO, keytab(OTHER, A, THIRD)),
-        ("odd names", keytab(Entry((b"a/b", b"c@d\n\\"), b"R@S")), TWO),
-        ("wide versions", keytab(replace(B, version32=300), replace(B, version8=255, version32=2**31 - 1)), TWO),
-        ("from version 1", old(HOST, B), None),
-        ("to version 1", TWO, old(A)))),
+    *((undisturbed("ktedit k", text(script), name=name, k=image), count) for name, image, script, count in (
+        ("a new file", None, [ADD_HOST, *EACH_ETYPE], 9),
+        ("holes that are filled", HOLES, [ADD_B, ADD_C, ADD_HOST], 5),
+        ("removals and additions", TWO, ["cut 2", ADD_C, *EACH_ETYPE, "cut 53", "cut 98", ADD_B], 9),
+        ("a rewrite", HOLES, [ADD_C, *EACH_ETYPE, "cut 66", "rewrite", ADD_HOST], 11),
+        ("all removed", TWO, ["cut 2", "cut 53"], 0),
+        ("an end mark", MARKED, [ADD_B, ADD_C], 3),
+        ("version 1", OLD, ["cut 2", ADD_B, ADD_HOST], 3),
+        ("version 1 that is rewritten", OLD, ["cut 2", "rewrite", ADD_B], 2))),
+    *((undisturbed(line, name=name, k=source, t=target), count) for name, line, source, target, count in (
+        ("a new file", "ktcopy k t", TWO, None, 2),
+        ("a file of no bytes", "ktcopy k t", TWO, b"", 2),
+        ("holes", "ktcopy k t", TWO, keytab(60, A, 41), 3),
+        ("an end mark", "ktcopy k t", TWO, keytab(A, END, b"\xff" * 50), 3),
+        ("other keys", "ktcopy --replace k t", TWO, keytab(OTHER, A, THIRD), 3),
+        ("odd names", "ktcopy k t", keytab(Entry((b"a/b", b"c@d\n\\"), b"R@S")), TWO, 3),
+        ("wide versions", "ktcopy k t",
+         keytab(replace(B, version32=300), replace(B, version8=255, version32=2**31 - 1)), TWO, 4),
+        ("from version 1", "ktcopy k t", old(HOST, B), None, 2),
+        ("to version 1", "ktcopy k t", TWO, old(A), 3))),
 ]
 
-# Words and lines of ours and of MIT's ktutil that put the same entries into the same holes, and the files that have
-# them. The keytabs of the copies have no entry in common.
+# Lines of MIT's ktutil and of ours.
 KEY = bytes(range(32)).hex()
 LINES = ["rkt j", "rkt k", "delent 1", f"addent -key -p host/z@R -k 300 -e aes256-cts-hmac-sha1-96\n{KEY}", "wkt n",
          "wkt k", "clear", "wkt n"]
 NARROW = Entry((b"a", b"b"), version32=None)
 # Each name of an encryption type, in either case.
-BY_NAMES = [f"addent -key -p a@R -k {at} -e {word}\n{KEY[:2 * KEY_SIZES[number]]}"
-            for at, (name, number) in enumerate(BY_NAME.items(), 1) for word in (name, name.upper())]
+BY_NAMES = [*(f"addent -key -p a@R -k {at} -e {word}\n{KEY[:2 * KEY_SIZES[number]]}"
+              for at, (name, number) in enumerate(BY_NAME.items(), 1) for word in (name, name.upper())), "wkt n"]
+
+# Runs at the time of the entries, and lines of MIT's ktutil that leave the same files: it sets the time of all that it
+# writes. The keytabs of the copies have no entry in common.
+NOW = HOST.timestamp
 SAME = [
-    *((("ktcopy", "k", "t"), [], ["rkt k", "wkt t"], {"k": source} | ({} if target is None else {"t": target}), "t")
-      for source, target in ((TWO, None), (keytab(NARROW, Entry((b"c",)), Entry((b"d", b"e"), key=bytes(32))), HOLES),
-                             (keytab(A), MARKED), (TWO, keytab(47, A, 41, 90)))),
-    (("ktutil",), LINES, LINES, {"j": keytab(HOST, NARROW), "k": HOLES}, "nk"),
-    (("ktutil",), [*BY_NAMES, "wkt n"], [*BY_NAMES, "wkt n"], {}, "n"),
+    *((undisturbed("ktcopy k t", clock=NOW, k=source, t=target), ["rkt k", "wkt t"]) for source, target in (
+        (TWO, None), (keytab(NARROW, Entry((b"c",)), Entry((b"d", b"e"), key=bytes(32))), HOLES), (keytab(A), MARKED),
+        (TWO, keytab(47, A, 41, 90)))),
+    (undisturbed("ktutil", text(LINES), clock=NOW, j=keytab(HOST, NARROW), k=HOLES), LINES),
+    (undisturbed("ktutil", text(BY_NAMES), clock=NOW), BY_NAMES),
 ]
 
 # A few names, and versions on both sides of where they wrap.
 NAMES = ((b"a",), (b"host", b"a"), (b"b",))
 VERSIONS = (1, 2, 126, 127, 128, 129, 239, 240, 241, 242, 254, 255, 256, 257)
 
-KEYTABS = 300
+KEYTABS = 60
 
 FIRST, LAST = Entry((b"first",)), Entry((b"last",))
 
 # Of the version 1 files, MIT's programs read those of the machine's own byte order.
-KINDS = ((2, BIG), (1, BIG if sys.byteorder == "big" else LITTLE))
+KINDS = ((2, BIG, ()), (1, sys.byteorder, ("--v1-big",) if sys.byteorder == BIG else ()))
 
 USER, SERVICE = (b"user@" + REALM).decode(), (b"svc/h@" + REALM).decode()
 
 
 def check_read(report: Report, program: str) -> None:
-    """Checks that MIT's programs read the model's entries from what a run saves."""
-    for case in CHANGES:
-        if sys.byteorder != LITTLE and "version 1" in case.name:
+    """Checks that MIT's programs read what a run saves as ours does."""
+    for made, count in CHANGES:
+        if sys.byteorder != LITTLE and "version 1" in made.name:
             continue
-        file = case.words[-1]
-        wanted = [shown(entry) for entry in Keytab(case.files_after[file]).entries()]
-        with folder_of(case.files) as folder:
-            faults = faults_of(case, run(program, case.words, folder, case.stdin), files_in(folder))
-            mit = Mit(folder)
+        file = made.words[-1]
+        with folder_of(made.files_after) as folder:
+            mit, wanted = Mit(folder), entries(program, folder, file)
+            faults = [] if len(wanted) == count else [f"{len(wanted)} are there, not {count}"]
             for peer, listed in (("klist", mit.klist(file)), ("ktutil", mit.ktutil_list(file))):
                 faults += [] if listed == wanted else [f"MIT's {peer} lists {listed}, not {wanted}"]
-        report.check(f"MIT's programs after {case.name}", faults)
+        report.check(f"MIT's programs after {made.name}", faults)
 
 
-def untimed(image: bytes) -> list[tuple[bool, int, KeytabEntry | None]]:
-    """Returns the cells of a keytab, and its entries without times, which MIT sets."""
-    opened = Keytab(image)
-    return [(cell.is_live, len(cell.data), replace(opened.output(cell), timestamp=0) if cell.is_live else None)
-            for cell in opened.cells]
+def check_same(report: Report, _: str) -> None:
+    """Checks that MIT's ktutil and ours leave the same bytes at the same time."""
+    library = clock_library()[0]
+    if library is None:
+        report.skip("what MIT's ktutil saves", "no C compiler built preload.c")
+        return
+    for made, requests in SAME:
+        with folder_of(made.files) as folder:
+            Mit(folder, LD_PRELOAD=library, CLOCK=str(NOW)).ktutil(*requests)
+            theirs, ours = files_in(folder), made.files_after
+        found = [f"{name}: MIT's is {theirs.get(name)}, krbfile's {ours.get(name)}"
+                 for name in sorted({*theirs, *ours}) if theirs.get(name) != ours.get(name)]
+        report.check(f"MIT's ktutil and {made.name}", found + (["nothing is saved"] if theirs == made.files else []))
 
 
-def check_same(report: Report, program: str) -> None:
-    """Checks that MIT's ktutil and ours leave the same files, except for times."""
-    for words, given, requests, files, names in SAME:
-        with folder_of(files) as folder:
-            Mit(folder).ktutil(*requests)
-            theirs = files_in(folder)
-        with folder_of(files) as folder:
-            run(program, words, folder, text(given))
-            ours = files_in(folder)
-        for name in names:
-            sides = [untimed(side.get(name, keytab())) for side in (theirs, ours)]
-            found = [] if sides[0] == sides[1] else [f"MIT's has {sides[0]}, krbfile's {sides[1]}"]
-            report.check(f"MIT's ktutil and {words[0]}, {sorted(files.items())}: file {name}", found)
-
-
-def faults_of_hidden(program: str, image: bytes, is_odd: bool) -> list[str]:
-    """Returns the faults of a check of a keytab whose second entry of three may be hidden: MIT's klist lists those
-    before, and all once it is removed."""
-    keytab = Keytab(image)
-    options = ("--v1-big",) if image[1] == 1 and sys.byteorder == "big" else ()
+def faults_of_hidden(program: str, image: bytes, place: int | None, options: tuple[str, ...]) -> list[str]:
+    """Returns the faults of a check of a keytab whose second entry of three, at that place, may be hidden: MIT's klist
+    lists those before, and all once it is removed."""
     with folder_of({"k": image}) as folder:
         mit = Mit(folder)
+        name = as_json(program, folder, "-k", *options, "k")["entries"][1]["principal"]
         out = run(program, ("ktcheck", *options, "k"), folder).out
         reported = [int(line.split()[1]) for line in out.splitlines() if line.startswith(b"hidden ")]
         count = len(mit.klist("k"))
-        words = ("ktremove", *options, "-p", keytab.entries()[1].text(), "k")
-        status = run(program, words, folder).status
+        status = run(program, ("ktremove", *options, "-p", name, "k"), folder).status
         left = len(mit.klist("k"))
-    found = [] if reported == keytab.places()[1:2] * is_odd else [f"{reported} are told as hidden"]
-    found += [] if count == (1 if is_odd else 3) else [f"MIT's klist lists {count}"]
+    found = [] if reported == ([place] if place else []) else [f"{reported} are told as hidden"]
+    found += [] if count == (1 if place else 3) else [f"MIT's klist lists {count}"]
     return found + ([] if (status, left) == (0, 2) else [f"status {status}, then it lists {left}"])
 
 
 def check_hidden(report: Report, program: str) -> None:
     """Checks entries that hide others, and some that hide none."""
-    for version, order in KINDS:
+    for version, order, options in KINDS:
+        place = len(keytab(FIRST, version=version, order=order))
         for name, entry in {**ODD, **EVEN}.items():
             image = keytab(FIRST, entry, LAST, version=version, order=order)
             report.check(f"MIT's klist and ktcheck: {name}, version {version}",
-                         faults_of_hidden(program, image, name in ODD))
+                         faults_of_hidden(program, image, place if name in ODD else None, options))
 
 
 def fails(made: Realm, folder: str, *words: str) -> list[str]:
@@ -158,9 +147,8 @@ def fails(made: Realm, folder: str, *words: str) -> list[str]:
 
 def check_used(report: Report, program: str, made: Realm) -> None:
     """Checks that kinit and kvno use the keys of a copy, and only those: one service is handed its own."""
-    image = made.keytab()
-    key = Keytab(image).entries()[1]
-    stale = keytab(Entry((b"svc", b"h"), REALM, version8=1, version32=1, enctype=key.enctype, key=bytes(len(key.key))))
+    user, service = made.keys()
+    image, stale = keytab(user, service), keytab(replace(service, key=bytes(len(service.key))))
     for name, target, words in (("a new keytab", None, ("-p", SERVICE)), ("no bytes", b"", ("-p", SERVICE)),
                                 ("a stale key", stale, ("--replace", "-p", SERVICE))):
         with folder_of({"k": image} | ({} if target is None else {"t": target})) as folder:
@@ -180,10 +168,9 @@ def check_used(report: Report, program: str, made: Realm) -> None:
 def rotated_entry(random: Random) -> Entry:
     """Returns an entry with a 32-bit version, or sometimes with 8 bits only, if they suffice."""
     kvno = random.choice(VERSIONS)
-    is_wide = kvno > 255 or random.random() < 0.5
-    return Entry(random.choice(NAMES), timestamp=1_700_000_000 + random.randrange(3),
-                 version8=kvno % 256, enctype=random.choice((17, 18)),
-                 version32=kvno if is_wide else None)
+    wide = kvno if kvno > 255 or random.random() < 0.5 else None
+    return Entry(random.choice(NAMES), timestamp=NOW + random.randrange(3), version8=kvno % 256,
+                 enctype=random.choice((17, 18)), version32=wide)
 
 
 def removed_by_mit(realm: Realm, name: bytes, image: bytes) -> bytes:
@@ -195,24 +182,21 @@ def removed_by_mit(realm: Realm, name: bytes, image: bytes) -> bytes:
 
 
 def faults_of_removal(program: str, realm: Realm, random: Random) -> list[str]:
-    """Returns what differs from MIT's and the model's in a removal from a random keytab."""
+    """Returns what differs from MIT's in a removal from a random keytab, which tells each entry that goes."""
     those = [rotated_entry(random) for _ in range(random.randrange(1, 9))]
     image, name = keytab(*those), b"/".join(random.choice(those).components) + b"@R"
-    wanted, after = removal(image, False, Selection((name,), OLD_ONES))
     theirs = removed_by_mit(realm, name, image)
     with folder_of({"k": image}) as folder:
-        got = run(program, ("ktremove", "-p", name, "-k", OLD_ONES, "k"), folder)
-        ours = files_in(folder)["k"]
-    found = differences(wanted, got)
-    found += [] if ours == after else [f"{ours.hex()} of {image.hex()}, not {after.hex()}"]
-    found += [] if theirs == ours else [f"MIT's is {theirs.hex()} of {image.hex()}, not {ours.hex()}"]
-    return found
+        got = run(program, ("ktremove", "-p", name, "-k", "old", "k"), folder)
+        ours, left = files_in(folder)["k"], len(entries(program, folder, "k"))
+    found = [] if theirs == ours else [f"MIT's is {theirs.hex()} of {image.hex()}, not {ours.hex()}"]
+    has_told = got.status == 0 and got.out.count(b"removed ") + left == len(those)
+    return found + ([] if has_told else [f"{got} of {len(those)} entries, {left} are left"])
 
 
 def check_old(report: Report, program: str, made: Realm) -> None:
     """Checks that kadmin.local and ktremove leave the same file without its old entries."""
-    seeds = range(KEYTABS if report.is_proved else KEYTABS // ONE_IN)
-    wrong = [fault for seed in seeds for fault in faults_of_removal(program, made, Random(seed))]
+    wrong = [fault for seed in range(KEYTABS) for fault in faults_of_removal(program, made, Random(seed))]
     report.check("old entries that kadmin.local and ktremove remove", wrong[:3])
 
 

@@ -7,9 +7,7 @@ import shutil
 from collections.abc import Mapping
 
 from makers.images import TWO
-from models.name_model import Kind, named, type_of
-from models.named_runs import IMAGES
-from names.default_files import by_user, own_cache
+from names.default_files import IMAGES, Kind, by_user, own_cache
 from names.file_types import ALL
 from peers.beside_mit import SURROUNDINGS, are_there
 from runs.harness import Outcome, Report, folder_of, message, run
@@ -24,6 +22,11 @@ LISTED = re.compile(rb"(?:Ticket cache|Keytab name): FILE:(.*)\n")
 
 # What MIT's reads of a configuration file, and ours does not.
 CONFIGURATION = b"[libdefaults]\ndefault_ccache_name = FILE:c\ndefault_keytab_name = FILE:k\n"
+
+# Values in which MIT's sees no type but that of files: without a colon, with one letter before it, and of a keytab a
+# path. Ours sees a type only in two letters or more.
+OF_FILES = {Kind.KEYTAB: re.compile(r"[^:]*$|[A-Za-z]:|FILE:|WRFILE:|/"),
+            Kind.CACHE: re.compile(r"[^:]*$|[A-Za-z]:|FILE:")}
 
 # What MIT's says of a type that it does not know, or has nothing of.
 REFUSES = re.compile(rb"Unknown (?:credential cache|Key table) type|No KCM server found|No credentials cache found|"
@@ -43,25 +46,18 @@ def taken(got: Outcome) -> tuple[bytes | None, bool]:
     return found[found.lastindex] if found else None, got.status == 0
 
 
-def is_type_to_mit(kind: Kind, value: bytes) -> bool:
-    """Whether MIT's takes what comes before the first colon for a type: all but one letter, and of a keytab a path."""
-    front, colon, _ = value.partition(b":")
-    is_drive = len(front) == 1 and front.isalpha()
-    return colon != b"" and not is_drive and not (kind is Kind.KEYTAB and value.startswith(b"/"))
-
-
-def check_values(report: Report, kind: Kind, word: str) -> None:
-    """Checks a value, where no file is there, and where all are that a program might take. Ours takes for a type only
-    two letters or more."""
-    value, name = word.encode(), named(kind, word.encode())
+def check_values(report: Report, program: str, kind: Kind, word: str) -> None:
+    """Checks a value, where no file is there, and where all are that a program might take. Where MIT's refuses a
+    type, ours takes no part of the value off."""
     names = {os.path.normpath(each) for each in (word, word.partition(":")[2], "k") if each}
     for files in ({}, {each: IMAGES[kind] for each in names if "/" not in each}):
         with folder_of(files) as folder:
-            got = klist(kind, folder, {kind.variable: value})
-        is_same = taken(got) == (name.text, os.path.normpath(name.text.decode()) in files)
-        if is_type_to_mit(kind, value) and type_of(value) not in kind.types:
-            is_same = got.status == 1 and REFUSES.search(got.err)
-        report.check(f"klist {kind.variable}={word!r}, {len(files)} files", [] if is_same else [f"MIT's: {got}"])
+            theirs, ours = (klist(kind, folder, {kind.variable: word}, each) for each in ("", program))
+        is_right = taken(ours) == taken(theirs) != (None, False)
+        if not OF_FILES[kind].match(word):
+            is_right = theirs.status == 1 and REFUSES.search(theirs.err) and taken(ours)[0] == word.encode()
+        report.check(f"klist {kind.variable}={word!r}, {len(files)} files",
+                     [] if is_right else [f"MIT's: {theirs}, ours: {ours}"])
 
 
 def check_defaults(report: Report, program: str) -> None:
@@ -102,6 +98,6 @@ def check(report: Report, program: str) -> None:
     if are_there(report, "default files beside MIT's klist", ("klist",)):
         for kind in Kind:
             for word in {*ALL, " ", "-k", "k", "./k"} - {"", "MEMORY:k"}:
-                check_values(report, kind, word)
+                check_values(report, program, kind, word)
         check_defaults(report, program)
         check_another(report)

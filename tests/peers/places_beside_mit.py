@@ -3,17 +3,16 @@
 A key that MIT's ktutil adds while a run writes stays, and the run tells of it.
 """
 
-import os
 import subprocess
 import time
 
-from makers.images import B, HOST, Entry, keytab
-from models.cases import IN_PLACE, in_place, ktedit
-from models.reading import read_image
-from peers.beside_mit import SURROUNDINGS, are_there
-from runs.harness import SECONDS, Case, Outcome, Report, differences, folder_of, run
+from makers.images import HOST, Entry, keytab
+from peers.beside_mit import SURROUNDINGS, are_there, as_json
+from runs.harness import SECONDS, Outcome, Report, differences, folder_of, run
 from runs.preload import Line
+from runs.rows import printed
 from runs.system_calls import Halt, check_traced, halted
+from runs.undisturbed import IN_PLACE, Undisturbed, in_place, undisturbed
 from system.failing_system_calls import READINGS
 from system.placing import ADD_LONG, explained, message_of, told
 from system.saving import unsaved
@@ -22,25 +21,30 @@ from system.saving import unsaved
 MOMENT = 0.3
 
 # The names in the file at first, of the entry that MIT's ktutil adds, and of the one that a run adds.
-FIRST, MITS, OURS = b"host/a@R", b"b@R", b"a/long/name@R"
+FIRST, MITS, OURS = "host/a@R", "b@R", "a/long/name@R"
 
-# MIT's programs, halted while they have the lock: one that reads the file, and one that has begun to add an entry.
-READS = (("klist", Line(("-k", "k"))), Halt("read", paths=("k",)))
-ADDS = (("ktutil", Line((), b"rkt j\nwkt k\nq\n")), Halt("write", paths=("k",)))
+# MIT's programs, halted while they have the lock: one that reads the file, and one that begins to add what is in J.
+READS = ("klist", Line(("-k", "k")), Halt("read", paths=("k",)))
+ADDS = ("ktutil", Line((), b"rkt j\nwkt k\nq\n"), Halt("write", paths=("k",)))
+J = keytab(Entry((b"b",)))
+
+# One of these, the options of a run beside it, whether that waits, where it puts its entry, and the names then.
+ROWS = (
+    (READS, (IN_PLACE,), True, 53, [FIRST, OURS]), (READS, (), False, 53, [FIRST, OURS]),
+    (ADDS, (IN_PLACE,), True, 98, [FIRST, MITS, OURS]), (ADDS, (), True, 98, [FIRST, MITS, OURS]))
 
 
-def names_in(image: bytes) -> list[bytes]:
-    """Returns the names in a keytab, or none where it is damaged."""
-    those, fault = read_image(image, False)
-    return [] if fault else [entry.text() for _, entry in those]
+def names_in(program: str, folder: str) -> list[str]:
+    """Returns the names in the keytab `k`, or none where it is damaged."""
+    listed = as_json(program, folder, "-k", "k")
+    return [entry["principal"] for entry in listed["entries"]] if listed.get("fault", "none") is None else []
 
 
-def ended_beside(program: str, options: tuple[str, ...], folder: str, mits: tuple[tuple[str, Line], Halt],
+def ended_beside(program: str, options: tuple[str, ...], folder: str, mits: tuple[str, Line, Halt],
                  seconds: float) -> tuple[Outcome, bool, Outcome]:
     """Returns how a run ends that begins while one of MIT's programs is halted, whether it waits for so many seconds,
     and how MIT's program ends."""
-    started: list[subprocess.Popen[bytes]] = []
-    waits: list[bool] = []
+    started: list[tuple[subprocess.Popen[bytes], bool]] = []
 
     def begin(folder: str) -> None:
         """Starts the run."""
@@ -52,62 +56,54 @@ def ended_beside(program: str, options: tuple[str, ...], folder: str, mits: tupl
         until = time.monotonic() + seconds
         while ours.poll() is None and time.monotonic() < until:
             time.sleep(0.01)
-        started.append(ours)
-        waits.append(ours.poll() is None)
+        started.append((ours, ours.poll() is None))
 
-    (peer, line), halt = mits
+    peer, line, halt = mits
     theirs = halted(peer, line, folder, halt, begin, SURROUNDINGS)
-    out, err = started[0].communicate(timeout=SECONDS)
-    return Outcome(started[0].returncode, out, err), waits[0], theirs
+    (ours, waits), = started
+    out, err = ours.communicate(timeout=SECONDS)
+    return Outcome(ours.returncode, out, err), waits, theirs
 
 
 def check_peers(report: Report, program: str) -> None:
     """Checks that a save in place waits for who reads or adds, and that one that replaces waits for who adds."""
-    added = keytab(HOST, B)
-    rows = [(READS, (IN_PLACE,), True, keytab(HOST), [FIRST, OURS]), (READS, (), False, keytab(HOST), [FIRST, OURS]),
-            (ADDS, (IN_PLACE,), True, added, [FIRST, MITS, OURS]), (ADDS, (), True, added, [FIRST, MITS, OURS])]
-    for mits, options, has_to_wait, before, wanted in rows:
-        with folder_of({"k": keytab(HOST), "j": keytab(Entry((b"b",)))}) as folder:
+    for mits, options, has_to_wait, place, wanted in ROWS:
+        with folder_of({"k": keytab(HOST), "j": J}) as folder:
             ours, waits, theirs = ended_beside(program, options, folder, mits, MOMENT if has_to_wait else SECONDS)
-            with open(os.path.join(folder, "k"), "rb") as file:
-                names = names_in(file.read())
-        faults = differences(Outcome(0, b"placed %d\n" % len(before)), ours)
+            names = names_in(program, folder)
+        faults = differences(printed(f"placed {place}"), ours)
         faults += [] if names == wanted else [f"{names}, not {wanted}"]
         faults += [] if waits == has_to_wait else [f"it waits: {waits}"]
-        is_listed = FIRST in theirs.out and OURS not in theirs.out
+        is_listed = FIRST.encode() in theirs.out and OURS.encode() not in theirs.out
         faults += [f"{theirs}"] if theirs.status or (mits is READS and not is_listed) else []
-        report.check(f"beside MIT's {mits[0][0]}, {' '.join(options) or 'replacing'}", faults)
+        report.check(f"beside MIT's {mits[0]}, {' '.join(options) or 'replacing'}", faults)
 
 
-def added_while(program: str, case: Case, halt: Halt) -> tuple[Outcome, list[bytes], Outcome]:
+def added_while(program: str, made: Undisturbed, halt: Halt) -> tuple[Outcome, list[str], Outcome]:
     """Returns how a run ends that is halted while MIT's ktutil adds an entry, the names then, and how ktutil ends."""
-    (peer, line), _ = ADDS
+    peer, line, _ = ADDS
     theirs: list[Outcome] = []
-    with folder_of({**case.files, "j": keytab(Entry((b"b",)))}) as folder:
-
-        def add(folder: str) -> None:
-            theirs.append(run(peer, line.words, folder, line.stdin, env=SURROUNDINGS))
-
-        ours = halted(program, Line(case.words, case.stdin), folder, halt, add)
-        with open(os.path.join(folder, "k"), "rb") as file:
-            return ours, names_in(file.read()), theirs[0]
+    with folder_of({**made.files, "j": J}) as folder:
+        ours = halted(program, Line(made.words, made.stdin), folder, halt, lambda folder: theirs.append(
+            run(peer, line.words, folder, line.stdin, env=SURROUNDINGS)))
+        return ours, names_in(program, folder), theirs[0]
 
 
 def check_added(report: Report, program: str) -> None:
     """Checks keys that MIT's ktutil adds between a run's looks, while it syncs, or behind the last look."""
     watched, synced, compared = Halt("openat", 2 * READINGS, ("/proc/locks",)), Halt("fsync"), Halt("lseek", 2)
-    longer, equal, shorter = (in_place(ktedit(image, script, name=name)) for image, script, name in (
+    longer, equal, shorter = (in_place(undisturbed("ktedit k", script, name=name, k=image)) for image, script, name in (
         (keytab(HOST), ADD_LONG, "adds"), (keytab(HOST), b"cut 2\n", "removes"),
         (keytab(60, HOST), b"rewrite\n", "rewrites")))
     refused = explained(unsaved(longer), message_of(longer, "mixed"))
     rows = [(longer, watched, unsaved(longer), [FIRST, MITS]), (longer, synced, refused, [FIRST, OURS, MITS]),
             (longer, compared, told(longer, "mixed"), [FIRST, OURS, MITS]),
             (equal, synced, told(equal, "mixed"), [MITS]), (shorter, synced, told(shorter, "mixed"), [FIRST, MITS])]
-    for case, halt, wanted, names in rows:
-        ours, found, theirs = added_while(program, case, halt)
+    for made, halt, wanted, names in rows:
+        ours, found, theirs = added_while(program, made, halt)
         faults = differences(wanted, ours) + ([] if found == names else [f"{found}, not {names}"])
         faults += [f"{theirs}"] if theirs.status or theirs.err else []
-        report.check(f"MIT's ktutil adds behind {halt.calls} {halt.nth}: {case.name}", faults)
+        report.check(f"MIT's ktutil adds behind {halt.calls} {halt.nth}: {made.name}", faults)
 
 
 def check(report: Report, program: str) -> None:

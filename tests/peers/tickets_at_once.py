@@ -7,10 +7,10 @@ does.
 import os
 from random import Random
 
-from models.cache_model import Cache
-from models.cache_reading import read_cache
-from peers.caches_beside_mit import USER, Realm, check_in_realm, differences_of
-from runs.harness import Report, files_in, folder_of, run
+from makers.images import keytab
+from peers.beside_mit import as_json, differences_of
+from peers.caches_beside_mit import USER, Realm, check_in_realm
+from runs.harness import Report, folder_of, run
 from runs.random_runs import Rounds
 from runs.storms import Run, rage
 
@@ -36,16 +36,11 @@ def runs_of(program: str) -> list[Run]:
     return runs
 
 
-def names_in(image: bytes) -> set[str]:
-    """Returns the services and the keys of a cache."""
-    return {output.tail().split(b" ")[-1].decode() for _, output in Cache(image).live()}
-
-
-def faults_of(runs: list[Run], image: bytes) -> list[str]:
-    """Returns the faults of the runs and of the cache that they left."""
-    if isinstance(read_cache(image), int) or Cache(image).fault:
-        return [f"the cache is not whole: {image[-200:]!r}"]
-    names = names_in(image)
+def faults_of(runs: list[Run], listed: dict) -> list[str]:
+    """Returns the faults of the runs and of the cache that they left, as our klist lists it: services and keys."""
+    if not listed or listed["fault"]:
+        return [f"the cache is not whole: {listed}"]
+    names = {ticket["server"] for ticket in listed["tickets"]} | {value["key"] for value in listed["config"]}
     failed = [f"{each.name}: {each.output!r}" for each in runs if each.is_mits and each.started.returncode]
     return failed + [fault for each in runs for fault in each.faults(names, True)]
 
@@ -53,13 +48,13 @@ def faults_of(runs: list[Run], image: bytes) -> list[str]:
 def storm(program: str, made: Realm, seed: int) -> list[str]:
     """Returns the faults of a storm."""
     runs = runs_of(program)
-    with folder_of({"k": made.keytab()}) as folder:
+    with folder_of({"k": keytab(*made.keys())}) as folder:
         made.call(*USER, folder=folder)
         made.call("kvno", *GOING, folder=folder)
         for each in runs:
             each.start(folder, made.surroundings())
         rage(runs, Random(seed), WITHIN)
-        found = faults_of(runs, files_in(folder)["c"])
+        found = faults_of(runs, as_json(program, folder, "c"))
         found += differences_of(program, folder, "-f", "-C")
         got = run(program, ("ccremove", "-p", "krbtgt/CACHE.TEST@CACHE.TEST", "c"), folder)
         left = sorted(os.listdir(folder))

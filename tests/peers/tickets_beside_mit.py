@@ -3,19 +3,24 @@
 The realm and its KDC are those of caches_beside_mit.
 """
 
+import re
 import time
 from collections.abc import Iterator
 from contextlib import contextmanager
+from dataclasses import replace
 
-from models.cache_model import Cache
-from models.script_model import cache_edited
-from peers.beside_mit import mit_klist
-from peers.caches_beside_mit import HOST, KINIT, USER, Realm, check_in_realm, differences_of
-from runs.harness import Outcome, Report, differences, files_in, folder_of, run
+from makers.images import keytab
+from peers.beside_mit import as_json, differences_of, mit_klist
+from peers.caches_beside_mit import HOST, KINIT, USER, Realm, check_in_realm
+from runs.harness import Outcome, Report, differences, files_in, folder_of, message, run
+from runs.rows import printed
 
-TGT = b"krbtgt/CACHE.TEST@CACHE.TEST"
-HOST_TEXT = HOST.encode() + b"@CACHE.TEST"
-SVC_TEXT = b"svc/h@CACHE.TEST"
+TGT = "krbtgt/CACHE.TEST@CACHE.TEST"
+HOST_TEXT = f"{HOST}@CACHE.TEST"
+SVC_TEXT = "svc/h@CACHE.TEST"
+
+# A session key: its type, its length, and its bytes.
+SESSION_KEY = re.compile(rb"\0\x12\0\0\0\x20(.{32})", re.DOTALL)
 
 
 class Filled:
@@ -29,44 +34,46 @@ class Filled:
         """Returns the bytes of the file."""
         return files_in(self.folder)["c"]
 
-    def cache(self) -> Cache:
-        """Returns the cache in the file."""
-        return Cache(self.image())
+    def listed(self, kind: str = "tickets") -> list[dict]:
+        """Returns what our klist lists of that kind."""
+        return as_json(self.program, self.folder, "c")[kind]
 
     def want(self, what: str, is_so: bool) -> None:
         """Records a fault unless the condition is true."""
         self.found += [] if is_so else [what]
 
-    def change(self, words: tuple[str, ...], wanted: Outcome, script: bytes = b"") -> None:
-        """Makes a run of ours over the cache, and compares the listings of MIT's klist and ours afterwards."""
-        got = run(self.program, (*words, "c"), self.folder, script)
-        self.found += differences(wanted, got)
+    def change(self, line: str, wanted: Outcome | None = None, script: str = "") -> None:
+        """Makes a run of ours over the cache, which has to end so, or to succeed, and compares the listings of MIT's
+        klist and ours afterwards."""
+        got = run(self.program, (*line.split(), "c"), self.folder, script.encode())
+        self.found += differences(wanted or replace(got, status=0, err=b""), got)
         self.found += differences_of(self.program, self.folder, "-f", "-e", "-C")
 
     def use(self, *words: str, version: int = 4) -> None:
         """Makes a run of MIT's over the cache, which has to succeed."""
         self.made.call(*words, folder=self.folder, version=version)
 
-    def places_of(self, server: bytes) -> list[int]:
+    def places_of(self, server: str) -> list[int]:
         """Returns the places of the live tickets for a server."""
-        return [place for place, output in self.cache().live() if output.tail().endswith(b" " + server)]
+        return [ticket["place"] for ticket in self.listed() if ticket["server"] == server]
 
-    def remove(self, server: bytes) -> None:
-        """Removes the tickets for a server with ccremove."""
-        lines = b"".join(b"removed %d %s\n" % (place, server) for place in self.places_of(server))
-        self.want(f"there is no {server!r}", lines != b"")
-        self.change(("ccremove", "-p", server.decode()), Outcome(0, lines))
+    def keys_of(self, server: str) -> list[bytes]:
+        """Returns the session keys of the live tickets for a server."""
+        return [SESSION_KEY.search(self.image(), place)[1] for place in self.places_of(server)]
 
-    def cut(self, server: bytes) -> None:
-        """Removes the ticket for a server with a script."""
+    def remove(self, server: str, by_script: bool = False) -> None:
+        """Removes the ticket for a server with ccremove, or with a script."""
         place, = self.places_of(server)
-        self.change(("ccedit",), Outcome(0, b"gone %d\n" % place), b"cut %d\n" % place)
+        if by_script:
+            self.change("ccedit", printed(f"gone {place}"), f"cut {place}\n")
+        else:
+            self.change(f"ccremove -p {server}", printed(f"removed {place} {server}"))
 
 
 @contextmanager
 def filled(program: str, made: Realm, *commands: tuple[str, ...], version: int = 4) -> Iterator[Filled]:
     """Yields a cache that some commands of MIT's filled."""
-    with folder_of({"k": made.keytab()}) as folder:
+    with folder_of({"k": keytab(*made.keys())}) as folder:
         one = Filled(program, made, folder)
         for words in commands:
             one.use(*words, version=version)
@@ -76,40 +83,37 @@ def filled(program: str, made: Realm, *commands: tuple[str, ...], version: int =
 def check_removed(report: Report, program: str, made: Realm) -> None:
     """Checks that a ticket that ccremove or ccedit removed is requested again. A mark leaves its key in the file, which
     ccremove and a rewrite erase; a new ticket of kinit is used."""
-    for remove, is_marked in ((Filled.remove, False), (Filled.cut, True)):
+    for by_script in (False, True):
         with filled(program, made, USER, ("kvno", HOST, "svc/h")) as one:
-            old, = one.cache().keys_of(HOST_TEXT)
-            kept = [one.cache().keys_of(server) for server in (TGT, SVC_TEXT)]
-            remove(one, HOST_TEXT)
-            one.want("its key is left or gone", (old in one.image()) == is_marked)
-            one.want("others are gone", kept == [one.cache().keys_of(name) for name in (TGT, SVC_TEXT)])
+            old, = one.keys_of(HOST_TEXT)
+            kept = [one.keys_of(server) for server in (TGT, SVC_TEXT)]
+            one.remove(HOST_TEXT, by_script)
+            one.want("its key is left or gone", (old in one.image()) == by_script)
+            one.want("others are gone", kept == [one.keys_of(name) for name in (TGT, SVC_TEXT)])
             one.use("kvno", HOST)
-            new = one.cache().keys_of(HOST_TEXT)
+            new = one.keys_of(HOST_TEXT)
             one.want("kvno asked for no other", len(new) == 1 and new != [old])
-            wanted, after = cache_edited(one.image(), b"rewrite\n")
-            one.change(("ccedit",), wanted, b"rewrite\n")
-            one.want("it is not written anew", one.image() == after and old not in one.image())
+            one.change("ccedit", script="rewrite\n")
+            one.want("its key is left", old not in one.image())
             one.use("kvno", HOST, "svc/h")
-            one.want("kvno asks again for what is there", one.cache().keys_of(HOST_TEXT) == new)
+            one.want("kvno asks again for what is there", one.keys_of(HOST_TEXT) == new)
             one.remove(TGT)
             one.use(*USER)
             one.use("kvno", HOST)
-            one.want("a new ticket of kinit is not used", len(one.cache().keys_of(HOST_TEXT)) == 1)
-        report.check(f"kvno asks anew for what is removed by {remove.__name__}", one.found)
+            one.want("a new ticket of kinit is not used", len(one.keys_of(HOST_TEXT)) == 1)
+        report.check(f"kvno asks anew for what is removed by {'a script' if by_script else 'ccremove'}", one.found)
 
 
 def check_expired(report: Report, program: str, made: Realm) -> None:
     """Checks that tickets with a lifetime of a second are removed once it is over, and that values stay."""
     with filled(program, made, (*KINIT, "-l", "1s", "user")) as one:
-        output = {output.endtime for _, output in one.cache().live() if not output.is_config()}
-        values = [place for place, output in one.cache().live() if output.is_config()]
-        time.sleep(max(0, max(output) - time.time()) + 0.01)
-        lines = b"".join(b"removed %d %s\n" % (place, TGT) for place in one.places_of(TGT))
-        one.change(("ccremove", "--expired"), Outcome(0, lines))
-        one.want("a ticket is left, or a value is gone", len(one.cache().live()) == len(values))
-        one.change(("ccremove", "--expired"), Outcome(0))
+        values = len(one.listed("config"))
+        time.sleep(max(0, max(ticket["endtime"] for ticket in one.listed()) - time.time()) + 0.01)
+        one.change("ccremove --expired", printed(f"removed {one.places_of(TGT)[0]} {TGT}"))
+        one.want("a ticket is left, or a value is gone", (one.listed(), len(one.listed("config"))) == ([], values))
+        one.change("ccremove --expired", Outcome(0))
         one.use(*USER)
-        one.change(("ccremove", "--expired"), Outcome(0))
+        one.change("ccremove --expired", Outcome(0))
         one.use("kvno", HOST)
     report.check("tickets of kinit that have expired", one.found)
 
@@ -117,12 +121,8 @@ def check_expired(report: Report, program: str, made: Realm) -> None:
 def check_values(report: Report, program: str, made: Realm) -> None:
     """Checks that MIT's klist shows a value that ccedit set, in place of the one that kinit set."""
     with filled(program, made, USER) as one:
-        key = b"fast_avail " + TGT
-        script = b"config %s no\nconfig mine - 1\n" % key
-        wanted, after = cache_edited(one.image(), script)
-        one.change(("ccedit",), wanted, script)
+        one.change("ccedit", script=f"config fast_avail {TGT} no\nconfig mine - 1\n")
         shown = mit_klist(one.folder, "-C", "c")
-        one.want("another file", one.image() == after)
         one.want(f"MIT's klist shows {shown!r}", b"config: mine = 1\n" in shown
                  and shown.count(b"fast_avail") == 1 and b" = no\n" in shown)
         one.use("kvno", HOST)
@@ -132,15 +132,13 @@ def check_values(report: Report, program: str, made: Realm) -> None:
 def check_version_3(report: Report, program: str, made: Realm) -> None:
     """Checks that a cache of version 3 is refused, and that kvno uses it as version 4 after a rewrite."""
     with filled(program, made, USER, ("kvno", HOST), version=3) as one:
-        before = one.image()
-        one.change(("ccremove", "--expired"), Outcome(1, err=b"krbfile: c: refused 8\n"))
+        before, keys = one.image(), one.keys_of(HOST_TEXT)
+        one.change("ccremove --expired", message(1, "c: refused 8"))
         one.want("it changed", one.image() == before)
-        keys = one.cache().keys_of(HOST_TEXT)
-        wanted, _ = cache_edited(before, b"rewrite\n")
-        one.change(("ccedit",), wanted, b"rewrite\n")
-        one.want("it has other keys", one.cache().keys_of(HOST_TEXT) == keys)
+        one.change("ccedit", script="rewrite\n")
+        one.want("it has other keys", one.keys_of(HOST_TEXT) == keys)
         one.use("kvno", HOST, "svc/h")
-        one.want("kvno asks again for what is there", one.cache().keys_of(HOST_TEXT) == keys)
+        one.want("kvno asks again for what is there", one.keys_of(HOST_TEXT) == keys)
         one.remove(HOST_TEXT)
     report.check("a cache of version 3 that is written anew", one.found)
 

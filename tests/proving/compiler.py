@@ -78,6 +78,11 @@ def below(crate: str) -> set[str]:
     return {*used, *(lower for it in used for lower in below(it))}
 
 
+def is_proved(crate: str) -> bool:
+    """Whether a crate and the libraries that it uses were proved."""
+    return all(map(os.path.isdir, map(library, [crate, *below(crate)])))
+
+
 def root_of(crate: str) -> str:
     """Returns the root file of a crate, relative to its folder."""
     is_program = os.path.exists(os.path.join(TOP, "crates", crate, "src", "main.rt"))
@@ -89,17 +94,36 @@ def is_library(crate: str) -> bool:
     return not crates()[crate][0] and root_of(crate) == "src/lib.rt"
 
 
-def command(verb: str, crate: str, jobs: int) -> list[str]:
-    """Returns the command that checks or builds a crate, in its folder or in a copy of it."""
-    kind, uses = crates()[crate]
-    words = [os.path.join(kit(), "bin", "rattle"), verb, "--crate-name", crate, root_of(crate)]
-    for it in dict.fromkeys(["std", *uses]):
+def libraries(crate: str) -> list[str]:
+    """Returns the options that name the libraries that a crate uses, as they were proved."""
+    words = []
+    for it in dict.fromkeys(["std", *crates()[crate][1]]):
         words += ["--extern", f"{it}={library(it)}"]
     for it in ["std", *sorted(below(crate))]:
         words += ["-L", f"dependency={os.path.dirname(library(it))}"]
+    return words
+
+
+def sources(crate: str) -> list[str]:
+    """Returns the options that name those libraries as sources, of which nothing need be proved."""
+    words, of_kit = ["-L", f"dependency={os.path.join(kit(), 'rlibs')}"], {"std"}
+    for it in sorted(below(crate)):
+        uses = crates()[it][1]
+        words += ["--lib", f"{it}:{','.join(['std', *uses])}={os.path.join(TOP, 'crates', it, 'src', 'lib.rt')}"]
+        of_kit.update(set(uses) - set(crates()))
+    for it in sorted(of_kit):
+        words += ["--extern", f"{it}={library(it)}"]
+    return words
+
+
+def command(verb: str, crate: str, jobs: int, name: str = "", are_sources: bool = False) -> list[str]:
+    """Returns the command that checks or builds a crate, in its folder or in a copy of it, or another of that name."""
+    kind, _ = crates()[crate]
+    words = [os.path.join(kit(), "bin", "rattle"), verb, "--crate-name", name or crate, root_of(crate)]
+    words += sources(crate) if are_sources else libraries(crate)
     words += ["--antt-project", os.path.join(kit(), "rattle", "logic", "antt-project.json")]
     words += ["--logic-built", os.path.join(kit(), "logic_built")]
-    words += ["--links", f"{crate}=", "--jobs", str(jobs)]
+    words += ["--links", f"{name or crate}=", "--jobs", str(jobs)]
     return [*words, "--crate-type", kind] if kind else words
 
 

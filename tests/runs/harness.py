@@ -44,6 +44,8 @@ class Case:
     # The files after the run, if they differ from those before it.
     files_after: dict[str, bytes] | None = None
     stdin: bytes = b""
+    # The time of the clock, if it is not that of the system.
+    clock: int | None = None
 
     def size(self) -> int:
         """Returns the number of bytes that it gives the program."""
@@ -53,6 +55,7 @@ class Case:
         """Runs it and reports it."""
         if report.leaves_out(self.size()):
             return
+        report.seen.append(self)
         try:
             found = faults_of(self, *run_case(program, self))
         except subprocess.TimeoutExpired:
@@ -70,6 +73,8 @@ class Report:
         self.failed = 0
         self.large = 0
         self.left_out: list[str] = []
+        # What is compared with the definitions.
+        self.seen: list[Case] = []
 
     def check(self, name: str, faults: list[str]) -> None:
         """Counts one case, which failed if there are faults."""
@@ -91,6 +96,7 @@ class Report:
         self.failed += other.failed
         self.large += other.large
         self.left_out += other.left_out
+        self.seen += other.seen
 
     def compare(self, name: str, wanted: Outcome, got: Outcome) -> None:
         """Counts one case, which failed if the outcomes differ."""

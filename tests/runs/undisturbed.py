@@ -14,8 +14,9 @@ from runs.terminal import EXPLAIN
 # The option by which a file is saved in place.
 IN_PLACE = "--in-place"
 
-# The program that is tested, once `use` has named it.
+# The program that is tested, once `use` has named it, and the runs that were made of it.
 PROGRAM: list[str] = []
+SEEN: list[Case] = []
 
 
 def use(program: str) -> None:
@@ -48,7 +49,9 @@ class Undisturbed:
         case = Case(self.name, self.plain or self.words, Outcome(0), self.files, stdin=self.stdin)
         library, _ = (None, None) if self.clock is None else clock_library()
         options = {"env": {"LD_PRELOAD": library, "CLOCK": str(self.clock)}} if library else {}
-        return run_case(PROGRAM[0], case, **options)
+        outcome, after = run_case(PROGRAM[0], case, **options)
+        SEEN.append(replace(case, wanted=outcome, files_after=after, clock=self.clock))
+        return outcome, after
 
     @property
     def wanted(self) -> Outcome:

@@ -26,6 +26,8 @@ IMPORTS = {
     "Rattle.krb_driver.specs.Loading": ("result_map",),
     "Rattle.samples.proofs.Given": ("hex", "keytab", "cache", "found", "old", "listed", "cache_listed", "plain", "all",
                                     "tickets", "details", "left", "printed", "cache_left"),
+    "Rattle.samples.proofs.Runs": ("words", "given", "those", "klist", "klist_silent", "ktfind", "ktcheck", "ktedit",
+                                   "ccedit", "ktremove", "ccremove", "ktcopy", "ktutil"),
     "Rattle.samples.proofs.Unfolded": ("on_literals",),
 }
 TIME = re.compile(rb"(\d{4}-\d\d-\d\dT\d\d:\d\d:\d\dZ)")
@@ -103,6 +105,7 @@ class Module:
     name: str
     comment: str
     items: tuple[str, ...]
+    crate: str = "corpus_samples"
 
     def uses(self) -> dict[str, list[str]]:
         """Returns the names that it imports, by the modules that these come from."""
@@ -110,9 +113,9 @@ class Module:
         words |= {f"◌{it}◌" for it in words} | ({"if◌then◌else◌"} if "if" in words else set())
         found = {source: [it for it in those if it in words] for source, those in IMPORTS.items()}
         if self.name != "Times":
-            found["Rattle.corpus_samples.proofs.Times"] = sorted(it for it in words if it.startswith("time-"))
+            found[f"Rattle.{self.crate}.proofs.Times"] = sorted(it for it in words if it.startswith("time-"))
         if self.name != "Files":
-            found["Rattle.corpus_samples.proofs.Files"] = sorted(it for it in words if it.startswith("file-"))
+            found[f"Rattle.{self.crate}.proofs.Files"] = sorted(it for it in words if it.startswith("file-"))
         return {source: those for source, those in found.items() if those}
 
     def written(self) -> str:

@@ -1,4 +1,5 @@
 pub mod Given
+pub mod Runs
 pub mod Times
 pub mod Unfolded
 mod Keytabs

@@ -1,0 +1,248 @@
+-- What a run of a command comes to if no call fails: what it prints, how it ends, and its files afterwards.
+use Rattle.std.specs.Prelude.{◌≡◌, ℕ, ◌+◌, ◌<◌, ◌≤◌, ◌^◌, max, List, [], ◌∷◌, ◌++◌, codes, length, map, fold, Bool, true, false, nat_lt, ◌==◌, Option, None, Some, is_some, option_and_then, unwrap_or, Result, Ok, Err, if◌then◌else◌, Vec, slice_get}
+use Rattle.std.specs.List.{filter_map, flat_map, list_any}
+use Rattle.std.specs.Str.{bytes_eq}
+use Rattle.std.proofs.Common.{arith, refl}
+use denote.RawPtr.{null_ptr}
+use lib.Dec.{lit<, lit≤}
+use Rattle.krb_wire.specs.NameOf.{name_of}
+use Rattle.krb_wire.specs.Spelling.{Parts}
+use Rattle.krb_wire.specs.declared.principal.Principal.{Principal}
+use Rattle.krb_files.specs.declared.files.LoadFault.{LoadFault}
+use Rattle.krb_files.specs.Files.{FileMap, loaded}
+use Rattle.krb_files.specs.Loading.{most_bytes}
+use Rattle.krb_files.specs.Plan.{Ends, follow, with_bytes}
+use Rattle.krb_text.specs.declared.line_fault.LineFault.{LineFault}
+use Rattle.krb_text.specs.Etype.{etype_in}
+use Rattle.krb_text.specs.Numbers.{number_in, seconds_in}
+use Rattle.krb_text.specs.Script.{event_in}
+use Rattle.krb_cache_text.specs.Script.{cache_line_in}
+use Rattle.krb_audit.specs.declared.finding_words.FindingWords.{FindingWords}
+use Rattle.krb_audit.specs.declared.selection.SelectedKvno.{SelectedKvno}
+use Rattle.krb_audit.specs.declared.selection.SelectedKvno.TheVariants.{Any, Newest, Old}
+use Rattle.krb_audit.specs.declared.selection.Selection.{Selection}
+use Rattle.krb_audit.specs.Report.{joined, words_of}
+use Rattle.krb_driver.specs.declared.error.RunError.{RunError}
+use Rattle.krb_driver.specs.declared.file_name.FileName.{FileName}
+use Rattle.krb_driver.specs.declared.file_name.NameSource.TheVariants.{Word}
+use Rattle.krb_driver.specs.declared.reporting.details.Details.{Details}
+use Rattle.krb_driver.specs.declared.verdict.FileKind.{FileKind}
+use Rattle.krb_driver.specs.declared.verdict.FileKind.TheVariants.{Keytab, Cache}
+use Rattle.krb_driver.specs.declared.verdict.Verdict.TheVariants.{Well}
+use Rattle.krb_driver.specs.Effects.{CommandPlan, Effect, Fails, Displays, Saves, files_after}
+use Rattle.krb_driver.specs.FileNames.{bare_name, is_other_type}
+use Rattle.krb_driver.specs.Matches.{Matched, v1_order}
+use Rattle.krb_driver.specs.RunErrors.{Ending, ending_status}
+use Rattle.krb_driver.specs.Words.{ending_text}
+use Rattle.krb_readers.specs.CheckWords.{check_options}
+use Rattle.krb_readers.specs.Klist.{file_kind, klist_plan, list_kind, list_options}
+use Rattle.krb_readers.specs.Ktcheck.{explained_by, plan_of as check_plan}
+use Rattle.krb_readers.specs.Ktfind.{ktfind_plan}
+use Rattle.krb_readers.specs.TicketCheck.{check_of, check_status}
+use Rattle.krb_editors.specs.Ccedit.{ccedit_plan}
+use Rattle.krb_editors.specs.Ccremove.{ccremove_plan}
+use Rattle.krb_editors.specs.Ktcopy.{ktcopy_plan}
+use Rattle.krb_editors.specs.Ktedit.{ktedit_plan}
+use Rattle.krb_editors.specs.Ktremove.{ktremove_plan, with_age}
+use Rattle.krb_editors.specs.Scripted.{lines_in}
+use Rattle.krb_editors.specs.Selecting.{kvno_in}
+use Rattle.krb_ktutil.specs.declared.ktutil.awaiting.Awaiting.TheVariants.{Nothing}
+use Rattle.krb_ktutil.specs.InputLines.{lines_of}
+use Rattle.krb_ktutil.specs.KtutilDue.{DueReport, TalkDue, quiet_run, talk_due}
+
+-- ---- values of the code's types
+
+pub few : {m n : ℕ} → (nat_lt m n ≡ true) → m < n
+few is_less = grind (arith)
+
+pub same : {n : ℕ} → n ≤ n
+same = grind (arith)
+
+-- these items as a vector, by whether they are few enough for one
+abbrev vec_by : {X : Type 0} → (xs : List X) → (is_small : Bool) → (nat_lt (length xs) (2 ^ 63) ≡ is_small) → Vec X (Unit {0})
+vec_by xs true small = record { ptr = null_ptr; len = length xs; cap = length xs; alloc = tt; items = xs; ok = (refl, same); small = few small }
+vec_by xs false small = record { ptr = null_ptr; len = 0; cap = 0; alloc = tt; items = []; ok = (refl, lit≤ tt); small = lit< tt }
+
+-- these items as a vector, if they are not too many for one
+abbrev vec : {X : Type 0} → List X → Vec X (Unit {0})
+vec xs = vec_by xs (nat_lt (length xs) (2 ^ 63)) refl
+
+-- a name as the code has it
+abbrev principal : Parts → Principal (Unit {0})
+principal p = record { name_type = p.name_type; realm = vec p.realm; components = vec (map vec p.components) }
+
+-- the name that a word spells, if it spells one
+abbrev principal_of : {E : Type 0} → Result Parts E → Option (Principal (Unit {0}))
+principal_of (Ok p) = Some (principal p)
+principal_of (Err fault) = None
+
+-- the names that words spell
+abbrev principals : List (List ℕ) → Vec (Principal (Unit {0})) (Unit {0})
+principals words = vec (filter_map (λ word. principal_of (name_of word None)) words)
+
+-- the name of a file, as a word gives it
+abbrev named : Bool → FileKind → List ℕ → FileName
+named in_place kind word = record {
+  name = record { ref_ptr = (0, 0); now = bare_name kind word };
+  is_other_type = is_other_type kind word;
+  source = Word;
+  in_place = in_place;
+}
+
+-- ---- command lines
+
+-- the words of a command line: its flags, and the values of its options and operands, by the names of these
+abbrev pub words : List (List ℕ) → List (List ℕ × List ℕ) → Matched
+words flags given = record {
+  flag = λ name. list_any (bytes_eq name) flags;
+  operand = λ name. unwrap_or (slice_get (values_of name) 0) [];
+  values = values_of;
+  is_long = λ name. false;
+} where
+  values_of : List ℕ → List (List ℕ)
+  values_of name = filter_map (λ x. if bytes_eq name x.0 then Some x.1 else None) given
+
+-- the file that an operand names
+abbrev operand : Matched → FileKind → List ℕ → FileName
+operand ws kind name = named (ws.flag (codes "in-place")) kind (ws.operand name)
+
+-- the kvnos that `-k` selects: a number, or the word for some of them
+abbrev kvno_of : List ℕ → SelectedKvno → Matched → SelectedKvno
+kvno_of word some ws = unwrap_or (option_and_then (kvno_in word some) (slice_get (ws.values (codes "kvno")) 0)) Any
+
+-- the entries that options select, with those kvnos
+abbrev selection : SelectedKvno → Matched → Selection (Unit {0})
+selection kvno ws = record {
+  names = principals (ws.values (codes "principal"));
+  kvno = kvno;
+  enctypes = vec (filter_map etype_in (ws.values (codes "enctype")));
+}
+
+-- ---- what is seen of a run
+
+-- what a run prints, on the output and on the error output, its status, and its files afterwards
+pub record Seen : Type 0 where
+  pub out : List ℕ
+  pub err : List ℕ
+  pub status : ℕ
+  pub files : FileMap
+
+-- files with these bytes under these names
+abbrev pub given : List (List ℕ × List ℕ) → FileMap
+given [] name = None
+given (x ∷ xs) name = with_bytes (given xs) x.0 x.1 name
+
+-- the files of those names
+abbrev pub those : List (List ℕ) → Seen → List ℕ × List ℕ × ℕ × List (Option (List ℕ))
+those names s = (s.out, s.err, s.status, map s.files names)
+
+-- no call failed
+abbrev no_details : Details
+no_details = record { cause = None; in_the_way = None; aftermath = None }
+
+-- how an effect ends
+abbrev ending : Effect → Ending
+ending (Fails file why) = Err why
+ending (Displays file page) = Ok page.verdict
+ending (Saves file bytes out verdict) = Ok verdict
+
+-- what an effect prints
+abbrev output : Effect → List ℕ
+output (Fails file why) = []
+output (Displays file page) = page.out
+output (Saves file bytes out verdict) = out
+
+-- a run that prints this about a file and ends so, with its messages explained or not
+abbrev ends : Bool → List ℕ → List ℕ → Ending → FileMap → Seen
+ends explains out file end files = record { out = out; err = ending_text explains file None no_details end; status = ending_status end; files = files }
+
+-- a run with that plan
+abbrev follows : Bool → FileMap → CommandPlan → Seen
+follows explains files plan =
+    let effect = follow files plan in
+    ends explains (output effect) (file_of effect) (ending effect) (files_after files effect)
+  where
+    file_of : Effect → List ℕ
+    file_of (Fails file why) = file
+    file_of (Displays file page) = file
+    file_of (Saves file bytes out verdict) = file
+
+-- the same if the input gives the lines of the plan, and otherwise an error
+abbrev follows_lines : {L : Type 0} → Bool → FileMap → (L → CommandPlan) → Result L RunError → Seen
+follows_lines explains files plan (Ok lines) = follows explains files (plan lines)
+follows_lines explains files plan (Err why) = ends explains [] [] (Err why) files
+
+-- ---- the commands, over files
+
+abbrev pub klist : Bool → FileMap → Matched → Seen
+klist explains files ws = follows explains files (klist_plan (list_options ws) (operand ws (file_kind (list_kind ws)) (codes "FILE")))
+
+-- `klist -s` at a second: it prints nothing
+abbrev pub klist_silent : ℕ → FileMap → Matched → Seen
+klist_silent now files ws = record { out = []; err = []; status = status_of (operand ws Cache (codes "FILE")); files = files } where
+  status_of : FileName → ℕ
+  status_of file = if file.is_other_type then 1 else check_status (now + (check_of ws).seconds) (loaded (files file.name.now) most_bytes)
+
+abbrev pub ktfind : Bool → FileMap → Matched → Seen
+ktfind explains files ws = finds (principal_of (name_of (ws.operand (codes "NAME")) None)) where
+  finds : Option (Principal (Unit {0})) → Seen
+  finds None = ends explains [] [] (Ok Well) files
+  finds (Some name) = follows explains files (ktfind_plan (record {
+    name = name;
+    kvno = unwrap_or (number_in 32 (ws.operand (codes "KVNO"))) 0;
+    enctype = unwrap_or (etype_in (ws.operand (codes "ETYPE"))) 0;
+    v1_order = v1_order ws;
+  }) (operand ws Keytab (codes "FILE")))
+
+-- the files of a list one after the other, each of which is plain with this mode; a finding is explained once
+abbrev pub ktcheck : Bool → ℕ → FileMap → Matched → Seen
+ktcheck explains mode files ws = checks (words_of []) (ws.values (codes "FILE")) where
+  checks : FindingWords → List (List ℕ) → Seen
+  checks explained [] = ends explains [] [] (Ok Well) files
+  checks explained (name ∷ names) =
+      let effect = follow files (check_plan (check_options ws) (nat_lt 1 (length (ws.values (codes "FILE")))) explained (named false Keytab name) (Some mode)) in
+      let first = follows explains files (Ends effect) in
+      let others = checks (joined explained (explained_by (ending effect))) names in
+      record { out = first.out ++ others.out; err = first.err ++ others.err; status = max first.status others.status; files = files }
+
+abbrev pub ktedit : Bool → FileMap → List ℕ → Matched → Seen
+ktedit explains files script ws =
+    follows_lines explains files (ktedit_plan (v1_order ws) (operand ws Keytab (codes "FILE"))) (lines_in event_in (Ok script))
+
+abbrev pub ccedit : Bool → FileMap → List ℕ → Matched → Seen
+ccedit explains files script ws = follows_lines explains files (ccedit_plan (operand ws Cache (codes "FILE"))) (lines_in cache_line_in (Ok script))
+
+-- at a second, which is asked for with `--age` alone
+abbrev pub ktremove : Bool → ℕ → FileMap → Matched → Seen
+ktremove explains now files ws = follows explains files (ktremove_plan (record {
+  selection = selection (with_age (option_and_then seconds_in (slice_get (ws.values (codes "age")) 0)) (kvno_of (codes "old") Old ws)) ws;
+  dry_run = ws.flag (codes "dry-run");
+  v1_order = v1_order ws;
+}) now (operand ws Keytab (codes "FILE")))
+
+-- at a second, which is asked for with `--expired` alone
+abbrev pub ccremove : Bool → ℕ → FileMap → Matched → Seen
+ccremove explains now files ws = follows explains files (ccremove_plan (record {
+  servers = principals (ws.values (codes "service"));
+  expired = ws.flag (codes "expired");
+  dry_run = ws.flag (codes "dry-run");
+}) (operand ws Cache (codes "FILE")) (if ws.flag (codes "expired") then Some now else None))
+
+abbrev pub ktcopy : Bool → FileMap → Matched → Seen
+ktcopy explains files ws = follows explains files (ktcopy_plan (record {
+  selection = selection (kvno_of (codes "new") Newest ws) ws;
+  replace = ws.flag (codes "replace");
+  dry_run = ws.flag (codes "dry-run");
+  v1_order = v1_order ws;
+}) (named false Keytab (ws.operand (codes "FROM"))) (operand ws Keytab (codes "TO")))
+
+-- the lines of an input at a second, without prompts
+abbrev pub ktutil : Bool → ℕ → FileMap → List ℕ → Matched → Seen
+ktutil explains now files input ws = of_talk (talk_due quiet_run now 1 (lines_of input) (record { order = v1_order ws; entries = []; awaiting = Nothing }) files) where
+  of_talk : TalkDue → Seen
+  of_talk due = record {
+    out = due.out;
+    err = flat_map (λ r. ending_text explains r.file r.line no_details r.ending) due.reported;
+    status = fold (λ worst r. max worst (ending_status r.ending)) 0 due.reported;
+    files = due.files;
+  }

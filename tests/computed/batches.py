@@ -1,0 +1,107 @@
+"""Batches of runs, which the prover compares with what the definitions compute."""
+from __future__ import annotations
+
+import os
+import re
+import subprocess
+import tempfile
+from collections.abc import Iterable
+from concurrent.futures import ThreadPoolExecutor
+from contextlib import suppress
+
+from computed.terms import NotComputed, row_of
+from proving import compiler
+from runs.harness import Case, Report
+from runs.random_runs import keep
+from theorems.antt import TIME, Module, seconds, time_theorems
+
+# The crate of a batch, how many rows a module has, the most bytes that a row is about, and how many days there are: the
+# date of a day is found by counting, which takes as long as many rows.
+NAME, ROWS, MOST, DAYS = "computed", 100, 4_000, 16
+
+# A function whose proof reads the modules.
+SOURCE = """//! Runs as theorems.
+
+ghost use Rattle.std.specs.Prelude.{{◌≡◌}};
+
+#[tactic(auto, using({lemmas}))]
+pub fn computes() -> u8
+    ensures {{ result ≡ 1 }}
+{{
+    1
+}}
+"""
+
+# A refusal of a row, with its first line, and how a check ends.
+REFUSED = re.compile(r"\./proofs/\w+\.antt:\S+ error: `row_(\d+)`: (.*)")
+ENDED = "only=1 proved=1"
+
+# The statuses of bad command lines, and of runs in which a call failed.
+NOT_COMPUTED = (2, 3, 4)
+
+
+def days_of(case: Case) -> set[int]:
+    """Returns the days that a run prints."""
+    return {seconds(moment) // 86_400 for moment in TIME.findall(case.wanted.out)}
+
+
+def is_small(case: Case) -> bool:
+    """Whether a run is about few bytes."""
+    return case.size() + len(case.wanted.out) + sum(map(len, (case.files_after or {}).values())) <= MOST
+
+
+def rows_of(seen: Iterable[Case]) -> dict[int, tuple[Case, str]]:
+    """Returns the runs that the definitions compute, each once, with its theorem, by number."""
+    found: dict[str, Case] = {}
+    days: set[int] = set()
+    for case in filter(is_small, seen):
+        if case.wanted.status not in NOT_COMPUTED and len(days | days_of(case)) <= DAYS:
+            with suppress(NotComputed):
+                found.setdefault(row_of("row_N", case), case)
+                days |= days_of(case)
+    return {number: (case, text.replace("row_N", f"row_{number}")) for number, (text, case) in enumerate(found.items())}
+
+
+def modules_of(rows: dict[int, tuple[Case, str]]) -> list[Module]:
+    """Returns the modules of some rows: the times in them, and the rows."""
+    numbers = list(rows)
+    moments = {moment for case, _ in rows.values() for moment in TIME.findall(case.wanted.out)}
+    parts = [numbers[at:at + ROWS] for at in range(0, len(numbers), ROWS)]
+    found = [Module(f"Rows{part[0]}", "Runs.", tuple(rows[it][1] for it in part), NAME) for part in parts]
+    return [Module("Times", "Times.", tuple(time_theorems(moments)), NAME), *found] if moments else found
+
+
+def write(folder: str, modules: list[Module]) -> None:
+    """Writes a crate of some modules."""
+    lemmas = [f"crate::proofs::{it.name}::row_{it.name[4:]}" for it in modules if it.name != "Times"]
+    texts = {"src/lib.rt": SOURCE.format(lemmas=", ".join(lemmas)),
+             "proofs/Lib.antt": "".join(f"mod {it.name}\n" for it in modules),
+             **{f"proofs/{it.name}.antt": it.written() for it in modules}}
+    for path, text in texts.items():
+        os.makedirs(os.path.join(folder, os.path.dirname(path)), exist_ok=True)
+        with open(os.path.join(folder, path), "w", encoding="utf-8") as file:
+            file.write(text)
+
+
+def refusals(rows: dict[int, tuple[Case, str]], are_sources: bool) -> dict[int, str]:
+    """Returns why rows are refused, by number: the definitions compute something else."""
+    with tempfile.TemporaryDirectory(prefix="krbfile-") as folder:
+        write(folder, modules_of(rows))
+        words = [*compiler.command("check", "corpus_samples", 1, NAME, are_sources), "--only", "computes"]
+        done = subprocess.run(words, cwd=folder, stdin=subprocess.DEVNULL, stdout=subprocess.PIPE,
+                              stderr=subprocess.STDOUT, text=True, errors="replace", check=False)
+    found = {int(number): why for number, why in REFUSED.findall(done.stdout)}
+    if not found and ENDED not in done.stdout.splitlines():
+        return {next(iter(rows)): f"the prover gave no answer: {done.stdout[-2000:]}"}
+    return found
+
+
+def compare(report: Report, seen: list[Case], are_sources: bool, jobs: int) -> None:
+    """Compares runs with the definitions, some at a time."""
+    rows = rows_of(seen)
+    parts = [dict(part) for each in range(jobs) if (part := list(rows.items())[each::jobs])]
+    with ThreadPoolExecutor(jobs) as pool:
+        for part, found in zip(parts, pool.map(lambda part: refusals(part, are_sources), parts), strict=True):
+            report.passed += len(part) - len(found)
+            for number, why in found.items():
+                report.check(f"computed: {rows[number][0].name}", [keep(f"computed {number}", rows[number][0]), why])

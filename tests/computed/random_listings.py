@@ -1,0 +1,117 @@
+"""Random runs that read: listings, look-ups, checks, and questions for valid tickets, over random and damaged files."""
+
+import re
+from collections.abc import Iterator
+from dataclasses import replace
+from random import Random
+
+from computed.topic import Topic
+from keytabs.columns import KNOWN_TIMES
+from makers.cache_images import CONFIG_FIRST, CONFIG_REALM, Credential, Name, cache
+from makers.images import TWO, name_text
+from makers.mutations import damaged, mutated
+from makers.random_caches import SAMPLES as CACHES
+from makers.random_caches import filled_cache, random_cache, random_credential, with_damage
+from makers.random_keytabs import SAMPLES as KEYTABS
+from makers.random_keytabs import Choices, random_image
+from runs.harness import Case
+from runs.undisturbed import Undisturbed, explained, undisturbed
+from words.phrases import FINDINGS
+
+# Few names, versions, types and keys, so that many entries agree.
+FOUND = Choices(names=((b"a", b"R"), (b"a", b"b", b"R"), (b"a/b", b"R"), (b"", b"\n", b"@")),
+                versions=(0, 1, 2, 255, 256, 257, 2**32 - 1), enctypes=(0, 17, 18, 273))
+CHECKED = Choices(names=((b"a", b"R"), (b"a", b"b", b"R"), (b"", b"R")), versions=(1, 240),
+                  enctypes=(3, 17, 23), timestamps=(0, 1, 2**32 - 1), keys=(b"", b"x", b"x", b"y"))
+
+# The names of servers, some of which print alike.
+SERVERS = [Name((b"krbtgt", b"R")), Name((b"host", b"a")), Name((b"host", b"a"), name_type=3),
+           Name((b"host/a",)), Name(()), Name((b"",)), Name((b"a\n@",), b"R@S"),
+           Name((CONFIG_FIRST, b"k"), CONFIG_REALM), Name((CONFIG_FIRST,), CONFIG_REALM)]
+
+# The time of the clock, and times before it, at it and after it.
+NOW = 1_700_000_000
+TIMES = [*KNOWN_TIMES, NOW - 1, NOW + 1]
+WHILES = (None, 0, 1, 1_000, 2**32 - 1)
+
+
+def options(random: Random, *words: str) -> tuple[str, ...]:
+    """Returns some of those words."""
+    return tuple(word for word in words if random.random() < 0.4)
+
+
+def keytab_listing(random: Random) -> Iterator[Undisturbed]:
+    """Yields a listing of a keytab, and the same as JSON."""
+    image = mutated(random, KEYTABS) if random.random() < 0.5 else random_image(random)
+    words = ("-k", *options(random, "-t", "-e", "-K", "--v1-big"))
+    for json in ((), ("--json",)):
+        yield undisturbed(("klist", *words, *json, "k"), k=image)
+
+
+def cache_listing(random: Random) -> Iterator[Undisturbed]:
+    """Yields a listing of a cache, and the same as JSON."""
+    image = mutated(random, CACHES) if random.random() < 0.4 else with_damage(random, random_cache(random), 0.5)
+    if random.random() < 0.08:
+        image = random.choice([image[: random.randrange(5)], b"\x05" + random.randbytes(30)])
+    words = options(random, "-c", "-e", "-f", "-C")
+    for json in ((), ("--json",)):
+        yield undisturbed(("klist", *words, *json, "c"), c=image)
+
+
+def look_up(random: Random) -> Iterator[Undisturbed]:
+    """Yields a look-up in a keytab, which is mostly read in its own byte order."""
+    image, is_big = FOUND.random_keytab(random)
+    big = ("--v1-big",) if is_big != (random.random() < 0.1) else ()
+    kvno, etype = random.choice([0, *FOUND.versions]), random.choice([0, *FOUND.enctypes])
+    yield undisturbed(("ktfind", *big, "k", str(kvno), str(etype), "--", name_text(random.choice(FOUND.names))), k=image)
+
+
+def random_place(random: Random) -> bytes | None:
+    """Returns what is under a name: mostly a keytab of a few parts."""
+    kind = random.random()
+    if kind < 0.1:
+        return random.choice((None, b"", b"\x05", b"\x05\x04"))
+    image = TWO if kind < 0.2 else CHECKED.random_keytab(random)[0]
+    return damaged(random, image, image) if random.random() < 0.1 else image
+
+
+def check(random: Random) -> Iterator[Undisturbed]:
+    """Yields a check of up to six files, with its findings explained or not."""
+    files = {name: random_place(random) for name in "kjid"}
+    words = random.choices([*"kjid", "FILE:k", "WRFILE:j", "KCM:k"], k=random.choice((1, 1, 2, 3, 6)))
+    allowed = [f"--allow={word}" for word in random.choices([*FINDINGS], k=random.choice((0, 0, 1, 5)))]
+    made = undisturbed(("ktcheck", *options(random, "-q", "--v1-big"), *allowed, *words), **files)
+    yield random.choice((explained(made), made))
+
+
+def random_ticket(random: Random) -> Credential:
+    """Returns a ticket for one of the servers."""
+    ticket = replace(random_credential(random), server=random.choice(SERVERS), endtime=random.choice(TIMES))
+    return ticket.removed() if random.random() < 0.2 else ticket
+
+
+def question(random: Random) -> Iterator[Undisturbed]:
+    """Yields a question whether a cache has a valid ticket, or one that is valid for a while."""
+    tickets = (random_ticket(random) for _ in range(random.randrange(9)))
+    made = cache(*tickets, default=Name(realm=random.choice((b"R", b"S"))), version=random.choice((3, 4)))
+    seconds = random.choice(WHILES)
+    words = () if seconds is None else ("--for", str(seconds))
+    yield undisturbed(("klist", "-s", *words, "c"), clock=NOW, c=with_damage(random, made, 0.1))
+
+
+def kinds_of_json(case: Case) -> Iterator[str]:
+    """Yields the members of an object that are null or hexadecimal, and the kinds of the file and of its fault."""
+    yield from re.findall(r'"(kind":[^,}]*|\w+_hex|\w+":null)', case.wanted.out.decode("latin-1"))
+
+
+TOPICS = (
+    Topic("random keytabs", keytab_listing,
+          ("status 0", *(f"fault {number}" for number in (1, 2, 3)), "not a keytab (1)", "not a keytab (2)", 'kind":1'),
+          usual=100, more=kinds_of_json),
+    Topic("random caches", cache_listing,
+          ("status 0", "fault 4", *(f"not a cache ({why})" for why in (1, 2, 5)), "config", "a record", "renew", "Flags",
+           "Etype", "client_hex", "value_hex", 'etype_name":null'), usual=60, more=kinds_of_json),
+    Topic("random look-ups", look_up, ("found", "refused 1", "refused 9", "refused 10"), usual=80),
+    Topic("random checks", check, (*FINDINGS, "fault 2", "entries", "no such file", "not a keytab"), usual=80),
+    Topic("random questions for tickets", question, ("status 1", "status 0", "--for status 0"), usual=40),
+)

@@ -1,0 +1,116 @@
+"""Runs as terms of the definitions in crates/samples/proofs/Runs.antt."""
+from __future__ import annotations
+
+from getopt import GetoptError, gnu_getopt
+
+from runs.harness import Case
+from runs.terminal import EXPLAIN
+from theorems.antt import TIME, bytes_of_digits, seconds, text
+
+# The letters of each command's options, each with its long name; one with a colon has a value.
+KEPT = {"n": "dry-run", "p:": "principal", "k:": "kvno", "e:": "enctype"}
+LETTERS = {
+    "klist": {"k": "keytab", "c": "cache", "t": "times", "e": "enctypes", "K": "keys", "f": "flags", "C": "config",
+              "s": "silent"},
+    "ktfind": {}, "ktcheck": {"q": "quiet"}, "ktedit": {}, "ccedit": {}, "ktutil": {}, "ktremove": KEPT, "ktcopy": KEPT,
+    "ccremove": {"n": "dry-run", "p:": "service"},
+}
+LONG = ("json", "for=", "v1-big", "in-place", "allow=", "age=", "replace", "expired")
+
+# The names of the operands, of which the last stands for all that follow.
+OPERANDS = {"ktfind": ("FILE", "KVNO", "ETYPE", "NAME"), "ktcopy": ("FROM", "TO"), "ktutil": ()}
+
+# What the definition of each command is given before the files, and whether an input comes after them.
+GIVEN = {"klist": ("explains",), "ktfind": ("explains",), "ktcopy": ("explains",), "ktcheck": ("explains", "mode"),
+         "ktedit": ("explains",), "ccedit": ("explains",), "ktremove": ("explains", "clock"),
+         "ccremove": ("explains", "clock"), "ktutil": ("explains", "clock"), "klist_silent": ("clock",)}
+READING = ("ktedit", "ccedit", "ktutil")
+
+# The options by which a command asks for the time, and the lines of ktutil that do.
+TIMED, ADDING = {"silent", "age", "expired"}, (b"add_entry", b"addent")
+
+# The mode of the files that runs are over.
+MODE = 0o100644
+
+
+class NotComputed(Exception):
+    """A run is none that the definitions compute."""
+
+
+def listed(items: list[str]) -> str:
+    """Returns a list."""
+    return "".join(f"{item} ∷ " for item in items) + "[]"
+
+
+def pairs(items: list[tuple[str, str]]) -> str:
+    """Returns a list of names, each with its value."""
+    return listed([f"({text(name.encode())}, {value})" for name, value in items])
+
+
+class Words:
+    """The words of a command line: its flags, and the values of its options and operands, by name."""
+
+    def __init__(self, case: Case) -> None:
+        words = [word.decode("latin-1") if isinstance(word, bytes) else word for word in case.words]
+        self.explains = words[:1] == [EXPLAIN]
+        self.command, *rest = words[self.explains:]
+        if self.command not in LETTERS:
+            raise NotComputed
+        letters = LETTERS[self.command]
+        names = [name + "=" * (":" in letter) for letter, name in letters.items()]
+        try:
+            options, operands = gnu_getopt(rest, "".join(letters), [*LONG, *names])
+        except GetoptError as error:
+            raise NotComputed from error
+        long = {f"-{letter[0]}": name for letter, name in letters.items()}
+        those = [(long.get(word, word[2:]), value) for word, value in options]
+        takes = {name[:-1] for name in (*LONG, *names) if "=" in name}
+        self.flags = [name for name, _ in those if name not in takes]
+        operand = OPERANDS.get(self.command, ("FILE",))
+        named = operands[:1] if self.command == "ktfind" else operands
+        if bool(operands) != bool(operand) or any("/" in it for it in named):
+            raise NotComputed
+        self.values = [each for each in those if each[0] in takes]
+        self.values += [(operand[min(nth, len(operand) - 1)], it) for nth, it in enumerate(operands)]
+
+    def is_timed(self, case: Case) -> bool:
+        """Whether the run asks for the time."""
+        names = {*self.flags, *(name for name, _ in self.values)}
+        return bool(names & TIMED) or (self.command == "ktutil" and any(word in case.stdin for word in ADDING))
+
+    def term(self) -> str:
+        """Returns them as the definitions have them."""
+        flags = listed([text(it.encode()) for it in self.flags])
+        return f"(words ({flags}) ({pairs([(name, text(value.encode())) for name, value in self.values])}))"
+
+
+def term_of(case: Case) -> str:
+    """Returns what the definitions give for a run."""
+    words = Words(case)
+    if case.clock is None and words.is_timed(case):
+        raise NotComputed
+    command = "klist_silent" if "silent" in words.flags else words.command
+    files = pairs([(name, bytes_of_digits(image)) for name, image in case.files.items()])
+    parts = {"explains": str(words.explains).lower(), "mode": str(MODE), "clock": str(case.clock or 0)}
+    given = [command, *(parts[it] for it in GIVEN[command]), f"(given ({files}))"]
+    given += [f"({bytes_of_digits(case.stdin)})"] * (command in READING)
+    return " ".join([*given, words.term()])
+
+
+def images(names: list[str], files: dict[str, bytes]) -> str:
+    """Returns the bytes of the files of these names."""
+    return listed([f"Some ({bytes_of_digits(files[it])})" if it in files else "None" for it in names])
+
+
+def row_of(name: str, case: Case) -> str:
+    """Returns the theorem that a run ends as a case has it."""
+    after = case.files if case.files_after is None else case.files_after
+    names, wanted = sorted({*case.files, *after}), case.wanted
+    left = f"those ({listed([text(it.encode()) for it in names])}) ({term_of(case)})"
+    ending = f"{text(wanted.err)}, {wanted.status}, {images(names, after)})"
+    parts, proof = TIME.split(wanted.out), "refl"
+    if len(parts) > 1:
+        shown = [f"time-{seconds(it)} i" if place % 2 else text(it) for place, it in enumerate(parts)]
+        proof = f"λ i. ({' ++ ('.join(shown)}{')' * (len(shown) - 1)}, {ending}"
+    return (f"pub {name} : {left}\n    ≡ ({text(wanted.out)}, {ending}\n"
+            f"unfolding on_literals\n{name} = {proof}\n")
