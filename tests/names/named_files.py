@@ -13,8 +13,9 @@ from keytabs.file_names import LIMIT
 from makers.cache_images import cache as tickets
 from makers.images import TWO, keytab
 from makers.usual_caches import TICKET
+from runs.harness import files_in, folder_of, run
 from runs.rows import Line, shown, text
-from runs.undisturbed import Undisturbed, frame, undisturbed
+from runs.undisturbed import PROGRAM, frame
 from words.explained import Explained, Output, for_owner
 from words.phrases import BEGINS_AS_NO_CACHE, BEGINS_AS_NO_KEYTAB, CAUSES, LARGE, NOT_READ
 
@@ -101,15 +102,11 @@ class Command:
         return tuple(word for word in words if word is not None)
 
     @cache
-    def usual(self, is_there: bool) -> Undisturbed:
-        """Runs it over NAME, which is there or not; none but the owner may read the files."""
-        made = undisturbed(self.line, self.given, **BESIDE, **({NAME: IMAGES[self.kind]} if is_there else {}))
-        before = os.umask(0o077)
-        try:
-            assert made.done
-        finally:
-            os.umask(before)
-        return made
+    def usual(self, is_there: bool) -> tuple[bytes, dict[str, bytes]]:
+        """Runs it over NAME, which is there or not, and returns its output and the files afterwards."""
+        with folder_of(BESIDE | ({NAME: IMAGES[self.kind]} if is_there else {})) as folder:
+            for_owner(folder)
+            return run(PROGRAM[0], self.words(NAME), folder, self.given).out, files_in(folder)
 
     def ended(self, name: FileName, place: bytes | str | None) -> tuple[int, Output]:
         """Returns the status over what is under a name, and the message, if there is one. Some commands make a missing
@@ -118,7 +115,7 @@ class Command:
         ends = {FOLDER: (3, (f"{own}: cannot read", CAUSES["EISDIR"])),
                 NEITHER: (1, (f"{own}: not a {self.kind.value} ({number})", why)),
                 LARGE_FILE: (1, (f"{own}: file too large", LARGE))}
-        if name.other or place is None and NAME not in self.usual(False).files_after:
+        if name.other or place is None and NAME not in self.usual(False)[1]:
             ends[place] = 1, name.missing()
         elif own == "":
             ends[place] = 3, (": cannot write", CAUSES["ENOENT"])
@@ -133,10 +130,10 @@ class Command:
         files = {**BESIDE, **files, **({path: place} if isinstance(place, bytes) else {})}
         out, after = b"", files
         if status == 0:
-            usual = self.usual(place is not None)
+            usual, left = self.usual(place is not None)
             spelled = json.dumps(name.text, ensure_ascii=False)[1:-1] if "--json" in self.line else name.text
-            out = usual.wanted.out.replace(NAME.encode(), spelled.encode())
-            after = files | {path if each == NAME else each: data for each, data in usual.files_after.items()}
+            out = usual.replace(NAME.encode(), spelled.encode())
+            after = files | {path if each == NAME else each: data for each, data in left.items()}
         title = f"{shown(words)} with {env}, {'none' if place is None else place[:9]}"
         return Explained(title, words, told, files, self.given, status, out, after, {"env": env}, for_owner)
 
