@@ -14,30 +14,20 @@ LONG = 32_768
 
 # Entries at which MIT's programs stop, and some that they list: another topic shows each beside these programs.
 ODD = {
-    "no components": Entry(()),
-    "no components and an empty realm": Entry((), b""),
-    "an empty component": Entry((b"",)),
-    "an empty first component": Entry((b"", b"x")),
-    "an empty middle component": Entry((b"a", b"", b"b")),
-    "an empty last component": Entry((b"host", b"")),
-    "an empty realm": Entry((b"a",), b""),
-    "no key": Entry(key=b""),
-    "a long key": Entry(key=bytes(LONG)),
-    "the longest key": Entry(key=bytes(65_535)),
-    "a long component": Entry((b"x" * LONG,)),
-    "a long second component": Entry((b"a", b"x" * 65_535)),
-    "a long realm": Entry((b"a",), b"R" * LONG),
-    "many components": Entry((b"p",) * LONG),
+    "no components": Entry(()), "no components and an empty realm": Entry((), b""), "an empty component": Entry((b"",)),
+    "an empty first component": Entry((b"", b"x")), "an empty middle component": Entry((b"a", b"", b"b")),
+    "an empty last component": Entry((b"host", b"")), "an empty realm": Entry((b"a",), b""), "no key": Entry(key=b""),
+    "a long key": Entry(key=bytes(LONG)), "the longest key": Entry(key=bytes(65_535)),
+    "a long component": Entry((b"x" * LONG,)), "a long second component": Entry((b"a", b"x" * 65_535)),
+    "a long realm": Entry((b"a",), b"R" * LONG), "many components": Entry((b"p",) * LONG),
 }
 EVEN = {
-    "a key of a byte": Entry(key=b"x"),
-    "a key almost too long": Entry(key=bytes(LONG - 1)),
+    "a key of a byte": Entry(key=b"x"), "a key almost too long": Entry(key=bytes(LONG - 1)),
     "a component almost too long": Entry((b"x" * (LONG - 1),)),
     "a realm almost too long": Entry((b"a",), b"R" * (LONG - 1)),
     "almost too many components": Entry((b"p",) * (LONG - 1)),
     "odd numbers": Entry(name_type=2**32 - 1, timestamp=2**31, enctype=65_535, version32=0),
 }
-
 
 
 def check_up(name: str, image: bytes, *lines: str, status: int = 0, options: str = "") -> Case:
