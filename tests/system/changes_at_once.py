@@ -15,7 +15,7 @@ from peers.beside_mit import SURROUNDINGS, are_there
 from runs.harness import TOP, Report, folder_of, run
 from runs.random_runs import Rounds
 from runs.storms import Run, rage
-from runs.undisturbed import IN_PLACE, use
+from runs.undisturbed import IN_PLACE
 from system.saving import tree, write
 from system.storm_kinds import COPIES, HOLDS, KINDS, MANY, PLACES, Kind, change, names_of, removes
 
@@ -130,7 +130,6 @@ def storm(program: str, kind: Kind, seed: int) -> Storm:
 
 def check_kinds(kinds: tuple[Kind, ...], report: Report, program: str, seeds: range) -> None:
     """Runs the storms of each of those kinds from some seeds."""
-    use(program)
     has_mit = are_there(report, "changes beside MIT's ktutil")
     for kind in kinds:
         if has_mit or not kind.with_mit:
