@@ -35,6 +35,9 @@ DAMAGED = keytab(HOST, record(bytes(10)), B)
 # An end mark after an entry, with other bytes after it.
 MARKED = keytab(HOST, END, b"\xff" * 20)
 
+# An entry of the most components, all empty.
+MOST = keytab(Entry((b"",) * 65_535))
+
 
 def refused(*replies: str) -> Outcome:
     """Returns replies, one of which reports a refusal or a fault."""
@@ -118,6 +121,8 @@ CASES = [
          ["walk 0 at 2", GAVE_HOST, "walk 1 at 2", "gone 2", "rewritten 47",
           *(f"walk {number} gave 2 next 47 kvno 3 etype 17 b@R" for number in (0, 1))], keytab(B)),
     edit("an end mark goes", MARKED, ["rewrite"], ["rewritten 53"], keytab(HOST)),
+    # Looking up each component from the first would pass 2,147,385,345 of them.
+    edit("the most components", MOST, ["rewrite"], [f"rewritten {len(MOST)}"]),
     edit("version 1 becomes 2", old(HOST), ["start", "step 0", "rewrite", "step 0"],
          ["walk 0 at 2", GAVE_HOST.replace("next 53", "next 49"), "rewritten 53", "walk 0 end 53"],
          keytab(Entry(name_type=0))),
