@@ -68,7 +68,8 @@ class Words:
         self.flags = [name for name, _ in those if name not in takes]
         operand = OPERANDS.get(self.command, ("FILE",))
         named = operands[:1] if self.command == "ktfind" else operands
-        if bool(operands) != bool(operand) or any("/" in it for it in named):
+        # The definitions have a file for each name, and do not know paths.
+        if bool(operands) != bool(operand) or any("/" in it for it in named) or b" ./" in case.stdin:
             raise NotComputed
         self.values = [each for each in those if each[0] in takes]
         self.values += [(operand[min(nth, len(operand) - 1)], it) for nth, it in enumerate(operands)]
