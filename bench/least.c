@@ -4,18 +4,14 @@
  * version. `klist -k FILE` has the same lines after its heading, where no byte of a name is quoted and no version
  * has more than four digits.
  */
+#include "bench.h"
+
 #include <fcntl.h>
-#include <stdint.h>
-#include <stdlib.h>
 #include <string.h>
 #include <sys/stat.h>
 #include <unistd.h>
 
 enum { READ = 131072, WRITE = 32768, LONGEST = 1048576 };
-
-static unsigned get16(const uint8_t *at) { return at[0] << 8 | at[1]; }
-
-static int32_t get32(const uint8_t *at) { return (int32_t)((uint32_t)get16(at) << 16 | get16(at + 2)); }
 
 static char *put(char *out, const uint8_t *bytes, unsigned count) {
     memcpy(out, bytes, count);

@@ -1,118 +1,82 @@
-"""Our listings beside those of MIT's and of a minimal program, and our other commands beside our own listing."""
+"""Listings by krbfile, beside those by MIT's klist and by programs in C."""
 
-import statistics
+import re
+import subprocess
 import sys
-from typing import NamedTuple, Optional
+from collections.abc import Iterator
 
 import images
-import processes
-from tables import Table, ratio
+from measure import Bench, Side, mit, show
 
-LONGEST = 120  # seconds that a run may take; callgrind has ten times as much
-
-
-class Group(NamedTuple):
-    """A file, and the words before its name: ours, and the other side's if they differ."""
-
-    name: str
-    make: object
-    size: int
-    quick: int
-    words: list
-    others: Optional[list] = None
-    after: object = lambda size: []  # our words after the file's name
-
-
-SERVICES = images.services, 200_000, 10_000
-TICKETS = images.tickets, 50_000, 1_000
-KTLIST, CCLIST = ["klist", "-k"], ["klist", "-c"]
-TABLES = {  # the other side of each table, and its groups
-    "listings": ("MIT", [
-        Group("services", *SERVICES, KTLIST),
-        Group("all columns", *SERVICES, [*KTLIST, "-t", "-K", "-e"]),
-        Group("holes", images.holes, 3_000_000, 100_000, KTLIST),
-        Group("quoted names", images.quoted, 550, 33, KTLIST),
-        Group("tickets", *TICKETS, CCLIST),
-    ]),
-    "commands": ("klist", [
-        Group("ktfind", *SERVICES, ["ktfind"], KTLIST, images.last_service),
-        Group("ktcheck", *SERVICES, ["ktcheck"], KTLIST),
-        Group("ktremove", images.of_two_versions, 180_000, 10_000, ["ktremove", "-n", "-k", "old"], KTLIST),
-        Group("services as JSON", *SERVICES, [*KTLIST, "--json"], [*KTLIST, "-t", "-e"]),
-        Group("ccremove", *TICKETS, ["ccremove", "-n", "--expired"], CCLIST),
-        Group("tickets as JSON", *TICKETS, [*CCLIST, "--json"], [*CCLIST, "-e", "-f"]),
-    ]),
-    "least": ("least", [Group("services", *SERVICES, KTLIST, ["least"])]),
+FILES = {  # the maker of each, how many entries it has, and how many in a quick run
+    "services": (images.services, 200_000, 10_000),
+    "holes": (images.holes, 3_000_000, 100_000),
+    "quoted names": (images.quoted, 550, 33),
+    "tickets": (images.tickets, 50_000, 1_000),
 }
 
 
-class Bench:
-    """A file, and the runs over it, with their output in a file."""
-
-    def __init__(self, setting):
-        self.setting = setting
-        self.file, self.out, self.note = (setting.folder / name for name in ("k", "out", "note"))
-        self.file.touch(0o600)  # ktcheck tells of one that others may read
-
-    def front(self, other):
-        """Returns the first words of a table's other side."""
-        if other == "MIT":
-            return [processes.mit("klist")[0]]
-        return [self.setting.krbfile, "klist"] if other == "klist" else [processes.built(self.setting.folder, "least")]
-
-    def call(self, how, words, longest=LONGEST, **more):
-        """Makes a run by `how`, and returns its result."""
-        with open(self.out, "wb") as out:
-            return how(words, self.setting.env, longest, stdout=out, **more)
-
-    def cpu(self, words):
-        """Returns the processor time of a run, in milliseconds."""
-        status, used = self.call(processes.run, words)
-        if status != 0:
-            sys.exit(f"bench: {' '.join(words)}: status {status}")
-        return used.cpu * 1000
-
-    def ms(self, sides, runs):
-        """Returns the median processor time of each side; the runs alternate, after one that is not counted."""
-        times = [[self.cpu(words) for words in sides] for _ in range(runs + 1)]
-        return [statistics.median(each) for each in zip(*times[1:])]
-
-    def instructions(self, words):
-        return self.call(processes.instructions, words, 10 * LONGEST, note=self.note)
-
-    def peak(self, words):
-        return self.call(processes.peak, words, note=self.note)[2]
+def named(bench: Bench, file: str) -> str:
+    """Writes a file, and returns its name in a table."""
+    make, most, few = FILES[file]
+    count = few if bench.quick else most
+    (bench.folder / "k").write_bytes(make(count))
+    return f"{file}, {count:,}"
 
 
-def table(name, setting):
-    """Returns a table of that name."""
-    other, groups = TABLES[name]
-    bench, rows = Bench(setting), []
-    front = bench.front(other)
-    for group in groups:
-        size = group.quick if setting.quick else group.size
-        print(f"{group.name}, {size:,}", file=sys.stderr)
-        length = bench.file.write_bytes(group.make(size))
-        assert length <= images.LIMIT, (group.name, size, length)
-        ours = [setting.krbfile, *group.words, str(bench.file), *group.after(size)]
-        theirs = [*front, *(group.others or group.words)[1:], str(bench.file)]
-        times = bench.ms((ours, theirs), 3 if setting.quick else 9)
-        count = bench.instructions(ours)
-        rows.append((None, [f"{group.name}, {size:,}", *(f"{ms:.1f}" for ms in times), ratio(*times),
-                            ratio(count, bench.instructions(theirs)), ratio(count, length, "{:.1f}"),
-                            ratio(bench.peak(ours), length, "{:.2f}")]))
-    return Table(["file", "cpu ms", f"{other} cpu ms", f"cpu / {other}'s", f"instr / {other}'s", "instr / byte",
-                  "peak / bytes"], rows)
+def sides(*fronts: list[str]) -> list[Side]:
+    """Returns the runs over that file."""
+    return [Side([*front, "k"]) for front in fronts]
 
 
-def points(setting):
-    """Returns the processor times of one listing by its entries, from which plot draws."""
-    bench, rows = Bench(setting), []
-    fronts = [*bench.front("MIT"), "-k"], [*bench.front("klist"), "-k"], bench.front("least")
-    for entries in (step * 10**power for power in range(1, 6) for step in (1, 2, 5)):
-        if entries <= (1_000 if setting.quick else 200_000):
-            print(f"{entries:,} entries", file=sys.stderr)
-            bench.file.write_bytes(images.services(entries))
-            times = bench.ms([[*front, str(bench.file)] for front in fronts], 51 if entries <= 2_000 else 11)
-            rows.append((None, [f"{entries:,}", *(f"{ms:.3f}" for ms in times)]))
-    return Table(["entries", "MIT klist -k", "krbfile klist -k", "least program"], rows)
+def beside_mit(bench: Bench) -> None:
+    """Shows our listings beside MIT's."""
+    def rows() -> Iterator[list[str]]:
+        for file, *options in (("services", "-k"), ("services", "-k", "-t", "-K", "-e"), ("holes", "-k"),
+                               ("quoted names", "-k"), ("tickets", "-c")):
+            name, runs = named(bench, file), sides([bench.krbfile, "klist", *options], [mit("klist"), *options])
+            ours, theirs = bench.medians(runs, 3 if bench.quick else 9)
+            yield [f"`{' '.join(options)}`, {name}", f"{ours:.1f}", f"{theirs:.1f}", f"{ours / theirs:.3f}"]
+    show(["listing", "cpu ms", "MIT cpu ms", "cpu / MIT's"], rows())
+
+
+def printed(bench: Bench, words: list[str]) -> tuple[int, bytes]:
+    """Returns the status of a run over the file, and what it prints but for a fault."""
+    done = subprocess.run([*words, "k"], cwd=bench.folder, stdout=subprocess.PIPE, stderr=subprocess.DEVNULL)
+    return done.returncode, re.sub(rb"fault \d at \d+\n\Z", b"", done.stdout)
+
+
+def must_agree(bench: Bench, ours: list[str], whole: list[str]) -> None:
+    """Ends the benchmark if the two list the file differently."""
+    if printed(bench, ours) != printed(bench, whole):
+        sys.exit(f"bench: whole.c and klist -k differ over {(bench.folder / 'k').read_bytes()[:1000]}")
+
+
+def beside_c(bench: Bench) -> None:
+    """Shows our listings beside those of the programs in C. One of them has to print the same, of damaged files too."""
+    ours, whole, least = [bench.krbfile, "klist", "-k"], [bench.built("whole")], [bench.built("least")]
+    for image in images.damaged():
+        (bench.folder / "k").write_bytes(image)
+        must_agree(bench, ours, whole)
+
+    def rows() -> Iterator[list[str]]:
+        for file in ("services", "holes", "quoted names"):
+            name = named(bench, file)
+            must_agree(bench, ours, whole)
+            times = bench.medians(sides(ours, whole, least), 3 if bench.quick else 51)
+            counts = [bench.instructions([*words, "k"]) for words in (ours, whole)]
+            yield [name, *(f"{ms:.1f}" for ms in times), f"{times[0] / times[1]:.2f}", f"{counts[0] / counts[1]:.2f}"]
+    show(["listing", "cpu ms", "whole cpu ms", "least cpu ms", "cpu / whole's", "instr / whole's"], rows())
+
+
+def points(bench: Bench) -> None:
+    """Shows the times of one listing by its entries, from which plot draws."""
+    runs = sides([mit("klist"), "-k"], [bench.krbfile, "klist", "-k"], [bench.built("whole")], [bench.built("least")])
+
+    def rows() -> Iterator[list[str]]:
+        for entries in (step * 10**power for power in range(1, 4 if bench.quick else 6) for step in (1, 2, 5)):
+            if entries <= FILES["services"][1]:
+                (bench.folder / "k").write_bytes(images.services(entries))
+                times = bench.medians(runs, 51 if entries <= 2_000 else 11)
+                yield [f"{entries:,}", *(f"{ms:.3f}" for ms in times)]
+    show(["entries", "MIT klist -k", "krbfile klist -k", "C, same promises", "C, no checks"], rows())
