@@ -29,7 +29,7 @@ def compare(bench: Bench, cases: Iterator[Case]) -> None:
         for name, *sides in cases:
             if left(bench, sides[0]) != left(bench, sides[1]):
                 sys.exit(f"bench: {name}: the sides leave different entries")
-            ours, theirs = bench.medians(sides, 3 if bench.quick else 15)
+            ours, theirs = bench.medians(sides, 3 if bench.quick else 9)
             yield [name, f"{ours:,.1f}", f"{theirs:,.1f}", f"{ours / theirs:.3f}"]
     show(["change", "cpu ms", "MIT cpu ms", "cpu / MIT's"], rows())
 

@@ -63,7 +63,7 @@ def beside_c(bench: Bench) -> None:
         for file in ("services", "holes", "quoted names"):
             name = named(bench, file)
             must_agree(bench, ours, whole)
-            times = bench.medians(sides(ours, whole, least), 3 if bench.quick else 51)
+            times = bench.medians(sides(ours, whole, least), 5 if bench.quick else 51)
             counts = [bench.instructions([*words, "k"]) for words in (ours, whole)]
             yield [name, *(f"{ms:.1f}" for ms in times), f"{times[0] / times[1]:.2f}", f"{counts[0] / counts[1]:.2f}"]
     show(["listing", "cpu ms", "whole cpu ms", "least cpu ms", "cpu / whole's", "instr / whole's"], rows())
@@ -77,6 +77,6 @@ def points(bench: Bench) -> None:
         for entries in (step * 10**power for power in range(1, 4 if bench.quick else 6) for step in (1, 2, 5)):
             if entries <= FILES["services"][1]:
                 (bench.folder / "k").write_bytes(images.services(entries))
-                times = bench.medians(runs, 51 if entries <= 2_000 else 11)
+                times = bench.medians(runs, 5 if bench.quick else 51)
                 yield [f"{entries:,}", *(f"{ms:.3f}" for ms in times)]
     show(["entries", "MIT klist -k", "krbfile klist -k", "C, same promises", "C, no checks"], rows())
