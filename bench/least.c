@@ -1,8 +1,7 @@
 /*
  * The least that a program can do to list a keytab of version 2: it reads the file whole, steps by the lengths, and
  * copies names as they are. It checks nothing, so it is safe on good files alone, whose entries end with their 32-bit
- * version. `klist -k FILE` has the same lines after its heading, where no byte of a name is quoted and no version
- * has more than four digits.
+ * version. `klist -k FILE` has the same lines if no byte is quoted and no version has more than four digits.
  */
 #include "bench.h"
 

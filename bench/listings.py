@@ -3,80 +3,63 @@
 import re
 import subprocess
 import sys
-from collections.abc import Iterator
+from collections.abc import Callable, Iterator
 
 import images
-from measure import Bench, Side, mit, show
+from measure import Bench, Side, mit
 
-FILES = {  # the maker of each, how many entries it has, and how many in a quick run
-    "services": (images.services, 200_000, 10_000),
-    "holes": (images.holes, 3_000_000, 100_000),
-    "quoted names": (images.quoted, 550, 33),
-    "tickets": (images.tickets, 50_000, 1_000),
+SIZES = {  # how many entries each file has, and how many in a quick run
+    images.services: (200_000, 10_000), images.holes: (3_000_000, 100_000), images.quoted: (550, 33),
+    images.tickets: (50_000, 1_000),
 }
 
 
-def named(bench: Bench, file: str) -> str:
+def named(bench: Bench, make: Callable[[int], bytes]) -> str:
     """Writes a file, and returns its name in a table."""
-    make, most, few = FILES[file]
-    count = few if bench.quick else most
+    count = SIZES[make][bench.quick]
     (bench.folder / "k").write_bytes(make(count))
-    return f"{file}, {count:,}"
+    return f"{make.__name__}, {count:,}"
 
 
-def sides(*fronts: list[str]) -> list[Side]:
-    """Returns the runs over that file."""
-    return [Side([*front, "k"]) for front in fronts]
+def times(bench: Bench, runs: int, *fronts: list[str]) -> list[float]:
+    """Returns the median times of listings of that file."""
+    return bench.medians([Side([*front, "k"]) for front in fronts], 3 if bench.quick else runs)
 
 
-def beside_mit(bench: Bench) -> None:
-    """Shows our listings beside MIT's."""
-    def rows() -> Iterator[list[str]]:
-        for file, *options in (("services", "-k"), ("services", "-k", "-t", "-K", "-e"), ("holes", "-k"),
-                               ("quoted names", "-k"), ("tickets", "-c")):
-            name, runs = named(bench, file), sides([bench.krbfile, "klist", *options], [mit("klist"), *options])
-            ours, theirs = bench.medians(runs, 3 if bench.quick else 9)
-            yield [f"`{' '.join(options)}`, {name}", f"{ours:.1f}", f"{theirs:.1f}", f"{ours / theirs:.3f}"]
-    show(["listing", "cpu ms", "MIT cpu ms", "cpu / MIT's"], rows())
+def beside_mit(bench: Bench) -> Iterator[list[str]]:
+    """Yields our listings and MIT's."""
+    for make, *options in ((images.services, "-k"), (images.services, "-k", "-t", "-K", "-e"), (images.holes, "-k"),
+                           (images.quoted, "-k"), (images.tickets, "-c")):
+        name = f"`{' '.join(options)}`, {named(bench, make)}"
+        ours, theirs = times(bench, 9, [bench.krbfile, "klist", *options], [mit("klist"), *options])
+        yield [name, f"{ours:.1f}", f"{theirs:.1f}", f"{ours / theirs:.3f}"]
 
 
-def printed(bench: Bench, words: list[str]) -> tuple[int, bytes]:
-    """Returns the status of a run over the file, and what it prints but for a fault."""
-    done = subprocess.run([*words, "k"], cwd=bench.folder, stdout=subprocess.PIPE, stderr=subprocess.DEVNULL)
-    return done.returncode, re.sub(rb"fault \d at \d+\n\Z", b"", done.stdout)
-
-
-def must_agree(bench: Bench, ours: list[str], whole: list[str]) -> None:
-    """Ends the benchmark if the two list the file differently."""
-    if printed(bench, ours) != printed(bench, whole):
+def must_agree(bench: Bench, *fronts: list[str]) -> None:
+    """Ends the benchmark if the listings or statuses of the file differ, but for the line of a fault."""
+    runs = [subprocess.run([*front, "k"], cwd=bench.folder, capture_output=True, check=False) for front in fronts]
+    if len({(run.returncode, re.sub(rb"fault \d at \d+\n\Z", b"", run.stdout)) for run in runs}) > 1:
         sys.exit(f"bench: whole.c and klist -k differ over {(bench.folder / 'k').read_bytes()[:1000]}")
 
 
-def beside_c(bench: Bench) -> None:
-    """Shows our listings beside those of the programs in C. One of them has to print the same, of damaged files too."""
+def beside_c(bench: Bench) -> Iterator[list[str]]:
+    """Yields our listings and those of the programs in C, of which one has to print the same, of damaged files too."""
     ours, whole, least = [bench.krbfile, "klist", "-k"], [bench.built("whole")], [bench.built("least")]
     for image in images.damaged():
         (bench.folder / "k").write_bytes(image)
         must_agree(bench, ours, whole)
-
-    def rows() -> Iterator[list[str]]:
-        for file in ("services", "holes", "quoted names"):
-            name = named(bench, file)
-            must_agree(bench, ours, whole)
-            times = bench.medians(sides(ours, whole, least), 5 if bench.quick else 51)
-            counts = [bench.instructions([*words, "k"]) for words in (ours, whole)]
-            yield [name, *(f"{ms:.1f}" for ms in times), f"{times[0] / times[1]:.2f}", f"{counts[0] / counts[1]:.2f}"]
-    show(["listing", "cpu ms", "whole cpu ms", "least cpu ms", "cpu / whole's", "instr / whole's"], rows())
+    for make in (images.services, images.holes, images.quoted):
+        name = named(bench, make)
+        must_agree(bench, ours, whole)
+        found = times(bench, 51, ours, whole, least)
+        counts = [bench.instructions([*words, "k"]) for words in (ours, whole)]
+        yield [name, *(f"{ms:.1f}" for ms in found), f"{found[0] / found[1]:.2f}", f"{counts[0] / counts[1]:.2f}"]
 
 
-def points(bench: Bench) -> None:
-    """Shows the times of one listing by its entries, from which plot draws."""
-    runs = sides([mit("klist"), "-k"], [bench.krbfile, "klist", "-k"], [bench.built("whole")], [bench.built("least")])
-
-    def rows() -> Iterator[list[str]]:
-        for entries in (step * 10**power for power in range(1, 4 if bench.quick else 6) for step in (1, 2, 5)):
-            if entries <= FILES["services"][1]:
-                (bench.folder / "k").write_bytes(images.services(entries))
-                times = bench.medians(runs, 5 if bench.quick else 51)
-                yield [f"{entries:,}", *(f"{ms:.3f}" for ms in times)]
-    show(["entries", "MIT klist -k", "krbfile klist -k", "C, same promises", "C, no checks"], rows())
+def points(bench: Bench) -> Iterator[list[str]]:
+    """Yields the times of one listing by its entries, from which plot draws."""
+    fronts = [mit("klist"), "-k"], [bench.krbfile, "klist", "-k"], [bench.built("whole")], [bench.built("least")]
+    for entries in (step * 10**power for power in range(1, 6) for step in (1, 2, 5)):
+        if entries <= SIZES[images.services][bench.quick]:
+            (bench.folder / "k").write_bytes(images.services(entries))
+            yield [f"{entries:,}", *(f"{ms:.3f}" for ms in times(bench, 51, *fronts))]

@@ -7,8 +7,7 @@ import shutil
 import subprocess
 import sys
 import time
-from collections.abc import Iterable
-from itertools import chain
+from collections.abc import Sequence
 from pathlib import Path
 from resource import RUSAGE_CHILDREN, getrusage
 from statistics import median
@@ -36,10 +35,9 @@ class Bench:
 
     def built(self, name: str, *more: object) -> str:
         """Builds NAME.c, with further words for the compiler, and returns the program."""
-        program = self.folder / name
-        compiler = os.environ.get("CC", "cc")
-        subprocess.run([compiler, "-O2", "-Wall", f"-I{ROOT / 'c'}", "-o", program, HERE / f"{name}.c", *more], check=True)
-        return str(program)
+        words = [os.environ.get("CC", "cc"), "-O2", "-Wall", f"-I{ROOT / 'c'}", HERE / f"{name}.c", *more]
+        subprocess.run([*words, "-o", self.folder / name], check=True)
+        return str(self.folder / name)
 
     def run(self, side: Side) -> None:
         """Makes a run, which has to succeed. The file `out` is what it prints."""
@@ -58,7 +56,7 @@ class Bench:
         after = getrusage(RUSAGE_CHILDREN)
         return (after.ru_utime + after.ru_stime - before.ru_utime - before.ru_stime) * 1000
 
-    def medians(self, sides: list[Side], runs: int) -> list[float]:
+    def medians(self, sides: Sequence[Side], runs: int) -> list[float]:
         """Returns the median time of each side. They run in turn, once before it counts."""
         times = [[self.milliseconds(side) for side in sides] for _ in range(runs + 1)]
         return [median(each) for each in zip(*times[1:])]
@@ -88,9 +86,3 @@ def machine() -> str:
     load = " ".join(f"{value:.1f}" for value in os.getloadavg())
     return (f"{time.strftime('%Y-%m-%d')}, {processor}, {os.cpu_count()} processors, Linux {platform.release()}, "
             f"{version()}; load {load} over 1, 5 and 15 minutes")
-
-
-def show(heading: list[str], rows: Iterable[list[str]]) -> None:
-    """Prints a table in Markdown, each row as it comes."""
-    for cells in chain([heading, ["---", *["---:"] * (len(heading) - 1)]], rows):
-        print("|", " | ".join(cells), "|", flush=True)

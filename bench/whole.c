@@ -9,7 +9,7 @@
 #include <string.h>
 #include <unistd.h>
 
-enum { LIMIT = 16777216, WRITE = 32768, ROOM = 180000 };
+enum { LIMIT = 16777216, WRITE = 32768, ROOM = WRITE + 2 * 65535 + 64 };
 
 typedef struct { const uint8_t *at; size_t len; } bytes;
 
