@@ -45,8 +45,7 @@ def no_room(name: str, room: int, wanted: Outcome | list[str], *script: str,
     return edit(name, cache(ticket, PA_TYPE), [SET_3, *script], wanted, cache(ticket, *after) if after else None)
 
 
-# The usual cache without its ticket, and rewritten.
-GONE = cache(TICKET.removed(), PA_TYPE, TICKET.removed(), fields=FIELDS)
+# The usual cache rewritten.
 ANEW = cache(TICKET, PA_TYPE, fields=OFFSET)
 
 # How a reply escapes a name.
@@ -58,77 +57,52 @@ OTHERS = cache(config(b"k", b"1", b"a@R"), config(b"l", b"1"), config(b"k", b"1"
                config_ticket(b"k", realm=b"R"))
 TYPED = Name((b"u",), b"R", 7)
 ODD = config_ticket(b"k", name_type=9, client=TYPED)
-LISTS = replace(TICKET, starttime=1, renew_till=2, addresses=((2, b"\x7f\0\0\1"),))
 
 CASES = [
-    # Walks over an unchanged cache.
     edit("a walk to the end and on", USUAL, ["start", *["step 0"] * 4],
          ["walk 0 at 40", GAVE_TICKET, GAVE_CONFIG, "walk 0 end 392", "walk 0 end 392"]),
-    edit("no credential", cache(), ["start", "step 0"], ["walk 0 at 22", "walk 0 end 22"]),
     each_number(edit, "a whole cache", USUAL, (40, 148, 284, 392)),
-    each_number(edit, "a damaged cache", USUAL[:391], (40, 148, 284)),
-    each_number(edit, "version 3", VERSION_3, (20, 130)),
     edit("a walk up to a fault", USUAL + b"\0", ["start", *["step 0"] * 4],
          refused("walk 0 at 40", GAVE_TICKET, GAVE_CONFIG, *["walk 0 fault 4 at 392"] * 2)),
     # How a reply reports what a walk is given.
     given("an enctype without a name", replace(TICKET, enctype=65_535), b"etype 65535 krbtgt/R@R"),
-    given("a server's name with quotes", replace(TICKET, server=Name((b"a/b", b"\n\0@"), b"\\R")),
-          b"etype 17 a\\/b/\\n\\0\\@@\\\\R"),
-    given("a server without components", replace(TICKET, server=Name(())), b"etype 17 @R"),
-    given("bytes that are no text", replace(TICKET, server=Name((b"\xff",))), b"etype 17 \xff@R"),
-    given("a ticket of another client", replace(TICKET, client=KRBTGT), b"etype 17 krbtgt/R@R"),
-    given("a value without a principal", config(b"k", b"v"), b"config k"),
-    given("a value of no bytes of a principal", config(b"k", b"v", b""), b"config k()"),
-    given("a value without a key", config(b"", b"v"), b"config "),
+    given("a value without a key, of no bytes of a principal", config(b"", b"v", b""), b"config ()"),
     given("escapes", config(ODD_KEY, b"v", ODD_KEY), b"config " + ESCAPED + b"(" + ESCAPED + b")"),
-    given("another client's value", config(b"k", b"v", client=KRBTGT), b"config k"),
-    given("a value with times and a key", config_ticket(b"k"), b"config k"),
-    # Removals: the two times become those of a mark, and no other byte changes.
-    edit("behind a walk", USUAL, ["start", "step 0", "step 0", "cut 40", "step 0"],
-         ["walk 0 at 40", GAVE_TICKET, GAVE_CONFIG, "gone 40", "walk 0 end 392"], GONE),
-    edit("before a walk", USUAL, ["start", "cut 40", "step 0"], ["walk 0 at 40", "gone 40", GAVE_CONFIG], GONE),
+    given("another client's value, with times and a key", config_ticket(b"k", client=KRBTGT), b"config k"),
+    # Removals: the two times become those of a mark.
+    edit("a removed one is passed over", USUAL, ["start", "cut 40", "step 0"], ["walk 0 at 40", "gone 40", GAVE_CONFIG],
+         cache(TICKET.removed(), PA_TYPE, TICKET.removed(), fields=FIELDS)),
     edit("a configuration entry", USUAL, ["cut 148"], ["gone 148"],
          cache(TICKET, PA_TYPE.removed(), TICKET.removed(), fields=FIELDS)),
-    edit("of more fields", cache(LISTS), ["cut 22"], ["gone 22"], cache(LISTS.removed())),
-    edit("nothing stands there", USUAL, ["cut 3", "cut 284", "cut 392", "cut 4294967295"], refused(*["refused 5"] * 4)),
     # Values that are set: the new one is added, and then each old one is removed.
-    edit("a value in place of one", USUAL, [SET_3], SET_AT, SET),
     edit("in place of two, in the order of the file", cache(K_1, TICKET, K_2), ["config k - 3"],
          ["placed 362", "gone 22", "gone 246"], cache(K_1.removed(), TICKET, K_2.removed(), K_3)),
-    edit("the first of its name", USUAL, ["config pa_type - 3"], ["placed 392"],
-         USUAL + config(b"pa_type", b"3").spelled()),
     edit("beside others", OTHERS, ["config k - 3"], [f"placed {len(OTHERS)}"], OTHERS + K_3.spelled()),
     edit("of a default principal of another type", cache(ODD, default=TYPED), ["config k - 3"],
          [f"placed {22 + len(ODD.spelled())}", "gone 22"],
          cache(ODD.removed(), config(b"k", b"3", client=TYPED), default=TYPED)),
     edit("the same value again", SET, [SET_3], ["placed 528", "gone 392"],
          cache(TICKET, PA_TYPE.removed(), TICKET.removed(), THREE.removed(), THREE, fields=FIELDS)),
-    edit("two settings of one name", cache(), ["config k - 1", "config k - 2"], ["placed 22", "placed 138", "gone 22"],
-         cache(K_1.removed(), K_2)),
-    # Walks over a cache in which values are set: a new value is ahead of each of them.
+    # A new value is ahead of each walk.
     edit("a walk that has passed the old value", USUAL, ["start", *["step 0"] * 3, SET_3, "step 0", "step 0"],
          ["walk 0 at 40", GAVE_TICKET, GAVE_CONFIG, "walk 0 end 392", *SET_AT, GAVE_3, "walk 0 end 528"], SET),
     edit("a walk that stands at the old value", USUAL, ["resume 148", SET_3, "step 0"],
          ["walk 0 at 148", *SET_AT, GAVE_3], SET),
     # Rewrites all live credentials in version 4, and carries the walks along.
     edit("walks are carried", USUAL,
-         ["start", "resume 148", "resume 284", "resume 392", "rewrite", "step 0", "step 1", "step 2", "step 3"],
-         ["walk 0 at 40", "walk 1 at 148", "walk 2 at 284", "walk 3 at 392", "rewritten 278",
-          "walk 0 gave 34 next 142 etype 17 krbtgt/R@R", "walk 1 gave 142 next 278 config pa_type(krbtgt/R@R)",
-          "walk 2 end 278", "walk 3 end 278"], ANEW),
+         ["start", "resume 148", "resume 284", "resume 392", "rewrite", "step 0", "step 1", "step 2", "step 3",
+          "resume 40", "resume 34"],
+         refused("walk 0 at 40", "walk 1 at 148", "walk 2 at 284", "walk 3 at 392", "rewritten 278",
+                 "walk 0 gave 34 next 142 etype 17 krbtgt/R@R", "walk 1 gave 142 next 278 config pa_type(krbtgt/R@R)",
+                 "walk 2 end 278", "walk 3 end 278", "refused 4", "walk 4 at 34"), ANEW),
     edit("version 3 becomes 4", VERSION_3, ["start", "step 0", "start", "rewrite", "step 0", "step 1", "cut 22"],
          ["walk 0 at 20", "walk 0 gave 20 next 130 etype 17 krbtgt/R@R", "walk 1 at 20", "rewritten 130",
           "walk 0 end 130", "walk 1 gave 22 next 130 etype 17 krbtgt/R@R", "gone 22"], cache(TICKET.removed())),
     edit("the first offset alone is kept", cache(TICKET, fields=offset(7, 8) + OFFSET), ["rewrite"], ["rewritten 142"],
          cache(TICKET, fields=offset(7, 8))),
-    edit("after it a place is no place", USUAL, ["rewrite", "resume 40", "resume 34"],
-         refused("rewritten 278", "refused 4", "walk 0 at 34"), ANEW),
-    edit("nothing but removed ones", cache(TICKET.removed(), fields=FIELDS), ["resume 148", "rewrite", "step 0"],
-         ["walk 0 at 148", "rewritten 34", "walk 0 end 34"], cache(fields=OFFSET)),
     lambda: edit("too long in version 4", cache(default=Name((b"x" * (LIMIT - 19),)), version=3),
                  ["start", "rewrite", "resume 22"], refused(f"walk 0 at {LIMIT}", "refused 3", "refused 4")),
     # Caches that are not changed: the version is checked before the damage.
-    edit("version 3 is not changed", VERSION_3, ["cut 20", "cut 3", "config k - v"], refused(*["refused 8"] * 3)),
     edit("version 3, damaged", VERSION_3[:129], ["cut 20", "cut 3", "config k - v", "rewrite", "resume 20", "step 0"],
          refused(*["refused 8"] * 3, "refused 1", "walk 0 at 20", "walk 0 fault 4 at 20")),
     edit("damaged", USUAL[:391], ["cut 40", "cut 3", "config k - v", SET_3, "rewrite"], refused(*["refused 1"] * 5)),

@@ -2,11 +2,10 @@
 
 from dataclasses import replace
 
-from caches.cache_listings import TICKET_LINE
+from caches.cache_listings import TICKET_LINE, listed
 from keytabs.file_names import LIMIT, ODD, check_odd_files
 from makers.cache_images import Credential, Name, U, cache, config
 from makers.usual_caches import TICKET
-from models.cache_reading import listed
 from runs.harness import Case, Outcome, Report, message
 from runs.rows import check_rows, over
 

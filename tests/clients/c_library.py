@@ -14,12 +14,12 @@ from makers.cache_images import cache
 from makers.images import HOST, TWO, keytab
 from makers.samples import SAMPLES
 from makers.usual_caches import PA_TYPE, TICKET, USUAL
-from models.cases import frame
 from pages.documents import literals
 from pages.readme import surroundings
 from peers import corpus
 from runs.harness import SECONDS, TOP, Outcome, Report, differences, files_in, folder_of, message, run
 from runs.system_calls import check_traced
+from runs.undisturbed import frame
 from system.saving import owned, tree_faults
 
 LIBRARY = os.path.join(TOP, "lib", "libkrbfile.a")

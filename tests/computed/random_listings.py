@@ -75,7 +75,7 @@ def random_place(random: Random) -> bytes | None:
     return damaged(random, image, image) if random.random() < 0.1 else image
 
 
-def check(random: Random) -> Iterator[Undisturbed]:
+def checked(random: Random) -> Iterator[Undisturbed]:
     """Yields a check of up to six files, with its findings explained or not."""
     files = {name: random_place(random) for name in "kjid"}
     words = random.choices([*"kjid", "FILE:k", "WRFILE:j", "KCM:k"], k=random.choice((1, 1, 2, 3, 6)))
@@ -112,6 +112,6 @@ TOPICS = (
           ("status 0", "fault 4", *(f"not a cache ({why})" for why in (1, 2, 5)), "config", "a record", "renew", "Flags",
            "Etype", "client_hex", "value_hex", 'etype_name":null'), usual=60, more=kinds_of_json),
     Topic("random look-ups", look_up, ("found", "refused 1", "refused 9", "refused 10"), usual=80),
-    Topic("random checks", check, (*FINDINGS, "fault 2", "entries", "no such file", "not a keytab"), usual=80),
+    Topic("random checks", checked, (*FINDINGS, "fault 2", "entries", "no such file", "not a keytab"), usual=80),
     Topic("random questions for tickets", question, ("status 1", "status 0", "--for status 0"), usual=40),
 )

@@ -29,9 +29,6 @@ READING = ("ktedit", "ccedit", "ktutil")
 # The options by which a command asks for the time, and the lines of ktutil that do.
 TIMED, ADDING = {"silent", "age", "expired"}, (b"add_entry", b"addent")
 
-# The mode of the files that runs are over.
-MODE = 0o100644
-
 
 class NotComputed(Exception):
     """A run is none that the definitions compute."""
@@ -68,7 +65,8 @@ class Words:
         self.flags = [name for name, _ in those if name not in takes]
         operand = OPERANDS.get(self.command, ("FILE",))
         named = operands[:1] if self.command == "ktfind" else operands
-        if bool(operands) != bool(operand) or any("/" in it for it in named):
+        # The definitions have a file for each name, and do not know paths.
+        if bool(operands) != bool(operand) or any("/" in it for it in named) or b" ./" in case.stdin:
             raise NotComputed
         self.values = [each for each in those if each[0] in takes]
         self.values += [(operand[min(nth, len(operand) - 1)], it) for nth, it in enumerate(operands)]
@@ -91,7 +89,7 @@ def term_of(case: Case) -> str:
         raise NotComputed
     command = "klist_silent" if "silent" in words.flags else words.command
     files = pairs([(name, bytes_of_digits(image)) for name, image in case.files.items()])
-    parts = {"explains": str(words.explains).lower(), "mode": str(MODE), "clock": str(case.clock or 0)}
+    parts = {"explains": str(words.explains).lower(), "mode": str(case.mode), "clock": str(case.clock or 0)}
     given = [command, *(parts[it] for it in GIVEN[command]), f"(given ({files}))"]
     given += [f"({bytes_of_digits(case.stdin)})"] * (command in READING)
     return " ".join([*given, words.term()])

@@ -56,7 +56,6 @@ class Topic:
     def check_long(self, program: str, seed: int, count: int) -> Report:
         """Makes many from a seed on, and compares them with the definitions."""
         report = Report()
-        undisturbed.use(program)
         self.make(report, range(seed, seed + max(1, count // self.share)))
         compare(report, undisturbed.SEEN, not compiler.is_proved("samples"),
                 compiler.at_once(len(os.sched_getaffinity(0))))

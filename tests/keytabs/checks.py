@@ -4,35 +4,25 @@ import os
 import stat
 
 from keytabs.finds import AES256, FIVE
-from keytabs.removals import B3, FOUR, versioned
-from makers.images import B, BIG, END, HOST, LITTLE, TWO, Entry, hole, keytab, old, record
-from models.check_model import checked
-from runs.harness import Case, Outcome, Report, folder_of, run
+from keytabs.removals import B3
+from makers.images import B, BIG, END, HOST, TWO, Entry, hole, keytab, old, record
+from runs.harness import Case, Report, folder_of, run
 from runs.rows import check_rows, over, printed
 
 # The smallest length that MIT's reader takes for the end.
 LONG = 32_768
 
-# Entries at which MIT's programs stop, and some that they list.
+# Entries at which MIT's programs stop, and some that they list: another topic shows each beside these programs.
 ODD = {
-    "no components": Entry(()),
-    "no components and an empty realm": Entry((), b""),
-    "an empty component": Entry((b"",)),
-    "an empty first component": Entry((b"", b"x")),
-    "an empty middle component": Entry((b"a", b"", b"b")),
-    "an empty last component": Entry((b"host", b"")),
-    "an empty realm": Entry((b"a",), b""),
-    "no key": Entry(key=b""),
-    "a long key": Entry(key=bytes(LONG)),
-    "the longest key": Entry(key=bytes(65_535)),
-    "a long component": Entry((b"x" * LONG,)),
-    "a long second component": Entry((b"a", b"x" * 65_535)),
-    "a long realm": Entry((b"a",), b"R" * LONG),
-    "many components": Entry((b"p",) * LONG),
+    "no components": Entry(()), "no components and an empty realm": Entry((), b""), "an empty component": Entry((b"",)),
+    "an empty first component": Entry((b"", b"x")), "an empty middle component": Entry((b"a", b"", b"b")),
+    "an empty last component": Entry((b"host", b"")), "an empty realm": Entry((b"a",), b""), "no key": Entry(key=b""),
+    "a long key": Entry(key=bytes(LONG)), "the longest key": Entry(key=bytes(65_535)),
+    "a long component": Entry((b"x" * LONG,)), "a long second component": Entry((b"a", b"x" * 65_535)),
+    "a long realm": Entry((b"a",), b"R" * LONG), "many components": Entry((b"p",) * LONG),
 }
 EVEN = {
-    "a key of a byte": Entry(key=b"x"),
-    "a key almost too long": Entry(key=bytes(LONG - 1)),
+    "a key of a byte": Entry(key=b"x"), "a key almost too long": Entry(key=bytes(LONG - 1)),
     "a component almost too long": Entry((b"x" * (LONG - 1),)),
     "a realm almost too long": Entry((b"a",), b"R" * (LONG - 1)),
     "almost too many components": Entry((b"p",) * (LONG - 1)),
@@ -45,23 +35,6 @@ def check_up(name: str, image: bytes, *lines: str, status: int = 0, options: str
     return over(name, f"ktcheck {options} k", image, printed(*lines, status=status))
 
 
-def hidden() -> list[Case]:
-    """Returns a check of each entry at which MIT's programs stop, between two that they list."""
-    first, last = Entry((b"first",)), Entry((b"last",), key=b"")
-    cases = []
-    for version, order in ((2, BIG), (1, LITTLE)):
-        place = 2 + 4 + len(first.spelled(version, order))
-        for name, entry in {**ODD, **EVEN}.items():
-            image = keytab(first, entry, last, version=version, order=order)
-            got = checked(image)
-            where = place if name in ODD else place + 4 + len(entry.spelled(version, order))
-            reported = [line for line in got.out.split(b"\n") if line.startswith(b"hidden ")]
-            # The last one has no key, and is reported if none before it is.
-            assert [line.split()[1] for line in reported] == [b"%d" % where], (name, reported)
-            cases.append(over(f"hidden, {name}, version {version}", "ktcheck k", image, got))
-    return cases
-
-
 # Each record of a@R has 45 bytes. The newest version of a name comes last; all before are old.
 WEAK = (1, 2, 3, 4, 6, 8, 16, 23, 24)
 ENCTYPES = (1, 2, 3, 4, 5, 6, 7, 8, 9, 16, 17, 18, 23, 24, 25)
@@ -70,27 +43,16 @@ OF_WEAK = [f"{word} {2 + 45 * at} kvno {each} etype {each} a@R" for at, each in 
 
 # They run with new files readable by their owner only.
 ROWS = [
-    # Each word, and entries without findings.
     check_up("nothing", TWO, "entries 2 free 0 holes 0"),
-    check_up("no entry", keytab(), "entries 0 free 0 holes 0"),
-    check_up("old", FOUR, "old 2 kvno 3 etype 17 host/a@R", "entries 4 free 0 holes 0"),
-    check_up("versions that have wrapped", keytab(versioned(255, 1), versioned(1, 2)), "old 2 kvno 255 etype 17 a@R",
-             "entries 2 free 0 holes 0"),
     check_up("weak", keytab(*(Entry((b"a",), enctype=each, version8=each, version32=each) for each in ENCTYPES)),
              *OF_WEAK, "entries 15 free 0 holes 0", status=1),
-    check_up("the same key three times", keytab(HOST, B, HOST, HOST), "same 98 2 kvno 3 etype 17 host/a@R",
-             "same 149 2 kvno 3 etype 17 host/a@R", "entries 4 free 0 holes 0", status=1),
-    check_up("another key", keytab(HOST, Entry(key=bytes(16)), HOST), "clash 53 2 kvno 3 etype 17 host/a@R",
-             "same 104 2 kvno 3 etype 17 host/a@R", "entries 3 free 0 holes 0", status=1),
     check_up("another name type is no other name", keytab(HOST, Entry(name_type=7)),
              "same 53 2 kvno 3 etype 17 host/a@R", "entries 2 free 0 holes 0", status=1),
     check_up("other versions and enctypes are others", keytab(AES256, FIVE, B3), "entries 3 free 0 holes 0"),
-    check_up("all words of one entry",
-             keytab(Entry((b"",), enctype=23), Entry((b"",), enctype=23), Entry((b"",), version8=4, version32=4)),
-             "weak 2 kvno 3 etype 23 @R", "hidden 2 kvno 3 etype 23 @R", "old 2 kvno 3 etype 23 @R",
-             "weak 46 kvno 3 etype 23 @R", "same 46 2 kvno 3 etype 23 @R", "old 46 kvno 3 etype 23 @R",
-             "entries 3 free 0 holes 0", status=1),
-    # Holes, ends, damage, and version 1 in both orders.
+    *(check_up(f"hidden, {name}", keytab(B3, ODD[name], Entry((b"c",))), f"hidden 47 kvno 3 etype 17 {text}",
+               "entries 3 free 0 holes 0", status=1)
+      for name, text in {"an empty realm": "a@", "no key": "host/a@R", "a long component": "x" * LONG + "@R"}.items()),
+    *(check_up(f"not hidden, {name}", keytab(B3, each), "entries 2 free 0 holes 0") for name, each in EVEN.items()),
     check_up("holes", keytab(3, B, hole(b"xyz12"), END, b"more"), "entries 1 free 8 holes 2"),
     check_up("a damaged keytab", keytab(HOST, 9, record(bytes(10)), B), "fault 3 at 66", "entries 1 free 9 holes 1",
              status=1),
@@ -98,32 +60,32 @@ ROWS = [
 ]
 
 
+# Modes, and the status; None where the mode has no line, since no other than the owner may read or write the file.
+MODES = {0o600: None, 0o400: None, 0o611: None, 0o7711: None, 0o640: 0, 0o660: 0, 0o620: 0, 0o604: 1, 0o602: 1,
+         0o644: 1, 0o666: 1, 0o4640: 0, 0o1644: 1, 0o060: 0, 0o006: 1}
+
+
 def check_modes(report: Report, program: str) -> None:
-    """Checks that the mode of a plain file, also through a link, is reported if others may read or write it."""
-    rows = [(0o600, None, 0), (0o400, None, 0), (0o611, None, 0), (0o7711, None, 0),
-            (0o640, "640", 0), (0o660, "660", 0), (0o620, "620", 0), (0o604, "604", 1),
-            (0o602, "602", 1), (0o644, "644", 1), (0o666, "666", 1), (0o4640, "4640", 0),
-            (0o1644, "1644", 1), (0o060, "60", 0), (0o006, "6", 1)]
+    """Checks the mode of a plain file, also through a link."""
     with folder_of({"k": TWO}) as folder:
-        os.symlink("k", os.path.join(folder, "link"))
         path = os.path.join(folder, "k")
-        for mode, reported, status in rows:
+        os.symlink("k", os.path.join(folder, "link"))
+        for mode, status in MODES.items():
             os.chmod(path, mode)
             if stat.S_IMODE(os.stat(path).st_mode) != mode:
                 report.skip(f"mode {mode:o}", "the file does not take it")
-                continue
-            out = (f"mode {reported}\n" if reported else "") + "entries 2 free 0 holes 0\n"
-            for name in ("k", "link"):
-                got = run(program, ("ktcheck", name), folder)
-                if mode & 0o400 or os.geteuid() == 0:
-                    report.compare(f"mode {mode:o} of {name}", Outcome(status, out.encode()), got)
+            elif mode & 0o400 or os.geteuid() == 0:
+                lines = [*[f"mode {mode:o}"] * (status is not None), "entries 2 free 0 holes 0"]
+                for name in ("k", "link"):
+                    got = run(program, ("ktcheck", name), folder)
+                    report.compare(f"mode {mode:o} of {name}", printed(*lines, status=status or 0), got)
 
 
 def check(report: Report, program: str) -> None:
     """Runs this topic."""
     before = os.umask(0o077)
     try:
-        check_rows(report, program, [*ROWS, *hidden()])
+        check_rows(report, program, ROWS)
     finally:
         os.umask(before)
     check_modes(report, program)

@@ -1,10 +1,7 @@
 """Listings with times, enctypes and keys. The expected results are written by hand."""
 
-from collections.abc import Iterable
-
 from keytabs.listings import case, listed
 from makers.images import B, BIG, HOST, Entry, keytab, old
-from runs.harness import Case
 
 # The enctypes that have names: the lengths of their keys, and the names, of which the first is printed.
 ETYPES = {
@@ -29,17 +26,10 @@ B_KEY = b" (0x101112131415161718191a1b1c1d1e1f)"
 
 # Times and their texts, among them the edges of a year, and of February in 2000 and 2100.
 KNOWN_TIMES = {
-    0: b"1970-01-01T00:00:00Z",
-    951_782_399: b"2000-02-28T23:59:59Z",
-    951_782_400: b"2000-02-29T00:00:00Z",
-    951_868_800: b"2000-03-01T00:00:00Z",
-    1_700_000_000: b"2023-11-14T22:13:20Z",
-    1_704_067_199: b"2023-12-31T23:59:59Z",
-    1_704_067_200: b"2024-01-01T00:00:00Z",
-    2**31 - 1: b"2038-01-19T03:14:07Z",
-    2**31: b"2038-01-19T03:14:08Z",
-    4_107_542_399: b"2100-02-28T23:59:59Z",
-    4_107_542_400: b"2100-03-01T00:00:00Z",
+    0: b"1970-01-01T00:00:00Z", 951_782_399: b"2000-02-28T23:59:59Z", 951_782_400: b"2000-02-29T00:00:00Z",
+    951_868_800: b"2000-03-01T00:00:00Z", 1_700_000_000: b"2023-11-14T22:13:20Z",
+    1_704_067_199: b"2023-12-31T23:59:59Z", 1_704_067_200: b"2024-01-01T00:00:00Z", 2**31 - 1: b"2038-01-19T03:14:07Z",
+    2**31: b"2038-01-19T03:14:08Z", 4_107_542_399: b"2100-02-28T23:59:59Z", 4_107_542_400: b"2100-03-01T00:00:00Z",
     2**32 - 1: b"2106-02-07T06:28:15Z",
 }
 
@@ -53,20 +43,9 @@ def sample(letters: str) -> bytes:
     return listed(*(b"   3 " + time + name + etype + key for name, key in names), letters=letters)
 
 
-def of_enctypes(name: str, numbers: Iterable[int]) -> Case:
-    """Returns a listing of entries of those enctypes."""
-    lines = (b"   3 a@R (%s)" % NAMES.get(number, b"etype %d" % number) for number in numbers)
-    return case(name, keytab(*(Entry((b"a",), enctype=number, key=b"") for number in numbers)), *lines, letters="e")
-
-
-SETS = ["", "t", "e", "K", "te", "tK", "eK", "teK"]
-HOST_ALL = b"   3 " + TIME + b"host/a@R" + ETYPE + HOST_KEY
-B_ALL = b"   3 " + TIME + b"b@R" + ETYPE + B_KEY
 KEYS = [(bytes(range(256)) * 256)[:length] for length in (*range(70), 255, 256, 4_095, 4_096, 32_767, 32_768, 65_535)]
 
 CASES = [
-    # No entry at all, with each set of columns; lines of words list TWO with each.
-    *(case(f"no entry with {letters!r}", keytab(), letters=letters) for letters in SETS),
     # Whole lines with all columns.
     case("a wide version and a quoted name",
          keytab(Entry((b"a/b@c\\\n\0",), b"x y", version8=16, version32=10_000, enctype=23, key=b"\xff")),
@@ -74,11 +53,11 @@ CASES = [
     case("the greatest numbers",
          keytab(Entry((b"a",), timestamp=2**32 - 1, version32=2**32 - 1, enctype=65_535, key=b"\0a")),
          b"4294967295 2106-02-07T06:28:15Z a@R (etype 65535) (0x0061)", letters="teK"),
-    case("version 1, little-endian", old(HOST, B), HOST_ALL, B_ALL, letters="teK"),
-    case("version 1, big-endian", old(HOST, B, order=BIG), HOST_ALL, B_ALL, letters="teK", options="--v1-big"),
-    # Each enctype that has a name, some other numbers, and all of them.
-    of_enctypes("enctypes", [*NAMES, 0, 1, 15, 21, 22, 24, 27, 65_535]),
-    lambda: of_enctypes("all enctypes", range(65_536)),
+    case("version 1, big-endian", old(HOST, B, order=BIG), b"   3 " + TIME + b"host/a@R" + ETYPE + HOST_KEY,
+         b"   3 " + TIME + b"b@R" + ETYPE + B_KEY, letters="teK", options="--v1-big"),
+    # All enctypes, with the names of those that have one.
+    lambda: case("enctypes", keytab(*(Entry((b"a",), enctype=each, key=b"") for each in range(65_536))),
+                 *(b"   3 a@R (%s)" % NAMES.get(each, b"etype %d" % each) for each in range(65_536)), letters="e"),
     # Keys of several lengths, some of which have each byte.
     case("keys", keytab(*(Entry((b"a",), key=key) for key in KEYS)),
          *(b"   3 a@R (0x%s)" % key.hex().encode() for key in KEYS), letters="K"),

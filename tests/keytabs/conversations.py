@@ -9,7 +9,6 @@ import time
 
 from keytabs.ktutil_lines import ADDENT, KEY, NO_SLOTS, TIMES, TWO_LISTED
 from makers.images import TWO
-from models.reading import time_text
 from runs.harness import SECONDS, Outcome, Report, differences, folder_of, message, short
 from runs.rows import text
 
@@ -95,7 +94,7 @@ def talk_to_end(talk: Talk, last: bytes, wanted: Outcome) -> None:
 
 def listed_at(now: int) -> bytes:
     """Returns the listing of an entry that has that time."""
-    return text(TIMES) + b"   1    3 " + time_text(now) + b" host/a@R\n"
+    return text([*TIMES, time.strftime("   1    3 %Y-%m-%dT%H:%M:%SZ host/a@R", time.gmtime(now))])
 
 
 def check_start(report: Report, program: str) -> None:

@@ -8,8 +8,8 @@ from dataclasses import replace
 from keytabs import greatest
 from keytabs.file_names import LIMIT
 from keytabs.finds import AES256, FIVE, NOT_FOUND
-from keytabs.removals import B3, FOUR, versioned
-from makers.images import B, BIG, END, HOST, TWO, Entry, hole, keytab, old, record
+from keytabs.removals import B3, FOUR
+from makers.images import B, BIG, HOST, TWO, Entry, keytab, old, record
 from runs.harness import Case, Outcome, Report, message
 from runs.rows import check_rows, printed, words_of
 
@@ -20,7 +20,7 @@ Y = "kvno 3 etype 17 b@R"
 OTHER = replace(B, key=bytes(16))
 THIRD = replace(B, key=b"\xff" * 16)
 
-FROM_DAMAGED, TO_DAMAGED = (message(1, f"{name}: refused 1") for name in "kt")
+FROM_DAMAGED = message(1, "k: refused 1")
 
 # A name that version 1 cannot hold: its count of components would have 17 bits.
 LONG = Entry((b"",) * 65_535)
@@ -48,137 +48,74 @@ def select(options: str, source: bytes, *those: Entry) -> Case:
     return copy("selected", options, source, None, lines, image)
 
 
-ROTATED = [versioned(254, 1), versioned(255, 2), versioned(0, 3)]
-# Two names that print alike: no components, and an empty one.
-BARE = [Entry((), version8=1, version32=1), Entry((b"",), version8=2, version32=2)]
+# A keytab of version 1, its entries in version 2, and odd numbers.
+V1_BIG = old(HOST, B, order=BIG)
+ODD = replace(B, name_type=7, timestamp=2**32 - 1, version8=255, enctype=65_535, key=b"k", version32=2**32 - 1)
+UNTYPED = keytab(*(replace(entry, name_type=0) for entry in (HOST, B)))
 
-SELECTED = [
+# Files that are no sound keytabs, and the message about each.
+UNSOUND = {b"\x05": "not a keytab (1)", b"xy": "not a keytab (2)", TWO[:-1]: "refused 1"}
+
+CASES = [
+    # What is selected.
     select("", FOUR, HOST, AES256, FIVE, B3),
-    select("-p b@R", FOUR, B3),
-    select(r"-p \host/a@R -e 18", FOUR, AES256),
-    select("-e aes256-cts-hmac-sha1-96", FOUR, AES256),
+    select(r"-p \host/a@R -e aes256-cts-hmac-sha1-96", FOUR, AES256),
     select("-e 17 -e 17 -p host/a@R -p host/a@R", FOUR, HOST, FIVE),
     select("-k 3", FOUR, HOST, B3),
     select("-k new", FOUR, AES256, FIVE, B3),
-    select("-k new -p host/a@R -e 17", FOUR, FIVE),
     select("-knew -phost/a@R -e18", FOUR, AES256),
-    select("-k new", keytab(*ROTATED), ROTATED[2]),
-    select("-p @R", keytab(*BARE, B3), *BARE),
-    # The newest version is that of all enctypes.
+    # The newest version is that of all enctypes, in the keytab that is copied from alone.
     copy("newer of another enctype", "-k new -e 17", keytab(HOST, AES256), None, NOT_FOUND),
-    # It is that of the keytab that is copied from alone.
     copy("newer where it is copied to", "-k new", keytab(HOST), keytab(FIVE), [f"copied 53 {X}"], keytab(FIVE, HOST)),
     *(copy("nothing selected", options, FOUR, None, NOT_FOUND) for options in (
-        "-p c@R", "-n -p c@R", "-k 4", "-k 0", "-e 0", "-e 23", "-p b@R -k 5", "-p b@R -e 18", "-k new -p c@R")),
-    *(copy("nothing there", options, keytab(), None, NOT_FOUND) for options in ("-k new", "-p b@R", "-e 17", "-k 3")),
+        "-n -p c@R", "-k 0", "-e 0", "-p b@R -k 5", "-k new -p c@R")),
+    copy("nothing there", "-k new", keytab(), None, NOT_FOUND),
     copy("nothing there, all selected", "", keytab(), None, []),
-]
-
-MET = [
     # A copy, and the same again.
     copy("all", "", TWO, None, [f"copied 2 {X}", f"copied 53 {Y}"], TWO),
-    copy("all again", "", TWO, TWO, []),
     copy("one that is missing", "", TWO, keytab(HOST), [f"copied 53 {Y}"], TWO),
     copy("all into no bytes", "", TWO, b"", [f"copied 2 {X}", f"copied 53 {Y}"], TWO),
-    copy("nothing into no bytes", "", keytab(), b"", []),
-    copy("the same entry twice", "", keytab(B, B), None, [f"copied 2 {Y}"], keytab(B)),
     copy("a dry run", "-n", TWO, None, [f"copied 2 {X}", f"copied 53 {Y}"]),
     copy("a dry run with nothing to do", "-n", TWO, TWO, []),
-    # Other keys.
+    # Other keys: without --replace nothing is saved, and a dry run alone tells of the rest.
     copy("another key", "", TWO, keytab(OTHER), printed(f"clash 53 2 {Y}", status=1)),
     copy("another key", "-n", TWO, keytab(OTHER), printed(f"copied 47 {X}", f"clash 53 2 {Y}", status=1)),
     copy("another key", "--replace", TWO, keytab(OTHER), [f"copied 47 {X}", f"removed 2 {Y}", f"copied 2 {Y}"],
          keytab(B, HOST)),
     copy("another key", "-n --replace", TWO, keytab(OTHER), [f"copied 47 {X}", f"removed 2 {Y}", f"copied 2 {Y}"]),
-    copy("two other keys", "", keytab(B), keytab(OTHER, THIRD), printed(f"clash 2 2 {Y}", status=1)),
     copy("two other keys", "--replace", keytab(B), keytab(OTHER, HOST, THIRD),
          [f"removed 2 {Y}", f"removed 98 {Y}", f"copied 2 {Y}"], keytab(B, HOST, 41)),
-    *(copy("its key behind another", options, keytab(B), keytab(OTHER, B), []) for options in ("", "--replace", "-n")),
-    copy("two clashes", "", keytab(B, HOST), keytab(replace(HOST, key=b""), OTHER),
-         printed(f"clash 2 37 {Y}", f"clash 47 2 {X}", status=1)),
-    # Two keys of one name, version and enctype always clash.
-    *(copy("two keys", options, keytab(B, OTHER), None, printed(f"clash 47 2 {Y}", status=1))
-      for options in ("", "--replace")),
-    *(copy("two keys", options, keytab(B, OTHER), None, printed(f"copied 2 {Y}", f"clash 47 2 {Y}", status=1))
-      for options in ("-n", "-n --replace")),
-    copy("two keys, the first of them there", "--replace", keytab(B, OTHER), keytab(B),
-         printed(f"clash 47 2 {Y}", status=1)),
+    copy("its key behind another", "", keytab(B), keytab(OTHER, B), []),
     copy("two keys, both there", "--replace", keytab(B, OTHER), keytab(OTHER, B), []),
-    copy("two keys, of which one is selected", "-e 17", keytab(B, replace(OTHER, enctype=18)), None,
-         [f"copied 2 {Y}"], keytab(B)),
     # What makes two entries the same: name, version and enctype, not time and name type.
-    copy("another time", "", keytab(B), keytab(replace(B, timestamp=9)), []),
-    copy("another name type", "", keytab(B), keytab(replace(B, name_type=3)), []),
-    copy("a version of 8 bits", "", keytab(replace(B, version32=None)), keytab(B), []),
+    copy("another time and name type", "", keytab(B), keytab(replace(B, timestamp=9, name_type=3)), []),
     copy("another version of the same 8 bits", "", keytab(replace(B, version32=259)), keytab(OTHER),
          ["copied 47 kvno 259 etype 17 b@R"], keytab(OTHER, replace(B, version32=259))),
-    copy("another enctype", "", keytab(replace(B, enctype=18)), keytab(OTHER), ["copied 47 kvno 3 etype 18 b@R"],
-         keytab(OTHER, replace(B, enctype=18))),
     copy("a name that prints alike", "", keytab(replace(B, components=())), keytab(replace(OTHER, components=(b"",))),
          ["copied 46 kvno 3 etype 17 @R"], keytab(replace(OTHER, components=(b"",)), replace(B, components=()))),
-]
-
-# As many entries as one keytab rarely has, each of another version, and where each stands.
-MANY = [replace(B, version8=kvno % 256, version32=kvno) for kvno in range(1, 1_501)]
-MANY_LINES = [f"{done} {2 + 45 * at} kvno {at + 1} etype 17 b@R"
-              for at in range(1_500) for done in ("removed", "copied")]
-
-V1, V1_BIG = (old(HOST, B, order=order) for order in ("little", BIG))
-ODD = replace(B, name_type=7, timestamp=2**32 - 1, version8=255, enctype=65_535, key=b"k", version32=2**32 - 1)
-UNTYPED = keytab(*(replace(entry, name_type=0) for entry in (HOST, B)))
-
-PLACED = [
-    # The fields that are written, and where: the first hole that is large enough, else the end.
+    # The fields that are written. Version 1 has no name type; an entry of it has type 0 in version 2.
     copy("all fields", "", keytab(ODD), None, ["copied 2 kvno 4294967295 etype 65535 b@R"], keytab(ODD)),
-    copy("the low 8 bits of a version", "", keytab(replace(ODD, version8=7)), None,
-         ["copied 2 kvno 4294967295 etype 65535 b@R"], keytab(ODD)),
-    copy("a 32-bit version always, and nothing after it", "",
-         keytab(replace(HOST, version32=None), record(B.spelled() + b"\xff" * 9)), None,
-         [f"copied 2 {X}", f"copied 53 {Y}"], TWO),
-    copy("holes", "", TWO, keytab(40, 60, hole(b"\xff" * 41)), [f"copied 46 {X}", f"copied 110 {Y}"],
-         keytab(40, record(HOST.spelled().ljust(60, b"\0")), B)),
-    copy("a hole that is a byte too small", "", keytab(B), keytab(40), [f"copied 46 {Y}"], keytab(40, B)),
-    copy("an end mark", "", keytab(B), keytab(HOST, END, b"and more"), [f"copied 53 {Y}"], keytab(HOST, B, END)),
-    copy("after an end mark is nothing", "", keytab(HOST, END, record(B.spelled())), None, [f"copied 2 {X}"],
-         keytab(HOST)),
     copy("a replaced entry with bytes after it", "--replace", keytab(B), keytab(record(OTHER.spelled() + b"\xff" * 9)),
          [f"removed 2 {Y}", f"copied 2 {Y}"], keytab(record(B.spelled() + bytes(9)))),
-    # Version 1 has no name type; an entry of it has type 0 in version 2.
-    copy("version 1 into none", "", V1, None, [f"copied 2 {X}", f"copied 53 {Y}"], UNTYPED),
-    copy("version 2 into version 1", "", TWO, old(), [f"copied 2 {X}", f"copied 49 {Y}"], V1),
     copy("version 1 into version 1", "--v1-big", V1_BIG, old(HOST, order=BIG), [f"copied 49 {Y}"], V1_BIG),
     copy("version 1, big-endian, into none", "--v1-big", V1_BIG, None, [f"copied 2 {X}", f"copied 53 {Y}"], UNTYPED),
     copy("version 1, big-endian, read as little", "", V1_BIG, None, FROM_DAMAGED),
-]
-
-# Files that are no sound keytabs, and the message about each.
-UNSOUND = {
-    b"\x05": "not a keytab (1)",
-    b"xy": "not a keytab (2)",
-    b"\x05\x04": "not a keytab (2)",
-    TWO[:-1]: "refused 1",
-    TWO + b"\0": "refused 1",
-    keytab(record(bytes(10))): "refused 1",
-}
-
-ORDER = [
     # The keytab that is copied from comes first, with what is selected in it; then the other.
     copy("nothing to copy from", "", None, TWO, message(1, "k: no such file")),
-    copy("no bytes to copy from", "", b"", None, message(1, "k: not a keytab (1)")),
     *(copy(f"from {image.hex()[-8:]}", options, image, b"xy", message(1, f"k: {what}"))
-      for image, what in UNSOUND.items() for options in ("", "-n", "-p c@R")),
+      for image, what in UNSOUND.items() for options in ("-n", "-p c@R")),
     copy("nothing selected, no keytab to copy to", "-p c@R", TWO, b"xy", NOT_FOUND),
     *(copy(f"to {image.hex()[-8:]}", options, TWO, image, message(1, f"t: {what}"))
-      for image, what in UNSOUND.items() for options in ("", "-n", "--replace -p b@R")),
-    copy("nothing into a damaged keytab", "", keytab(), TWO[:-1], TO_DAMAGED),
+      for image, what in UNSOUND.items() for options in ("-n", "--replace -p b@R")),
+    copy("nothing into a damaged keytab", "", keytab(), TWO[:-1], message(1, "t: refused 1")),
     *(Case(f"{source} to {target}", ("ktcopy", source, target), wanted, {"k": TWO, "t": keytab(B)})
       for source, target, wanted in (
           ("no", ".", message(1, "no: no such file")), ("no/k", "t", message(1, "no/k: no such file")),
           ("k", "no/t", message(3, "no/t: cannot write")), ("k", "t.krbfile", message(3, "t.krbfile: cannot write")))),
     # One keytab for both.
     *(Case(f"one keytab for both: {options}", ("ktcopy", *words_of(options), "k", target), wanted, {"k": image})
-      for options in ("", "--replace", "-n", "-k new") for target in ("k", "./k") for image, wanted in (
-          (TWO, Outcome(0)), (keytab(B, OTHER, B), Outcome(0)), (TWO[:-1], FROM_DAMAGED))),
+      for options in ("--replace", "-n") for target in ("k", "./k") for image, wanted in (
+          (keytab(B, OTHER, B), Outcome(0)), (TWO[:-1], FROM_DAMAGED))),
     # An addition that is refused, and one after a clash, which is not reported.
     copy("a name that is too long", "", keytab(HOST, LONG, B), old(), message(1, "t: refused 2")),
     copy("a name that is too long, a dry run", "-n", keytab(HOST, LONG, B), old(), message(1, "t: refused 2")),
@@ -188,6 +125,7 @@ ORDER = [
          printed(f"copied 43 {X}", f"clash 53 2 {Y}", status=1)),
     copy("a name that is too long and not selected", "-e 17 -p b@R", keytab(LONG, B), old(), [f"copied 2 {Y}"], old(B)),
 ]
+
 
 def large() -> list[Case]:
     """Returns copies into a file that is as large as it may be."""
@@ -203,13 +141,6 @@ def large() -> list[Case]:
         copy("no room after a clash, nor a line of a removal", "-n --replace", keytab(B, OTHER, longer), tight,
              printed(f"removed 2 {Y}", f"copied 2 {Y}", f"clash 47 2 {Y}", f"clash 92 2 {Y}", status=1)),
     ]
-
-
-CASES = [
-    *SELECTED, *MET, *PLACED, *ORDER,
-    copy("many other keys", "--replace", keytab(*MANY), keytab(*(replace(one, key=bytes(16)) for one in MANY)),
-         MANY_LINES, keytab(*MANY)),
-]
 
 
 def check(report: Report, program: str) -> None:

@@ -3,7 +3,7 @@
 from collections.abc import Callable
 
 from keytabs.file_names import LIMIT
-from makers.images import B, BIG, END, HOST, LITTLE, TWO, Entry, hole, keytab, old, record
+from makers.images import B, BIG, HOST, LITTLE, TWO, Entry, hole, keytab, old, record
 from runs.harness import Case, Outcome, message
 from runs.rows import over, printed
 
@@ -31,9 +31,6 @@ LINE_FAULTS = by_line({
 
 # A bad entry between two good ones.
 DAMAGED = keytab(HOST, record(bytes(10)), B)
-
-# An end mark after an entry, with other bytes after it.
-MARKED = keytab(HOST, END, b"\xff" * 20)
 
 
 def refused(*replies: str) -> Outcome:
@@ -72,72 +69,36 @@ def full_of_version_one() -> bytes:
 
 
 CASES = [
-    # Walks over an unchanged keytab.
     edit("a walk to the end and on", TWO, ["start", *["step 0"] * 4],
          ["walk 0 at 2", GAVE_HOST, GAVE_B, "walk 0 end 98", "walk 0 end 98"]),
-    edit("no entry", keytab(), ["start", "step 0"], ["walk 0 at 2", "walk 0 end 2"]),
-    edit("no such walk", TWO, ["step 9", "start", "step 1"], refused("refused 6", "walk 0 at 2", "refused 6")),
     each_number(edit, "a whole keytab", TWO, (2, 53, 98)),
-    each_number(edit, "a damaged keytab", DAMAGED, (2, 53)),
-    each_number(edit, "an end mark", keytab(B, END, HOST), (2, 47)),
-    edit("as many walks as there may be", TWO, ["start"] * 1025 + ["resume 98", "resume 3", "step 1023"],
-         refused(*(f"walk {number} at 2" for number in range(1024)), *["refused 7"] * 3,
-                 GAVE_HOST.replace("walk 0", "walk 1023"))),
-    edit("an end mark", keytab(HOST, END, b"\xff" * 9), ["resume 53", "step 0"], ["walk 0 at 53", "walk 0 end 53"]),
-    edit("a walk up to a fault", DAMAGED, ["start", *["step 0"] * 3],
-         refused("walk 0 at 2", GAVE_HOST, *["walk 0 fault 3 at 53"] * 2)),
-    edit("places before a fault", DAMAGED, ["resume 53", "step 0", "resume 67"],
-         refused("walk 0 at 53", "walk 0 fault 3 at 53", "refused 4")),
-    # Walks over a keytab that is changed before, after and at their cursors.
-    edit("put behind a walk", TWO, ["start", "step 0", "cut 2", ADD_C, "step 0", "step 0"],
-         ["walk 0 at 2", GAVE_HOST, "gone 2", "placed 2", GAVE_B, "walk 0 end 98"],
-         keytab(record(C.spelled() + bytes(6)), B)),
+    edit("an empty script", TWO, [], []),
+    # Where entries are added, and what a removal leaves.
+    edit("a hole of just that size", keytab(hole(b"\xff" * 40), hole(b"\xff" * 41), hole(b"\xff" * 41)), [ADD_B],
+         ["placed 46"], keytab(hole(b"\xff" * 40), B, hole(b"\xff" * 41))),
     edit("put back behind a walk", TWO, ["start", "step 0", "cut 2", ADD_HOST, "step 0", "step 0", "start", "step 1"],
          ["walk 0 at 2", GAVE_HOST, "gone 2", "placed 2", GAVE_B, "walk 0 end 98", "walk 1 at 2",
           GAVE_HOST.replace("walk 0", "walk 1")], TWO),
-    edit("appended after a walk's end", TWO,
-         ["start", *["step 0"] * 3, ADD_HOST.replace("host/a@R", "host/ab@R"), "step 0"],
-         ["walk 0 at 2", GAVE_HOST, GAVE_B, "walk 0 end 98", "placed 98",
-          "walk 0 gave 98 next 150 kvno 3 etype 17 host/ab@R"], keytab(HOST, B, Entry((b"host", b"ab")))),
-    edit("a removed record is passed over", TWO, ["start", "cut 2", "step 0"], ["walk 0 at 2", "gone 2", GAVE_B],
-         keytab(47, B)),
-    # Where entries are added and removed, and when that is refused.
-    edit("the first hole with room", keytab(47, 41), [ADD_B], ["placed 2"], keytab(record(B.spelled() + bytes(6)), 41)),
-    edit("a hole of just that size", keytab(hole(b"\xff" * 40), hole(b"\xff" * 41), hole(b"\xff" * 41)), [ADD_B],
-         ["placed 46"], keytab(hole(b"\xff" * 40), B, hole(b"\xff" * 41))),
-    edit("before an end mark", MARKED, [ADD_B], ["placed 53"], keytab(HOST, B, END)),
-    edit("a removal leaves zeros", TWO, ["cut 2"], ["gone 2"], keytab(47, B)),
     edit("a removal of a padded record", keytab(record(B.spelled() + b"\xff" * 5)), ["cut 2"], ["gone 2"], keytab(46)),
-    edit("no record there", TWO, ["cut 3", "cut 98", "cut 4294967295"], refused(*["refused 5"] * 3)),
-    edit("removed twice", TWO, ["cut 2", "cut 2"], refused("gone 2", "refused 5"), keytab(47, B)),
-    edit("a version of more than 8 bits", None, [ADD_B.replace("add 3", "add 300")], ["placed 2"],
-         keytab(Entry((b"b",), key=B.key, version8=44, version32=300))),
-    edit("a damaged keytab is not changed", DAMAGED, ["cut 2", ADD_B, "rewrite"], refused(*["refused 1"] * 3)),
-    # Rewrites all records, and carries the walks along.
-    edit("walks are carried", TWO, ["start", "step 0", "start", "cut 2", "rewrite", "step 0", "step 1"],
-         ["walk 0 at 2", GAVE_HOST, "walk 1 at 2", "gone 2", "rewritten 47",
-          *(f"walk {number} gave 2 next 47 kvno 3 etype 17 b@R" for number in (0, 1))], keytab(B)),
-    edit("an end mark goes", MARKED, ["rewrite"], ["rewritten 53"], keytab(HOST)),
+    edit("version 1, big-endian", old(HOST, order=BIG), [ADD_B], ["placed 49"], old(HOST, B, order=BIG), "--v1-big"),
+    # A rewrite leaves no padding, and carries the walks along.
+    edit("holes and padding go", keytab(9, record(Entry(version32=None).spelled() + b"\0\0\0")), ["rewrite"],
+         ["rewritten 53"], keytab(HOST)),
     edit("version 1 becomes 2", old(HOST), ["start", "step 0", "rewrite", "step 0"],
          ["walk 0 at 2", GAVE_HOST.replace("next 53", "next 49"), "rewritten 53", "walk 0 end 53"],
          keytab(Entry(name_type=0))),
-    edit("holes and padding go", keytab(9, record(Entry(version32=None).spelled() + b"\0\0\0")), ["rewrite"],
-         ["rewritten 53"], keytab(HOST)),
     edit("after it a place is no place", TWO, ["cut 2", "rewrite", "resume 53", "resume 47"],
          refused("gone 2", "rewritten 47", "refused 4", "walk 0 at 47"), keytab(B)),
-    edit("no file", None, ["rewrite"], ["rewritten 2"], keytab()),
     lambda: edit("too long in version 2", full_of_version_one(), ["resume 2", "rewrite", "resume 2"],
                  refused("walk 0 at 2", "refused 3", "walk 1 at 2")),
-    # Files that are missing.
-    edit("a new file", None, [ADD_B], ["placed 2"], keytab(B)),
-    edit("no file, and nothing to save", None, ["start"], ["walk 0 at 2"]),
-    edit("an empty script", TWO, [], []),
-    edit("version 1", old(HOST), [ADD_B], ["placed 49"], old(HOST, B)),
-    edit("version 1, big-endian", old(HOST, order=BIG), [ADD_B], ["placed 49"], old(HOST, B, order=BIG), "--v1-big"),
     # A keytab of the greatest size takes an entry only in place of another.
     lambda: edit("the file is full", keytab(HOST, record(B.spelled().ljust(LIMIT - 57, b"\0"))),
                  [ADD_B, "cut 2", ADD_B], refused("refused 3", "gone 2", "placed 2"),
                  keytab(record(B.spelled() + bytes(6)), record(B.spelled().ljust(LIMIT - 57, b"\0")))),
+    # Files that are missing.
+    edit("a new file", None, [ADD_B], ["placed 2"], keytab(B)),
+    edit("no file, rewritten", None, ["rewrite"], ["rewritten 2"], keytab()),
+    edit("no file, and nothing to save", None, ["start"], ["walk 0 at 2"]),
     over("no folder", "ktedit no/k", None, message(3, "no/k: cannot write"), given=[ADD_B]),
     over("no folder, and nothing to save", "ktedit no/k", None, ["walk 0 at 2"], given=b"start"),
 ]

@@ -46,48 +46,38 @@ def value(name: str, data: bytes, wanted: bytes) -> Case:
     return case(name, cache(config(b"k", data)), cache_text(b"", member))
 
 
-PLAIN = keytab_text(HOST_FRONT + b"}", B_FRONT + b"}")
 WIDE = keytab(Entry((b"a",), version32=2**32 - 1, enctype=65_535, timestamp=2**32 - 1, key=b""))
 WIDE_TEXT = (b'{"place":2,"principal":"a@R","kvno":4294967295,"etype":65535,"etype_name":null,"timestamp":4294967295')
-USUAL_TEXT = cache_text(TICKET_TEXT, PA_TYPE_TEXT)
 SKEY = replace(TICKET, is_skey=2, renew_till=9, flags=0, enctype=0, ticket=b"", addresses=((2, b"abcd"), (2, b"")))
 SKEY_TEXT = (b'{"place":22,"client":"u@R","server":"krbtgt/R@R","authtime":1700000000,'
              b'"starttime":0,"endtime":1700036000,"renew_till":9,"flags":"","flags_value":0,'
              b'"etype":0,"etype_name":null,"is_skey":true,"addresses":2,"ticket_length":0}')
-LOW = "".join({8: r"\b", 9: r"\t", 10: r"\n", 12: r"\f", 13: r"\r"}.get(byte, rf"\u{byte:04x}") for byte in range(32))
 NO_TEXT = replace(PA_TYPE, server=replace(PA_TYPE.server, components=(
     PA_TYPE.server.components[0], b"\xff", b"\x80a")))
 
+# Values, and how each is written: bytes that are escaped, bytes that are not, and bytes that are not UTF-8.
+LOW = "".join({8: r"\b", 9: r"\t", 10: r"\n", 12: r"\f", 13: r"\r"}.get(byte, rf"\u{byte:04x}") for byte in range(32))
+VALUES = {
+    b"": '""', bytes(range(32)): f'"{LOW}"', b'"\\/\x7f': r'"\"\\/\u007f"',
+    b"\xc2\x80\x7f\xc2\x9f\xc2\xa0\xc3\x80": '"\\u0080\\u007f\\u009f\xa0\xc0"',
+    "é€\U0001f600".encode(): '"é€\U0001f600"',
+}
+NO_UTF_8 = {"a byte alone": "61ff", "an overlong form": "c080", "a surrogate": "eda080",
+            "past the last letter": "f4908080", "a cut letter": "e282"}
+
 CASES = [
-    # Keytabs with each set of options, of both versions, empty and damaged.
-    case("two entries", TWO, PLAIN, "klist --json -k k"),
-    case("two entries, -K", TWO,
-         keytab_text(HOST_FRONT + HOST_KEY + b"}", B_FRONT + B_KEY + b"}"), "klist --json -K -k k"),
+    case("two entries, -K", TWO, keytab_text(HOST_FRONT + HOST_KEY + b"}", B_FRONT + B_KEY + b"}"),
+         "klist --json -K -k k"),
     case("the greatest numbers", WIDE, keytab_text(WIDE_TEXT + b"}"), "klist --json -k k"),
     case("an empty key", WIDE, keytab_text(WIDE_TEXT + b',"key_hex":""}'), "klist --json -kK k"),
-    case("version 1, big-endian", old(HOST, order=BIG),
-         keytab_text(HOST_FRONT + b"}", version=1), "klist --json -k --v1-big k"),
-    case("a bad entry", keytab(HOST, record(bytes(10))),
-         keytab_text(HOST_FRONT + b"}", fault=b'{"kind":3,"place":53}'), "klist --json -k k"),
-    # Caches of both versions, empty and damaged; -C changes nothing.
-    case("the usual cache", USUAL, USUAL_TEXT),
-    case("the usual cache, all columns", USUAL, USUAL_TEXT, "klist -c -efC --json c"),
+    case("version 1, big-endian, and a bad entry", old(HOST, record(bytes(10), BIG), order=BIG),
+         keytab_text(HOST_FRONT + b"}", version=1, fault=b'{"kind":3,"place":49}'), "klist --json -k --v1-big k"),
+    case("the usual cache, all columns", USUAL, cache_text(TICKET_TEXT, PA_TYPE_TEXT), "klist -c -efC --json c"),
     case("version 3", VERSION_3, cache_text(TICKET_TEXT.replace(b":40,", b":20,"), version=3)),
-    case("no credential", cache(), cache_text()),
-    value("an entry of no principal", b"", b'"value":""'),
     case("a ticket of a user's own key", cache(SKEY), cache_text(SKEY_TEXT)),
     case("a cut ticket", USUAL[:-1], cache_text(TICKET_TEXT, PA_TYPE_TEXT, fault=b'{"kind":4,"place":284}')),
-    # Bytes that are escaped, bytes that are not, and bytes that are not UTF-8.
-    value("bytes below 32", bytes(range(32)), b'"value":"' + LOW.encode() + b'"'),
-    value("quotes", b'"\\/\x7f', rb'"value":"\"\\/\u007f"'),
-    value("controls of two bytes", b"\xc2\x80\x7f\xc2\x9f\xc2\xa0\xc3\x80",
-          rb'"value":"\u0080\u007f\u009f' + b'\xc2\xa0\xc3\x80"'),
-    value("letters", "é€\U0001f600".encode(), '"value":"é€\U0001f600"'.encode()),
-    value("a byte alone", b"a\xff", b'"value_hex":"61ff"'),
-    value("an overlong form", b"\xc0\x80", b'"value_hex":"c080"'),
-    value("a surrogate", b"\xed\xa0\x80", b'"value_hex":"eda080"'),
-    value("past the last letter", b"\xf4\x90\x80\x80", b'"value_hex":"f4908080"'),
-    value("a cut letter", b"\xe2\x82", b'"value_hex":"e282"'),
+    *(value(f"value {data[:9]}", data, b'"value":' + wanted.encode()) for data, wanted in VALUES.items()),
+    *(value(name, bytes.fromhex(digits), b'"value_hex":"%b"' % digits.encode()) for name, digits in NO_UTF_8.items()),
     case("a quoted name", cache(default=Name((b"a/b\n\0", b'"'), b"\\")),
          cache_text(default=b'"default_principal":"a\\\\/b\\\\n\\\\0/\\"@\\\\\\\\"')),
     case("a name that is no UTF-8", cache(default=replace(U, realm=b"\xfe")),

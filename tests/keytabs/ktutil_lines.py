@@ -1,8 +1,8 @@
 """Lines of `ktutil`: what they print and save, and their errors, all written by hand."""
 
-from keytabs.edits import C, DAMAGED, by_line
+from keytabs.edits import DAMAGED, by_line
 from keytabs.file_names import LIMIT
-from makers.images import B, BIG, END, HOST, TWO, Entry, keytab, old, record
+from makers.images import B, BIG, END, HOST, TWO, Entry, keytab, old
 from runs.harness import Case, Outcome, Report, faults_by_clock
 from runs.rows import text
 
@@ -71,14 +71,13 @@ PASSWORDS = by_line({
 # Lines that are faulty over a list of two entries, and their faults.
 FAULTS = by_line({
     1: ["frob", "L", "l\r", "\\l", "list_requests", "?", "ktutil:"],
-    2: ["l -x", "l -t -t", "l -te", "l k", "clear 1", "q now", "rkt", "rkt k k", "wkt", "wkt k k", "delent",
-        "delent 1 2", "addent", "addent -Password -p b@R -k 3 -e 17", "addent -passwords", "rkt -password k",
-        "l -password", "addent -p b@R -k 3 -e 17",
-        "addent -key -p b@R -k 3", "addent -key -p b@R -k 3 -e", "addent -key -key -p b@R -k 3 -e 17",
-        "addent -key -p b@R -k 3 -k 3 -e 17", "addent -key -p b@R -k 3 -e 17 x", "addent -key -p b c@R -k 3 -e 17",
-        "addent -key -p b@R\\ -k 3 -e 17"],
-    3: ["addent -key -p b@R -k x -e 17", "addent -key -p b -k 4294967296 -e x", "delent x", "delent -1",
-        "delent 00000000001"],
+    2: [*("l -x, l -t -t, l -te, l k, clear 1, q now, rkt, rkt k k, wkt, wkt k k, delent, delent 1 2, addent, "
+          "rkt -password k, l -password").split(", "),
+        *(f"addent {words}" for words in (
+            "-Password -p b@R -k 3 -e 17", "-passwords", "-p b@R -k 3 -e 17", "-key -p b@R -k 3", "-key -p b@R -k 3 -e",
+            "-key -key -p b@R -k 3 -e 17", "-key -p b@R -k 3 -k 3 -e 17", "-key -p b@R -k 3 -e 17 x",
+            "-key -p b c@R -k 3 -e 17", "-key -p b@R\\ -k 3 -e 17"))],
+    3: ["addent -key -p b@R -k x -e 17", "addent -key -p b -k 4294967296 -e x", "delent x", "delent 00000000001"],
     4: ["addent -key -p b -k 3 -e x", "addent -key -p b@R -k 3 -e 65536"],
     6: ["addent -key -p b -k 3 -e 17", "addent -key -k 3 -e 17 -p b@R\\"],
     7: ["delent 0", "delent 3", "delent 4294967295"],
@@ -96,8 +95,6 @@ CASES = [
     # Listings, and the list after entries are deleted.
     lines("the empty list", ["l", "list -t"], [*HEADING, *TIMES]),
     lines("no input", b"", []),
-    lines("a listing", ["rkt k", "l"], TWO_LISTED, files=FILES),
-    lines("keys", ["rkt k", "l -k"], [*HEADING, "   1    3 host/a@R" + HOST_KEY, "   2    3 b@R" + B_KEY], files=FILES),
     lines("all columns", ["read_kt k", "list -k -e -t"],
           [*TIMES, f"   1    3 2023-11-14T22:13:20Z host/a@R{ETYPE}{HOST_KEY}",
            f"   2    3 2023-11-14T22:13:20Z b@R{ETYPE}{B_KEY}"], files=FILES),
@@ -123,18 +120,14 @@ CASES = [
     lines("two passwords", [PASSWORD, "x", PASSWORD, "", "l"], HEADING, "line 1: fault 2", "line 3: fault 2"),
     *(lines(f"key line {line[:40]!r}", ["rkt k", ADDENT, line, "l"], TWO_LISTED, "line 3: fault 5", files=FILES)
       for line in NO_KEYS),
-    *(lines(f"file name {name!r}", b"rkt k\n" + name + b"\nl\n", TWO_LISTED, "line 2: fault 8", files=FILES)
-      for name in (b"rkt \xff", b"wkt k\xc3")),
     lines("lines that are passed over count", ["", " ", "frob", "", "l 1"], [], "line 3: fault 1", "line 5: fault 2"),
     lines("the input ends where a key is awaited", [ADDENT], []),
     lines("the input ends where a password is awaited", [PASSWORD], [], "line 1: fault 2"),
     lines("the input ends in a password", f"{PASSWORD}\nx".encode(), [], "line 1: fault 2"),
     lines("the input ends before the end of the line", ADDENT.encode(), []),
-    # Files that are read, and those without entries.
-    lines("version 1", ["rkt k", "l"], ONE_LISTED, files={"k": old(HOST)}),
+    # Files that are read.
     lines("version 1, big-endian", ["rkt k", "l"], ONE_LISTED, files={"k": old(HOST, order=BIG)},
           options=("--v1-big",)),
-    lines("holes and an end mark", ["rkt k", "l"], ONE_LISTED, files=MIXED),
     lines("a damaged file", ["rkt k", "l"], HEADING, "line 1: refused 1", files={"k": DAMAGED}),
     lines("a missing file", ["rkt n", "rkt k", "l"], ONE_LISTED, "n: no such file", files=MIXED),
     lines("a name of backslashes", ["rkt a\\b", "rkt a\\ c"], [], "a\\b: no such file", "a\\ c: no such file"),
@@ -145,14 +138,8 @@ CASES = [
     lines("an old file", COPY, [], files={"k": keytab(HOST), **FROM_J}, after={"k": keytab(HOST, HOST, B)}),
     lines("the file that was read", ["write_kt k", "rkt k", "wkt k"], [], files={"k": keytab(HOST)},
           after={"k": keytab(HOST, HOST)}),
-    lines("the empty list, a new file", ["wkt k"], [], after={"k": keytab()}),
-    lines("the empty list, a damaged file", ["wkt k"], [], files={"k": DAMAGED}),
-    lines("to version 1", COPY, [], files={"k": old(C), **FROM_J}, after={"k": old(C, HOST, B)}),
     lines("types of names are kept", COPY, [], files={"j": keytab(Entry(name_type=7, version32=None))},
           after={"k": keytab(Entry(name_type=7))}),
-    lines("to a damaged file", COPY, [], "line 2: refused 1", files={"k": DAMAGED, **FROM_J}),
-    lambda: lines("to a full file", COPY, [], "line 2: refused 3",
-                  files={"k": keytab(record(B.spelled() + bytes(LIMIT - 47))), **FROM_J}),
     lines("to no keytab", COPY, [], "k: not a keytab (2)", files={"k": b"\x05\x03", **FROM_J}),
     lines("no folder", ["rkt j", "wkt d/k", "l"], TWO_LISTED, "d/k: cannot write", files=FROM_J, status=3),
     # The greatest input, and one that is larger: the lines within the limit are handled.

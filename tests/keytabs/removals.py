@@ -49,107 +49,61 @@ BARE = keytab(Entry((), version8=1, version32=1), Entry((b"",), version8=2, vers
 CASES = [
     # The entries that each selector selects.
     remove("old versions", FOUR, "-k old", [X], keytab(47, AES256, FIVE, B3)),
-    remove("old versions of a name", FOUR, "-p host/a@R -k old", [X], keytab(47, AES256, FIVE, B3)),
     remove("of an enctype", FOUR, "-p host/a@R -e 17", [X, X5], keytab(47, AES256, 47, B3)),
     remove("by the enctype's name", FOUR, "-e aes256-cts-hmac-sha1-96", [X18], keytab(HOST, 63, FIVE, B3)),
     remove("of two enctypes", FOUR, "-e 17 -e 18 -e 17", [X, X18, X5, Y], keytab(47, 63, 47, 41)),
     remove("of a version", FOUR, "-k 3", [X, Y], keytab(47, AES256, FIVE, 41)),
-    remove("of a name", FOUR, "-p b@R", [Y], keytab(HOST, AES256, FIVE, 41)),
-    remove("of two names", FOUR, "-p b@R -e 17 -p host/a@R", [X, X5, Y], keytab(47, AES256, 47, 41)),
-    remove("by another text of the name", FOUR, r"-p \host/a@R -e 18", [X18], keytab(HOST, 63, FIVE, B3)),
-    remove("nothing is old", keytab(HOST, B3), "-k old", []),
+    remove("of two names", FOUR, r"-p b@R -e 17 -p \host/a@R", [X, X5, Y], keytab(47, AES256, 47, 41)),
     remove("nothing is old of a name", FOUR, "-k old -p b@R", []),
     remove("nothing is old in an empty keytab", keytab(), "-k old", []),
     remove("a dry run", FOUR, "-n -k old", [X]),
-    remove("a dry run with nothing to do", keytab(B3), "-n -k old", []),
     remove("old and new words", FOUR, "-kold -phost/a@R -e17", [X], keytab(47, AES256, FIVE, B3)),
     remove("a value that begins with =", SIGNED, "-p=b@R", ["removed 47 kvno 3 etype 17 =b@R"], keytab(B3, 42)),
     remove("a value that begins with =, a dry run", SIGNED, "-np=b@R", ["removed 47 kvno 3 etype 17 =b@R"]),
     remove("a value that begins with two =", SIGNED, "-p==b@R", NOT_FOUND),
     over("a file of a name like an option", "ktremove -pb@R -- -p=b@R", keytab(B3), ["removed 2 kvno 3 etype 17 b@R"],
          keytab(41)),
-    remove("a name that is not there", FOUR, "-p c@R", NOT_FOUND),
-    remove("old ones of a name that is not there", FOUR, "-p c@R -k old", NOT_FOUND),
-    remove("a version that is not there", FOUR, "-k 4", NOT_FOUND),
-    remove("version 0 is no wild card", FOUR, "-k 0", NOT_FOUND),
-    remove("enctype 0 is no wild card", FOUR, "-e 0", NOT_FOUND),
+    *(remove(f"nothing is selected by {words}", FOUR, words, NOT_FOUND)
+      for words in ("-p c@R", "-p c@R -k old", "-k 4", "-k 0", "-e 0")),
     remove("an empty keytab", keytab(), "-e 17", NOT_FOUND),
     # Old versions: those other than the newest entry's.
-    remove_old("versions that wrap", [(254, 1), (255, 2), (0, 3)], [0, 1]),
     remove_old("a small one of the same time", [(255, 5), (1, 5)], [0]),
     remove_old("a small one of an earlier time", [(255, 5), (1, 4)], [1]),
-    remove_old("a large one of the same time", [(1, 5), (255, 5)], [1]),
     remove_old("a large one of a later time", [(1, 5), (255, 6)], [0]),
-    remove_old("127 and 241 have wrapped", [(241, 1), (127, 1)], [0]),
-    remove_old("128 and 241 have not", [(241, 1), (128, 9)], [1]),
-    remove_old("127 and 240 have not", [(240, 1), (127, 9)], [1]),
     remove_old("a version of 32 bits", [(300, 1), (7, 2)], [0]),
     remove_old("through the middle", [(250, 1), (200, 2), (3, 3)], [0, 1]),
-    remove_old("the order of the file", [(3, 3), (200, 2), (250, 1)], [0, 1]),
     remove_old("a version twice", [(4, 1), (5, 1), (4, 9), (5, 9)], [0, 2]),
-    remove_old("version 0", [(0, 1), (0, 2)], []),
     # Old versions whose name has had its newest one for that long: all entries of that version, and no others.
-    *(remove(f"old for long: {words}", FOUR, words, [X], keytab(47, AES256, FIVE, B3))
-      for words in ("-k old --age 0", "-k old --age=1", "--age 0000086400 -kold", "-k old -p host/a@R --age 1")),
+    remove("old for long", FOUR, "--age 0000086400 -kold", [X], keytab(47, AES256, FIVE, B3)),
     remove("for longer than there are clocks", FOUR, "-k old --age 4294967295", []),
-    remove("a new version", keytab(HOST, LATE), "-k old --age 0", []),
-    remove("a new version of one enctype", keytab(HOST, AES256, LATE), "-k old --age 0", []),
     remove("a new version of an enctype that is not selected", keytab(replace(HOST, enctype=18), AES256, LATE),
            "-k old -e 18 --age 0", []),
     remove("a new version of another name", keytab(HOST, FIVE, versioned(1, 1), versioned(2, FUTURE)),
            "-k old --age 0", [X], keytab(47, FIVE, versioned(1, 1), versioned(2, FUTURE))),
-    *(remove("a newest version of the time 0", keytab(versioned(1, 1), versioned(2, 0)), words, lines, after)
-      for words, lines, after in (
-          ("-k old --age 0", [], None), ("-k old --age 1", [], None),
-          ("-k old", ["removed 2 kvno 1 etype 17 a@R"], keytab(41, versioned(2, 0))))),
-    remove("an old version of the time 0", keytab(versioned(1, 0), versioned(2, 1)), "-k old --age 1",
-           ["removed 2 kvno 1 etype 17 a@R"], keytab(41, versioned(2, 1))),
-    # Names that print alike are the same, of whatever type.
+    # Names that print alike are the same, of whatever type, but two where versions are compared.
     remove("no components and an empty one", BARE, "-p @R",
            ["removed 2 kvno 1 etype 17 @R", "removed 44 kvno 2 etype 17 @R"], keytab(38, 40, B3)),
     remove("they are two names", BARE, "-k old", []),
     remove("a name of another type", keytab(Entry((b"b",), name_type=3), B3), "-p b@R",
            ["removed 2 kvno 3 etype 17 b@R", "removed 47 kvno 3 etype 17 b@R"], keytab(41, 41)),
-    # Holes, ends, and version 1 in both orders, in which host/a@R has 43 bytes, without a name type. Only the bytes of
-    # the removed records change.
+    # Only the bytes of the removed records change. In version 1 host/a@R has 43 bytes, without a name type.
     remove("unused bytes, a hole and what is after the end",
            keytab(record(HOST.spelled() + b"\xff" * 9), hole(b"junk"), END, b"and more"), "-e 17", [X],
            keytab(56, hole(b"junk"), END, b"and more")),
-    remove("version 1, little-endian", old(HOST, B3), "-p host/a@R", [X], old(43, B3)),
-    Case("version 1, big-endian", ("ktremove", "--v1-big", "k", "-p", "host/a@R"), Outcome(0, f"{X}\n".encode()),
-         {"k": old(HOST, B3, order=BIG)}, {"k": old(43, B3, order=BIG)}),
-    # Damaged files.
+    remove("version 1, big-endian", old(HOST, B3, order=BIG), "-p host/a@R --v1-big", [X], old(43, B3, order=BIG)),
     remove("a damaged keytab", TWO[:-1], "-e 17", DAMAGED),
     greatest.most_of_one_name, greatest.many_long_names,
 ]
 
 
-def check_left_alone(report: Report, program: str, image: bytes, line: str) -> None:
-    """Checks that a run that removes nothing leaves the file named last alone, its time too."""
-    words = line.split()
-    with folder_of({words[-1]: image}) as folder:
-        path = os.path.join(folder, words[-1])
-        os.utime(path, ns=(1_000_000_000, 2_000_000_001))
-        before = os.stat(path)
-        run(program, words, folder)
-        after = os.stat(path)
-    same = (before.st_ino, before.st_mtime_ns) == (after.st_ino, after.st_mtime_ns)
-    report.check(f"{line} leaves the file alone", [] if same else ["it changed"])
-
-
-def check_mode(report: Report, program: str, image: bytes, line: str) -> None:
-    """Checks that a run that removes something keeps the mode of the file named last."""
-    words = line.split()
-    with folder_of({words[-1]: image}) as folder:
-        path = os.path.join(folder, words[-1])
-        os.chmod(path, 0o640)
-        run(program, words, folder)
-        mode = os.stat(path).st_mode & 0o7777
-    report.check("the mode stays", [] if mode == 0o640 else [f"mode {mode:o}"])
-
-
 def check(report: Report, program: str) -> None:
-    """Checks a file's bytes, time and mode."""
-    for words in ("-k old", "-k 4", "-n -e 17"):
-        check_left_alone(report, program, keytab(HOST, B3), f"ktremove {words} k")
-    check_mode(report, program, FOUR, "ktremove -k old k")
+    """Checks that runs that remove nothing leave the file alone, its time too."""
+    for line in ("-k old", "-k 4", "-n -e 17"):
+        with folder_of({"k": keytab(HOST, B3)}) as folder:
+            path = os.path.join(folder, "k")
+            os.utime(path, ns=(1_000_000_000, 2_000_000_001))
+            before = os.stat(path)
+            run(program, ("ktremove", *line.split(), "k"), folder)
+            after = os.stat(path)
+        same = (before.st_ino, before.st_mtime_ns) == (after.st_ino, after.st_mtime_ns)
+        report.check(f"ktremove {line} leaves the file alone", [] if same else ["it changed"])

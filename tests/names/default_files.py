@@ -8,8 +8,7 @@ from contextlib import contextmanager, nullcontext
 
 from keytabs.file_names import NOBODY
 from makers.images import TWO
-from models.name_model import FileName, Kind
-from models.named_runs import COMMANDS, IMAGES, KLIST, KLIST_CACHE, NEITHER
+from names.named_files import COMMANDS, IMAGES, KLIST, KLIST_CACHE, NEITHER, FileName, Kind
 from runs.harness import Report, folder_of, run
 from runs.namespaces import STATUS, can_mount, run_within
 from runs.terminal import EXPLAIN
@@ -17,9 +16,9 @@ from system.saving import write
 from words.explained import Explained, unchanged
 from words.phrases import DEFAULT
 
-CCNAME, KTNAME = "KRB5CCNAME", "KRB5_KTNAME"
+CCNAME, KTNAME = Kind.CACHE.variable, Kind.KEYTAB.variable
 CACHE = IMAGES[Kind.CACHE]
-KEYTAB = FileName(b"/etc/krb5.keytab", source=DEFAULT)
+KEYTAB = FileName("/etc/krb5.keytab", source=DEFAULT)
 
 # A user whom no system has, and the name of that user's cache.
 USER = 4_000_123_456
@@ -57,20 +56,13 @@ CASES = [
     # What is wrong with a line comes first.
     *(bad(words, {CCNAME: b"\xff", KTNAME: b"\xff"}, phrase) for words, phrase in (
         ("klist -x", "unknown option -x"), ("klist -k -f", "-f does not go with -k"), ("klist c c", "left over: c"),
-        ("klist -t", "-t is for keytabs; give -k"), ("klist -s -e", "-s does not go with -e"),
-        ("klist --for 3", "--for goes with -s alone"), ("klist -s --for x", '"x" is no time (90, 15m, 10h, 7d)'),
-        ("ktcheck --allow x", '"x" is no finding'), ("ktcheck --allow", "--allow needs a value"),
-        ("ktcheck -k", "unknown option -k"), ("klist --explain", "--explain stands before the command"))),
+        ("klist -t", "-t is for keytabs; give -k"), ("klist --for 3", "--for goes with -s alone"),
+        ("ktcheck --allow", "--allow needs a value"), ("klist --explain", "--explain stands before the command"))),
     # Other commands want the file.
     *(bad(words, {CCNAME: "c", KTNAME: "k"}, f"no {what}") for words, what in (
         ("ktfind", "FILE"), ("ktedit", "FILE"), ("ktremove -k old", "FILE"), ("ktcopy", "FROM"), ("ktcopy k", "TO"),
         ("ccedit", "FILE"), ("ccremove --expired", "FILE"), ("hold -k", "FILE"))),
 ]
-
-
-def cache_of(user: int) -> FileName:
-    """Returns the default cache of a user."""
-    return FileName(OWN.format(user).encode(), source=DEFAULT)
 
 
 @contextmanager
@@ -113,7 +105,7 @@ def check_defaults(report: Report, program: str) -> None:
     """Checks each command that may leave out its file: the default keytab, and the default cache, whose name has the
     number of the real user."""
     rows = [(Kind.KEYTAB, KEYTAB, None, each) for each in (TWO, NEITHER, None)]
-    rows += [(Kind.CACHE, cache_of(user), user, image) for user, image in (
+    rows += [(Kind.CACHE, FileName(OWN.format(user), source=DEFAULT), user, image) for user, image in (
         (USER, CACHE), (USER, NEITHER), (0, None), (USER, None), (2**32 - 2, None))]
     for kind, name, user, image in rows:
         status = OF_USER.format(user).encode()
@@ -124,7 +116,7 @@ def check_defaults(report: Report, program: str) -> None:
                 continue
             for command in (each for each in COMMANDS if each.has_default and each.kind is kind):
                 for env in UNNAMED[kind]:
-                    compare(command.row(program, name, image, None, {}, env))
+                    compare(command.row(name, image, None, {}, env))
 
 
 def check_unknown(report: Report, program: str) -> None:
@@ -140,9 +132,9 @@ def check_unknown(report: Report, program: str) -> None:
                 for line in ("klist", "klist -c", "klist --json", "klist -s"):
                     compare(bad(line, {}, "no FILE"))
                 compare(bad("klist -x", {}, "unknown option -x"))
-                compare(KLIST_CACHE.row(program, FileName(b"c"), CACHE, b"c", {}, {}))
-                compare(KLIST_CACHE.row(program, FileName(b"c"), CACHE, None, {}, {CCNAME: "c"}))
-                compare(KLIST.row(program, KEYTAB, TWO, None, {}, {}))
+                compare(KLIST_CACHE.row(FileName("c"), CACHE, "c", {}, {}))
+                compare(KLIST_CACHE.row(FileName("c"), CACHE, None, {}, {CCNAME: "c"}))
+                compare(KLIST.row(KEYTAB, TWO, None, {}, {}))
 
 
 def by_user(user: int) -> tuple[str, ...]:
@@ -171,7 +163,7 @@ def check_users(report: Report, program: str) -> None:
                     continue
                 first, *rest = [*front, copy, "klist"]
                 got = run(first, rest, folder, env={"PATH": os.environ["PATH"]})
-                row = KLIST_CACHE.row(program, cache_of(user), image, None, {}, {})
+                row = KLIST_CACHE.row(FileName(OWN.format(user), source=DEFAULT), image, None, {}, {})
                 report.compare(f"the default cache of user {user}, {front}", row.wanted(False, row.out), got)
 
 

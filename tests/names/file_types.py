@@ -10,23 +10,15 @@ from itertools import product
 
 from keytabs.ktutil_lines import TWO_LISTED, lines
 from makers.images import TWO, keytab
-from models.check_model import FOLDER
-from models.name_model import Kind, named
-from models.named_runs import COMMANDS, IMAGES, KLIST, KLIST_CACHE, LARGE_FILE, NEITHER
+from names.named_files import (ALL, COMMANDS, FOLDER, IMAGES, KLIST, KLIST_CACHE, LARGE_FILE, NEITHER, Kind, named)
 from runs.harness import Report
 from runs.rows import check_rows
 from words.explained import Explained, unchanged
 from words.phrases import BEGINS_AS_NO_KEYTAB, LEAVE_OUT, NAMED, NOT_READ, code, unknown
 
-# Words that every command is tried with, and its variable. A type has two letters or more, and nothing but letters,
-# before the first colon; one that the kind has is taken off, once.
+# Words that every command is tried with, and its variable; the listings are tried with all.
 SOME = ("FILE:k", "FILE:FILE:k", "WRFILE:k", "WRFILE:FILE:k", "./FILE:k", "C:k", "1:k", 'ключ "\\:k', "KCM:",
         "KCM:k", "file:k", "FILE:", "")
-# Words for the listings.
-ALL = (*SOME, "FILE:./k", "FILE:KCM:k", "FILE::k", "FILE: k", "FILE:C:k", "FILE:WRFILE:k", "WRFILE:WRFILE:k", "./KCM:k",
-       "f:FILE:k", ":k", ":FILE:k", "k1:k", "X509:k", "a b:k", " FILE:k", "FILE :k", "%{uid}", "-FILE:k", "FI_LE:k",
-       "é:k", "FILE", "KCM", "FILE;k", "KEYRING:persistent:0", "MEMORY:k", "DIR::k", "File:k", "FILe:k", "FILEX:k",
-       "XFILE:k", "ab:k", "KCM:FILE:k", "wrfile:k", "WRFile:k", "k:FILE:k", "c:k")
 
 # No run looks at these, but for the variable of its kind where the file is left out.
 IGNORED = {"KRB5_CLIENT_KTNAME": b"\xff", **{kind.variable: b"\xff" for kind in Kind}}
@@ -40,7 +32,7 @@ def decoys(word: str, name: str) -> dict[str, bytes]:
     return {each: NEITHER for each in names if "/" not in each}
 
 
-def rows(program: str) -> Iterator[Explained]:
+def rows() -> Iterator[Explained]:
     """Yields each command over words, where the file is there and where it is not, and over what is no such file."""
     for command, variable in product(COMMANDS, (False, True)):
         if variable and not command.has_default:
@@ -48,13 +40,13 @@ def rows(program: str) -> Iterator[Explained]:
         words = ALL if command in (KLIST, KLIST_CACHE) and not variable else SOME[:-1] if variable else SOME
         places = [(word, place) for word in words for place in (IMAGES[command.kind], None)]
         for word, place in (*places, (".", FOLDER), ("k", NEITHER), ("k", LARGE_FILE)):
-            name, given = named(command.kind, word.encode()), word.encode()
+            name = named(command.kind, word)
             if variable:
                 name = replace(name, source=NAMED.replace("VARIABLE", command.kind.variable))
             # What is under a name of another type is never read; under that of a type alone nothing is.
-            if (place is None) == (name.text == b"") or place is None and not name.other:
-                yield command.row(program, name, place, None if variable else given, decoys(word, name.text.decode()),
-                                  IGNORED | ({command.kind.variable: given} if variable else {}))
+            if (place is None) == (name.text == "") or place is None and not name.other:
+                yield command.row(name, place, None if variable else word, decoys(word, name.text),
+                                  IGNORED | ({command.kind.variable: word} if variable else {}))
 
 
 def not_read(name: str) -> str:
@@ -115,4 +107,4 @@ CASES = [*ORDER, *WRITES, *READS]
 
 def check(report: Report, program: str) -> None:
     """Runs each command over each name."""
-    check_rows(report, program, rows(program))
+    check_rows(report, program, rows())

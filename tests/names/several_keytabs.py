@@ -6,7 +6,7 @@ from dataclasses import replace
 
 from keytabs.finds import FIVE
 from makers.images import B, HOST, TWO, hole, keytab
-from models.named_runs import NEITHER
+from names.named_files import NEITHER
 from runs.harness import Outcome, Report, folder_of, run
 from runs.rows import Line, shown, text, words_of
 from runs.terminal import EXPLAIN
@@ -21,7 +21,6 @@ FILES = {
     "a:b": TWO, "FILE:k": keytab(replace(B, enctype=23), B), "two words": TWO, "a\nb": TWO,
 }
 
-# The lines of each.
 SOUND = "entries 2 free 0 holes 0"
 WEAK = ["weak 2 kvno 3 etype 23 b@R", SOUND]
 OLD = ["old 2 kvno 3 etype 17 host/a@R", SOUND]
@@ -31,10 +30,8 @@ ALL = ["mode 644", *(f"{word} kvno 3 etype 23 host/a@R" for word in (
     "weak 2", "hidden 2", "old 2", "weak 37", "clash 37 2", "old 37", "weak 88", "same 88 2", "old 88")),
        "entries 4 free 0 holes 0"]
 
-NO_KEYTAB = ("x: not a keytab (2)", BEGINS_AS_NO_KEYTAB[1])
-UNREAD = (".: cannot read", CAUSES["EISDIR"])
-MISSING = ("no: no such file", "")
-OTHER = ("KCM:k: no such file", NOT_READ.replace("TYPE", "KCM:"))
+NO_KEYTAB, UNREAD = ("x: not a keytab (2)", BEGINS_AS_NO_KEYTAB[1]), (".: cannot read", CAUSES["EISDIR"])
+MISSING, OTHER = ("no: no such file", ""), ("KCM:k: no such file", NOT_READ.replace("TYPE", "KCM:"))
 
 
 def set_modes(folder: str) -> None:
@@ -75,7 +72,7 @@ K = labelled(k=[SOUND])
 
 CASES = [
     # One file has no label, however it is named; of several each line has one, with the name as it is loaded.
-    check_up("FILE:k", [SOUND]), check_up("k k", K + K),
+    check_up("FILE:k", [SOUND]),
     check_up("FILE:k ./k a:b -- e", K + labelled(**{"./k": [SOUND], "a:b": [SOUND], "e": HOLES})),
     check_up("FILE:FILE:k k", labelled(**{"FILE:k": WEAK}) + K, *words("./FILE:k", "weak"), status=1),
     # A name with a newline makes no line of its own.
@@ -83,27 +80,22 @@ CASES = [
              (r"no\x0ak: no such file", ""), status=1),
     # A file that cannot be checked has its message, and the next goes on; the status is the greatest.
     check_up("k no no", K, MISSING, MISSING, status=1),
-    check_up("x . no k", K, NO_KEYTAB, UNREAD, MISSING, status=3),
     check_up(". k w", K + labelled(w=WEAK), UNREAD, *words("w", "weak"), status=3),
     check_up("KCM:k FILE:k", K, OTHER, status=1),
     check_up(("", "k", "FILE:"), K, (": no such file", ""), (": no such file", ""), status=1),
     # Words once a run, at the first file that has the finding, in their order; then the fault of that file, of each.
     check_up("w d no w o", labelled(w=WEAK, d=BROKEN) + labelled(w=WEAK, o=OLD),
              *words("w", "weak"), *fault("d"), MISSING, *words("o", "old"), status=1),
-    check_up("all k w", labelled(all=ALL, k=[SOUND], w=WEAK), *words("all", *FINDINGS), status=1),
     check_up("o all", labelled(o=OLD, all=ALL), *words("o", "old"),
              *words("all", *(each for each in FINDINGS if each != "old")), status=1),
-    check_up("d FILE:d", labelled(d=BROKEN) * 2, *fault("d"), *fault("d"), status=1),
     # A file without any other finding has no line; what is allowed, old, or a mode has one.
     check_up("-qq -q e k", []), check_up("-q k o e", labelled(o=OLD), *words("o", "old")),
     check_up("-q d", BROKEN, *fault("d"), status=1),
     check_up("-q k no x", [], MISSING, NO_KEYTAB, status=1),
     check_up("-q --allow weak w k", labelled(w=WEAK), *words("w", "weak")),
-    check_up("-q all", ALL, *words("all", *FINDINGS), status=1),
     # What is allowed has its lines, and only other findings count for the status, as faults and other files do.
     *(check_up(f"{allow(*(each for each in FINDINGS if each != counted))} all", ALL, *words("all", *FINDINGS),
                status=int(counted not in ("", "old"))) for counted in ("", *FINDINGS)),
-    check_up("--allow=old --allow=old w", WEAK, *words("w", "weak"), status=1),
     check_up(f"{allow(*FINDINGS)} d no", labelled(d=BROKEN), *fault("d"), MISSING, status=1),
 ]
 
@@ -112,7 +104,6 @@ FAILED = ("cannot write output", CAUSES["ENOSPC"])
 FAILING = {
     "k w no": ((FAILED,), 3),
     "no k x": ((MISSING, FAILED), 3),
-    "w no": ((FAILED,), 3),
     "-q k e w no": ((FAILED,), 3),
     "-q no k . w x": ((MISSING, UNREAD, FAILED), 3),
     # Nothing is printed, so nothing fails.

@@ -1,11 +1,11 @@
 """Cases over the files in `corpus`, which other programs wrote. `NAME.txt` beside a file is what MIT's klist prints.
+Theorems say that each is listed so; here are the listings of which MIT's klist says something else.
 
-The folder has `cases.jsonl`, one case a line: an object with `id`, `dir` (the folder in it with the
-case's files), `argv` (the program's arguments), `status`, `stdout`, `stderr`, and perhaps `stdin`,
-`copy` (a pair: a file of `dir`, and its name where the program runs) and `result_file` (names, each
-with what it contains afterwards). An output is {"text"} or {"hex"}; the contents of a file are that,
-or the name of a file of `dir` with the same bytes. A word of the line or of the standard input that
-names a file of `dir` has that file copied to where the program runs.
+The folder has `cases.jsonl`, one case a line: an object with `id`, `dir` (the folder in it with the case's files),
+`argv` (the program's arguments), `status`, `stdout`, `stderr`, and perhaps `stdin`, `copy` (a pair: a file of `dir`,
+and its name where the program runs) and `result_file` (names, each with what it contains afterwards). An output is
+{"text"} or {"hex"}; the contents of a file are that, or the name of a file of `dir` with the same bytes. A word of the
+line or of the standard input that names a file of `dir` has that file copied to where the program runs.
 """
 
 import json
@@ -57,8 +57,7 @@ def case_of(fields: dict) -> Case:
         is_name = isinstance(value, str)
         after[name] = read(os.path.join(source, value)) if is_name else given(value)
     wanted = Outcome(fields["status"], given(fields["stdout"]), given(fields["stderr"]))
-    name = f"other programs' files: {fields['id']}"
-    return Case(name, tuple(fields["argv"]), wanted, files, after, stdin.encode())
+    return Case(fields["id"], tuple(fields["argv"]), wanted, files, after, stdin.encode())
 
 
 def check(report: Report, program: str) -> None:

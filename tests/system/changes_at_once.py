@@ -11,13 +11,13 @@ from functools import partial
 from random import Random
 
 from makers.images import Entry, keytab
-from models.cases import IN_PLACE
 from peers.beside_mit import SURROUNDINGS, are_there
 from runs.harness import TOP, Report, folder_of, run
 from runs.random_runs import Rounds
 from runs.storms import Run, rage
+from runs.undisturbed import IN_PLACE
 from system.saving import tree, write
-from system.storm_kinds import COPIES, HOLDS, KINDS, MANY, PLACES, Kind, change, removes
+from system.storm_kinds import COPIES, HOLDS, KINDS, MANY, PLACES, Kind, change, names_of, removes
 
 # The names by which the runs call the file, and the contents of the folder at the end.
 PATHS = ("k", "./k", "link")
@@ -53,14 +53,13 @@ class Storm:
             name = f"{'m' if is_mits else 'h' if removes(command) else 'a'}{number}"
             source = source_of(name, sources)
             path = self.random.choice(PATHS)
-            words, text = change(command, name, path, source)
-            if self.kind.in_place and not is_killed and self.random.random() < 0.5:
-                words = (words[0], IN_PLACE, *words[1:])
-            line = (self.program, *words)
-            if is_mits:
-                line, text = ("ktutil",), f"rkt {source}\nwkt k\n"
+            line, text = ("ktutil",), f"rkt {source}\nwkt k\n"
             if command == "hold":
                 line, text = (*ADDS, path, "sh", "-c", f"cat; tail -c +3 {source}"), ""
+            elif not is_mits:
+                (first, *rest), text = change(command, name, path, source)
+                options = [IN_PLACE] * (self.kind.in_place and not is_killed and self.random.random() < 0.5)
+                line = (self.program, first, *options, *rest)
             self.runs.append(Run(name, line, text, removes(command), is_mits, is_killed))
         os.symlink(self.program, os.path.join(sources, "krbfile"))
         path = sources + os.pathsep + SURROUNDINGS["PATH"]
@@ -86,10 +85,10 @@ class Storm:
         is_over.set()
         looks.join()
 
-    def judge_file(self, folder: str) -> None:
-        """Judges the file at the end: each saved change is there, and no entry twice."""
+    def judge(self, folder: str) -> None:
+        """Judges what was seen meanwhile, and the file at the end: each saved change is there, and no entry twice."""
         found = tree(folder)
-        names = self.kind.names(found.get("k", b""))
+        names = names_of(self.kind.option, found.get("k", b""))
         if names is None:
             self.found.append(f"the file is not whole at the end: {found.get('k')}")
         names = names or []
@@ -99,15 +98,7 @@ class Storm:
             self.found.append(f"{names} are there")
         if not self.kind.kills and found.keys() != LEFT:
             self.found.append(f"{sorted(found)} are left")
-
-    def judge_looks(self) -> None:
-        """Judges what was seen meanwhile. What MIT's write, or a save in place, may have been seen half written."""
-        for image in self.seen:
-            is_whole = self.kind.names(image) is not None
-            may_be_part = self.kind.with_mit or self.kind.in_place
-            is_bad = self.kind.is_no_file(image) if may_be_part else not is_whole
-            if is_bad:
-                self.found.append(f"{image[:40]}, {len(image)} bytes, was seen")
+        self.found += [f"{image[:40]}, {len(image)} bytes, was seen" for image in self.seen if self.kind.is_bad(image)]
 
     def judge_next(self, folder: str, sources: str) -> None:
         """Checks that stale files do not stop a later run, which also removes them."""
@@ -116,7 +107,7 @@ class Storm:
         words, text = change(command, name, source=source_of(name, sources))
         got = run(self.program, words, folder, text.encode())
         found = tree(folder)
-        names = self.kind.names(found.get("k", b"")) or []
+        names = names_of(self.kind.option, found.get("k", b"")) or []
         is_done = got.status == 0 and (name in names) != removes(command)
         if not is_done or found.keys() != LEFT:
             self.found.append(f"the next run: {got}, then {sorted(found)} are there")
@@ -132,8 +123,7 @@ def storm(program: str, kind: Kind, seed: int) -> Storm:
         os.symlink("k", os.path.join(folder, "link"))
         made.start(folder, sources)
         made.rage(folder)
-        made.judge_file(folder)
-        made.judge_looks()
+        made.judge(folder)
         made.judge_next(folder, sources)
     return made
 

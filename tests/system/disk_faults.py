@@ -7,14 +7,15 @@ import signal
 import subprocess
 from collections.abc import Iterator
 from contextlib import contextmanager
+from itertools import product
 
-from makers.images import TWO
-from models.cases import IN_PLACE, ktremove
-from models.removal_model import Selection
+from makers.images import B, TWO, keytab
 from runs.harness import Case, Outcome, Report, differences, folder_of, message
 from runs.preload import Line
+from runs.rows import printed
 from runs.system_calls import Call, calls_of, check_traced, traced, under_strace
 from runs.terminal import EXPLAIN
+from runs.undisturbed import IN_PLACE
 from system.placing import explained
 from system.saving import (GROUP, NEW, OLD, SAVED, SCRIPT, UNREAD, UNSAVED, USER, Owned, Place, at, check_over, edit,
                            owned, tree, tree_faults, write)
@@ -22,10 +23,11 @@ from words.phrases import AFTERMATHS, CAUSES
 
 LINE = Line(("ktedit", "k"), SCRIPT)
 
-# The file to which the link `k` leads, and the new one in the same folder.
-TARGET = "file"
-NEW_NAME = "file.krbfile"
-REMAINS = b"remains"
+# What makes a file alone.
+ALONE = at("k", lambda path: write(path, OLD))
+
+# The file to which the link `k` leads, the new one in the same folder, and what an earlier save left in it.
+TARGET, NEW_NAME, REMAINS = "file", "file.krbfile", b"remains"
 
 # The mode of that file. Until it is set only the owner may read the new one.
 MODE = 0o640
@@ -36,31 +38,32 @@ KILLED = Outcome(-signal.SIGKILL)
 # How a run in place ends whose last look fails, and what its file has then.
 UNSEEN = {explained(Outcome(1, SAVED.out), f"k: {AFTERMATHS['mixed']}"): NEW}
 
+
+def named(errors: str) -> dict[str, str]:
+    """Returns errors with their phrases."""
+    return {error: CAUSES[error] for error in errors.split()}
+
+
+NO_MEMORY = {"ENOMEM": "error 12"}
+
 # What a call fails with, and the phrase of it. With what a save goes on without an owner or a lock stands below.
 FAILED = {
-    "open": {"EACCES": CAUSES["EACCES"], "EPERM": CAUSES["EACCES"], "ENOENT": CAUSES["ENOENT"],
-             "ENOTDIR": CAUSES["ENOTDIR"], "EISDIR": CAUSES["EISDIR"], "EROFS": CAUSES["EROFS"],
-             "ENAMETOOLONG": CAUSES["ENAMETOOLONG"]},
-    "lstat": {"EACCES": CAUSES["EACCES"], "ENOTDIR": CAUSES["ENOTDIR"], "ELOOP": CAUSES["ELOOP"], "ENOMEM": "error 12"},
-    "flock": {"ENOLCK": CAUSES["ENOLCK"]},
-    "write": {"EINTR": CAUSES["EINTR"], "EFBIG": CAUSES["EFBIG"], "ENOSPC": CAUSES["ENOSPC"],
-              "EPIPE": CAUSES["EPIPE"], "EDQUOT": CAUSES["EDQUOT"], "EIO": CAUSES["EIO"], "EPROTO": "error 71",
-              "ENOMEM": "error 12"},
-    "fchown": {"EIO": CAUSES["owner"]},
-    "fchmod": {"EIO": CAUSES["EIO"]},
-    "fsync": {"EBUSY": "error 16"},
-    "rename": {"EBUSY": CAUSES["EBUSY"], "EIO": CAUSES["EIO"]},
+    "open": named("EACCES ENOENT ENOTDIR EISDIR EROFS ENAMETOOLONG") | {"EPERM": CAUSES["EACCES"]},
+    "lstat": named("EACCES ENOTDIR ELOOP") | NO_MEMORY, "flock": named("ENOLCK"),
+    "write": named("EINTR EFBIG ENOSPC EPIPE EDQUOT EIO") | {"EPROTO": "error 71"} | NO_MEMORY,
+    "fchown": {"EIO": CAUSES["owner"]}, "fchmod": named("EIO"),
+    "fsync": {"EBUSY": "error 16"}, "rename": named("EBUSY EIO"),
 }
 
 # How the traces begin of calls that have other names in FAILED.
 TRACES = {"open": r"open.*O_CREAT", "lstat": r'\w*stat\w*\(.*"k"'}
 
 # A run that needs no input, over a file in another folder than its own. The shell's first word is the program.
-REMOVAL = ktremove(TWO, selection=Selection((b"host/a@R",)), name="removes")
 REMOVE = 'exec "$0" ktremove -p host/a@R d/k'
 
-# With the standard streams, and with the error output alone.
-RUNS = ((REMOVE, REMOVAL.wanted), (f"{REMOVE} <&- >&-", message(3, "cannot write output")))
+# With the standard streams, and with the error output alone; and the file afterwards.
+RUNS = ((REMOVE, printed("removed 2 kvno 3 etype 17 host/a@R")), (f"{REMOVE} <&- >&-", UNPRINTED))
+LEFT = keytab(47, B)
 
 # A write of the new bytes, which begin as every keytab does, and the first number of a handle that is no stream.
 WRITTEN = re.compile(r'write\((\d+), "\\5\\2')
@@ -75,11 +78,6 @@ def place(folder: str) -> None:
     write(os.path.join(folder, TARGET), OLD, MODE)
     write(os.path.join(folder, NEW_NAME), REMAINS)
     os.symlink(TARGET, os.path.join(folder, "k"))
-
-
-def alone(folder: str) -> None:
-    """Makes a file alone."""
-    write(os.path.join(folder, "k"), OLD)
 
 
 def calls_of_run(program: str, setting: Place, line: Line = LINE) -> list[Call]:
@@ -138,7 +136,7 @@ def check_handles(report: Report, program: str) -> None:
             os.mkdir(os.path.join(folder, "d"))
             write(os.path.join(folder, "d", "k"), TWO)
             outcome, trace = traced("sh", Line(("-c", script, program)), folder)
-            faults = differences(wanted, outcome) + tree_faults({"d": "d", "d/k": REMOVAL.files_after["k"]}, folder)
+            faults = differences(wanted, outcome) + tree_faults({"d": "d", "d/k": LEFT}, folder)
         faults += [f"{what} is not synced in time" for what, calls in SYNCS.items()
                    if not re.search(calls, "\n".join(trace), re.MULTILINE | re.DOTALL)]
         handles = [int(found[1]) for found in map(WRITTEN.match, trace) if found]
@@ -175,13 +173,13 @@ def check_kills(report: Report, program: str) -> None:
 
 def check_causes(report: Report, program: str) -> None:
     """Checks the cause that is reported for each error: the first call of that name fails with it."""
-    calls = calls_of_run(program, alone)
+    calls = calls_of_run(program, ALONE)
     for name, errors in FAILED.items():
         call = next(call for call in calls if re.match(TRACES.get(name, name), call.line))
         for error, phrase in errors.items():
             case = Case(f"{name} fails with {error}", (EXPLAIN, *LINE.words), explained(UNSAVED, phrase), {},
                         stdin=SCRIPT)
-            check_over(report, "strace", under_strace(program, case, *call.to(f"error={error}")), alone)
+            check_over(report, "strace", under_strace(program, case, *call.to(f"error={error}")), ALONE)
 
 
 def check_missing(report: Report, program: str) -> None:
@@ -211,21 +209,13 @@ def check_owner(report: Report, program: str) -> None:
     narrow = ("EPERM", "EACCES", "ENOSYS", "EOPNOTSUPP", "EINVAL")
     me = os.geteuid()
     old = Owned(0o644, USER, GROUP) if me == 0 else Owned(0o644, me, os.getegid())
-    for error in (*narrow, "EIO", "EDQUOT", "ENOSPC", "EROFS", "EINTR"):
-        for when in ("", ":when=1"):
-            with folder_of({"k": OLD}) as folder:
-                path = os.path.join(folder, "k")
-                os.chown(path, old.owner, old.group)
-                os.chmod(path, old.mode)
-                call = ("-e", f"inject=fchown:error={error}{when}")
-                outcome, _ = traced(program, LINE, folder, *call)
-                is_saved = error in narrow
-                new = Owned(0o644 if when else 0o604, 0, GROUP if when else 0)
-                new = new if is_saved and me == 0 else old
-                faults = differences(SAVED if is_saved else UNSAVED, outcome)
-                faults += [] if owned(path) == new else [f"{owned(path)}, not {new}"]
-                faults += tree_faults({"k": NEW if is_saved else OLD}, folder)
-            report.check(f"no owner can be given: {error}{when}", faults)
+    for error, when in product((*narrow, "EIO", "EDQUOT", "ENOSPC", "EROFS", "EINTR"), ("", ":when=1")):
+        is_saved = error in narrow
+        new = Owned(0o644 if when else 0o604, 0, GROUP if when else 0) if is_saved and me == 0 else old
+        case = Case(f"no owner can be given: {error}{when}", LINE.words, SAVED if is_saved else UNSAVED, {"k": OLD},
+                    {"k": NEW if is_saved else OLD}, SCRIPT)
+        case = under_strace(program, case, "-e", f"inject=fchown:error={error}{when}")
+        check_over(report, "strace", case, at("k", old.give), left=new)
 
 
 def check_lock(report: Report, program: str) -> None:

@@ -4,88 +4,78 @@ a pipe, leave alone, and keep of the file that is saved."""
 import os
 import subprocess
 from dataclasses import replace
+from itertools import product
 
 from makers.images import B, HOST, TWO, keytab
-from models.cases import hold, in_place, ktcopy, ktedit
-from models.copy_model import Request
 from runs.harness import Case, Outcome, Report, differences, folder_of, message, run
 from runs.rows import Line, printed, words_of
 from runs.terminal import EXPLAIN
+from runs.undisturbed import frame, in_place, undisturbed
 from system.pipe_files import fed
 from system.placing import PLACED, explained
 from system.saving import (ADD, CHANGES, CLASH, GROUP, HOLDING_NOTHING, NEW, OLD, SAVED, SAVING_NOTHING, SCRIPT, UNREAD,
-                           UNSAVED, USER, WALK, Owned, Place, as_another, as_user, at, check_over, link, owned,
-                           run_over, tree, tree_faults, unsaved, write)
+                           UNSAVED, USER, WALK, Owned, Place, Run, as_another, as_user, at, check_over,
+                           faults_over, link, run_over, tree, tree_faults, unsaved, write)
 from words.phrases import CAUSES
 
-# Runs that make a file, and copies over a keytab, and over a file of no bytes.
-MADE = (ktedit(None, SCRIPT, name="adds"), ktcopy(TWO, None, request=Request(), name="adds"),
-        hold(None, NEW, name="saves"))
-COPIES = tuple(ktcopy(TWO, target, request=Request(), name=f"into {len(target)} bytes") for target in (keytab(), b""))
+# Runs that make a file, and that change one: the last ones copy over a keytab, and over a file of no bytes.
+MADE = (undisturbed("ktedit k", SCRIPT, name="adds"), undisturbed("ktcopy k t", k=TWO, name="adds"),
+        undisturbed("hold -k k", frame(NEW), name="saves"))
+ALL = (*CHANGES, *(undisturbed("ktcopy k t", t=target, k=TWO, name=f"into {len(target)} bytes")
+                   for target in (keytab(), b"")))
 
 # Modes of files that are replaced by their owner.
 MODES = (0o400, 0o600, 0o640, 0o664, 0o604, 0o6755)
 
 
-def check_owned(report: Report, name: str, program: str, old: Owned, new: Owned, case: Case = ADD, **options) -> None:
+def check_owned(report: Report, name: str, program: str, old: Owned, new: Owned, case: Run = ADD, **options) -> None:
     """Checks a save over a file of that mode, owner and group, in a folder of the user who makes the run."""
-    with folder_of(case.files) as folder:
-        path = os.path.join(folder, case.words[-1])
-        os.chown(folder, options.get("user", -1), options.get("group", -1))
-        os.chown(path, old.owner, old.group)
-        os.chmod(path, old.mode)
-        faults = differences(case.wanted, run_over(program, case, folder, **options))
-        if owned(path) != new:
-            faults.append(f"{owned(path)}, not {new}")
-        faults += tree_faults(case.files_after, folder)
-    report.check(f"{name}, mode {old.mode:o}: {case.name}", faults)
+    folder = Owned(0o700, options.get("user", -1), options.get("group", -1))
+    report.check(f"{name}, mode {old.mode:o}: {case.name}", faults_over(
+        program, case, at(".", folder.give), at(case.words[-1], old.give), left=new, **options))
 
 
-def check_new_files(report: Report, program: str, cases: tuple[Case, ...] = MADE) -> None:
+def check_new_files(report: Report, program: str) -> None:
     """Checks that a new file is readable by its owner only, whatever the umask."""
-    for case in cases:
-        for umask in (0, 0o022, 0o077, 0o777):
-            with folder_of(case.files) as folder:
-                faults = differences(case.wanted, run_over(program, case, folder, umask=umask))
-                faults += tree_faults(case.files_after, folder)
-                mode = owned(os.path.join(folder, case.words[-1])).mode
-            faults += [] if mode == 0o600 else [f"mode {mode:o}"]
-            report.check(f"a new file under the umask {umask:o}: {case.name}", faults)
+    for case, umask in product(MADE, (0, 0o022, 0o077, 0o777)):
+        faults = faults_over(program, case, left=Owned(0o600, os.geteuid(), os.getegid()), umask=umask)
+        report.check(f"a new file under the umask {umask:o}: {case.name}", faults)
 
 
-def check_own_files(report: Report, program: str, cases: tuple[Case, ...] = CHANGES) -> None:
+def check_own_files(report: Report, program: str) -> None:
     """Checks that an owner who is in a file's group saves it with its mode."""
-    for case in cases:
-        for mode in MODES:
-            here = Owned(mode, os.geteuid(), os.getegid())
-            check_owned(report, "an own file", program, here, here, case, umask=0o077)
+    for case, mode in product(ALL, MODES):
+        here = Owned(mode, os.geteuid(), os.getegid())
+        check_owned(report, "an own file", program, here, here, case, umask=0o077)
 
 
-def check_others_files(report: Report, program: str, cases: tuple[Case, ...] = CHANGES) -> None:
+# What is lost in a save by another user, the owner and the group before and after it, the groups of that user, and
+# modes before and after it.
+LOST = (
+    ("the owner is", (0, GROUP), (USER, GROUP), (GROUP,),
+     ((0o6664, 0o664), (0o264, 0o220), (0o666, 0o666), (0o474, 0o444))),
+    ("the group is", (USER, 0), (USER, USER), (), ((0o6664, 0o604), (0o604, 0o600), (0o647, 0o604), (0o775, 0o705))),
+    ("both are", (0, 0), (USER, USER), (), ((0o644, 0o604), (0o6777, 0o707), (0o657, 0o604), (0o464, 0o404))),
+)
+
+
+def check_others_files(report: Report, program: str) -> None:
     """Checks that root keeps owner and group, and that others give no user more rights than the old file did."""
     if os.geteuid() != 0 or as_another(program) is None:
         report.skip("files of others", "none but root may make them, or start the program")
         return
     for mode in MODES:
         theirs = Owned(mode, USER, GROUP)
-        for case in cases:
+        for case in ALL:
             check_owned(report, "a user's file saved by root", program, theirs, theirs, case)
         inside = as_user((GROUP,))
         check_owned(report, "a user's file in one of its groups", program, theirs, theirs, **inside)
-    # The mode that is left if the owner is lost, the group, or both.
-    for old, new in ((0o6664, 0o664), (0o264, 0o220), (0o666, 0o666), (0o474, 0o444)):
-        after = Owned(new, USER, GROUP)
-        old_file = Owned(old, 0, GROUP)
-        check_owned(report, "the owner is lost", program, old_file, after, **as_user((GROUP,)))
-    for old, new in ((0o6664, 0o604), (0o604, 0o600), (0o647, 0o604), (0o775, 0o705)):
-        after = Owned(new, USER, USER)
-        check_owned(report, "the group is lost", program, Owned(old, USER, 0), after, **as_user())
-    for old, new in ((0o644, 0o604), (0o6777, 0o707), (0o657, 0o604), (0o464, 0o404)):
-        after = Owned(new, USER, USER)
-        check_owned(report, "both are lost", program, Owned(old, 0, 0), after, **as_user())
+    for what, before, after, groups, modes in LOST:
+        for old, new in modes:
+            check_owned(report, f"{what} lost", program, Owned(old, *before), Owned(new, *after), **as_user(groups))
 
 
-def links_to(*links: tuple[str, str], data: bytes | None = OLD, target: str = "t/k") -> Place:
+def links_to(*links: tuple[str, str], data: bytes | None = OLD) -> Place:
     """Returns a place with two folders, links of these names and texts, and a file unless `data` is None."""
 
     def place(folder: str) -> None:
@@ -94,7 +84,7 @@ def links_to(*links: tuple[str, str], data: bytes | None = OLD, target: str = "t
         for name, text in links:
             os.symlink(text.replace("FOLDER", folder), os.path.join(folder, name))
         if data is not None:
-            write(os.path.join(folder, target), data)
+            write(os.path.join(folder, "t/k"), data)
 
     return place
 
@@ -105,31 +95,27 @@ def long_chain(count: int) -> list[tuple[str, str]]:
     return [*zip(names, names[1:])]
 
 
-def check_links(report: Report, program: str) -> None:
-    """Checks that the file at the end of links is replaced or made, if they lead to one, and that each link stays."""
-    chain = (("k", "u/a"), ("u/a", "../u/b"), ("u/b", "FOLDER/t/k"))
-    cases = [
-        ("a relative link", SAVED, links_to(("k", "t/k"))),
-        ("a link through a parent folder", SAVED, links_to(("k", "u/../t/k"))),
-        ("an absolute link", SAVED, links_to(("k", "FOLDER/t/k"))),
-        ("a chain of links", SAVED, links_to(*chain)),
-        ("a link through a link to a folder", SAVED, links_to(("d", "t"), ("k", "d/k"))),
-        ("a link that dangles", SAVED, links_to(("k", "t/k"), data=None)),
-        ("a chain that dangles", SAVED, links_to(*chain, data=None)),
-        ("a chain of 40 links", SAVED, links_to(*long_chain(40))),
-        ("a link into no folder", UNSAVED, links_to(("k", "no/k"))),
-        ("a link to no folder", UNSAVED, links_to(("k", "no/"), data=None)),
-        ("a link in a circle", UNREAD, links_to(("k", "u/k"), ("u/k", "../k"))),
-        ("a chain of 41 links", UNREAD, links_to(*long_chain(41))),
-    ]
-    for name, wanted, place in cases:
-        after = {"t/k": NEW} if wanted == SAVED else None
-        check_over(report, program, Case(f"save over {name}", ("ktedit", "k"), wanted, {}, after, SCRIPT), place)
+# What leads to the file that is replaced or made, if anything does. Each link stays.
+CHAIN = (("k", "u/a"), ("u/a", "../u/b"), ("u/b", "FOLDER/t/k"))
+LINKS = (
+    ("a relative link", SAVED, links_to(("k", "t/k"))),
+    ("a link through a parent folder", SAVED, links_to(("k", "u/../t/k"))),
+    ("an absolute link", SAVED, links_to(("k", "FOLDER/t/k"))),
+    ("a chain of links", SAVED, links_to(*CHAIN)),
+    ("a link through a link to a folder", SAVED, links_to(("d", "t"), ("k", "d/k"))),
+    ("a link that dangles", SAVED, links_to(("k", "t/k"), data=None)),
+    ("a chain that dangles", SAVED, links_to(*CHAIN, data=None)),
+    ("a chain of 40 links", SAVED, links_to(*long_chain(40))),
+    ("a link into no folder", UNSAVED, links_to(("k", "no/k"))),
+    ("a link to no folder", UNSAVED, links_to(("k", "no/"), data=None)),
+    ("a link in a circle", UNREAD, links_to(("k", "u/k"), ("u/k", "../k"))),
+    ("a chain of 41 links", UNREAD, links_to(*long_chain(41))),
+)
 
 
-def check_hard_links(report: Report, program: str, cases: tuple[Case, ...] = CHANGES) -> None:
+def check_hard_links(report: Report, program: str) -> None:
     """Checks that a link is followed, a hard link is broken, a stale file is removed, and all else stays."""
-    for case in cases:
+    for case in ALL:
         name = case.words[-1]
         others = {each: data for each, data in case.files.items() if each != name}
         with folder_of({**others, "file": case.files[name], "file.krbfile": b"left", "file.new": b"new"}) as folder:
@@ -174,9 +160,10 @@ def check_locked_folder(report: Report, program: str) -> None:
     if options is None:
         report.skip("a locked folder", "none but root may start the program")
         return
-    scripts = [ktedit(before, script, name=f"{script[-6:-1]!r} over {before}")
+    scripts = [undisturbed("ktedit k", script, k=before, name=f"{script[-6:-1]!r} over {before}")
                for before in (OLD, None) for script in (SCRIPT, WALK, b"cut 3\n", WALK + b"cut 2\n")]
-    cases = [case if case.files == case.files_after else replace(case, wanted=unsaved(case), files_after=case.files)
+    cases = [case if case.files == case.files_after else Case(case.name, case.words, unsaved(case), case.files,
+                                                              stdin=case.stdin)
              for case in (*CHANGES[1:], *scripts, *HOLDING_NOTHING, *SAVING_NOTHING)]
     for case in (*cases, *map(in_place, PLACED)):
         check_over(report, program, replace(case, name=f"a locked folder: {case.name}"), lock_folder, **options)
@@ -184,10 +171,6 @@ def check_locked_folder(report: Report, program: str) -> None:
 
 COPY = ("ktcopy", "k", "t")
 COPIED = printed("copied 2 kvno 3 etype 17 host/a@R", "copied 53 kvno 3 etype 17 b@R")
-CUT = TWO[:-1]
-
-# What stands under the name of the new file.
-IN_THE_WAY = at("t.krbfile", os.mkdir)
 
 
 def copy(name: str, line: str | Line, files: dict[str, bytes], wanted: Outcome = COPIED, after: bytes | None = None,
@@ -196,37 +179,35 @@ def copy(name: str, line: str | Line, files: dict[str, bytes], wanted: Outcome =
     return Case(name, words_of(line), wanted, files, None if after is None else {"t": after}, stdin)
 
 
-def by_input(image: bytes, wanted: Outcome, after: bytes | None = None) -> Case:
-    """Returns a copy from the standard input, which is read to its end."""
-    return copy(f"{len(image)} bytes on the standard input", "ktcopy /dev/stdin t", {}, wanted, after, image)
-
-
-def from_new_file(source: str, target: str, before: bytes, wanted: Outcome) -> list[tuple[Case, tuple[Place, ...]]]:
+def from_new_file(source: str, target: str, before: bytes, wanted: Outcome) -> list[tuple[Case, Place, Place]]:
     """Returns copies from a file that has the name of the new one, as a killed run leaves it: it stays as it is."""
     ways = [((), wanted)]
     if wanted.err:
         ways.append(((EXPLAIN,), explained(wanted, CAUSES["in the way"].replace("NAME", "t"))))
     return [(copy(f"{' '.join(options)} from {source} into {target} of {len(before)} bytes",
                   (*options, "ktcopy", source, target), {"t.krbfile": keytab(B), "t": before}, outcome),
-             (link("link", "t.krbfile"), link("to", "t"))) for options, outcome in ways]
+             link("link", "t.krbfile"), link("to", "t")) for options, outcome in ways]
 
 
-# Copies, and what is made in their folders before.
-ROWS: list[tuple[Case, tuple[Place, ...]]] = [
-    (by_input(TWO, COPIED, TWO), ()),
-    (by_input(b"", message(1, "/dev/stdin: not a keytab (1)")), ()),
-    (by_input(CUT, message(1, "/dev/stdin: refused 1")), ()),
+# Saves over links, copies, and what is made in their folders before.
+ROWS: list[tuple[Case, *tuple[Place, ...]]] = [
+    *((Case(f"save over {name}", ("ktedit", "k"), wanted, {}, {"t/k": NEW} if wanted == SAVED else None, SCRIPT), place)
+      for name, wanted, place in LINKS),
+    # The standard input is read to its end.
+    *((copy(f"{len(image)} bytes on the standard input", "ktcopy /dev/stdin t", {}, wanted, after, image),)
+      for image, wanted, after in ((TWO, COPIED, TWO), (b"", message(1, "/dev/stdin: not a keytab (1)"), None),
+                                   (TWO[:-1], message(1, "/dev/stdin: refused 1"), None))),
     # Two names of one keytab are one keytab.
-    *((copy(f"{what} of the same keytab", COPY, {"k": TWO}, Outcome(0)), (place,)) for what, place in (
+    *((copy(f"{what} of the same keytab", COPY, {"k": TWO}, Outcome(0)), place) for what, place in (
         ("a link", link("t", "k")),
         ("a second name", lambda folder: os.link(os.path.join(folder, "k"), os.path.join(folder, "t"))))),
     # What stands under the name of the new file: only a save is refused.
     *((copy(f"a folder in the way: {' '.join(words)}, {wanted.status}", words, {"k": TWO, "t": target}, wanted),
-       (IN_THE_WAY,)) for words, target, wanted in (
+       at("t.krbfile", os.mkdir)) for words, target, wanted in (
            (COPY, keytab(HOST), message(3, "t: cannot write")), (COPY, TWO, Outcome(0)),
            (("ktcopy", "-n", "k", "t"), keytab(), COPIED))),
     (copy("a keytab to copy from that may not be written", COPY, {"k": TWO}, after=TWO),
-     (at("k", lambda path: os.chmod(path, 0o400)),)),
+     at("k", lambda path: os.chmod(path, 0o400))),
     *(row for source, target in (("t.krbfile", "t"), ("./t.krbfile", "t"), ("link", "t"), ("t.krbfile", "to"))
       for row in from_new_file(source, target, keytab(HOST), message(3, f"{target}: cannot write"))),
     *from_new_file("t.krbfile", "t", CLASH, printed("clash 2 2 kvno 3 etype 17 b@R", status=1)),
@@ -256,10 +237,8 @@ def check_input(report: Report, program: str) -> None:
 
 def check(report: Report, program: str) -> None:
     """Runs this topic."""
-    check_new_files(report, program)
-    for each in (check_own_files, check_others_files, check_hard_links):
-        each(report, program, (*CHANGES, *COPIES))
-    for each in (check_links, check_removed, check_locked_folder, check_pipes, check_input):
+    for each in (check_new_files, check_own_files, check_others_files, check_hard_links, check_removed,
+                 check_locked_folder, check_pipes, check_input):
         each(report, program)
-    for case, places in ROWS:
-        check_over(report, program, case, *places)
+    for row in ROWS:
+        check_over(report, program, *row)

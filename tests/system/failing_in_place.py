@@ -9,18 +9,17 @@ import re
 import signal
 
 from makers.images import B, HOST, keytab
-from models.cases import IN_PLACE, in_place, ktutil
-from models.modelled import modelled
 from runs.harness import Case, Outcome, Report, differences, files_in, folder_of, run
 from runs.preload import Line
 from runs.rows import shown
 from runs.system_calls import Call, calls_of, check_traced, traced, under_strace
 from runs.terminal import EXPLAIN
-from system.failing_streams import Ends
+from runs.undisturbed import IN_PLACE, Undisturbed, in_place, undisturbed
+from runs.undisturbed import explained as with_words
+from system.early_ends import Ends
 from system.failing_system_calls import (PRINT, READ, Step, calls_of_run, check_failure, held, listed, lock, looked,
-                                         needed)
-from system.placing import (CUT_OFF, EQUAL, LONGER, MIXED, SHORTER, TALK, changed, explained, images, message_of,
-                            with_words)
+                                         needed, traced_run)
+from system.placing import CUT_OFF, EQUAL, LONGER, MIXED, SHORTER, TALK, changed, explained, images, message_of
 from system.saving import check_over, tree_faults, unsaved, write
 from words.phrases import AFTERMATHS, CAUSES
 
@@ -36,14 +35,13 @@ ERRORS = ("EIO", "ENOSPC", "EDQUOT")
 KILLED = Outcome(-signal.SIGKILL)
 
 
-def run_failing(program: str, case: Case, *options: str) -> tuple[Outcome, dict[str, bytes], list[Call]]:
+def run_failing(program: str, case: Undisturbed, *options: str) -> tuple[Outcome, dict[str, bytes], list[Call]]:
     """Makes a run; returns its outcome, the files after it, and its calls that change the file."""
-    with folder_of(case.files) as folder:
-        outcome, trace = traced(program, Line(case.words, case.stdin), folder, *options)
-        return outcome, files_in(folder), [call for call in calls_of(trace, "") if call.name in CHANGES]
+    (outcome, files), trace = traced_run(program, case, *options)
+    return outcome, files, [call for call in calls_of(trace, "") if call.name in CHANGES]
 
 
-def wanted_backs(case: Case, is_over: bool) -> list[str]:
+def wanted_backs(case: Undisturbed, is_over: bool) -> list[str]:
     """Returns the calls that bring the old bytes back, if some may have been written over or not."""
     before, after = images(case)
     return [*([WRITE, SYNC] if is_over else []), *([CUT] if len(after) > len(before) else []), SYNC]
@@ -54,12 +52,12 @@ def is_written_over(trace: list[str], end: int) -> bool:
     return any(int(found[1]) < end for found in map(PLACE.match, trace) if found)
 
 
-def check_unsaved(report: Report, program: str, case: Case, calls: list[Call], nth: int, error: str) -> list[Call]:
-    """Lets a call that changes the file fail, and returns the calls that bring the old bytes back."""
-    call, is_over = calls[nth], is_written_over([each.line for each in calls[:nth + 1]], len(images(case)[0]))
+def check_unsaved(report: Report, program: str, case: Undisturbed, calls: list[Call], error: str) -> list[Call]:
+    """Lets the last of the calls that change the file fail, and returns the calls that bring the old bytes back."""
+    call, is_over = calls[-1], is_written_over([each.line for each in calls], len(images(case)[0]))
     words = [CAUSES[error], *([AFTERMATHS["restored"]] if is_over else [])]
     got, files, made = run_failing(program, with_words(case), *call.to(f"error={error}"))
-    backs = made[nth + 1:]
+    backs = made[len(calls):]
     faults = differences(explained(unsaved(case), *words), got)
     faults += [] if files == case.files else ["the old bytes are not back"]
     faults += [] if [back.name for back in backs] == wanted_backs(case, is_over) else [f"{backs}"]
@@ -74,7 +72,7 @@ def both_fail(call: Call, back: Call) -> tuple[str, ...]:
     return (*call.to("error=EIO"), *back.to("error=EROFS"))
 
 
-def check_lost(report: Report, program: str, case: Case, call: Call, back: Call, left: str) -> None:
+def check_lost(report: Report, program: str, case: Undisturbed, call: Call, back: Call, left: str) -> None:
     """Lets a call fail, and then one that brings the old bytes back: what that leaves is told, if an old byte may be
     lost without words too."""
     damage = [message_of(case, "damaged")] if left == "damaged" else []
@@ -103,7 +101,7 @@ def check_failures(report: Report, program: str) -> None:
         faults = [] if tuple(call.name for call in calls) == names else [f"{calls}, not {names}"]
         report.check(f"no call fails: {case.name}", faults + differences(case.wanted, outcome))
         for nth, call in enumerate(calls):
-            backs = [check_unsaved(report, program, case, calls, nth, error) for error in ERRORS][0]
+            backs = [check_unsaved(report, program, case, calls[:nth + 1], error) for error in ERRORS][0]
             is_over = is_written_over([each.line for each in calls[:nth]], len(images(case)[0]))
             for back in backs:
                 check_lost(report, program, case, call, back, left_behind(backs, back, is_over))
@@ -117,7 +115,7 @@ def check_talk(report: Report, program: str) -> None:
              "k.krbfile: cannot write", f"line 3: {CAUSES['name of saves']}", "no: cannot write",
              f"line 4: {CAUSES['no file']}")
     case = Case("a line of ktutil that fails in place", (EXPLAIN, "ktutil", IN_PLACE), explained(Outcome(3), *lines),
-                files, ktutil(TALK, 0, files=files, name="adds").files_after, talk)
+                files, undisturbed("ktutil", TALK, **files).files_after, talk)
     check_over(report, "strace", under_strace(program, case, "-e", "inject=pwrite64:error=EIO:when=1"))
 
 
@@ -134,13 +132,13 @@ def steps() -> list[Step]:
 
 def check_steps(report: Report, program: str) -> None:
     """Lets each call of a run fail: without the hold the file is loaded, and any other failure leaves it as it was."""
-    made = modelled(in_place(MIXED))
-    for call in calls_of_run(report, program, made, steps()):
+    ends = Ends(in_place(MIXED))
+    for call in calls_of_run(report, program, ends, steps()):
         for error in ("EACCES", "EINTR"):
-            check_failure(report, program, Ends(made), steps(), call, error)
+            check_failure(report, program, ends, steps(), call, error)
 
 
-def faults_of_kill(case: Case, files: dict[str, bytes], trace: list[str]) -> list[str]:
+def faults_of_kill(case: Undisturbed, files: dict[str, bytes], trace: list[str]) -> list[str]:
     """Returns the faults of what a killed run left: until it writes over old bytes, these are the front of the file."""
     before, after = images(case)
     left = files.pop(changed(case))
@@ -151,7 +149,7 @@ def faults_of_kill(case: Case, files: dict[str, bytes], trace: list[str]) -> lis
     return ([] if is_mix and is_front else [f"{left} is left"]) + ([f"{[*files]} are left"] if files else [])
 
 
-def killed(program: str, case: Case, call: Call) -> list[str]:
+def killed(program: str, case: Undisturbed, call: Call) -> list[str]:
     """Returns the faults of a run that is killed at a call, or ended before, and of the next run."""
     name, line = changed(case), Line(case.words, case.stdin)
     with folder_of(case.files) as folder:
@@ -169,8 +167,7 @@ def check_kills(report: Report, program: str) -> None:
     """Kills runs at each call, or at those that change the file: what was not written over is there, and no more."""
     for case in (MIXED, LONGER, SHORTER):
         placed = in_place(case)
-        with folder_of(case.files) as folder:
-            _, trace = traced(program, Line(placed.words, case.stdin), folder)
+        _, trace = traced_run(program, placed)
         for call in calls_of(trace, '"k", O_RDWR'):
             if case == MIXED or call.name in CHANGES:
                 report.check(f"killed at {call}: {placed.name}", killed(program, placed, call))

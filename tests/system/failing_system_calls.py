@@ -11,15 +11,12 @@ from dataclasses import dataclass
 from keytabs.copies import OTHER
 from makers.images import B, HOST, TWO, keytab
 from makers.usual_caches import USUAL
-from models import cases
-from models.copy_model import Request
-from models.modelled import NOW, Modelled, modelled
-from models.removal_model import Selection
-from models.ticket_removal_model import Selection as TicketSelection
 from runs.harness import Outcome, Report, differences, files_in, folder_of
-from runs.preload import Counted, Line
+from runs.preload import Line
 from runs.system_calls import Call, calls_of, check_traced, traced
-from system.failing_streams import Ends, ends_in_output
+from runs.undisturbed import Undisturbed, frame, undisturbed
+from system.early_ends import End, Ends
+from system.failing_streams import ends_in_output
 from system.placing import told
 
 ERRORS = ("EIO", "ENOSPC", "EACCES", "EPERM", "EINTR", "ENOMEM")
@@ -111,29 +108,28 @@ TALKED = [READ, *load("j"), PRINT, *hold("k"), *held(2), *save("k"), *hold("n", 
           *load("n", 4), PRINT, READ]
 
 
-def runs() -> list[tuple[Modelled, list[Step]]]:
+def runs() -> list[tuple[Ends, list[Step]]]:
     """Returns runs and their steps."""
     add = b"add 3 17 0 000102030405060708090a0b0c0d0e0f host/a@R\n"
     config = b"start\ncut 40\nconfig pa_type krbtgt/R@R 3\n"
     change_k, change_c = ([*hold(name), *held(), *save(name), PRINT] for name in "kc")
     copy = [*load("k"), *hold("t"), *held(2)]
-    return [(modelled(case), steps) for case, steps in (
-        (cases.klist(TWO, columns="tKe"), [*load("k"), PRINT]),
-        (cases.klist_cache(USUAL, words=("-cefC", "c")), [*load("c"), PRINT]),
-        (cases.ktfind(TWO, name=(b"b", b"R")), [*load("k"), PRINT]),
-        (cases.ktcheck(TWO), [*load("k"), PRINT]),
-        (cases.ktcheck_all(files=(("k", TWO), ("j", keytab(B, B)))), [*load("k"), PRINT, *load("j", 2), PRINT]),
-        (cases.ktedit(TWO, b"start\ncut 2\n" + add, name="a keytab"), [READ, *change_k]),
-        (cases.ktedit(None, add, name="no file"), [READ, *hold("k"), *save("k", is_new=True), PRINT]),
-        (cases.ktremove(TWO, selection=Selection((b"host/a@R",)), name="a keytab"), change_k),
-        (cases.ccedit(USUAL, config, name="a cache"), [READ, *change_c]),
-        (cases.ccremove(USUAL, NOW, selection=TicketSelection(b"krbtgt/R@R"), name="a cache"), change_c),
-        (cases.hold(TWO, keytab(B), name="a keytab"), [*hold("k"), *held(), PRINT, READ, *save("k", 2)]),
-        (cases.ktcopy(TWO, keytab(HOST), request=Request(), name="an entry"), [*copy, *save("t"), PRINT]),
-        (cases.ktcopy(TWO, None, request=Request(), name="no file"), [*copy, *save("t", is_new=True), PRINT]),
-        (cases.ktcopy(TWO, keytab(OTHER), request=Request(replaces=True, is_dry=True), name="a dry run"),
-         [*load("k"), *load("t", 2), PRINT]),
-        (cases.ktutil(TALK, NOW, files={"j": TWO, "k": keytab(B)}, name="three files"), TALKED),
+    return [(Ends(run), steps) for run, steps in (
+        (undisturbed("klist -ktKe k", k=TWO), [*load("k"), PRINT]),
+        (undisturbed("klist -cefC c", c=USUAL), [*load("c"), PRINT]),
+        (undisturbed("ktfind k 0 0 -- b@R", k=TWO), [*load("k"), PRINT]),
+        (undisturbed("ktcheck k", k=TWO), [*load("k"), PRINT]),
+        (undisturbed("ktcheck k j", k=TWO, j=keytab(B, B)), [*load("k"), PRINT, *load("j", 2), PRINT]),
+        (undisturbed("ktedit k", b"start\ncut 2\n" + add, k=TWO), [READ, *change_k]),
+        (undisturbed("ktedit k", add, name="no file"), [READ, *hold("k"), *save("k", is_new=True), PRINT]),
+        (undisturbed("ktremove -p host/a@R k", k=TWO), change_k),
+        (undisturbed("ccedit c", config, c=USUAL), [READ, *change_c]),
+        (undisturbed("ccremove -p krbtgt/R@R c", c=USUAL), change_c),
+        (undisturbed("hold -k k", frame(keytab(B)), k=TWO), [*hold("k"), *held(), PRINT, READ, *save("k", 2)]),
+        (undisturbed("ktcopy k t", k=TWO, t=keytab(HOST)), [*copy, *save("t"), PRINT]),
+        (undisturbed("ktcopy k t", name="no file", k=TWO), [*copy, *save("t", is_new=True), PRINT]),
+        (undisturbed("ktcopy -n --replace k t", k=TWO, t=keytab(OTHER)), [*load("k"), *load("t", 2), PRINT]),
+        (undisturbed("ktutil", TALK, j=TWO, k=keytab(B)), TALKED),
     )]
 
 
@@ -160,66 +156,61 @@ def failed_step(trace: list[str], first: str, steps: list[Step]) -> Step:
     return NONE
 
 
-def is_end_of_step(ends: Ends, step: Step, got: Counted) -> bool:
+def is_end_of_step(ends: Ends, step: Step, end: End) -> bool:
     """Whether a run ended as it has to if a call of that step fails."""
-    end = (got.outcome, got.files)
     if step.fails == "input":
-        return end in (ends.of_input(0), ends.of_input(len(ends.run.case.stdin)))
+        return end in (ends.of_input(0), ends.of_input(len(ends.run.stdin)))
     if step.fails == "output":
-        return ends_in_output(ends.run, got)
+        return ends_in_output(ends, end)
     if step.fails == "last look":
-        return end == (told(ends.run.case, "mixed"), ends.run.after())
+        return end == (told(ends.run, "mixed"), ends.run.files_after)
     found = ends.of_loads if step.fails == "load" else ends.of_saves
     return end == found[step.nth - 1]
 
 
-def faults_of_failure(
-    ends: Ends, call: Call, step: Step, error: str, got: Counted
-) -> list[str]:
+def faults_of_failure(ends: Ends, call: Call, step: Step, error: str, end: End) -> list[str]:
     """Returns the faults of a run in which a call of that step failed."""
     if step == UNKNOWN:
         return ["it is the call of no step"]
     is_narrowed = step.fails == "owner" and error in NOT_PERMITTED
     is_repeated = error == "EINTR" and call.name in REPEATED
-    if step.fails in ("", "list") or is_narrowed or is_repeated:
-        is_wanted = ends.run.is_whole(got.outcome, got.files)
-    else:
-        is_wanted = is_end_of_step(ends, step, got)
-    return [] if is_wanted else [f"{got.outcome} and {sorted(got.files)}"]
+    has_no_effect = step.fails in ("", "list") or is_narrowed or is_repeated
+    is_wanted = end == ends.whole if has_no_effect else is_end_of_step(ends, step, end)
+    return [] if is_wanted else [f"{end[0]} and {sorted(end[1])}"]
 
 
-def faults_of_kill(run: Modelled, got: Counted) -> list[str]:
+def faults_of_kill(ends: Ends, end: End) -> list[str]:
     """Returns the faults of a run that was killed, or ended before. Other new files are allowed."""
-    if run.is_whole(got.outcome, got.files):
+    if end == ends.whole:
         return []
-    files = {name: data for name, data in got.files.items() if not name.endswith(".krbfile")}
-    may_be = [stage.files for stage in run.stages] + [run.after()]
-    return differences(Outcome(-signal.SIGKILL, got.outcome.out, got.outcome.err), got.outcome) + (
-        [] if files in may_be else [f"the files {sorted(got.files)} are not whole"])
+    got, after = end
+    files = {name: data for name, data in after.items() if not name.endswith(".krbfile")}
+    is_stage = files in [ends.run.files_after, *(stage.files for stage in ends.stages)]
+    return differences(Outcome(-signal.SIGKILL, got.out, got.err), got) + (
+        [] if is_stage else [f"the files {sorted(after)} are not whole"])
 
 
-def traced_run(program: str, run: Modelled, *options: str) -> tuple[Counted, list[str]]:
+def traced_run(program: str, run: Undisturbed, *options: str) -> tuple[End, list[str]]:
     """Makes a run under strace."""
-    with folder_of(run.case.files) as folder:
-        line = Line(run.case.words, run.case.stdin)
-        outcome, trace = traced(program, line, folder, *options)
-        return Counted(outcome, files_in(folder), 0, 0), trace
+    with folder_of(run.files) as folder:
+        outcome, trace = traced(program, Line(run.words, run.stdin), folder, *options)
+        return (outcome, files_in(folder)), trace
 
 
-def first_text(run: Modelled, steps: list[Step]) -> str:
+def first_text(ends: Ends, steps: list[Step]) -> str:
     """Returns text in the first call of a run's work, which reads the input, or names the file."""
     if steps[0] == READ:
         return "read(0"
-    return next(f'"{word}"' for word in run.case.words if word in run.case.files)
+    return next(f'"{word}"' for word in ends.run.words if word in ends.run.files)
 
 
-def hasty_renames(calls: list[Call], run: Modelled) -> list[str]:
+def hasty_renames(calls: list[Call], files: dict[str, bytes]) -> list[str]:
     """Returns the renames over a file before which the locks were not read often enough after the last fsync."""
     found, readings = [], 0
     for call in calls:
         readings = 0 if call.line.startswith("fsync") else readings + ('"/proc/locks"' in call.line)
         renamed = re.match(r'rename.*"(\w+)"[^"]*$', call.line)
-        if renamed and renamed[1] in run.case.files and readings < READINGS:
+        if renamed and renamed[1] in files and readings < READINGS:
             found.append(f"{readings} readings before {call.line}")
     return found
 
@@ -231,34 +222,32 @@ def unsynced_renames(calls: list[Call]) -> list[str]:
             and not re.match(r'open.*"\.", .*\nfsync', "\n".join(lines[at + 1:at + 3]))]
 
 
-def calls_of_run(report: Report, program: str, run: Modelled, steps: list[Step]) -> list[Call]:
+def calls_of_run(report: Report, program: str, ends: Ends, steps: list[Step]) -> list[Call]:
     """Returns the calls of a run, each of which has to belong to a step."""
-    got, trace = traced_run(program, run)
-    calls = [*calls_of(trace, first_text(run, steps))]
-    report.check(f"the locks before a rename of {run.case.name}", hasty_renames(calls, run))
-    report.check(f"the sync after a rename of {run.case.name}", unsynced_renames(calls))
-    is_wanted = steps_of(calls, steps) and run.is_whole(got.outcome, got.files)
-    report.check(f"the system calls of {run.case.name}", [] if is_wanted else ["not as wanted"])
+    end, trace = traced_run(program, ends.run)
+    calls, name = [*calls_of(trace, first_text(ends, steps))], ends.run.name
+    report.check(f"the locks before a rename of {name}", hasty_renames(calls, ends.run.files))
+    report.check(f"the sync after a rename of {name}", unsynced_renames(calls))
+    is_wanted = steps_of(calls, steps) and end == ends.whole
+    report.check(f"the system calls of {name}", [] if is_wanted else ["not as wanted"])
     return calls if is_wanted else []
 
 
 def check_failure(report: Report, program: str, ends: Ends, steps: list[Step], call: Call, error: str) -> None:
     """Lets a call of a run fail."""
-    run = ends.run
-    got, trace = traced_run(program, run, *call.to(f"error={error}"))
-    step = failed_step(trace, first_text(run, steps), steps)
-    report.check(f"{call} fails with {error}: {run.case.name}", faults_of_failure(ends, call, step, error, got))
+    end, trace = traced_run(program, ends.run, *call.to(f"error={error}"))
+    step = failed_step(trace, first_text(ends, steps), steps)
+    report.check(f"{call} fails with {error}: {ends.run.name}", faults_of_failure(ends, call, step, error, end))
 
 
 def check_runs(report: Report, program: str) -> None:
     """Lets each call of each run fail, and kills the run at each."""
-    for run, steps in runs():
-        ends = Ends(run)
-        for call in calls_of_run(report, program, run, steps):
+    for ends, steps in runs():
+        for call in calls_of_run(report, program, ends, steps):
             for error in ERRORS:
                 check_failure(report, program, ends, steps, call, error)
-            got, _ = traced_run(program, run, *call.to("signal=KILL"))
-            report.check(f"killed at {call}: {run.case.name}", faults_of_kill(run, got))
+            end, _ = traced_run(program, ends.run, *call.to("signal=KILL"))
+            report.check(f"killed at {call}: {ends.run.name}", faults_of_kill(ends, end))
 
 
 def check(report: Report, program: str) -> None:

@@ -7,20 +7,16 @@ from collections.abc import Callable
 from concurrent.futures import ThreadPoolExecutor
 from dataclasses import replace
 
-from makers.images import B, HOST, TWO, keytab
+from makers.images import TWO
 from makers.usual_caches import USUAL
-from models.cases import (ccedit, ccremove, in_place, klist, klist_cache, klist_cache_json, klist_json, ktcheck, ktcopy,
-                          ktedit, ktfind, ktremove, ktutil)
-from models.copy_model import Request
-from models.removal_model import Selection
 from runs.harness import Case, Report, differences, faults_of, files_in, folder_of, run
 from runs.preload import Line
-from runs.rows import BAD_LINE
 from runs.system_calls import Halt, check_traced, halted, traced, under_strace
 from runs.terminal import EXPLAIN
+from runs.undisturbed import Undisturbed, in_place, undisturbed
 from system.placing import ADD_LONG, EQUAL, LAST_OF_EACH, LONGER, PLACED, SHORTER, explained, refused, with_words
-from system.saving import (CHANGES, CLASH, COPIES, HOLDING_NOTHING, OLD, SAVING_NOTHING, TGT, WALK, check_over, stands,
-                           tree_faults, unsaved)
+from system.saving import (B_OLD, CHANGES, CLASH, HOLDING_NOTHING, NEW, OLD, SAVING_NOTHING, WALK, Run, check_over,
+                           stands, tree_faults, unsaved)
 from system.waits import AT_ONCE, LEAST_WAIT, LONGEST_WAIT, faults_of_waiting, ofd_lock
 from words.phrases import CAUSES
 
@@ -30,32 +26,30 @@ BOTH_WAYS = [way for case in LAST_OF_EACH for way in (case, in_place(case))]
 # Scripts that can change nothing.
 SCRIPTS = (b"", b"# none\n", WALK, b"resume 2\n", b"start\nfrob\n")
 
+# A copy that saves, and one that only prints.
+COPY, DRY_COPY = LAST_OF_EACH[2], undisturbed("ktcopy -n k t", t=NEW, k=TWO, name="tells")
+
 # Runs that take no lock: those that list, such scripts, dry runs, copies of nothing, and lines of ktutil that read.
 LOCKING_NOTHING = (
-    klist(TWO), klist_json(TWO), klist_cache(USUAL), klist_cache_json(USUAL), ktcheck(TWO),
-    ktfind(TWO, name=(b"b", b"R")), *(ktedit(OLD, script, name=f"{script}") for script in SCRIPTS), *HOLDING_NOTHING,
-    ktcopy(TWO, CLASH, request=Request(is_dry=True), name="tells of a clash"),
-    ktcopy(TWO[:-1], keytab(HOST), request=Request(), name="has a damaged source"),
-    ktcopy(b"", keytab(HOST), request=Request(), name="has no keytab as source"),
-    ktcopy(TWO, keytab(HOST), request=Request(Selection((b"c@R",))), name="finds none"),
-    Case("ktcopy is at fault", ("ktcopy", "-k", "old", "k", "t"), BAD_LINE, {"k": TWO, "t": keytab(HOST)}),
-    *(way for case in (ktremove(TWO, selection=Selection((b"b@R",)), is_dry=True, name="tells"),
-                       ccremove(USUAL, 0, selection=TGT, is_dry=True, name="tells"),
-                       ktcopy(TWO, keytab(HOST), request=Request(is_dry=True), name="tells"),
-                       ktutil(b"rkt k\nl\ndelent 1\n", 0, files={"k": TWO}, name="reads"),
-                       ccedit(USUAL, b"start\n", name="walks")) for way in (case, in_place(case))),
+    *(undisturbed(line, k=TWO) for line in ("klist -k k", "klist -kK --json k", "ktcheck k", "ktfind k 0 0 b@R")),
+    *(undisturbed(line, c=USUAL) for line in ("klist -c c", "klist --json c")),
+    *(undisturbed("ktedit k", script, k=OLD, name=f"{script}") for script in SCRIPTS),
+    *(undisturbed(line, t=target, k=source, name=name) for line, source, target, name in (
+        ("ktcopy -n k t", TWO, CLASH, "tells of a clash"), ("ktcopy k t", TWO[:-1], NEW, "has a damaged source"),
+        ("ktcopy k t", b"", NEW, "has no keytab as source"), ("ktcopy -p c@R k t", TWO, NEW, "finds none"),
+        ("ktcopy -k old k t", TWO, NEW, "is at fault"))),
+    *(way for run in (undisturbed("ktremove -n -p b@R k", k=TWO, name="tells"), DRY_COPY,
+                      undisturbed("ktutil", b"rkt k\nl\ndelent 1\n", k=TWO, name="reads"),
+                      *HOLDING_NOTHING) for way in (run, in_place(run))),
 )
 
-# Runs that lock their file and then have nothing to save.
-LEAVING = (*SAVING_NOTHING, ktedit(TWO, b"cut 3\n", name="is refused"),
-           ktremove(TWO, selection=Selection((b"c@R",)), name="finds none"),
-           *(ktcopy(source, target, request=Request(), is_same=target is None, name=name) for source, target, name in (
-               (keytab(B), TWO, "has it already"), (TWO, TWO, "has all already"), (TWO, CLASH, "clashes"),
-               (keytab(), keytab(HOST), "has nothing to copy"), (keytab(), b"", "has nothing for no bytes"),
-               (TWO, TWO[:-1], "has a damaged target"), (TWO, None, "copies a keytab into itself"))))
-
-# The name of a new file.
-NEW_FILE = "NAME.krbfile"
+# Runs that lock their file and then have nothing to save: the first two copies copy a keytab of two entries.
+LEAVING_COPIES = tuple(undisturbed("ktcopy k t", t=target, k=source, name=name) for source, target, name in (
+    (TWO, TWO, "has all already"), (TWO, CLASH, "clashes"), (B_OLD, TWO, "has it already"),
+    (OLD, NEW, "has nothing to copy"), (OLD, b"", "has nothing for no bytes"), (TWO, TWO[:-1], "has a damaged target")))
+LEAVING = (*SAVING_NOTHING, *LEAVING_COPIES, undisturbed("ktedit k", b"cut 3\n", k=TWO, name="is refused"),
+           undisturbed("ktremove -p c@R k", k=TWO, name="finds none"),
+           undisturbed("ktcopy k k", k=TWO, name="copies a keytab into itself"))
 
 # Kinds of locks: of a whole file, and record locks.
 FLOCK, TO_READ, TO_WRITE = "a flock", "a lock to read", "a lock to write"
@@ -68,7 +62,7 @@ LOCKS: dict[str, Callable[[object], None]] = {
 }
 
 
-def file_of(case: Case) -> str:
+def file_of(case: Run) -> str:
     """Returns the file that a run changes, or would."""
     return "t" if "t" in case.files else "c" if "c" in case.files else "k"
 
@@ -95,10 +89,10 @@ def check_waits(report: Report, program: str) -> None:
     rows = [(case, FLOCK) for case in (*BOTH_WAYS, *LEAVING, *map(in_place, LEAVING))]
     rows += [(in_place(EQUAL), lock) for lock in LOCKS] + [(EQUAL, "a shared flock"), (EQUAL, TO_WRITE)]
     for case, lock in rows:
-        report.check(f"{lock} is waited for: {case.name}", waited_for(program, case, lock))
+        report.check(f"{lock} is waited for: {case.name}", waited_for(program, case.as_case(), lock))
 
 
-def ended_beside(program: str, case: Case, lock: str, file: str) -> tuple[list[str], float]:
+def ended_beside(program: str, case: Run, lock: str, file: str) -> tuple[list[str], float]:
     """Returns the faults of a run while another program has a lock of a file, and how long it took."""
     with folder_of(case.files) as folder, open(os.path.join(folder, file), "r+b") as locked:
         before = set_back(folder)
@@ -110,10 +104,11 @@ def ended_beside(program: str, case: Case, lock: str, file: str) -> tuple[list[s
         return faults + (["the folder, or a file, was changed"] if is_changed else []), seconds
 
 
-def with_file(case: Case, name: str) -> Case:
-    """Returns a run beside another file, named after its own, which it leaves."""
-    beside = {name.replace("NAME", file_of(case)): b"held"}
-    return replace(case, files={**case.files, **beside}, files_after={**case.files_after, **beside})
+def beside(case: Undisturbed, name: str = "") -> tuple[Case, str]:
+    """Returns a run beside another file, which it leaves, and that file's name: by default that of the new file."""
+    name = name or f"{file_of(case)}.krbfile"
+    before, after = ({**files, name: b"held"} for files in (case.files, case.files_after))
+    return replace(case.as_case(), files=before, files_after=after), name
 
 
 def check_no_waits(report: Report, program: str) -> None:
@@ -121,24 +116,22 @@ def check_no_waits(report: Report, program: str) -> None:
 
     They make no file beside theirs either, not even one that is removed again.
     """
-    rows = [(case, lock, file) for case in LOCKING_NOTHING for lock in (FLOCK, TO_WRITE) for file in case.files]
-    rows += [(case, TO_READ, file_of(case)) for case in PLACED]
-    rows += [(case, lock, "k") for case in BOTH_WAYS if case.words[0] == "ktcopy" for lock in (FLOCK, TO_WRITE)]
-    rows.append((with_file(COPIES[0], "k.krbfile"), FLOCK, "k.krbfile"))
-    rows += [(with_file(case, NEW_FILE), FLOCK, NEW_FILE.replace("NAME", file_of(case)))
-             for case in (*HOLDING_NOTHING, COPIES[3])]
-    for case, lock, file in rows:
+    rows = [(case, file, lock) for case in LOCKING_NOTHING for lock in (FLOCK, TO_WRITE) for file in case.files]
+    rows += [(case, file_of(case), TO_READ) for case in PLACED]
+    rows += [(case, "k", lock) for case in (COPY, in_place(COPY)) for lock in (FLOCK, TO_WRITE)]
+    rows += [(*beside(COPY, "k.krbfile"), FLOCK), *((*beside(case), FLOCK) for case in (*HOLDING_NOTHING, DRY_COPY))]
+    for case, file, lock in rows:
         faults, seconds = ended_beside(program, case, lock, file)
         faults += [] if seconds < AT_ONCE else [f"it took {seconds:.1f} seconds"]
         report.check(f"{lock} of {file} is not waited for: {case.name}", faults)
 
 
-def gives_up(program: str, case: Case, file: str) -> list[str]:
+def gives_up(program: str, case: Run, file: str) -> list[str]:
     """Returns the faults of a run while another program keeps a lock: after ten seconds its save is refused."""
     if case.files_after != case.files:
         line = "line 2: " if case.words[0] == "ktutil" else ""
         wanted = explained(unsaved(case, file_of(case)), line + CAUSES["in use"])
-        case = replace(case, words=(EXPLAIN, *case.words), wanted=wanted, files_after=case.files)
+        case = Case(case.name, (EXPLAIN, *case.words), wanted, case.files, case.files, case.stdin)
     faults, seconds = ended_beside(program, case, FLOCK, file)
     return faults + ([] if LEAST_WAIT <= seconds <= LONGEST_WAIT else [f"it took {seconds:.1f} seconds"])
 
@@ -146,8 +139,7 @@ def gives_up(program: str, case: Case, file: str) -> list[str]:
 def check_given_up(report: Report, program: str) -> None:
     """Checks that a lock of the file that stays, or of its new file, is waited for some ten seconds."""
     rows = [(case, file_of(case)) for case in (*BOTH_WAYS, LEAVING[0], in_place(LEAVING[0]))]
-    rows += [(with_file(case, NEW_FILE), NEW_FILE.replace("NAME", file_of(case)))
-             for case in (*SAVING_NOTHING, CHANGES[2], *COPIES[:3])]
+    rows += map(beside, (*SAVING_NOTHING, CHANGES[2], COPY, *LEAVING_COPIES[:2]))
     with ThreadPoolExecutor(len(rows)) as pool:
         found = [pool.submit(gives_up, program, case, file) for case, file in rows]
     for (case, file), faults in zip(rows, found):
@@ -173,9 +165,9 @@ def renamed_while_held(program: str, case: Case) -> list[str]:
 
 def check_renamed(report: Report, program: str) -> None:
     """Checks a lock that is held while another file takes the name: that one is changed."""
-    add = ktedit(keytab(B), ADD_LONG, name="adds")
+    add = undisturbed("ktedit k", ADD_LONG, k=B_OLD, name="adds")
     for case in (add, in_place(add)):
-        report.check(f"a lock that is held through a rename: {case.name}", renamed_while_held(program, case))
+        report.check(f"a lock that is held through a rename: {case.name}", renamed_while_held(program, case.as_case()))
 
 
 def check_without(report: Report, program: str) -> None:
@@ -184,7 +176,7 @@ def check_without(report: Report, program: str) -> None:
     rows = [*((LONGER, error, ":when=2+") for error in ("ENOLCK", "EOPNOTSUPP", "EBADF")),
             *((placed, error, "") for error in ("ENOLCK", "EOPNOTSUPP", "EBADF", "EIO"))]
     for case, error, when in rows:
-        one = refused(case, "ENOLCK") if case is placed else with_words(case)
+        one = refused(case, "ENOLCK") if case is placed else with_words(case).as_case()
         one = replace(one, name=f"no lock can be had, {error}: {case.name}")
         check_over(report, "strace", under_strace(program, one, "-e", f"inject=flock:error={error}{when}"))
 

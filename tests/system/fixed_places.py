@@ -11,27 +11,24 @@ from dataclasses import replace
 from itertools import product
 from shlex import quote
 
-from keytabs.ktutil_lines import KEY
-from keytabs.scripts import FAULTS as LINE_FAULTS
-from makers.images import B, HOST, TWO, Entry, keytab
+from makers.images import HOST, TWO, Entry, keytab
 from makers.usual_caches import USUAL
-from models.cases import IN_PLACE, in_place, ktedit
 from runs.harness import Case, Report, differences, faults_of, files_in, folder_of, message, run
 from runs.limits import limit
 from runs.namespaces import can_mount, run_within
-from runs.rows import printed, words_of
 from runs.terminal import EXPLAIN
+from runs.undisturbed import IN_PLACE, Undisturbed, in_place, undisturbed
 from system.disk_faults import mounted
 from system.placing import EQUAL, LONGER, MIXED, PLACED, changed, explained, kept, refused, with_words
-from system.saving import (ADD, GROUP, NEW, OLD, SCRIPT, UNSAVED, USER, as_another, check_over, link, renamed,
-                           tree_faults, write)
-from words.explained import Explained, unchanged
+from system.saving import (ADD, B_NEW, B_OLD, B_SAVED, GROUP, LINES, NEW, OLD, SCRIPT, UNSAVED, USER, WALK, Owned, Run,
+                           as_another, at, check_over, faults_over, link, tree_faults, write)
+from words.explained import Explained, copy, no_keytab, unchanged
 from words.phrases import AFTERMATHS, BEGINS_AS_CACHE, CAUSES, LEAVE_OUT, NOT_READ, code, line_fault
 
 # A keytab that fills a page of 4,096 bytes but for less than an entry.
 FULL = keytab(*[HOST] * 79, Entry((b"x" * 14,)))
-TOO_MUCH = ktedit(FULL, SCRIPT, name="adds to a full page")
-LESS = ktedit(FULL, b"cut 2\n", name="removes from a full page")
+TOO_MUCH = undisturbed("ktedit k", SCRIPT, k=FULL, name="adds to a full page")
+LESS = undisturbed("ktedit k", b"cut 2\n", k=FULL, name="removes from a full page")
 
 # A keytab whose hole takes no room on a disk, the room that is left there, and a script that adds 20,000 bytes to the
 # hole and 15,000 behind it.
@@ -63,7 +60,7 @@ def kinds(report: Report) -> list[dict[str, bytes]]:
     return found
 
 
-def check_kept(report: Report, program: str, case: Case, attributes: dict[str, bytes]) -> None:
+def check_kept(report: Report, program: str, case: Undisturbed, attributes: dict[str, bytes]) -> None:
     """Checks a save of a file that has another name, those attributes, and if root makes it another owner."""
     placed, name = in_place(case), changed(case)
     with folder_of(case.files) as folder:
@@ -95,16 +92,10 @@ def check_set_id(report: Report, program: str) -> None:
     if options is None:
         report.skip("files with setuid", "none but root may start the program")
         return
-    with folder_of(case.files) as folder:
-        path = os.path.join(folder, "k")
-        if os.geteuid() == 0:
-            os.chown(path, USER, USER)
-            os.chmod(folder, 0o777)
-        os.chmod(path, 0o4600)
-        faults = differences(case.wanted, run(program, case.words, folder, case.stdin, **options))
-        mode = os.stat(path).st_mode & 0o7777
-        faults += [] if mode == 0o600 else [f"mode {mode:o}"]
-        report.check(f"setuid: {case.name}", faults + tree_faults(case.files_after, folder))
+    mine = (USER, USER) if os.geteuid() == 0 else (os.geteuid(), os.getegid())
+    report.check(f"setuid: {case.name}", faults_over(
+        program, case, at(".", lambda path: os.chmod(path, 0o777)), at("k", Owned(0o4600, *mine).give),
+        left=Owned(0o600, *mine), **options))
 
 
 def check_mounted(report: Report, program: str) -> None:
@@ -131,11 +122,12 @@ FULL_DISKS = (refused(in_place(TOO_MUCH), "ENOSPC"), refused(LESS, "ENOSPC"), in
               Case("ktutil writes what it has read", ("ktutil",), UNSAVED, TWO_FILES, stdin=b"rkt k.new\nwkt k\n"))
 
 # Rows over one that is read-only: a file there is loaded, and only its save is refused.
-WALK_OVER, MAKE = ktedit(OLD, b"start\n", name="walks"), renamed(ktedit(None, SCRIPT, name="adds"), "n")
-READ_ONLY = (*(refused(case, "EROFS") for case in (ADD, in_place(ADD), MAKE)), WALK_OVER, in_place(WALK_OVER))
+WALK_OVER = undisturbed("ktedit k", b"start\n", k=OLD, name="walks")
+READ_ONLY = (*(refused(case, "EROFS") for case in (ADD, in_place(ADD), undisturbed("ktedit n", SCRIPT, name="adds"))),
+             WALK_OVER, in_place(WALK_OVER))
 
 
-def check_on_disk(report: Report, program: str, what: str, case: Case, is_read_only: bool) -> bool:
+def check_on_disk(report: Report, program: str, what: str, case: Run, is_read_only: bool) -> bool:
     """Checks a row on a disk of its own, and returns whether one can be mounted."""
     size = f"size={4 * (len(case.files) + is_read_only)}k"
     with folder_of({}) as folder, mounted(folder, "-t", "tmpfs", "-o", size, "krbfile") as is_mounted:
@@ -191,7 +183,6 @@ def check_sparse(report: Report, program: str) -> None:
     report.check("a sparse file on a full disk", faults)
 
 
-ADDENT = f"addent -key -p a@R -k 1 -e 17\n{KEY}\n".encode()
 NO_FILE = CAUSES["no file"]
 
 
@@ -200,32 +191,24 @@ def missing(line: str, **more) -> Explained:
     return unchanged(line, (f"{line.split()[-1]}: no such file", ""), **more)
 
 
-def unwritten(name: str, line: int, phrase: str, stdin: bytes, **more) -> Explained:
-    """Returns a run of ktutil of which that line is not saved to that file."""
-    told = (f"{name}: cannot write", f"line {line}: {phrase}")
-    return unchanged("ktutil --in-place", told, status=3, stdin=stdin, **more)
+def unwritten(name: str, phrase: str, lines: bytes = LINES, **more) -> Explained:
+    """Returns a run of ktutil that after those lines is to write that file, and does not."""
+    told = (f"{name}: cannot write", f"line {len(lines.splitlines()) + 1}: {phrase}")
+    return unchanged("ktutil --in-place", told, status=3, stdin=lines + f"wkt {name}\n".encode(), **more)
 
-
-FAULTY, FAULT = next(iter(LINE_FAULTS.items()))
 
 CASES = [
     # Each command over a missing file, also where nothing is saved.
-    missing("ktedit --in-place k", stdin=SCRIPT),
+    *(missing("ktedit --in-place k", stdin=script) for script in (SCRIPT, WALK)),
     unchanged("ktedit k --in-place", ("k: no such file", ""), stdin=SCRIPT),
-    missing("ktedit --in-place --v1-big k", stdin=b""),
-    missing("ktedit --in-place k", stdin=b"start\nstep 0\n"),
     missing("ccedit --in-place c", stdin=b"config a - v\n"),
-    missing("ktremove --in-place -k old k"),
-    missing("ktremove --in-place -n -k old k"),
-    missing("ccremove --in-place --expired c"),
-    missing("ccremove --in-place -n --expired c"),
-    missing("ktcopy --in-place k t", files={"k": TWO}),
-    missing("ktcopy --in-place -n k t", files={"k": TWO}),
-    missing("ktcopy --in-place --replace k t", files={"k": keytab()}),
+    *map(missing, ("ktedit --in-place --v1-big k", "ktremove --in-place -k old k", "ktremove --in-place -n -k old k",
+                   "ccremove --in-place --expired c", "ccremove --in-place -n --expired c")),
+    *(missing(f"ktcopy --in-place {option} k t", files={"k": image})
+      for option, image in (("", TWO), ("-n", TWO), ("--replace", OLD))),
     # What comes before: a faulty script, and the file that is copied from.
-    unchanged("ktedit --in-place k", ("line 1: fault %d" % FAULT, line_fault(FAULT)), stdin=f"{FAULTY}\n".encode()),
-    unchanged("ktcopy --in-place k t", ("k: no such file", ""), files={"t": TWO}),
-    unchanged("ktcopy --in-place k t", ("k: no such file", "")),
+    unchanged("ktedit --in-place k", ("line 1: fault 2", line_fault(2)), stdin=b"start 1\n"),
+    *(unchanged("ktcopy --in-place k t", ("k: no such file", ""), files=files) for files in ({"t": TWO}, {})),
     unchanged("ktcopy --in-place -p c@R k t", ("k: refused 9", code(9, "ktcopy")), files={"k": TWO}),
     unchanged("ktcopy --in-place k t", ("k: refused 1", code(1)), files={"k": TWO[:-1]}),
     # A file in no folder, and one of another type.
@@ -233,32 +216,27 @@ CASES = [
     unchanged("ktedit --in-place KCM:k", ("KCM:k: no such file", NOT_READ.replace("TYPE", "KCM:")), stdin=SCRIPT),
     # ktutil: what is read, and what is written.
     unchanged("ktutil --in-place", ("k: no such file", f"line 1: {NO_FILE}"), stdin=b"rkt k\n"),
-    unwritten("k", 3, NO_FILE, ADDENT + b"wkt k\n"),
-    unwritten("k", 1, NO_FILE, b"wkt k\n"),
-    unwritten("no/k", 3, NO_FILE, ADDENT + b"wkt no/k\n"),
-    unwritten("FILE:k", 3, LEAVE_OUT.replace("TYPE", "FILE:"), ADDENT + b"wkt FILE:k\n"),
-    unwritten("k.krbfile", 3, CAUSES["name of saves"], ADDENT + b"wkt k.krbfile\n", files={"k.krbfile": TWO}),
+    unwritten("k", NO_FILE, b""), unwritten("k", NO_FILE), unwritten("no/k", NO_FILE),
+    unwritten("FILE:k", LEAVE_OUT.replace("TYPE", "FILE:")),
+    unwritten("k.krbfile", CAUSES["name of saves"], files={"k.krbfile": TWO}),
     # A file that is not a keytab.
-    unchanged("ktedit --in-place k", (f"k: not a keytab ({BEGINS_AS_CACHE[0]})", BEGINS_AS_CACHE[1]), stdin=SCRIPT,
-         files={"k": USUAL}),
+    unchanged("ktedit --in-place k", no_keytab(BEGINS_AS_CACHE), stdin=SCRIPT, files={"k": USUAL}),
     # One of no bytes is a keytab for ktcopy.
-    Explained("a file of no bytes", words_of("ktcopy --in-place k t"), (), {"k": keytab(B), "t": b""}, status=0,
-              out=b"copied 2 kvno 3 etype 17 b@R\n", after={"k": keytab(B), "t": keytab(B)}),
+    copy("--in-place", B_OLD, b"", status=0, out=["copied 2 kvno 3 etype 17 b@R"], after={"k": B_OLD, "t": B_OLD}),
     # A dry run changes nothing.
     unchanged("ktremove --in-place -n -p b@R k", status=0, out=b"removed 53 kvno 3 etype 17 b@R\n", files={"k": TWO}),
     unchanged("ccremove --in-place -n -p krbtgt/R@R c", status=0, out=b"removed 40 krbtgt/R@R\n", files={"c": USUAL}),
-    unchanged("ktcopy --in-place -n k t", status=0, out=b"copied 53 kvno 3 etype 17 b@R\n",
-         files={"k": keytab(B), "t": keytab(HOST)}),
+    copy("--in-place -n", B_OLD, NEW, status=0, out=["copied 53 kvno 3 etype 17 b@R"], after={"k": B_OLD, "t": NEW}),
 ]
 
 
 def check_links(report: Report, program: str) -> None:
     """Checks links to no file, and one to a file, which is saved where it is."""
     missing = message(1, "l: no such file")
-    for name, target, wanted, after in (("a link to nothing", "no", missing, keytab(B)),
-                                        ("a link into no folder", "no/k", missing, keytab(B)),
-                                        ("a link to a file", "k", printed("placed 47"), keytab(B, HOST))):
-        case = Case(f"{name}, in place", ("ktedit", IN_PLACE, "l"), wanted, {"k": keytab(B)}, {"k": after}, SCRIPT)
+    for name, target, wanted, after in (("a link to nothing", "no", missing, B_OLD),
+                                        ("a link into no folder", "no/k", missing, B_OLD),
+                                        ("a link to a file", "k", B_SAVED, B_NEW)):
+        case = Case(f"{name}, in place", ("ktedit", IN_PLACE, "l"), wanted, {"k": B_OLD}, {"k": after}, SCRIPT)
         check_over(report, program, case, link("l", target))
 
 

@@ -12,14 +12,14 @@ from keytabs.file_names import LIMIT, sized
 from keytabs.listings import B_LINE, HOST_LINE, listed
 from makers.images import B, BIG, HOST, TWO, keytab, old, record
 from makers.usual_caches import USUAL, VERSION_3
-from models.cases import IN_PLACE, frame
 from runs.harness import SECONDS, Outcome, Report, differences, folder_of, message, run
 from runs.terminal import EXPLAIN, all_of
+from runs.undisturbed import IN_PLACE, frame
 from system.failing_streams import NO_OUTPUT
 from system.placing import explained
 from system.saving import as_another, stands, tree_faults
 from system.waits import AT_ONCE, LEAST_WAIT, LONGEST_WAIT
-from words.explained import CUT_CACHE, Explained, case, failed, in_the_way, link, no_keytab
+from words.explained import CUT_CACHE, Explained, case, failed, in_the_way, link, no_keytab, unchanged
 from words.phrases import (BAD_DEFAULT, BAD_HEADER, BEGINS_AS_CACHE, BEGINS_AS_NO_CACHE, BEGINS_AS_NO_KEYTAB, CAUSES,
                            GIVEN_DAMAGED, HELD_AS_KEYTAB, LARGE, NOT_WHOLE, SHORT, TO_A_PROGRAM, code)
 from words.unseen import HIDDEN
@@ -43,10 +43,8 @@ def given(line: str, image: bytes | None, data: bytes, *output: tuple[str, str],
                 out=frame(NONE if image is None else image), after={} if left is None else {"k": left}, **more)
 
 
-def refused(line: str, image: bytes | None, *output: tuple[str, str], **more) -> Explained:
-    """Returns a hold that prints nothing, and ends with status 1."""
-    return case(f"{line}: {output[0][0]}", line, image, *output, stdin=EMPTY, out=b"",
-                after={} if image is None else {"k": image}, **more)
+# A hold that leaves its file as it is, or none, prints nothing, and ends with status 1.
+refused = partial(unchanged, stdin=EMPTY)
 
 
 def unsaved(line: str, cause: str, image: bytes | None = TWO, **more) -> Explained:
@@ -97,10 +95,11 @@ CASES = [
     lambda: given(K, TWO, frame(sized(LIMIT + 1)), ("input too large", LARGE), name="too large"),
     lambda: given(K, TWO, b"00" + frame(sized(LIMIT)), after=sized(LIMIT), name="the largest"),
     # The file is at fault.
-    *(refused(K, image, no_keytab(why)) for image, why in ((b"\5", SHORT), (USUAL, BEGINS_AS_CACHE))),
-    *(refused(C, image, no_cache(why)) for image, why in ((b"", SHORT), (TWO, HELD_AS_KEYTAB))),
-    refused(K, TWO[:-1], ("k: refused 1", code(1))), refused(C, CUT_CACHE, ("k: refused 1", code(1, "hold"))),
-    *(refused(line, None, ("k: no such file", "")) for line in (C, f"hold {IN_PLACE} k", PLACED)),
+    *(refused(K, no_keytab(why), files={"k": image}) for image, why in ((b"\5", SHORT), (USUAL, BEGINS_AS_CACHE))),
+    *(refused(C, no_cache(why), files={"k": image}) for image, why in ((b"", SHORT), (TWO, HELD_AS_KEYTAB))),
+    refused(K, ("k: refused 1", code(1)), files={"k": TWO[:-1]}),
+    refused(C, ("k: refused 1", code(1, "hold")), files={"k": CUT_CACHE}),
+    *(refused(line, ("k: no such file", "")) for line in (C, f"hold {IN_PLACE} k", PLACED)),
     # It could not be saved. What the load tells comes first.
     unsaved(K, "in the way", **IN_THE_WAY), unsaved(K, "in the way", None, **IN_THE_WAY),
     unsaved(C, "in the way", USUAL, **IN_THE_WAY), unsaved(f"hold -k {'x' * 248}", "ENAMETOOLONG"),
@@ -109,8 +108,8 @@ CASES = [
          out=b"", stdin=EMPTY, setting=lambda folder: (in_the_way(folder), link("k")(folder))),
     unsaved("hold -k k.krbfile", "name of saves"), unsaved(f"hold {IN_PLACE} -k k.krbfile", "name of saves"),
     unsaved("hold -k k.krbfile", "name of saves", None), unsaved("hold -k d/k", "ENOENT", None),
-    refused(K, TWO[:-1], ("k: refused 1", code(1)), **IN_THE_WAY),
-    refused(C, None, ("k: no such file", ""), **IN_THE_WAY),
+    refused(K, ("k: refused 1", code(1)), files={"k": TWO[:-1]}, **IN_THE_WAY),
+    refused(C, ("k: no such file", ""), **IN_THE_WAY),
     given(PLACED, TWO, EMPTY, after=NONE, name="in the way", **IN_THE_WAY),
     failed(("hold", "-k", "."), "read", "EISDIR", None, out=b"", stdin=EMPTY),
 ]

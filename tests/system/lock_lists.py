@@ -4,46 +4,43 @@ Each file has the number 0 on the device 0:0. That of its mount is 0:38, if that
 """
 
 import os
+from itertools import product
 
-from models.cases import in_place
-from runs.harness import Case, Report, differences, folder_of
+from runs.harness import Report, differences, folder_of
 from runs.preload import Counted, Line, Preloaded, preloaded
 from runs.terminal import EXPLAIN
+from runs.undisturbed import in_place
 from system.failing_system_calls import READINGS
 from system.placing import EQUAL, explained
-from system.saving import ADD, OLD, SCRIPT, UNSAVED
+from system.saving import ADD, OLD, SCRIPT, UNSAVED, Run
 from words.phrases import CAUSES
 
 LINE = Line((EXPLAIN, "ktedit", "k"), SCRIPT)
 
+
+def lock(file: str, kind: str = "POSIX  ADVISORY  WRITE 12") -> bytes:
+    """Returns the line of a lock on the file of that device and number, by default one to write."""
+    return f"1: {kind} {file} 0 EOF\n".encode()
+
+
 # A lock to write on the file and one to read, for which only a save in place waits, and the lock that another run has.
-LOCK = b"1: POSIX  ADVISORY  WRITE 12 00:00:0 0 EOF\n"
-NO_LOCK = b"1: POSIX  ADVISORY  READ 12 00:00:0 0 EOF\n"
-FLOCK = b"1: FLOCK  ADVISORY  WRITE 9 00:00:0 0 EOF\n"
+LOCK, NO_LOCK = lock("00:00:0"), lock("00:00:0", "POSIX  ADVISORY  READ 12")
+FLOCK = lock("00:00:0", "FLOCK  ADVISORY  WRITE 9")
 
 # The description of an open file, on mount 25, and a list of mounts, one of which has a name that is not UTF-8.
 OPEN_FILE = b"pos:\t0\nflags:\t0100001\nmnt_id:\t25\nino:\t131\n"
 MOUNTS = (b"24 1 0:37 / / rw,relatime - overlay overlay rw\n26 24 0:31 / /\xff rw - tmpfs t1 rw\n"
           b"25 24 0:38 / /tmp rw shared:2 - tmpfs t2 rw\n")
 
-# Each line, and whether it is such a lock if the device of the mount is known, if the list of mounts cannot be read,
-# and if the description cannot. The last ones name the file by the inode of that description.
+# Whether lines are such a lock if the device of the mount is known, if the list of mounts cannot be read, and if the
+# description cannot; and the lines. The number 131 is that of the description.
 LOCK_LINES = {
-    LOCK: (True, True, True),
-    b"1: OFDLCK ADVISORY  WRITE -1 00:00:0 0 EOF\n": (True, True, True),
-    b"1: -> POSIX  MANDATORY WRITE 12 00:26:0 0 EOF\n": (True, True, True),
-    b"1: FLOCK  ADVISORY  WRITE 9 00:00:0 0 EOF\n2: POSIX  ADVISORY  WRITE 8 00:26:0 0 EOF\n": (True, True, True),
-    FLOCK: (False, False, False),
-    NO_LOCK: (False, False, False),
-    b"1: POSIX  ADVISORY  WRITE 12 00:00:10 0 EOF\n": (False, False, False),
-    b"1: POSIX  ADVISORY  WRITE 12 00:1f:0 0 EOF\n": (False, True, True),
-    b"1: POSIX  ADVISORY  WRITE 12 00:26:1 0 EOF\n": (False, False, False),
-    b"1: POSIX  ADVISORY  WRITE 12 fe:00:0 0 EOF\n": (False, False, False),
-    b"1: POSIX  ADVISORY  WRITE 12 103:26:0 0 EOF\n": (False, False, False),
-    b"\xff": (False, False, False),
-    b"1: POSIX  ADVISORY  WRITE 12 00:26:131 0 EOF\n": (True, True, False),
-    b"1: POSIX  ADVISORY  WRITE 12 00:00:131 0 EOF\n": (True, True, False),
-    b"1: POSIX  ADVISORY  WRITE 12 fe:00:131 0 EOF\n": (False, False, False),
+    (True, True, True): (LOCK, lock("00:00:0", "OFDLCK ADVISORY  WRITE -1"), FLOCK + lock("00:26:0"),
+                         lock("00:26:0", "-> POSIX  MANDATORY WRITE 12")),
+    (False, False, False): (FLOCK, NO_LOCK, b"\xff", *map(lock, ("00:00:10", "00:26:1", "fe:00:0", "103:26:0",
+                                                                 "fe:00:131"))),
+    (False, True, True): (lock("00:1f:0"),),
+    (True, True, False): (lock("00:26:131"), lock("00:00:131")),
 }
 
 # A list without an end.
@@ -80,7 +77,7 @@ def seen(under: Preloaded, lists: dict[str, bytes | None], pace: int = 0, is_tak
         return under.run_in(folder, line, PROC=proc, PACE=pace)
 
 
-def faults_of_save(got: Counted, is_waited: bool, case: Case = ADD) -> list[str]:
+def faults_of_save(got: Counted, is_waited: bool, case: Run = ADD) -> list[str]:
     """Returns the faults of a run that saves, after a moment or at once."""
     found = differences(case.wanted, got.outcome) + ([] if got.files == case.files_after else ["other files"])
     is_due = 0 < got.slept <= MOMENT if is_waited else got.slept == 0
@@ -104,8 +101,8 @@ def check_lines(report: Report, under: Preloaded) -> None:
 
     If that of its mount is not known, all devices without a disk count as one.
     """
-    for line, waits in LOCK_LINES.items():
-        for lists, is_waited in zip(({}, {"mountinfo": b""}, {"fdinfo": b""}), waits):
+    for waits, lines in LOCK_LINES.items():
+        for line, (lists, is_waited) in product(lines, zip(({}, {"mountinfo": b""}, {"fdinfo": b""}), waits)):
             got = seen(under, {"1": line, **lists})
             report.check(f"{line}, without {[*lists]}", faults_of_save(got, is_waited))
 

@@ -10,21 +10,21 @@ from dataclasses import replace
 from typing import BinaryIO
 
 from makers.images import B, HOST, keytab
-from models.cases import in_place, ktutil
 from runs.harness import Case, Report, differences, folder_of
 from runs.preload import Line
 from runs.rows import shown
 from runs.system_calls import Halt, check_traced, halted
 from runs.terminal import EXPLAIN
+from runs.undisturbed import Undisturbed, in_place, undisturbed
 from system.failing_system_calls import READINGS
 from system.placing import (CUT_OFF, EQUAL, LAST_OF_EACH, LONGER, MIXED, PLACED, SHORTER, changed, explained, images,
-                            message_of, told)
+                            message_of, told, with_words)
 from system.saving import tree_faults, unsaved
-from words.phrases import AFTERMATHS, CAUSES, LEAVE_OUT, line_fault
+from words.phrases import AFTERMATHS, CAUSES
 
 # A run of each command, and lines of ktutil of which the last ones are at fault and refused.
-TALK = ktutil(b"rkt j\nwkt k\nfrob\nwkt FILE:k\n", 0, files={"j": keytab(B), "k": keytab(HOST)},
-              name="adds, is at fault, and is refused")
+TALK = undisturbed("ktutil", b"rkt j\nwkt k\nfrob\nwkt FILE:k\n", j=keytab(B), k=keytab(HOST),
+                   name="adds, is at fault, and is refused")
 CASES_OF_ALL = (*LAST_OF_EACH, TALK)
 
 # Where a run is halted: before its rename, at the last reading of the locks, and behind it.
@@ -57,18 +57,9 @@ def changed_while(program: str, case: Case, halt: Halt, change: Change) -> list[
         return differences(case.wanted, got) + tree_faults(case.files_after, folder)
 
 
-def with_words(case: Case, aftermath: str) -> Case:
-    """Returns an explained run that tells what its save left."""
-    wanted = told(replace(case, wanted=replace(case.wanted, err=b"")), aftermath)
-    if case.words[0] == "ktutil" and case.wanted.err:
-        wanted = explained(wanted, "line 3: fault 1", f"line 3: {line_fault(1, 'ktutil')}", "FILE:k: cannot write",
-                           f"line 4: {LEAVE_OUT.replace('TYPE', 'FILE:')}")
-    return replace(case, words=(EXPLAIN, *case.words), wanted=wanted)
-
-
-def both_ways(case: Case, aftermath: str) -> tuple[Case, Case]:
+def both_ways(case: Undisturbed, aftermath: str) -> list[Case]:
     """Returns a run that tells what its save left, without words and with them."""
-    return replace(case, wanted=told(case, aftermath)), with_words(case, aftermath)
+    return [replace(one.as_case(), wanted=told(one, aftermath)) for one in (case, with_words(case))]
 
 
 def check_lost(report: Report, program: str) -> None:
@@ -83,7 +74,7 @@ def check_lost(report: Report, program: str) -> None:
 
 def check_kinds(report: Report, program: str) -> None:
     """Checks each kind of change: where the bytes are the same, nothing is told."""
-    case = PLACED[0]
+    case = PLACED[0].as_case()
     for name, (change, is_lost) in CHANGES.items():
         one = replace(case, wanted=told(case, "lost change")) if is_lost else case
         report.check(f"{name}, behind the rename", changed_while(program, one, HALTS["behind"], change))
@@ -100,14 +91,14 @@ def check_kept(report: Report, program: str) -> None:
     change, _ = CHANGES["bytes at the end"]
     for case in map(in_place, CASES_OF_ALL):
         before, after = images(case)
-        for one in both_ways(with_more(case), "mixed"):
+        for one in map(with_more, both_ways(case, "mixed")):
             report.check(f"more at the end: {shown(one.words)}: {case.name}",
                          changed_while(program, one, COMPARED if len(after) > len(before) else SYNCED, change))
 
 
 def check_kinds_in_place(report: Report, program: str) -> None:
     """Checks each kind of change of a file whose length stays: where the bytes are the same, nothing is told."""
-    case = in_place(EQUAL)
+    case = in_place(EQUAL).as_case()
     _, after = images(case)
     left = {"bytes at the end": after + MORE, "the last byte": after[:-1] + b"\xff", "no byte any more": b""}
     for name, (change, is_told) in CHANGES.items():
@@ -128,7 +119,7 @@ def check_refused(report: Report, program: str) -> None:
             (LONGER, SYNCED, old_byte, before[:-1] + b"\xff", ""),
             (SHORTER, WRITTEN, add, shorter + MORE, "restored")]
     for case, halt, change, image, left in rows:
-        placed = in_place(case)
+        placed = in_place(case).as_case()
         message = [message_of(placed, left)] if left == "mixed" else []
         words = [CAUSES["in use" if left == "mixed" else "changed"]]
         words += [AFTERMATHS[left]] if left == "restored" else []
@@ -143,7 +134,7 @@ def check_later(report: Report, program: str) -> None:
     """Checks changes behind the second write, and behind the cut."""
     change, _ = CHANGES["bytes at the end"]
     for case, halt in ((MIXED, Halt("fsync", 2)), (SHORTER, CUT), (SHORTER, SYNCED), (CUT_OFF, CUT)):
-        placed = in_place(case)
+        placed = in_place(case).as_case()
         one = replace(with_more(placed), wanted=told(placed, "mixed"))
         report.check(f"more behind {halt.calls} {halt.nth}: {placed.name}", changed_while(program, one, halt, change))
 

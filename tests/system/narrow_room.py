@@ -13,11 +13,11 @@ from caches import cache_files
 from caches import greatest_caches
 from keytabs.file_names import LIMIT, sized
 from keytabs.greatest import cases, copies
-from models.cases import ktcheck_all
-from models.modelled import NO_MEMORY
 from runs.harness import SECONDS, Case, Outcome, Report, faults_of, run_case
 from runs.limits import limit
 from runs.random_runs import Rounds
+from runs.undisturbed import undisturbed
+from system.early_ends import NO_MEMORY
 
 STACK = 256 * 1024
 SPACE = 64 * 1024 * 1024
@@ -37,7 +37,7 @@ def is_early(case: Case, got: Outcome, after: dict[str, bytes]) -> bool:
     """Whether a run ended out of memory, after a part of what it does."""
     if got.status != NO_MEMORY.status or not got.err.endswith(NO_MEMORY.err):
         return False
-    last = case.files if case.files_after is None else case.files_after
+    last = case.files_after or case.files
     files_are_whole = all(after.get(name) in (case.files.get(name), last.get(name))
                           for name in {*after, *last})
     output = got.err.removesuffix(NO_MEMORY.err)
@@ -63,30 +63,27 @@ def faults_in(program: str, case: Case, kind: int, most: int) -> list[str]:
 
 def without_room() -> list[Case]:
     """Returns a run of each command over a file of as many bytes as there is memory."""
-    lines = {("klist", "-k", "k"): b"", ("ktfind", "k", "0", "0", "b@R"): b"",
-             ("ktedit", "k"): b"start\n", ("ktutil",): b"rkt k\n",
-             ("ktremove", "-k", "3", "k"): b"", ("ktcheck", "k"): b"", ("klist", "c"): b"",
-             ("ccedit", "c"): b"start\n", ("ccremove", "--expired", "c"): b"", ("hold", "-k", "k"): b"2\n\5\2"}
+    lines = {"klist -k k": b"", "ktfind k 0 0 b@R": b"", "ktcheck k": b"", "klist c": b"", "ktremove -k 3 k": b"",
+             "ccremove --expired c": b"", "ktedit k": b"start\n", "ccedit c": b"start\n", "ktutil": b"rkt k\n",
+             "hold -k k": b"2\n\5\2"}
     files = {"k": sized(LIMIT), "c": cache_files.sized(LIMIT)}
-    return [Case(f"a file as large as the memory: {' '.join(words)}", words, NO_MEMORY, files,
-                 stdin=stdin) for words, stdin in lines.items()]
+    return [Case(f"a file as large as the memory: {line}", (*line.split(),), NO_MEMORY, files, stdin=stdin)
+            for line, stdin in lines.items()]
 
 
-def check_many(report: Report, program: str) -> None:
-    """Checks that ktcheck gives the memory of each file back: many files take no more than one."""
-    case = ktcheck_all(files=(("k", sized(LIMIT)),) * MANY)
-    report.check(f"{MANY} of the greatest files, in 256 MB of memory",
-                 faults_of(case, *run_case(program, case, preexec_fn=limit(resource.RLIMIT_AS, ROOM))))
+def of_many() -> Case:
+    """Returns a check of many files, each of which gives its memory back: they take no more than one."""
+    two = undisturbed("ktcheck k k", k=sized(LIMIT))
+    wanted = Outcome(two.wanted.status, two.wanted.out * (MANY // 2))
+    return Case(f"{MANY} of the greatest files, in 256 MB of memory", ("ktcheck", *["k"] * MANY), wanted, two.files)
 
 
 def check(report: Report, program: str) -> None:
     """Runs this topic."""
-    check_many(report, program)
     for case in [*cases(), *greatest_caches.cases()]:
         case.check(report, program)
-    for case in without_room():
-        got = run_case(program, case, preexec_fn=limit(resource.RLIMIT_AS, LIMIT))
-        report.check(case.name, faults_of(case, *got))
+    for case, most in ((of_many(), ROOM), *((each, LIMIT) for each in without_room())):
+        report.check(case.name, faults_of(case, *run_case(program, case, preexec_fn=limit(resource.RLIMIT_AS, most))))
     for case in all_cases():
         faults = faults_in(program, case, resource.RLIMIT_STACK, STACK)
         report.check(f"{case.name}, on a stack of 256 KB", faults)

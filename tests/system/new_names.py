@@ -8,11 +8,12 @@ from collections.abc import Callable
 from concurrent.futures import ThreadPoolExecutor
 from dataclasses import replace
 
-from models.cases import IN_PLACE, in_place
-from runs.harness import Case, Outcome, Report, message
+from runs.harness import Case, Report, message
+from runs.rows import printed
+from runs.undisturbed import IN_PLACE, Undisturbed, in_place
 from system.placing import PLACED, changed, refused
-from system.saving import (ADD, CHANGES, NEW, OLD, SAVED, SCRIPT, USER, WALK, as_another, at, check_over, faults_over,
-                           link, renamed, unsaved, write)
+from system.saving import (ADD, CHANGES, LINES, NEW, OLD, SAVED, SCRIPT, USER, WALK, as_another, at, check_over,
+                           faults_over, link, unsaved, write)
 
 # Another user who is not root.
 STRANGER = 1234
@@ -20,16 +21,7 @@ STRANGER = 1234
 NEW_FILE = "k.krbfile"
 
 # Makes something at a path.
-Make = Callable[[str], None]
-
-# The output of a walk over a keytab without entries.
-WALKED = Outcome(0, b"walk 0 at 2\nwalk 0 end 2\n")
-
-
-def beside(path: str, name: str) -> str:
-    """Returns another path in the same folder."""
-    return os.path.join(os.path.dirname(path), name)
-
+Make = Callable[[str], object]
 
 def own(path: str) -> str:
     """Returns the file whose new file has that path."""
@@ -44,12 +36,7 @@ def filled(path: str) -> None:
 
 def owned_by(owner: int, mode: int = 0o600) -> Make:
     """Returns a function that makes a file of that owner."""
-
-    def make(path: str) -> None:
-        write(path, b"strange", mode)
-        os.chown(path, owner, -1)
-
-    return make
+    return lambda path: (write(path, b"strange", mode), os.chown(path, owner, -1))
 
 
 # What no killed run leaves.
@@ -61,22 +48,22 @@ STRANGE: list[tuple[str, Make]] = [
     ("a link that dangles", lambda path: os.symlink("no", path)),
     ("a link to itself", lambda path: os.symlink(os.path.basename(path), path)),
     ("a pipe", os.mkfifo),
-    ("another name of a file", lambda path: os.link(beside(path, "other"), path)),
+    ("another name of a file", lambda path: os.link(os.path.join(os.path.dirname(path), "other"), path)),
     ("another name of the file", lambda path: os.link(own(path), path)),
 ]
 
 
-def faults_in_the_way(program: str, make: Make, mode: int, owner: int | None, case: Case = ADD, **options) -> list[str]:
+def faults_in_the_way(program: str, make: Make, mode: int, owner: int | None, case: Undisturbed = ADD,
+                      **options) -> list[str]:
     """Returns the faults of a run with something in place of its new file, in a folder of that mode."""
     files = {"other": b"other"}
     places = [at(f"{case.words[-1]}.krbfile", make), at(".", lambda path: os.chmod(path, mode))]
     if owner is not None:
         files |= case.files
         places.insert(0, at(case.words[-1], lambda path: os.chown(path, owner, -1)))
-    if IN_PLACE not in case.words:
-        case = replace(case, wanted=unsaved(case), files_after=None)
-    case = replace(case, files=files)
-    return faults_over(program, case, *places, **options)
+    if IN_PLACE in case.words:
+        return faults_over(program, replace(case.as_case(), files=files), *places, **options)
+    return faults_over(program, Case(case.name, case.words, unsaved(case), files, stdin=case.stdin), *places, **options)
 
 
 def check_strange(report: Report, program: str) -> None:
@@ -131,9 +118,9 @@ def check_own_names(report: Report, program: str) -> None:
     for name in (NEW_FILE, ".krbfile", "k.krbfile.krbfile", "./k.krbfile", "link", "dangling"):
         path = "t.krbfile" if name == "link" else os.path.normpath(name)
         files = {} if name == "dangling" else {path: OLD}
-        unsaved, talk = message(3, f"{name}: cannot write"), f"addent -key -p a@R -k 1 -e 1\n00\nwkt {name}\n"
-        rows = [(("ktedit", name), SCRIPT, unsaved), (("ktutil",), talk.encode(), unsaved)]
-        rows += [(("ktedit", name), WALK, WALKED)] if files else []
+        unsaved, talk = message(3, f"{name}: cannot write"), LINES + f"wkt {name}\n".encode()
+        rows = [(("ktedit", name), SCRIPT, unsaved), (("ktutil",), talk, unsaved)]
+        rows += [(("ktedit", name), WALK, printed("walk 0 at 2", "walk 0 end 2"))] if files else []
         for words, given, wanted in rows:
             case = Case(f"{given[:6]} as {name}, which has a new file's name", words, wanted, files, stdin=given)
             check_over(report, program, case, link("link", "t.krbfile"), link("dangling", "no.krbfile"))
@@ -149,17 +136,22 @@ def check_places(report: Report, program: str) -> None:
                                          {".krbfile": b"other", ".new": b"other"}, after, SCRIPT))
 
 
+def renamed(case: Undisturbed, name: str) -> Case:
+    """Returns the same run over a file of another name."""
+    last = case.words[-1]
+    files, after = ({name if each == last else each: data for each, data in those.items()}
+                    for those in (case.files, case.files_after))
+    return Case(case.name, (*case.words[:-1], name), case.wanted, files, after, case.stdin)
+
+
 def check_no_names(report: Report, program: str) -> None:
     """Checks that files with the name of a new one are not changed, nor is, but in place, a file under a name that is
     too long for a new one."""
     for case in (*CHANGES, *(in_place(each) for each in PLACED if changed(each) == each.words[-1])):
-        rows = [refused(renamed(case, f"{case.words[-1]}.krbfile"), "name of saves")]
-        if IN_PLACE in case.words:
-            rows += [renamed(case, "x" * length) for length in (248, 255)]
-        else:
-            rows.append(refused(renamed(case, "x" * 248), "ENAMETOOLONG"))
-        for one in rows:
-            check_over(report, program, replace(one, name=f"a name of {len(one.words[-1])} bytes: {case.name}"))
+        if_long = "" if IN_PLACE in case.words else "ENAMETOOLONG"
+        for name, cause in ((f"{case.words[-1]}.krbfile", "name of saves"), ("x" * 248, if_long), ("x" * 255, if_long)):
+            one = refused(renamed(case, name), cause) if cause else renamed(case, name)
+            check_over(report, program, replace(one, name=f"a name of {len(name)} bytes: {case.name}"))
 
 
 def check(report: Report, program: str) -> None:

@@ -11,57 +11,37 @@ import socket
 import subprocess
 from dataclasses import replace
 
-from keytabs.ktutil_lines import TWO_LISTED, lines
-from keytabs.listings import B_LINE, HOST_LINE, case
 from makers.images import B, HOST, TWO, Entry, keytab
-from models.cases import klist, klist_cache, klist_cache_json, klist_json, ktutil
-from models.modelled import Modelled, mixed_cache, mixed_keytab, modelled, small
-from runs.harness import SECONDS, Case, Outcome, Report, differences, folder_of, message, run, run_case
+from runs.harness import SECONDS, Outcome, Report, differences, folder_of, message, run, run_case
 from runs.limits import limit
-from runs.preload import Counted
-from runs.rows import BAD_LINE, printed, shown, words_of
+from runs.rows import shown, words_of
 from runs.terminal import EXPLAIN
+from runs.undisturbed import Undisturbed, undisturbed
+from system.early_ends import End, Ends, mixed_cache, mixed_keytab, small_runs
 from system.failing_streams import NO_OUTPUT, ends_in_output
 from system.saving import CHANGES, HOLDING_NOTHING, SAVING_NOTHING
-from words.phrases import code
 
 NO_INPUT = message(3, "cannot read input")
 
-KLIST = case("a listing", TWO, HOST_LINE, B_LINE)
+# Runs whose output is cut at each byte, and runs whose messages are.
+CUT = (undisturbed("klist -k k", k=TWO), undisturbed("ktcheck k s k", k=TWO, s=keytab(HOST, HOST)))
+CUT_MESSAGES = (
+    undisturbed("ktutil", b"frob\nrkt k\ndelent 9\nl\nrkt n\nl\n", name="is at fault between lists", k=TWO),
+    undisturbed(f"{EXPLAIN} ktfind k 0 0 c@R", k=TWO),
+    undisturbed(f"{EXPLAIN} ktcheck k", k=keytab(HOST, HOST)),
+    undisturbed(f"{EXPLAIN} frob"),
+)
 
-# More than a pipe takes: 300 lines of 1000 bytes.
-LONG_NAME = b"x" * 992
-LONG = case("a long listing", keytab(*[Entry((LONG_NAME,))] * 300), *[b"   3 " + LONG_NAME + b"@R"] * 300)
+# A listing of more than a pipe takes: 300 lines of 1000 bytes.
+LONG = undisturbed("klist -k k", k=keytab(*[Entry((b"x" * 992,))] * 300))
 
-# Three faulty lines with others between, and a status of 1.
-FAULTY = lines("faults between lists", ["frob", "rkt k", "delent 9", "l", "rkt n", "l"], TWO_LISTED * 2,
-               "line 1: fault 1", "line 3: fault 7", "n: no such file", files={"k": TWO})
-
-# Three keytabs, with findings and without: the run ends with the file whose lines are cut.
-SEVERAL = Case("several keytabs", ("ktcheck", "k", "s", "k"),
-               printed("k: entries 2 free 0 holes 0", "s: same 53 2 kvno 3 etype 17 host/a@R",
-                       "s: entries 2 free 0 holes 0", "k: entries 2 free 0 holes 0", status=1),
-               {"k": TWO, "s": keytab(HOST, HOST)})
-
-# Messages with their explanations.
-EXPLAINED = [
-    Case("a look-up that finds nothing", (EXPLAIN, "ktfind", "k", "0", "0", "c@R"),
-         Outcome(1, err=f"krbfile: k: refused 9\nkrbfile: {code(9)}\n".encode()), {"k": TWO}),
-    Case("a bad command line", (EXPLAIN, "frob"),
-         Outcome(2, err=b"krbfile: bad command line\n"
-                 b"krbfile: unknown command frob; see krbfile --help\n")),
-    Case("a finding with a hint", (EXPLAIN, "ktcheck", "k"),
-         Outcome(1, b"same 53 2 kvno 3 etype 17 host/a@R\nentries 2 free 0 holes 0\n",
-                 b"krbfile: same: this key stands there twice\n"
-                 b"krbfile: to have each once: krbfile ktcopy k NEW\n"), {"k": keytab(HOST, HOST)}),
-]
-
-# Runs of ktutil that depend on no time.
+# Runs of ktutil that do not depend on the clock.
 FILES = {"k": TWO, "j": keytab(HOST), "n": keytab(B)}
-TALKS = (b"rkt j\nl\nwkt k\n", b"rkt j\ndelent 1\n", b"frob\nrkt k\nrkt j\nwkt n\n")
-
-# Runs that print help, which the models do not cover.
-HELP = (("--help",), ("klist", "--help"))
+TALKS = (
+    undisturbed("ktutil", b"rkt j\nl\nwkt k\n", name="saves", **FILES),
+    undisturbed("ktutil", b"rkt j\ndelent 1\n", name="prints nothing", **FILES),
+    undisturbed("ktutil", b"frob\nrkt k\nrkt j\nwkt n\n", name="is at fault", **FILES),
+)
 
 # A buffered write has at most one more line or element, none of which has 2,000 bytes here. No message is
 # longer than a write may be.
@@ -82,7 +62,7 @@ def cut(wanted: Outcome, part: str, most: int) -> Outcome:
     return replace(NO_OUTPUT if part == "out" and most < len(text) else wanted, **{part: text[:most]})
 
 
-def check_each_byte(report: Report, program: str, case: Case, stream: str, part: str) -> None:
+def check_each_byte(report: Report, program: str, case: Undisturbed, stream: str, part: str) -> None:
     """Checks each number of bytes that the output takes, up to those of the text. The write that exceeds it is cut."""
     with folder_of(case.files) as folder:
         path = os.path.join(folder, stream)
@@ -95,7 +75,7 @@ def check_each_byte(report: Report, program: str, case: Case, stream: str, part:
             report.compare(f"{stream} of {most} bytes: {case.name}", cut(case.wanted, part, most), got)
 
 
-def piped(program: str, case: Case, folder: str, **more) -> subprocess.Popen[bytes]:
+def piped(program: str, case: Undisturbed, folder: str, **more) -> subprocess.Popen[bytes]:
     """Makes a run whose outputs are pipes."""
     return subprocess.Popen([program, *case.words], cwd=folder, stdin=subprocess.DEVNULL, stdout=subprocess.PIPE,
                             stderr=subprocess.PIPE, **more)
@@ -112,36 +92,26 @@ def check_closed_pipe(report: Report, program: str, taken: int, action: signal.H
     report.compare(f"pipe closed after {taken} bytes, {action.name}", cut(LONG.wanted, "out", taken), got)
 
 
-def runs() -> list[Modelled]:
-    """Returns runs of each command that do not depend on the clock, and a line that is refused."""
-    talks = (ktutil(given, 0, files=FILES, name=f"{given[:4]}") for given in TALKS)
-    others = (*CHANGES, *HOLDING_NOTHING, *SAVING_NOTHING, *talks, Case("frob", ("frob",), BAD_LINE))
-    timeless = (one for one in small() if one.case.words[0] not in ("ccremove", "ktutil"))
-    return [*timeless, *map(modelled, others)]
-
-
-def is_met(run: Modelled, stream: str, got: Outcome, files: dict[str, bytes]) -> bool:
+def is_met(ends: Ends, stream: str, end: End) -> bool:
     """Whether a run ended as it has to without that output. It does not matter if nothing is written to it."""
-    if stream == "stdout" and run.case.wanted.out:
-        return ends_in_output(run, Counted(got, files, 0, 0))
-    wanted = run.case.wanted if stream == "stdout" else replace(run.case.wanted, err=b"")
-    return (got, files) == (wanted, run.after())
+    wanted, files = ends.whole
+    if stream == "stdout" and wanted.out:
+        return ends_in_output(ends, end)
+    return end == (wanted if stream == "stdout" else replace(wanted, err=b""), files)
 
 
 def check_lost(report: Report, program: str, stream: str) -> None:
-    """Makes each run with that output on a full device, and then with it closed."""
+    """Makes runs that do not depend on the clock with that output on a full device, and then with it closed."""
     number = {"stdout": 1, "stderr": 2}[stream]
+    timeless = [ends for ends in small_runs() if ends.command not in ("ccremove", "ktutil")]
+    others = (*CHANGES, *HOLDING_NOTHING, *SAVING_NOTHING, *TALKS)
     with open("/dev/full", "wb") as full:
-        lost = {"full": {stream: full},
-                "closed": {stream: None, "preexec_fn": lambda: os.close(number)}}
-        for how, options in lost.items():
-            for one in runs():
-                got, files = run_case(program, one.case, **options)
-                found = [] if is_met(one, stream, got, files) else [f"{got} and {sorted(files)}"]
-                report.check(f"{how} {stream}: {one.case.name}", found)
-            for words in HELP if stream == "stdout" else ():
-                got, _ = run_case(program, Case("", words, NO_OUTPUT), **options)
-                report.check(f"{how} {stream}: {' '.join(words)}", differences(NO_OUTPUT, got))
+        lost = {"full": {stream: full}, "closed": {stream: None, "preexec_fn": lambda: os.close(number)}}
+        for ends in (*timeless, *map(Ends, others)):
+            for how, options in lost.items():
+                got, files = run_case(program, ends.run, **options)
+                found = [] if is_met(ends, stream, (got, files)) else [f"{got} and {sorted(files)}"]
+                report.check(f"{how} {stream}: {ends.run.name}", found)
 
 
 def check_closed_input(report: Report, program: str) -> None:
@@ -152,7 +122,7 @@ def check_closed_input(report: Report, program: str) -> None:
         report.compare(f"a closed input: {' '.join(words)}", NO_INPUT, got)
 
 
-def pieces_of(program: str, case: Case) -> tuple[Outcome, list[int]]:
+def pieces_of(program: str, case: Undisturbed) -> tuple[Outcome, list[int]]:
     """Makes a run whose output is a socket, and returns the length of each write."""
     ours, theirs = socket.socketpair(socket.AF_UNIX, socket.SOCK_SEQPACKET)
     with folder_of(case.files) as folder, ours, subprocess.Popen(
@@ -169,8 +139,8 @@ def pieces_of(program: str, case: Case) -> tuple[Outcome, list[int]]:
 def check_pieces(report: Report, program: str) -> None:
     """Lists a keytab and a cache of more than three pieces."""
     image, cache = mixed_keytab(3_000), mixed_cache(400)
-    for one in (klist(image), klist_json(image), klist_cache(cache, words=("-cefC", "c")),
-                klist_cache_json(cache)):
+    for one in (undisturbed("klist -k k", k=image), undisturbed("klist -kK --json k", k=image),
+                undisturbed("klist -cefC c", c=cache), undisturbed("klist --json c", c=cache)):
         got, lengths = pieces_of(program, one)
         faults = differences(one.wanted, got)
         faults += [f"a write of {max(lengths)} bytes"] if max(lengths, default=0) > LONGEST else []
@@ -190,9 +160,9 @@ def check(report: Report, program: str) -> None:
     """Runs this topic."""
     before = os.umask(0o077)
     try:
-        for one in (KLIST, SEVERAL):
+        for one in CUT:
             check_each_byte(report, program, one, "stdout", "out")
-        for one in (FAULTY, *EXPLAINED):
+        for one in CUT_MESSAGES:
             check_each_byte(report, program, one, "stderr", "err")
     finally:
         os.umask(before)

@@ -8,17 +8,15 @@ from collections.abc import Iterator
 from contextlib import contextmanager, suppress
 
 from makers.images import TWO
-from models.cases import IN_PLACE
 from runs.harness import Outcome, Report, differences, folder_of, run
 from runs.terminal import EXPLAIN
-from system.saving import OLD, SCRIPT, tree_faults
+from runs.undisturbed import IN_PLACE
+from system.saving import LINES, OLD, SCRIPT, tree_faults
 from words.phrases import CAUSES
-
-ADDENT = b"addent -key -p a@R -k 1 -e 17\n000102030405060708090a0b0c0d0e0f\n"
 
 # Runs that are to change NAME, each with its input, and names: of a pipe, of a link to it, and of other things.
 RUNS = {"ktedit NAME": SCRIPT, "ktremove -k 3 NAME": b"", "ktcopy two NAME": b"", "ccedit NAME": b"cut 40\n",
-        "ccremove --expired NAME": b"", "hold -k NAME": b"2\n\5\2", "hold NAME": b"", "ktutil": ADDENT + b"wkt NAME\n"}
+        "ccremove --expired NAME": b"", "hold -k NAME": b"2\n\5\2", "hold NAME": b"", "ktutil": LINES + b"wkt NAME\n"}
 PIPES, OTHERS = ("k", "link"), (".", "/dev/null", "/dev/full/k")
 
 
@@ -52,7 +50,7 @@ def check_name(report: Report, program: str, line: str, stdin: bytes, name: str)
                 command, *rest = line.replace("NAME", name).split()
                 words = (EXPLAIN, command, *option.split(), *rest)
                 found.append(run(program, words, folder, stdin.replace(b"NAME", name.encode())))
-            faults = ["it was opened"] if opened else []
+            faults = ["it was opened"] * len(opened)
         faults += differences(*found) + ([] if found[0].status else [f"{found[0]}"])
         if name in PIPES:
             output = f"krbfile: {name}: cannot read\nkrbfile: {place}{CAUSES['no plain file']}\n"

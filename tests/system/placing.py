@@ -5,12 +5,11 @@ from dataclasses import replace
 
 from makers.images import B, HOST, TWO, keytab
 from makers.usual_caches import USUAL
-from models.cases import ccedit, ccremove, hold, ktcopy, ktedit, ktremove, ktutil
-from models.copy_model import Request
-from models.removal_model import Selection
 from runs.harness import Case, Outcome
 from runs.terminal import EXPLAIN
-from system.saving import ADD, TGT, unsaved
+from runs.undisturbed import explained as with_words
+from runs.undisturbed import frame, undisturbed
+from system.saving import ADD, Run, unsaved
 from words.phrases import AFTERMATHS, CAUSES
 
 # An entry that is longer than those of the keytab, and lines of ktutil that add one to the keytab `k`.
@@ -18,31 +17,31 @@ ADD_LONG = b"add 3 17 1700000000 000102030405060708090a0b0c0d0e0f a/long/name@R\
 TALK = b"rkt j\nwkt k\n"
 
 # Runs that make the file longer, that change old bytes too, and that keep its length or make it shorter.
-LONGER = ktedit(TWO, ADD_LONG, name="adds at the end")
-MIXED = ktedit(TWO, b"cut 2\n" + ADD_LONG, name="removes, and adds at the end")
-EQUAL = ktedit(TWO, b"cut 2\n", name="removes")
-SHORTER = ktedit(keytab(60, HOST, 41, B), b"rewrite\n", name="rewrites")
-CUT_OFF = ktedit(keytab(HOST, 41), b"rewrite\n", name="drops the hole at the end")
+LONGER = undisturbed("ktedit k", ADD_LONG, k=TWO, name="adds at the end")
+MIXED = undisturbed("ktedit k", b"cut 2\n" + ADD_LONG, k=TWO, name="removes, and adds at the end")
+EQUAL = undisturbed("ktedit k", b"cut 2\n", k=TWO, name="removes")
+SHORTER = undisturbed("ktedit k", b"rewrite\n", k=keytab(60, HOST, 41, B), name="rewrites")
+CUT_OFF = undisturbed("ktedit k", b"rewrite\n", k=keytab(HOST, 41), name="drops the hole at the end")
 
-# One or more runs of each command that can save in place, without that. None depends on the clock.
-PLACED = (
-    ADD, LONGER, MIXED, EQUAL, SHORTER, CUT_OFF,
-    ktremove(TWO, selection=Selection((b"b@R",)), name="removes"),
-    ktcopy(TWO, keytab(HOST), request=Request(), name="adds"),
-    ktutil(TALK, 0, files={"j": keytab(B), "k": keytab(HOST)}, name="adds"),
-    ccedit(USUAL, b"cut 40\nconfig pa_type krbtgt/R@R 3\n", name="sets"),
-    ccremove(USUAL, 0, selection=TGT, name="removes"),
-    hold(TWO, keytab(60, HOST), name="saves"),
+# A run of each command that can save in place, without that; and before them those. None depends on the clock.
+LAST_OF_EACH = (
+    CUT_OFF,
+    undisturbed("ktremove -p b@R k", k=TWO, name="removes"),
+    undisturbed("ktcopy k t", t=keytab(HOST), k=TWO, name="adds"),
+    undisturbed("ktutil", TALK, j=keytab(B), k=keytab(HOST), name="adds"),
+    undisturbed("ccedit c", b"cut 40\nconfig pa_type krbtgt/R@R 3\n", c=USUAL, name="sets"),
+    undisturbed("ccremove -p krbtgt/R@R c", c=USUAL, name="removes"),
+    undisturbed("hold -k k", frame(keytab(60, HOST)), k=TWO, name="saves"),
 )
-LAST_OF_EACH = PLACED[-7:]
+PLACED = (ADD, LONGER, MIXED, EQUAL, SHORTER, *LAST_OF_EACH)
 
 
-def changed(case: Case) -> str:
+def changed(case: Run) -> str:
     """Returns the name of the file that a run changes."""
     return next(name for name, data in case.files_after.items() if data != case.files.get(name))
 
 
-def images(case: Case) -> tuple[bytes, bytes]:
+def images(case: Run) -> tuple[bytes, bytes]:
     """Returns the file that a run changes, before and after it."""
     name = changed(case)
     return case.files[name], case.files_after[name]
@@ -53,34 +52,25 @@ def explained(outcome: Outcome, *phrases: str) -> Outcome:
     return replace(outcome, err=outcome.err + "".join(f"krbfile: {each}\n" for each in phrases).encode())
 
 
-def with_words(case: Case) -> Case:
-    """Returns the same run, with its messages explained."""
-    return replace(case, words=(EXPLAIN, *case.words))
-
-
-def refused(case: Case, cause: str) -> Case:
+def refused(case: Run, cause: str) -> Case:
     """Returns a run of which the file is not saved, for that cause, which is explained."""
-    return replace(with_words(case), wanted=explained(unsaved(case), CAUSES[cause]), files_after=case.files)
+    wanted = explained(unsaved(case), CAUSES[cause])
+    return Case(case.name, (EXPLAIN, *case.words), wanted, case.files, case.files, case.stdin)
 
 
-def message_of(case: Case, aftermath: str) -> str:
+def message_of(case: Run, aftermath: str) -> str:
     """Returns the message, with words or without, of what the first save of a run left."""
-    name = "line 2" if case.words[0] == "ktutil" else changed(case)
+    name = "line 2" if "ktutil" in case.words else changed(case)
     return f"{name}: {AFTERMATHS[aftermath]}"
 
 
-def told(case: Case, aftermath: str) -> Outcome:
+def told(case: Run, aftermath: str) -> Outcome:
     """Returns the outcome of a run that saves and tells what that left."""
     front = explained(Outcome(case.wanted.status or 1, case.wanted.out), message_of(case, aftermath))
     return replace(front, err=front.err + case.wanted.err)
 
 
-def attributes(path: str) -> dict[str, bytes]:
-    """Returns the extended attributes of a file."""
-    return {name: os.getxattr(path, name) for name in os.listxattr(path)}
-
-
 def kept(path: str) -> tuple[object, ...]:
     """Returns what a save in place keeps of a file."""
-    own = os.stat(path)
-    return own.st_ino, own.st_mode, own.st_uid, own.st_gid, own.st_nlink, attributes(path)
+    own, attributes = os.stat(path), {name: os.getxattr(path, name) for name in os.listxattr(path)}
+    return own.st_ino, own.st_mode, own.st_uid, own.st_gid, own.st_nlink, attributes

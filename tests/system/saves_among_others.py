@@ -8,21 +8,14 @@ from dataclasses import replace
 from functools import partial
 
 from keytabs.edits import ADD_B
-from makers.images import B, keytab
-from models.cases import in_place, ktedit
-from models.script_model import edited
 from runs.harness import Case, Outcome, Report, differences, folder_of, message
 from runs.preload import Line
 from runs.rows import text
 from runs.system_calls import Halt, check_traced, halted
+from runs.undisturbed import IN_PLACE
 from system.placing import refused
-from system.saving import NEW, OLD, SAVED, SCRIPT, UNSAVED, Place, at, edit, link, tree, tree_faults, write
-
-# A user who is not root.
-USER = 1234
-
-# A keytab that is not the one of the runs.
-B_ALONE = keytab(B)
+from system.saving import (B_NEW, B_OLD, B_SAVED, NEW, OLD, SAVED, SCRIPT, UNSAVED, USER, Place, at, edit, link, tree,
+                           tree_faults, write)
 
 # The calls after which a run is halted, each under a name.
 HALTS = {
@@ -44,16 +37,15 @@ def edited_while(program: str, folder: str, call: str, change: Place, *options: 
 
 def named(name: str, make: Callable[[str], None]) -> Place:
     """Returns a change that makes a file under another name and renames it to that name."""
-
-    def change(folder: str) -> None:
-        make(os.path.join(folder, "spare"))
-        os.rename(os.path.join(folder, "spare"), os.path.join(folder, name))
-
-    return change
+    return lambda folder: (make(os.path.join(folder, "spare")),
+                           os.rename(os.path.join(folder, "spare"), os.path.join(folder, name)))
 
 
 at_name = partial(at, "k")
 
+# Another file, or none, under the name of a run's; a new file at the end of a link; and the link.
+OTHER, GONE = named("k", lambda path: write(path, B_OLD)), at_name(os.remove)
+MAKE, LINK = named("file", lambda path: write(path, OLD)), link("k", "file")
 
 # What replaces the file after it was loaded, or found to be missing, and whether there was one. The last ones replace
 # the new file.
@@ -64,7 +56,7 @@ REPLACED: list[tuple[str, bool, Place]] = [
     ("a file where none was", False, at_name(lambda path: write(path, OLD))),
     ("an empty file where none was", False, at_name(lambda path: write(path, b""))),
     ("a link where no file was", False, at_name(lambda path: os.symlink("none", path))),
-    ("no file any more", True, at_name(os.remove)),
+    ("no file any more", True, GONE),
     ("another new file", True, named("k.krbfile", lambda path: write(path, b"strange"))),
     ("a link as new file", True, named("k.krbfile", lambda path: os.symlink("other", path))),
 ]
@@ -75,7 +67,7 @@ CHANGED: list[tuple[str, bool, Place]] = [
     ("no bytes", True, at_name(lambda path: write(path, b""))),
     ("another byte", True, at_name(lambda path: write(path, OLD[:-1] + b"\x01"))),
     ("a byte less", True, at_name(lambda path: write(path, OLD[:-1]))),
-    ("an entry more", True, at_name(lambda path: write(path, keytab(B)))),
+    ("an entry more", True, at_name(lambda path: write(path, B_OLD))),
     ("another group", True, at_name(lambda path: os.chown(path, -1, USER))),
     ("another owner", True, at_name(lambda path: os.chown(path, USER, -1))),
 ]
@@ -120,9 +112,9 @@ def check_changes(report: Report, program: str) -> None:
             check_change(report, program, call, of)
     replaced = [of for of in REPLACED[:-2] if of[1]]
     for of in [*replaced, *changed]:
-        check_change(report, program, "load", of, "--in-place")
+        check_change(report, program, "load", of, IN_PLACE)
     for of in replaced:
-        check_change(report, program, "syncing", of, "--in-place")
+        check_change(report, program, "syncing", of, IN_PLACE)
 
 
 def check_while(report: Report, program: str, case: Case, call: str, change: Place, *places: Place) -> None:
@@ -135,64 +127,59 @@ def check_while(report: Report, program: str, case: Case, call: str, change: Pla
     report.check(f"{case.name}, behind the {call} of {' '.join(case.words)}", faults)
 
 
+def check_names(report: Report, program: str) -> None:
+    """Checks that a save in place is refused whose file has lost its name when it is synced, also where it does not
+    grow, so that it was not looked at before."""
+    case = Case("", ("ktedit", IN_PLACE, "k"), UNSAVED, {"k": NEW, "other": B_OLD}, stdin=b"cut 2\n")
+    led = named("k", lambda path: os.symlink("other", path))
+    for what, cause, change, after in (("another file", "other file", OTHER, {"k": B_OLD}),
+                                       ("a link to another file", "other file", led, {"k": "other"}),
+                                       ("no file any more", "no file", GONE, {})):
+        for one in (case, refused(case, cause)):
+            one = replace(one, name=what, files_after={"other": B_OLD, **after})
+            check_while(report, program, one, "syncing", change)
+
+
 def added(name: str, wanted: Outcome, files: dict[str, bytes], after: dict[str, object], *options: str) -> Case:
     """Returns a run that adds an entry, and what is in its folder then."""
     return Case(name, ("ktedit", *options, "k"), wanted, files, after, SCRIPT)
 
 
-def check_names(report: Report, program: str) -> None:
-    """Checks that a save in place is refused whose file has lost its name when it is synced, also where it does not
-    grow, so that it was not looked at before."""
-    case = in_place(ktedit(NEW, b"cut 2\n"))
-    changes = {"another file": (named("k", lambda path: write(path, B_ALONE)), "other file", {"k": B_ALONE}),
-               "a link to another file": (named("k", lambda path: os.symlink("other", path)), "other file",
-                                          {"k": "other"}),
-               "no file any more": (at_name(os.remove), "no file", {})}
-    for what, (change, cause, after) in changes.items():
-        for one in (replace(case, wanted=UNSAVED), refused(case, cause)):
-            one = replace(one, name=what, files={"k": NEW, "other": B_ALONE}, files_after={"other": B_ALONE, **after})
-            check_while(report, program, one, "syncing", change)
+# Runs while which others change the name of their file: each with the call behind which that happens, the change, and
+# what is made before.
+MOVED: list[tuple[Case, str, Place, *tuple[Place, ...]]] = [
+    # A link that changes: the file that was loaded is saved, and no other gets its keys.
+    *((added(f"{what} in place of a link", SAVED, {"file": OLD, "other": OLD},
+             {"file": NEW, "other": OLD, "k": left}), call, named("k", make), LINK)
+      for call in ("opening", "load", "writing", "syncing")
+      for what, left, make in (("another link", "other", lambda path: os.symlink("other", path)),
+                               ("a file", OLD, lambda path: write(path, OLD, 0o644)))),
+    # A file that others save, make or remove while a link to it is followed.
+    *((added(f"{what} at the end of a link", SAVED, files, {"k": "file", "file": NEW}), "look", change, LINK)
+      for what, files, change in (("another file", {"file": OLD}, MAKE), ("a file where none was", {}, MAKE),
+                                  ("no file any more", {"file": OLD}, at("file", os.remove)))),
+    # A file that is replaced before it is locked: the one that is there then is loaded and saved.
+    *((added(what, wanted, {"k": OLD}, after, *options), "opening", change)
+      for what, change, options, wanted, after in (
+          ("another file", OTHER, (), B_SAVED, {"k": B_NEW}), ("no file any more", GONE, (), SAVED, {"k": NEW}),
+          ("another file", OTHER, (IN_PLACE,), B_SAVED, {"k": B_NEW}),
+          ("no file any more", GONE, (IN_PLACE,), message(1, "k: no such file"), {}))),
+]
 
 
-def check_led_elsewhere(report: Report, program: str) -> None:
-    """Checks a link that changes: the file that was loaded is saved, and no other gets its keys."""
-    for call in ("opening", "load", "writing", "syncing"):
-        for what, left, make in (("another link", "other", lambda path: os.symlink("other", path)),
-                                 ("a file", OLD, lambda path: write(path, OLD, 0o644))):
-            case = added(f"{what} in place of a link", SAVED, {"file": OLD, "other": OLD},
-                         {"file": NEW, "other": OLD, "k": left})
-            check_while(report, program, case, call, named("k", make), link("k", "file"))
-
-
-def check_led(report: Report, program: str) -> None:
-    """Checks that a file that others save, make or remove while a link to it is followed is saved."""
-    make = named("file", lambda path: write(path, OLD))
-    for what, files, change in (("another file", {"file": OLD}, make), ("a file where none was", {}, make),
-                                ("no file any more", {"file": OLD}, at("file", os.remove))):
-        case = added(f"{what} at the end of a link", SAVED, files, {"k": "file", "file": NEW})
-        check_while(report, program, case, "look", change, link("k", "file"))
-
-
-def check_opened_anew(report: Report, program: str) -> None:
-    """Checks that a run whose file is replaced before it has locked it loads and saves the one that is there then."""
-    outcome, image = edited(keytab(B), SCRIPT)
-    other, none = named("k", lambda path: write(path, keytab(B))), at_name(os.remove)
-    missing = message(1, "k: no such file")
-    for what, change, options, wanted, after in (("another file", other, (), outcome, {"k": image}),
-                                                 ("no file any more", none, (), SAVED, {"k": NEW}),
-                                                 ("another file", other, ("--in-place",), outcome, {"k": image}),
-                                                 ("no file any more", none, ("--in-place",), missing, {})):
-        check_while(report, program, added(what, wanted, {"k": OLD}, after, *options), "opening", change)
+def check_moved(report: Report, program: str) -> None:
+    """Checks each of those runs."""
+    for row in MOVED:
+        check_while(report, program, *row)
 
 
 def check_crossed(report: Report, program: str) -> None:
     """Checks a run that is overtaken while it makes its new file, or looks at a stale one."""
-    wanted, image = edited(keytab(B), SCRIPT)
     for call, files in (("making", {}), ("making", {"k.krbfile": b"left"}), ("finding", {"k.krbfile": b"left"})):
         def save(folder: str) -> None:
             report.compare("who overtakes a run", SAVED, edit(program, folder, script=text([ADD_B])))
 
-        case = added(f"overtaken beside {len(files)}", wanted, {"k": OLD, **files}, {"k": image})
+        case = added(f"overtaken beside {len(files)}", B_SAVED, {"k": OLD, **files}, {"k": B_NEW})
         check_while(report, program, case, call, save)
 
 
@@ -208,19 +195,18 @@ def check_crossed_hold(report: Report, program: str) -> None:
             timer.start()
 
         def save() -> None:
-            write(os.path.join(folder, "k"), keytab(B))
+            write(os.path.join(folder, "k"), B_OLD)
             os.remove(os.path.join(folder, "k.krbfile"))
             held[0].close()
 
         timer = threading.Timer(0.3, save)
-        wanted, image = edited(keytab(B), SCRIPT)
-        faults = differences(wanted, edited_while(program, folder, "finding", hold))
-        faults += tree_faults({"k": image}, folder)
+        faults = differences(B_SAVED, edited_while(program, folder, "finding", hold))
+        faults += tree_faults({"k": B_NEW}, folder)
         timer.join()
     report.check("held by another behind the finding of a new file", faults)
 
 
 def check(report: Report, program: str) -> None:
     """Runs this topic."""
-    check_traced(report, program, "files that are changed meanwhile", check_changes, check_names,
-                 check_led_elsewhere, check_led, check_opened_anew, check_crossed, check_crossed_hold)
+    check_traced(report, program, "files that are changed meanwhile", check_changes, check_names, check_moved,
+                 check_crossed, check_crossed_hold)

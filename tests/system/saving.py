@@ -1,85 +1,79 @@
 """Runs that save a file, and what they leave in its folder."""
+from __future__ import annotations
 
 import os
 import stat
 from collections.abc import Callable
 from dataclasses import dataclass, replace
 
-from makers.images import B, HOST, TWO, keytab
+from keytabs.ktutil_lines import ADDENT, KEY
+from makers.images import B, HOST, keytab
 from makers.usual_caches import USUAL
-from models.cases import ccedit, ccremove, hold, ktcopy, ktedit
-from models.copy_model import Request
-from models.ticket_removal_model import Selection
 from runs.harness import Case, Outcome, Report, differences, folder_of, message, run
+from runs.rows import text
+from runs.undisturbed import Undisturbed, frame, undisturbed
 
-# The script of each run, and the file before and after it.
+# The script of most runs, the file before and after it, and what it prints; and so for a file with another entry.
 SCRIPT = b"add 3 17 1700000000 000102030405060708090a0b0c0d0e0f host/a@R\n"
+OLD, NEW, SAVED = keytab(), keytab(HOST), Outcome(0, b"placed 2\n")
+B_OLD, B_NEW, B_SAVED = keytab(B), keytab(B, HOST), Outcome(0, b"placed 47\n")
+UNSAVED, UNREAD = message(3, "k: cannot write"), message(3, "k: cannot read")
 WALK = b"start\nstep 0\n"
-OLD = keytab()
-NEW = keytab(HOST)
-SAVED = Outcome(0, b"placed 2\n")
-UNSAVED = message(3, "k: cannot write")
-UNREAD = message(3, "k: cannot read")
+
+# Lines of ktutil that add an entry to its list.
+LINES = text([ADDENT, KEY])
 
 # A user who is not root, and a group that user may be in.
-USER = 65_534
-GROUP = 54_321
+USER, GROUP = 65_534, 54_321
 
 Place = Callable[[str], object]
+Run = Case | Undisturbed
 
 # Runs that change a file, those that take no hold, and those that take one and then have nothing to save. None depends
 # on the clock.
-ADD = ktedit(OLD, SCRIPT, name="adds")
-TGT, NONE = Selection(b"krbtgt/R@R"), Selection(b"b@R")
-CHANGES = (ADD, ccedit(USUAL, b"cut 40\n", name="cuts"), ccremove(USUAL, 0, selection=TGT, name="takes"),
-           hold(OLD, NEW, name="saves"))
-HOLDING_NOTHING = (
-    ccedit(USUAL, b"start\n", name="walks"), ccedit(USUAL, b"frob\n", name="is at fault"),
-    ccremove(USUAL, 0, selection=TGT, is_dry=True, name="tells"),
-    ccremove(USUAL, 0, selection=NONE, is_dry=True, name="tells of none"),
-)
-SAVING_NOTHING = (ccedit(USUAL, b"cut 3\n", name="is refused"), ccremove(USUAL, 0, selection=NONE, name="finds none"))
+ADD = undisturbed("ktedit k", SCRIPT, k=OLD, name="adds")
+CHANGES = (ADD, undisturbed("ccedit c", b"cut 40\n", c=USUAL, name="cuts"),
+           undisturbed("ccremove -p krbtgt/R@R c", c=USUAL, name="takes"),
+           undisturbed("hold -k k", frame(NEW), k=OLD, name="saves"))
+HOLDING_NOTHING = (undisturbed("ccedit c", b"start\n", c=USUAL, name="walks"),
+                   undisturbed("ccedit c", b"frob\n", c=USUAL, name="is at fault"),
+                   undisturbed("ccremove -n -p krbtgt/R@R c", c=USUAL, name="tells"),
+                   undisturbed("ccremove -n -p b@R c", c=USUAL, name="tells of none"))
+SAVING_NOTHING = (undisturbed("ccedit c", b"cut 3\n", c=USUAL, name="is refused"),
+                  undisturbed("ccremove -p b@R c", c=USUAL, name="finds none"))
 
-# A keytab that clashes with one of both, and copies that save, have nothing to save, clash, and only print.
+# A keytab that clashes with one of both entries.
 CLASH = keytab(replace(B, key=b"other"))
-COPIES = tuple(ktcopy(TWO, target, request=Request(is_dry=is_dry), name=name) for target, is_dry, name in (
-    (keytab(HOST), False, "saves"), (TWO, False, "has nothing to save"), (CLASH, False, "clashes"),
-    (keytab(), True, "only prints")))
 
 
-def run_over(program: str, case: Case, folder: str, name: str = "", **options: object) -> Outcome:
-    """Makes a run of a case over the file of that name, by default the case's."""
-    return run(program, (*case.words[:-1], name or case.words[-1]), folder, case.stdin, **options)
+def run_over(program: str, case: Run, folder: str, **options: object) -> Outcome:
+    """Makes a run of a case in a folder."""
+    return run(program, case.words, folder, case.stdin, **options)
 
 
-def renamed(case: Case, name: str) -> Case:
-    """Returns the same run over a file of another name."""
-    last = case.words[-1]
-    files, after = ({name if each == last else each: data for each, data in those.items()}
-                    for those in (case.files, case.files_after))
-    return replace(case, words=(*case.words[:-1], name), files=files, files_after=after)
-
-
-def unsaved(case: Case, name: str = "") -> Outcome:
+def unsaved(case: Run, name: str = "") -> Outcome:
     """Returns the outcome if that file is not saved."""
     return message(3, f"{name or case.words[-1]}: cannot write")
 
 
-def faults_over(program: str, case: Case, *places: Place, **options: object) -> list[str]:
-    """Returns the faults of a case in a folder where more is made before: what it does not change stays as it was."""
+def faults_over(program: str, case: Run, *places: Place, left: Owned | None = None, **options: object) -> list[str]:
+    """Returns the faults of a case in a folder where more is made before: what it does not change stays as it was, and
+    its file is owned in that way then."""
     with folder_of(case.files) as folder:
         for place in places:
             place(folder)
         before = stands(folder)
         wanted = {**tree(folder), **(case.files_after or {})}
-        faults = differences(case.wanted, run(program, case.words, folder, case.stdin, **options))
+        faults = differences(case.wanted, run_over(program, case, folder, **options))
         after = stands(folder)
         faults += [f"{name} is not as it was" for name, own in before.items()
                    if own[0] == wanted[name] != "d" and own != after.get(name)]
+        found = left and owned(os.path.join(folder, case.words[-1]))
+        faults += [] if found == left else [f"{found}, not {left}"]
         return faults + tree_faults(wanted, folder)
 
 
-def check_over(report: Report, program: str, case: Case, *places: Place, **options: object) -> None:
+def check_over(report: Report, program: str, case: Run, *places: Place, **options: object) -> None:
     """Checks a case in a folder where more is made before."""
     report.check(case.name, faults_over(program, case, *places, **options))
 
@@ -125,18 +119,14 @@ def write(path: str, data: bytes, mode: int = 0o600) -> None:
 def tree(folder: str) -> dict[str, object]:
     """Returns the contents of a folder, by path: bytes of files, texts of links, and the kind of all else."""
     found: dict[str, object] = {}
-    for at, folders, files in os.walk(folder):
-        for name in (*folders, *files):
-            path = os.path.join(at, name)
-            mode = os.lstat(path).st_mode
-            where = os.path.relpath(path, folder)
-            if stat.S_ISLNK(mode):
-                found[where] = os.readlink(path)
-            elif stat.S_ISREG(mode):
+    for top, folders, files in os.walk(folder):
+        for path in (os.path.join(top, name) for name in (*folders, *files)):
+            kind, where = stat.filemode(os.lstat(path).st_mode)[0], os.path.relpath(path, folder)
+            if kind == "-":
                 with open(path, "rb") as file:
                     found[where] = file.read()
             else:
-                found[where] = stat.filemode(mode)[0]
+                found[where] = os.readlink(path) if kind == "l" else kind
     return found
 
 
@@ -163,6 +153,11 @@ class Owned:
     mode: int
     owner: int
     group: int
+
+    def give(self, path: str) -> None:
+        """Gives a file these."""
+        os.chown(path, self.owner, self.group)
+        os.chmod(path, self.mode)
 
 
 def owned(path: str) -> Owned:

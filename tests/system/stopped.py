@@ -9,16 +9,17 @@ import subprocess
 import time
 from collections.abc import Iterator
 from contextlib import contextmanager
+from itertools import product
 
 from keytabs.conversations import LISTED, Talk, terminal
 from keytabs.ktutil_lines import HEADING, NO_SLOTS
-from makers.images import B, TWO, keytab
-from models.cases import IN_PLACE
-from models.script_model import edited
+from makers.images import TWO
 from runs.harness import SECONDS, Outcome, Report, differences, folder_of, message
 from runs.rows import text
-from system.saving import NEW, OLD, SAVED, SCRIPT, edit, tree_faults, write
+from runs.undisturbed import IN_PLACE
 from system.outputs import LONG, piped
+from system.placing import TALK
+from system.saving import B_NEW, B_OLD, B_SAVED, NEW, OLD, SAVED, SCRIPT, edit, tree_faults, write
 
 # How long a run has to reach the point where it waits.
 MOMENT = 0.05
@@ -77,14 +78,12 @@ def waits_for(process: subprocess.Popen[bytes], stream: int) -> bool:
 
 def check_unread(report: Report, program: str) -> None:
     """Checks that while nobody reads a run's output, another run can change the file."""
-    cases = [(1, "ktedit", "k", SCRIPT, OLD), (1, "ktedit", "k", b"cut 3\n", OLD),
-             (2, "ktedit", "k", SCRIPT, b"other"), (2, "ktutil", "", b"rkt j\nwkt k\n", b"other"),
-             (2, "ktutil", "", b"rkt j\nwkt k\n", TWO[:-1])]
-    rows = [(number, f"{command} {option} {name}", text, data)
-            for number, command, name, text, data in cases for option in ("", IN_PLACE)]
-    for number, words, text, data in rows:
-        stream = {1: "stdout", 2: "stderr"}[number]
-        with full_pipe() as given, folder_of({"j": keytab(B), "k": data}) as folder:
+    rows = ((1, "ktedit OPTION k", SCRIPT, OLD), (1, "ktedit OPTION k", b"cut 3\n", OLD),
+            (2, "ktedit OPTION k", SCRIPT, b"other"), (2, "ktutil OPTION", TALK, b"other"),
+            (2, "ktutil OPTION", TALK, TWO[:-1]))
+    for (number, line, text, data), option in product(rows, ("", IN_PLACE)):
+        words, stream = line.replace("OPTION", option), {1: "stdout", 2: "stderr"}[number]
+        with full_pipe() as given, folder_of({"j": B_OLD, "k": data}) as folder:
             slow = subprocess.Popen([program, *words.split()], cwd=folder, stdin=subprocess.PIPE,
                                     **{stream: given})
             slow.stdin.write(text)
@@ -93,7 +92,7 @@ def check_unread(report: Report, program: str) -> None:
                 time.sleep(MOMENT)
             write(os.path.join(folder, "k"), OLD)
             faults = differences(SAVED, edit(program, folder))
-            faults += tree_faults({"j": keytab(B), "k": NEW}, folder)
+            faults += tree_faults({"j": B_OLD, "k": NEW}, folder)
             faults += [] if slow.poll() is None else ["the first run has ended"]
             slow.kill()
             slow.wait(SECONDS)
@@ -102,18 +101,17 @@ def check_unread(report: Report, program: str) -> None:
 
 def check_idle(report: Report, program: str, *options: str) -> None:
     """Checks that while ktutil waits for its next line, another run can change the file that it wrote."""
-    wanted, image = edited(keytab(B), SCRIPT)
-    with folder_of({"j": keytab(B), "k": OLD, "x": b"other"}) as folder:
+    with folder_of({"j": B_OLD, "k": OLD, "x": b"other"}) as folder:
         talk = Talk(program, folder, *os.pipe(), *options)
         talk.send(b"rkt j\nwkt k\nwkt x\nl\n")
         talk.hear(text([*HEADING, "   1    3 b@R"]))
-        found = differences(wanted, edit(program, folder))
+        found = differences(B_SAVED, edit(program, folder))
         write(os.path.join(folder, "x"), OLD)
         found += differences(SAVED, edit(program, folder, "x"))
         talk.send(b"q\n")
         talk.end(message(1, "x: not a keytab (2)"))
         os.close(talk.input_end)
-        found += tree_faults({"j": keytab(B), "k": image, "x": NEW}, folder)
+        found += tree_faults({"j": B_OLD, "k": B_NEW, "x": NEW}, folder)
     report.check(f"a file changes that ktutil {' '.join(options)} wrote", found + talk.found)
 
 

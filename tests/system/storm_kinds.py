@@ -1,18 +1,29 @@
 """The kinds of storms: which commands run at the same time over a file, and what each of them does to it."""
 
+import json
 from dataclasses import dataclass, replace
+from functools import partial
 
+from keytabs.ktutil_lines import KEY
 from makers.cache_images import Name, cache
 from makers.images import Entry, keytab
 from makers.usual_caches import TICKET
-from models.cache_model import Cache
-from models.cache_reading import read_cache
-from models.reading import no_keytab, read_image
+from runs.harness import folder_of, run
+from runs.undisturbed import PROGRAM
 
 # How many runs there are at once.
 MANY = 60
 
-KEY = "000102030405060708090a0b0c0d0e0f"
+# The line of each command that adds or removes NAME, and its input.
+LINES = {
+    "ktremove": ("ktremove -p NAME@R PATH", ""), "ccremove": ("ccremove -p NAME@R PATH", ""),
+    "ktcopy": ("ktcopy SOURCE PATH", ""), "ccedit": ("ccedit PATH", "config NAME - v\n"),
+    "ktedit": ("ktedit PATH", f"add 1 17 1700000000 {KEY} NAME@R\n"),
+    "ktutil": ("ktutil", f"addent -key -p NAME@R -k 1 -e 17\n{KEY}\nwkt PATH\n"),
+}
+
+# Parts of a listing as JSON, each with the member that begins with a name.
+NAMED = {"entries": "principal", "tickets": "server", "config": "key"}
 
 
 def removes(command: str) -> bool:
@@ -20,33 +31,27 @@ def removes(command: str) -> bool:
     return command.endswith("remove")
 
 
-def change(command: str, name: str, path: str = "k", source: str = "") -> tuple[tuple[str, ...], str]:
+def change(command: str, name: str, path: str = "k", source: str = "") -> tuple[list[str], str]:
     """Returns the words and the input of a run that adds or removes a name. `source` is a keytab that has the name."""
-    if removes(command):
-        return (command, "-p", f"{name}@R", path), ""
-    if command == "ktcopy":
-        return ("ktcopy", source, path), ""
-    if command == "ccedit":
-        return ("ccedit", path), f"config {name} - v\n"
-    if command == "ktedit":
-        return ("ktedit", path), f"add 1 17 1700000000 {KEY} {name}@R\n"
-    return ("ktutil",), f"addent -key -p {name}@R -k 1 -e 17\n{KEY}\nwkt {path}\n"
+    line, text = (each.replace("NAME", name).replace("PATH", path).replace("SOURCE", source) for each in LINES[command])
+    return line.split(), text
 
 
-def names_of_keytab(image: bytes) -> list[str] | None:
-    """Returns the first components of the names in a keytab, or None if it is not whole."""
-    if no_keytab(image):
+def listed(option: str, image: bytes) -> dict[str, list[dict[str, str]]] | None:
+    """Returns what the program lists of a keytab or a cache as JSON, or None if the image is neither."""
+    with folder_of({"f": image}) as folder:
+        return json.loads(run(PROGRAM[0], ("klist", "--json", option, "f"), folder).out or b"null")
+
+
+def names_of(option: str, image: bytes) -> list[str] | None:
+    """Returns the names in a keytab, or the servers and the keys of values in a cache, or None if it is not whole."""
+    found = listed(option, image)
+    if found is None or found["fault"]:
         return None
-    those, fault = read_image(image, False)
-    return None if fault else [entry.name[0].decode() for _, entry in those]
+    return [each[member].split("@")[0] for part, member in NAMED.items() for each in found.get(part, ())]
 
 
-def names_of_cache(image: bytes) -> list[str] | None:
-    """Returns the first components of a cache's servers, or the keys of its values, or None if it is not whole."""
-    if isinstance(read_cache(image), int):
-        return None
-    made = Cache(image)
-    return None if made.fault else [output.server[output.is_config()].decode() for _, output in made.live()]
+names_of_keytab = partial(names_of, "-k")
 
 
 @dataclass(frozen=True)
@@ -62,33 +67,25 @@ class Kind:
     in_place: bool = False
 
     @property
-    def is_of_caches(self) -> bool:
-        """Whether the file is a cache."""
-        return self.commands[0].startswith("cc")
+    def option(self) -> str:
+        """The option of `klist` for the file, which is a cache or a keytab."""
+        return "-c" if self.commands[0].startswith("cc") else "-k"
 
     def command(self, number: int) -> str:
         """Returns the command of the run of that number."""
         return self.commands[number % len(self.commands)]
 
     def image(self) -> bytes:
-        """Returns the initial file, or None if there is none."""
-        has_removals = any(map(removes, self.commands))
-        names = [f"h{number}" for number in range(MANY)] + ["last"] if has_removals else []
-        components = [(name.encode(),) for name in names]
-        if self.is_of_caches:
-            tickets = (replace(TICKET, server=Name(name)) for name in components)
-            return cache(*tickets) if names else cache()
-        return keytab(*map(Entry, components)) if names else keytab()
+        """Returns the initial file, which has what is removed."""
+        names = [*(b"h%d" % number for number in range(MANY)), b"last"] if any(map(removes, self.commands)) else []
+        if self.option == "-c":
+            return cache(*(replace(TICKET, server=Name((name,))) for name in names))
+        return keytab(*(Entry((name,)) for name in names))
 
-    def names(self, image: bytes) -> list[str] | None:
-        """Returns the names that the file has, or None if it is not whole."""
-        return names_of_cache(image) if self.is_of_caches else names_of_keytab(image)
-
-    def is_no_file(self, image: bytes) -> bool:
-        """Whether an image is not a keytab, or not a cache, at all."""
-        if self.is_of_caches:
-            return isinstance(read_cache(image), int)
-        return no_keytab(image) is not None
+    def is_bad(self, image: bytes) -> bool:
+        """Whether an image may not be seen meanwhile. What MIT's write, or a save in place, may be half written."""
+        found = listed(self.option, image)
+        return found is None or bool(found["fault"]) and not (self.with_mit or self.in_place)
 
     def __str__(self) -> str:
         words = [f"{MANY} runs of {' and '.join(self.commands)}"]

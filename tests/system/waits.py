@@ -58,8 +58,9 @@ def faults_of_waiting(program: str, folder: str, end: Callable[[], None], case: 
         end()
 
     timer = threading.Timer(0.3, end_it)
+    wanted = case.wanted
     timer.start()
-    faults = differences(case.wanted, run_over(program, case, folder))
+    faults = differences(wanted, run_over(program, case, folder))
     faults += [] if has_ended.is_set() else ["it did not wait"]
     timer.join()
     return faults + tree_faults(case.files_after, folder)

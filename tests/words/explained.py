@@ -7,6 +7,7 @@ from collections.abc import Callable, Iterator
 from dataclasses import dataclass, field
 from errno import ENXIO
 from functools import partial
+from itertools import product
 
 from caches.cache_edits import long_ticket
 from caches.cache_scripts import FAULTS as CACHE_FAULTS
@@ -19,7 +20,7 @@ from keytabs.scripts import FAULTS as LINE_FAULTS
 from makers.cache_images import cache
 from makers.images import B, HOST, TWO, keytab, record
 from makers.usual_caches import USUAL, VERSION_3
-from runs.harness import Outcome, Report, differences, files_in, folder_of, message, run
+from runs.harness import Outcome, Report, differences, files_in, folder_of, run
 from runs.rows import Line, shown, text, words_of
 from runs.terminal import EXPLAIN, WAYS, run_explained, run_on_terminal
 from words.phrases import (BAD_DEFAULT, BAD_HEADER, BEGINS_AS_CACHE, BEGINS_AS_KEYTAB, BEGINS_AS_NO_CACHE,
@@ -93,18 +94,6 @@ def no_keytab(why: tuple[int, str], name: str = "k") -> tuple[str, str]:
     return f"{name}: not a keytab ({why[0]})", why[1]
 
 
-def refused(line: str, image: bytes, number: int) -> Explained:
-    """Returns a run that refuses its file, which it names last."""
-    return case(f"{line}: refused {number}", f"{line} k", image,
-                (f"k: refused {number}", code(number, line.split()[0])))
-
-
-def faulty(line: str, number: int, command: str = "ktedit", image: bytes = TWO) -> Explained:
-    """Returns a run over a faulty line of a script."""
-    return case(f"{command}: {line!r}", f"{command} k", image, (f"line 2: fault {number}", line_fault(number)),
-                stdin=f"start\n{line}\n".encode())
-
-
 def talk(given: bytes, image: bytes | None, *told: tuple[int, str, str]) -> Explained:
     """Returns a run of ktutil, and what is told of each of some lines: the explanation has the number too."""
     return case(f"ktutil: {given[:80]!r}", "ktutil", image,
@@ -117,21 +106,11 @@ def faulty_talk(line: str, number: int, phrase: str = "") -> Explained:
                 (2, f"fault {number}", phrase or line_fault(number, "ktutil")))
 
 
-def listed(line: str, number: int, image: bytes, at: int) -> Explained:
-    """Returns a listing of a damaged file: its fault is in the listing, and explained on the error output."""
-    return case(f"listed: fault {number}", line, image, ("", f"k: fault {number} at {at}"), ("", FAULTS[number]))
-
-
 def replies(command: str, image: bytes, script: bytes, refusals: tuple[int, ...], *faults: int) -> Explained:
     """Returns a run whose replies have those numbers, each of which is explained once, refusals before faults."""
     return case(f"{command}: replies to {script[:80]!r}", f"{command} k", image,
                 *(("", f"refused {number}: {code(number, command)}") for number in refusals),
                 *(("", f"fault {number}: {FAULTS[number]}") for number in faults), stdin=script)
-
-
-def first_of_each(faults: dict[str, int]) -> dict[int, str]:
-    """Returns a line of each fault."""
-    return {fault: line for line, fault in reversed(faults.items())}
 
 
 def failed(words: Line, does: str, cause: str, image: bytes | None, **more) -> Explained:
@@ -172,26 +151,47 @@ def link(target: str | bytes) -> Callable[[str], None]:
     return lambda folder: os.symlink(target, os.path.join(os.fsencode(folder), b"l"))
 
 
-KEYTABS = [
+# Commands that change a cache, each with its input.
+CHANGING = (("ccedit", b"cut 40\n"), ("ccremove -p krbtgt/R@R", b""))
+
+# Lines whose first word is unknown, each with what is shown of it. A word has at most 16 bytes, one of which is no
+# hexadecimal digit; if not, nothing of the line is shown.
+SHOWN_WORDS = {
+    b"frob 1 cut 2": "frob", b"-": "-", b"0x": "0x", b"Start": "Start", b"abcdef012345678g": "abcdef012345678g",
+    b"g" * 16 + b" x": "g" * 16, b"cafe\r": r"cafe\x0d", b"start\t2": r"start\x092", b"\0\x1f\x7f": r"\x00\x1f\x7f",
+    b"a\\b": r"a\\b", b'a"b': 'a"b', b"caf\xc3\xa9": r"caf\xc3\xa9", b"\xff" * 16: r"\xff" * 16,
+}
+HIDDEN_WORDS = (b" ", b" frob", b"0", b"cafe", b"CAFE 00", b"abcdefABCDEF0189", b"abcdefABCDEF018g9", b"g" * 17,
+                b"\xff" * 17, KEY.encode())
+PHRASES = {**{line: unknown(word) for line, word in SHOWN_WORDS.items()}, **dict.fromkeys(HIDDEN_WORDS, line_fault(1))}
+
+CASES = [
     # A newline in the name of a file makes no line of its own.
     case("a missing file with a newline in its name", ("klist", "-k", "a\nb"), None, ("a\\x0ab: no such file", "")),
     case("a cache with a newline in its name", ("ktfind", "a\nb", "0", "0", "b@R"), b"\5\4",
          no_keytab(BEGINS_AS_CACHE, "a\\x0ab"), file="a\nb"),
-    # Files that are not keytabs, for each command.
+    # Files that are not keytabs, or not caches, for each command.
     *(case(f"{line} of {image.hex()}", line, image, no_keytab(why)) for line, image, why in (
-        ("klist -k k", b"\x05", SHORT),
-        *(("klist -k k", image, LISTED_AS_KEYTAB) for image in (b"\x05\x03", b"\x05\x04")),
-        *(("klist -k k", image, BEGINS_AS_NO_KEYTAB) for image in (b"\x05\x05", b"\x04\x02")),
-        *((line, b"\x05\x04", BEGINS_AS_CACHE)
+        ("klist -k k", b"\5", SHORT), *(("klist -k k", image, LISTED_AS_KEYTAB) for image in (b"\5\3", b"\5\4")),
+        *(("klist -k k", image, BEGINS_AS_NO_KEYTAB) for image in (b"\5\5", b"\4\2")),
+        *((line, b"\5\4", BEGINS_AS_CACHE)
           for line in ("ktfind k 0 0 b@R", "ktedit k", "ktremove -k old k", "ktcheck k")))),
-    case("rkt of a cache", "ktutil", b"\x05\x04", (no_keytab(BEGINS_AS_CACHE)[0], f"line 1: {BEGINS_AS_CACHE[1]}"),
+    case("rkt of a cache", "ktutil", b"\5\4", (no_keytab(BEGINS_AS_CACHE)[0], f"line 1: {BEGINS_AS_CACHE[1]}"),
          stdin=b"rkt k\n"),
-    # Refused look-ups, removals and lines of ktutil.
-    *(case(f"{line}: refused {number}", line, image, (f"k: refused {number}", code(number)))
-      for line, image, number in (("ktfind k 0 0 c@R", TWO, 9), ("ktfind k 4 0 b@R", TWO, 10),
-                                  ("ktfind k 3 0 b@R", CUT, 1))),
-    refused("ktremove -k 4", TWO, 9),
-    refused("ktremove -k old", CUT, 1),
+    *(case(f"{line} of {image.hex()}", f"{line} k", image, (f"k: not a cache ({number})", phrase), stdin=stdin,
+           after={"k": image})
+      for image, (number, phrase) in (
+          (b"", SHORT), (b"\5\1", BEGINS_AS_KEYTAB), (b"\5\2", BEGINS_AS_KEYTAB), (b"\4\4", BEGINS_AS_NO_CACHE),
+          (b"\5\4\0", BAD_HEADER), (b"\5\3", BAD_DEFAULT))
+      for line, stdin in (("klist", b""), *CHANGING)),
+    # What is refused.
+    *(case(f"{line}: refused {number}", line, image, (f"k: refused {number}", code(number, line.split()[0])))
+      for line, image, number in (
+          ("ktfind k 0 0 c@R", TWO, 9), ("ktfind k 4 0 b@R", TWO, 10), ("ktfind k 3 0 b@R", CUT, 1),
+          ("ktremove -k 4 k", TWO, 9), ("ktremove -k old k", CUT, 1), ("ccremove -p c@R k", USUAL, 9),
+          ("ccremove -p c@R --expired k", USUAL, 9), ("ccremove --expired k", CUT_CACHE, 1),
+          ("ccremove --expired k", VERSION_3, 8))),
+    case("ccremove: nothing to do", "ccremove --expired k", cache(), status=0),
     talk(b"rkt k\n", CUT, (1, "refused 1", code(1))),
     talk(WRITE, CUT, (3, "refused 1", code(1))),
     talk(f"addent -key -p {'x' * 65_536}@R -k 3 -e 17\n{KEY}\nwkt k\n".encode(), None, (3, "refused 2", code(2))),
@@ -199,9 +199,13 @@ KEYTABS = [
     # A mode alone has its word, and no hint.
     case("ktcheck: a group that may read", "ktcheck k", TWO, ("", f"mode: {FINDINGS['mode']}"), status=0,
          setting=lambda folder: os.chmod(os.path.join(folder, "k"), 0o640)),
-    # Faulty lines of scripts and of ktutil.
-    *(faulty(line, number) for number, line in first_of_each(LINE_FAULTS).items()),
-    *(faulty_talk(line, number) for number, line in first_of_each(TALK_FAULTS).items()),
+    # Faulty lines of scripts and of ktutil: the first of each fault.
+    *(case(f"{command}: {line!r}", f"{command} k", image, (f"line 2: fault {number}", line_fault(number)),
+           stdin=f"start\n{line}\n".encode())
+      for command, image, faults in (("ktedit", TWO, LINE_FAULTS), ("ccedit", USUAL, CACHE_FAULTS))
+      for number, line in {fault: line for line, fault in reversed(faults.items())}.items()),
+    *(faulty_talk(line, number) for number, line in {
+        fault: line for line, fault in reversed(TALK_FAULTS.items())}.items()),
     faulty_talk("rkt \udcff", 8),
     *(faulty_talk(line, 1, SEE_HELP) for line in ("?", "help", "lr", "list_requests", " help\tlist")),
     *(faulty_talk(line, 1) for line in ("HELP", "helps", "\\?")),
@@ -210,6 +214,11 @@ KEYTABS = [
     *(faulty_talk(line, 2) for line in ("rkt -password k", "addent -Password -p b@R -k 3 -e 17", "l -password")),
     talk(f"{ADDENT}00\nx\n".encode(), None,
          *((at, f"fault {number}", line_fault(number, "ktutil")) for at, number in ((2, 5), (3, 1)))),
+    # What is shown of an unknown first word, and that of a line of the other kind: `add` has hexadecimal digits alone.
+    *(case(f"{command}: {line!r}", f"{command} k", image, ("line 3: fault 1", phrase), stdin=b"start\n\n" + line)
+      for command, image, other in (("ktedit", TWO, {b"config k - v": unknown("config")}),
+                                    ("ccedit", USUAL, {b"add 3 17 0 - b@R": line_fault(1)}))
+      for line, phrase in {**PHRASES, **other}.items()),
     # Files that are not read, and those that are not saved.
     failed(("klist", "-k", "k/x"), "read", "ENOTDIR", TWO),
     failed(("klist", "-k", "x" * 256), "read", "ENAMETOOLONG", TWO),
@@ -218,100 +227,47 @@ KEYTABS = [
     *(failed(("ktedit", file), "write", cause, None, stdin=ADD, **more) for file, cause, more in (
         ("d/k", "ENOENT", {}), ("k.krbfile", "name of saves", {}), ("x" * 248, "ENAMETOOLONG", {}),
         ("k", "in the way", {"setting": in_the_way}), ("l", "bad link", {"setting": link(b"\xff")}))),
+    *(failed((*line.split(), file), "write", cause, USUAL, file=file, stdin=stdin, **more) for line, stdin in CHANGING
+      for file, cause, more in (("c.krbfile", "name of saves", {}), ("k", "in the way", {"setting": in_the_way}))),
     *(case(f"wkt of no entry over {image}", "ktutil", image, ("", f"line 1: {NO_ENTRY.replace('NAME', 'k')}"),
            stdin=b"wkt k\n", status=0, after={"k": image or keytab()})
       for image in (None, keytab(), keytab(41), b"\5\2\0")),
     case("wkt of no entry over two", "ktutil", TWO, stdin=b"wkt k\n", status=0),
     case("wkt to a name of saves", "ktutil", None,
          ("k.krbfile: cannot write", f"line 1: {CAUSES['name of saves']}"), stdin=b"wkt k.krbfile\n", status=3),
-    # Damaged files, and replies of ktedit.
-    listed("klist -k k", 1, CUT, 98),
-    listed("klist -k k", 2, TWO + b"\x7f\xff\xff\xff", 98),
-    listed("klist -k k", 3, keytab(record(bytes(3))), 2),
+    # Faults of damaged files, which stand in the listing, and replies of scripts.
+    *(case(f"listed: fault {number}", line, image, ("", f"k: fault {number} at {at}"), ("", FAULTS[number]))
+      for number, line, image, at in (
+          (1, "klist -k k", CUT, 98), (2, "klist -k k", TWO + b"\x7f\xff\xff\xff", 98),
+          (3, "klist -k k", keytab(record(bytes(3))), 2), (4, "klist k", CUT_CACHE, 392))),
     replies("ktedit", TWO, b"step 7\ncut 3\nresume 3\ncut 4\nstep 7\n", (4, 5, 6)),
     replies("ktedit", TWO, b"start\n" * 1_025, (7,)),
     replies("ktedit", CUT, b"resume 98\nstep 0\ncut 2\nstep 0\n", (1,), 1),
-]
-
-COPIES = [
-    # Messages about either keytab.
-    copy("", b"\x05\x04", None, no_keytab(BEGINS_AS_CACHE)),
-    copy("", TWO, b"\x05\x04", no_keytab(BEGINS_AS_CACHE, "t")),
+    replies("ccedit", USUAL, b"step 7\ncut 3\nresume 3\ncut 284\nstep 7\n", (4, 5, 6)),
+    replies("ccedit", CUT_CACHE, b"resume 392\nstep 0\ncut 40\nconfig k - v\nrewrite\nstep 0\n", (1,), 4),
+    replies("ccedit", VERSION_3[:-1], b"start\nstep 0\ncut 20\nconfig k - v\nrewrite\n", (1, 8), 4),
+    lambda: replies("ccedit", cache(long_ticket(LIMIT - 22)), b"config k - v\n", (3,)),
+    # Messages about either keytab of a copy; its clashes are explained once.
+    copy("", b"\5\4", None, no_keytab(BEGINS_AS_CACHE)),
+    copy("", TWO, b"\5\4", no_keytab(BEGINS_AS_CACHE, "t")),
     copy("", b"", TWO, no_keytab(SHORT)),
     copy("", TWO, TWO[:-1], ("t: refused 1", code(1))),
     lambda: copy("", TWO, keytab(record(B.spelled().ljust(LIMIT - 6, b"\0"))), ("t: refused 3", code(3))),
     failed(("ktcopy", "from", "d/t"), "write", "ENOENT", TWO, file="from", out=b""),
     failed(("ktcopy", "from", "k"), "write", "in the way", TWO, file="from", out=b"", setting=in_the_way),
-    # Clashes are explained once.
     copy("", keytab(B, OTHER, OTHER), None, ("", f"clash: {CLASH}"), ("", TO_REPLACE),
          out=[f"clash 47 2 {Y}", f"clash 92 2 {Y}"]),
     copy("-n --replace -p b@R", TWO, keytab(OTHER), status=0, out=[f"removed 2 {Y}", f"copied 2 {Y}"]),
-]
-
-# Commands that change a cache, each with its input.
-CHANGING = (("ccedit", b"cut 40\n"), ("ccremove -p krbtgt/R@R", b""))
-
-CACHES = [
-    # Files that are not caches, and a damaged one, as a listing reports them.
-    *(case(f"{line} of {image.hex()}", f"{line} k", image, (f"k: not a cache ({number})", phrase), stdin=stdin,
-           after={"k": image})
-      for image, (number, phrase) in (
-          (b"", SHORT), (b"\x05\x01", BEGINS_AS_KEYTAB), (b"\x05\x02", BEGINS_AS_KEYTAB),
-          (b"\x04\x04", BEGINS_AS_NO_CACHE), (b"\x05\x04\x00", BAD_HEADER), (b"\x05\x03", BAD_DEFAULT))
-      for line, stdin in (("klist", b""), *CHANGING)),
-    listed("klist k", 4, CUT_CACHE, 392),
-    # Refused removals.
-    *(refused(f"ccremove {words}", image, number) for words, image, number in (
-        ("-p c@R", USUAL, 9), ("-p c@R --expired", USUAL, 9), ("--expired", CUT_CACHE, 1),
-        ("--expired", VERSION_3, 8))),
-    case("ccremove: nothing to do", "ccremove --expired k", cache(), status=0),
-    # Faulty lines of scripts.
-    *(faulty(line, number, "ccedit", USUAL) for number, line in first_of_each(CACHE_FAULTS).items()),
-    # Files that are not saved.
-    *(failed((*line.split(), file), "write", cause, USUAL, file=file, stdin=stdin, **more) for line, stdin in CHANGING
-      for file, cause, more in (("c.krbfile", "name of saves", {}), ("k", "in the way", {"setting": in_the_way}))),
-    # Replies of ccedit.
-    replies("ccedit", USUAL, b"step 7\ncut 3\nresume 3\ncut 284\nstep 7\n", (4, 5, 6)),
-    replies("ccedit", USUAL, b"start\n" * 1_025, (7,)),
-    replies("ccedit", CUT_CACHE, b"resume 392\nstep 0\ncut 40\nconfig k - v\nrewrite\nstep 0\n", (1,), 4),
-    replies("ccedit", VERSION_3[:-1], b"start\nstep 0\ncut 20\nconfig k - v\nrewrite\n", (1, 8), 4),
-    lambda: replies("ccedit", cache(long_ticket(LIMIT - 22)), b"config k - v\n", (3,)),
     # Large scripts.
     *(partial(case, f"{command}: a large script", f"{command} k", None, ("input too large", LARGE),
               stdin=bytes(LIMIT + 1)) for command in ("ktedit", "ccedit")),
 ]
 
-# First words that no line of a script has are shown where words are, and nothing else of a line is.
-# Lines whose first word has at most 16 bytes, one of which is no hexadecimal digit, and how it is shown.
-SHOWN_WORDS = {
-    b"frob": "frob", b"frob 1 cut 2": "frob", b"g": "g", b"-": "-", b"0x": "0x", b"Start": "Start",
-    b"abcdef012345678g": "abcdef012345678g", b"g" * 16 + b" x": "g" * 16,
-    b"start\r": r"start\x0d", b"cafe\r": r"cafe\x0d", b"start\t2": r"start\x092", b"\0\x1f\x7f": r"\x00\x1f\x7f",
-    b"a\\b": r"a\\b", b'a"b': 'a"b', b'"': '"', b"caf\xc3\xa9": r"caf\xc3\xa9", b"\xff" * 16: r"\xff" * 16,
-}
-
-# Lines whose first word is empty, has more bytes, or hexadecimal digits alone.
-HIDDEN_WORDS = (b" ", b" frob", b"0", b"cafe", b"CAFE 00", b"abcdefABCDEF0189", b"abcdefABCDEF018g9", b"g" * 17,
-                b"\xff" * 17, KEY.encode())
-
-PHRASES = {**{line: unknown(word) for line, word in SHOWN_WORDS.items()}, **dict.fromkeys(HIDDEN_WORDS, line_fault(1))}
-
-# The same of each command, and a line of the other: `add` has hexadecimal digits alone.
-FIRST_WORDS = [case(f"{command}: {line!r}", f"{command} k", image, ("line 3: fault 1", phrase),
-                    stdin=b"start\n\n" + line)
-               for command, image, other in (("ktedit", TWO, {b"config k - v": unknown("config")}),
-                                             ("ccedit", USUAL, {b"add 3 17 0 - b@R": line_fault(1)}))
-               for line, phrase in {**PHRASES, **other}.items()]
-
-CASES = [*KEYTABS, *COPIES, *CACHES, *FIRST_WORDS]
-
 # A line of each kind, by command.
 LINES = {
     "ktedit k": ("start", "resume 2", "step 0", f"add 3 17 0 {KEY} b@R", "cut 2", "rewrite"),
     "ccedit c": ("start", "resume 40", "step 0", "config k - v", "cut 40", "rewrite"),
-    "ktutil": ("list -t -k", "rkt k", "wkt k",
-               f"addent -key -p host/a@R -k 3 -e aes128-cts-hmac-sha1-96\n{KEY}", "delent 1",
-               "clear", "quit"),
+    "ktutil": ("list -t -k", "rkt k", "wkt k", f"{ADDENT}{KEY}", "delent 1", "clear", "quit"),
 }
 
 # Words that may be keys.
@@ -340,31 +296,25 @@ def check_keys(report: Report, program: str) -> None:
 
 def check_told(report: Report, program: str) -> None:
     """Sets KRBFILE_EXPLAIN: `klist -s` prints nothing with it too."""
-    (number, phrase), command = SHORT, "krbfile: unknown command x; see krbfile --help\n"
-    for value, explains in ((b"1", True), (b"00", True), (b"no", True), (b"\xff", True), (b"0", False), (b"", False)):
-        env = {**os.environb, b"KRBFILE_EXPLAIN": value}
-        with folder_of({"k": b""}) as folder:
-            for words, status, said, more in ((("klist", "-k", "k"), 1, f"krbfile: k: not a keytab ({number})\n",
-                                               f"krbfile: {phrase}\n"),
-                                              (("x",), 2, "krbfile: bad command line\n", command),
-                                              (("klist", "-s", "k"), 1, "", "")):
-                wanted = Outcome(status, err=(said + more * explains).encode())
-                report.compare(f"{value!r} in the environment, {words}", wanted, run(program, words, folder, env=env))
+    rows = (case("a listing", "klist -k k", b"", no_keytab(SHORT)), case("a question", "klist -s k", b""),
+            case("a bad line", "x", b"", ("bad command line", "unknown command x; see krbfile --help"), status=2))
+    for value, row in product((b"1", b"00", b"no", b"\xff", b"0", b""), rows):
+        with folder_of(row.files) as folder:
+            got = run(program, row.words, folder, env={**os.environb, b"KRBFILE_EXPLAIN": value})
+        report.compare(f"{value!r} in the environment, {row.name}", row.wanted(value not in (b"0", b""), b""), got)
 
 
 def check(report: Report, program: str) -> None:
     """Checks keys in lines, and an input and an output that fail."""
     check_keys(report, program)
     check_told(report, program)
-    rows = [(("klist", "-k", "k"), "> /dev/full", "cannot write output", CAUSES["ENOSPC"]),
-            *((words, "< .", "cannot read input", CAUSES["EISDIR"])
-              for words in (("ktutil",), ("ktedit", "k"), ("ccedit", "k")))]
-    with folder_of({"k": TWO}) as folder:
-        for words, redirection, said, phrase in rows:
-            shell = ("-c", f'exec "$0" {redirection} "$@"', program)
-            name = f"{' '.join(words)} {redirection}"
-            alone = message(3, said)
-            explained = Outcome(3, err=alone.err + f"krbfile: {phrase}\n".encode())
-            report.compare(f"{name}, on a pipe", alone, run("sh", (*shell, *words), folder))
-            report.compare(f"{name}, {EXPLAIN}", explained, run("sh", (*shell, EXPLAIN, *words), folder))
-            report.compare(f"{name}, on a terminal", explained, run_on_terminal("sh", (*shell, *words), folder))
+    for line, redirection, *told in (("klist -k k", "> /dev/full", "cannot write output", CAUSES["ENOSPC"]),
+                                     *((line, "< .", "cannot read input", CAUSES["EISDIR"])
+                                       for line in ("ktutil", "ktedit k", "ccedit k"))):
+        row = case(f"{line} {redirection}", line, TWO, tuple(told), status=3)
+        for way, (make, explains) in WAYS.items():
+            words = (*[EXPLAIN] * (way == EXPLAIN), *row.words)
+            with folder_of(row.files) as folder:
+                got = (run_on_terminal if make is run_on_terminal else run)(
+                    "sh", ("-c", f'exec "$0" {redirection} "$@"', program, *words), folder)
+            report.compare(f"{row.name}, {way}", row.wanted(explains, b""), got)

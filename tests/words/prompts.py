@@ -2,8 +2,8 @@
 
 import os
 import subprocess
-import termios
 
+from keytabs.conversations import terminal
 from keytabs.ktutil_lines import KEY
 from makers.images import TWO, keytab
 from makers.usual_caches import USUAL
@@ -37,10 +37,7 @@ TYPED = (
 
 def typed(program: str, words: str, lines: str, folder: str, shows_errors: bool) -> Outcome:
     """Makes a run whose input is a terminal, and its error output too if it `shows_errors`."""
-    ours, theirs = os.openpty()
-    setting = termios.tcgetattr(theirs)
-    setting[3] &= ~termios.ECHO
-    termios.tcsetattr(theirs, termios.TCSANOW, setting)
+    theirs, ours = terminal()
     os.write(ours, lines.encode())
     errors = theirs if shows_errors else subprocess.PIPE
     try:

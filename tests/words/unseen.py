@@ -9,7 +9,7 @@ from keytabs.copies import LONG, OTHER, Y
 from keytabs.copies import X as HOST_TAIL
 from keytabs.edits import ADD_B, ADD_C, C
 from keytabs.ktutil_lines import ADDENT, KEY
-from makers.images import B, HOST, TWO, Entry, keytab, old
+from makers.images import B, TWO, Entry, keytab, old
 from runs.rows import text
 from words.explained import Explained, copy, failed, in_the_way
 from words.phrases import CAUSES, CLASH, TO_REPLACE, UNSEEN, code, unknown
@@ -46,89 +46,49 @@ def talk(name: str, lines: list[str], files: dict[str, bytes], *those: tuple[int
     return Explained(f"ktutil: {name}", ("ktutil",), (*output, *after), files, text(lines), status, b"")
 
 
-NOT_LIVE = ("", f"refused 5: {code(5)}")
+# Keytabs, with hidden entries and without.
+J = {"j": keytab(HIDDEN), "h": keytab(HIDDEN), "b": keytab(B), "o": keytab(41, HIDDEN)}
 
-EDITS = [
+CASES = [
     # The image that is saved has a hidden entry at the place of an addition, or before it.
     edit("a hidden entry, no file", None, [ADD], 2),
     edit("a seen entry, no file", None, [ADD_B], None),
-    edit("a hidden entry behind others", TWO, [ADD], 98),
-    edit("a hidden entry between additions", None, [ADD_B, ADD, ADD_C], 47),
-    edit("two hidden entries", None, [ADD_B, ADD, ADD], 47),
+    edit("hidden entries between additions", None, [ADD_B, ADD, ADD_C, ADD], 47),
     edit("a seen entry behind one that was there", keytab(B, HIDDEN), [ADD_C], 47),
-    edit("a seen entry before one that was there", keytab(41, HIDDEN), [ADD_C], None),
-    edit("one before it and one behind", keytab(41, HIDDEN), [ADD_C, ADD_B], 47),
-    edit("a hidden entry in a hole", keytab(60, B), [ADD], 2),
-    edit("version 1", old(HIDDEN), [ADD_B], 2),
-    edit("version 1, of seen entries", old(HOST), [ADD_B], None),
     # Nothing is said of what was there, nor of what the run removed again.
-    edit("no addition", keytab(HIDDEN), ["start", "step 0"], None),
-    edit("a removal", keytab(HIDDEN, B), ["cut 31"], None),
-    edit("a hidden entry is removed again", TWO, [ADD, "cut 98"], None),
-    edit("a seen one behind a hidden one is removed again", keytab(HIDDEN), [ADD_B, "cut 31"], None),
     edit("the hidden one is removed", keytab(HIDDEN), [ADD_B, "cut 2"], None),
     edit("one of two is removed again", keytab(HIDDEN), [ADD_B, ADD_C, "cut 76"], 2),
-    edit("removed and added in its place", keytab(B, HIDDEN), ["cut 2", ADD_B], None),
     edit("removed, added and removed in one place", keytab(HIDDEN), [ADD_B, "cut 31", ADD_C, "cut 31", ADD_B], 2),
     # A rewrite moves what was added.
-    edit("a rewrite, then nothing is before it", keytab(60, HIDDEN), [ADD, "rewrite"], 2),
     edit("a rewrite", keytab(70, B, HIDDEN), [ADD_C, ADD_B, "rewrite"], 92),
-    edit("a rewrite before the addition", keytab(70, HIDDEN), ["rewrite", ADD_C], 2),
-    edit("a seen one before a hidden one, rewritten", keytab(41, 9, HIDDEN), [ADD_C, "rewrite"], None),
-    edit("removed after a rewrite", keytab(70, HIDDEN, B), [ADD, "rewrite", "cut 2"], None),
-    edit("a rewrite, and another at the old place is removed", keytab(B, HIDDEN), [ADD_C, "cut 2", "rewrite"], 2),
-    edit("a rewrite that moves nothing", keytab(HIDDEN), [ADD_B, "rewrite", "cut 31"], None),
     edit("two rewrites", keytab(5, B, 5, HIDDEN), [ADD_C, "rewrite", "cut 2", "rewrite"], 2),
-    # It follows what explains the replies, and changes no status.
-    edit("a refusal", None, ["cut 3", ADD], 2, NOT_LIVE, status=1),
-    edit("a refusal, seen", None, ["cut 3", ADD_B], None, NOT_LIVE, status=1),
-    # Where nothing is saved it is not said.
+    # It follows what explains the replies, and changes no status; where nothing is saved it is not said.
+    edit("a refusal", None, ["cut 3", ADD], 2, ("", f"refused 5: {code(5)}"), status=1),
     edit("a faulty script", None, [ADD, "frob"], None, ("line 2: fault 1", unknown("frob")), status=1),
     edit("not saved", TWO, [ADD], None, ("k: cannot write", CAUSES["in the way"].replace("NAME", "k")), status=3,
          out=b"", setting=in_the_way),
     edit("a damaged keytab", keytab(HIDDEN, b"\0"), [ADD], None, ("", f"refused 1: {code(1)}"), status=1),
-]
-
-COPIES = [
-    *(copied(options, keytab(HIDDEN), None, 2, f"copied 2 {H}") for options in ("", "-n", "--replace", "-e 1 -n")),
+    *(copied(options, keytab(HIDDEN), None, 2, f"copied 2 {H}") for options in ("", "-n", "--replace")),
     copied("", TWO, None, None, f"copied 2 {HOST_TAIL}", f"copied 53 {Y}"),
-    copied("", keytab(B, HIDDEN), TWO, 98, f"copied 98 {H}"),
-    copied("-p b@R", keytab(B, HIDDEN), None, None, f"copied 2 {Y}"),
     # A seen entry behind one that was there, and before it.
     *(copied(options, keytab(B), keytab(HIDDEN), 2, f"copied 31 {Y}") for options in ("", "-n")),
-    copied("", keytab(B), keytab(41, HIDDEN), None, f"copied 2 {Y}"),
     copied("", keytab(B, C), keytab(41, HIDDEN), 47, f"copied 2 {Y}", "copied 76 kvno 3 etype 17 c@R"),
-    copied("", keytab(B), old(HIDDEN), 2, f"copied 27 {Y}"),
     # What is replaced is gone.
     *(copied(f"--replace {dry}", keytab(KEYED), keytab(HIDDEN), None, f"removed 2 {H}", f"copied 31 {H}")
       for dry in ("", "-n")),
-    *(copied(f"--replace {dry}", keytab(HIDDEN), keytab(KEYED), 2, f"removed 2 {H}", f"copied 2 {H}")
-      for dry in ("", "-n")),
     # Nothing is added.
-    copied("", keytab(HIDDEN), keytab(HIDDEN), None), copied("-n", keytab(HIDDEN), keytab(B, HIDDEN), None),
+    copied("-n", keytab(HIDDEN), keytab(B, HIDDEN), None),
     # A clash has its message, and nothing else has: nothing would be saved.
-    *(copy(options, keytab(HIDDEN, B), keytab(OTHER), ("", f"clash: {CLASH}"), ("", TO_REPLACE), out=out)
-      for options, out in (("", [f"clash 31 2 {Y}"]), ("-n", [f"copied 47 {H}", f"clash 31 2 {Y}"]))),
+    copy("-n", keytab(HIDDEN, B), keytab(OTHER), ("", f"clash: {CLASH}"), ("", TO_REPLACE),
+         out=[f"copied 47 {H}", f"clash 31 2 {Y}"]),
     copy("", keytab(HIDDEN, LONG), old(), ("t: refused 2", code(2))),
     failed(("ktcopy", "k", "t.krbfile"), "write", "name of saves", keytab(HIDDEN), out=b""),
-]
-
-J = {"j": keytab(HIDDEN), "h": keytab(HIDDEN), "b": keytab(B), "o": keytab(41, HIDDEN)}
-
-LINES = [
-    talk("a hidden entry", ["rkt j", "wkt n"], J, (2, 2)),
-    talk("a seen entry behind a hidden one", ["rkt b", "wkt h"], J, (2, 2)),
-    talk("a hidden entry behind a seen one", ["rkt j", "wkt b"], J, (2, 47)),
     talk("a seen entry before a hidden one", ["rkt b", "wkt o"], J),
     talk("each line that writes", ["rkt b", "wkt n", "wkt h", "rkt j", "", "wkt m", "clear", "wkt h", "q"], J, (3, 2),
          (6, 47)),
     talk("a new entry", [ADDENT, KEY, "wkt n", "wkt h"], J, (4, 2)),
-    talk("an empty list", ["wkt h"], J),
-    talk("a deleted slot", ["rkt j", "rkt b", "delent 1", "wkt n"], J),
     talk("not saved", ["rkt j", "wkt n.krbfile"], J, status=3,
          after=(("n.krbfile: cannot write", f"line 2: {CAUSES['name of saves']}"),)),
     talk("a damaged keytab", ["rkt j", "wkt d"], {**J, "d": keytab(HIDDEN, b"\0")}, status=1,
          after=(("line 2: refused 1", f"line 2: {code(1)}"),)),
 ]
-
-CASES = [*EDITS, *COPIES, *LINES]

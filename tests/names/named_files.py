@@ -1,0 +1,148 @@
+"""Which file a word names, in a table, and what each command does over a file of any name: the same as over another
+name, or it says why there is no such file."""
+
+import json
+import os
+import re
+from dataclasses import dataclass, replace
+from enum import Enum
+from functools import cache
+
+from keytabs.edits import ADD_C, C
+from keytabs.file_names import LIMIT
+from makers.cache_images import cache as tickets
+from makers.images import TWO, keytab
+from makers.usual_caches import TICKET
+from runs.harness import files_in, folder_of, run
+from runs.rows import Line, shown, text
+from runs.undisturbed import PROGRAM, frame
+from words.explained import Explained, Output, for_owner
+from words.phrases import BEGINS_AS_NO_CACHE, BEGINS_AS_NO_KEYTAB, CAUSES, LARGE, NOT_READ
+
+
+class Kind(Enum):
+    """A kind of file."""
+
+    KEYTAB = "keytab"
+    CACHE = "cache"
+
+    @property
+    def variable(self) -> str:
+        """The variable that names the default."""
+        return {Kind.KEYTAB: "KRB5_KTNAME", Kind.CACHE: "KRB5CCNAME"}[self]
+
+
+@dataclass(frozen=True)
+class FileName:
+    """A name as it is loaded and printed. `other` is its type if files of that are not read, `source` what is said of
+    a default."""
+
+    text: str
+    other: str = ""
+    source: str = ""
+
+    def missing(self) -> tuple[str, ...]:
+        """Returns the message where it is not there, and the lines that explain it."""
+        explained = [NOT_READ.replace("TYPE", self.other)] if self.other else []
+        return (f"{self.text}: no such file", *explained, *([self.source] if self.source else []))
+
+
+# Words for the file of that very name. A type has two letters or more, and nothing but letters, before the first colon.
+OWN = ("./FILE:k", "C:k", "1:k", 'ключ "\\:k', "", "./KCM:k", "f:FILE:k", ":k", ":FILE:k", "k1:k", "X509:k", "a b:k",
+       " FILE:k", "FILE :k", "%{uid}", "-FILE:k", "FI_LE:k", "é:k", "FILE", "KCM", "FILE;k", "k:FILE:k", "c:k")
+# Words whose type is taken off, once: that of files, and one that keytabs alone have.
+OF_FILES = {"FILE:k": "k", "FILE:FILE:k": "FILE:k", "FILE:": "", "FILE:./k": "./k", "FILE:KCM:k": "KCM:k",
+            "FILE::k": ":k", "FILE: k": " k", "FILE:C:k": "C:k", "FILE:WRFILE:k": "WRFILE:k"}
+OF_KEYTABS = {"WRFILE:k": "k", "WRFILE:FILE:k": "FILE:k", "WRFILE:WRFILE:k": "WRFILE:k"}
+# Words of other types, of which nothing is read.
+OTHERS = ("KCM:", "KCM:k", "file:k", "KEYRING:persistent:0", "MEMORY:k", "DIR::k", "File:k", "FILe:k", "FILEX:k",
+          "XFILE:k", "ab:k", "KCM:FILE:k", "wrfile:k", "WRFile:k")
+ALL = (*OWN, *OF_FILES, *OF_KEYTABS, *OTHERS)
+
+
+def named(kind: Kind, word: str) -> FileName:
+    """Returns the file that a word names."""
+    read = OF_FILES | OF_KEYTABS if kind is Kind.KEYTAB else OF_FILES
+    is_read = word in read or word not in (*OF_KEYTABS, *OTHERS)
+    return FileName(read.get(word, word), "" if is_read else word.partition(":")[0] + ":")
+
+
+# What is under a name: a folder, a file that is neither a keytab nor a cache, or one that is too large.
+FOLDER, NEITHER, LARGE_FILE = "a folder", b"xy", bytes(LIMIT + 1)
+NEITHERS = {Kind.KEYTAB: BEGINS_AS_NO_KEYTAB, Kind.CACHE: BEGINS_AS_NO_CACHE}
+
+# A file of each kind; its ticket is valid whenever a test runs.
+IMAGES = {Kind.KEYTAB: TWO, Kind.CACHE: tickets(replace(TICKET, endtime=2**32 - 1))}
+
+# The name whose place others take, and the file that is beside it.
+NAME = "<name>"
+BESIDE = {"from": keytab(C)}
+
+
+@dataclass(frozen=True)
+class Command:
+    """A command over a file: its line, in which NAME stands for the name, and its input."""
+
+    line: str
+    given: bytes = b""
+
+    @property
+    def kind(self) -> Kind:
+        """The kind of the file."""
+        return Kind.KEYTAB if re.search("^kt| -k ", self.line) else Kind.CACHE
+
+    @property
+    def has_default(self) -> bool:
+        """Whether the file may be left out."""
+        return self.line.startswith(("klist", "ktcheck"))
+
+    def words(self, name: str | None) -> Line:
+        """Returns its words for a name, or for none."""
+        words = (name if word == NAME else word for word in self.line.split())
+        return tuple(word for word in words if word is not None)
+
+    @cache
+    def usual(self, is_there: bool) -> tuple[bytes, dict[str, bytes]]:
+        """Runs it over NAME, which is there or not, and returns its output and the files afterwards."""
+        with folder_of(BESIDE | ({NAME: IMAGES[self.kind]} if is_there else {})) as folder:
+            for_owner(folder)
+            return run(PROGRAM[0], self.words(NAME), folder, self.given).out, files_in(folder)
+
+    def ended(self, name: FileName, place: bytes | str | None) -> tuple[int, Output]:
+        """Returns the status over what is under a name, and the message, if there is one. Some commands make a missing
+        file, but none without a name."""
+        own, (number, why) = name.text, NEITHERS[self.kind]
+        ends = {FOLDER: (3, (f"{own}: cannot read", CAUSES["EISDIR"])),
+                NEITHER: (1, (f"{own}: not a {self.kind.value} ({number})", why)),
+                LARGE_FILE: (1, (f"{own}: file too large", LARGE))}
+        if name.other or place is None and NAME not in self.usual(False)[1]:
+            ends[place] = 1, name.missing()
+        elif own == "":
+            ends[place] = 3, (": cannot write", CAUSES["ENOENT"])
+        status, *told = ends.get(place, (0,))
+        return status, () if " -s " in self.line else tuple(told)
+
+    def row(self, name: FileName, place: bytes | str | None, word: str | None, files: dict[str, bytes],
+            env: dict[str, str | bytes]) -> Explained:
+        """Returns a run by a word, or by none, over what is under the name that is read, beside other files."""
+        path, words = os.path.normpath(name.text), self.words(word)
+        status, told = self.ended(name, place)
+        files = {**BESIDE, **files, **({path: place} if isinstance(place, bytes) else {})}
+        out, after = b"", files
+        if status == 0:
+            usual, left = self.usual(place is not None)
+            spelled = json.dumps(name.text, ensure_ascii=False)[1:-1] if "--json" in self.line else name.text
+            out = usual.replace(NAME.encode(), spelled.encode())
+            after = files | {path if each == NAME else each: data for each, data in left.items()}
+        title = f"{shown(words)} with {env}, {'none' if place is None else place[:9]}"
+        return Explained(title, words, told, files, self.given, status, out, after, {"env": env}, for_owner)
+
+
+COMMANDS = (
+    *map(Command, ("klist -k -- <name>", "klist -- <name>", "klist -k --json -- <name>", "klist --json -- <name>",
+                   "klist -s -- <name>", "ktfind -- <name> 0 0 b@R", "ktcheck -- <name>", "ktremove -p b@R -- <name>",
+                   "ktcopy -p b@R -- <name> to", "ktcopy -- from <name>", "ccremove -p krbtgt/R@R -- <name>")),
+    Command("ktedit -- <name>", text([ADD_C])), Command("ccedit -- <name>", b"start\n"),
+    Command("hold -k -- <name>", frame(keytab(C))), Command("hold -- <name>", frame(tickets())),
+)
+KLIST, KLIST_CACHE = COMMANDS[:2]
