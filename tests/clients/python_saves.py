@@ -24,12 +24,7 @@ from system.storm_kinds import change, names_of_keytab
 
 # What is saved: also in place, of the other byte order, under strange names and default ones, and by threads.
 SAVES = """
-from krbfile import Keytab, edit_cache, edit_keytab
-from pathlib import Path
-from threading import Thread
-import os, sys
-
-image, cache, big = map(bytes.fromhex, sys.stdin.read().split())
+image, cache, big = map(bytes.fromhex, image.decode().split())
 for name, data in (("k", image), ("c", cache), ("big", big)):
     Path(name).write_bytes(data)
 os.chmod("k", 0o640)
@@ -56,31 +51,22 @@ with edit_cache() as cache:
     cache.remove_at(cache.find("krbtgt/R@R").place)
     cache.rewrite()
 print(Path("c").read_bytes().hex(), sorted(os.listdir()))
-threads = [Thread(target=add, args=("many", number)) for number in range(5)]
-[thread.start() for thread in threads]
-[thread.join() for thread in threads]
+at_once([lambda number=number: add("many", number) for number in range(5)])
 print(sorted(entry.principal for entry in Keytab.load("many")))
 """
 
 # Blocks that save nothing: they change nothing, end by an exception, or are never left.
 BLOCKS = """
-from krbfile import edit_keytab
-from pathlib import Path
-import os, sys
-
-Path("k").write_bytes(sys.stdin.buffer.read())
+Path("k").write_bytes(image)
 before = os.stat("k")
 
-def stop(error):
-    def block(keytab):
-        keytab.remove_at(2)
-        raise error
-    return block
+def stop(keytab, error):
+    keytab.remove_at(2)
+    raise error
 
-def never(keytab):
-    edit_keytab("other").__enter__().add("a@R", 1, 17, bytes(16))
-
-for block in (list, stop(KeyError(1)), stop(KeyboardInterrupt()), stop(SystemExit(3)), lambda it: it.close(), never):
+for block in (list, *(lambda it, error=error: stop(it, error) for error in (
+                  KeyError(1), KeyboardInterrupt(), SystemExit(3))), lambda it: it.close(),
+              lambda _: edit_keytab("other").__enter__().add("a@R", 1, 17, bytes(16))):
     try:
         with edit_keytab("k") as keytab:
             block(keytab)
