@@ -10,6 +10,7 @@ line or of the standard input that names a file of `dir` has that file copied to
 
 import json
 import os
+from functools import cache
 
 from runs.harness import TOP, Case, Outcome, Report
 
@@ -40,28 +41,29 @@ def images(kind: str) -> list[bytes]:
     return [image for _, image in files(kind)]
 
 
+@cache
+def cases(command: str = "") -> tuple[dict, ...]:
+    """Returns the cases, or those of a command."""
+    made = map(json.loads, read(os.path.join(FOLDER, "cases.jsonl")).splitlines())
+    return tuple(case for case in made if command in ("", case["argv"][0]))
+
+
 def case_of(fields: dict) -> Case:
-    """Returns the case in a line."""
+    """Returns a case as it is run."""
     source = os.path.join(FOLDER, fields["dir"])
     stdin = fields.get("stdin") or ""
-    files = {}
-    if fields.get("copy"):
-        name, to = fields["copy"]
-        files[to] = read(os.path.join(source, name))
-    for word in [*fields["argv"], *stdin.split()]:
-        path = os.path.join(source, word)
-        if "/" not in word and os.path.isfile(path):
-            files.setdefault(word, read(path))
-    after = dict(files)
-    for name, value in (fields.get("result_file") or {}).items():
-        is_name = isinstance(value, str)
-        after[name] = read(os.path.join(source, value)) if is_name else given(value)
+    name, to = fields.get("copy") or ("", "")
+    copied = {to: name} if to else {}
+    copied |= {word: word for word in (*fields["argv"], *stdin.split())
+               if word not in copied and "/" not in word and os.path.isfile(os.path.join(source, word))}
+    before = {to: read(os.path.join(source, name)) for to, name in copied.items()}
+    after = {name: read(os.path.join(source, value)) if isinstance(value, str) else given(value)
+             for name, value in (fields.get("result_file") or {}).items()}
     wanted = Outcome(fields["status"], given(fields["stdout"]), given(fields["stderr"]))
-    return Case(fields["id"], tuple(fields["argv"]), wanted, files, after, stdin.encode())
+    return Case(fields["id"], tuple(fields["argv"]), wanted, before, before | after, stdin.encode())
 
 
 def check(report: Report, program: str) -> None:
     """Runs each case."""
-    with open(os.path.join(FOLDER, "cases.jsonl"), encoding="utf-8") as file:
-        for line in file:
-            case_of(json.loads(line)).check(report, program)
+    for fields in cases():
+        case_of(fields).check(report, program)

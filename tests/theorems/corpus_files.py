@@ -1,6 +1,5 @@
-"""The files in `corpus`, who wrote them, and the cases over them."""
+"""The files in `corpus`, and who wrote them."""
 
-import json
 import os
 import re
 from functools import cache
@@ -24,13 +23,6 @@ def small_files(kind: str) -> list[tuple[str, bytes]]:
 def writers() -> dict[str, str]:
     """Returns who wrote each file."""
     return dict(ROW.findall(read(os.path.join(FOLDER, "README.md")).decode()))
-
-
-@cache
-def cases(command: str) -> tuple[dict, ...]:
-    """Returns the cases of a command."""
-    lines = read(os.path.join(FOLDER, "cases.jsonl")).decode().splitlines()
-    return tuple(case for case in map(json.loads, lines) if case["argv"][0] == command)
 
 
 def file_of(name: str) -> str:

@@ -2,9 +2,9 @@
 
 import re
 
-from peers.corpus import given
+from peers.corpus import cases, given
 from theorems.antt import Module, text, theorem
-from theorems.corpus_files import cases, file_of, writers
+from theorems.corpus_files import file_of, writers
 
 FOUND = re.compile(r"found kvno (\d+) etype (\d+) time (\d+) keylen (\d+) first (\w\w)")
 
