@@ -92,23 +92,15 @@ def check_lists(report: Report, program: str, folder: str) -> None:
 
 # Runs of the program that move keys, which are the bytes 0 to 15 as in all images of these tests.
 PROGRAM_RUNS = (
-    (("klist", "-ktKe", "k"), b""),
-    (("klist", "-ktKe", "--json", "k"), b""),
-    (("klist", "-cef", "c"), b""),
-    (("ktfind", "k", "0", "0", "host/a@R"), b""),
-    (("ktremove", "-n", "-p", "host/a@R", "k"), b""),
-    (("ktedit", "k"), ADDED.encode() + b"start\nstep 0\nrewrite\ncut 2\n"),
-    (("ccedit", "c"), b"start\nconfig k - v\nstep 0\nrewrite\n"),
-    (("ktutil",), b"rkt k\naddent -key -p c@R -k 3 -e 17\n000102030405060708090a0b0c0d0e0f\n"
-                  b"l -k\nwkt j\n"),
-    (("ktcopy", "k", "new"), b""),
-    (("ktremove", "-p", "b@R", "k"), b""),
-    (("ktedit", "--in-place", "k"), ADDED.encode() + b"cut 98\n"),
-    (("ktcopy", "--in-place", "j", "k"), b""),
-    (("ccedit", "--in-place", "c"), b"config k - w\n"),
-    (("ccremove", "-p", "krbtgt/R@R", "c"), b""),
-    (("hold", "-k", "k"), frame(TWO)),
-    (("hold", "c"), frame(USUAL)),
+    *((line, b"") for line in ("klist -ktKe k", "klist -ktKe --json k", "klist -cef c", "ktfind k 0 0 host/a@R",
+                               "ktremove -n -p host/a@R k")),
+    ("ktedit k", ADDED.encode() + b"start\nstep 0\nrewrite\ncut 2\n"),
+    ("ccedit c", b"start\nconfig k - v\nstep 0\nrewrite\n"),
+    ("ktutil", b"rkt k\naddent -key -p c@R -k 3 -e 17\n000102030405060708090a0b0c0d0e0f\nl -k\nwkt j\n"),
+    ("ktcopy k new", b""), ("ktremove -p b@R k", b""),
+    ("ktedit --in-place k", ADDED.encode() + b"cut 98\n"),
+    ("ktcopy --in-place j k", b""), ("ccedit --in-place c", b"config k - w\n"),
+    ("ccremove -p krbtgt/R@R c", b""), ("hold -k k", frame(TWO)), ("hold c", frame(USUAL)),
 )
 
 
@@ -166,21 +158,17 @@ def check_keys(report: Report, program: str, folder: str) -> None:
     """Checks that no freed block holds a key, in C and in the program."""
     freed = build(folder, "freed", "-shared", "-fPIC")
     with folder_of({"k": TWO, "c": USUAL}) as at:
-        runs = [(build(folder, "keys"), ("k", "c"), b"")]
+        runs = [(build(folder, "keys"), "k c", b"")]
         if report.is_proved:
-            runs += [(program, words, stdin) for words, stdin in PROGRAM_RUNS]
+            runs += [(program, line, stdin) for line, stdin in PROGRAM_RUNS]
         else:
             report.skip("keys", "the program is not proved: its memory does not come from the C library")
-        for named, words, stdin in runs:
-            seen = os.path.join(folder, "seen")
-            env = {**os.environ, "LD_PRELOAD": freed, "FREED_SEEN": seen}
-            got = run(named, words, at, stdin, env=env)
-            faults = [got.err.decode()] if got.status else []
-            if os.path.exists(seen):
-                os.remove(seen)
-            else:
-                faults.append("no block that was given back is seen")
-            report.check(f"keys are cleared: {os.path.basename(named)} {' '.join(words)}", faults)
+        for number, (named, line, stdin) in enumerate(runs):
+            seen = os.path.join(folder, f"seen-{number}")
+            got = run(named, line.split(), at, stdin, env={**os.environ, "LD_PRELOAD": freed, "FREED_SEEN": seen})
+            faults = [got.err.decode()] * (got.status != 0)
+            faults += ["no block that was given back is seen"] * (not os.path.exists(seen))
+            report.check(f"keys are cleared: {os.path.basename(named)} {line}", faults)
 
 
 def check(report: Report, program: str) -> None:
