@@ -10,12 +10,19 @@ line or of the standard input that names a file of `dir` has that file copied to
 
 import json
 import os
+import re
 from functools import cache
 
 from runs.harness import TOP, Case, Outcome, Report
 
 # The folder of the files and cases.
 FOLDER = os.path.join(TOP, "tests", "corpus")
+
+# The rows of the tables in the folder's README: a file, and who wrote it.
+ROW = re.compile(r"^\| `(\S+)` \| (.*?) \| .*? \|$", re.M)
+
+# The most bytes of a file that has theorems: one of 5,000 takes a second and 0.8 GB, one of 20,000 six seconds, 4 GB.
+MOST_BYTES = 5000
 
 
 def given(value: dict) -> bytes:
@@ -39,6 +46,17 @@ def files(kind: str) -> list[tuple[str, bytes]]:
 def images(kind: str) -> list[bytes]:
     """Returns the bytes of each file of a kind."""
     return [image for _, image in files(kind)]
+
+
+def small_files(kind: str) -> list[tuple[str, bytes]]:
+    """Returns the files of a kind that are not too large, each with its name."""
+    return [(name, image) for name, image in files(kind) if len(image) <= MOST_BYTES]
+
+
+@cache
+def writers() -> dict[str, str]:
+    """Returns who wrote each file."""
+    return dict(ROW.findall(read(os.path.join(FOLDER, "README.md")).decode()))
 
 
 @cache

@@ -53,6 +53,11 @@ def identifier(word: str) -> str:
     return re.sub(r"[^A-Za-z0-9]+", "-", word).strip("-")
 
 
+def file_of(name: str) -> str:
+    """Returns the name that the bytes of a file have in a theorem."""
+    return f"file-{identifier(name)}"
+
+
 def seconds(moment: bytes) -> int:
     """Returns the seconds from 1970 to a time."""
     return int((datetime.datetime.fromisoformat(moment.decode().rstrip("Z")) - EPOCH).total_seconds())

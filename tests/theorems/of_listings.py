@@ -1,8 +1,7 @@
 """Theorems of listings: the definitions list each file in `corpus` as MIT's klist does."""
 
-from peers.corpus import cases, given
-from theorems.antt import Module, identifier, theorem, theorem_of_listing
-from theorems.corpus_files import file_of, small_files, writers
+from peers.corpus import cases, given, small_files, writers
+from theorems.antt import Module, file_of, identifier, theorem, theorem_of_listing
 from theorems.mit_listings import cache_listing, keytab_listing
 
 # Files of which MIT's programs say something else, and why. They are listed as krbfile's cases have it.
