@@ -55,17 +55,13 @@ def random_credential(random: Random) -> Credential:
     """Returns a credential with any fields."""
     one_flag = random.choice([*FLAGS.values(), 2 ** random.randrange(32)])
     return Credential(
-        client=random_name(random),
-        server=random_name(random),
+        client=random_name(random), server=random_name(random),
         enctype=random.choice([*NAMES, random_number(random, 16)]),
         second_enctype=random.choice([None, random_number(random, 16)]),
-        key=random_bytes(random, 20),
-        is_skey=random.choice([0, 1, 255]),
+        key=random_bytes(random, 20), is_skey=random.choice([0, 1, 255]),
         flags=random.choice([0, 2**32 - 1, one_flag, random.randrange(2**32)]),
-        addresses=random_list(random),
-        authdata=random_list(random),
-        ticket=random.randbytes(random.choice([0, 1, 3, 20, 300])),
-        second_ticket=random_bytes(random, 12),
+        addresses=random_list(random), authdata=random_list(random),
+        ticket=random.randbytes(random.choice([0, 1, 3, 20, 300])), second_ticket=random_bytes(random, 12),
         **random_times(random),
     )
 

@@ -29,12 +29,8 @@ def random_part(random: Random, version: int, order: str, is_sound: bool) -> byt
         return random.choice(LENGTHS) if is_odd else hole(random.randbytes(random.randrange(1, 130)), order)
     entry = Entry(
         components=tuple(random_bytes(random, 5) for _ in range(random.choice([0, 1, 2, 2, 3]))),
-        realm=random_bytes(random, 4),
-        name_type=random.randrange(2**32),
-        timestamp=random.randrange(2**32),
-        version8=random.randrange(2**8),
-        enctype=random.randrange(2**16),
-        key=random_bytes(random, 20),
+        realm=random_bytes(random, 4), name_type=random.randrange(2**32), timestamp=random.randrange(2**32),
+        version8=random.randrange(2**8), enctype=random.randrange(2**16), key=random_bytes(random, 20),
         version32=random.choice([None, 0, random.randrange(300), random.randrange(2**32)]),
         count=random.randrange(5) if random.random() < 0.1 and not is_sound else None,
     ).spelled(version, order) + bytes(random.choice([0, 0, 1, 4, 30]))
