@@ -7,18 +7,16 @@ from dataclasses import replace
 
 from keytabs import greatest
 from keytabs.file_names import LIMIT
-from keytabs.finds import AES256, FIVE, NOT_FOUND
+from keytabs.finds import AES256, FIVE, NOT_FOUND, told
 from keytabs.removals import B3, FOUR
 from makers.images import B, BIG, HOST, TWO, Entry, keytab, old, record
 from runs.harness import Case, Outcome, Report, message
 from runs.rows import check_rows, printed, words_of
 
-X = "kvno 3 etype 17 host/a@R"
-Y = "kvno 3 etype 17 b@R"
+X, Y = "kvno 3 etype 17 host/a@R", "kvno 3 etype 17 b@R"
 
 # Entries that are as that of b@R, with other keys.
-OTHER = replace(B, key=bytes(16))
-THIRD = replace(B, key=b"\xff" * 16)
+OTHER, THIRD = replace(B, key=bytes(16)), replace(B, key=b"\xff" * 16)
 
 FROM_DAMAGED = message(1, "k: refused 1")
 
@@ -40,12 +38,8 @@ def copy(name: str, options: str, source: bytes | None, target: bytes | None, wa
 
 def select(options: str, source: bytes, *those: Entry) -> Case:
     """Returns a copy into a new keytab, which then has these entries."""
-    image, lines = keytab(), []
-    for entry in those:
-        name = b"/".join(entry.components).decode()
-        lines.append(f"copied {len(image)} kvno {entry.version32} etype {entry.enctype} {name}@R")
-        image += record(entry.spelled())
-    return copy("selected", options, source, None, lines, image)
+    lines = [f"copied {told(each, *those[:at])}" for at, each in enumerate(those)]
+    return copy("selected", options, source, None, lines, keytab(*those))
 
 
 # A keytab of version 1, its entries in version 2, and odd numbers.

@@ -1,6 +1,6 @@
 """Look-ups by `ktfind`. Places are counted by hand."""
 
-from makers.images import BIG, HOST, TWO, Entry, keytab, old
+from makers.images import BIG, HOST, TWO, Entry, keytab, name_text, old
 from runs.harness import Case, Outcome, message
 from runs.rows import printed
 
@@ -19,6 +19,12 @@ NEAR = ["host/b@R", "host/a@S", "hos/a@R", "host/a/@R", "host\\/a@R", "Host/a@R"
 
 LONG = "x" * 9_000 + "/" + "y" * 9_000
 PARTS = "/".join(["p"] * 300)
+
+
+def told(entry: Entry, *before: Entry) -> str:
+    """Returns the place of an entry after those, and the entry, as a line of output has them."""
+    name = name_text((*entry.components, entry.realm)).decode()
+    return f"{len(keytab(*before))} kvno {entry.version32} etype {entry.enctype} {name}"
 
 
 def find(name: str, image: bytes, query: str, wanted: Outcome | str, *options: str) -> Case:
