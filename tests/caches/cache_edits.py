@@ -45,9 +45,6 @@ def no_room(name: str, room: int, wanted: Outcome | list[str], *script: str,
     return edit(name, cache(ticket, PA_TYPE), [SET_3, *script], wanted, cache(ticket, *after) if after else None)
 
 
-# The usual cache rewritten.
-ANEW = cache(TICKET, PA_TYPE, fields=OFFSET)
-
 # How a reply escapes a name.
 ODD_KEY, ESCAPED = bytes([0, 0x1F, 0x20, 0x5C, 0x7E, 0x7F, 0xFF]), b"\\x00\\x1f \\\\~\\x7f\\xff"
 
@@ -94,7 +91,8 @@ CASES = [
           "resume 40", "resume 34"],
          refused("walk 0 at 40", "walk 1 at 148", "walk 2 at 284", "walk 3 at 392", "rewritten 278",
                  "walk 0 gave 34 next 142 etype 17 krbtgt/R@R", "walk 1 gave 142 next 278 config pa_type(krbtgt/R@R)",
-                 "walk 2 end 278", "walk 3 end 278", "refused 4", "walk 4 at 34"), ANEW),
+                 "walk 2 end 278", "walk 3 end 278", "refused 4", "walk 4 at 34"),
+         cache(TICKET, PA_TYPE, fields=OFFSET)),
     edit("version 3 becomes 4", VERSION_3, ["start", "step 0", "start", "rewrite", "step 0", "step 1", "cut 22"],
          ["walk 0 at 20", "walk 0 gave 20 next 130 etype 17 krbtgt/R@R", "walk 1 at 20", "rewritten 130",
           "walk 0 end 130", "walk 1 gave 22 next 130 etype 17 krbtgt/R@R", "gone 22"], cache(TICKET.removed())),
