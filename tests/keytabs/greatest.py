@@ -27,8 +27,7 @@ LAST, END = PLACES[-1], 2 + SIZE * COUNT
 HOLES = (LIMIT - 2) // 5
 
 # The longest component, and how many of 253 bytes one entry of the greatest file has.
-LONGEST = 65_535
-MANY = 65_535
+LONGEST = MANY = 65_535
 
 KLIST_HEADING = b"Keytab name: FILE:k\nKVNO Principal\n---- ---------\n"
 SLOTS_HEADING = b"slot KVNO Principal\n---- ---- ---------\n"

@@ -57,12 +57,12 @@ CASES = [
     over("a file of a name like an option", "ktremove -pb@R -- -p=b@R", keytab(B3), ["removed 2 kvno 3 etype 17 b@R"],
          keytab(41)),
     # Old versions: those other than the newest entry's.
-    remove("a small one of the same time", "-k old", (versioned(255, 5), versioned(1, 5)), 0),
-    remove("a small one of an earlier time", "-k old", (versioned(255, 5), versioned(1, 4)), 1),
-    remove("a large one of a later time", "-k old", (versioned(1, 5), versioned(255, 6)), 0),
-    remove("a version of 32 bits", "-k old", (versioned(300, 1), versioned(7, 2)), 0),
-    remove("through the middle", "-k old", (versioned(250, 1), versioned(200, 2), versioned(3, 3)), 0, 1),
-    remove("a version twice", "-k old", (versioned(4, 1), versioned(5, 1), versioned(4, 9), versioned(5, 9)), 0, 2),
+    remove("old, a small one of the same time", "-k old", (versioned(255, 5), versioned(1, 5)), 0),
+    remove("old, a small one of an earlier time", "-k old", (versioned(255, 5), versioned(1, 4)), 1),
+    remove("old, a large one of a later time", "-k old", (versioned(1, 5), versioned(255, 6)), 0),
+    remove("old, a version of 32 bits", "-k old", (versioned(300, 1), versioned(7, 2)), 0),
+    remove("old, through the middle", "-k old", (versioned(250, 1), versioned(200, 2), versioned(3, 3)), 0, 1),
+    remove("old, each twice", "-k old", (versioned(4, 1), versioned(5, 1), versioned(4, 9), versioned(5, 9)), 0, 2),
     # Old versions whose name has had its newest one for that long: all entries of that version, and no others.
     remove("old for long", "--age 0000086400 -kold", THOSE, 0),
     remove("for longer than there are clocks", "-k old --age 4294967295", THOSE),
