@@ -38,13 +38,6 @@ def given(name: str, cell: Credential, tail: bytes) -> Case:
     return edit(f"given, {name}", cache(cell), ["start", "step 0"], Outcome(0, line))
 
 
-def no_room(name: str, room: int, wanted: Outcome | list[str], *script: str,
-            after: tuple[Credential, ...] = ()) -> Case:
-    """Returns a script that sets a value with that much room left by a long ticket. Both entries have 136 bytes."""
-    ticket = long_ticket(LIMIT - 22 - 136 - room)
-    return edit(name, cache(ticket, PA_TYPE), [SET_3, *script], wanted, cache(ticket, *after) if after else None)
-
-
 # How a reply escapes a name.
 ODD_KEY, ESCAPED = bytes([0, 0x1F, 0x20, 0x5C, 0x7E, 0x7F, 0xFF]), b"\\x00\\x1f \\\\~\\x7f\\xff"
 
@@ -106,12 +99,14 @@ CASES = [
     edit("damaged", USUAL[:391], ["cut 40", "cut 3", "config k - v", SET_3, "rewrite"], refused(*["refused 1"] * 5)),
     lambda: edit("no room for a value", cache(long_ticket(LIMIT - 22)), ["config k - v", "cut 22"],
                  refused("refused 3", "gone 22"), cache(long_ticket(LIMIT - 22).removed())),
-    lambda: no_room("a byte too little room, and the old value stays", 135,
-                    refused("refused 3", f"walk 0 at {LIMIT - 271}",
-                            f"walk 0 gave {LIMIT - 271} next {LIMIT - 135} config pa_type(krbtgt/R@R)"),
-                    f"resume {LIMIT - 271}", "step 0"),
-    lambda: no_room("just room", 136, [f"placed {LIMIT - 136}", f"gone {LIMIT - 272}"],
-                    after=(PA_TYPE.removed(), THREE)),
+    # With the old value, of 136 bytes as the new one, as much room is left, and a byte less.
+    lambda: edit("a byte too little room, and the old value stays", cache(long_ticket(LIMIT - 293), PA_TYPE),
+                 [SET_3, f"resume {LIMIT - 271}", "step 0"],
+                 refused("refused 3", f"walk 0 at {LIMIT - 271}",
+                         f"walk 0 gave {LIMIT - 271} next {LIMIT - 135} config pa_type(krbtgt/R@R)")),
+    lambda: edit("just room", cache(long_ticket(LIMIT - 294), PA_TYPE), [SET_3],
+                 [f"placed {LIMIT - 136}", f"gone {LIMIT - 272}"],
+                 cache(long_ticket(LIMIT - 294), PA_TYPE.removed(), THREE)),
     # Files that are missing. Those that are not a cache are among the messages that are explained.
     *(edit(f"no file, {line!r}", None, line.encode(), message(1, "c: no such file"))
       for line in ("start\n", "", "config k - v\n")),
