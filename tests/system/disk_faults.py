@@ -10,6 +10,7 @@ from contextlib import contextmanager
 from itertools import product
 
 from makers.images import B, TWO, keytab
+from runs.commands import NEW, OLD, SCRIPT
 from runs.harness import Case, Outcome, Report, differences, folder_of, message
 from runs.preload import Line
 from runs.rows import printed
@@ -17,8 +18,8 @@ from runs.system_calls import Call, calls_of, check_traced, traced, under_strace
 from runs.terminal import EXPLAIN
 from runs.undisturbed import IN_PLACE
 from system.placing import explained
-from system.saving import (GROUP, NEW, OLD, SAVED, SCRIPT, UNREAD, UNSAVED, USER, Owned, Place, at, check_over, edit,
-                           owned, tree, tree_faults, write)
+from system.saving import (GROUP, SAVED, UNREAD, UNSAVED, USER, Owned, Place, at, check_over, edit, owned, tree,
+                           tree_faults, write)
 from words.phrases import AFTERMATHS, CAUSES
 
 LINE = Line(("ktedit", "k"), SCRIPT)

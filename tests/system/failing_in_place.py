@@ -9,6 +9,7 @@ import re
 import signal
 
 from makers.images import B, HOST, keytab
+from runs.commands import file_of
 from runs.harness import Case, Outcome, Report, differences, files_in, folder_of, run
 from runs.preload import Line
 from runs.rows import shown
@@ -19,7 +20,7 @@ from runs.undisturbed import explained as with_words
 from system.early_ends import Ends
 from system.failing_system_calls import (PRINT, READ, Step, calls_of_run, check_failure, held, listed, lock, looked,
                                          needed, traced_run)
-from system.placing import CUT_OFF, EQUAL, LONGER, MIXED, SHORTER, TALK, changed, explained, images, message_of
+from system.placing import CUT_OFF, EQUAL, LONGER, MIXED, SHORTER, explained, images, message_of
 from system.saving import check_over, tree_faults, unsaved, write
 from words.phrases import AFTERMATHS, CAUSES
 
@@ -81,7 +82,7 @@ def check_lost(report: Report, program: str, case: Undisturbed, call: Call, back
         got, files, _ = run_failing(program, one, *both_fail(call, back))
         faults = differences(explained(unsaved(case), *words), got)
         faults += [] if files.keys() == case.files.keys() else [f"{[*files]} are there"]
-        is_there = files[changed(case)].startswith(images(case)[0])
+        is_there = files[file_of(case)].startswith(images(case)[0])
         faults += [] if damage or is_there else ["an old byte is lost"]
         report.check(f"{call} fails, then {back}: {shown(one.words)}: {case.name}", faults)
 
@@ -115,7 +116,7 @@ def check_talk(report: Report, program: str) -> None:
              "k.krbfile: cannot write", f"line 3: {CAUSES['name of saves']}", "no: cannot write",
              f"line 4: {CAUSES['no file']}")
     case = Case("a line of ktutil that fails in place", (EXPLAIN, "ktutil", IN_PLACE), explained(Outcome(3), *lines),
-                files, undisturbed("ktutil", TALK, **files).files_after, talk)
+                files, undisturbed("ktutil", b"rkt j\nwkt k\n", **files).files_after, talk)
     check_over(report, "strace", under_strace(program, case, "-e", "inject=pwrite64:error=EIO:when=1"))
 
 
@@ -141,7 +142,7 @@ def check_steps(report: Report, program: str) -> None:
 def faults_of_kill(case: Undisturbed, files: dict[str, bytes], trace: list[str]) -> list[str]:
     """Returns the faults of what a killed run left: until it writes over old bytes, these are the front of the file."""
     before, after = images(case)
-    left = files.pop(changed(case))
+    left = files.pop(file_of(case))
     is_overwriting = is_written_over(trace, len(before))
     may_be = [{old, new} if is_overwriting else {old} for old, new in zip(before, after)]
     is_mix = len(left) >= len(may_be) and all(byte in those for byte, those in zip(left, may_be))
@@ -151,7 +152,7 @@ def faults_of_kill(case: Undisturbed, files: dict[str, bytes], trace: list[str])
 
 def killed(program: str, case: Undisturbed, call: Call) -> list[str]:
     """Returns the faults of a run that is killed at a call, or ended before, and of the next run."""
-    name, line = changed(case), Line(case.words, case.stdin)
+    name, line = file_of(case), Line(case.words, case.stdin)
     with folder_of(case.files) as folder:
         outcome, trace = traced(program, line, folder, *call.to("signal=KILL"))
         if outcome == case.wanted:

@@ -8,13 +8,12 @@ import re
 import signal
 from dataclasses import dataclass
 
-from keytabs.copies import OTHER
-from makers.images import B, HOST, TWO, keytab
-from makers.usual_caches import USUAL
+from makers.images import B, TWO, keytab
+from runs.commands import CHANGES, MAKES, READS
 from runs.harness import Outcome, Report, differences, files_in, folder_of
 from runs.preload import Line
 from runs.system_calls import Call, calls_of, check_traced, traced
-from runs.undisturbed import Undisturbed, frame, undisturbed
+from runs.undisturbed import Undisturbed, undisturbed
 from system.early_ends import End, Ends
 from system.failing_streams import ends_in_output
 from system.placing import told
@@ -103,34 +102,30 @@ def save(name: str, nth: int = 1, is_new: bool = False) -> list[Step]:
 READ = Step(r"read\(0", "input")
 PRINT = Step(r"write\(1", "output")
 
-TALK = b"rkt j\nl\nwkt k\nwkt n\nl -e\nrkt n\nl\n"
+# Lines of ktutil that list, save and load, and their steps.
+TALK = undisturbed("ktutil", b"rkt j\nl\nwkt k\nwkt n\nl -e\nrkt n\nl\n", j=TWO, k=keytab(B))
 TALKED = [READ, *load("j"), PRINT, *hold("k"), *held(2), *save("k"), *hold("n", 2), *save("n", 2, is_new=True), PRINT,
           *load("n", 4), PRINT, READ]
 
+# Runs whose calls fail: those that list as JSON, or only walk, have the calls of others.
+RUNS = (*(run for run in READS if not {"--json", "old"} & {*run.words} and not run.stdin), *CHANGES, *MAKES,
+        undisturbed("ktcheck k j", k=TWO, j=keytab(B, B)), TALK)
 
-def runs() -> list[tuple[Ends, list[Step]]]:
-    """Returns runs and their steps."""
-    add = b"add 3 17 0 000102030405060708090a0b0c0d0e0f host/a@R\n"
-    config = b"start\ncut 40\nconfig pa_type krbtgt/R@R 3\n"
-    change_k, change_c = ([*hold(name), *held(), *save(name), PRINT] for name in "kc")
-    copy = [*load("k"), *hold("t"), *held(2)]
-    return [(Ends(run), steps) for run, steps in (
-        (undisturbed("klist -ktKe k", k=TWO), [*load("k"), PRINT]),
-        (undisturbed("klist -cefC c", c=USUAL), [*load("c"), PRINT]),
-        (undisturbed("ktfind k 0 0 -- b@R", k=TWO), [*load("k"), PRINT]),
-        (undisturbed("ktcheck k", k=TWO), [*load("k"), PRINT]),
-        (undisturbed("ktcheck k j", k=TWO, j=keytab(B, B)), [*load("k"), PRINT, *load("j", 2), PRINT]),
-        (undisturbed("ktedit k", b"start\ncut 2\n" + add, k=TWO), [READ, *change_k]),
-        (undisturbed("ktedit k", add, name="no file"), [READ, *hold("k"), *save("k", is_new=True), PRINT]),
-        (undisturbed("ktremove -p host/a@R k", k=TWO), change_k),
-        (undisturbed("ccedit c", config, c=USUAL), [READ, *change_c]),
-        (undisturbed("ccremove -p krbtgt/R@R c", c=USUAL), change_c),
-        (undisturbed("hold -k k", frame(keytab(B)), k=TWO), [*hold("k"), *held(), PRINT, READ, *save("k", 2)]),
-        (undisturbed("ktcopy k t", k=TWO, t=keytab(HOST)), [*copy, *save("t"), PRINT]),
-        (undisturbed("ktcopy k t", name="no file", k=TWO), [*copy, *save("t", is_new=True), PRINT]),
-        (undisturbed("ktcopy -n --replace k t", k=TWO, t=keytab(OTHER)), [*load("k"), *load("t", 2), PRINT]),
-        (undisturbed("ktutil", TALK, j=TWO, k=keytab(B)), TALKED),
-    )]
+
+def steps_of_run(ends: Ends) -> list[Step]:
+    """Returns the steps of a run: those of its input, of the files that it only loads, and of the one that it saves."""
+    run, names = ends.run, ends.names
+    if run == TALK:
+        return TALKED
+    is_saving = run.files_after != run.files
+    loaded = [step for nth, name in enumerate(names[:-1] if is_saving else names, 1)
+              for step in (*load(name, nth), PRINT)]
+    if not is_saving:
+        return loaded
+    name, nth, is_new = names[-1], len(names), names[-1] not in run.files
+    if ends.command == "hold":
+        return [*hold(name), *held(), PRINT, READ, *save(name, 2, is_new)]
+    return [*[READ] * bool(run.stdin), *loaded, *hold(name), *held(nth), *save(name, is_new=is_new), PRINT]
 
 
 def steps_of(calls: list[Call], steps: list[Step]) -> list[tuple[Call, Step]] | None:
@@ -242,7 +237,8 @@ def check_failure(report: Report, program: str, ends: Ends, steps: list[Step], c
 
 def check_runs(report: Report, program: str) -> None:
     """Lets each call of each run fail, and kills the run at each."""
-    for ends, steps in runs():
+    for ends in map(Ends, RUNS):
+        steps = steps_of_run(ends)
         for call in calls_of_run(report, program, ends, steps):
             for error in ERRORS:
                 check_failure(report, program, ends, steps, call, error)

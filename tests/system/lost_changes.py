@@ -10,6 +10,8 @@ from dataclasses import replace
 from typing import BinaryIO
 
 from makers.images import B, HOST, keytab
+from runs.commands import CHANGES as CHANGES_OF_ALL
+from runs.commands import file_of
 from runs.harness import Case, Report, differences, folder_of
 from runs.preload import Line
 from runs.rows import shown
@@ -17,15 +19,14 @@ from runs.system_calls import Halt, check_traced, halted
 from runs.terminal import EXPLAIN
 from runs.undisturbed import Undisturbed, in_place, undisturbed
 from system.failing_system_calls import READINGS
-from system.placing import (CUT_OFF, EQUAL, LAST_OF_EACH, LONGER, MIXED, PLACED, SHORTER, changed, explained, images,
-                            message_of, told, with_words)
-from system.saving import tree_faults, unsaved
+from system.placing import CUT_OFF, EQUAL, LONGER, MIXED, SHORTER, explained, images, message_of, told, with_words
+from system.saving import ADD, tree_faults, unsaved
 from words.phrases import AFTERMATHS, CAUSES
 
 # A run of each command, and lines of ktutil of which the last ones are at fault and refused.
 TALK = undisturbed("ktutil", b"rkt j\nwkt k\nfrob\nwkt FILE:k\n", j=keytab(B), k=keytab(HOST),
                    name="adds, is at fault, and is refused")
-CASES_OF_ALL = (*LAST_OF_EACH, TALK)
+CASES_OF_ALL = (*CHANGES_OF_ALL, TALK)
 
 # Where a run is halted: before its rename, at the last reading of the locks, and behind it.
 HALTS = {"before": Halt("openat", 2 * READINGS, ("/proc/locks",)), "behind": Halt("?rename,?renameat,?renameat2")}
@@ -52,7 +53,7 @@ CHANGES: dict[str, tuple[Change, bool]] = {
 
 def changed_while(program: str, case: Case, halt: Halt, change: Change) -> list[str]:
     """Returns the faults of a run while which another program changes the file by a handle that it has."""
-    with folder_of(case.files) as folder, open(os.path.join(folder, changed(case)), "r+b", buffering=0) as file:
+    with folder_of(case.files) as folder, open(os.path.join(folder, file_of(case)), "r+b", buffering=0) as file:
         got = halted(program, Line(case.words, case.stdin), folder, halt, lambda folder: change(file))
         return differences(case.wanted, got) + tree_faults(case.files_after, folder)
 
@@ -74,7 +75,7 @@ def check_lost(report: Report, program: str) -> None:
 
 def check_kinds(report: Report, program: str) -> None:
     """Checks each kind of change: where the bytes are the same, nothing is told."""
-    case = PLACED[0].as_case()
+    case = ADD.as_case()
     for name, (change, is_lost) in CHANGES.items():
         one = replace(case, wanted=told(case, "lost change")) if is_lost else case
         report.check(f"{name}, behind the rename", changed_while(program, one, HALTS["behind"], change))
@@ -82,7 +83,7 @@ def check_kinds(report: Report, program: str) -> None:
 
 def with_more(case: Case) -> Case:
     """Returns a run whose file then has more at its end too."""
-    name = changed(case)
+    name = file_of(case)
     return replace(case, files_after={**case.files_after, name: case.files_after[name] + MORE})
 
 

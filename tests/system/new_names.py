@@ -8,12 +8,12 @@ from collections.abc import Callable
 from concurrent.futures import ThreadPoolExecutor
 from dataclasses import replace
 
+from runs.commands import CHANGES, NEW, OLD, SCRIPT, WALK, file_of, renamed
 from runs.harness import Case, Report, message
 from runs.rows import printed
 from runs.undisturbed import IN_PLACE, Undisturbed, in_place
-from system.placing import PLACED, changed, refused
-from system.saving import (ADD, CHANGES, LINES, NEW, OLD, SAVED, SCRIPT, USER, WALK, as_another, at, check_over,
-                           faults_over, link, unsaved, write)
+from system.placing import PLACED, refused
+from system.saving import (ADD, LINES, SAVED, USER, as_another, at, check_over, faults_over, link, unsaved, write)
 
 # Another user who is not root.
 STRANGER = 1234
@@ -57,10 +57,10 @@ def faults_in_the_way(program: str, make: Make, mode: int, owner: int | None, ca
                       **options) -> list[str]:
     """Returns the faults of a run with something in place of its new file, in a folder of that mode."""
     files = {"other": b"other"}
-    places = [at(f"{case.words[-1]}.krbfile", make), at(".", lambda path: os.chmod(path, mode))]
+    places = [at(f"{file_of(case)}.krbfile", make), at(".", lambda path: os.chmod(path, mode))]
     if owner is not None:
         files |= case.files
-        places.insert(0, at(case.words[-1], lambda path: os.chown(path, owner, -1)))
+        places.insert(0, at(file_of(case), lambda path: os.chown(path, owner, -1)))
     if IN_PLACE in case.words:
         return faults_over(program, replace(case.as_case(), files=files), *places, **options)
     return faults_over(program, Case(case.name, case.words, unsaved(case), files, stdin=case.stdin), *places, **options)
@@ -136,21 +136,13 @@ def check_places(report: Report, program: str) -> None:
                                          {".krbfile": b"other", ".new": b"other"}, after, SCRIPT))
 
 
-def renamed(case: Undisturbed, name: str) -> Case:
-    """Returns the same run over a file of another name."""
-    last = case.words[-1]
-    files, after = ({name if each == last else each: data for each, data in those.items()}
-                    for those in (case.files, case.files_after))
-    return Case(case.name, (*case.words[:-1], name), case.wanted, files, after, case.stdin)
-
-
 def check_no_names(report: Report, program: str) -> None:
     """Checks that files with the name of a new one are not changed, nor is, but in place, a file under a name that is
     too long for a new one."""
-    for case in (*CHANGES, *(in_place(each) for each in PLACED if changed(each) == each.words[-1])):
+    for case in (*CHANGES, *map(in_place, PLACED)):
         if_long = "" if IN_PLACE in case.words else "ENAMETOOLONG"
-        for name, cause in ((f"{case.words[-1]}.krbfile", "name of saves"), ("x" * 248, if_long), ("x" * 255, if_long)):
-            one = refused(renamed(case, name), cause) if cause else renamed(case, name)
+        for name, cause in ((f"{file_of(case)}.krbfile", "name of saves"), ("x" * 248, if_long), ("x" * 255, if_long)):
+            one = refused(renamed(case, name), cause, name) if cause else renamed(case, name)
             check_over(report, program, replace(one, name=f"a name of {len(name)} bytes: {case.name}"))
 
 

@@ -11,10 +11,13 @@ import time
 from collections.abc import Callable, Iterator
 from concurrent.futures import ThreadPoolExecutor
 from contextlib import ExitStack, contextmanager
+from itertools import product
 
+from runs.commands import CHANGES, file_of
 from runs.harness import Case, Report, differences, folder_of
+from runs.undisturbed import Undisturbed
 from system.disk_faults import mounted
-from system.saving import ADD, CHANGES, NEW, OLD, SAVED, UNSAVED, edit, run_over, tree, tree_faults, write
+from system.saving import ADD, NEW, OLD, SAVED, UNSAVED, edit, run_over, tree, tree_faults, write
 
 # More locks than fit in one read of the system's list, and enough of them to make the list slow.
 MANY = 300
@@ -74,13 +77,18 @@ def check_locks(report: Report, program: str) -> None:
         ("", "a lock of a part", lambda file: fcntl.lockf(file, fcntl.LOCK_EX, 1, 9)),
         ("", "a lock of an open file", lambda file: ofd_lock(file, fcntl.F_WRLCK)),
     ]
-    for case in CHANGES:
-        for ending, what, lock in locks:
-            name = case.words[-1] + ending
-            with folder_of({**case.files, name: OLD} if ending else case.files) as folder:
-                with open(os.path.join(folder, name), "r+b") as file:
-                    lock(file)
-                    faults = faults_of_waiting(program, folder, file.close, case)
+
+    def faults_beside(row: tuple[Undisturbed, tuple[str, str, Callable[[object], object]]]) -> list[str]:
+        case, (ending, _, lock) = row
+        name = file_of(case) + ending
+        with folder_of({**case.files, name: OLD} if ending else case.files) as folder:
+            with open(os.path.join(folder, name), "r+b") as file:
+                lock(file)
+                return faults_of_waiting(program, folder, file.close, case)
+
+    rows = [*product(CHANGES, locks)]
+    with ThreadPoolExecutor(RUNS) as pool:
+        for (case, (_, what, _)), faults in zip(rows, pool.map(faults_beside, rows)):
             report.check(f"{what} is waited for: {case.name}", faults)
     with folder_of({"k": OLD}) as folder, open(os.path.join(folder, "k"), "rb") as file:
         ofd_lock(file, fcntl.F_RDLCK)

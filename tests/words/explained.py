@@ -129,6 +129,10 @@ def copy(options: str, source: bytes | None, target: bytes | None, *output: tupl
     return Explained(name, words, output, files, status=status, out=text(out), **more)
 
 
+# A copy finds nothing that was asked for.
+FINDS_NONE = ("k: refused 9", code(9, "ktcopy"))
+
+
 def for_owner(folder: str) -> None:
     """Lets the files of a folder be read by their owner alone."""
     for each in os.scandir(folder):
