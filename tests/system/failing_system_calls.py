@@ -107,9 +107,7 @@ TALK = undisturbed("ktutil", b"rkt j\nl\nwkt k\nwkt n\nl -e\nrkt n\nl\n", j=TWO,
 TALKED = [READ, *load("j"), PRINT, *hold("k"), *held(2), *save("k"), *hold("n", 2), *save("n", 2, is_new=True), PRINT,
           *load("n", 4), PRINT, READ]
 
-# Runs whose calls fail: those that list as JSON, or only walk, have the calls of others.
-RUNS = (*(run for run in READS if not {"--json", "old"} & {*run.words} and not run.stdin), *CHANGES, *MAKES,
-        undisturbed("ktcheck k j", k=TWO, j=keytab(B, B)), TALK)
+TWO_FILES = undisturbed("ktcheck k j", k=TWO, j=keytab(B, B))
 
 
 def steps_of_run(ends: Ends) -> list[Step]:
@@ -237,7 +235,9 @@ def check_failure(report: Report, program: str, ends: Ends, steps: list[Step], c
 
 def check_runs(report: Report, program: str) -> None:
     """Lets each call of each run fail, and kills the run at each."""
-    for ends in map(Ends, RUNS):
+    # Those that list as JSON, tell nothing or are at fault, or only walk, have the calls of others.
+    reads = [run for run in READS if not {"--json", "-s"} & {*run.words} and not run.stdin and not run.wanted.err]
+    for ends in map(Ends, (*reads, TWO_FILES, *CHANGES, *MAKES, TALK)):
         steps = steps_of_run(ends)
         for call in calls_of_run(report, program, ends, steps):
             for error in ERRORS:

@@ -121,11 +121,13 @@ def failed(words: Line, does: str, cause: str, image: bytes | None, **more) -> E
 
 
 def copy(options: str, source: bytes | None, target: bytes | None, *output: tuple[str, str], status: int = 1,
-         out: list[str] | tuple[str, ...] = (), **more) -> Explained:
-    """Returns a copy from `k` to `t`, or to none, its messages, and the lines that it prints."""
-    words = ("ktcopy", *words_of(options), "k", "t")
-    files = {file: image for file, image in (("k", source), ("t", target)) if image is not None}
+         out: list[str] | tuple[str, ...] = (), to: str = "t", **more) -> Explained:
+    """Returns a copy from `k` to a file, or to none, its messages, and the lines that it prints. If it fails, the files
+    stay as they are."""
+    words = ("ktcopy", *words_of(options), "k", to)
+    files = {file: image for file, image in (("k", source), (to, target)) if image is not None}
     name = f"{shown(words)}, files of {[len(image) for image in files.values()]} bytes"
+    more = {"after": files if status else None, **more}
     return Explained(name, words, output, files, status=status, out=text(out), **more)
 
 
@@ -145,9 +147,12 @@ def socket_in(folder: str) -> None:
         made.bind(os.path.join(folder, "s"))
 
 
-def in_the_way(folder: str) -> None:
-    """Makes something in the place of the new file of `k`."""
-    os.mkdir(os.path.join(folder, "k.krbfile"))
+def in_the_way_of(name: str) -> Callable[[str], None]:
+    """Returns a function that makes something in the place of the new file of one."""
+    return lambda folder: os.mkdir(os.path.join(folder, f"{name}.krbfile"))
+
+
+in_the_way = in_the_way_of("k")
 
 
 def link(target: str | bytes) -> Callable[[str], None]:
@@ -257,8 +262,8 @@ CASES = [
     copy("", b"", TWO, no_keytab(SHORT)),
     copy("", TWO, TWO[:-1], ("t: refused 1", code(1))),
     lambda: copy("", TWO, keytab(record(B.spelled().ljust(LIMIT - 6, b"\0"))), ("t: refused 3", code(3))),
-    failed(("ktcopy", "from", "d/t"), "write", "ENOENT", TWO, file="from", out=b""),
-    failed(("ktcopy", "from", "k"), "write", "in the way", TWO, file="from", out=b"", setting=in_the_way),
+    *(copy("", TWO, None, (f"{to}: cannot write", CAUSES[cause].replace("NAME", to)), status=3, to=to, setting=setting)
+      for to, cause, setting in (("d/t", "ENOENT", for_owner), ("x", "in the way", in_the_way_of("x")))),
     copy("", keytab(B, OTHER, OTHER), None, ("", f"clash: {CLASH}"), ("", TO_REPLACE),
          out=[f"clash 47 2 {Y}", f"clash 92 2 {Y}"]),
     copy("-n --replace -p b@R", TWO, keytab(OTHER), status=0, out=[f"removed 2 {Y}", f"copied 2 {Y}"]),
