@@ -69,8 +69,8 @@ def check_manual(report: Report, program: str) -> None:
 
 
 def check_formats(report: Report) -> None:
-    """Compares the library's phrases in FORMATS, and its list of mistakes; both pages have the phrase of ktcopy's
-    clashes, and the hints."""
+    """Compares the library's phrases in FORMATS, and its list of mistakes; both pages have the phrase of clashes,
+    and the hints."""
     rows = re.findall(r"^\| (\d+) \|.*\| ([^|]+) \|$", part(FORMATS, "\n## Codes\n", "\n## "), re.MULTILINE)
     found = {int(number): phrase for number, phrase in rows}
     report.check(f"the codes of {FORMATS}", [] if found == phrases.LIBRARY_CODES else [f"{found}"])

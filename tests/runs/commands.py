@@ -27,7 +27,7 @@ VALID = cache(replace(TICKET, endtime=2**32 - 1), PA_TYPE, fields=OFFSET)
 
 @dataclass(frozen=True)
 class Command:
-    """A command, and its runs by what they do. None depends on the clock, but `klist -s` asks for it."""
+    """A command, and its runs by what they do. None depends on the clock, but some ask for it."""
 
     # Runs that change their file, and that make it.
     changes: tuple[Undisturbed, ...] = ()
@@ -69,11 +69,11 @@ COMMANDS = {
         ("ktedit PATH", f"add 1 17 1700000000 {KEY} NAME@R\n")),
     "ktremove": Command(
         (undisturbed("ktremove -p b@R k", k=TWO, name="removes"),), (),
-        (undisturbed("ktremove -n -p b@R k", k=TWO, name="tells"),),
+        (undisturbed("ktremove -n -k 3 k", k=TWO, name="tells"),),
         (undisturbed("ktremove -p c@R k", k=TWO, name="finds none"),), ("ktremove -p NAME@R PATH", ""), version="old"),
     "ktcopy": Command(
         copies(("", TWO, NEW, "adds")), (undisturbed("ktcopy k t", k=TWO, name="adds"),),
-        copies(("-n", TWO, NEW, "tells"), ("-n", TWO, CLASH, "tells of a clash"),
+        copies(("-n", TWO, OLD, "tells"), ("-n", TWO, CLASH, "tells of a clash"),
                ("", TWO[:-1], NEW, "has a damaged source"), ("", b"", NEW, "has no keytab as source"),
                ("-p c@R", TWO, NEW, "finds none"), ("-k old", TWO, NEW, "is at fault")),
         (*copies(("", TWO, TWO, "has all already"), ("", TWO, CLASH, "clashes"), ("", NEW, TWO, "has it already"),
@@ -88,12 +88,12 @@ COMMANDS = {
     "ccedit": Command(
         (undisturbed("ccedit c", b"cut 40\nconfig pa_type krbtgt/R@R 3\n", c=USUAL, name="sets"),), (),
         tuple(undisturbed("ccedit c", script, c=USUAL, name=name)
-              for script, name in ((b"start\n", "walks"), (b"frob\n", "is at fault"))),
+              for script, name in ((WALK, "walks"), (b"frob\n", "is at fault"))),
         (undisturbed("ccedit c", b"cut 3\n", c=USUAL, name="is refused"),), ("ccedit PATH", "config NAME - v\n")),
     "ccremove": Command(
         (undisturbed("ccremove -p krbtgt/R@R c", c=USUAL, name="removes"),), (),
-        tuple(undisturbed(f"ccremove -n -p {name} c", c=USUAL, name=what)
-              for name, what in (("krbtgt/R@R", "tells"), ("b@R", "tells of none"))),
+        tuple(undisturbed(f"ccremove -n {options} c", c=USUAL, name=what)
+              for options, what in (("--expired", "tells"), ("-p b@R", "tells of none"))),
         (undisturbed("ccremove -p b@R c", c=USUAL, name="finds none"),), ("ccremove -p NAME@R PATH", "")),
     "hold": Command(
         (undisturbed("hold -k k", frame(keytab(60, HOST)), k=TWO, name="saves"),

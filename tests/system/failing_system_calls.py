@@ -237,7 +237,7 @@ def check_runs(report: Report, program: str) -> None:
     """Lets each call of each run fail, and kills the run at each."""
     # Those that list as JSON, tell nothing or are at fault, or only walk, have the calls of others.
     reads = [run for run in READS if not {"--json", "-s"} & {*run.words} and not run.stdin and not run.wanted.err]
-    for ends in map(Ends, (*reads, TWO_FILES, *CHANGES, *MAKES, TALK)):
+    for ends in map(Ends, (*reads, TWO_FILES, *(run for run in CHANGES if run.words[1:]), *MAKES, TALK)):
         steps = steps_of_run(ends)
         for call in calls_of_run(report, program, ends, steps):
             for error in ERRORS:
