@@ -192,9 +192,7 @@ def traced_run(program: str, run: Undisturbed, *options: str) -> tuple[End, list
 
 def first_text(ends: Ends, steps: list[Step]) -> str:
     """Returns text in the first call of a run's work, which reads the input, or names the file."""
-    if steps[0] == READ:
-        return "read(0"
-    return next(f'"{word}"' for word in ends.run.words if word in ends.run.files)
+    return "read(0" if steps[0] == READ else f'"{ends.names[0]}"'
 
 
 def hasty_renames(calls: list[Call], files: dict[str, bytes]) -> list[str]:

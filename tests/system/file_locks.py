@@ -20,14 +20,17 @@ from system.waits import AT_ONCE, LEAST_WAIT, LONGEST_WAIT, RUNS, faults_of_wait
 # Runs that change a file, that have nothing to save, and that take no lock, in both ways if there are two.
 BOTH_WAYS, LEAVING, LOCKING_NOTHING = (both_ways(*runs) for runs in (CHANGES, LEAVES, READS))
 
-# Kinds of locks: of a whole file, and record locks.
+# Kinds of locks: of a whole file, and record locks, for some of which each run waits that saves.
 FLOCK, TO_READ, TO_WRITE = "a flock", "a lock to read", "a lock to write"
+OPEN_READ, OPEN_WRITE, PART = "a lock of an open file to read", "a lock of an open file", "a lock of a part"
 LOCKS: dict[str, Callable[[object], None]] = {
     FLOCK: lambda file: fcntl.flock(file, fcntl.LOCK_EX),
     "a shared flock": lambda file: fcntl.flock(file, fcntl.LOCK_SH),
     TO_READ: lambda file: fcntl.lockf(file, fcntl.LOCK_SH),
     TO_WRITE: lambda file: fcntl.lockf(file, fcntl.LOCK_EX),
-    "a lock of an open file to read": lambda file: ofd_lock(file, fcntl.F_RDLCK),
+    OPEN_READ: lambda file: ofd_lock(file, fcntl.F_RDLCK),
+    OPEN_WRITE: lambda file: ofd_lock(file, fcntl.F_WRLCK),
+    PART: lambda file: fcntl.lockf(file, fcntl.LOCK_EX, 1, 9),
 }
 
 
@@ -38,9 +41,10 @@ def set_back(folder: str) -> dict[str, tuple[object, ...]]:
     return stands(folder)
 
 
-def waited_for(program: str, case: Case, lock: str) -> list[str]:
-    """Returns the faults of a run that has to wait for a lock of its file. If it saves nothing, it writes none."""
-    with folder_of(case.files) as folder, open(os.path.join(folder, file_of(case)), "r+b") as file:
+def waited_for(program: str, case: Run, lock: str, name: str) -> list[str]:
+    """Returns the faults of a run that has to wait for a lock of its file, or of its new one. If it saves nothing, it
+    writes none."""
+    with folder_of({name: b"held", **case.files}) as folder, open(os.path.join(folder, name), "r+b") as file:
         before = set_back(folder)
         LOCKS[lock](file)
         faults = faults_of_waiting(program, folder, file.close, case)
@@ -49,13 +53,15 @@ def waited_for(program: str, case: Case, lock: str) -> list[str]:
 
 
 def check_waits(report: Report, program: str) -> None:
-    """Checks that each run that may change a file waits for another program's lock of it."""
-    rows = [(case, FLOCK) for case in (*BOTH_WAYS, *LEAVING)]
-    rows += [(in_place(EQUAL), lock) for lock in LOCKS] + [(EQUAL, "a shared flock"), (EQUAL, TO_WRITE)]
+    """Checks that each run that may change a file waits for another program's lock of it, and of its new file."""
+    rows = [(case, FLOCK, file_of(case)) for case in (*BOTH_WAYS, *LEAVING)]
+    rows += [(in_place(EQUAL), lock, "k") for lock in LOCKS] + [(EQUAL, "a shared flock", "k")]
+    rows += [(case, lock, file_of(case)) for case in CHANGES for lock in (TO_WRITE, OPEN_WRITE, PART)]
+    rows += [(case, FLOCK, f"{file_of(case)}.krbfile") for case in CHANGES]
     with ThreadPoolExecutor(RUNS) as pool:
-        found = [pool.submit(waited_for, program, case.as_case(), lock) for case, lock in rows]
-    for (case, lock), faults in zip(rows, found):
-        report.check(f"{lock} is waited for: {case.name}", faults.result())
+        found = [pool.submit(waited_for, program, *row) for row in rows]
+    for (case, lock, name), faults in zip(rows, found):
+        report.check(f"{lock} of {name} is waited for: {case.name}", faults.result())
 
 
 def ended_beside(program: str, case: Run, lock: str, file: str) -> tuple[list[str], float]:
@@ -83,7 +89,7 @@ def check_no_waits(report: Report, program: str) -> None:
     They make no file beside theirs either, not even one that is removed again.
     """
     rows = [(case, file, lock) for case in LOCKING_NOTHING for lock in (FLOCK, TO_WRITE) for file in case.files]
-    rows += [(case, file_of(case), TO_READ) for case in PLACED]
+    rows += [(case, file_of(case), lock) for case in PLACED for lock in (TO_READ, OPEN_READ)]
     # What a run only reads is not locked.
     sources = [(case, file) for case in BOTH_WAYS for file in case.files if file != file_of(case)]
     rows += [(case, file, lock) for case, file in sources for lock in (FLOCK, TO_WRITE)]

@@ -210,7 +210,6 @@ CASES = [
     unchanged("ktutil --in-place", ("k: no such file", f"line 1: {NO_FILE}"), stdin=b"rkt k\n"),
     unwritten("k", NO_FILE, b""), unwritten("k", NO_FILE), unwritten("no/k", NO_FILE),
     unwritten("FILE:k", LEAVE_OUT.replace("TYPE", "FILE:")),
-    unwritten("k.krbfile", CAUSES["name of saves"], files={"k.krbfile": TWO}),
     # A file that is not a keytab, and one of no bytes, into which is copied.
     unchanged("ktedit --in-place k", no_keytab(BEGINS_AS_CACHE), stdin=SCRIPT, files={"k": USUAL}),
     copy("--in-place", B_OLD, b"", status=0, out=["copied 2 kvno 3 etype 17 b@R"], after={"k": B_OLD, "t": B_OLD}),

@@ -100,14 +100,9 @@ CASES = [
     refused(K, ("k: refused 1", code(1)), files={"k": TWO[:-1]}),
     refused(C, ("k: refused 1", code(1, "hold")), files={"k": CUT_CACHE}),
     *(refused(line, ("k: no such file", "")) for line in (C, f"hold {IN_PLACE} k", PLACED)),
-    # It could not be saved. What the load tells comes first.
-    unsaved(K, "in the way", **IN_THE_WAY), unsaved(K, "in the way", None, **IN_THE_WAY),
-    unsaved(C, "in the way", USUAL, **IN_THE_WAY), unsaved(f"hold -k {'x' * 248}", "ENAMETOOLONG"),
-    # What is in the way is beside the file that a link leads to.
+    # It could not be saved: what is in the way is beside the file that a link leads to. What the load tells comes first.
     case("hold of a link", "hold -k l", TWO, ("l: cannot write", CAUSES["in the way"].replace("NAME", "k")), status=3,
          out=b"", stdin=EMPTY, setting=lambda folder: (in_the_way(folder), link("k")(folder))),
-    unsaved("hold -k k.krbfile", "name of saves"), unsaved(f"hold {IN_PLACE} -k k.krbfile", "name of saves"),
-    unsaved("hold -k k.krbfile", "name of saves", None), unsaved("hold -k d/k", "ENOENT", None),
     refused(K, ("k: refused 1", code(1)), files={"k": TWO[:-1]}, **IN_THE_WAY),
     refused(C, ("k: no such file", ""), **IN_THE_WAY),
     given(PLACED, TWO, EMPTY, after=NONE, name="in the way", **IN_THE_WAY),

@@ -228,22 +228,16 @@ CASES = [
       for command, image, other in (("ktedit", TWO, {b"config k - v": unknown("config")}),
                                     ("ccedit", USUAL, {b"add 3 17 0 - b@R": line_fault(1)}))
       for line, phrase in {**PHRASES, **other}.items()),
-    # Files that are not read, and those that are not saved.
+    # Files that are not read, and one that is not saved: new_names has others.
     failed(("klist", "-k", "k/x"), "read", "ENOTDIR", TWO),
     failed(("klist", "-k", "x" * 256), "read", "ENAMETOOLONG", TWO),
     failed(("klist", "-k", "l"), "read", "ELOOP", TWO, setting=link("l")),
     failed(("klist", "-k", "s"), "read", f"error {ENXIO}", TWO, setting=socket_in),
-    *(failed(("ktedit", file), "write", cause, None, stdin=ADD, **more) for file, cause, more in (
-        ("d/k", "ENOENT", {}), ("k.krbfile", "name of saves", {}), ("x" * 248, "ENAMETOOLONG", {}),
-        ("k", "in the way", {"setting": in_the_way}), ("l", "bad link", {"setting": link(b"\xff")}))),
-    *(failed((*line.split(), file), "write", cause, USUAL, file=file, stdin=stdin, **more) for line, stdin in CHANGING
-      for file, cause, more in (("c.krbfile", "name of saves", {}), ("k", "in the way", {"setting": in_the_way}))),
+    failed(("ktedit", "l"), "write", "bad link", None, stdin=ADD, setting=link(b"\xff")),
     *(case(f"wkt of no entry over {image}", "ktutil", image, ("", f"line 1: {NO_ENTRY.replace('NAME', 'k')}"),
            stdin=b"wkt k\n", status=0, after={"k": image or keytab()})
       for image in (None, keytab(), keytab(41), b"\5\2\0")),
     case("wkt of no entry over two", "ktutil", TWO, stdin=b"wkt k\n", status=0),
-    case("wkt to a name of saves", "ktutil", None,
-         ("k.krbfile: cannot write", f"line 1: {CAUSES['name of saves']}"), stdin=b"wkt k.krbfile\n", status=3),
     # Faults of damaged files, which stand in the listing, and replies of scripts.
     *(case(f"listed: fault {number}", line, image, ("", f"k: fault {number} at {at}"), ("", FAULTS[number]))
       for number, line, image, at in (
@@ -262,8 +256,6 @@ CASES = [
     copy("", b"", TWO, no_keytab(SHORT)),
     copy("", TWO, TWO[:-1], ("t: refused 1", code(1))),
     lambda: copy("", TWO, keytab(record(B.spelled().ljust(LIMIT - 6, b"\0"))), ("t: refused 3", code(3))),
-    *(copy("", TWO, None, (f"{to}: cannot write", CAUSES[cause].replace("NAME", to)), status=3, to=to, setting=setting)
-      for to, cause, setting in (("d/t", "ENOENT", for_owner), ("x", "in the way", in_the_way_of("x")))),
     copy("", keytab(B, OTHER, OTHER), None, ("", f"clash: {CLASH}"), ("", TO_REPLACE),
          out=[f"clash 47 2 {Y}", f"clash 92 2 {Y}"]),
     copy("-n --replace -p b@R", TWO, keytab(OTHER), status=0, out=[f"removed 2 {Y}", f"copied 2 {Y}"]),
