@@ -15,7 +15,7 @@ from runs.rows import Line, words_of
 from runs.namespaces import STATUS, can_mount, run_within
 from runs.terminal import EXPLAIN
 from system.saving import write
-from words.explained import Explained, unchanged
+from words.explaining import Explained, unchanged
 from words.command_lines import lines_of
 from words.mistakes import MISTAKES
 from words.phrases import DEFAULT

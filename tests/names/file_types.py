@@ -13,7 +13,7 @@ from makers.images import TWO, keytab
 from names.named_files import (ALL, COMMANDS, DEFAULTS, FOLDER, KLIST, KLIST_CACHE, LARGE_FILE, NEITHER, Kind, named)
 from runs.harness import Report
 from runs.rows import check_rows
-from words.explained import FINDS_NONE, Explained, copy, no_keytab, unchanged
+from words.explaining import FINDS_NONE, Explained, copy, no_keytab, unchanged
 from words.phrases import BEGINS_AS_NO_KEYTAB, LEAVE_OUT, NAMED, NOT_READ, code, unknown
 
 # Words that every command is tried with, and its variable; the listings are tried with all.

@@ -13,7 +13,7 @@ from runs.commands import CHANGES, MAKES, READS, SAVING, VALID, file_of
 from runs.harness import files_in, folder_of, run
 from runs.rows import Line, shown
 from runs.undisturbed import PROGRAM, Undisturbed
-from words.explained import Explained, Output, for_owner
+from words.explaining import Explained, Output, for_owner
 from words.phrases import BEGINS_AS_NO_CACHE, BEGINS_AS_NO_KEYTAB, CAUSES, LARGE, NOT_READ
 
 

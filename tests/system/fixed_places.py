@@ -23,7 +23,7 @@ from system.disk_faults import mounted
 from system.placing import EQUAL, LONGER, MIXED, PLACED, explained, kept, refused, with_words
 from system.saving import (ADD, B_NEW, B_OLD, B_SAVED, GROUP, LINES, UNSAVED, USER, Owned, as_another, at, check_over,
                            faults_over, link, tree_faults, write)
-from words.explained import FINDS_NONE, Explained, copy, no_keytab, unchanged
+from words.explaining import FINDS_NONE, Explained, copy, no_keytab, unchanged
 from words.phrases import AFTERMATHS, BEGINS_AS_CACHE, CAUSES, LEAVE_OUT, NOT_READ, code, line_fault
 
 # A keytab that fills a page of 4,096 bytes but for less than an entry.

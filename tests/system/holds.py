@@ -19,7 +19,7 @@ from system.failing_streams import NO_OUTPUT
 from system.placing import explained
 from system.saving import as_another, stands, tree_faults
 from system.waits import AT_ONCE, LEAST_WAIT, LONGEST_WAIT
-from words.explained import CUT_CACHE, Explained, case, failed, in_the_way, link, no_keytab, unchanged
+from words.explaining import CUT_CACHE, Explained, case, failed, in_the_way, link, no_keytab, unchanged
 from words.phrases import (BAD_DEFAULT, BAD_HEADER, BEGINS_AS_CACHE, BEGINS_AS_NO_CACHE, BEGINS_AS_NO_KEYTAB, CAUSES,
                            GIVEN_DAMAGED, HELD_AS_KEYTAB, LARGE, NOT_WHOLE, SHORT, TO_A_PROGRAM, code)
 from words.unseen import HIDDEN

@@ -14,7 +14,7 @@ from runs.rows import printed
 from runs.undisturbed import IN_PLACE, Undisturbed, in_place
 from system.saving import (ADD, LINES, SAVED, USER, as_another, at, check_over, faults_over, link, unsaved, write)
 from system.waits import RUNS
-from words.explained import Explained, in_the_way_of, unchanged
+from words.explaining import Explained, in_the_way_of, unchanged
 from words.phrases import CAUSES
 
 # Another user who is not root.

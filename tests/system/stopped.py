@@ -84,12 +84,12 @@ def check_unread(report: Report, program: str) -> None:
     rows = ((1, "ktedit OPTION k", SCRIPT, OLD), (1, "ktedit OPTION k", b"cut 3\n", OLD),
             (2, "ktedit OPTION k", SCRIPT, b"other"), (2, "ktutil OPTION", TALK.stdin, b"other"),
             (2, "ktutil OPTION", TALK.stdin, TWO[:-1]))
-    for (number, line, text, data), option in product(rows, ("", IN_PLACE)):
+    for (number, line, lines, data), option in product(rows, ("", IN_PLACE)):
         words, stream = line.replace("OPTION", option), {1: "stdout", 2: "stderr"}[number]
         with full_pipe() as given, folder_of({"j": B_OLD, "k": data}) as folder:
             slow = subprocess.Popen([program, *words.split()], cwd=folder, stdin=subprocess.PIPE,
                                     **{stream: given})
-            slow.stdin.write(text)
+            slow.stdin.write(lines)
             slow.stdin.close()
             while not waits_for(slow, number):
                 time.sleep(MOMENT)
@@ -99,7 +99,7 @@ def check_unread(report: Report, program: str) -> None:
             faults += [] if slow.poll() is None else ["the first run has ended"]
             slow.kill()
             slow.wait(SECONDS)
-        report.check(f"{words} with {text[:3]}, and nobody reads its {stream}", faults)
+        report.check(f"{words} with {lines[:3]}, and nobody reads its {stream}", faults)
 
 
 def check_idle(report: Report, program: str, *options: str) -> None:

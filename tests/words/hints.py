@@ -10,7 +10,7 @@ from pages.readme import surroundings
 from runs.harness import Report, folder_of, run
 from runs.rows import Line, printed, shown, words_of
 from runs.terminal import EXPLAIN
-from words.explained import Explained, for_owner
+from words.explaining import Explained, for_owner
 from words.phrases import FAULTS, FINDINGS, HINTS
 
 # The hints up to the file, and the beginnings of their lines.

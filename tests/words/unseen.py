@@ -11,7 +11,7 @@ from keytabs.edits import ADD_B, ADD_C, C
 from keytabs.ktutil_lines import ADDENT, KEY
 from makers.images import B, TWO, Entry, keytab, old
 from runs.rows import text
-from words.explained import Explained, copy, in_the_way
+from words.explaining import Explained, copy, in_the_way
 from words.phrases import CAUSES, CLASH, TO_REPLACE, UNSEEN, code, unknown
 
 # An entry that is hidden, the same with a key, a line that adds it, and how it is printed.
