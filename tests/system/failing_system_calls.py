@@ -9,7 +9,7 @@ import signal
 from dataclasses import dataclass
 
 from makers.images import B, TWO, keytab
-from runs.commands import CHANGES, MAKES, READS
+from runs.commands import CHANGES, MAKES, READS, file_of
 from runs.harness import Outcome, Report, differences, files_in, folder_of
 from runs.preload import Line
 from runs.system_calls import Call, calls_of, check_traced, traced
@@ -234,8 +234,10 @@ def check_failure(report: Report, program: str, ends: Ends, steps: list[Step], c
 def check_runs(report: Report, program: str) -> None:
     """Lets each call of each run fail, and kills the run at each."""
     # Those that list as JSON, tell nothing or are at fault, or only walk, have the calls of others.
-    reads = [run for run in READS if not {"--json", "-s"} & {*run.words} and not run.stdin and not run.wanted.err]
-    for ends in map(Ends, (*reads, TWO_FILES, *(run for run in CHANGES if run.words[1:]), *MAKES, TALK)):
+    reads = {(run.words[0], file_of(run)): run for run in READS
+             if not {"--json", "-s"} & {*run.words} and not run.stdin and not run.wanted.err}
+    changes = {run.words[0]: run for run in CHANGES} | {"ktutil": TALK}
+    for ends in map(Ends, (*reads.values(), TWO_FILES, *changes.values(), *MAKES)):
         steps = steps_of_run(ends)
         for call in calls_of_run(report, program, ends, steps):
             for error in ERRORS:
