@@ -4,24 +4,22 @@ Bytes past the old end are written and synced first. If a write, a cut or a sync
 and if that fails too, a message says so.
 """
 
-import os
 import re
-import signal
+from functools import partial
 
 from makers.images import B, HOST, keytab
 from runs.commands import file_of
-from runs.harness import Case, Outcome, Report, differences, files_in, folder_of, run
-from runs.preload import Line
+from runs.harness import Case, Outcome, Report, differences
 from runs.rows import shown
-from runs.system_calls import Call, calls_of, check_traced, traced, under_strace
+from runs.system_calls import Call, calls_of, check_traced, under_strace
 from runs.terminal import EXPLAIN
 from runs.undisturbed import IN_PLACE, Undisturbed, in_place, undisturbed
 from runs.undisturbed import explained as with_words
 from system.early_ends import Ends
-from system.failing_system_calls import (PRINT, READ, Step, calls_of_run, check_failure, held, listed, lock, looked,
-                                         needed, traced_run)
+from system.failing_system_calls import (PRINT, READ, Step, calls_of_run, check_failure, held, killed, listed, lock,
+                                         looked, needed, traced_run)
 from system.placing import CUT_OFF, EQUAL, LONGER, MIXED, SHORTER, explained, images, message_of
-from system.saving import check_over, tree_faults, unsaved, write
+from system.saving import check_over, unsaved
 from words.phrases import AFTERMATHS, CAUSES
 
 # The place from which a call writes, or cuts.
@@ -33,7 +31,6 @@ CALLS = ((LONGER, (WRITE, SYNC)), (MIXED, (WRITE, SYNC, WRITE, SYNC)), (EQUAL, (
          (SHORTER, (WRITE, CUT, SYNC)), (CUT_OFF, (CUT, SYNC)))
 
 ERRORS = ("EIO", "ENOSPC", "EDQUOT")
-KILLED = Outcome(-signal.SIGKILL)
 
 
 def run_failing(program: str, case: Undisturbed, *options: str) -> tuple[Outcome, dict[str, bytes], list[Call]]:
@@ -150,20 +147,6 @@ def faults_of_kill(case: Undisturbed, files: dict[str, bytes], trace: list[str])
     return ([] if is_mix and is_front else [f"{left} is left"]) + ([f"{[*files]} are left"] if files else [])
 
 
-def killed(program: str, case: Undisturbed, call: Call) -> list[str]:
-    """Returns the faults of a run that is killed at a call, or ended before, and of the next run."""
-    name, line = file_of(case), Line(case.words, case.stdin)
-    with folder_of(case.files) as folder:
-        outcome, trace = traced(program, line, folder, *call.to("signal=KILL"))
-        if outcome == case.wanted:
-            faults = tree_faults(case.files_after, folder)
-        else:
-            faults = differences(KILLED, outcome) + faults_of_kill(case, files_in(folder), trace)
-        write(os.path.join(folder, name), case.files[name])
-        faults += differences(case.wanted, run(program, case.words, folder, case.stdin))
-        return faults + tree_faults(case.files_after, folder)
-
-
 def check_kills(report: Report, program: str) -> None:
     """Kills runs at each call, or at those that change the file: what was not written over is there, and no more."""
     for case in (MIXED, LONGER, SHORTER):
@@ -171,7 +154,8 @@ def check_kills(report: Report, program: str) -> None:
         _, trace = traced_run(program, placed)
         for call in calls_of(trace, '"k", O_RDWR'):
             if case == MIXED or call.name in CHANGES:
-                report.check(f"killed at {call}: {placed.name}", killed(program, placed, call))
+                report.check(f"killed at {call}: {placed.name}", killed(
+                    program, placed, call, partial(faults_of_kill, placed)))
 
 
 def check(report: Report, program: str) -> None:

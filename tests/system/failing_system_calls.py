@@ -4,8 +4,10 @@ The effect of a failure depends on the step of the work that the call belongs to
 shows that: how often it reads the list of locks depends on how many others have.
 """
 
+import os
 import re
 import signal
+from collections.abc import Callable
 from dataclasses import dataclass
 
 from makers.images import B, TWO, keytab
@@ -17,6 +19,7 @@ from runs.undisturbed import Undisturbed, undisturbed
 from system.early_ends import End, Ends
 from system.failing_streams import ends_in_output
 from system.placing import told
+from system.saving import run_over, tree_faults, write
 
 ERRORS = ("EIO", "ENOSPC", "EACCES", "EPERM", "EINTR", "ENOMEM")
 
@@ -172,15 +175,26 @@ def faults_of_failure(ends: Ends, call: Call, step: Step, error: str, end: End) 
     return [] if is_wanted else [f"{end[0]} and {sorted(end[1])}"]
 
 
-def faults_of_kill(ends: Ends, end: End) -> list[str]:
-    """Returns the faults of a run that was killed, or ended before. Other new files are allowed."""
-    if end == ends.whole:
-        return []
-    got, after = end
-    files = {name: data for name, data in after.items() if not name.endswith(".krbfile")}
-    is_stage = files in [ends.run.files_after, *(stage.files for stage in ends.stages)]
-    return differences(Outcome(-signal.SIGKILL, got.out, got.err), got) + (
-        [] if is_stage else [f"the files {sorted(after)} are not whole"])
+def faults_of_files(ends: Ends, files: dict[str, bytes]) -> list[str]:
+    """Returns the faults of what a killed run left: each file is whole. Other new files are allowed."""
+    left = {name: data for name, data in files.items() if not name.endswith(".krbfile")}
+    return [] if left in [ends.run.files_after, *(stage.files for stage in ends.stages)] else [f"{left} is left"]
+
+
+def killed(program: str, run: Undisturbed, call: Call, judge: Callable[[dict[str, bytes], list[str]], list[str]],
+           ) -> list[str]:
+    """Returns the faults of a run that is killed at a call, or ended before, of what it left, and of the next run."""
+    with folder_of(run.files) as folder:
+        got, trace = traced(program, Line(run.words, run.stdin), folder, *call.to("signal=KILL"))
+        has_ended = got.status == run.wanted.status
+        faults = differences(run.wanted if has_ended else Outcome(-signal.SIGKILL, got.out, got.err), got)
+        faults += tree_faults(run.files_after, folder) if has_ended else judge(files_in(folder), trace)
+        for name in {*files_in(folder), *run.files}:
+            if name in run.files:
+                write(os.path.join(folder, name), run.files[name])
+            elif not name.endswith(".krbfile"):
+                os.remove(os.path.join(folder, name))
+        return faults + differences(run.wanted, run_over(program, run, folder)) + tree_faults(run.files_after, folder)
 
 
 def traced_run(program: str, run: Undisturbed, *options: str) -> tuple[End, list[str]]:
@@ -242,8 +256,8 @@ def check_runs(report: Report, program: str) -> None:
         for call in calls_of_run(report, program, ends, steps):
             for error in ERRORS:
                 check_failure(report, program, ends, steps, call, error)
-            end, _ = traced_run(program, ends.run, *call.to("signal=KILL"))
-            report.check(f"killed at {call}: {ends.run.name}", faults_of_kill(ends, end))
+            report.check(f"killed at {call}: {ends.run.name}", killed(
+                program, ends.run, call, lambda files, _, ends=ends: faults_of_files(ends, files)))
 
 
 def check(report: Report, program: str) -> None:
