@@ -1,11 +1,24 @@
 /*
- * Adds entries to a keytab file by libkrbfile and removes its last ones: edits FILE ADDITIONS REMOVALS. It does what
- * mit_edits.c does, and writes the file at the end.
+ * Adds entries to a keytab file by libkrbfile, or removes its last ones: edits FILE ADDITIONS REMOVALS. It does what
+ * mit_edits.c does, and writes and syncs the file once, at the end.
  */
 #include "bench.h"
+#include "krbfile.h"
+
+#include <fcntl.h>
+#include <string.h>
+#include <unistd.h>
 
 static krbf_keytab keytab = KRBF_NONE;
 static uint32_t places[MOST];
+
+static void open_file(const char *name) {
+    static uint8_t image[16777216];
+    int file = open(name, O_RDONLY);
+    ssize_t len = read(file, image, sizeof image);
+    must(len > 0 && !close(file), "read");
+    must(krbf_kt_open(image, (size_t)len, 0, 0, &keytab) == KRBF_DONE, "krbf_kt_open");
+}
 
 /* Adds the entry of that number; the numbers make names of one length. */
 static void add(unsigned number) {
@@ -18,32 +31,31 @@ static void add(unsigned number) {
     must(status == KRBF_DONE, "krbf_kt_add");
 }
 
-static size_t all_places(void) {
-    uint32_t cursor = KRBF_FIRST, status;
+static void remove_last(unsigned removals) {
+    uint32_t cursor = KRBF_FIRST;
     krbf_entry entry;
     size_t count = 0;
-    for (; (status = krbf_kt_next(&keytab, &cursor, &entry)) == KRBF_DONE; count++) {
+    for (; krbf_kt_next(&keytab, &cursor, &entry) == KRBF_DONE; places[count++] = entry.place)
         must(count < MOST, "too many entries");
-        places[count] = entry.place;
-    }
-    must(status == KRBF_END, "krbf_kt_next");
-    return count;
+    for (; removals > 0; removals--)
+        must(krbf_kt_remove_at(&keytab, places[--count]) == KRBF_DONE, "krbf_kt_remove_at");
 }
 
-static void remove_nth(size_t at) {
-    must(krbf_kt_remove_at(&keytab, places[at]) == KRBF_DONE, "krbf_kt_remove_at");
+static void write_file(const char *name) {
+    krbf_bytes image;
+    must(krbf_kt_image(&keytab, &image) == KRBF_DONE, "krbf_kt_image");
+    int file = open(name, O_WRONLY | O_TRUNC);
+    must(write(file, image.at, image.len) == (ssize_t)image.len && !fsync(file) && !close(file), "write");
 }
 
 int main(int argc, char **argv) {
     must(argc == 4, "usage: edits FILE ADDITIONS REMOVALS");
-    size_t len;
-    uint8_t *read = read_file(argv[1], &len);
-    krbf_bytes image;
-    must(krbf_kt_open(read, len, 0, 0, &keytab) == KRBF_DONE, "krbf_kt_open");
-    free(read);
-    change(argv[2], argv[3], add, all_places, remove_nth);
-    must(krbf_kt_image(&keytab, &image) == KRBF_DONE, "krbf_kt_image");
-    write_file(argv[1], image);
+    open_file(argv[1]);
+    for (unsigned number = 0; number < number_in(argv[2]); number++)
+        add(number);
+    if (number_in(argv[3]) > 0)
+        remove_last(number_in(argv[3]));
+    write_file(argv[1]);
     krbf_kt_close(&keytab);
     return 0;
 }

@@ -1,21 +1,18 @@
 /*
  * The least that a program can do to list a keytab of version 2: it reads the file whole, steps by the lengths, and
  * copies names as they are. It checks nothing, so it is safe on good files alone, whose entries end with their 32-bit
- * version. `klist -k FILE` has the same lines after its heading, where no byte of a name is quoted and no version
- * has more than four digits.
+ * version. `klist -k FILE` has the same lines if no byte is quoted and no version has more than four digits.
  */
+#include "bench.h"
+
 #include <fcntl.h>
-#include <stdint.h>
-#include <stdlib.h>
 #include <string.h>
-#include <sys/stat.h>
 #include <unistd.h>
 
-enum { READ = 131072, WRITE = 32768, LONGEST = 1048576 };
+enum { LIMIT = 16777216, WRITE = 32768, LONGEST = 1048576 };
 
-static unsigned get16(const uint8_t *at) { return at[0] << 8 | at[1]; }
-
-static int32_t get32(const uint8_t *at) { return (int32_t)((uint32_t)get16(at) << 16 | get16(at + 2)); }
+static uint8_t image[LIMIT];
+static char lines[WRITE + LONGEST];
 
 static char *put(char *out, const uint8_t *bytes, unsigned count) {
     memcpy(out, bytes, count);
@@ -47,25 +44,21 @@ static char *put_line(char *out, const uint8_t *at) {
 }
 
 int main(int words, char **word) {
-    struct stat found;
     int file = words == 2 ? open(word[1], O_RDONLY) : -1;
-    if (file < 0 || fstat(file, &found))
-        return 1;
-    uint8_t *image = malloc((size_t)found.st_size + READ);
-    char *lines = malloc(WRITE + LONGEST), *out = lines;
     ssize_t len = 0, got;
-    while ((got = read(file, image + len, READ)) > 0)
+    char *out = lines;
+    while ((got = read(file, image + len, (size_t)(LIMIT - len))) > 0)
         len += got;
     for (ssize_t at = 2; at + 4 <= len;) {
         int32_t size = get32(image + at);
         if (size > 0)
             out = put_line(out, image + at + 4);
-        at += 4 + (size > 0 ? size : -size);
-        if (out - lines >= WRITE) {
-            if (write(1, lines, (size_t)(out - lines)) < 0)
-                return 3;
-            out = lines;
-        }
+        at += 4 + labs(size);
+        if (out - lines < WRITE && at + 4 <= len)
+            continue;
+        if (write(1, lines, (size_t)(out - lines)) < 0)
+            return 3;
+        out = lines;
     }
-    return write(1, lines, (size_t)(out - lines)) < 0 ? 3 : 0;
+    return got < 0;
 }

@@ -1,118 +1,65 @@
-"""Our listings beside those of MIT's and of a minimal program, and our other commands beside our own listing."""
+"""Listings by krbfile, beside those by MIT's klist and by programs in C."""
 
-import statistics
+import re
+import subprocess
 import sys
-from typing import NamedTuple, Optional
+from collections.abc import Callable, Iterator
 
 import images
-import processes
-from tables import Table, ratio
+from measure import Bench, Side, mit
 
-LONGEST = 120  # seconds that a run may take; callgrind has ten times as much
-
-
-class Group(NamedTuple):
-    """A file, and the words before its name: ours, and the other side's if they differ."""
-
-    name: str
-    make: object
-    size: int
-    quick: int
-    words: list
-    others: Optional[list] = None
-    after: object = lambda size: []  # our words after the file's name
-
-
-SERVICES = images.services, 200_000, 10_000
-TICKETS = images.tickets, 50_000, 1_000
-KTLIST, CCLIST = ["klist", "-k"], ["klist", "-c"]
-TABLES = {  # the other side of each table, and its groups
-    "listings": ("MIT", [
-        Group("services", *SERVICES, KTLIST),
-        Group("all columns", *SERVICES, [*KTLIST, "-t", "-K", "-e"]),
-        Group("holes", images.holes, 3_000_000, 100_000, KTLIST),
-        Group("quoted names", images.quoted, 550, 33, KTLIST),
-        Group("tickets", *TICKETS, CCLIST),
-    ]),
-    "commands": ("klist", [
-        Group("ktfind", *SERVICES, ["ktfind"], KTLIST, images.last_service),
-        Group("ktcheck", *SERVICES, ["ktcheck"], KTLIST),
-        Group("ktremove", images.of_two_versions, 180_000, 10_000, ["ktremove", "-n", "-k", "old"], KTLIST),
-        Group("services as JSON", *SERVICES, [*KTLIST, "--json"], [*KTLIST, "-t", "-e"]),
-        Group("ccremove", *TICKETS, ["ccremove", "-n", "--expired"], CCLIST),
-        Group("tickets as JSON", *TICKETS, [*CCLIST, "--json"], [*CCLIST, "-e", "-f"]),
-    ]),
-    "least": ("least", [Group("services", *SERVICES, KTLIST, ["least"])]),
+SIZES = {  # how many entries each file has, and how many in a quick run
+    images.services: (200_000, 10_000), images.holes: (3_000_000, 100_000), images.quoted: (550, 33),
+    images.tickets: (50_000, 1_000),
 }
 
 
-class Bench:
-    """A file, and the runs over it, with their output in a file."""
-
-    def __init__(self, setting):
-        self.setting = setting
-        self.file, self.out, self.note = (setting.folder / name for name in ("k", "out", "note"))
-        self.file.touch(0o600)  # ktcheck tells of one that others may read
-
-    def front(self, other):
-        """Returns the first words of a table's other side."""
-        if other == "MIT":
-            return [processes.mit("klist")[0]]
-        return [self.setting.krbfile, "klist"] if other == "klist" else [processes.built(self.setting.folder, "least")]
-
-    def call(self, how, words, longest=LONGEST, **more):
-        """Makes a run by `how`, and returns its result."""
-        with open(self.out, "wb") as out:
-            return how(words, self.setting.env, longest, stdout=out, **more)
-
-    def cpu(self, words):
-        """Returns the processor time of a run, in milliseconds."""
-        status, used = self.call(processes.run, words)
-        if status != 0:
-            sys.exit(f"bench: {' '.join(words)}: status {status}")
-        return used.cpu * 1000
-
-    def ms(self, sides, runs):
-        """Returns the median processor time of each side; the runs alternate, after one that is not counted."""
-        times = [[self.cpu(words) for words in sides] for _ in range(runs + 1)]
-        return [statistics.median(each) for each in zip(*times[1:])]
-
-    def instructions(self, words):
-        return self.call(processes.instructions, words, 10 * LONGEST, note=self.note)
-
-    def peak(self, words):
-        return self.call(processes.peak, words, note=self.note)[2]
+def named(bench: Bench, make: Callable[[int], bytes]) -> str:
+    """Writes a file, and returns its name in a table."""
+    count = SIZES[make][bench.quick]
+    (bench.folder / "k").write_bytes(make(count))
+    return f"{make.__name__}, {count:,}"
 
 
-def table(name, setting):
-    """Returns a table of that name."""
-    other, groups = TABLES[name]
-    bench, rows = Bench(setting), []
-    front = bench.front(other)
-    for group in groups:
-        size = group.quick if setting.quick else group.size
-        print(f"{group.name}, {size:,}", file=sys.stderr)
-        length = bench.file.write_bytes(group.make(size))
-        assert length <= images.LIMIT, (group.name, size, length)
-        ours = [setting.krbfile, *group.words, str(bench.file), *group.after(size)]
-        theirs = [*front, *(group.others or group.words)[1:], str(bench.file)]
-        times = bench.ms((ours, theirs), 3 if setting.quick else 9)
-        count = bench.instructions(ours)
-        rows.append((None, [f"{group.name}, {size:,}", *(f"{ms:.1f}" for ms in times), ratio(*times),
-                            ratio(count, bench.instructions(theirs)), ratio(count, length, "{:.1f}"),
-                            ratio(bench.peak(ours), length, "{:.2f}")]))
-    return Table(["file", "cpu ms", f"{other} cpu ms", f"cpu / {other}'s", f"instr / {other}'s", "instr / byte",
-                  "peak / bytes"], rows)
+def times(bench: Bench, runs: int, *fronts: list[str]) -> list[float]:
+    """Returns the median times of listings of that file."""
+    return bench.medians([Side([*front, "k"]) for front in fronts], 3 if bench.quick else runs)
 
 
-def points(setting):
-    """Returns the processor times of one listing by its entries, from which plot draws."""
-    bench, rows = Bench(setting), []
-    fronts = [*bench.front("MIT"), "-k"], [*bench.front("klist"), "-k"], bench.front("least")
+def beside_mit(bench: Bench) -> Iterator[list[str]]:
+    """Yields our listings and MIT's."""
+    for make, *options in ((images.services, "-k"), (images.services, "-k", "-t", "-K", "-e"), (images.holes, "-k"),
+                           (images.quoted, "-k"), (images.tickets, "-c")):
+        name = f"`{' '.join(options)}`, {named(bench, make)}"
+        ours, theirs = times(bench, 9, [bench.krbfile, "klist", *options], [mit("klist"), *options])
+        yield [name, f"{ours:.1f}", f"{theirs:.1f}", f"{ours / theirs:.3f}"]
+
+
+def must_agree(bench: Bench, *fronts: list[str]) -> None:
+    """Ends the benchmark if the listings or statuses of the file differ, but for the line of a fault."""
+    runs = [subprocess.run([*front, "k"], cwd=bench.folder, capture_output=True, check=False) for front in fronts]
+    if len({(run.returncode, re.sub(rb"fault \d at \d+\n\Z", b"", run.stdout)) for run in runs}) > 1:
+        sys.exit(f"bench: whole.c and klist -k differ over {(bench.folder / 'k').read_bytes()[:1000]}")
+
+
+def beside_c(bench: Bench) -> Iterator[list[str]]:
+    """Yields our listings and those of the programs in C, of which one has to print the same, of damaged files too."""
+    ours, whole, least = [bench.krbfile, "klist", "-k"], [bench.built("whole")], [bench.built("least")]
+    for image in images.damaged():
+        (bench.folder / "k").write_bytes(image)
+        must_agree(bench, ours, whole)
+    for make in (images.services, images.holes, images.quoted):
+        name = named(bench, make)
+        must_agree(bench, ours, whole)
+        found = times(bench, 51, ours, whole, least)
+        counts = [bench.instructions([*words, "k"]) for words in (ours, whole)]
+        yield [name, *(f"{ms:.1f}" for ms in found), f"{found[0] / found[1]:.2f}", f"{counts[0] / counts[1]:.2f}"]
+
+
+def points(bench: Bench) -> Iterator[list[str]]:
+    """Yields the times of one listing by its entries, from which plot draws."""
+    fronts = [mit("klist"), "-k"], [bench.krbfile, "klist", "-k"], [bench.built("whole")], [bench.built("least")]
     for entries in (step * 10**power for power in range(1, 6) for step in (1, 2, 5)):
-        if entries <= (1_000 if setting.quick else 200_000):
-            print(f"{entries:,} entries", file=sys.stderr)
-            bench.file.write_bytes(images.services(entries))
-            times = bench.ms([[*front, str(bench.file)] for front in fronts], 51 if entries <= 2_000 else 11)
-            rows.append((None, [f"{entries:,}", *(f"{ms:.3f}" for ms in times)]))
-    return Table(["entries", "MIT klist -k", "krbfile klist -k", "least program"], rows)
+        if entries <= SIZES[images.services][bench.quick]:
+            (bench.folder / "k").write_bytes(images.services(entries))
+            yield [f"{entries:,}", *(f"{ms:.3f}" for ms in times(bench, 51, *fronts))]

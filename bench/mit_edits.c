@@ -1,10 +1,11 @@
 /*
- * Adds entries to a keytab file by MIT's libkrb5 and removes its last ones: mit_edits FILE ADDITIONS REMOVALS. It does
- * what edits.c does, and libkrb5 writes the file each time.
+ * Adds entries to a keytab file by MIT's libkrb5, or removes its last ones: mit_edits FILE ADDITIONS REMOVALS. It does
+ * what edits.c does, and libkrb5 writes and syncs the file each time.
  */
 #include "bench.h"
 
 #include <krb5.h>
+#include <string.h>
 
 static krb5_context context;
 static krb5_keytab keytab;
@@ -22,28 +23,24 @@ static void add(unsigned number) {
     krb5_free_principal(context, entry.principal);
 }
 
-static size_t all_entries(void) {
+static void remove_last(unsigned removals) {
     krb5_kt_cursor cursor;
-    krb5_error_code code;
     size_t count = 0;
     must(!krb5_kt_start_seq_get(context, keytab, &cursor), "start_seq_get");
-    for (;; count++) {
-        must(count < MOST, "too many entries");
-        if ((code = krb5_kt_next_entry(context, keytab, &entries[count], &cursor)))
-            break;
-    }
-    must(code == KRB5_KT_END && !krb5_kt_end_seq_get(context, keytab, &cursor), "next_entry");
-    return count;
-}
-
-static void remove_nth(size_t at) {
-    must(!krb5_kt_remove_entry(context, keytab, &entries[at]), "remove_entry");
+    while (!krb5_kt_next_entry(context, keytab, &entries[count], &cursor))
+        must(++count < MOST, "too many entries");
+    must(!krb5_kt_end_seq_get(context, keytab, &cursor), "end_seq_get");
+    for (; removals > 0; removals--)
+        must(!krb5_kt_remove_entry(context, keytab, &entries[--count]), "remove_entry");
 }
 
 int main(int argc, char **argv) {
     must(argc == 4, "usage: mit_edits FILE ADDITIONS REMOVALS");
     must(!krb5_init_context(&context) && !krb5_kt_resolve(context, argv[1], &keytab), "resolve");
-    change(argv[2], argv[3], add, all_entries, remove_nth);
+    for (unsigned number = 0; number < number_in(argv[2]); number++)
+        add(number);
+    if (number_in(argv[3]) > 0)
+        remove_last(number_in(argv[3]));
     krb5_kt_close(context, keytab);
     krb5_free_context(context);
     return 0;

@@ -99,6 +99,7 @@ def refusals(rows: dict[int, tuple[Case, str]], are_sources: bool) -> dict[int, 
 def compare(report: Report, seen: list[Case], are_sources: bool, jobs: int) -> None:
     """Compares runs with the definitions, some at a time."""
     rows = rows_of(seen)
+    print(f"{len(rows)} runs are compared with the definitions", flush=True)
     parts = [dict(part) for each in range(jobs) if (part := list(rows.items())[each::jobs])]
     with ThreadPoolExecutor(jobs) as pool:
         for part, found in zip(parts, pool.map(lambda part: refusals(part, are_sources), parts), strict=True):

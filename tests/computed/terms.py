@@ -29,9 +29,6 @@ READING = ("ktedit", "ccedit", "ktutil")
 # The options by which a command asks for the time, and the lines of ktutil that do.
 TIMED, ADDING = {"silent", "age", "expired"}, (b"add_entry", b"addent")
 
-# The mode of the files that runs are over.
-MODE = 0o100644
-
 
 class NotComputed(Exception):
     """A run is none that the definitions compute."""
@@ -92,7 +89,7 @@ def term_of(case: Case) -> str:
         raise NotComputed
     command = "klist_silent" if "silent" in words.flags else words.command
     files = pairs([(name, bytes_of_digits(image)) for name, image in case.files.items()])
-    parts = {"explains": str(words.explains).lower(), "mode": str(MODE), "clock": str(case.clock or 0)}
+    parts = {"explains": str(words.explains).lower(), "mode": str(case.mode), "clock": str(case.clock or 0)}
     given = [command, *(parts[it] for it in GIVEN[command]), f"(given ({files}))"]
     given += [f"({bytes_of_digits(case.stdin)})"] * (command in READING)
     return " ".join([*given, words.term()])

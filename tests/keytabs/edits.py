@@ -32,6 +32,9 @@ LINE_FAULTS = by_line({
 # A bad entry between two good ones.
 DAMAGED = keytab(HOST, record(bytes(10)), B)
 
+# An entry of the most components, all empty.
+MOST = keytab(Entry((b"",) * 65_535))
+
 
 def refused(*replies: str) -> Outcome:
     """Returns replies, one of which reports a refusal or a fault."""
@@ -84,6 +87,8 @@ CASES = [
     # A rewrite leaves no padding, and carries the walks along.
     edit("holes and padding go", keytab(9, record(Entry(version32=None).spelled() + b"\0\0\0")), ["rewrite"],
          ["rewritten 53"], keytab(HOST)),
+    # Looking up each component from the first would pass 2,147,385,345 of them.
+    edit("the most components", MOST, ["rewrite"], [f"rewritten {len(MOST)}"]),
     edit("version 1 becomes 2", old(HOST), ["start", "step 0", "rewrite", "step 0"],
          ["walk 0 at 2", GAVE_HOST.replace("next 53", "next 49"), "rewritten 53", "walk 0 end 53"],
          keytab(Entry(name_type=0))),

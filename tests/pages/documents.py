@@ -10,7 +10,7 @@ from runs.harness import TOP, Report
 MAP = os.path.join("docs", "DESIGN.md")
 
 # The proved code of the pages that lead to no source.
-PROVED = "crates/store_tests/src/tests/readme.rt"
+PROVED = "crates/library_tests/src/tests/readme.rt"
 
 
 def read(path: str) -> str:

@@ -2,12 +2,13 @@
 from __future__ import annotations
 
 import os
+import stat
 import subprocess
 import tempfile
 import time
 from collections.abc import Callable
 from contextlib import contextmanager
-from dataclasses import dataclass, field
+from dataclasses import dataclass, field, replace
 
 # The repository.
 TOP = os.path.dirname(os.path.dirname(os.path.dirname(os.path.abspath(__file__))))
@@ -46,6 +47,8 @@ class Case:
     stdin: bytes = b""
     # The time of the clock, if it is not that of the system.
     clock: int | None = None
+    # The mode of the files, once they were made.
+    mode: int = 0
 
     def size(self) -> int:
         """Returns the number of bytes that it gives the program."""
@@ -55,12 +58,18 @@ class Case:
         """Runs it and reports it."""
         if report.leaves_out(self.size()):
             return
-        report.seen.append(self)
+        report.seen.append(replace(self, mode=mode_of_files()))
         try:
             found = faults_of(self, *run_case(program, self))
         except subprocess.TimeoutExpired:
             found = [f"no end in {SECONDS} seconds"]
         report.check(self.name, found)
+
+
+def mode_of_files() -> int:
+    """Returns the mode of a file that a test makes."""
+    os.umask(mask := os.umask(0))
+    return stat.S_IFREG | 0o666 & ~mask
 
 
 class Report:

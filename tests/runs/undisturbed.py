@@ -6,7 +6,7 @@ import tempfile
 from dataclasses import dataclass, field, replace
 from functools import cache, cached_property
 
-from runs.harness import Case, Outcome, run_case
+from runs.harness import Case, Outcome, mode_of_files, run_case
 from runs.preload import built_library
 from runs.rows import Line, shown, words_of
 from runs.terminal import EXPLAIN
@@ -50,7 +50,8 @@ class Undisturbed:
         library, _ = (None, None) if self.clock is None else clock_library()
         options = {"env": {"LD_PRELOAD": library, "CLOCK": str(self.clock)}} if library else {}
         outcome, after = run_case(PROGRAM[0], case, **options)
-        SEEN.append(replace(case, wanted=outcome, files_after=after, clock=self.clock))
+        clock = self.clock if library else None
+        SEEN.append(replace(case, wanted=outcome, files_after=after, clock=clock, mode=mode_of_files()))
         return outcome, after
 
     @property

@@ -120,22 +120,22 @@ def check_closed_input(report: Report, program: str) -> None:
         report.compare(f"a closed input: {case.name}", NO_INPUT, got)
 
 
-def pieces_of(program: str, case: Undisturbed) -> tuple[Outcome, list[int]]:
-    """Makes a run whose output is a socket, and returns the length of each write."""
+def pieces_of(program: str, case: Undisturbed, stream: str = "stdout") -> tuple[Outcome, list[int]]:
+    """Makes a run of which one output is a socket, and returns the length of each write to it."""
     ours, theirs = socket.socketpair(socket.AF_UNIX, socket.SOCK_SEQPACKET)
     with folder_of(case.files) as folder, ours, subprocess.Popen(
-        [program, *case.words], cwd=folder, stdin=subprocess.DEVNULL, stdout=theirs,
-        stderr=subprocess.PIPE,
+        [program, *case.words], cwd=folder, stdin=subprocess.DEVNULL,
+        **{"stdout": subprocess.PIPE, "stderr": subprocess.PIPE, stream: theirs},
     ) as started:
         theirs.close()
         parts = [*iter(lambda: ours.recv(MESSAGE), b"")]
-        err = started.stderr.read()
-        got = Outcome(started.wait(SECONDS), b"".join(parts), err)
+        out, err = (other.read() if other else b"".join(parts) for other in (started.stdout, started.stderr))
+        got = Outcome(started.wait(SECONDS), out, err)
     return got, [*map(len, parts)]
 
 
 def check_pieces(report: Report, program: str) -> None:
-    """Lists a keytab and a cache of more than three pieces."""
+    """Lists a keytab and a cache of more than three pieces. A message is one, so that those of runs do not mix."""
     image, cache = mixed_keytab(3_000), mixed_cache(400)
     for one in (undisturbed("klist -k k", k=image), undisturbed("klist -kK --json k", k=image),
                 undisturbed("klist -cefC c", c=cache), undisturbed("klist --json c", c=cache)):
@@ -144,6 +144,10 @@ def check_pieces(report: Report, program: str) -> None:
         faults += [f"a write of {max(lengths)} bytes"] if max(lengths, default=0) > LONGEST else []
         faults += [f"{len(lengths)} writes"] if len(lengths) < 3 else []
         report.check(f"in pieces: {one.name}", faults)
+    missing = undisturbed("klist -k none")
+    got, lengths = pieces_of(program, missing, "stderr")
+    faults = [f"{len(lengths)} writes"] if len(lengths) != 1 else []
+    report.check(f"in one piece: {missing.name}", differences(missing.wanted, got) + faults)
 
 
 def check_left(report: Report, program: str) -> None:

@@ -1,5 +1,5 @@
 -- What a run of a command comes to if no call fails: what it prints, how it ends, and its files afterwards.
-use Rattle.std.specs.Prelude.{◌≡◌, ℕ, ◌+◌, ◌<◌, ◌≤◌, ◌^◌, max, List, [], ◌∷◌, ◌++◌, codes, length, map, fold, Bool, true, false, nat_lt, ◌==◌, Option, None, Some, is_some, option_and_then, unwrap_or, Result, Ok, Err, if◌then◌else◌, Vec, slice_get}
+use Rattle.std.specs.Prelude.{◌≡◌, ℕ, ◌+◌, ◌<◌, ◌≤◌, ◌^◌, max, List, [], ◌∷◌, ◌++◌, codes, length, map, fold, Bool, true, false, nat_lt, Option, None, Some, option_and_then, unwrap_or, Result, Ok, Err, if◌then◌else◌, Vec, slice_get}
 use Rattle.std.specs.List.{filter_map, flat_map, list_any}
 use Rattle.std.specs.Str.{bytes_eq}
 use Rattle.std.proofs.Common.{arith, refl}
@@ -8,11 +8,9 @@ use lib.Dec.{lit<, lit≤}
 use Rattle.krb_wire.specs.NameOf.{name_of}
 use Rattle.krb_wire.specs.Spelling.{Parts}
 use Rattle.krb_wire.specs.declared.principal.Principal.{Principal}
-use Rattle.krb_files.specs.declared.files.LoadFault.{LoadFault}
 use Rattle.krb_files.specs.Files.{FileMap, loaded}
 use Rattle.krb_files.specs.Loading.{most_bytes}
 use Rattle.krb_files.specs.Plan.{Ends, follow, with_bytes}
-use Rattle.krb_text.specs.declared.line_fault.LineFault.{LineFault}
 use Rattle.krb_text.specs.Etype.{etype_in}
 use Rattle.krb_text.specs.Numbers.{number_in, seconds_in}
 use Rattle.krb_text.specs.Script.{event_in}
@@ -48,7 +46,7 @@ use Rattle.krb_editors.specs.Scripted.{lines_in}
 use Rattle.krb_editors.specs.Selecting.{kvno_in}
 use Rattle.krb_ktutil.specs.declared.ktutil.awaiting.Awaiting.TheVariants.{Nothing}
 use Rattle.krb_ktutil.specs.InputLines.{lines_of}
-use Rattle.krb_ktutil.specs.KtutilDue.{DueReport, TalkDue, quiet_run, talk_due}
+use Rattle.krb_ktutil.specs.KtutilDue.{TalkDue, quiet_run, talk_due}
 
 -- ---- values of the code's types
 

@@ -1,15 +1,16 @@
-//! What README shows, line by line: `tests/pages/readme.py` compares the two.
+//! What README and the page of `krb_walk` show, line by line: `tests/pages/documents.py` compares them.
 
-use super::made::{b, joined, keytab_of};
-use super::records::{B, HEAD, HOST};
-use super::{are, is};
+use super::made::{B, HEAD, HOST, b, keytab_of};
+use super::{are, is, joined};
 use krb_keytab::{Keytab, NewEntry};
 use krb_walk::{Event, Session};
 use krb_wire::{Limits, Order, parse_name};
 use std::alloc::Global;
 use std::test::Fail;
 
-// Returns the place and the version of the entry that is looked up.
+const TWO: &[&[u8]] = &[HEAD, HOST, B];
+
+/// Returns the place and the version of the entry that is looked up.
 fn look_up(alloc: Global, image: Vec<u8>) -> Result<(u32, u32), Fail> {
     let opened = Keytab::open(image, Order::Little, Limits::usual());
     let keytab = opened.map_err(|refused| refused.why)?;
@@ -19,7 +20,7 @@ fn look_up(alloc: Global, image: Vec<u8>) -> Result<(u32, u32), Fail> {
     Ok((place, entry.kvno()))
 }
 
-// Returns the image after an entry was removed and another was added before the cursor of a walk.
+/// Returns the image after an entry was removed and another was added before the cursor of a walk.
 fn edit(alloc: Global, keytab: Keytab<Global>, entry: NewEntry<Global>) -> Result<Vec<u8>, Fail> {
     let mut session = Session::new(alloc, keytab);
     let mut replies = Vec::new(alloc);
@@ -43,8 +44,7 @@ fn edit(alloc: Global, keytab: Keytab<Global>, entry: NewEntry<Global>) -> Resul
 #[test]
 fn does_what_it_says(rt: HostRuntime) -> Result<(), Fail> {
     let alloc = rt.alloc();
-    let two: &[&[u8]] = &[HEAD, HOST, B];
-    is(look_up(alloc, joined(alloc, two)?)? == (2, 3), "a look-up")?;
-    let image = edit(alloc, keytab_of(alloc, two)?, b(alloc)?)?;
+    is(look_up(alloc, joined(alloc, TWO)?)? == (2, 3), "a look-up")?;
+    let image = edit(alloc, keytab_of(alloc, TWO)?, b(alloc)?)?;
     is(are(&image, &[HEAD, B, B]), "an image")
 }

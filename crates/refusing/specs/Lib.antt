@@ -1,3 +1,0 @@
--- The definitions that the contracts of this crate use.
-pub mod Plan
-pub mod Refusing
