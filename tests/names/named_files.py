@@ -136,8 +136,8 @@ class Command:
 
 
 # Runs over the file that they read, that they change, and that they make another of. Lines of ktutil name it otherwise.
-COMMANDS = (*(Command(each, file_of(each)) for each in (*READS, *CHANGES)
-              if each in CHANGES and each.words[0] != "ktutil" or each.words[0] not in SAVING),
+COMMANDS = (*(Command(each, file_of(each)) for each in READS if each.words[0] not in SAVING),
+            *(Command(each, file_of(each)) for each in CHANGES if each.words[0] != "ktutil"),
             *(Command(each, name) for each in MAKES for name in each.files))
 DEFAULTS = tuple(each for each in COMMANDS if each.run.words[0] in ("klist", "ktcheck"))
 KLIST, KLIST_CACHE = (next(each for each in COMMANDS if each.kind is kind) for kind in Kind)

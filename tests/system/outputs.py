@@ -39,7 +39,6 @@ LONG = undisturbed("klist -k k", k=keytab(*[Entry((b"x" * 992,))] * 300))
 FILES = {"k": TWO, "j": keytab(HOST), "n": keytab(B)}
 TALKS = (
     undisturbed("ktutil", b"rkt j\nl\nwkt k\n", name="saves", **FILES),
-    undisturbed("ktutil", b"rkt j\ndelent 1\n", name="prints nothing", **FILES),
     undisturbed("ktutil", b"frob\nrkt k\nrkt j\nwkt n\n", name="is at fault", **FILES),
 )
 
