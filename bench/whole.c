@@ -12,7 +12,6 @@
 enum { LIMIT = 16777216, WRITE = 32768, ROOM = WRITE + 2 * 65535 + 64 };
 
 typedef struct { const uint8_t *at; size_t len; } bytes;
-
 typedef struct { bytes realm, parts; uint32_t version; } entry;
 
 static uint8_t image[LIMIT + 1], lines[ROOM], *out = lines;

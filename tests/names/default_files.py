@@ -5,15 +5,19 @@ import os
 import shutil
 from collections.abc import Callable, Iterator
 from contextlib import contextmanager, nullcontext
+from itertools import product
 
 from keytabs.file_names import NOBODY
 from makers.images import TWO
-from names.named_files import COMMANDS, IMAGES, KLIST, KLIST_CACHE, NEITHER, FileName, Kind
+from names.named_files import DEFAULTS, IMAGES, KLIST, KLIST_CACHE, NEITHER, FileName, Kind
 from runs.harness import Report, folder_of, run
+from runs.rows import Line, words_of
 from runs.namespaces import STATUS, can_mount, run_within
 from runs.terminal import EXPLAIN
 from system.saving import write
-from words.explained import Explained, unchanged
+from words.explaining import Explained, unchanged
+from words.command_lines import lines_of
+from words.mistakes import MISTAKES
 from words.phrases import DEFAULT
 
 CCNAME, KTNAME = Kind.CACHE.variable, Kind.KEYTAB.variable
@@ -34,34 +38,24 @@ UNKNOWN = (b"", b"Name:\tkrbfile\nGid:\t9\t9\t9\t9\n", b"Uid:\n", b"Uid:\tx\t0\t
 UNNAMED = {Kind.KEYTAB: ({}, {KTNAME: ""}, {CCNAME: "c"}), Kind.CACHE: ({}, {CCNAME: ""}, {KTNAME: "c"})}
 
 
-def bad(words: str, env: dict[str, str | bytes], phrase: str) -> Explained:
+def bad(words: str | Line, env: dict[str, str | bytes], phrase: str) -> Explained:
     """Returns a bad line, and what is wrong with it."""
-    told = ("bad command line", f"{phrase}; see krbfile {words.split()[0]} --help")
+    told = ("bad command line", f"{phrase}; see krbfile {words_of(words)[0]} --help")
     return unchanged(words, told, files={"k": TWO, "c": CACHE}, status=2, options={"env": env})
 
 
-def read(variable: str, *lines: str) -> Iterator[Explained]:
-    """Yields lines whose file a variable names: one that is missing, and a value that is not UTF-8."""
-    for words in lines:
-        missing = [] if "-s" in words else [("no: no such file", f"{variable} names it")]
-        yield unchanged(words, *missing, options={"env": {variable: "FILE:no"}})
-        for value in (b"\xff", b"FILE:c\xc3", b"\xed\xa0\x80"):
-            yield bad(words, {variable: value}, f"{variable} is not UTF-8")
-
-
 CASES = [
-    # With every option the variable of the line's kind is read.
-    *read(CCNAME, "klist -cefC --", "klist --json", "klist -s", "klist -s --for 3", "klist -s -c --"),
-    *read(KTNAME, "klist -kteK --", "klist -k --json", "ktcheck -q --allow weak", "ktcheck --"),
+    # The value of the variable that is read is not UTF-8.
+    *(bad(each.words(None), {each.kind.variable: value}, f"{each.kind.variable} is not UTF-8")
+      for each in DEFAULTS for value in (b"\xff", b"FILE:c\xc3", b"\xed\xa0\x80")),
     # What is wrong with a line comes first.
     *(bad(words, {CCNAME: b"\xff", KTNAME: b"\xff"}, phrase) for words, phrase in (
         ("klist -x", "unknown option -x"), ("klist -k -f", "-f does not go with -k"), ("klist c c", "left over: c"),
         ("klist -t", "-t is for keytabs; give -k"), ("klist --for 3", "--for goes with -s alone"),
         ("ktcheck --allow", "--allow needs a value"), ("klist --explain", "--explain stands before the command"))),
     # Other commands want the file.
-    *(bad(words, {CCNAME: "c", KTNAME: "k"}, f"no {what}") for words, what in (
-        ("ktfind", "FILE"), ("ktedit", "FILE"), ("ktremove -k old", "FILE"), ("ktcopy", "FROM"), ("ktcopy k", "TO"),
-        ("ccedit", "FILE"), ("ccremove --expired", "FILE"), ("hold -k", "FILE"))),
+    *(bad(words, {CCNAME: "c", KTNAME: "k"}, phrase) for phrase in ("no FILE", "no FROM", "no TO")
+      for words in lines_of(MISTAKES[phrase])),
 ]
 
 
@@ -114,8 +108,8 @@ def check_defaults(report: Report, program: str) -> None:
             if not is_free:
                 report.skip("a default cache", f"there is one of user {user}")
                 continue
-            for command in (each for each in COMMANDS if each.has_default and each.kind is kind):
-                for env in UNNAMED[kind]:
+            for command, env in product(DEFAULTS, UNNAMED[kind]):
+                if command.kind is kind:
                     compare(command.row(name, image, None, {}, env))
 
 

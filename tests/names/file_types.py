@@ -10,10 +10,10 @@ from itertools import product
 
 from keytabs.ktutil_lines import TWO_LISTED, lines
 from makers.images import TWO, keytab
-from names.named_files import (ALL, COMMANDS, FOLDER, IMAGES, KLIST, KLIST_CACHE, LARGE_FILE, NEITHER, Kind, named)
+from names.named_files import (ALL, COMMANDS, DEFAULTS, FOLDER, KLIST, KLIST_CACHE, LARGE_FILE, NEITHER, Kind, named)
 from runs.harness import Report
 from runs.rows import check_rows
-from words.explained import Explained, unchanged
+from words.explaining import FINDS_NONE, Explained, copy, no_keytab, unchanged
 from words.phrases import BEGINS_AS_NO_KEYTAB, LEAVE_OUT, NAMED, NOT_READ, code, unknown
 
 # Words that every command is tried with, and its variable; the listings are tried with all.
@@ -34,11 +34,9 @@ def decoys(word: str, name: str) -> dict[str, bytes]:
 
 def rows() -> Iterator[Explained]:
     """Yields each command over words, where the file is there and where it is not, and over what is no such file."""
-    for command, variable in product(COMMANDS, (False, True)):
-        if variable and not command.has_default:
-            continue
+    for command, variable in (*product(COMMANDS, [False]), *product(DEFAULTS, [True])):
         words = ALL if command in (KLIST, KLIST_CACHE) and not variable else SOME[:-1] if variable else SOME
-        places = [(word, place) for word in words for place in (IMAGES[command.kind], None)]
+        places = [(word, place) for word in words for place in (command.run.files[command.file], None)]
         for word, place in (*places, (".", FOLDER), ("k", NEITHER), ("k", LARGE_FILE)):
             name = named(command.kind, word)
             if variable:
@@ -62,21 +60,19 @@ def unwritten(word: str, phrase: str) -> Explained:
                      stdin=f"rkt j\nwkt {word}\n".encode(), status=3)
 
 
-# What comes before the name: the script, and of ktcopy the keytab that is copied from, with what is selected in it.
+# What comes before the name: the script, and the keytab that is copied from, with what is selected in it.
 OTHER = {name: (f"{name}: no such file", not_read(name)) for name in ("KCM:k", "KCM:c", "KCM:t")}
 ORDER = [
     unchanged("ktedit KCM:k", ("line 2: fault 1", unknown("frob")), stdin=b"start\nfrob\n"),
     unchanged("ccedit KCM:c", ("line 1: fault 1", unknown("frob")), stdin=b"frob\n"),
     unchanged("ktedit KCM:k", OTHER["KCM:k"], stdin=b"start\n"),
     unchanged("ccedit KCM:c", OTHER["KCM:c"], stdin=b"start\n"),
-    unchanged("ktcopy no KCM:t", ("no: no such file", "")),
-    unchanged("ktcopy KCM:k MEMORY:t", OTHER["KCM:k"]),
-    unchanged("ktcopy k KCM:t", ("k: not a keytab (2)", BEGINS_AS_NO_KEYTAB[1]), files={"k": NEITHER}),
-    unchanged("ktcopy k KCM:t", ("k: refused 1", code(1)), files={"k": TWO[:-1]}),
-    unchanged("ktcopy -p c@R k KCM:t", ("k: refused 9", code(9, "ktcopy")), files={"k": TWO}),
-    *(unchanged(f"ktcopy {options} k KCM:t", OTHER["KCM:t"], files={"k": TWO}) for options in ("", "-n", "--replace")),
-    # Nothing would be saved, and TO is asked for all the same.
-    unchanged("ktcopy k KCM:t", OTHER["KCM:t"], files={"k": keytab()}),
+    *(copy(options, source, None, told, to="KCM:t") for options, source, told in (
+        ("", None, ("k: no such file", "")), ("", NEITHER, no_keytab(BEGINS_AS_NO_KEYTAB)),
+        ("", TWO[:-1], ("k: refused 1", code(1))), ("-p c@R", TWO, FINDS_NONE),
+        *((each, TWO, OTHER["KCM:t"]) for each in ("", "-n", "--replace")),
+        # Nothing would be saved, and it is asked for all the same.
+        ("", keytab(), OTHER["KCM:t"]))),
     unchanged("ktremove -n -k old KCM:k", OTHER["KCM:k"]), unchanged("ccremove -n -p b@R KCM:c", OTHER["KCM:c"]),
 ]
 

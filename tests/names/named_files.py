@@ -3,20 +3,17 @@ name, or it says why there is no such file."""
 
 import json
 import os
-import re
-from dataclasses import dataclass, replace
+from dataclasses import dataclass
 from enum import Enum
 from functools import cache
 
-from keytabs.edits import ADD_C, C
 from keytabs.file_names import LIMIT
-from makers.cache_images import cache as tickets
-from makers.images import TWO, keytab
-from makers.usual_caches import TICKET
+from makers.images import TWO
+from runs.commands import CHANGES, MAKES, READS, SAVING, VALID, file_of
 from runs.harness import files_in, folder_of, run
-from runs.rows import Line, shown, text
-from runs.undisturbed import PROGRAM, frame
-from words.explained import Explained, Output, for_owner
+from runs.rows import Line, shown
+from runs.undisturbed import PROGRAM, Undisturbed
+from words.explaining import Explained, Output, for_owner
 from words.phrases import BEGINS_AS_NO_CACHE, BEGINS_AS_NO_KEYTAB, CAUSES, LARGE, NOT_READ
 
 
@@ -72,41 +69,41 @@ FOLDER, NEITHER, LARGE_FILE = "a folder", b"xy", bytes(LIMIT + 1)
 NEITHERS = {Kind.KEYTAB: BEGINS_AS_NO_KEYTAB, Kind.CACHE: BEGINS_AS_NO_CACHE}
 
 # A file of each kind; its ticket is valid whenever a test runs.
-IMAGES = {Kind.KEYTAB: TWO, Kind.CACHE: tickets(replace(TICKET, endtime=2**32 - 1))}
+IMAGES = {Kind.KEYTAB: TWO, Kind.CACHE: VALID}
 
-# The name whose place others take, and the file that is beside it.
-NAME = "<name>"
-BESIDE = {"from": keytab(C)}
+# The name whose place others take, and that of the file beside it.
+NAME, BESIDE = "<name>", "from"
 
 
-@dataclass(frozen=True)
+@dataclass(frozen=True, eq=False)
 class Command:
-    """A command over a file: its line, in which NAME stands for the name, and its input."""
+    """A run, and the file whose place one of any name takes."""
 
-    line: str
-    given: bytes = b""
+    run: Undisturbed
+    file: str
 
     @property
     def kind(self) -> Kind:
         """The kind of the file."""
-        return Kind.KEYTAB if re.search("^kt| -k ", self.line) else Kind.CACHE
+        return Kind.CACHE if self.file == "c" else Kind.KEYTAB
 
     @property
-    def has_default(self) -> bool:
-        """Whether the file may be left out."""
-        return self.line.startswith(("klist", "ktcheck"))
+    def beside(self) -> dict[str, bytes]:
+        """The file beside it."""
+        return {BESIDE: image for name, image in self.run.files.items() if name != self.file}
 
     def words(self, name: str | None) -> Line:
         """Returns its words for a name, or for none."""
-        words = (name if word == NAME else word for word in self.line.split())
-        return tuple(word for word in words if word is not None)
+        those = {self.file: ("--",) if name is None else ("--", name),
+                 **{each: (BESIDE,) for each in self.run.files if each != self.file}}
+        return tuple(part for word in self.run.words for part in those.get(word, (word,)))
 
     @cache
     def usual(self, is_there: bool) -> tuple[bytes, dict[str, bytes]]:
         """Runs it over NAME, which is there or not, and returns its output and the files afterwards."""
-        with folder_of(BESIDE | ({NAME: IMAGES[self.kind]} if is_there else {})) as folder:
+        with folder_of(self.beside | ({NAME: self.run.files[self.file]} if is_there else {})) as folder:
             for_owner(folder)
-            return run(PROGRAM[0], self.words(NAME), folder, self.given).out, files_in(folder)
+            return run(PROGRAM[0], self.words(NAME), folder, self.run.stdin).out, files_in(folder)
 
     def ended(self, name: FileName, place: bytes | str | None) -> tuple[int, Output]:
         """Returns the status over what is under a name, and the message, if there is one. Some commands make a missing
@@ -120,29 +117,27 @@ class Command:
         elif own == "":
             ends[place] = 3, (": cannot write", CAUSES["ENOENT"])
         status, *told = ends.get(place, (0,))
-        return status, () if " -s " in self.line else tuple(told)
+        return status, () if "-s" in self.run.words else tuple(told)
 
     def row(self, name: FileName, place: bytes | str | None, word: str | None, files: dict[str, bytes],
             env: dict[str, str | bytes]) -> Explained:
         """Returns a run by a word, or by none, over what is under the name that is read, beside other files."""
         path, words = os.path.normpath(name.text), self.words(word)
         status, told = self.ended(name, place)
-        files = {**BESIDE, **files, **({path: place} if isinstance(place, bytes) else {})}
+        files = {**self.beside, **files, **({path: place} if isinstance(place, bytes) else {})}
         out, after = b"", files
         if status == 0:
             usual, left = self.usual(place is not None)
-            spelled = json.dumps(name.text, ensure_ascii=False)[1:-1] if "--json" in self.line else name.text
+            spelled = json.dumps(name.text, ensure_ascii=False)[1:-1] if "--json" in words else name.text
             out = usual.replace(NAME.encode(), spelled.encode())
             after = files | {path if each == NAME else each: data for each, data in left.items()}
         title = f"{shown(words)} with {env}, {'none' if place is None else place[:9]}"
-        return Explained(title, words, told, files, self.given, status, out, after, {"env": env}, for_owner)
+        return Explained(title, words, told, files, self.run.stdin, status, out, after, {"env": env}, for_owner)
 
 
-COMMANDS = (
-    *map(Command, ("klist -k -- <name>", "klist -- <name>", "klist -k --json -- <name>", "klist --json -- <name>",
-                   "klist -s -- <name>", "ktfind -- <name> 0 0 b@R", "ktcheck -- <name>", "ktremove -p b@R -- <name>",
-                   "ktcopy -p b@R -- <name> to", "ktcopy -- from <name>", "ccremove -p krbtgt/R@R -- <name>")),
-    Command("ktedit -- <name>", text([ADD_C])), Command("ccedit -- <name>", b"start\n"),
-    Command("hold -k -- <name>", frame(keytab(C))), Command("hold -- <name>", frame(tickets())),
-)
-KLIST, KLIST_CACHE = COMMANDS[:2]
+# Runs over the file that they read, that they change, and that they make another of. Lines of ktutil name it otherwise.
+COMMANDS = (*(Command(each, file_of(each)) for each in READS if each.words[0] not in SAVING),
+            *(Command(each, file_of(each)) for each in CHANGES if each.words[0] != "ktutil"),
+            *(Command(each, name) for each in MAKES for name in each.files))
+DEFAULTS = tuple(each for each in COMMANDS if each.run.words[0] in ("klist", "ktcheck"))
+KLIST, KLIST_CACHE = (next(each for each in COMMANDS if each.kind is kind) for kind in Kind)

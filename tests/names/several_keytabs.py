@@ -10,7 +10,7 @@ from names.named_files import NEITHER
 from runs.harness import Outcome, Report, folder_of, run
 from runs.rows import Line, shown, text, words_of
 from runs.terminal import EXPLAIN
-from words.explained import Explained, Output
+from words.explaining import Explained, Output
 from words.phrases import BEGINS_AS_NO_KEYTAB, CAUSES, FAULTS, FINDINGS, HINTS, NOT_READ
 
 # Keytabs, for their owner alone, but `all`, which all users may read and has each finding.

@@ -144,8 +144,8 @@ class Storms(Rounds):
     name: str = ""
 
 
-# Storms of one command or two; of ktcopy, also beside ktedit, ktremove and MIT's ktutil; of hold; and those in which
-# some runs save in place and others replace the file, and some of those that replace it are killed.
+# Storms in which no keytab is copied, and those in which some are; of hold; and those in which some runs save in place
+# and others replace the file, and some of those that replace it are killed.
 TOPICS = tuple(Storms(partial(check_kinds, kinds), usual=usual, share=2_000, name=f"{what}_at_once")
                for what, kinds, usual in (("changes", KINDS, 2), ("copies", COPIES, 2), ("holds", HOLDS, 1),
                                           ("places", PLACES, 1)))

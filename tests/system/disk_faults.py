@@ -1,15 +1,15 @@
-"""Saves that fail or are killed at each system call: the file is whole, old or new, and the cause reported."""
+"""Saves that fail at each system call: the file is whole, old or new, and the cause reported."""
 
 import errno
 import os
 import re
-import signal
 import subprocess
 from collections.abc import Iterator
 from contextlib import contextmanager
 from itertools import product
 
 from makers.images import B, TWO, keytab
+from runs.commands import NEW, OLD, SCRIPT
 from runs.harness import Case, Outcome, Report, differences, folder_of, message
 from runs.preload import Line
 from runs.rows import printed
@@ -17,8 +17,8 @@ from runs.system_calls import Call, calls_of, check_traced, traced, under_strace
 from runs.terminal import EXPLAIN
 from runs.undisturbed import IN_PLACE
 from system.placing import explained
-from system.saving import (GROUP, NEW, OLD, SAVED, SCRIPT, UNREAD, UNSAVED, USER, Owned, Place, at, check_over, edit,
-                           owned, tree, tree_faults, write)
+from system.saving import (GROUP, SAVED, UNREAD, UNSAVED, USER, Owned, Place, at, check_over, tree, tree_faults,
+                           write)
 from words.phrases import AFTERMATHS, CAUSES
 
 LINE = Line(("ktedit", "k"), SCRIPT)
@@ -33,7 +33,6 @@ TARGET, NEW_NAME, REMAINS = "file", "file.krbfile", b"remains"
 MODE = 0o640
 
 UNPRINTED = message(3, "cannot write output")
-KILLED = Outcome(-signal.SIGKILL)
 
 # How a run in place ends whose last look fails, and what its file has then.
 UNSEEN = {explained(Outcome(1, SAVED.out), f"k: {AFTERMATHS['mixed']}"): NEW}
@@ -108,19 +107,6 @@ def faults_of_failure(program: str, line: Line, call: Call, error: str) -> list[
     return [] if left in may_be else [f"{outcome} and {left}"]
 
 
-def faults_of_kill(program: str, folder: str, outcome: Outcome) -> list[str]:
-    """Returns the faults after a run that was killed, or ended before, and after the next."""
-    faults = [] if outcome == SAVED else differences(KILLED, outcome)
-    found = tree(folder)
-    if found["k"] != TARGET or found[TARGET] not in (OLD, NEW):
-        faults.append(f"{found}")
-    if NEW_NAME in found and owned(os.path.join(folder, NEW_NAME)).mode not in (0o600, MODE):
-        faults.append("others may read the new file")
-    write(os.path.join(folder, TARGET), OLD)
-    faults += differences(SAVED, edit(program, folder))
-    return faults + tree_faults({"k": TARGET, TARGET: NEW}, folder)
-
-
 # What has to be synced, each by its handle: the new file from its mode to the rename, and then its folder.
 SYNCS = {
     "the new file": r'^fchmod\((\d+), .*^fsync\(\1\) += 0$.*^rename',
@@ -159,16 +145,6 @@ def check_both_ways(report: Report, program: str) -> None:
     """Lets each call fail of a save that replaces, and of one in place."""
     check_calls(report, program)
     check_calls(report, program, IN_PLACE)
-
-
-def check_kills(report: Report, program: str) -> None:
-    """Kills the run at each call."""
-    for call in calls_of_run(program, place):
-        with folder_of({}) as folder:
-            place(folder)
-            outcome, _ = traced(program, LINE, folder, *call.to("signal=KILL"))
-            faults = faults_of_kill(program, folder, outcome)
-        report.check(f"killed at {call}", faults)
 
 
 def check_causes(report: Report, program: str) -> None:
@@ -244,5 +220,5 @@ def check_no_proc(report: Report, program: str) -> None:
 def check(report: Report, program: str) -> None:
     """Runs this topic."""
     check_traced(report, program, "system calls that fail",
-                 check_handles, check_both_ways, check_kills, check_causes, check_missing, check_owner, check_lock,
+                 check_handles, check_both_ways, check_causes, check_missing, check_owner, check_lock,
                  check_no_proc)

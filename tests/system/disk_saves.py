@@ -7,22 +7,19 @@ from dataclasses import replace
 from itertools import product
 
 from makers.images import B, HOST, TWO, keytab
+from runs.commands import CHANGES, CLASH, LEAVES, MAKES, NEW, OLD, READS, SAVING, SCRIPT, WALK, Run, copies, file_of
 from runs.harness import Case, Outcome, Report, differences, folder_of, message, run
 from runs.rows import Line, printed, words_of
 from runs.terminal import EXPLAIN
-from runs.undisturbed import frame, in_place, undisturbed
+from runs.undisturbed import in_place, undisturbed
 from system.pipe_files import fed
 from system.placing import PLACED, explained
-from system.saving import (ADD, CHANGES, CLASH, GROUP, HOLDING_NOTHING, NEW, OLD, SAVED, SAVING_NOTHING, SCRIPT, UNREAD,
-                           UNSAVED, USER, WALK, Owned, Place, Run, as_another, as_user, at, check_over,
+from system.saving import (ADD, GROUP, SAVED, UNREAD, UNSAVED, USER, Owned, Place, as_another, as_user, at, check_over,
                            faults_over, link, run_over, tree, tree_faults, unsaved, write)
 from words.phrases import CAUSES
 
-# Runs that make a file, and that change one: the last ones copy over a keytab, and over a file of no bytes.
-MADE = (undisturbed("ktedit k", SCRIPT, name="adds"), undisturbed("ktcopy k t", k=TWO, name="adds"),
-        undisturbed("hold -k k", frame(NEW), name="saves"))
-ALL = (*CHANGES, *(undisturbed("ktcopy k t", t=target, k=TWO, name=f"into {len(target)} bytes")
-                   for target in (keytab(), b"")))
+# Runs that change a file: the last one copies over a file of no bytes.
+ALL = (*CHANGES, *copies(("", TWO, b"", "into no bytes")))
 
 # Modes of files that are replaced by their owner.
 MODES = (0o400, 0o600, 0o640, 0o664, 0o604, 0o6755)
@@ -32,12 +29,12 @@ def check_owned(report: Report, name: str, program: str, old: Owned, new: Owned,
     """Checks a save over a file of that mode, owner and group, in a folder of the user who makes the run."""
     folder = Owned(0o700, options.get("user", -1), options.get("group", -1))
     report.check(f"{name}, mode {old.mode:o}: {case.name}", faults_over(
-        program, case, at(".", folder.give), at(case.words[-1], old.give), left=new, **options))
+        program, case, at(".", folder.give), at(file_of(case), old.give), left=new, **options))
 
 
 def check_new_files(report: Report, program: str) -> None:
     """Checks that a new file is readable by its owner only, whatever the umask."""
-    for case, umask in product(MADE, (0, 0o022, 0o077, 0o777)):
+    for case, umask in product(MAKES, (0, 0o022, 0o077, 0o777)):
         faults = faults_over(program, case, left=Owned(0o600, os.geteuid(), os.getegid()), umask=umask)
         report.check(f"a new file under the umask {umask:o}: {case.name}", faults)
 
@@ -116,7 +113,7 @@ LINKS = (
 def check_hard_links(report: Report, program: str) -> None:
     """Checks that a link is followed, a hard link is broken, a stale file is removed, and all else stays."""
     for case in ALL:
-        name = case.words[-1]
+        name = file_of(case)
         others = {each: data for each, data in case.files.items() if each != name}
         with folder_of({**others, "file": case.files[name], "file.krbfile": b"left", "file.new": b"new"}) as folder:
             os.symlink("file", os.path.join(folder, name))
@@ -161,10 +158,10 @@ def check_locked_folder(report: Report, program: str) -> None:
         report.skip("a locked folder", "none but root may start the program")
         return
     scripts = [undisturbed("ktedit k", script, k=before, name=f"{script[-6:-1]!r} over {before}")
-               for before in (OLD, None) for script in (SCRIPT, WALK, b"cut 3\n", WALK + b"cut 2\n")]
+               for before in (OLD, None) for script in (b"cut 3\n", WALK + b"cut 2\n")]
     cases = [case if case.files == case.files_after else Case(case.name, case.words, unsaved(case), case.files,
                                                               stdin=case.stdin)
-             for case in (*CHANGES[1:], *scripts, *HOLDING_NOTHING, *SAVING_NOTHING)]
+             for case in (*CHANGES, *scripts, *READS, *LEAVES) if case.words[0] in SAVING]
     for case in (*cases, *map(in_place, PLACED)):
         check_over(report, program, replace(case, name=f"a locked folder: {case.name}"), lock_folder, **options)
 

@@ -4,23 +4,22 @@ Bytes past the old end are written and synced first. If a write, a cut or a sync
 and if that fails too, a message says so.
 """
 
-import os
 import re
-import signal
+from functools import partial
 
 from makers.images import B, HOST, keytab
-from runs.harness import Case, Outcome, Report, differences, files_in, folder_of, run
-from runs.preload import Line
+from runs.commands import file_of
+from runs.harness import Case, Outcome, Report, differences
 from runs.rows import shown
-from runs.system_calls import Call, calls_of, check_traced, traced, under_strace
+from runs.system_calls import Call, calls_of, check_traced, under_strace
 from runs.terminal import EXPLAIN
 from runs.undisturbed import IN_PLACE, Undisturbed, in_place, undisturbed
 from runs.undisturbed import explained as with_words
 from system.early_ends import Ends
-from system.failing_system_calls import (PRINT, READ, Step, calls_of_run, check_failure, held, listed, lock, looked,
-                                         needed, traced_run)
-from system.placing import CUT_OFF, EQUAL, LONGER, MIXED, SHORTER, TALK, changed, explained, images, message_of
-from system.saving import check_over, tree_faults, unsaved, write
+from system.failing_system_calls import (PRINT, READ, Step, calls_of_run, check_failure, held, killed, listed, lock,
+                                         looked, needed, traced_run)
+from system.placing import CUT_OFF, EQUAL, LONGER, MIXED, SHORTER, explained, images, message_of
+from system.saving import check_over, unsaved
 from words.phrases import AFTERMATHS, CAUSES
 
 # The place from which a call writes, or cuts.
@@ -32,7 +31,6 @@ CALLS = ((LONGER, (WRITE, SYNC)), (MIXED, (WRITE, SYNC, WRITE, SYNC)), (EQUAL, (
          (SHORTER, (WRITE, CUT, SYNC)), (CUT_OFF, (CUT, SYNC)))
 
 ERRORS = ("EIO", "ENOSPC", "EDQUOT")
-KILLED = Outcome(-signal.SIGKILL)
 
 
 def run_failing(program: str, case: Undisturbed, *options: str) -> tuple[Outcome, dict[str, bytes], list[Call]]:
@@ -81,7 +79,7 @@ def check_lost(report: Report, program: str, case: Undisturbed, call: Call, back
         got, files, _ = run_failing(program, one, *both_fail(call, back))
         faults = differences(explained(unsaved(case), *words), got)
         faults += [] if files.keys() == case.files.keys() else [f"{[*files]} are there"]
-        is_there = files[changed(case)].startswith(images(case)[0])
+        is_there = files[file_of(case)].startswith(images(case)[0])
         faults += [] if damage or is_there else ["an old byte is lost"]
         report.check(f"{call} fails, then {back}: {shown(one.words)}: {case.name}", faults)
 
@@ -115,7 +113,7 @@ def check_talk(report: Report, program: str) -> None:
              "k.krbfile: cannot write", f"line 3: {CAUSES['name of saves']}", "no: cannot write",
              f"line 4: {CAUSES['no file']}")
     case = Case("a line of ktutil that fails in place", (EXPLAIN, "ktutil", IN_PLACE), explained(Outcome(3), *lines),
-                files, undisturbed("ktutil", TALK, **files).files_after, talk)
+                files, undisturbed("ktutil", b"rkt j\nwkt k\n", **files).files_after, talk)
     check_over(report, "strace", under_strace(program, case, "-e", "inject=pwrite64:error=EIO:when=1"))
 
 
@@ -141,26 +139,12 @@ def check_steps(report: Report, program: str) -> None:
 def faults_of_kill(case: Undisturbed, files: dict[str, bytes], trace: list[str]) -> list[str]:
     """Returns the faults of what a killed run left: until it writes over old bytes, these are the front of the file."""
     before, after = images(case)
-    left = files.pop(changed(case))
+    left = files.pop(file_of(case))
     is_overwriting = is_written_over(trace, len(before))
     may_be = [{old, new} if is_overwriting else {old} for old, new in zip(before, after)]
     is_mix = len(left) >= len(may_be) and all(byte in those for byte, those in zip(left, may_be))
     is_front = is_overwriting or left.startswith(before)
     return ([] if is_mix and is_front else [f"{left} is left"]) + ([f"{[*files]} are left"] if files else [])
-
-
-def killed(program: str, case: Undisturbed, call: Call) -> list[str]:
-    """Returns the faults of a run that is killed at a call, or ended before, and of the next run."""
-    name, line = changed(case), Line(case.words, case.stdin)
-    with folder_of(case.files) as folder:
-        outcome, trace = traced(program, line, folder, *call.to("signal=KILL"))
-        if outcome == case.wanted:
-            faults = tree_faults(case.files_after, folder)
-        else:
-            faults = differences(KILLED, outcome) + faults_of_kill(case, files_in(folder), trace)
-        write(os.path.join(folder, name), case.files[name])
-        faults += differences(case.wanted, run(program, case.words, folder, case.stdin))
-        return faults + tree_faults(case.files_after, folder)
 
 
 def check_kills(report: Report, program: str) -> None:
@@ -170,7 +154,8 @@ def check_kills(report: Report, program: str) -> None:
         _, trace = traced_run(program, placed)
         for call in calls_of(trace, '"k", O_RDWR'):
             if case == MIXED or call.name in CHANGES:
-                report.check(f"killed at {call}: {placed.name}", killed(program, placed, call))
+                report.check(f"killed at {call}: {placed.name}", killed(
+                    program, placed, call, partial(faults_of_kill, placed)))
 
 
 def check(report: Report, program: str) -> None:

@@ -10,11 +10,12 @@ from errno import EACCES, EAGAIN, EINTR, ENOMEM, ENOSPC, errorcode
 from itertools import product
 from random import Random
 
+from runs.commands import COMMANDS, NOW, SAVING, large_runs, small_runs
 from runs.harness import Report, differences, message
 from runs.preload import MOST_CALLS, WHOLE, Preloaded, preloaded
 from runs.random_runs import Rounds
 from runs.undisturbed import IN_PLACE
-from system.early_ends import NOW, End, Ends, Stage, large_runs, small_runs
+from system.early_ends import End, Ends, Stage
 from system.placing import told
 
 ERRORS = (EINTR, EAGAIN, ENOSPC, ENOMEM, EACCES)
@@ -24,15 +25,19 @@ FEW, PIECE = 60, 16_384
 
 NO_OUTPUT = message(3, "cannot write output")
 
-# What may fail in a run that reads a file, in one that saves it, and in one that also reads an input, by the command.
-OF_READER = ("FAIL_READ", "FAIL_WRITE", "ZERO_WRITE")
-OF_REMOVER = (*OF_READER, "FAIL_SAVE", "ZERO_SAVE")
-SETTINGS = {**dict.fromkeys(("ktremove", "ktcopy", "ccremove"), OF_REMOVER),
-            **dict.fromkeys(("ktedit", "ktutil", "ccedit", "hold"), ("FAIL_INPUT", *OF_REMOVER))}
+# What may fail in each run, and also in one of a command that saves, and of one that saves and reads an input.
+OF_EACH, OF_SAVE, OF_INPUT = ("FAIL_READ", "FAIL_WRITE", "ZERO_WRITE"), ("FAIL_SAVE", "ZERO_SAVE"), ("FAIL_INPUT",)
 
 # How many bytes a call moves, and how one fails: over small files, and over larger ones.
 OF_SMALL = (*((WHOLE, error) for error in ERRORS), (FEW, EINTR), (FEW, ENOSPC))
 OF_LARGE = ((WHOLE, EINTR), (20_000, EACCES))
+
+
+def settings(command: str) -> tuple[str, ...]:
+    """Returns what may fail in runs of a command."""
+    if command not in SAVING:
+        return OF_EACH
+    return OF_EACH + OF_SAVE + OF_INPUT * COMMANDS[command].reads_input
 
 
 def ends_in_output(ends: Ends, end: End) -> bool:
@@ -99,9 +104,9 @@ def check(report: Report, program: str) -> None:
     with preloaded(report, program, "failing streams", {}) as under:
         if under is None:
             return
-        for ends, ways in (*product(small_runs(), [OF_SMALL]), *product(large_runs(), [OF_LARGE])):
-            over = under.over(ends.run.files)
-            for setting in SETTINGS.get(ends.command, OF_READER):
+        for run, ways in (*product(small_runs(), [OF_SMALL]), *product(large_runs(), [OF_LARGE])):
+            over, ends = under.over(run.files), Ends(run)
+            for setting in settings(ends.command):
                 check_setting(report, over, ends, setting, ways)
             for most in (1, 7, 4_095):
                 check_few_bytes(report, over, ends, most)
@@ -113,8 +118,8 @@ def check_rounds(report: Report, program: str, seeds: range) -> None:
         those = [*small_runs(), *large_runs()] if under else []
         for seed in seeds if under else ():
             random = Random(seed)
-            ends = random.choice(those)
-            setting, error = random.choice(SETTINGS.get(ends.command, OF_READER)), random.choice(ERRORS)
+            ends = Ends(random.choice(those))
+            setting, error = random.choice(settings(ends.command)), random.choice(ERRORS)
             nth, most = int(2 ** random.uniform(0, 7)), int(2 ** random.uniform(0, 17))
             faults, _, _ = faults_of_call(under.over(ends.run.files), ends, setting, nth, most, error)
             name = f"{setting} {errorcode[error]}, at most {most} bytes, number {seed}"

@@ -4,20 +4,22 @@ The effect of a failure depends on the step of the work that the call belongs to
 shows that: how often it reads the list of locks depends on how many others have.
 """
 
+import os
 import re
 import signal
+from collections.abc import Callable
 from dataclasses import dataclass
 
-from keytabs.copies import OTHER
-from makers.images import B, HOST, TWO, keytab
-from makers.usual_caches import USUAL
+from makers.images import B, TWO, keytab
+from runs.commands import CHANGES, MAKES, READS, file_of
 from runs.harness import Outcome, Report, differences, files_in, folder_of
 from runs.preload import Line
 from runs.system_calls import Call, calls_of, check_traced, traced
-from runs.undisturbed import Undisturbed, frame, undisturbed
+from runs.undisturbed import Undisturbed, undisturbed
 from system.early_ends import End, Ends
 from system.failing_streams import ends_in_output
 from system.placing import told
+from system.saving import run_over, tree_faults, write
 
 ERRORS = ("EIO", "ENOSPC", "EACCES", "EPERM", "EINTR", "ENOMEM")
 
@@ -103,34 +105,28 @@ def save(name: str, nth: int = 1, is_new: bool = False) -> list[Step]:
 READ = Step(r"read\(0", "input")
 PRINT = Step(r"write\(1", "output")
 
-TALK = b"rkt j\nl\nwkt k\nwkt n\nl -e\nrkt n\nl\n"
+# Lines of ktutil that list, save and load, and their steps.
+TALK = undisturbed("ktutil", b"rkt j\nl\nwkt k\nwkt n\nl -e\nrkt n\nl\n", j=TWO, k=keytab(B))
 TALKED = [READ, *load("j"), PRINT, *hold("k"), *held(2), *save("k"), *hold("n", 2), *save("n", 2, is_new=True), PRINT,
           *load("n", 4), PRINT, READ]
 
+TWO_FILES = undisturbed("ktcheck k j", k=TWO, j=keytab(B, B))
 
-def runs() -> list[tuple[Ends, list[Step]]]:
-    """Returns runs and their steps."""
-    add = b"add 3 17 0 000102030405060708090a0b0c0d0e0f host/a@R\n"
-    config = b"start\ncut 40\nconfig pa_type krbtgt/R@R 3\n"
-    change_k, change_c = ([*hold(name), *held(), *save(name), PRINT] for name in "kc")
-    copy = [*load("k"), *hold("t"), *held(2)]
-    return [(Ends(run), steps) for run, steps in (
-        (undisturbed("klist -ktKe k", k=TWO), [*load("k"), PRINT]),
-        (undisturbed("klist -cefC c", c=USUAL), [*load("c"), PRINT]),
-        (undisturbed("ktfind k 0 0 -- b@R", k=TWO), [*load("k"), PRINT]),
-        (undisturbed("ktcheck k", k=TWO), [*load("k"), PRINT]),
-        (undisturbed("ktcheck k j", k=TWO, j=keytab(B, B)), [*load("k"), PRINT, *load("j", 2), PRINT]),
-        (undisturbed("ktedit k", b"start\ncut 2\n" + add, k=TWO), [READ, *change_k]),
-        (undisturbed("ktedit k", add, name="no file"), [READ, *hold("k"), *save("k", is_new=True), PRINT]),
-        (undisturbed("ktremove -p host/a@R k", k=TWO), change_k),
-        (undisturbed("ccedit c", config, c=USUAL), [READ, *change_c]),
-        (undisturbed("ccremove -p krbtgt/R@R c", c=USUAL), change_c),
-        (undisturbed("hold -k k", frame(keytab(B)), k=TWO), [*hold("k"), *held(), PRINT, READ, *save("k", 2)]),
-        (undisturbed("ktcopy k t", k=TWO, t=keytab(HOST)), [*copy, *save("t"), PRINT]),
-        (undisturbed("ktcopy k t", name="no file", k=TWO), [*copy, *save("t", is_new=True), PRINT]),
-        (undisturbed("ktcopy -n --replace k t", k=TWO, t=keytab(OTHER)), [*load("k"), *load("t", 2), PRINT]),
-        (undisturbed("ktutil", TALK, j=TWO, k=keytab(B)), TALKED),
-    )]
+
+def steps_of_run(ends: Ends) -> list[Step]:
+    """Returns the steps of a run: those of its input, of the files that it only loads, and of the one that it saves."""
+    run, names = ends.run, ends.names
+    if run == TALK:
+        return TALKED
+    is_saving = run.files_after != run.files
+    loaded = [step for nth, name in enumerate(names[:-1] if is_saving else names, 1)
+              for step in (*load(name, nth), PRINT)]
+    if not is_saving:
+        return loaded
+    name, nth, is_new = names[-1], len(names), names[-1] not in run.files
+    if ends.command == "hold":
+        return [*hold(name), *held(), PRINT, READ, *save(name, 2, is_new)]
+    return [*[READ] * bool(run.stdin), *loaded, *hold(name), *held(nth), *save(name, is_new=is_new), PRINT]
 
 
 def steps_of(calls: list[Call], steps: list[Step]) -> list[tuple[Call, Step]] | None:
@@ -179,15 +175,26 @@ def faults_of_failure(ends: Ends, call: Call, step: Step, error: str, end: End) 
     return [] if is_wanted else [f"{end[0]} and {sorted(end[1])}"]
 
 
-def faults_of_kill(ends: Ends, end: End) -> list[str]:
-    """Returns the faults of a run that was killed, or ended before. Other new files are allowed."""
-    if end == ends.whole:
-        return []
-    got, after = end
-    files = {name: data for name, data in after.items() if not name.endswith(".krbfile")}
-    is_stage = files in [ends.run.files_after, *(stage.files for stage in ends.stages)]
-    return differences(Outcome(-signal.SIGKILL, got.out, got.err), got) + (
-        [] if is_stage else [f"the files {sorted(after)} are not whole"])
+def faults_of_files(ends: Ends, files: dict[str, bytes]) -> list[str]:
+    """Returns the faults of what a killed run left: each file is whole. Other new files are allowed."""
+    left = {name: data for name, data in files.items() if not name.endswith(".krbfile")}
+    return [] if left in [ends.run.files_after, *(stage.files for stage in ends.stages)] else [f"{left} is left"]
+
+
+def killed(program: str, run: Undisturbed, call: Call, judge: Callable[[dict[str, bytes], list[str]], list[str]],
+           ) -> list[str]:
+    """Returns the faults of a run that is killed at a call, or ended before, of what it left, and of the next run."""
+    with folder_of(run.files) as folder:
+        got, trace = traced(program, Line(run.words, run.stdin), folder, *call.to("signal=KILL"))
+        has_ended = got.status == run.wanted.status
+        faults = differences(run.wanted if has_ended else Outcome(-signal.SIGKILL, got.out, got.err), got)
+        faults += tree_faults(run.files_after, folder) if has_ended else judge(files_in(folder), trace)
+        for name in {*files_in(folder), *run.files}:
+            if name in run.files:
+                write(os.path.join(folder, name), run.files[name])
+            elif not name.endswith(".krbfile"):
+                os.remove(os.path.join(folder, name))
+        return faults + differences(run.wanted, run_over(program, run, folder)) + tree_faults(run.files_after, folder)
 
 
 def traced_run(program: str, run: Undisturbed, *options: str) -> tuple[End, list[str]]:
@@ -199,9 +206,7 @@ def traced_run(program: str, run: Undisturbed, *options: str) -> tuple[End, list
 
 def first_text(ends: Ends, steps: list[Step]) -> str:
     """Returns text in the first call of a run's work, which reads the input, or names the file."""
-    if steps[0] == READ:
-        return "read(0"
-    return next(f'"{word}"' for word in ends.run.words if word in ends.run.files)
+    return "read(0" if steps[0] == READ else f'"{ends.names[0]}"'
 
 
 def hasty_renames(calls: list[Call], files: dict[str, bytes]) -> list[str]:
@@ -242,12 +247,17 @@ def check_failure(report: Report, program: str, ends: Ends, steps: list[Step], c
 
 def check_runs(report: Report, program: str) -> None:
     """Lets each call of each run fail, and kills the run at each."""
-    for ends, steps in runs():
+    # Those that list as JSON, tell nothing or are at fault, or only walk, have the calls of others.
+    reads = {(run.words[0], file_of(run)): run for run in READS
+             if not {"--json", "-s"} & {*run.words} and not run.stdin and not run.wanted.err}
+    changes = {run.words[0]: run for run in CHANGES} | {"ktutil": TALK}
+    for ends in map(Ends, (*reads.values(), TWO_FILES, *changes.values(), *MAKES)):
+        steps = steps_of_run(ends)
         for call in calls_of_run(report, program, ends, steps):
             for error in ERRORS:
                 check_failure(report, program, ends, steps, call, error)
-            end, _ = traced_run(program, ends.run, *call.to("signal=KILL"))
-            report.check(f"killed at {call}: {ends.run.name}", faults_of_kill(ends, end))
+            report.check(f"killed at {call}: {ends.run.name}", killed(
+                program, ends.run, call, lambda files, _, ends=ends: faults_of_files(ends, files)))
 
 
 def check(report: Report, program: str) -> None:

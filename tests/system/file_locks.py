@@ -8,63 +8,30 @@ from concurrent.futures import ThreadPoolExecutor
 from dataclasses import replace
 
 from makers.images import TWO
-from makers.usual_caches import USUAL
+from runs.commands import CHANGES, LEAVES, READS, SAVING, Run, both_ways, file_of
 from runs.harness import Case, Report, differences, faults_of, files_in, folder_of, run
 from runs.preload import Line
 from runs.system_calls import Halt, check_traced, halted, traced, under_strace
-from runs.terminal import EXPLAIN
 from runs.undisturbed import Undisturbed, in_place, undisturbed
-from system.placing import ADD_LONG, EQUAL, LAST_OF_EACH, LONGER, PLACED, SHORTER, explained, refused, with_words
-from system.saving import (B_OLD, CHANGES, CLASH, HOLDING_NOTHING, NEW, OLD, SAVING_NOTHING, WALK, Run, check_over,
-                           stands, tree_faults, unsaved)
-from system.waits import AT_ONCE, LEAST_WAIT, LONGEST_WAIT, faults_of_waiting, ofd_lock
-from words.phrases import CAUSES
+from system.placing import ADD_LONG, EQUAL, LONGER, PLACED, SHORTER, refused, with_words
+from system.saving import B_OLD, check_over, stands, tree_faults
+from system.waits import AT_ONCE, LEAST_WAIT, LONGEST_WAIT, RUNS, faults_of_waiting, ofd_lock
 
-# A run of each command that changes a file, in both ways.
-BOTH_WAYS = [way for case in LAST_OF_EACH for way in (case, in_place(case))]
+# Runs that change a file, that have nothing to save, and that take no lock, in both ways if there are two.
+BOTH_WAYS, LEAVING, LOCKING_NOTHING = (both_ways(*runs) for runs in (CHANGES, LEAVES, READS))
 
-# Scripts that can change nothing.
-SCRIPTS = (b"", b"# none\n", WALK, b"resume 2\n", b"start\nfrob\n")
-
-# A copy that saves, and one that only prints.
-COPY, DRY_COPY = LAST_OF_EACH[2], undisturbed("ktcopy -n k t", t=NEW, k=TWO, name="tells")
-
-# Runs that take no lock: those that list, such scripts, dry runs, copies of nothing, and lines of ktutil that read.
-LOCKING_NOTHING = (
-    *(undisturbed(line, k=TWO) for line in ("klist -k k", "klist -kK --json k", "ktcheck k", "ktfind k 0 0 b@R")),
-    *(undisturbed(line, c=USUAL) for line in ("klist -c c", "klist --json c")),
-    *(undisturbed("ktedit k", script, k=OLD, name=f"{script}") for script in SCRIPTS),
-    *(undisturbed(line, t=target, k=source, name=name) for line, source, target, name in (
-        ("ktcopy -n k t", TWO, CLASH, "tells of a clash"), ("ktcopy k t", TWO[:-1], NEW, "has a damaged source"),
-        ("ktcopy k t", b"", NEW, "has no keytab as source"), ("ktcopy -p c@R k t", TWO, NEW, "finds none"),
-        ("ktcopy -k old k t", TWO, NEW, "is at fault"))),
-    *(way for run in (undisturbed("ktremove -n -p b@R k", k=TWO, name="tells"), DRY_COPY,
-                      undisturbed("ktutil", b"rkt k\nl\ndelent 1\n", k=TWO, name="reads"),
-                      *HOLDING_NOTHING) for way in (run, in_place(run))),
-)
-
-# Runs that lock their file and then have nothing to save: the first two copies copy a keytab of two entries.
-LEAVING_COPIES = tuple(undisturbed("ktcopy k t", t=target, k=source, name=name) for source, target, name in (
-    (TWO, TWO, "has all already"), (TWO, CLASH, "clashes"), (B_OLD, TWO, "has it already"),
-    (OLD, NEW, "has nothing to copy"), (OLD, b"", "has nothing for no bytes"), (TWO, TWO[:-1], "has a damaged target")))
-LEAVING = (*SAVING_NOTHING, *LEAVING_COPIES, undisturbed("ktedit k", b"cut 3\n", k=TWO, name="is refused"),
-           undisturbed("ktremove -p c@R k", k=TWO, name="finds none"),
-           undisturbed("ktcopy k k", k=TWO, name="copies a keytab into itself"))
-
-# Kinds of locks: of a whole file, and record locks.
+# Kinds of locks: of a whole file, and record locks, for some of which each run waits that saves.
 FLOCK, TO_READ, TO_WRITE = "a flock", "a lock to read", "a lock to write"
+OPEN_READ, OPEN_WRITE, PART = "a lock of an open file to read", "a lock of an open file", "a lock of a part"
 LOCKS: dict[str, Callable[[object], None]] = {
     FLOCK: lambda file: fcntl.flock(file, fcntl.LOCK_EX),
     "a shared flock": lambda file: fcntl.flock(file, fcntl.LOCK_SH),
     TO_READ: lambda file: fcntl.lockf(file, fcntl.LOCK_SH),
     TO_WRITE: lambda file: fcntl.lockf(file, fcntl.LOCK_EX),
-    "a lock of an open file to read": lambda file: ofd_lock(file, fcntl.F_RDLCK),
+    OPEN_READ: lambda file: ofd_lock(file, fcntl.F_RDLCK),
+    OPEN_WRITE: lambda file: ofd_lock(file, fcntl.F_WRLCK),
+    PART: lambda file: fcntl.lockf(file, fcntl.LOCK_EX, 1, 9),
 }
-
-
-def file_of(case: Run) -> str:
-    """Returns the file that a run changes, or would."""
-    return "t" if "t" in case.files else "c" if "c" in case.files else "k"
 
 
 def set_back(folder: str) -> dict[str, tuple[object, ...]]:
@@ -74,9 +41,10 @@ def set_back(folder: str) -> dict[str, tuple[object, ...]]:
     return stands(folder)
 
 
-def waited_for(program: str, case: Case, lock: str) -> list[str]:
-    """Returns the faults of a run that has to wait for a lock of its file. If it saves nothing, it writes none."""
-    with folder_of(case.files) as folder, open(os.path.join(folder, file_of(case)), "r+b") as file:
+def waited_for(program: str, case: Run, lock: str, name: str) -> list[str]:
+    """Returns the faults of a run that has to wait for a lock of its file, or of its new one. If it saves nothing, it
+    writes none."""
+    with folder_of({name: b"held", **case.files}) as folder, open(os.path.join(folder, name), "r+b") as file:
         before = set_back(folder)
         LOCKS[lock](file)
         faults = faults_of_waiting(program, folder, file.close, case)
@@ -85,11 +53,15 @@ def waited_for(program: str, case: Case, lock: str) -> list[str]:
 
 
 def check_waits(report: Report, program: str) -> None:
-    """Checks that each run that may change a file waits for another program's lock of it."""
-    rows = [(case, FLOCK) for case in (*BOTH_WAYS, *LEAVING, *map(in_place, LEAVING))]
-    rows += [(in_place(EQUAL), lock) for lock in LOCKS] + [(EQUAL, "a shared flock"), (EQUAL, TO_WRITE)]
-    for case, lock in rows:
-        report.check(f"{lock} is waited for: {case.name}", waited_for(program, case.as_case(), lock))
+    """Checks that each run that may change a file waits for another program's lock of it, and of its new file."""
+    rows = [(case, FLOCK, file_of(case)) for case in (*BOTH_WAYS, *LEAVING)]
+    rows += [(in_place(EQUAL), lock, "k") for lock in LOCKS] + [(EQUAL, "a shared flock", "k")]
+    rows += [(case, lock, file_of(case)) for case in CHANGES for lock in (TO_WRITE, OPEN_WRITE, PART)]
+    rows += [(case, FLOCK, f"{file_of(case)}.krbfile") for case in CHANGES]
+    with ThreadPoolExecutor(RUNS) as pool:
+        found = [pool.submit(waited_for, program, *row) for row in rows]
+    for (case, lock, name), faults in zip(rows, found):
+        report.check(f"{lock} of {name} is waited for: {case.name}", faults.result())
 
 
 def ended_beside(program: str, case: Run, lock: str, file: str) -> tuple[list[str], float]:
@@ -117,9 +89,12 @@ def check_no_waits(report: Report, program: str) -> None:
     They make no file beside theirs either, not even one that is removed again.
     """
     rows = [(case, file, lock) for case in LOCKING_NOTHING for lock in (FLOCK, TO_WRITE) for file in case.files]
-    rows += [(case, file_of(case), TO_READ) for case in PLACED]
-    rows += [(case, "k", lock) for case in (COPY, in_place(COPY)) for lock in (FLOCK, TO_WRITE)]
-    rows += [(*beside(COPY, "k.krbfile"), FLOCK), *((*beside(case), FLOCK) for case in (*HOLDING_NOTHING, DRY_COPY))]
+    rows += [(case, file_of(case), lock) for case in PLACED for lock in (TO_READ, OPEN_READ)]
+    # What a run only reads is not locked.
+    sources = [(case, file) for case in BOTH_WAYS for file in case.files if file != file_of(case)]
+    rows += [(case, file, lock) for case, file in sources for lock in (FLOCK, TO_WRITE)]
+    rows += [(*beside(case, f"{file}.krbfile"), FLOCK) for case, file in sources]
+    rows += [(*beside(case), FLOCK) for case in READS if case.words[0] in SAVING]
     for case, file, lock in rows:
         faults, seconds = ended_beside(program, case, lock, file)
         faults += [] if seconds < AT_ONCE else [f"it took {seconds:.1f} seconds"]
@@ -128,18 +103,15 @@ def check_no_waits(report: Report, program: str) -> None:
 
 def gives_up(program: str, case: Run, file: str) -> list[str]:
     """Returns the faults of a run while another program keeps a lock: after ten seconds its save is refused."""
-    if case.files_after != case.files:
-        line = "line 2: " if case.words[0] == "ktutil" else ""
-        wanted = explained(unsaved(case, file_of(case)), line + CAUSES["in use"])
-        case = Case(case.name, (EXPLAIN, *case.words), wanted, case.files, case.files, case.stdin)
+    case = case if case.files_after == case.files else refused(case, "in use")
     faults, seconds = ended_beside(program, case, FLOCK, file)
     return faults + ([] if LEAST_WAIT <= seconds <= LONGEST_WAIT else [f"it took {seconds:.1f} seconds"])
 
 
 def check_given_up(report: Report, program: str) -> None:
     """Checks that a lock of the file that stays, or of its new file, is waited for some ten seconds."""
-    rows = [(case, file_of(case)) for case in (*BOTH_WAYS, LEAVING[0], in_place(LEAVING[0]))]
-    rows += map(beside, (*SAVING_NOTHING, CHANGES[2], COPY, *LEAVING_COPIES[:2]))
+    rows = [(case, file_of(case)) for case in (*BOTH_WAYS, *LEAVING[:2])]
+    rows += map(beside, (*CHANGES, *LEAVES))
     with ThreadPoolExecutor(len(rows)) as pool:
         found = [pool.submit(gives_up, program, case, file) for case, file in rows]
     for (case, file), faults in zip(rows, found):

@@ -13,16 +13,17 @@ from shlex import quote
 
 from makers.images import HOST, TWO, Entry, keytab
 from makers.usual_caches import USUAL
+from runs.commands import CHANGES, COMMANDS, LEAVES, NEW, OLD, READS, SAVING, SCRIPT, Run, file_of, renamed
 from runs.harness import Case, Report, differences, faults_of, files_in, folder_of, message, run
 from runs.limits import limit
 from runs.namespaces import can_mount, run_within
 from runs.terminal import EXPLAIN
 from runs.undisturbed import IN_PLACE, Undisturbed, in_place, undisturbed
 from system.disk_faults import mounted
-from system.placing import EQUAL, LONGER, MIXED, PLACED, changed, explained, kept, refused, with_words
-from system.saving import (ADD, B_NEW, B_OLD, B_SAVED, GROUP, LINES, NEW, OLD, SCRIPT, UNSAVED, USER, WALK, Owned, Run,
-                           as_another, at, check_over, faults_over, link, tree_faults, write)
-from words.explained import Explained, copy, no_keytab, unchanged
+from system.placing import EQUAL, LONGER, MIXED, PLACED, explained, kept, refused, with_words
+from system.saving import (ADD, B_NEW, B_OLD, B_SAVED, GROUP, LINES, UNSAVED, USER, Owned, as_another, at, check_over,
+                           faults_over, link, tree_faults, write)
+from words.explaining import FINDS_NONE, Explained, copy, no_keytab, unchanged
 from words.phrases import AFTERMATHS, BEGINS_AS_CACHE, CAUSES, LEAVE_OUT, NOT_READ, code, line_fault
 
 # A keytab that fills a page of 4,096 bytes but for less than an entry.
@@ -62,7 +63,7 @@ def kinds(report: Report) -> list[dict[str, bytes]]:
 
 def check_kept(report: Report, program: str, case: Undisturbed, attributes: dict[str, bytes]) -> None:
     """Checks a save of a file that has another name, those attributes, and if root makes it another owner."""
-    placed, name = in_place(case), changed(case)
+    placed, name = in_place(case), file_of(case)
     with folder_of(case.files) as folder:
         path, other = os.path.join(folder, name), os.path.join(folder, "other")
         with suppress(PermissionError):
@@ -123,7 +124,7 @@ FULL_DISKS = (refused(in_place(TOO_MUCH), "ENOSPC"), refused(LESS, "ENOSPC"), in
 
 # Rows over one that is read-only: a file there is loaded, and only its save is refused.
 WALK_OVER = undisturbed("ktedit k", b"start\n", k=OLD, name="walks")
-READ_ONLY = (*(refused(case, "EROFS") for case in (ADD, in_place(ADD), undisturbed("ktedit n", SCRIPT, name="adds"))),
+READ_ONLY = (*(refused(case, "EROFS") for case in (ADD, in_place(ADD), *COMMANDS["ktedit"].makes)),
              WALK_OVER, in_place(WALK_OVER))
 
 
@@ -186,9 +187,11 @@ def check_sparse(report: Report, program: str) -> None:
 NO_FILE = CAUSES["no file"]
 
 
-def missing(line: str, **more) -> Explained:
-    """Returns a run whose file, named last, is missing."""
-    return unchanged(line, (f"{line.split()[-1]}: no such file", ""), **more)
+def missing(run: Undisturbed, name: str = "") -> Explained:
+    """Returns a run in place whose file is missing, by default its own."""
+    one, own = renamed(in_place(run), name or file_of(run)), name or file_of(run)
+    return unchanged(one.words, (f"{own}: no such file", NOT_READ.replace("TYPE", "KCM:") if "KCM" in own else ""),
+                     files={each: data for each, data in one.files.items() if each != own}, stdin=one.stdin)
 
 
 def unwritten(name: str, phrase: str, lines: bytes = LINES, **more) -> Explained:
@@ -198,36 +201,29 @@ def unwritten(name: str, phrase: str, lines: bytes = LINES, **more) -> Explained
 
 
 CASES = [
-    # Each command over a missing file, also where nothing is saved.
-    *(missing("ktedit --in-place k", stdin=script) for script in (SCRIPT, WALK)),
     unchanged("ktedit k --in-place", ("k: no such file", ""), stdin=SCRIPT),
-    missing("ccedit --in-place c", stdin=b"config a - v\n"),
-    *map(missing, ("ktedit --in-place --v1-big k", "ktremove --in-place -k old k", "ktremove --in-place -n -k old k",
-                   "ccremove --in-place --expired c", "ccremove --in-place -n --expired c")),
-    *(missing(f"ktcopy --in-place {option} k t", files={"k": image})
-      for option, image in (("", TWO), ("-n", TWO), ("--replace", OLD))),
     # What comes before: a faulty script, and the file that is copied from.
     unchanged("ktedit --in-place k", ("line 1: fault 2", line_fault(2)), stdin=b"start 1\n"),
-    *(unchanged("ktcopy --in-place k t", ("k: no such file", ""), files=files) for files in ({"t": TWO}, {})),
-    unchanged("ktcopy --in-place -p c@R k t", ("k: refused 9", code(9, "ktcopy")), files={"k": TWO}),
-    unchanged("ktcopy --in-place k t", ("k: refused 1", code(1)), files={"k": TWO[:-1]}),
-    # A file in no folder, and one of another type.
-    missing("ktedit --in-place no/k", stdin=SCRIPT),
-    unchanged("ktedit --in-place KCM:k", ("KCM:k: no such file", NOT_READ.replace("TYPE", "KCM:")), stdin=SCRIPT),
+    *(copy("--in-place", None, target, ("k: no such file", "")) for target in (TWO, None)),
+    copy("--in-place -p c@R", TWO, None, FINDS_NONE), copy("--in-place", TWO[:-1], None, ("k: refused 1", code(1))),
     # ktutil: what is read, and what is written.
     unchanged("ktutil --in-place", ("k: no such file", f"line 1: {NO_FILE}"), stdin=b"rkt k\n"),
     unwritten("k", NO_FILE, b""), unwritten("k", NO_FILE), unwritten("no/k", NO_FILE),
     unwritten("FILE:k", LEAVE_OUT.replace("TYPE", "FILE:")),
-    unwritten("k.krbfile", CAUSES["name of saves"], files={"k.krbfile": TWO}),
-    # A file that is not a keytab.
+    # A file that is not a keytab, and one of no bytes, into which is copied.
     unchanged("ktedit --in-place k", no_keytab(BEGINS_AS_CACHE), stdin=SCRIPT, files={"k": USUAL}),
-    # One of no bytes is a keytab for ktcopy.
     copy("--in-place", B_OLD, b"", status=0, out=["copied 2 kvno 3 etype 17 b@R"], after={"k": B_OLD, "t": B_OLD}),
-    # A dry run changes nothing.
-    unchanged("ktremove --in-place -n -p b@R k", status=0, out=b"removed 53 kvno 3 etype 17 b@R\n", files={"k": TWO}),
-    unchanged("ccremove --in-place -n -p krbtgt/R@R c", status=0, out=b"removed 40 krbtgt/R@R\n", files={"c": USUAL}),
-    copy("--in-place -n", B_OLD, NEW, status=0, out=["copied 53 kvno 3 etype 17 b@R"], after={"k": B_OLD, "t": NEW}),
 ]
+
+
+def check_missing(report: Report, program: str) -> None:
+    """Checks runs in place over a missing file, also those that save nothing, unless what comes before is at fault; and
+    a file in no folder, and one of another type."""
+    for case in (*CHANGES, *READS, *LEAVES):
+        if case.words[0] in SAVING and case.words[0] != "ktutil" and case.wanted.status == 0:
+            missing(case).check(report, program)
+    for name in ("no/k", "KCM:k"):
+        missing(ADD, name).check(report, program)
 
 
 def check_links(report: Report, program: str) -> None:
@@ -248,5 +244,6 @@ def check_all_kept(report: Report, program: str) -> None:
 
 def check(report: Report, program: str) -> None:
     """Runs this topic."""
-    for each in (check_all_kept, check_set_id, check_mounted, check_disks, check_limit, check_sparse, check_links):
+    for each in (check_missing, check_all_kept, check_set_id, check_mounted, check_disks, check_limit, check_sparse,
+                 check_links):
         each(report, program)

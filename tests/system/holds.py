@@ -19,7 +19,7 @@ from system.failing_streams import NO_OUTPUT
 from system.placing import explained
 from system.saving import as_another, stands, tree_faults
 from system.waits import AT_ONCE, LEAST_WAIT, LONGEST_WAIT
-from words.explained import CUT_CACHE, Explained, case, failed, in_the_way, link, no_keytab, unchanged
+from words.explaining import CUT_CACHE, Explained, case, failed, in_the_way, link, no_keytab, unchanged
 from words.phrases import (BAD_DEFAULT, BAD_HEADER, BEGINS_AS_CACHE, BEGINS_AS_NO_CACHE, BEGINS_AS_NO_KEYTAB, CAUSES,
                            GIVEN_DAMAGED, HELD_AS_KEYTAB, LARGE, NOT_WHOLE, SHORT, TO_A_PROGRAM, code)
 from words.unseen import HIDDEN
@@ -100,14 +100,9 @@ CASES = [
     refused(K, ("k: refused 1", code(1)), files={"k": TWO[:-1]}),
     refused(C, ("k: refused 1", code(1, "hold")), files={"k": CUT_CACHE}),
     *(refused(line, ("k: no such file", "")) for line in (C, f"hold {IN_PLACE} k", PLACED)),
-    # It could not be saved. What the load tells comes first.
-    unsaved(K, "in the way", **IN_THE_WAY), unsaved(K, "in the way", None, **IN_THE_WAY),
-    unsaved(C, "in the way", USUAL, **IN_THE_WAY), unsaved(f"hold -k {'x' * 248}", "ENAMETOOLONG"),
-    # What is in the way is beside the file that a link leads to.
+    # It could not be saved: what is in the way is beside the file that a link leads to. What the load tells comes first.
     case("hold of a link", "hold -k l", TWO, ("l: cannot write", CAUSES["in the way"].replace("NAME", "k")), status=3,
          out=b"", stdin=EMPTY, setting=lambda folder: (in_the_way(folder), link("k")(folder))),
-    unsaved("hold -k k.krbfile", "name of saves"), unsaved(f"hold {IN_PLACE} -k k.krbfile", "name of saves"),
-    unsaved("hold -k k.krbfile", "name of saves", None), unsaved("hold -k d/k", "ENOENT", None),
     refused(K, ("k: refused 1", code(1)), files={"k": TWO[:-1]}, **IN_THE_WAY),
     refused(C, ("k: no such file", ""), **IN_THE_WAY),
     given(PLACED, TWO, EMPTY, after=NONE, name="in the way", **IN_THE_WAY),

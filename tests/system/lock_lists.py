@@ -6,13 +6,14 @@ Each file has the number 0 on the device 0:0. That of its mount is 0:38, if that
 import os
 from itertools import product
 
+from runs.commands import OLD, SCRIPT, Run
 from runs.harness import Report, differences, folder_of
 from runs.preload import Counted, Line, Preloaded, preloaded
 from runs.terminal import EXPLAIN
 from runs.undisturbed import in_place
 from system.failing_system_calls import READINGS
 from system.placing import EQUAL, explained
-from system.saving import ADD, OLD, SCRIPT, UNSAVED, Run
+from system.saving import ADD, UNSAVED
 from words.phrases import CAUSES
 
 LINE = Line((EXPLAIN, "ktedit", "k"), SCRIPT)

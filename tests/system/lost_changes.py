@@ -5,11 +5,14 @@ words or without; the output is as ever.
 """
 
 import os
-from collections.abc import Callable
+from collections.abc import Callable, Iterator
 from dataclasses import replace
+from itertools import chain
 from typing import BinaryIO
 
 from makers.images import B, HOST, keytab
+from runs.commands import CHANGES as CHANGES_OF_ALL
+from runs.commands import file_of
 from runs.harness import Case, Report, differences, folder_of
 from runs.preload import Line
 from runs.rows import shown
@@ -17,18 +20,17 @@ from runs.system_calls import Halt, check_traced, halted
 from runs.terminal import EXPLAIN
 from runs.undisturbed import Undisturbed, in_place, undisturbed
 from system.failing_system_calls import READINGS
-from system.placing import (CUT_OFF, EQUAL, LAST_OF_EACH, LONGER, MIXED, PLACED, SHORTER, changed, explained, images,
-                            message_of, told, with_words)
-from system.saving import tree_faults, unsaved
+from system.placing import CUT_OFF, EQUAL, LONGER, MIXED, SHORTER, explained, images, message_of, told, with_words
+from system.saving import ADD, tree_faults, unsaved
 from words.phrases import AFTERMATHS, CAUSES
 
 # A run of each command, and lines of ktutil of which the last ones are at fault and refused.
 TALK = undisturbed("ktutil", b"rkt j\nwkt k\nfrob\nwkt FILE:k\n", j=keytab(B), k=keytab(HOST),
                    name="adds, is at fault, and is refused")
-CASES_OF_ALL = (*LAST_OF_EACH, TALK)
+CASES_OF_ALL = (*CHANGES_OF_ALL, TALK)
 
 # Where a run is halted: before its rename, at the last reading of the locks, and behind it.
-HALTS = {"before": Halt("openat", 2 * READINGS, ("/proc/locks",)), "behind": Halt("?rename,?renameat,?renameat2")}
+HALTS = (Halt("openat", 2 * READINGS, ("/proc/locks",)), Halt("?rename,?renameat,?renameat2"))
 
 # And in place: when its bytes are written over, cut off, and synced, and at the last reading of the locks of one
 # that grows.
@@ -48,11 +50,12 @@ CHANGES: dict[str, tuple[Change, bool]] = {
     "another mode": (lambda file: os.fchmod(file.fileno(), 0o640), False),
     "the same bytes": (lambda file: file.write(b"\x05"), False),
 }
+ADD_MORE, _ = CHANGES["bytes at the end"]
 
 
 def changed_while(program: str, case: Case, halt: Halt, change: Change) -> list[str]:
     """Returns the faults of a run while which another program changes the file by a handle that it has."""
-    with folder_of(case.files) as folder, open(os.path.join(folder, changed(case)), "r+b", buffering=0) as file:
+    with folder_of(case.files) as folder, open(os.path.join(folder, file_of(case)), "r+b", buffering=0) as file:
         got = halted(program, Line(case.words, case.stdin), folder, halt, lambda folder: change(file))
         return differences(case.wanted, got) + tree_faults(case.files_after, folder)
 
@@ -62,84 +65,72 @@ def both_ways(case: Undisturbed, aftermath: str) -> list[Case]:
     return [replace(one.as_case(), wanted=told(one, aftermath)) for one in (case, with_words(case))]
 
 
-def check_lost(report: Report, program: str) -> None:
-    """Checks that each command tells of a change that it loses."""
-    change, _ = CHANGES["bytes at the end"]
-    for case in CASES_OF_ALL:
-        for where, halt in HALTS.items():
-            for one in both_ways(case, "lost change"):
-                name = f"lost {where} the rename: {shown(one.words)}: {case.name}"
-                report.check(name, changed_while(program, one, halt, change))
-
-
-def check_kinds(report: Report, program: str) -> None:
-    """Checks each kind of change: where the bytes are the same, nothing is told."""
-    case = PLACED[0].as_case()
-    for name, (change, is_lost) in CHANGES.items():
-        one = replace(case, wanted=told(case, "lost change")) if is_lost else case
-        report.check(f"{name}, behind the rename", changed_while(program, one, HALTS["behind"], change))
-
-
 def with_more(case: Case) -> Case:
     """Returns a run whose file then has more at its end too."""
-    name = changed(case)
+    name = file_of(case)
     return replace(case, files_after={**case.files_after, name: case.files_after[name] + MORE})
 
 
-def check_kept(report: Report, program: str) -> None:
-    """Checks that each command tells of a change of a file that it saves in place, and leaves it there."""
-    change, _ = CHANGES["bytes at the end"]
-    for case in map(in_place, CASES_OF_ALL):
+# A run, where it is halted, and the change then.
+Row = tuple[Case, Halt, Change]
+
+
+def of_each() -> Iterator[Row]:
+    """Yields runs of each command: one that replaces its file tells of a change that it loses, and one that saves it in
+    place tells of it and leaves it there."""
+    for case in CASES_OF_ALL:
         before, after = images(case)
-        for one in map(with_more, both_ways(case, "mixed")):
-            report.check(f"more at the end: {shown(one.words)}: {case.name}",
-                         changed_while(program, one, COMPARED if len(after) > len(before) else SYNCED, change))
+        yield from ((one, halt, ADD_MORE) for one in both_ways(case, "lost change") for halt in HALTS)
+        yield from ((with_more(one), COMPARED if len(after) > len(before) else SYNCED, ADD_MORE)
+                    for one in both_ways(in_place(case), "mixed"))
 
 
-def check_kinds_in_place(report: Report, program: str) -> None:
-    """Checks each kind of change of a file whose length stays: where the bytes are the same, nothing is told."""
-    case = in_place(EQUAL).as_case()
-    _, after = images(case)
+def of_kinds() -> Iterator[Row]:
+    """Yields each kind of change, in place of a file whose length stays: where the bytes are the same, nothing is told."""
+    lost, placed = ADD.as_case(), in_place(EQUAL).as_case()
+    _, after = images(placed)
     left = {"bytes at the end": after + MORE, "the last byte": after[:-1] + b"\xff", "no byte any more": b""}
     for name, (change, is_told) in CHANGES.items():
-        one = replace(case, wanted=told(case, "mixed") if is_told else case.wanted,
-                      files_after={"k": left.get(name, after)})
-        report.check(f"{name}, in place", changed_while(program, one, SYNCED, change))
+        yield replace(lost, wanted=told(lost, "lost change")) if is_told else lost, HALTS[1], change
+        yield replace(placed, wanted=told(placed, "mixed") if is_told else placed.wanted,
+                      files_after={"k": left.get(name, after)}), SYNCED, change
 
 
-def check_refused(report: Report, program: str) -> None:
-    """Checks the looks before an old byte is written over or cut off: what another program wrote stays.
+def of_refused() -> Iterator[Row]:
+    """Yields changes before an old byte is written over or cut off: what another program wrote stays.
 
     What was written is taken back, unless another program has written past the old end.
     """
-    add, (before, longer), shorter = CHANGES["bytes at the end"][0], images(LONGER), SHORTER.files["k"]
+    (before, longer), shorter = images(LONGER), SHORTER.files["k"]
     old_byte: Change = lambda file: file.seek(len(before) - 1) and file.write(b"\xff")
-    rows = [(LONGER, SYNCED, add, longer + MORE, "mixed"),
+    rows = [(LONGER, SYNCED, ADD_MORE, longer + MORE, "mixed"),
             (LONGER, SYNCED, CHANGES["no byte any more"][0], b"", "mixed"),
             (LONGER, SYNCED, old_byte, before[:-1] + b"\xff", ""),
-            (SHORTER, WRITTEN, add, shorter + MORE, "restored")]
+            (SHORTER, WRITTEN, ADD_MORE, shorter + MORE, "restored")]
     for case, halt, change, image, left in rows:
         placed = in_place(case).as_case()
         message = [message_of(placed, left)] if left == "mixed" else []
         words = [CAUSES["in use" if left == "mixed" else "changed"]]
         words += [AFTERMATHS[left]] if left == "restored" else []
         for options, lines in (((), message), ((EXPLAIN,), [*words, *message])):
-            one = replace(placed, words=(*options, *placed.words), files_after={"k": image},
-                          wanted=explained(unsaved(placed), *lines))
-            report.check(f"refused, {image[-4:]}: {shown(one.words)}: {case.name}",
-                         changed_while(program, one, halt, change))
+            yield replace(placed, words=(*options, *placed.words), files_after={"k": image},
+                          wanted=explained(unsaved(placed), *lines)), halt, change
 
 
-def check_later(report: Report, program: str) -> None:
-    """Checks changes behind the second write, and behind the cut."""
-    change, _ = CHANGES["bytes at the end"]
+def of_later() -> Iterator[Row]:
+    """Yields changes behind the second write, and behind the cut."""
     for case, halt in ((MIXED, Halt("fsync", 2)), (SHORTER, CUT), (SHORTER, SYNCED), (CUT_OFF, CUT)):
         placed = in_place(case).as_case()
-        one = replace(with_more(placed), wanted=told(placed, "mixed"))
-        report.check(f"more behind {halt.calls} {halt.nth}: {placed.name}", changed_while(program, one, halt, change))
+        yield replace(with_more(placed), wanted=told(placed, "mixed")), halt, ADD_MORE
+
+
+def check_rows(report: Report, program: str) -> None:
+    """Checks each of those runs."""
+    for case, halt, change in chain(of_each(), of_kinds(), of_refused(), of_later()):
+        name = f"{shown(case.words)} behind {halt.calls} {halt.nth}, {case.wanted.err}: {case.name}"
+        report.check(name, changed_while(program, case, halt, change))
 
 
 def check(report: Report, program: str) -> None:
     """Runs this topic."""
-    check_traced(report, program, "changes behind a comparison", check_lost, check_kinds, check_kept,
-                 check_kinds_in_place, check_refused, check_later)
+    check_traced(report, program, "changes behind a comparison", check_rows)

@@ -13,6 +13,7 @@ from caches import cache_files
 from caches import greatest_caches
 from keytabs.file_names import LIMIT, sized
 from keytabs.greatest import cases, copies
+from runs.commands import CHANGES, COMMANDS, READS, SAVING, file_of
 from runs.harness import SECONDS, Case, Outcome, Report, faults_of, run_case
 from runs.limits import limit
 from runs.random_runs import Rounds
@@ -29,8 +30,8 @@ MANY, ROOM = 40, 256 * 1024 * 1024
 # itself takes up to more than any run does.
 LEAST_POWER, MOST_POWER = 22, 30
 
-# The commands that print nothing before their output is complete.
-GATHERING = ("ktcheck", "ktedit", "ktremove", "ktcopy", "ccedit", "ccremove")
+# The commands that may print, or save, a part of what they do.
+PARTLY = ("ktutil", *(name for name, command in COMMANDS.items() if command.prints_early))
 
 
 def is_early(case: Case, got: Outcome, after: dict[str, bytes]) -> bool:
@@ -43,7 +44,7 @@ def is_early(case: Case, got: Outcome, after: dict[str, bytes]) -> bool:
     output = got.err.removesuffix(NO_MEMORY.err)
     is_front = case.wanted.out.startswith(got.out) and case.wanted.err.startswith(output)
     has_done_nothing = not got.out and after == case.files
-    return files_are_whole and is_front and (has_done_nothing or case.words[0] not in GATHERING)
+    return files_are_whole and is_front and (has_done_nothing or case.words[0] in PARTLY)
 
 
 def all_cases() -> list[Case]:
@@ -63,12 +64,10 @@ def faults_in(program: str, case: Case, kind: int, most: int) -> list[str]:
 
 def without_room() -> list[Case]:
     """Returns a run of each command over a file of as many bytes as there is memory."""
-    lines = {"klist -k k": b"", "ktfind k 0 0 b@R": b"", "ktcheck k": b"", "klist c": b"", "ktremove -k 3 k": b"",
-             "ccremove --expired c": b"", "ktedit k": b"start\n", "ccedit c": b"start\n", "ktutil": b"rkt k\n",
-             "hold -k k": b"2\n\5\2"}
-    files = {"k": sized(LIMIT), "c": cache_files.sized(LIMIT)}
-    return [Case(f"a file as large as the memory: {line}", (*line.split(),), NO_MEMORY, files, stdin=stdin)
-            for line, stdin in lines.items()]
+    keytab, cache = sized(LIMIT), cache_files.sized(LIMIT)
+    runs = (*CHANGES, *(run for run in READS if run.words[0] not in SAVING and "-s" not in run.words))
+    return [Case(f"a file as large as the memory: {run.name}", run.words, NO_MEMORY,
+                 {**run.files, file_of(run): cache if "c" in run.files else keytab}, stdin=run.stdin) for run in runs]
 
 
 def of_many() -> Case:

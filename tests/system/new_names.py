@@ -4,16 +4,18 @@ A stale file of a killed run is removed. Anything else stays as it is, and then 
 """
 
 import os
-from collections.abc import Callable
+from collections.abc import Callable, Iterator
 from concurrent.futures import ThreadPoolExecutor
 from dataclasses import replace
 
+from runs.commands import CHANGES, MAKES, NEW, OLD, SCRIPT, WALK, both_ways, file_of, renamed
 from runs.harness import Case, Report, message
 from runs.rows import printed
 from runs.undisturbed import IN_PLACE, Undisturbed, in_place
-from system.placing import PLACED, changed, refused
-from system.saving import (ADD, CHANGES, LINES, NEW, OLD, SAVED, SCRIPT, USER, WALK, as_another, at, check_over,
-                           faults_over, link, unsaved, write)
+from system.saving import (ADD, LINES, SAVED, USER, as_another, at, check_over, faults_over, link, unsaved, write)
+from system.waits import RUNS
+from words.explaining import Explained, in_the_way_of, unchanged
+from words.phrases import CAUSES
 
 # Another user who is not root.
 STRANGER = 1234
@@ -57,10 +59,10 @@ def faults_in_the_way(program: str, make: Make, mode: int, owner: int | None, ca
                       **options) -> list[str]:
     """Returns the faults of a run with something in place of its new file, in a folder of that mode."""
     files = {"other": b"other"}
-    places = [at(f"{case.words[-1]}.krbfile", make), at(".", lambda path: os.chmod(path, mode))]
+    places = [at(f"{file_of(case)}.krbfile", make), at(".", lambda path: os.chmod(path, mode))]
     if owner is not None:
         files |= case.files
-        places.insert(0, at(case.words[-1], lambda path: os.chown(path, owner, -1)))
+        places.insert(0, at(file_of(case), lambda path: os.chown(path, owner, -1)))
     if IN_PLACE in case.words:
         return faults_over(program, replace(case.as_case(), files=files), *places, **options)
     return faults_over(program, Case(case.name, case.words, unsaved(case), files, stdin=case.stdin), *places, **options)
@@ -136,22 +138,35 @@ def check_places(report: Report, program: str) -> None:
                                          {".krbfile": b"other", ".new": b"other"}, after, SCRIPT))
 
 
-def renamed(case: Undisturbed, name: str) -> Case:
-    """Returns the same run over a file of another name."""
-    last = case.words[-1]
-    files, after = ({name if each == last else each: data for each, data in those.items()}
-                    for those in (case.files, case.files_after))
-    return Case(case.name, (*case.words[:-1], name), case.wanted, files, after, case.stdin)
+def unsaved_as(run: Undisturbed, name: str, cause: str, setting: Make = lambda folder: None) -> Explained:
+    """Returns a run over a file of another name, which is not saved for that cause."""
+    one, line = renamed(run, name), "line 2: " * (run.words[0] == "ktutil")
+    return unchanged(one.words, (f"{name}: cannot write", line + CAUSES[cause].replace("NAME", name)), files=one.files,
+                     stdin=one.stdin, status=3, setting=setting)
 
 
-def check_no_names(report: Report, program: str) -> None:
-    """Checks that files with the name of a new one are not changed, nor is, but in place, a file under a name that is
-    too long for a new one."""
-    for case in (*CHANGES, *(in_place(each) for each in PLACED if changed(each) == each.words[-1])):
-        if_long = "" if IN_PLACE in case.words else "ENAMETOOLONG"
-        for name, cause in ((f"{case.words[-1]}.krbfile", "name of saves"), ("x" * 248, if_long), ("x" * 255, if_long)):
-            one = refused(renamed(case, name), cause) if cause else renamed(case, name)
-            check_over(report, program, replace(one, name=f"a name of {len(name)} bytes: {case.name}"))
+def of_names() -> Iterator[Explained | Case]:
+    """Yields runs over files with the name of a new one, under names too long for one, which in place are saved, and
+    where something is in the way, or no folder."""
+    for run in (*both_ways(*CHANGES), *MAKES):
+        yield unsaved_as(run, f"{file_of(run)}.krbfile", "name of saves")
+        yield from (renamed(run, name) if IN_PLACE in run.words else unsaved_as(run, name, "ENAMETOOLONG")
+                    for name in ("x" * 248, "x" * 255))
+        if IN_PLACE not in run.words:
+            yield unsaved_as(run, file_of(run), "in the way", in_the_way_of(file_of(run)))
+    yield from (unsaved_as(run, "d/k", "ENOENT") for run in MAKES)
+
+
+def check_names(report: Report, program: str) -> None:
+    """Checks each of those."""
+    def checked(row: Explained | Case) -> Report:
+        one = Report(report.is_proved, "new_names")
+        row.check(one, program)
+        return one
+
+    with ThreadPoolExecutor(RUNS) as pool:
+        for one in pool.map(checked, [*of_names()]):
+            report.add(one)
 
 
 def check(report: Report, program: str) -> None:
@@ -162,4 +177,4 @@ def check(report: Report, program: str) -> None:
     check_stale_files(report, program)
     check_own_names(report, program)
     check_places(report, program)
-    check_no_names(report, program)
+    check_names(report, program)

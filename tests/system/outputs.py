@@ -12,14 +12,14 @@ import subprocess
 from dataclasses import replace
 
 from makers.images import B, HOST, TWO, Entry, keytab
+from runs.commands import CHANGES, COMMANDS, LEAVES, READS, both_ways, mixed_cache, mixed_keytab, small_runs
 from runs.harness import SECONDS, Outcome, Report, differences, folder_of, message, run, run_case
 from runs.limits import limit
 from runs.rows import shown, words_of
 from runs.terminal import EXPLAIN
 from runs.undisturbed import Undisturbed, undisturbed
-from system.early_ends import End, Ends, mixed_cache, mixed_keytab, small_runs
+from system.early_ends import End, Ends
 from system.failing_streams import NO_OUTPUT, ends_in_output
-from system.saving import CHANGES, HOLDING_NOTHING, SAVING_NOTHING
 
 NO_INPUT = message(3, "cannot read input")
 
@@ -39,7 +39,6 @@ LONG = undisturbed("klist -k k", k=keytab(*[Entry((b"x" * 992,))] * 300))
 FILES = {"k": TWO, "j": keytab(HOST), "n": keytab(B)}
 TALKS = (
     undisturbed("ktutil", b"rkt j\nl\nwkt k\n", name="saves", **FILES),
-    undisturbed("ktutil", b"rkt j\ndelent 1\n", name="prints nothing", **FILES),
     undisturbed("ktutil", b"frob\nrkt k\nrkt j\nwkt n\n", name="is at fault", **FILES),
 )
 
@@ -47,9 +46,8 @@ TALKS = (
 # longer than a write may be.
 LONGEST, MESSAGE = 32_768 + 2_000, 1 << 20
 
-# Lines of commands that need no input, each with its status over a keytab.
-LINES = {"klist -k k": 0, "klist -s no": 1, "ktcheck k k": 1, "ktremove -p b@R k": 0, "ktremove --in-place -p b@R k": 0,
-         "ktcopy k new": 0, "hold no": 1, "hold -k no/k": 3, "ktedit --help": 0, "ktedit": 2}
+# Lines that need no input, besides those of the commands that need none, each with its status.
+LINES = {"klist -s no": 1, "hold no": 1, "hold -k no/k": 3, "ktedit --help": 0, "ktedit": 2}
 
 # What reads the input after a run, and ends with its status.
 THEN_READ = '"$0" "$@" > out 2>&1; status=$?; cat; exit $status'
@@ -103,11 +101,10 @@ def is_met(ends: Ends, stream: str, end: End) -> bool:
 def check_lost(report: Report, program: str, stream: str) -> None:
     """Makes runs that do not depend on the clock with that output on a full device, and then with it closed."""
     number = {"stdout": 1, "stderr": 2}[stream]
-    timeless = [ends for ends in small_runs() if ends.command not in ("ccremove", "ktutil")]
-    others = (*CHANGES, *HOLDING_NOTHING, *SAVING_NOTHING, *TALKS)
+    timeless = [run for run in small_runs() if run.words[0] not in ("ccremove", "ktutil")]
     with open("/dev/full", "wb") as full:
         lost = {"full": {stream: full}, "closed": {stream: None, "preexec_fn": lambda: os.close(number)}}
-        for ends in (*timeless, *map(Ends, others)):
+        for ends in map(Ends, (*timeless, *CHANGES, *READS, *LEAVES, *TALKS)):
             for how, options in lost.items():
                 got, files = run_case(program, ends.run, **options)
                 found = [] if is_met(ends, stream, (got, files)) else [f"{got} and {sorted(files)}"]
@@ -116,10 +113,10 @@ def check_lost(report: Report, program: str, stream: str) -> None:
 
 def check_closed_input(report: Report, program: str) -> None:
     """Checks an input that is closed."""
-    for words in (("ktedit", "k"), ("ktutil",), ("ccedit", "c")):
-        with folder_of(FILES) as folder:
-            got = run(program, words, folder, preexec_fn=lambda: os.close(0))
-        report.compare(f"a closed input: {' '.join(words)}", NO_INPUT, got)
+    for case in (each for each in CHANGES if each.stdin and each.words[0] != "hold"):
+        with folder_of(case.files) as folder:
+            got = run(program, case.words, folder, preexec_fn=lambda: os.close(0))
+        report.compare(f"a closed input: {case.name}", NO_INPUT, got)
 
 
 def pieces_of(program: str, case: Undisturbed, stream: str = "stdout") -> tuple[Outcome, list[int]]:
@@ -154,10 +151,12 @@ def check_pieces(report: Report, program: str) -> None:
 
 def check_left(report: Report, program: str) -> None:
     """Checks that who reads from the input after a command that needs none gets all of it."""
-    for line, status in LINES.items():
-        with folder_of({"k": TWO}) as folder:
-            got = run("sh", ("-c", THEN_READ, program, *words_of(line)), folder, GIVEN)
-        report.compare(f"the input is left: {shown(line)}", Outcome(status, GIVEN), got)
+    rows = [(each.words, each.files, each.wanted.status) for each in both_ways(*READS, *CHANGES)
+            if not COMMANDS[each.words[0]].reads_input]
+    for words, files, status in (*rows, *((words_of(line), {}, status) for line, status in LINES.items())):
+        with folder_of(files) as folder:
+            got = run("sh", ("-c", THEN_READ, program, *words), folder, GIVEN)
+        report.compare(f"the input is left: {shown(words)}", Outcome(status, GIVEN), got)
 
 
 def check(report: Report, program: str) -> None:

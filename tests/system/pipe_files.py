@@ -6,18 +6,17 @@ import os
 import threading
 from collections.abc import Iterator
 from contextlib import contextmanager, suppress
+from itertools import product
 
-from makers.images import TWO
+from runs.commands import CHANGES, OLD, file_of, renamed
 from runs.harness import Outcome, Report, differences, folder_of, run
 from runs.terminal import EXPLAIN
-from runs.undisturbed import IN_PLACE
-from system.saving import LINES, OLD, SCRIPT, tree_faults
+from runs.undisturbed import IN_PLACE, Undisturbed
+from system.saving import tree_faults
 from words.phrases import CAUSES
 
-# Runs that are to change NAME, each with its input, and names: of a pipe, of a link to it, and of other things.
-RUNS = {"ktedit NAME": SCRIPT, "ktremove -k 3 NAME": b"", "ktcopy two NAME": b"", "ccedit NAME": b"cut 40\n",
-        "ccremove --expired NAME": b"", "hold -k NAME": b"2\n\5\2", "hold NAME": b"", "ktutil": LINES + b"wkt NAME\n"}
-PIPES, OTHERS = ("k", "link"), (".", "/dev/null", "/dev/full/k")
+# Names of a pipe, of a link to it, and of other things.
+PIPES, OTHERS = ("pipe", "link"), (".", "/dev/null", "/dev/full/k")
 
 
 @contextmanager
@@ -40,27 +39,25 @@ def fed(path: str) -> Iterator[list[bool]]:
         feeder.join()
 
 
-def check_name(report: Report, program: str, line: str, stdin: bytes, name: str) -> None:
+def check_name(report: Report, program: str, case: Undisturbed, name: str) -> None:
     """Checks a run over that name, in both ways."""
-    place, found = "line 3: " if line == "ktutil" else "", []
-    with folder_of({"two": TWO}) as folder:
-        os.symlink("k", os.path.join(folder, "link"))
-        with fed(os.path.join(folder, "k")) as opened:
-            for option in ("", f" {IN_PLACE}"):
-                command, *rest = line.replace("NAME", name).split()
-                words = (EXPLAIN, command, *option.split(), *rest)
-                found.append(run(program, words, folder, stdin.replace(b"NAME", name.encode())))
+    place, one = "line 2: " if case.words[0] == "ktutil" else "", renamed(case, name)
+    others = {each: data for each, data in case.files.items() if each != file_of(case)}
+    with folder_of(others) as folder:
+        os.symlink("pipe", os.path.join(folder, "link"))
+        with fed(os.path.join(folder, "pipe")) as opened:
+            found = [run(program, (EXPLAIN, *words), folder, one.stdin)
+                     for words in (one.words, (one.words[0], IN_PLACE, *one.words[1:]))]
             faults = ["it was opened"] * len(opened)
         faults += differences(*found) + ([] if found[0].status else [f"{found[0]}"])
         if name in PIPES:
             output = f"krbfile: {name}: cannot read\nkrbfile: {place}{CAUSES['no plain file']}\n"
             faults += differences(Outcome(3, err=output.encode()), found[0])
-        faults += tree_faults({"k": "p", "link": "k", "two": TWO}, folder)
-    report.check(f"no plain file is changed: {line}, {name}", faults)
+        faults += tree_faults({"pipe": "p", "link": "pipe", **others}, folder)
+    report.check(f"no plain file is changed: {case.name}, {name}", faults)
 
 
 def check(report: Report, program: str) -> None:
     """Runs this topic."""
-    for line, stdin in RUNS.items():
-        for name in (*PIPES, *OTHERS):
-            check_name(report, program, line, stdin, name)
+    for case, name in product(CHANGES, (*PIPES, *OTHERS)):
+        check_name(report, program, case, name)

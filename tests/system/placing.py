@@ -1,20 +1,19 @@
-"""Runs of each command that save a file in place, and what is kept of it."""
+"""Runs that save a file in place, what they tell, and what is kept of the file."""
 
 import os
 from dataclasses import replace
 
 from makers.images import B, HOST, TWO, keytab
-from makers.usual_caches import USUAL
+from runs.commands import CHANGES, Run, file_of
 from runs.harness import Case, Outcome
 from runs.terminal import EXPLAIN
 from runs.undisturbed import explained as with_words
-from runs.undisturbed import frame, undisturbed
-from system.saving import ADD, Run, unsaved
+from runs.undisturbed import undisturbed
+from system.saving import unsaved
 from words.phrases import AFTERMATHS, CAUSES
 
-# An entry that is longer than those of the keytab, and lines of ktutil that add one to the keytab `k`.
+# An entry that is longer than those of the keytab.
 ADD_LONG = b"add 3 17 1700000000 000102030405060708090a0b0c0d0e0f a/long/name@R\n"
-TALK = b"rkt j\nwkt k\n"
 
 # Runs that make the file longer, that change old bytes too, and that keep its length or make it shorter.
 LONGER = undisturbed("ktedit k", ADD_LONG, k=TWO, name="adds at the end")
@@ -23,27 +22,13 @@ EQUAL = undisturbed("ktedit k", b"cut 2\n", k=TWO, name="removes")
 SHORTER = undisturbed("ktedit k", b"rewrite\n", k=keytab(60, HOST, 41, B), name="rewrites")
 CUT_OFF = undisturbed("ktedit k", b"rewrite\n", k=keytab(HOST, 41), name="drops the hole at the end")
 
-# A run of each command that can save in place, without that; and before them those. None depends on the clock.
-LAST_OF_EACH = (
-    CUT_OFF,
-    undisturbed("ktremove -p b@R k", k=TWO, name="removes"),
-    undisturbed("ktcopy k t", t=keytab(HOST), k=TWO, name="adds"),
-    undisturbed("ktutil", TALK, j=keytab(B), k=keytab(HOST), name="adds"),
-    undisturbed("ccedit c", b"cut 40\nconfig pa_type krbtgt/R@R 3\n", c=USUAL, name="sets"),
-    undisturbed("ccremove -p krbtgt/R@R c", c=USUAL, name="removes"),
-    undisturbed("hold -k k", frame(keytab(60, HOST)), k=TWO, name="saves"),
-)
-PLACED = (ADD, LONGER, MIXED, EQUAL, SHORTER, *LAST_OF_EACH)
-
-
-def changed(case: Run) -> str:
-    """Returns the name of the file that a run changes."""
-    return next(name for name, data in case.files_after.items() if data != case.files.get(name))
+# Runs that can save in place, without that.
+PLACED = (LONGER, MIXED, EQUAL, SHORTER, CUT_OFF, *CHANGES)
 
 
 def images(case: Run) -> tuple[bytes, bytes]:
     """Returns the file that a run changes, before and after it."""
-    name = changed(case)
+    name = file_of(case)
     return case.files[name], case.files_after[name]
 
 
@@ -52,16 +37,16 @@ def explained(outcome: Outcome, *phrases: str) -> Outcome:
     return replace(outcome, err=outcome.err + "".join(f"krbfile: {each}\n" for each in phrases).encode())
 
 
-def refused(case: Run, cause: str) -> Case:
-    """Returns a run of which the file is not saved, for that cause, which is explained."""
-    wanted = explained(unsaved(case), CAUSES[cause])
+def refused(case: Run, cause: str, name: str = "") -> Case:
+    """Returns a run of which the file, by default its own, is not saved, for that cause, which is explained."""
+    line = "line 2: " if "ktutil" in case.words else ""
+    wanted = explained(unsaved(case, name), line + CAUSES[cause].replace("NAME", name or file_of(case)))
     return Case(case.name, (EXPLAIN, *case.words), wanted, case.files, case.files, case.stdin)
 
 
 def message_of(case: Run, aftermath: str) -> str:
     """Returns the message, with words or without, of what the first save of a run left."""
-    name = "line 2" if "ktutil" in case.words else changed(case)
-    return f"{name}: {AFTERMATHS[aftermath]}"
+    return f"{'line 2' if 'ktutil' in case.words else file_of(case)}: {AFTERMATHS[aftermath]}"
 
 
 def told(case: Run, aftermath: str) -> Outcome:

@@ -13,12 +13,13 @@ from random import Random
 from makers.cache_images import cache
 from makers.images import HOST, TWO, keytab
 from makers.usual_caches import TICKET
+from runs.commands import COMMANDS, NOW, at_now, large_runs, rotated_keytab, small_runs
 from runs.harness import Outcome, Report, differences
 from runs.preload import Counted, Preloaded, preloaded
 from runs.random_runs import Rounds
 from runs.rows import words_of
 from runs.terminal import EXPLAIN
-from system.early_ends import NO_MEMORY, NOW, Ends, at_now, large_runs, rotated_keytab, small_runs
+from system.early_ends import NO_MEMORY, Ends
 
 # How many allocations of a run are refused: over small files all of them, and over larger ones some.
 FEW = 5_000
@@ -26,9 +27,6 @@ SOME = 45
 
 # The settings that refuse one allocation, and those that refuse all from it on.
 WAYS = {"once": {}, "from it on": {"REFUSE_LASTS": 1}}
-
-# The commands that print as they go.
-PRINTING = ("klist", "ktfind", "hold", "--help")
 
 # A check that explains what it finds, with hints.
 EXPLAINED = at_now((EXPLAIN, "ktcheck", "a b", "r", "no"), **{"a b": keytab(HOST, HOST), "r": rotated_keytab(4)})
@@ -72,7 +70,8 @@ def faults_of(ends: Ends, nth: int, got: Counted, may_print: bool) -> list[str]:
 def check_run(report: Report, under: Preloaded, ends: Ends, numbers: Callable[[int], Iterable[int]],
               **env: str) -> None:
     """Refuses the allocations whose numbers are chosen from how many there are, in both ways."""
-    over, may_print = under.over(ends.run.files), ends.command in PRINTING and not env
+    over, command = under.over(ends.run.files), COMMANDS.get(ends.command)
+    may_print = (command is None or command.prints_early) and not env
     whole = over.run(ends.line, CLOCK=NOW, **env)
     if (whole.outcome, whole.files) != ends.whole or whole.requests == 0:
         report.check(ends.run.name, ["it is not whole where nothing is refused, or its requests are not seen"])
@@ -102,18 +101,18 @@ def check(report: Report, program: str) -> None:
         if under is None:
             return
         check_defaults(report, under)
-        for ends in (*small_runs(), Ends(EXPLAINED)):
-            check_run(report, under, ends, lambda requests: spread(requests, FEW))
-        for ends in large_runs():
-            check_run(report, under, ends, lambda requests: spread(requests, SOME))
+        for run in (*small_runs(), EXPLAINED):
+            check_run(report, under, Ends(run), lambda requests: spread(requests, FEW))
+        for run in large_runs():
+            check_run(report, under, Ends(run), lambda requests: spread(requests, SOME))
 
 
 def check_rounds(report: Report, program: str, seeds: range) -> None:
     """Refuses allocations over larger files, as many per run as there are seeds, chosen by the first seed."""
     random = Random(seeds.start)
     with preloaded(report, program, "memory that is refused", {}) as under:
-        for ends in large_runs() if under else ():
-            check_run(report, under, ends,
+        for run in large_runs() if under else ():
+            check_run(report, under, Ends(run),
                       lambda requests: random.sample(range(1, requests + 1), min(requests, len(seeds))))
 
 

@@ -8,14 +8,15 @@ from dataclasses import replace
 from functools import partial
 
 from keytabs.edits import ADD_B
+from runs.commands import NEW, OLD, SCRIPT
 from runs.harness import Case, Outcome, Report, differences, folder_of, message
 from runs.preload import Line
 from runs.rows import text
 from runs.system_calls import Halt, check_traced, halted
 from runs.undisturbed import IN_PLACE
 from system.placing import refused
-from system.saving import (B_NEW, B_OLD, B_SAVED, NEW, OLD, SAVED, SCRIPT, UNSAVED, USER, Place, at, edit, link, tree,
-                           tree_faults, write)
+from system.saving import (B_NEW, B_OLD, B_SAVED, SAVED, UNSAVED, USER, Place, at, edit, link, tree, tree_faults,
+                           write)
 
 # The calls after which a run is halted, each under a name.
 HALTS = {

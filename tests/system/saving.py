@@ -4,21 +4,18 @@ from __future__ import annotations
 import os
 import stat
 from collections.abc import Callable
-from dataclasses import dataclass, replace
+from dataclasses import dataclass
 
 from keytabs.ktutil_lines import ADDENT, KEY
 from makers.images import B, HOST, keytab
-from makers.usual_caches import USUAL
-from runs.harness import Case, Outcome, Report, differences, folder_of, message, run
+from runs.commands import COMMANDS, NEW, OLD, SCRIPT, Run, file_of
+from runs.harness import Outcome, Report, differences, folder_of, message, run
 from runs.rows import text
-from runs.undisturbed import Undisturbed, frame, undisturbed
 
-# The script of most runs, the file before and after it, and what it prints; and so for a file with another entry.
-SCRIPT = b"add 3 17 1700000000 000102030405060708090a0b0c0d0e0f host/a@R\n"
-OLD, NEW, SAVED = keytab(), keytab(HOST), Outcome(0, b"placed 2\n")
+# A run of that script, what it prints, and so over a file with another entry.
+(ADD,), SAVED = COMMANDS["ktedit"].changes, Outcome(0, b"placed 2\n")
 B_OLD, B_NEW, B_SAVED = keytab(B), keytab(B, HOST), Outcome(0, b"placed 47\n")
 UNSAVED, UNREAD = message(3, "k: cannot write"), message(3, "k: cannot read")
-WALK = b"start\nstep 0\n"
 
 # Lines of ktutil that add an entry to its list.
 LINES = text([ADDENT, KEY])
@@ -27,23 +24,6 @@ LINES = text([ADDENT, KEY])
 USER, GROUP = 65_534, 54_321
 
 Place = Callable[[str], object]
-Run = Case | Undisturbed
-
-# Runs that change a file, those that take no hold, and those that take one and then have nothing to save. None depends
-# on the clock.
-ADD = undisturbed("ktedit k", SCRIPT, k=OLD, name="adds")
-CHANGES = (ADD, undisturbed("ccedit c", b"cut 40\n", c=USUAL, name="cuts"),
-           undisturbed("ccremove -p krbtgt/R@R c", c=USUAL, name="takes"),
-           undisturbed("hold -k k", frame(NEW), k=OLD, name="saves"))
-HOLDING_NOTHING = (undisturbed("ccedit c", b"start\n", c=USUAL, name="walks"),
-                   undisturbed("ccedit c", b"frob\n", c=USUAL, name="is at fault"),
-                   undisturbed("ccremove -n -p krbtgt/R@R c", c=USUAL, name="tells"),
-                   undisturbed("ccremove -n -p b@R c", c=USUAL, name="tells of none"))
-SAVING_NOTHING = (undisturbed("ccedit c", b"cut 3\n", c=USUAL, name="is refused"),
-                  undisturbed("ccremove -p b@R c", c=USUAL, name="finds none"))
-
-# A keytab that clashes with one of both entries.
-CLASH = keytab(replace(B, key=b"other"))
 
 
 def run_over(program: str, case: Run, folder: str, **options: object) -> Outcome:
@@ -53,7 +33,7 @@ def run_over(program: str, case: Run, folder: str, **options: object) -> Outcome
 
 def unsaved(case: Run, name: str = "") -> Outcome:
     """Returns the outcome if that file is not saved."""
-    return message(3, f"{name or case.words[-1]}: cannot write")
+    return message(3, f"{name or file_of(case)}: cannot write")
 
 
 def faults_over(program: str, case: Run, *places: Place, left: Owned | None = None, **options: object) -> list[str]:
@@ -68,7 +48,7 @@ def faults_over(program: str, case: Run, *places: Place, left: Owned | None = No
         after = stands(folder)
         faults += [f"{name} is not as it was" for name, own in before.items()
                    if own[0] == wanted[name] != "d" and own != after.get(name)]
-        found = left and owned(os.path.join(folder, case.words[-1]))
+        found = left and owned(os.path.join(folder, file_of(case)))
         faults += [] if found == left else [f"{found}, not {left}"]
         return faults + tree_faults(wanted, folder)
 

@@ -14,12 +14,15 @@ from itertools import product
 from keytabs.conversations import LISTED, Talk, terminal
 from keytabs.ktutil_lines import HEADING, NO_SLOTS
 from makers.images import TWO
+from runs.commands import COMMANDS
 from runs.harness import SECONDS, Outcome, Report, differences, folder_of, message
 from runs.rows import text
 from runs.undisturbed import IN_PLACE
 from system.outputs import LONG, piped
-from system.placing import TALK
 from system.saving import B_NEW, B_OLD, B_SAVED, NEW, OLD, SAVED, SCRIPT, edit, tree_faults, write
+
+# Lines of ktutil that add an entry to the keytab `k`.
+(TALK,) = COMMANDS["ktutil"].changes
 
 # How long a run has to reach the point where it waits.
 MOMENT = 0.05
@@ -79,14 +82,14 @@ def waits_for(process: subprocess.Popen[bytes], stream: int) -> bool:
 def check_unread(report: Report, program: str) -> None:
     """Checks that while nobody reads a run's output, another run can change the file."""
     rows = ((1, "ktedit OPTION k", SCRIPT, OLD), (1, "ktedit OPTION k", b"cut 3\n", OLD),
-            (2, "ktedit OPTION k", SCRIPT, b"other"), (2, "ktutil OPTION", TALK, b"other"),
-            (2, "ktutil OPTION", TALK, TWO[:-1]))
-    for (number, line, text, data), option in product(rows, ("", IN_PLACE)):
+            (2, "ktedit OPTION k", SCRIPT, b"other"), (2, "ktutil OPTION", TALK.stdin, b"other"),
+            (2, "ktutil OPTION", TALK.stdin, TWO[:-1]))
+    for (number, line, lines, data), option in product(rows, ("", IN_PLACE)):
         words, stream = line.replace("OPTION", option), {1: "stdout", 2: "stderr"}[number]
         with full_pipe() as given, folder_of({"j": B_OLD, "k": data}) as folder:
             slow = subprocess.Popen([program, *words.split()], cwd=folder, stdin=subprocess.PIPE,
                                     **{stream: given})
-            slow.stdin.write(text)
+            slow.stdin.write(lines)
             slow.stdin.close()
             while not waits_for(slow, number):
                 time.sleep(MOMENT)
@@ -96,7 +99,7 @@ def check_unread(report: Report, program: str) -> None:
             faults += [] if slow.poll() is None else ["the first run has ended"]
             slow.kill()
             slow.wait(SECONDS)
-        report.check(f"{words} with {text[:3]}, and nobody reads its {stream}", faults)
+        report.check(f"{words} with {lines[:3]}, and nobody reads its {stream}", faults)
 
 
 def check_idle(report: Report, program: str, *options: str) -> None:

@@ -4,23 +4,15 @@ import json
 from dataclasses import dataclass, replace
 from functools import partial
 
-from keytabs.ktutil_lines import KEY
 from makers.cache_images import Name, cache
 from makers.images import Entry, keytab
 from makers.usual_caches import TICKET
+from runs.commands import COMMANDS
 from runs.harness import folder_of, run
 from runs.undisturbed import PROGRAM
 
 # How many runs there are at once.
 MANY = 60
-
-# The line of each command that adds or removes NAME, and its input.
-LINES = {
-    "ktremove": ("ktremove -p NAME@R PATH", ""), "ccremove": ("ccremove -p NAME@R PATH", ""),
-    "ktcopy": ("ktcopy SOURCE PATH", ""), "ccedit": ("ccedit PATH", "config NAME - v\n"),
-    "ktedit": ("ktedit PATH", f"add 1 17 1700000000 {KEY} NAME@R\n"),
-    "ktutil": ("ktutil", f"addent -key -p NAME@R -k 1 -e 17\n{KEY}\nwkt PATH\n"),
-}
 
 # Parts of a listing as JSON, each with the member that begins with a name.
 NAMED = {"entries": "principal", "tickets": "server", "config": "key"}
@@ -33,7 +25,8 @@ def removes(command: str) -> bool:
 
 def change(command: str, name: str, path: str = "k", source: str = "") -> tuple[list[str], str]:
     """Returns the words and the input of a run that adds or removes a name. `source` is a keytab that has the name."""
-    line, text = (each.replace("NAME", name).replace("PATH", path).replace("SOURCE", source) for each in LINES[command])
+    line, text = (each.replace("NAME", name).replace("PATH", path).replace("SOURCE", source)
+                  for each in COMMANDS[command].turns)
     return line.split(), text
 
 
@@ -95,24 +88,23 @@ class Kind:
         return ", ".join(words)
 
 
-KTEDIT, KTUTIL, KTREMOVE = ("ktedit",), ("ktutil",), ("ktremove",)
-CCEDIT, CCREMOVE, BOTH = ("ccedit",), ("ccremove",), ("ccedit", "ccremove", "ccremove", "ccedit")
+# The commands that add or remove a name of a keytab, of a cache, and several in turn.
+OF_KEYTABS, OF_CACHES = ([(name,) for name, command in COMMANDS.items() if command.turns[0] and name[:2] == front]
+                         for front in ("kt", "cc"))
+MIXED, BOTH = tuple(name for (name,) in OF_KEYTABS if name != "ktutil"), ("ccedit", "ccremove", "ccremove", "ccedit")
+ADDING = [names for names in OF_KEYTABS if not removes(*names)]
 
-KTCOPY, MIXED = ("ktcopy",), ("ktcopy", "ktedit", "ktremove", "ktcopy")
-
-# The kinds in which keytabs are copied into the file.
-COPIES = (Kind(KTCOPY), Kind(KTCOPY, over_none=True), Kind(MIXED), Kind(KTCOPY, kills=True),
-          Kind(KTCOPY, over_none=True, kills=True), Kind(KTCOPY, with_mit=True), Kind(MIXED, with_mit=True))
+# The kinds of one command and of several; those in which half of the runs are killed; those over none; and those beside
+# MIT's ktutil. In some keytabs are copied into the file.
+ALL = (*(Kind(names, kills=kills) for names in (*OF_KEYTABS, *OF_CACHES, MIXED, BOTH) for kills in (False, True)),
+       *(Kind(names, over_none=True, kills=kills) for names in ADDING for kills in (False, True)),
+       *(Kind(names, with_mit=True) for names in (*ADDING, MIXED)))
+COPIES = tuple(kind for kind in ALL if any("SOURCE" in COMMANDS[each].turns[0] for each in kind.commands))
+KINDS = tuple(kind for kind in ALL if kind not in COPIES)
 
 # The kinds in which other programs add entries by `hold`: these are the runs that are killed.
 HOLDS = (Kind(("ktedit", "hold", "ktremove", "hold")), Kind(("ktedit", "hold"), kills=True))
 
 # The kinds of which some runs save in place.
-PLACES = tuple(Kind(commands, in_place=True) for commands in (KTEDIT, KTUTIL, MIXED, BOTH)) + (
-    Kind(KTEDIT, in_place=True, kills=True), Kind(BOTH, in_place=True, kills=True))
-
-KINDS = (Kind(KTEDIT), Kind(KTEDIT, over_none=True), Kind(KTUTIL), Kind(KTUTIL, over_none=True),
-         Kind(KTEDIT, kills=True), Kind(KTEDIT, over_none=True, kills=True),
-         Kind(KTUTIL, kills=True), Kind(KTEDIT, with_mit=True), Kind(KTUTIL, with_mit=True),
-         Kind(KTREMOVE), Kind(KTREMOVE, kills=True), Kind(CCEDIT), Kind(CCREMOVE), Kind(BOTH),
-         Kind(CCEDIT, kills=True), Kind(CCREMOVE, kills=True), Kind(BOTH, kills=True))
+PLACES = (*(Kind(names, in_place=True) for names in (("ktedit",), ("ktutil",), MIXED, BOTH)),
+          *(Kind(names, in_place=True, kills=True) for names in (("ktedit",), BOTH)))

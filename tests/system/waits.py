@@ -12,9 +12,10 @@ from collections.abc import Callable, Iterator
 from concurrent.futures import ThreadPoolExecutor
 from contextlib import ExitStack, contextmanager
 
-from runs.harness import Case, Report, differences, folder_of
+from runs.commands import NEW, OLD, Run
+from runs.harness import Report, differences, folder_of
 from system.disk_faults import mounted
-from system.saving import ADD, CHANGES, NEW, OLD, SAVED, UNSAVED, edit, run_over, tree, tree_faults, write
+from system.saving import ADD, SAVED, UNSAVED, edit, run_over, tree, tree_faults, write
 
 # More locks than fit in one read of the system's list, and enough of them to make the list slow.
 MANY = 300
@@ -49,7 +50,7 @@ def ofd_lock(file, kind: int) -> None:
     fcntl.fcntl(file, fcntl.F_OFD_SETLK, struct.pack("hhqqixxxx", kind, os.SEEK_SET, 0, 0, 0))
 
 
-def faults_of_waiting(program: str, folder: str, end: Callable[[], None], case: Case = ADD) -> list[str]:
+def faults_of_waiting(program: str, folder: str, end: Callable[[], None], case: Run = ADD) -> list[str]:
     """Returns the faults of a run that has to wait until `end`, which is called after a moment."""
     has_ended = threading.Event()
 
@@ -58,34 +59,11 @@ def faults_of_waiting(program: str, folder: str, end: Callable[[], None], case: 
         end()
 
     timer = threading.Timer(0.3, end_it)
-    wanted = case.wanted
     timer.start()
-    faults = differences(wanted, run_over(program, case, folder))
+    faults = differences(case.wanted, run_over(program, case, folder))
     faults += [] if has_ended.is_set() else ["it did not wait"]
     timer.join()
     return faults + tree_faults(case.files_after, folder)
-
-
-def check_locks(report: Report, program: str) -> None:
-    """Checks that a run waits for another's new file, and for whoever has locked the file to write to it."""
-    locks = [
-        (".krbfile", "another run's lock", lambda file: fcntl.flock(file, fcntl.LOCK_EX)),
-        ("", "a lock of a program", lambda file: fcntl.lockf(file, fcntl.LOCK_EX)),
-        ("", "a lock of a part", lambda file: fcntl.lockf(file, fcntl.LOCK_EX, 1, 9)),
-        ("", "a lock of an open file", lambda file: ofd_lock(file, fcntl.F_WRLCK)),
-    ]
-    for case in CHANGES:
-        for ending, what, lock in locks:
-            name = case.words[-1] + ending
-            with folder_of({**case.files, name: OLD} if ending else case.files) as folder:
-                with open(os.path.join(folder, name), "r+b") as file:
-                    lock(file)
-                    faults = faults_of_waiting(program, folder, file.close, case)
-            report.check(f"{what} is waited for: {case.name}", faults)
-    with folder_of({"k": OLD}) as folder, open(os.path.join(folder, "k"), "rb") as file:
-        ofd_lock(file, fcntl.F_RDLCK)
-        faults = differences(SAVED, edit(program, folder)) + tree_faults({"k": NEW}, folder)
-    report.check("a lock to read is not waited for", faults)
 
 
 def check_many_locks(report: Report, program: str) -> None:
@@ -216,7 +194,6 @@ def check_other_disk(report: Report, program: str) -> None:
 def check(report: Report, program: str) -> None:
     """Runs this topic."""
     if os.path.exists("/proc/locks"):
-        check_locks(report, program)
         check_many_locks(report, program)
         check_waiting_locks(report, program)
         check_lasting_locks(report, program)

@@ -9,6 +9,7 @@ from functools import cache
 from keytabs.columns import BY_NAME
 from makers.samples import folder_of_samples
 from pages.readme import surroundings
+from runs.commands import CHANGES, COMMANDS
 from runs.harness import TOP, Report, folder_of, run
 from words.phrases import FINDINGS
 
@@ -40,9 +41,12 @@ SHELLS = {"bash": ("-c", BASH, "bash-completion/completions/krbfile"),
 # Lines, and what completes the last word, beside a file `k`.
 LINES = {
     "klist -k --v": {"--v1-big"}, "--explain klist --js": {"--json"}, "--explain ktr": {"ktremove"},
-    "help kte": {"ktedit"}, "ktfind --v1-big k 0 ": {*BY_NAME}, "ktremove k -e ": {*BY_NAME}, "ktremove -k ": {"old"},
-    "ktcopy --kvno ": {"new"}, "ktcopy --enctype aes256-cts-hmac-sha1": {"aes256-cts-hmac-sha1-96"},
-    "ktcheck --allow ": {*FINDINGS}, "klist ": {"k"}, "ktcopy -n k ": {"k"}, "hold -k ": {"k"},
+    "help kte": {"ktedit"}, "ktfind --v1-big k 0 ": {*BY_NAME}, "ktcheck --allow ": {*FINDINGS}, "klist ": {"k"},
+    **{" ".join((*run.words[:-1], "")): {"k"} for run in CHANGES if run.words[1:]},
+    **{line.replace("COMMAND", name): words for name, command in COMMANDS.items() if command.version
+       for line, words in {"COMMAND -k ": {command.version}, "COMMAND --kvno ": {command.version},
+                           "COMMAND k -e ": {*BY_NAME},
+                           "COMMAND --enctype aes256-cts-hmac-sha1": {"aes256-cts-hmac-sha1-96"}}.items()},
 }
 
 # The statuses that help tells, and how it ends.

@@ -3,8 +3,7 @@
 import os
 import re
 import socket
-from collections.abc import Callable, Iterator
-from dataclasses import dataclass, field
+from collections.abc import Iterator
 from errno import ENXIO
 from functools import partial
 from itertools import product
@@ -20,9 +19,9 @@ from keytabs.scripts import FAULTS as LINE_FAULTS
 from makers.cache_images import cache
 from makers.images import B, HOST, TWO, keytab, record
 from makers.usual_caches import USUAL, VERSION_3
-from runs.harness import Outcome, Report, differences, files_in, folder_of, run
-from runs.rows import Line, shown, text, words_of
+from runs.harness import Report, folder_of, run
 from runs.terminal import EXPLAIN, WAYS, run_explained, run_on_terminal
+from words.explaining import CUT_CACHE, Explained, case, copy, failed, link, no_keytab
 from words.phrases import (BAD_DEFAULT, BAD_HEADER, BEGINS_AS_CACHE, BEGINS_AS_KEYTAB, BEGINS_AS_NO_CACHE,
                            BEGINS_AS_NO_KEYTAB, CAUSES, CLASH, FAULTS, FINDINGS, LARGE, LISTED_AS_KEYTAB, NO_ENTRY,
                            NO_PASSWORDS, SEE_HELP, SHORT, TO_REPLACE, code, line_fault, unknown)
@@ -30,69 +29,7 @@ from words.phrases import (BAD_DEFAULT, BAD_HEADER, BEGINS_AS_CACHE, BEGINS_AS_K
 ADD = f"{ADD_HOST}\n".encode()
 ADDENT = "addent -key -p host/a@R -k 3 -e 17\n"
 WRITE = f"{ADDENT}{KEY}\nwkt k\n".encode()
-CUT, CUT_CACHE = TWO + b"\0\0\0", USUAL + b"\0"
-
-# Messages, each with its explanation or an empty text.
-Output = tuple[tuple[str, str], ...]
-
-
-@dataclass(frozen=True)
-class Explained:
-    """A run, and the messages on its error output."""
-
-    name: str
-    words: Line
-    output: Output
-    files: dict[str, bytes]
-    stdin: bytes = b""
-    status: int = 1
-    # The output, if it is known.
-    out: bytes | None = None
-    # The files afterwards, if they are checked.
-    after: dict[str, bytes] | None = None
-    # The options of the run, such as its environment.
-    options: dict[str, object] = field(default_factory=dict)
-    # A change to the folder before the run.
-    setting: Callable[[str], None] = lambda folder: None
-
-    def wanted(self, explained: bool, out: bytes) -> Outcome:
-        """Returns the expected outcome with that output."""
-        lines = [line for one in self.output for line in (one if explained else one[:1]) if line]
-        return Outcome(self.status, out, "".join(f"krbfile: {line}\n" for line in lines).encode())
-
-    def check(self, report: Report, program: str) -> None:
-        """Runs it on a pipe and with explanations: everything else is the same."""
-        if report.leaves_out(len(self.stdin) + sum(map(len, self.files.values()))):
-            return
-        out = self.out
-        for way, (make, explains) in WAYS.items():
-            with folder_of(self.files) as folder:
-                self.setting(folder)
-                got = make(program, self.words, folder, self.stdin, **self.options)
-                out = got.out if out is None else out
-                found = differences(self.wanted(explains, out), got)
-                if self.after is not None and files_in(folder) != self.after:
-                    found.append("other files")
-            report.check(f"{self.name}, {way}", found)
-
-
-def case(name: str, line: str | Line, image: bytes | None, *output: tuple[str, str], file: str = "k",
-         **more) -> Explained:
-    """Returns a run over that file, or over none."""
-    return Explained(name, words_of(line), output, {} if image is None else {file: image}, **more)
-
-
-def unchanged(line: str | Line, *output: tuple[str, str], files: dict[str, bytes] | None = None, stdin: bytes = b"",
-              status: int = 1, out: bytes = b"", **more) -> Explained:
-    """Returns a run that leaves its files as they are."""
-    name = f"{shown(line)}, {stdin[:24]!r}, {[*(files or ())]}"
-    return Explained(name, words_of(line), output, files or {}, stdin, status, out, files or {}, **more)
-
-
-def no_keytab(why: tuple[int, str], name: str = "k") -> tuple[str, str]:
-    """Returns the message about a file that is not a keytab."""
-    return f"{name}: not a keytab ({why[0]})", why[1]
-
+CUT = TWO + b"\0\0\0"
 
 def talk(given: bytes, image: bytes | None, *told: tuple[int, str, str]) -> Explained:
     """Returns a run of ktutil, and what is told of each of some lines: the explanation has the number too."""
@@ -113,42 +50,10 @@ def replies(command: str, image: bytes, script: bytes, refusals: tuple[int, ...]
                 *(("", f"fault {number}: {FAULTS[number]}") for number in faults), stdin=script)
 
 
-def failed(words: Line, does: str, cause: str, image: bytes | None, **more) -> Explained:
-    """Returns a run over the file that its last word names, which it cannot read or write."""
-    name = words[-1]
-    return case(f"{words[0]}: cannot {does}, {cause}", words, image,
-                (f"{name}: cannot {does}", CAUSES.get(cause, cause).replace("NAME", name)), status=3, **more)
-
-
-def copy(options: str, source: bytes | None, target: bytes | None, *output: tuple[str, str], status: int = 1,
-         out: list[str] | tuple[str, ...] = (), **more) -> Explained:
-    """Returns a copy from `k` to `t`, or to none, its messages, and the lines that it prints."""
-    words = ("ktcopy", *words_of(options), "k", "t")
-    files = {file: image for file, image in (("k", source), ("t", target)) if image is not None}
-    name = f"{shown(words)}, files of {[len(image) for image in files.values()]} bytes"
-    return Explained(name, words, output, files, status=status, out=text(out), **more)
-
-
-def for_owner(folder: str) -> None:
-    """Lets the files of a folder be read by their owner alone."""
-    for each in os.scandir(folder):
-        os.chmod(each, 0o600)
-
-
 def socket_in(folder: str) -> None:
     """Makes a socket, which no program can open as a file."""
     with socket.socket(socket.AF_UNIX) as made:
         made.bind(os.path.join(folder, "s"))
-
-
-def in_the_way(folder: str) -> None:
-    """Makes something in the place of the new file of `k`."""
-    os.mkdir(os.path.join(folder, "k.krbfile"))
-
-
-def link(target: str | bytes) -> Callable[[str], None]:
-    """Returns a function that makes a link `l` to a target."""
-    return lambda folder: os.symlink(target, os.path.join(os.fsencode(folder), b"l"))
 
 
 # Commands that change a cache, each with its input.
@@ -219,22 +124,16 @@ CASES = [
       for command, image, other in (("ktedit", TWO, {b"config k - v": unknown("config")}),
                                     ("ccedit", USUAL, {b"add 3 17 0 - b@R": line_fault(1)}))
       for line, phrase in {**PHRASES, **other}.items()),
-    # Files that are not read, and those that are not saved.
+    # Files that are not read, and one that is not saved: new_names has others.
     failed(("klist", "-k", "k/x"), "read", "ENOTDIR", TWO),
     failed(("klist", "-k", "x" * 256), "read", "ENAMETOOLONG", TWO),
     failed(("klist", "-k", "l"), "read", "ELOOP", TWO, setting=link("l")),
     failed(("klist", "-k", "s"), "read", f"error {ENXIO}", TWO, setting=socket_in),
-    *(failed(("ktedit", file), "write", cause, None, stdin=ADD, **more) for file, cause, more in (
-        ("d/k", "ENOENT", {}), ("k.krbfile", "name of saves", {}), ("x" * 248, "ENAMETOOLONG", {}),
-        ("k", "in the way", {"setting": in_the_way}), ("l", "bad link", {"setting": link(b"\xff")}))),
-    *(failed((*line.split(), file), "write", cause, USUAL, file=file, stdin=stdin, **more) for line, stdin in CHANGING
-      for file, cause, more in (("c.krbfile", "name of saves", {}), ("k", "in the way", {"setting": in_the_way}))),
+    failed(("ktedit", "l"), "write", "bad link", None, stdin=ADD, setting=link(b"\xff")),
     *(case(f"wkt of no entry over {image}", "ktutil", image, ("", f"line 1: {NO_ENTRY.replace('NAME', 'k')}"),
            stdin=b"wkt k\n", status=0, after={"k": image or keytab()})
       for image in (None, keytab(), keytab(41), b"\5\2\0")),
     case("wkt of no entry over two", "ktutil", TWO, stdin=b"wkt k\n", status=0),
-    case("wkt to a name of saves", "ktutil", None,
-         ("k.krbfile: cannot write", f"line 1: {CAUSES['name of saves']}"), stdin=b"wkt k.krbfile\n", status=3),
     # Faults of damaged files, which stand in the listing, and replies of scripts.
     *(case(f"listed: fault {number}", line, image, ("", f"k: fault {number} at {at}"), ("", FAULTS[number]))
       for number, line, image, at in (
@@ -253,8 +152,6 @@ CASES = [
     copy("", b"", TWO, no_keytab(SHORT)),
     copy("", TWO, TWO[:-1], ("t: refused 1", code(1))),
     lambda: copy("", TWO, keytab(record(B.spelled().ljust(LIMIT - 6, b"\0"))), ("t: refused 3", code(3))),
-    failed(("ktcopy", "from", "d/t"), "write", "ENOENT", TWO, file="from", out=b""),
-    failed(("ktcopy", "from", "k"), "write", "in the way", TWO, file="from", out=b"", setting=in_the_way),
     copy("", keytab(B, OTHER, OTHER), None, ("", f"clash: {CLASH}"), ("", TO_REPLACE),
          out=[f"clash 47 2 {Y}", f"clash 92 2 {Y}"]),
     copy("-n --replace -p b@R", TWO, keytab(OTHER), status=0, out=[f"removed 2 {Y}", f"copied 2 {Y}"]),

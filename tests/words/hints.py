@@ -10,12 +10,13 @@ from pages.readme import surroundings
 from runs.harness import Report, folder_of, run
 from runs.rows import Line, printed, shown, words_of
 from runs.terminal import EXPLAIN
-from words.explained import Explained, for_owner
-from words.phrases import FAULTS, FINDINGS
+from words.explaining import Explained, for_owner
+from words.phrases import FAULTS, FINDINGS, HINTS
 
-REMOVE, COPY = "to see what would go: krbfile ktremove", "to have each once: krbfile ktcopy"
-SEE = f"{REMOVE} -n"
-OLD, RC4, ONCE = f"{SEE} -k old --age 86400 ", f"{SEE} -e arcfour-hmac ", f"{COPY} "
+# The hints up to the file, and the beginnings of their lines.
+OLD, RC4, ONCE = (HINTS[each].replace("ETYPE..", "arcfour-hmac").partition("FILE")[0] for each in ("old", "weak", "same"))
+SEE = RC4.partition(" -e")[0]
+REMOVE = SEE.removesuffix(" -n")
 
 # A keytab of the three findings that have hints, and what each of their commands prints.
 ALL = keytab(replace(HOST, enctype=23), B, B, FIVE)
@@ -77,7 +78,7 @@ CASES = [
     *(named(f"{word}x") for word in LONGEST), named("./" * 2_000 + "k"), *map(named, READ_OTHERWISE),
     # The order of a keytab of version 1.
     check_up("--v1-big k", {"k": ALL}, "weak", "same", "old", f"{REMOVE} --v1-big -n -k old --age 86400 k",
-             f"{REMOVE} --v1-big -n -e arcfour-hmac k", f"{COPY} --v1-big k NEW"),
+             f"{REMOVE} --v1-big -n -e arcfour-hmac k", f"{ONCE}--v1-big k NEW"),
     check_up("", {"a b": keytab(HOST, HOST)}, "same", f"{ONCE}'a b' NEW", options={"env": {"KRB5_KTNAME": "FILE:a b"}}),
     # Weak types, by rising number, each once.
     *(check_up("k", {"k": weak(17, number)}, "weak", f"{SEE} -e {name} k") for number, name in WEAK.items()),

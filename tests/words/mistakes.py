@@ -7,7 +7,7 @@ from runs.harness import Case, Outcome, Report, differences, folder_of, run
 from runs.rows import Line, shown, words_of
 from runs.terminal import EXPLAIN, run_on_terminal, runs_with_words
 from words.command_lines import HELP, REFUSED, lines_of
-from words.explained import Explained
+from words.explaining import Explained
 
 MESSAGE = b"krbfile: bad command line\n"
 

@@ -4,12 +4,14 @@ import os
 import re
 import subprocess
 import tempfile
+from collections.abc import Iterator
 from dataclasses import dataclass, field, replace
 from functools import partial
 
 from makers.cache_images import Name, cache
 from makers.images import B, Entry, keytab
 from makers.usual_caches import TICKET
+from runs.commands import READS
 from runs.harness import Outcome, Report, differences, folder_of, run
 from runs.terminal import EXPLAIN, all_of
 
@@ -63,20 +65,10 @@ def long_names(front: bytes) -> list[Printed]:
 named = partial(Printed, part=(FILE, TAMED_FILE))
 
 RUNS = [
-    Printed(("klist", "-k", "k"), b"   3 NAME/a@R\n", {"k": WILD_KEYTAB}),
-    Printed(("klist", "-kte", "k"), b" NAME/a@R ", {"k": WILD_KEYTAB}),
     Printed(("klist", "c"), b"Default principal: NAME@R\n", {"c": WILD_CACHE}),
-    Printed(("klist", "-fe", "c"), b" NAME/a@R\n", {"c": WILD_CACHE}),
     Printed(("klist", "--json", "-k", "j"), b'"principal":"\\u001b[2J\\u009b31m/a@R"', {"j": TEXT}, is_json=True),
     Printed(("klist", "--json", "d"), b'"\\u001b[2J\\u009b31m@R"', {"d": TEXT_CACHE}, is_json=True),
     Printed(("ktcheck", "k"), b"hidden 2 kvno 3 etype 17 NAME/a@R\n", {"k": keytab(Entry((WILD, b"a"), key=b""), B)}),
-    Printed(("ktedit", "k"), b"walk 0 gave 2 next 77 kvno 3 etype 17 NAME/a@R\n", {"k": WILD_KEYTAB},
-            b"start\nstep 0\n"),
-    Printed(("ktcopy", "-n", "k", "new"), b"copied 2 kvno 3 etype 17 NAME/a@R\n", {"k": WILD_KEYTAB}),
-    Printed(("ktremove", "-n", "-k", "3", "k"), b"removed 2 kvno 3 etype 17 NAME/a@R\n", {"k": WILD_KEYTAB}),
-    Printed(("ccedit", "c"), b" NAME/a@R\n", {"c": WILD_CACHE}, b"start\nstep 0\n"),
-    Printed(("ccremove", "-n", "--expired", "c"), b" NAME/a@R\n", {"c": WILD_CACHE}),
-    Printed(("ktutil",), b"   1    3 NAME/a@R\n", {"k": WILD_KEYTAB}, b"rkt k\nlist\n"),
     Printed(("ktutil",), b"krbfile: kNAME: no such file\n", stdin=b"rkt k\x1b\n", part=(b"\x1b", b"\\x1b")),
     named(("klist", "-k", FILE), b"krbfile: NAME: no such file\n"),
     named(("klist", "--json", "-k", FILE), b"krbfile: NAME: no such file\n", is_json=True),
@@ -85,6 +77,15 @@ RUNS = [
     *long_names(b""),
     *long_names(b"a"),
 ]
+
+
+def of_commands() -> Iterator[Printed]:
+    """Yields the runs of each command that print the name of the first entry or ticket, over others."""
+    for each in READS:
+        if re.search(b" (host/a|krbtgt/R)@R\n", each.wanted.out):
+            wild = {"k": WILD_KEYTAB, "c": WILD_CACHE}
+            yield Printed(each.words, b" NAME/a@R\n", {name: wild.get(name, image) for name, image in each.files.items()},
+                          each.stdin, name=each.name)
 
 
 def on_terminal(program: str, words: tuple[str | bytes, ...], stream: str, printed: Printed) -> Outcome:
@@ -123,5 +124,5 @@ def check_printed(report: Report, program: str, printed: Printed) -> None:
 
 def check(report: Report, program: str) -> None:
     """Makes each run."""
-    for printed in RUNS:
+    for printed in (*RUNS, *of_commands()):
         check_printed(report, program, printed)

@@ -11,7 +11,7 @@ from keytabs.edits import ADD_B, ADD_C, C
 from keytabs.ktutil_lines import ADDENT, KEY
 from makers.images import B, TWO, Entry, keytab, old
 from runs.rows import text
-from words.explained import Explained, copy, failed, in_the_way
+from words.explaining import Explained, copy, in_the_way
 from words.phrases import CAUSES, CLASH, TO_REPLACE, UNSEEN, code, unknown
 
 # An entry that is hidden, the same with a key, a line that adds it, and how it is printed.
@@ -82,7 +82,7 @@ CASES = [
     copy("-n", keytab(HIDDEN, B), keytab(OTHER), ("", f"clash: {CLASH}"), ("", TO_REPLACE),
          out=[f"copied 47 {H}", f"clash 31 2 {Y}"]),
     copy("", keytab(HIDDEN, LONG), old(), ("t: refused 2", code(2))),
-    failed(("ktcopy", "k", "t.krbfile"), "write", "name of saves", keytab(HIDDEN), out=b""),
+    copy("", keytab(HIDDEN), None, ("t.krbfile: cannot write", CAUSES["name of saves"]), to="t.krbfile", status=3),
     talk("a seen entry before a hidden one", ["rkt b", "wkt o"], J),
     talk("each line that writes", ["rkt b", "wkt n", "wkt h", "rkt j", "", "wkt m", "clear", "wkt h", "q"], J, (3, 2),
          (6, 47)),

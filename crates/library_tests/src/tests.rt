@@ -6,6 +6,7 @@ mod holds;
 mod keytabs;
 mod made;
 mod readme;
+mod sessions;
 
 use krb_walk::Refusal;
 use linked_list_allocator::LocalHeap;

@@ -10,7 +10,9 @@ use std::alloc::Allocator;
 use std::test::Fail;
 
 /// Returns a ticket for `host/a@R` with an address.
-fn ticket<A: Allocator + Copy>(alloc: A) -> Result<Cred<A>, Refusal> {
+fn ticket(alloc: &LocalHeap) -> Result<Cred<&LocalHeap>, Refusal> {
+    let mut addresses = Vec::new(alloc);
+    addresses.push((2, Vec::from_slice(alloc, b"abcd")?))?;
     Ok(Cred {
         client: name_of(alloc, b"u@R")?,
         server: name_of(alloc, b"host/a@R")?,
@@ -22,7 +24,7 @@ fn ticket<A: Allocator + Copy>(alloc: A) -> Result<Cred<A>, Refusal> {
         renew_till: 0,
         is_skey: 0,
         flags: 0x40e0_0000,
-        addresses: vec![in alloc; (2, Vec::from_slice(alloc, b"abcd")?)]?,
+        addresses,
         authdata: Vec::new(alloc),
         ticket: Vec::from_slice(alloc, b"tkt")?,
         second_ticket: Vec::new(alloc),
@@ -30,7 +32,7 @@ fn ticket<A: Allocator + Copy>(alloc: A) -> Result<Cred<A>, Refusal> {
 }
 
 /// Returns a cache with a ticket, a copy of it and a value, and the place of the first.
-fn made<A: Allocator + Copy>(alloc: A) -> Result<(Ccache<A>, u32), Refusal> {
+fn made(alloc: &LocalHeap) -> Result<(Ccache<&LocalHeap>, u32), Refusal> {
     let user = name_of(alloc, b"u@R")?;
     let mut cache = Ccache::create(alloc, &user, None, Limits::usual())?;
     let place = cache.store(&ticket(alloc)?)?;
@@ -54,16 +56,19 @@ fn tickets<A: Allocator>(cache: &Ccache<A>) -> u64 {
     count
 }
 
+/// Changes that cache, and returns whether its tickets and its value are right.
+fn change(heap: &LocalHeap) -> Result<bool, Refusal> {
+    let (mut cache, place) = made(heap)?;
+    let before = tickets(&cache);
+    cache.remove_at(place)?;
+    cache.rewrite(&mut [])?;
+    let value = cache.config(b"k", None);
+    Ok((before, tickets(&cache)) == (2, 1) && value == Some(b"new".as_slice()))
+}
+
 #[test]
 fn calls_that_take_memory(rt: HostRuntime) -> Result<(), Fail> {
-    in_each_heap(rt.alloc(), |heap| {
-        let (mut cache, place) = made(heap)?;
-        let before = tickets(&cache);
-        cache.remove_at(place)?;
-        cache.rewrite(&mut [])?;
-        let value = cache.config(b"k", None);
-        Ok((before, tickets(&cache)) == (2, 1) && value == Some(b"new".as_slice()))
-    })
+    in_each_heap(rt.alloc(), change)
 }
 
 #[test]

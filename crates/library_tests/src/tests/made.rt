@@ -18,6 +18,9 @@ pub const HOST: &[u8] =
 pub const B: &[u8] = b"\0\0\0\x29\0\x01\0\x01R\0\x01b\0\0\0\x01\x65\x53\xf1\0\x03\0\x11\0\x10\
 \x10\x11\x12\x13\x14\x15\x16\x17\x18\x19\x1a\x1b\x1c\x1d\x1e\x1f\0\0\0\x03";
 
+/// `HOST` at 2, a hole at 53 that `B` fits, and `B` at 104.
+pub const WITH_HOLE: &[&[u8]] = &[HEAD, HOST, b"\xff\xff\xff\xd1", &[0; 47], B];
+
 /// The key of `HOST`, and that of `B`.
 pub const LOW_KEY: &[u8] = b"\0\x01\x02\x03\x04\x05\x06\x07\x08\x09\x0a\x0b\x0c\x0d\x0e\x0f";
 
