@@ -1,4 +1,5 @@
-"""The C library: C programs over it beside `krbfile`, with refused memory, and a search for keys left in memory."""
+"""The C library: C programs over it beside `krbfile`, with refused memory and random calls, and a search for keys left
+in memory."""
 
 import fcntl
 import os
@@ -17,6 +18,7 @@ from pages.documents import literals
 from pages.readme import surroundings
 from peers import corpus
 from runs.harness import SECONDS, TOP, Outcome, Report, differences, files_in, folder_of, message, run
+from runs.random_runs import Rounds
 from runs.system_calls import check_traced
 from runs.undisturbed import frame
 from system.saving import owned, tree_faults
@@ -35,6 +37,9 @@ int main(int argc, char **argv) {
     return argc != 2 || drop_rc4(argv[1]) != 0;
 }
 """
+# The number of random calls for each seed.
+CALLS = 50
+
 ADDED = "add 200 17 1700000000 000102030405060708090a0b0c0d0e0f c/abi@EXAMPLE.ORG\n"
 
 
@@ -171,6 +176,22 @@ def check_keys(report: Report, program: str, folder: str) -> None:
             report.check(f"keys are cleared: {os.path.basename(named)} {line}", faults)
 
 
+def check_calls(report: Report, _program: str, seeds: range) -> None:
+    """Makes random calls over damaged files, those of all seeds in one run, under gcc's sanitizers."""
+    if not is_built(report, "random calls of C"):
+        return
+    keytabs, caches = (dict(corpus.files(kind)) for kind in ("keytab", "ccache"))
+    count = len(seeds) * CALLS
+    words = (str(seeds.start + 1), str(count), *keytabs, "--", *caches)
+    with folder_of({}) as folder, folder_of(keytabs | caches) as at:
+        got = run(build(folder, "random_calls", *SANITIZED), words, at)
+    report.compare(f"{count} random calls of C, seed {seeds.start + 1}", Outcome(0), got)
+
+
+RANDOM = Rounds(check_calls, share=1, usual=2_000)
+check_long = RANDOM.check_long
+
+
 def check(report: Report, program: str) -> None:
     """Runs this topic if the library was built."""
     if not is_built(report, "the C library"):
@@ -182,3 +203,4 @@ def check(report: Report, program: str) -> None:
         check_traced(report, program, "the edit of krbfile(3)", check_edit)
         check_given(report, folder)
         check_keys(report, program, folder)
+    RANDOM.check(report, program)
