@@ -63,7 +63,7 @@ COMMANDS = {
     "ktcheck": Command(reads=(undisturbed("ktcheck k", k=TWO),)),
     "ktedit": Command(
         (undisturbed("ktedit k", SCRIPT, k=OLD, name="adds"),), (undisturbed("ktedit k", SCRIPT, name="adds"),),
-        tuple(undisturbed("ktedit k", script, k=OLD, name=f"{script}")
+        tuple(undisturbed("ktedit k", script, k=TWO, name=f"{script}")
               for script in (b"", b"# none\n", WALK, b"resume 2\n", b"start\nfrob\n")),
         (undisturbed("ktedit k", b"cut 3\n", k=TWO, name="is refused"),),
         ("ktedit PATH", f"add 1 17 1700000000 {KEY} NAME@R\n")),
