@@ -38,16 +38,6 @@ def given(name: str, cell: Credential, tail: bytes) -> Case:
     return edit(f"given, {name}", cache(cell), ["start", "step 0"], Outcome(0, line))
 
 
-def no_room(name: str, room: int, wanted: Outcome | list[str], *script: str,
-            after: tuple[Credential, ...] = ()) -> Case:
-    """Returns a script that sets a value with that much room left by a long ticket. Both entries have 136 bytes."""
-    ticket = long_ticket(LIMIT - 22 - 136 - room)
-    return edit(name, cache(ticket, PA_TYPE), [SET_3, *script], wanted, cache(ticket, *after) if after else None)
-
-
-# The usual cache rewritten.
-ANEW = cache(TICKET, PA_TYPE, fields=OFFSET)
-
 # How a reply escapes a name.
 ODD_KEY, ESCAPED = bytes([0, 0x1F, 0x20, 0x5C, 0x7E, 0x7F, 0xFF]), b"\\x00\\x1f \\\\~\\x7f\\xff"
 
@@ -94,7 +84,8 @@ CASES = [
           "resume 40", "resume 34"],
          refused("walk 0 at 40", "walk 1 at 148", "walk 2 at 284", "walk 3 at 392", "rewritten 278",
                  "walk 0 gave 34 next 142 etype 17 krbtgt/R@R", "walk 1 gave 142 next 278 config pa_type(krbtgt/R@R)",
-                 "walk 2 end 278", "walk 3 end 278", "refused 4", "walk 4 at 34"), ANEW),
+                 "walk 2 end 278", "walk 3 end 278", "refused 4", "walk 4 at 34"),
+         cache(TICKET, PA_TYPE, fields=OFFSET)),
     edit("version 3 becomes 4", VERSION_3, ["start", "step 0", "start", "rewrite", "step 0", "step 1", "cut 22"],
          ["walk 0 at 20", "walk 0 gave 20 next 130 etype 17 krbtgt/R@R", "walk 1 at 20", "rewritten 130",
           "walk 0 end 130", "walk 1 gave 22 next 130 etype 17 krbtgt/R@R", "gone 22"], cache(TICKET.removed())),
@@ -108,12 +99,14 @@ CASES = [
     edit("damaged", USUAL[:391], ["cut 40", "cut 3", "config k - v", SET_3, "rewrite"], refused(*["refused 1"] * 5)),
     lambda: edit("no room for a value", cache(long_ticket(LIMIT - 22)), ["config k - v", "cut 22"],
                  refused("refused 3", "gone 22"), cache(long_ticket(LIMIT - 22).removed())),
-    lambda: no_room("a byte too little room, and the old value stays", 135,
-                    refused("refused 3", f"walk 0 at {LIMIT - 271}",
-                            f"walk 0 gave {LIMIT - 271} next {LIMIT - 135} config pa_type(krbtgt/R@R)"),
-                    f"resume {LIMIT - 271}", "step 0"),
-    lambda: no_room("just room", 136, [f"placed {LIMIT - 136}", f"gone {LIMIT - 272}"],
-                    after=(PA_TYPE.removed(), THREE)),
+    # With the old value, of 136 bytes as the new one, as much room is left, and a byte less.
+    lambda: edit("a byte too little room, and the old value stays", cache(long_ticket(LIMIT - 293), PA_TYPE),
+                 [SET_3, f"resume {LIMIT - 271}", "step 0"],
+                 refused("refused 3", f"walk 0 at {LIMIT - 271}",
+                         f"walk 0 gave {LIMIT - 271} next {LIMIT - 135} config pa_type(krbtgt/R@R)")),
+    lambda: edit("just room", cache(long_ticket(LIMIT - 294), PA_TYPE), [SET_3],
+                 [f"placed {LIMIT - 136}", f"gone {LIMIT - 272}"],
+                 cache(long_ticket(LIMIT - 294), PA_TYPE.removed(), THREE)),
     # Files that are missing. Those that are not a cache are among the messages that are explained.
     *(edit(f"no file, {line!r}", None, line.encode(), message(1, "c: no such file"))
       for line in ("start\n", "", "config k - v\n")),

@@ -9,7 +9,7 @@ from makers.cache_images import Credential, Name, cache, offset
 from makers.images import TWO
 from makers.usual_caches import PA_TYPE, TICKET, config_ticket
 from runs.harness import Case, Outcome, Report, differences, folder_of, run
-from runs.rows import check_rows, words_of
+from runs.rows import words_of
 from system.pipe_files import fed
 
 # A time that does not come during a test; the usual ticket ended before.
@@ -17,9 +17,8 @@ FUTURE = 2**32 - 1
 
 VALID, NONE, UNREAD = Outcome(0), Outcome(1), Outcome(3)
 
-# A ticket-granting ticket of the default principal's realm, R, and a ticket for host/a@R: over, and not yet.
-OVER, TGT = TICKET, replace(TICKET, endtime=FUTURE)
-HOST_OVER, HOST = of_host(), of_host(endtime=FUTURE)
+# Ticket-granting tickets of the default principal's realm, R, one of which is over, and a ticket for host/a@R.
+OVER, TGT, HOST = TICKET, replace(TICKET, endtime=FUTURE), of_host(endtime=FUTURE)
 
 
 def ask(name: str, image: bytes, wanted: Outcome, options: str = "-s") -> Case:
@@ -39,7 +38,7 @@ TICKETS: list[tuple[str, tuple[Credential | bytes, ...], Outcome]] = [
     ("one that is over", (OVER,), NONE),
     ("two, one of which is over", (OVER, TGT), VALID),
     ("another ticket alone", (HOST,), VALID),
-    ("another ticket that is over", (HOST_OVER,), NONE),
+    ("another ticket that is over", (of_host(),), NONE),
     # One of the default principal's realm decides, wherever it stands.
     ("one that is over, and another ticket", (OVER, HOST), NONE),
     ("another ticket, and one that is over", (HOST, OVER), NONE),
@@ -67,28 +66,27 @@ TICKETS: list[tuple[str, tuple[Credential | bytes, ...], Outcome]] = [
     ("a fault before it", (b"\xff" * 9, TGT), NONE),
 ]
 
-# Files that are no caches, and default principals of other realms.
-FILES: list[tuple[str, bytes, Outcome]] = [
-    ("no bytes", b"", NONE), ("a keytab", TWO, NONE), ("a damaged header", cache(TGT, fields=b"\0\x01\0"), NONE),
-    ("no default principal", b"\x05\x04\0\0", NONE),
-    ("version 3", cache(replace(TGT, second_enctype=23), version=3), VALID),
-    ("a default principal of another realm", cache(OVER, HOST, default=Name((b"u",), b"S")), VALID),
-    ("its ticket is over", cache(service(b"krbtgt", b"S", realm=b"S", endtime=1), TGT, default=Name(realm=b"S")), NONE),
-    ("an offset", cache(TGT, fields=offset(2**31 - 1, 0)), VALID),
-]
-
-# Words that mean the same: whether a ticket is left in this many seconds.
-LASTING = ["-s", "-c -s", "-sc", "-s -s", "-s --for 0", "-s --for=0", "--for 0 -s", "-s --for 0000000003",
-           "-s --for=86400 -c"]
-# After these seconds none is left: the clock and they come to more than the greatest time, or to more than 32 bits.
-TOO_LONG = ["-s --for 4294967295", "--for=4294967295 -s", "-s --for 3000000000"]
-
 CASES = [
     *(ask(name, cache(*those), wanted) for name, those, wanted in TICKETS),
-    *(ask(name, image, wanted) for name, image, wanted in FILES),
-    *(ask("for a while", cache(TGT), VALID, options) for options in LASTING),
-    *(ask("for too long", cache(TGT), NONE, options) for options in TOO_LONG),
+    # Files that are no caches, and default principals of other realms.
+    ask("no bytes", b"", NONE),
+    ask("a keytab", TWO, NONE),
+    ask("a damaged header", cache(TGT, fields=b"\0\x01\0"), NONE),
+    ask("no default principal", b"\x05\x04\0\0", NONE),
+    ask("version 3", cache(replace(TGT, second_enctype=23), version=3), VALID),
+    ask("a default principal of another realm", cache(OVER, HOST, default=Name((b"u",), b"S")), VALID),
+    ask("its ticket is over", cache(service(b"krbtgt", b"S", realm=b"S", endtime=1), TGT, default=Name(realm=b"S")),
+        NONE),
+    ask("an offset", cache(TGT, fields=offset(2**31 - 1, 0)), VALID),
+    # Words that mean the same: whether a ticket is left in this many seconds. None is if the clock and these come to
+    # more than the greatest time, or to more than 32 bits.
+    *(ask("for a while", cache(TGT), VALID, options) for options in (
+        "-s", "-c -s", "-sc", "-s -s", "-s --for 0", "-s --for=0", "--for 0 -s", "-s --for 0000000003",
+        "-s --for=86400 -c")),
+    *(ask("for too long", cache(TGT), NONE, options) for options in (
+        "-s --for 4294967295", "--for=4294967295 -s", "-s --for 3000000000")),
     ask("a ticket that ends too soon", cache(HOST, replace(OVER, endtime=2**31)), NONE, "-s --for 2147483648"),
+    lambda: ask("the greatest file", cache(TGT, bytes(LIMIT - len(cache(TGT)))), VALID),
 ]
 
 # Links beside a cache `c` and a folder, and the outcomes of names there.
@@ -111,7 +109,6 @@ def check_places(report: Report, program: str) -> None:
 
 
 def check(report: Report, program: str) -> None:
-    """Checks large files, and those that are not in a table."""
-    check_rows(report, program, [ask("the greatest file", cache(TGT, bytes(LIMIT - len(cache(TGT)))), VALID)])
+    """Checks files that are not in a table."""
     check_places(report, program)
     check_unreadable(report, program, "-s", cache(TGT), UNREAD)

@@ -45,19 +45,14 @@ class Talk:
         if heard != wanted:
             self.found.append(f"{short(heard)} came, not {short(wanted)}")
 
-    def hear_nothing(self) -> None:
-        """Checks that there is no output for a while."""
-        if select.select([self.run.stdout, self.run.stderr], [], [], 0.2)[0]:
-            self.found.append("something came")
-
     def go(self, *lines: tuple[bytes, bytes]) -> None:
-        """Sends some bytes, and waits for the output or the message that comes, or for nothing; then the next."""
+        """Sends some bytes, and waits for what is printed, or a while if nothing is; then the next."""
         for sent, wanted in lines:
             self.send(sent)
             if wanted:
                 self.hear(wanted, self.run.stderr if wanted.startswith(b"krbfile: ") else self.run.stdout)
-            else:
-                self.hear_nothing()
+            elif select.select([self.run.stdout, self.run.stderr], [], [], 0.2)[0]:
+                self.found.append("something came")
 
     def end(self, wanted: Outcome) -> None:
         """Checks that the run ends by itself, with that output and no more."""

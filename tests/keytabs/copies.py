@@ -7,20 +7,16 @@ from dataclasses import replace
 
 from keytabs import greatest
 from keytabs.file_names import LIMIT
-from keytabs.finds import AES256, FIVE, NOT_FOUND
+from keytabs.finds import AES256, DAMAGED, FIVE, NOT_FOUND, told
 from keytabs.removals import B3, FOUR
 from makers.images import B, BIG, HOST, TWO, Entry, keytab, old, record
 from runs.harness import Case, Outcome, Report, message
 from runs.rows import check_rows, printed, words_of
 
-X = "kvno 3 etype 17 host/a@R"
-Y = "kvno 3 etype 17 b@R"
+X, Y = "kvno 3 etype 17 host/a@R", "kvno 3 etype 17 b@R"
 
 # Entries that are as that of b@R, with other keys.
-OTHER = replace(B, key=bytes(16))
-THIRD = replace(B, key=b"\xff" * 16)
-
-FROM_DAMAGED = message(1, "k: refused 1")
+OTHER, THIRD = replace(B, key=bytes(16)), replace(B, key=b"\xff" * 16)
 
 # A name that version 1 cannot hold: its count of components would have 17 bits.
 LONG = Entry((b"",) * 65_535)
@@ -40,18 +36,13 @@ def copy(name: str, options: str, source: bytes | None, target: bytes | None, wa
 
 def select(options: str, source: bytes, *those: Entry) -> Case:
     """Returns a copy into a new keytab, which then has these entries."""
-    image, lines = keytab(), []
-    for entry in those:
-        name = b"/".join(entry.components).decode()
-        lines.append(f"copied {len(image)} kvno {entry.version32} etype {entry.enctype} {name}@R")
-        image += record(entry.spelled())
-    return copy("selected", options, source, None, lines, image)
+    lines = [f"copied {told(each, *those[:at])}" for at, each in enumerate(those)]
+    return copy("selected", options, source, None, lines, keytab(*those))
 
 
-# A keytab of version 1, its entries in version 2, and odd numbers.
+# A keytab of version 1, and odd numbers.
 V1_BIG = old(HOST, B, order=BIG)
 ODD = replace(B, name_type=7, timestamp=2**32 - 1, version8=255, enctype=65_535, key=b"k", version32=2**32 - 1)
-UNTYPED = keytab(*(replace(entry, name_type=0) for entry in (HOST, B)))
 
 # Files that are no sound keytabs, and the message about each.
 UNSOUND = {b"\x05": "not a keytab (1)", b"xy": "not a keytab (2)", TWO[:-1]: "refused 1"}
@@ -98,8 +89,9 @@ CASES = [
     copy("a replaced entry with bytes after it", "--replace", keytab(B), keytab(record(OTHER.spelled() + b"\xff" * 9)),
          [f"removed 2 {Y}", f"copied 2 {Y}"], keytab(record(B.spelled() + bytes(9)))),
     copy("version 1 into version 1", "--v1-big", V1_BIG, old(HOST, order=BIG), [f"copied 49 {Y}"], V1_BIG),
-    copy("version 1, big-endian, into none", "--v1-big", V1_BIG, None, [f"copied 2 {X}", f"copied 53 {Y}"], UNTYPED),
-    copy("version 1, big-endian, read as little", "", V1_BIG, None, FROM_DAMAGED),
+    copy("version 1, big-endian, into none", "--v1-big", V1_BIG, None, [f"copied 2 {X}", f"copied 53 {Y}"],
+         keytab(replace(HOST, name_type=0), replace(B, name_type=0))),
+    copy("version 1, big-endian, read as little", "", V1_BIG, None, DAMAGED),
     # The keytab that is copied from comes first, with what is selected in it; then the other.
     copy("nothing to copy from", "", None, TWO, message(1, "k: no such file")),
     *(copy(f"from {image.hex()[-8:]}", options, image, b"xy", message(1, f"k: {what}"))
@@ -115,7 +107,7 @@ CASES = [
     # One keytab for both.
     *(Case(f"one keytab for both: {options}", ("ktcopy", *words_of(options), "k", target), wanted, {"k": image})
       for options in ("--replace", "-n") for target in ("k", "./k") for image, wanted in (
-          (keytab(B, OTHER, B), Outcome(0)), (TWO[:-1], FROM_DAMAGED))),
+          (keytab(B, OTHER, B), Outcome(0)), (TWO[:-1], DAMAGED))),
     # An addition that is refused, and one after a clash, which is not reported.
     copy("a name that is too long", "", keytab(HOST, LONG, B), old(), message(1, "t: refused 2")),
     copy("a name that is too long, a dry run", "-n", keytab(HOST, LONG, B), old(), message(1, "t: refused 2")),

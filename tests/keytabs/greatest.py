@@ -7,6 +7,7 @@ import os
 from dataclasses import replace
 
 from keytabs.file_names import LIMIT, TOO_LARGE, sized
+from keytabs.listings import listed
 from makers.images import HOST, Entry, hole, keytab, record
 from runs.harness import Case, Outcome, message
 from runs.rows import over, printed, text
@@ -27,10 +28,8 @@ LAST, END = PLACES[-1], 2 + SIZE * COUNT
 HOLES = (LIMIT - 2) // 5
 
 # The longest component, and how many of 253 bytes one entry of the greatest file has.
-LONGEST = 65_535
-MANY = 65_535
+LONGEST = MANY = 65_535
 
-KLIST_HEADING = b"Keytab name: FILE:k\nKVNO Principal\n---- ---------\n"
 SLOTS_HEADING = b"slot KVNO Principal\n---- ---- ---------\n"
 
 
@@ -68,7 +67,7 @@ def of_many() -> bytes:
 def reads() -> list[Case]:
     """Returns listings, also as JSON, checks and look-ups. Counts of 0 and above 32,767 hide entries from MIT's
     programs."""
-    lists, image, many = KLIST_HEADING, filled(least()), filled(of_many())
+    lists, image, many = listed(), filled(least()), filled(of_many())
     keys = keytab(*[Entry(key=bytes(LONGEST), version32=None)] * 255)
     front, end = b'{"file":"k","kind":"keytab","version":2,"entries":[', b'],"fault":null}\n'
     form = b'{"place":%d,"principal":"@","kvno":0,"etype":0,"etype_name":null,"timestamp":0}'
@@ -176,11 +175,11 @@ def talks() -> list[Case]:
     """Returns runs of ktutil over the longest inputs, and over the greatest files that it reads and writes."""
     added = b"addent -key -p @ -k 0 -e 0\n00\n"
     count = LIMIT // len(added) - 1
-    listed, new = (SLOTS_HEADING + at_each(b"%4d    0 @\n", range(1, slots + 1)) for slots in (COUNT, count))
+    most, new = (SLOTS_HEADING + at_each(b"%4d    0 @\n", range(1, slots + 1)) for slots in (COUNT, count))
     return [Case(f"ktutil, {name}", ("ktutil",), wanted, files, {**files, **after}, given)
             for name, given, wanted, files, after in (
                 ("the greatest file is copied", b"rkt k\nl\nwkt n\nrkt n\nclear\nl\n",
-                 Outcome(0, listed + SLOTS_HEADING), {"k": least()}, {"n": least()}),
+                 Outcome(0, most + SLOTS_HEADING), {"k": least()}, {"n": least()}),
                 ("no file takes more", b"rkt k\nwkt k\n", message(1, "line 2: refused 3"), {"k": least()}, {}),
                 ("the most lines", repeated(b"\n"), Outcome(0), {}, {}),
                 ("the most new entries", added * count + b"l\n", Outcome(0, new), {}, {}),

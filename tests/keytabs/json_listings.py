@@ -4,21 +4,19 @@ from dataclasses import replace
 
 from makers.cache_images import U, Name, cache, config
 from makers.images import BIG, HOST, TWO, Entry, keytab, old, record
-from makers.usual_caches import PA_TYPE, TICKET, USUAL, VERSION_3
+from makers.usual_caches import TICKET, USUAL, VERSION_3
 from runs.harness import Case, Outcome
 from runs.rows import over
 
 HOST_FRONT = (b'{"place":2,"principal":"host/a@R","kvno":3,"etype":17,'
               b'"etype_name":"aes128-cts-hmac-sha1-96","timestamp":1700000000')
-B_FRONT = (b'{"place":53,"principal":"b@R","kvno":3,"etype":17,'
-           b'"etype_name":"aes128-cts-hmac-sha1-96","timestamp":1700000000')
+B_FRONT = HOST_FRONT.replace(b'2,"principal":"host/a@R"', b'53,"principal":"b@R"')
 HOST_KEY = b',"key_hex":"000102030405060708090a0b0c0d0e0f"'
 B_KEY = b',"key_hex":"101112131415161718191a1b1c1d1e1f"'
 
-TICKET_END = (b'"authtime":1700000000,"starttime":0,"endtime":1700036000,"renew_till":0,'
-              b'"flags":"FRIA","flags_value":1088421888,"etype":17,'
-              b'"etype_name":"aes128-cts-hmac-sha1-96","is_skey":false,"addresses":0,"ticket_length":3}')
-TICKET_TEXT = b'{"place":40,"client":"u@R","server":"krbtgt/R@R",' + TICKET_END
+TICKET_TEXT = (b'{"place":40,"client":"u@R","server":"krbtgt/R@R","authtime":1700000000,"starttime":0,'
+               b'"endtime":1700036000,"renew_till":0,"flags":"FRIA","flags_value":1088421888,"etype":17,'
+               b'"etype_name":"aes128-cts-hmac-sha1-96","is_skey":false,"addresses":0,"ticket_length":3}')
 PA_TYPE_TEXT = b'{"place":148,"key":"pa_type","principal":"krbtgt/R@R","value":"2"}'
 
 
@@ -52,8 +50,6 @@ SKEY = replace(TICKET, is_skey=2, renew_till=9, flags=0, enctype=0, ticket=b"", 
 SKEY_TEXT = (b'{"place":22,"client":"u@R","server":"krbtgt/R@R","authtime":1700000000,'
              b'"starttime":0,"endtime":1700036000,"renew_till":9,"flags":"","flags_value":0,'
              b'"etype":0,"etype_name":null,"is_skey":true,"addresses":2,"ticket_length":0}')
-NO_TEXT = replace(PA_TYPE, server=replace(PA_TYPE.server, components=(
-    PA_TYPE.server.components[0], b"\xff", b"\x80a")))
 
 # Values, and how each is written: bytes that are escaped, bytes that are not, and bytes that are not UTF-8.
 LOW = "".join({8: r"\b", 9: r"\t", 10: r"\n", 12: r"\f", 13: r"\r"}.get(byte, rf"\u{byte:04x}") for byte in range(32))
@@ -82,6 +78,6 @@ CASES = [
          cache_text(default=b'"default_principal":"a\\\\/b\\\\n\\\\0/\\"@\\\\\\\\"')),
     case("a name that is no UTF-8", cache(default=replace(U, realm=b"\xfe")),
          cache_text(default=b'"default_principal_hex":"7540fe"')),
-    case("a key and a principal that are no UTF-8", cache(NO_TEXT),
+    case("a key and a principal that are no UTF-8", cache(config(b"\xff", b"2", b"\x80a")),
          cache_text(b"", b'{"place":22,"key_hex":"ff","principal_hex":"8061","value":"2"}')),
 ]

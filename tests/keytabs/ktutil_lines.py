@@ -26,11 +26,10 @@ def lines(name: str, given: list[str] | bytes, printed: list[str], *output: str,
 
     The status is 0, or 1 if there are messages.
     """
-    if status is None:
-        status = 1 if output else 0
-    err = "".join(f"krbfile: {one}\n" for one in output).encode()
+    wanted = Outcome(int(bool(output)) if status is None else status, text(printed),
+                     text(f"krbfile: {one}" for one in output))
     before = files or {}
-    return Case(name, ("ktutil", *options), Outcome(status, text(printed), err), before, {**before, **(after or {})},
+    return Case(name, ("ktutil", *options), wanted, before, before | (after or {}),
                 given if isinstance(given, bytes) else text(given))
 
 

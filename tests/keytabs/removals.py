@@ -1,32 +1,23 @@
-"""Removals by `ktremove`. Places are counted by hand, or from the lengths of the records before."""
+"""Removals by `ktremove`."""
 
 import os
 from dataclasses import replace
 
 from keytabs import greatest
-from keytabs.finds import AES256, DAMAGED, FIVE, NOT_FOUND
+from keytabs.finds import AES256, DAMAGED, FIVE, NOT_FOUND, told
 from makers.images import BIG, END, HOST, TWO, Entry, hole, keytab, old, record
-from runs.harness import Case, Outcome, Report, folder_of, run
+from runs.harness import Case, Report, folder_of, run
 from runs.rows import over
 
 B3 = Entry((b"b",))
 
-# A time that does not come during a test, and an entry of version 5 that was made then.
+# A time that does not come during a test.
 FUTURE = 2**32 - 1
-LATE = replace(FIVE, timestamp=FUTURE)
 
 # host/a@R at 2, 53 and 120, versions 3, 5 and 5 of enctypes 17, 18 and 17; b@R at 171.
-FOUR = keytab(HOST, AES256, FIVE, B3)
-
+THOSE = HOST, AES256, FIVE, B3
+FOUR = keytab(*THOSE)
 X = "removed 2 kvno 3 etype 17 host/a@R"
-X18 = "removed 53 kvno 5 etype 18 host/a@R"
-X5 = "removed 120 kvno 5 etype 17 host/a@R"
-Y = "removed 171 kvno 3 etype 17 b@R"
-
-
-def remove(name: str, image: bytes, words: str, wanted: Outcome | list[str], after: bytes | None = None) -> Case:
-    """Returns a run of ktremove with these words before the file; see `over`."""
-    return over(name, f"ktremove {words} k", image, wanted, after)
 
 
 def versioned(kvno: int, seconds: int, enctype: int = 17) -> Entry:
@@ -34,64 +25,61 @@ def versioned(kvno: int, seconds: int, enctype: int = 17) -> Entry:
     return Entry((b"a",), timestamp=seconds, version8=kvno % 256, enctype=enctype, version32=kvno)
 
 
-def remove_old(name: str, versions: list[tuple[int, int]], gone: list[int]) -> Case:
-    """Returns a removal of old versions, given each version with its time. Each entry has 45 bytes with its length."""
-    those = [versioned(*each) for each in versions]
-    lines = [f"removed {2 + 45 * at} kvno {versions[at][0]} etype 17 a@R" for at in gone]
-    after = keytab(*(41 if at in gone else entry for at, entry in enumerate(those)))
-    return remove(f"old, {name}", keytab(*those), "-k old", lines, after)
+def remove(name: str, words: str, those: tuple[Entry, ...], *gone: int) -> Case:
+    """Returns a run with these words over a keytab of some entries, of which those of these numbers become holes."""
+    after = keytab(*(len(it.spelled()) if at in gone else it for at, it in enumerate(those)))
+    return over(name, f"ktremove {words} k", keytab(*those),
+                [f"removed {told(those[at], *those[:at])}" for at in gone], after)
 
 
-SIGNED = keytab(B3, Entry((b"=b",)))
-# The record of @R without components has 38 bytes, and with an empty one 40.
-BARE = keytab(Entry((), version8=1, version32=1), Entry((b"",), version8=2, version32=2), B3)
+SIGNED = B3, Entry((b"=b",))
+BARE = Entry((), version8=1, version32=1), Entry((b"",), version8=2, version32=2), B3
 
 CASES = [
     # The entries that each selector selects.
-    remove("old versions", FOUR, "-k old", [X], keytab(47, AES256, FIVE, B3)),
-    remove("of an enctype", FOUR, "-p host/a@R -e 17", [X, X5], keytab(47, AES256, 47, B3)),
-    remove("by the enctype's name", FOUR, "-e aes256-cts-hmac-sha1-96", [X18], keytab(HOST, 63, FIVE, B3)),
-    remove("of two enctypes", FOUR, "-e 17 -e 18 -e 17", [X, X18, X5, Y], keytab(47, 63, 47, 41)),
-    remove("of a version", FOUR, "-k 3", [X, Y], keytab(47, AES256, FIVE, 41)),
-    remove("of two names", FOUR, r"-p b@R -e 17 -p \host/a@R", [X, X5, Y], keytab(47, AES256, 47, 41)),
-    remove("nothing is old of a name", FOUR, "-k old -p b@R", []),
-    remove("nothing is old in an empty keytab", keytab(), "-k old", []),
-    remove("a dry run", FOUR, "-n -k old", [X]),
-    remove("old and new words", FOUR, "-kold -phost/a@R -e17", [X], keytab(47, AES256, FIVE, B3)),
-    remove("a value that begins with =", SIGNED, "-p=b@R", ["removed 47 kvno 3 etype 17 =b@R"], keytab(B3, 42)),
-    remove("a value that begins with =, a dry run", SIGNED, "-np=b@R", ["removed 47 kvno 3 etype 17 =b@R"]),
-    remove("a value that begins with two =", SIGNED, "-p==b@R", NOT_FOUND),
+    remove("old versions", "-k old", THOSE, 0),
+    remove("of an enctype", "-p host/a@R -e 17", THOSE, 0, 2),
+    remove("by the enctype's name", "-e aes256-cts-hmac-sha1-96", THOSE, 1),
+    remove("of two enctypes", "-e 17 -e 18 -e 17", THOSE, 0, 1, 2, 3),
+    remove("of a version", "-k 3", THOSE, 0, 3),
+    remove("of two names", r"-p b@R -e 17 -p \host/a@R", THOSE, 0, 2, 3),
+    remove("nothing is old of a name", "-k old -p b@R", THOSE),
+    remove("nothing is old in an empty keytab", "-k old", ()),
+    remove("old and new words", "-kold -phost/a@R -e17", THOSE, 0),
+    over("a dry run", "ktremove -n -k old k", FOUR, [X]),
+    *(over(f"nothing is selected by {words}", f"ktremove {words} k", FOUR, NOT_FOUND)
+      for words in ("-p c@R", "-p c@R -k old", "-k 4", "-k 0", "-e 0")),
+    over("an empty keytab", "ktremove -e 17 k", keytab(), NOT_FOUND),
+    remove("a value that begins with =", "-p=b@R", SIGNED, 1),
+    over("a value that begins with =, a dry run", "ktremove -np=b@R k", keytab(*SIGNED),
+         ["removed 47 kvno 3 etype 17 =b@R"]),
+    over("a value that begins with two =", "ktremove -p==b@R k", keytab(*SIGNED), NOT_FOUND),
     over("a file of a name like an option", "ktremove -pb@R -- -p=b@R", keytab(B3), ["removed 2 kvno 3 etype 17 b@R"],
          keytab(41)),
-    *(remove(f"nothing is selected by {words}", FOUR, words, NOT_FOUND)
-      for words in ("-p c@R", "-p c@R -k old", "-k 4", "-k 0", "-e 0")),
-    remove("an empty keytab", keytab(), "-e 17", NOT_FOUND),
     # Old versions: those other than the newest entry's.
-    remove_old("a small one of the same time", [(255, 5), (1, 5)], [0]),
-    remove_old("a small one of an earlier time", [(255, 5), (1, 4)], [1]),
-    remove_old("a large one of a later time", [(1, 5), (255, 6)], [0]),
-    remove_old("a version of 32 bits", [(300, 1), (7, 2)], [0]),
-    remove_old("through the middle", [(250, 1), (200, 2), (3, 3)], [0, 1]),
-    remove_old("a version twice", [(4, 1), (5, 1), (4, 9), (5, 9)], [0, 2]),
+    remove("old, a small one of the same time", "-k old", (versioned(255, 5), versioned(1, 5)), 0),
+    remove("old, a small one of an earlier time", "-k old", (versioned(255, 5), versioned(1, 4)), 1),
+    remove("old, a large one of a later time", "-k old", (versioned(1, 5), versioned(255, 6)), 0),
+    remove("old, a version of 32 bits", "-k old", (versioned(300, 1), versioned(7, 2)), 0),
+    remove("old, through the middle", "-k old", (versioned(250, 1), versioned(200, 2), versioned(3, 3)), 0, 1),
+    remove("old, each twice", "-k old", (versioned(4, 1), versioned(5, 1), versioned(4, 9), versioned(5, 9)), 0, 2),
     # Old versions whose name has had its newest one for that long: all entries of that version, and no others.
-    remove("old for long", FOUR, "--age 0000086400 -kold", [X], keytab(47, AES256, FIVE, B3)),
-    remove("for longer than there are clocks", FOUR, "-k old --age 4294967295", []),
-    remove("a new version of an enctype that is not selected", keytab(replace(HOST, enctype=18), AES256, LATE),
-           "-k old -e 18 --age 0", []),
-    remove("a new version of another name", keytab(HOST, FIVE, versioned(1, 1), versioned(2, FUTURE)),
-           "-k old --age 0", [X], keytab(47, FIVE, versioned(1, 1), versioned(2, FUTURE))),
+    remove("old for long", "--age 0000086400 -kold", THOSE, 0),
+    remove("for longer than there are clocks", "-k old --age 4294967295", THOSE),
+    remove("a new version of an enctype that is not selected", "-k old -e 18 --age 0",
+           (replace(HOST, enctype=18), AES256, replace(FIVE, timestamp=FUTURE))),
+    remove("a new version of another name", "-k old --age 0", (HOST, FIVE, versioned(1, 1), versioned(2, FUTURE)), 0),
     # Names that print alike are the same, of whatever type, but two where versions are compared.
-    remove("no components and an empty one", BARE, "-p @R",
-           ["removed 2 kvno 1 etype 17 @R", "removed 44 kvno 2 etype 17 @R"], keytab(38, 40, B3)),
-    remove("they are two names", BARE, "-k old", []),
-    remove("a name of another type", keytab(Entry((b"b",), name_type=3), B3), "-p b@R",
-           ["removed 2 kvno 3 etype 17 b@R", "removed 47 kvno 3 etype 17 b@R"], keytab(41, 41)),
+    remove("no components and an empty one", "-p @R", BARE, 0, 1),
+    remove("they are two names", "-k old", BARE),
+    remove("a name of another type", "-p b@R", (Entry((b"b",), name_type=3), B3), 0, 1),
     # Only the bytes of the removed records change. In version 1 host/a@R has 43 bytes, without a name type.
-    remove("unused bytes, a hole and what is after the end",
-           keytab(record(HOST.spelled() + b"\xff" * 9), hole(b"junk"), END, b"and more"), "-e 17", [X],
-           keytab(56, hole(b"junk"), END, b"and more")),
-    remove("version 1, big-endian", old(HOST, B3, order=BIG), "-p host/a@R --v1-big", [X], old(43, B3, order=BIG)),
-    remove("a damaged keytab", TWO[:-1], "-e 17", DAMAGED),
+    over("unused bytes, a hole and what is after the end", "ktremove -e 17 k",
+         keytab(record(HOST.spelled() + b"\xff" * 9), hole(b"junk"), END, b"and more"), [X],
+         keytab(56, hole(b"junk"), END, b"and more")),
+    over("version 1, big-endian", "ktremove -p host/a@R --v1-big k", old(HOST, B3, order=BIG), [X],
+         old(43, B3, order=BIG)),
+    over("a damaged keytab", "ktremove -e 17 k", TWO[:-1], DAMAGED),
     greatest.most_of_one_name, greatest.many_long_names,
 ]
 
