@@ -1,19 +1,21 @@
-/* What the C tests share: a check that ends the program, and images from and to files. */
+/* What the C tests share: a check that ends the program, and images from files and of both kinds. */
 #ifndef CHECK_H
 #define CHECK_H
 
 #include "krbfile.h"
 
+#include <fcntl.h>
 #include <stdio.h>
 #include <stdlib.h>
 #include <string.h>
+#include <unistd.h>
 
-#define CHECK(it)                                                         \
-    do {                                                                  \
-        if (!(it)) {                                                      \
-            fprintf(stderr, "%s line %d: %s\n", __FILE__, __LINE__, #it); \
-            exit(99);                                                     \
-        }                                                                 \
+#define CHECK(it)                                                                                                      \
+    do {                                                                                                               \
+        if (!(it)) {                                                                                                   \
+            fprintf(stderr, "%s line %d: %s\n", __FILE__, __LINE__, #it);                                              \
+            exit(99);                                                                                                  \
+        }                                                                                                              \
     } while (0)
 
 /* A text, and its length. */
@@ -21,26 +23,29 @@
 
 static uint8_t image[1 << 24];
 
-/* Reads a file into image, and answers its length. */
+/* Reads a file into image, without a buffer of the C library's, and answers its length. */
 static inline size_t read_image(const char *name) {
-    FILE *file = fopen(name, "rb");
-    CHECK(file);
-    size_t len = fread(image, 1, sizeof image, file);
-    CHECK(!ferror(file));
-    fclose(file);
-    return len;
+    int file = open(name, O_RDONLY);
+    ssize_t len = read(file, image, sizeof image);
+    CHECK(file >= 0 && len >= 0);
+    close(file);
+    return (size_t)len;
+}
+
+/* Puts the images of a keytab and a cache into image, one behind the other, and answers their length. */
+static inline size_t put_images(krbf_keytab *kt, krbf_ccache *cc) {
+    krbf_bytes bytes = {0}, more = {0};
+    CHECK(!kt->held || krbf_kt_image(kt, &bytes) == KRBF_DONE);
+    CHECK(!cc->held || krbf_cc_image(cc, &more) == KRBF_DONE);
+    if (bytes.len)
+        memcpy(image, bytes.at, bytes.len);
+    if (more.len)
+        memcpy(image + bytes.len, more.at, more.len);
+    return bytes.len + more.len;
 }
 
 static inline int is_text(krbf_bytes bytes, const char *text) {
     return bytes.len == strlen(text) && !memcmp(bytes.at, text, bytes.len);
-}
-
-/* Prints why an image is refused, and answers the status of a program to which it is. */
-static inline int tell_refusal(uint32_t status) {
-    krbf_bytes phrase;
-    CHECK(krbf_phrase(status, &phrase) == KRBF_DONE);
-    printf("%.*s\n", (int)phrase.len, (const char *)phrase.at);
-    return 2;
 }
 
 /* Reads all bytes, so that a sanitizer sees where they lie. */

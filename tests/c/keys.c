@@ -2,28 +2,15 @@
  * what is given back. */
 #include "check.h"
 
-#include <fcntl.h>
-#include <unistd.h>
-
 static uint8_t key[16];
-
-/* Reads a file without a buffer of the C library's. */
-static size_t read_bare(const char *file) {
-    int from = open(file, O_RDONLY);
-    ssize_t len = read(from, image, sizeof image);
-    CHECK(from >= 0 && len >= 0);
-    close(from);
-    return (size_t)len;
-}
 
 static void keytab(const char *file) {
     krbf_keytab kt = KRBF_NONE;
     krbf_entry entry;
     uint32_t place, cursor = KRBF_FIRST;
-    CHECK(krbf_kt_open(image, read_bare(file), 0, 0, &kt) == KRBF_DONE);
+    CHECK(krbf_kt_open(image, read_image(file), 0, 0, &kt) == KRBF_DONE);
     for (uint32_t kvno = 1; kvno <= 100; kvno++)
-        CHECK(krbf_kt_add(&kt, TEXT("host/a@R"), 0, kvno, 17, key, sizeof key, &place) ==
-              KRBF_DONE);
+        CHECK(krbf_kt_add(&kt, TEXT("host/a@R"), 0, kvno, 17, key, sizeof key, &place) == KRBF_DONE);
     CHECK(krbf_kt_add(&kt, TEXT("a@b@R"), 0, 1, 17, key, sizeof key, &place) == KRBF_SECOND_AT);
     CHECK(krbf_kt_find(&kt, TEXT("host/a@R"), 50, 17, &entry) == KRBF_DONE);
     CHECK(krbf_kt_next(&kt, &cursor, &entry) == KRBF_DONE);
@@ -38,10 +25,10 @@ static void cache(const char *file) {
     krbf_ccache cc = KRBF_NONE;
     krbf_ticket ticket;
     uint32_t place, cursor;
-    CHECK(krbf_cc_open(image, read_bare(file), 0, &cc) == KRBF_DONE);
+    CHECK(krbf_cc_open(image, read_image(file), 0, &cc) == KRBF_DONE);
     for (int count = 0; count < 100; count++)
-        CHECK(krbf_cc_store(&cc, TEXT("u@R"), TEXT("host/a@R"), key, sizeof key, key, sizeof key,
-                            key, 0, &numbers, &place) == KRBF_DONE);
+        CHECK(krbf_cc_store(&cc, TEXT("u@R"), TEXT("host/a@R"), key, sizeof key, key, sizeof key, key, 0, &numbers,
+                            &place) == KRBF_DONE);
     CHECK(krbf_cc_set_config(&cc, TEXT("k"), TEXT(""), key, sizeof key, &place) == KRBF_DONE);
     krbf_cc_first(&cc, &cursor);
     CHECK(krbf_cc_next(&cc, &cursor, &ticket) == KRBF_DONE);

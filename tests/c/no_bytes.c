@@ -35,12 +35,9 @@ static void caches(void) {
     CHECK(krbf_cc_close(&cc) == KRBF_DONE && krbf_cc_create(TEXT("u@R"), 0, &cc) == KRBF_DONE);
     CHECK(krbf_cc_principal(&cc, NULL, 0, &len) == KRBF_DONE && len == 3);
     CHECK(krbf_cc_find(&cc, NULL, 0, &ticket) == KRBF_NO_REALM);
-    CHECK(krbf_cc_store(&cc, NULL, 0, TEXT("a@R"), KEY, 16, KEY, 1, KEY, 1, &NUMBERS, &place) ==
-          KRBF_NO_REALM);
-    CHECK(krbf_cc_store(&cc, TEXT("u@R"), NULL, 0, KEY, 16, KEY, 1, KEY, 1, &NUMBERS, &place) ==
-          KRBF_NO_REALM);
-    CHECK(krbf_cc_store(&cc, TEXT("u@R"), TEXT("a@R"), NULL, 0, NULL, 0, NULL, 0, &NUMBERS,
-                        &place) == KRBF_DONE);
+    CHECK(krbf_cc_store(&cc, NULL, 0, TEXT("a@R"), KEY, 16, KEY, 1, KEY, 1, &NUMBERS, &place) == KRBF_NO_REALM);
+    CHECK(krbf_cc_store(&cc, TEXT("u@R"), NULL, 0, KEY, 16, KEY, 1, KEY, 1, &NUMBERS, &place) == KRBF_NO_REALM);
+    CHECK(krbf_cc_store(&cc, TEXT("u@R"), TEXT("a@R"), NULL, 0, NULL, 0, NULL, 0, &NUMBERS, &place) == KRBF_DONE);
     CHECK(krbf_cc_ticket(&cc, place, &ticket) == KRBF_DONE);
     CHECK(!ticket.key.at && !ticket.ticket.at && !ticket.second_ticket.at);
     CHECK(krbf_cc_client(&cc, place, NULL, 0, &len) == KRBF_DONE && len == 3);

@@ -2,9 +2,8 @@
  * sanitizers. */
 #include "check.h"
 
-static const char *const NAMES[] = {
-    "",        "@",  "a@R",   "host/a@R",   "host/a.example.com@EXAMPLE.COM",
-    "a\\@b@R", "\\", "a@b@c", "krbtgt/R@R", "u@R"};
+static const char *const NAMES[] = {"",        "@",  "a@R",   "host/a@R",   "host/a.example.com@EXAMPLE.COM",
+                                    "a\\@b@R", "\\", "a@b@c", "krbtgt/R@R", "u@R"};
 static char room[40];
 static uint64_t state;
 
@@ -19,9 +18,7 @@ static uint32_t below(uint32_t bound) {
 static const char *a_name(void) { return NAMES[below(sizeof NAMES / sizeof *NAMES)]; }
 
 /* A place that is likely to be one, or any number. */
-static uint32_t a_place(uint32_t known) {
-    return below(4) ? known : below(2) ? below(4096) : below(0xffffffff);
-}
+static uint32_t a_place(uint32_t known) { return below(4) ? known : below(2) ? below(4096) : below(0xffffffff); }
 
 /* Where a call shows an entry, its parts are there, and it is known. */
 static void see_entry(uint32_t status, const krbf_entry *entry, uint32_t *known) {
@@ -56,89 +53,61 @@ static void call_kt(krbf_keytab *kt, uint32_t *cursor, uint32_t *known) {
     size_t len;
     uint32_t place = a_place(*known), kind;
     switch (below(10)) {
-    case 0:
-        see_entry(krbf_kt_next(kt, cursor, &entry), &entry, known);
-        break;
-    case 1:
-        see_entry(krbf_kt_find(kt, TEXT(name), below(8), (uint16_t)below(20), &entry), &entry, known);
-        break;
+    case 0: see_entry(krbf_kt_next(kt, cursor, &entry), &entry, known); break;
+    case 1: see_entry(krbf_kt_find(kt, TEXT(name), below(8), (uint16_t)below(20), &entry), &entry, known); break;
     case 2:
-        if (krbf_kt_add(kt, TEXT(name), below(9), below(300), (uint16_t)below(20), image, below(40),
-                        &place) == KRBF_DONE)
+        if (krbf_kt_add(kt, TEXT(name), below(9), below(300), (uint16_t)below(20), image, below(40), &place) ==
+            KRBF_DONE)
             *known = place;
         break;
-    case 3:
-        krbf_kt_remove_at(kt, place);
-        break;
+    case 3: krbf_kt_remove_at(kt, place); break;
     case 4:
         if (below(4) == 0)
             krbf_kt_rewrite(kt, cursor, 1);
         break;
-    case 5:
-        krbf_kt_name(kt, place, room, below(sizeof room), &len);
-        break;
+    case 5: krbf_kt_name(kt, place, room, below(sizeof room), &len); break;
     case 6:
         if (krbf_kt_component(kt, place, below(4), &bytes) == KRBF_DONE)
             touch(bytes);
         break;
-    case 7:
-        see_entry(krbf_kt_entry(kt, place, &entry), &entry, known);
-        break;
-    case 8:
-        *cursor = a_place(KRBF_FIRST);
-        break;
-    default:
-        CHECK(krbf_kt_fault(kt, &kind, &place) == KRBF_DONE);
+    case 7: see_entry(krbf_kt_entry(kt, place, &entry), &entry, known); break;
+    case 8: *cursor = a_place(KRBF_FIRST); break;
+    default: CHECK(krbf_kt_fault(kt, &kind, &place) == KRBF_DONE);
     }
 }
 
 static void call_cc(krbf_ccache *cc, uint32_t *cursor, uint32_t *known) {
-    krbf_numbers numbers = {below(70000), below(9), below(9), below(9),
-                            below(9),     below(9), below(3)};
+    krbf_numbers numbers = {below(70000), below(9), below(9), below(9), below(9), below(9), below(3)};
     krbf_ticket ticket;
     krbf_bytes bytes;
     const char *name = a_name(), *client = a_name();
     size_t len;
     uint32_t place = a_place(*known), kind;
     switch (below(12)) {
-    case 0:
-        see_ticket(krbf_cc_next(cc, cursor, &ticket), &ticket, known);
-        break;
-    case 1:
-        see_ticket(krbf_cc_find(cc, TEXT(name), &ticket), &ticket, known);
-        break;
+    case 0: see_ticket(krbf_cc_next(cc, cursor, &ticket), &ticket, known); break;
+    case 1: see_ticket(krbf_cc_find(cc, TEXT(name), &ticket), &ticket, known); break;
     case 2:
-        if (krbf_cc_store(cc, TEXT(client), TEXT(name), image, below(40), image, below(40), image,
-                          below(9), &numbers, &place) == KRBF_DONE)
+        if (krbf_cc_store(cc, TEXT(client), TEXT(name), image, below(40), image, below(40), image, below(9), &numbers,
+                          &place) == KRBF_DONE)
             *known = place;
         break;
-    case 3:
-        krbf_cc_remove_at(cc, place);
-        break;
+    case 3: krbf_cc_remove_at(cc, place); break;
     case 4:
         if (below(4) == 0)
             krbf_cc_rewrite(cc, cursor, 1);
         break;
-    case 5:
-        krbf_cc_server(cc, place, room, below(sizeof room), &len);
-        break;
-    case 6:
-        krbf_cc_client(cc, place, room, below(sizeof room), &len);
-        break;
+    case 5: krbf_cc_server(cc, place, room, below(sizeof room), &len); break;
+    case 6: krbf_cc_client(cc, place, room, below(sizeof room), &len); break;
     case 7:
         if (krbf_cc_config(cc, TEXT("pa_type"), TEXT(name), &bytes) == KRBF_DONE)
             touch(bytes);
         break;
-    case 8:
-        krbf_cc_set_config(cc, TEXT("pa_type"), TEXT(name), image, below(40), &place);
-        break;
+    case 8: krbf_cc_set_config(cc, TEXT("pa_type"), TEXT(name), image, below(40), &place); break;
     case 9:
         krbf_cc_first(cc, cursor);
         *cursor = a_place(*cursor);
         break;
-    case 10:
-        see_ticket(krbf_cc_ticket(cc, place, &ticket), &ticket, known);
-        break;
+    case 10: see_ticket(krbf_cc_ticket(cc, place, &ticket), &ticket, known); break;
     default:
         CHECK(krbf_cc_fault(cc, &kind, &place) == KRBF_DONE);
         krbf_cc_principal(cc, room, below(sizeof room), &len);

@@ -15,9 +15,7 @@ static int refuses(void) { return refused > 0 && --refused == 0; }
 
 void *__wrap_malloc(size_t size) { return refuses() ? NULL : __real_malloc(size); }
 
-void *__wrap_realloc(void *block, size_t size) {
-    return refuses() ? NULL : __real_realloc(block, size);
-}
+void *__wrap_realloc(void *block, size_t size) { return refuses() ? NULL : __real_realloc(block, size); }
 
 static krbf_keytab kt = KRBF_NONE;
 static krbf_ccache cc = KRBF_NONE;
@@ -28,9 +26,7 @@ static char room[64];
 static size_t len;
 
 static uint32_t create_kt(void) { return krbf_kt_create(0, &kt); }
-static uint32_t add(void) {
-    return krbf_kt_add(&kt, TEXT("host/a@R"), 0, 3, 17, KEY, sizeof KEY, &place);
-}
+static uint32_t add(void) { return krbf_kt_add(&kt, TEXT("host/a@R"), 0, 3, 17, KEY, sizeof KEY, &place); }
 static uint32_t find(void) { return krbf_kt_find(&kt, TEXT("host/a@R"), 3, 0, &entry); }
 static uint32_t name_kt(void) { return krbf_kt_name(&kt, KRBF_FIRST, room, sizeof room, &len); }
 static uint32_t rewrite_kt(void) { return krbf_kt_rewrite(&kt, &place, 0); }
@@ -40,8 +36,7 @@ static uint32_t server(void) { return krbf_cc_server(&cc, place, room, sizeof ro
 static uint32_t rewrite_cc(void) { return krbf_cc_rewrite(&cc, &place, 0); }
 
 static uint32_t store(void) {
-    return krbf_cc_store(&cc, TEXT("u@R"), TEXT("host/a@R"), KEY, sizeof KEY, KEY, 3, KEY, 0,
-                         &NUMBERS, &place);
+    return krbf_cc_store(&cc, TEXT("u@R"), TEXT("host/a@R"), KEY, sizeof KEY, KEY, 3, KEY, 0, &NUMBERS, &place);
 }
 
 static uint32_t set_config(void) {
@@ -49,28 +44,11 @@ static uint32_t set_config(void) {
     return krbf_cc_set_config(&cc, TEXT("k"), TEXT("b@R"), KEY, 4, &set);
 }
 
-/* The image of both, one behind the other, in image. */
-static size_t images(void) {
-    krbf_bytes bytes;
-    size_t size = 0;
-    if (kt.held) {
-        krbf_kt_image(&kt, &bytes);
-        memcpy(image, bytes.at, bytes.len);
-        size = bytes.len;
-    }
-    if (cc.held) {
-        krbf_cc_image(&cc, &bytes);
-        memcpy(image + size, bytes.at, bytes.len);
-        size += bytes.len;
-    }
-    return size;
-}
-
 /* Makes a call with each of its requests refused, until none is. */
 static void sweep(uint32_t (*call)(void)) {
     static uint8_t before[1 << 12];
     for (unsigned nth = 1; nth < 1000; nth++) {
-        size_t size = images();
+        size_t size = put_images(&kt, &cc);
         CHECK(size <= sizeof before);
         memcpy(before, image, size);
         refused = nth;
@@ -80,7 +58,7 @@ static void sweep(uint32_t (*call)(void)) {
             CHECK(status == KRBF_DONE);
             return;
         }
-        CHECK(status == KRBF_NO_MEMORY && images() == size && !memcmp(image, before, size));
+        CHECK(status == KRBF_NO_MEMORY && put_images(&kt, &cc) == size && !memcmp(image, before, size));
     }
     CHECK(!"a call asks for memory without end");
 }

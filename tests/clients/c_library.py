@@ -5,7 +5,6 @@ import os
 import shutil
 import signal
 import subprocess
-from collections.abc import Iterable
 from dataclasses import replace
 
 from clients.c_exports import prototypes
@@ -53,8 +52,8 @@ def is_built(report: Report, what: str) -> bool:
 def build(folder: str, name: str, *words: str, sources: str = SOURCES) -> str:
     """Builds a C program of the tests with the library, and returns its path."""
     path = os.path.join(folder, name)
-    subprocess.run(["cc", *STRICT, *words, f"-I{TOP}/c", "-o", path,
-                    os.path.join(sources, f"{name}.c"), LIBRARY], check=True, timeout=SECONDS)
+    subprocess.run(["cc", *STRICT, *words, f"-I{TOP}/c", "-o", path, os.path.join(sources, f"{name}.c"), LIBRARY],
+                   check=True, timeout=SECONDS)
     return path
 
 
@@ -78,38 +77,30 @@ def check_symbols(report: Report) -> None:
     report.check("the shared library's name", faults)
 
 
-def check_lists(report: Report, program: str, folder: str, name: str, option: str, images: Iterable[bytes]) -> None:
-    """Compares a C program's listing with that of `klist`, and then checks what it adds, under gcc's sanitizers."""
-    built = build(folder, name, *SANITIZED)
-    for image in images:
+def check_lists(report: Report, program: str, folder: str) -> None:
+    """Compares listings by C with those of `klist`, and then checks what is added, under gcc's sanitizers."""
+    built = build(folder, "lists", *SANITIZED)
+    samples = (data for name, data in SAMPLES.items() if name.endswith(".keytab"))
+    images = {"-k": (*samples, *corpus.images("keytab"), b"", b"\5", USUAL),
+              "-c": (USUAL, cache(TICKET, PA_TYPE), *corpus.images("ccache"), b"", b"\5\4\0", TWO)}
+    for option, image in ((option, image) for option, those in images.items() for image in those):
         with folder_of({"f": image}) as at:
-            wanted, got = run(program, ("klist", option, "f"), at), run(built, ("f",), at)
-        if wanted.err:
-            faults = [] if got.status == 2 and got.out else [f"an image that is refused: {got}"]
-        else:
-            faults = differences(wanted, got)
-        report.check(f"{name}.c over an image of {len(image)} bytes", faults)
+            wanted, got = run(program, ("klist", option, "f"), at), run(built, (option, "f"), at)
+        faults = [] if wanted.err and got.status == 2 and got.out else differences(wanted, got)
+        report.check(f"lists.c {option} over an image of {len(image)} bytes", faults)
 
 
 # Runs of the program that move keys, which are the bytes 0 to 15 as in all images of these tests.
 PROGRAM_RUNS = (
-    (("klist", "-ktKe", "k"), b""),
-    (("klist", "-ktKe", "--json", "k"), b""),
-    (("klist", "-cef", "c"), b""),
-    (("ktfind", "k", "0", "0", "host/a@R"), b""),
-    (("ktremove", "-n", "-p", "host/a@R", "k"), b""),
-    (("ktedit", "k"), ADDED.encode() + b"start\nstep 0\nrewrite\ncut 2\n"),
-    (("ccedit", "c"), b"start\nconfig k - v\nstep 0\nrewrite\n"),
-    (("ktutil",), b"rkt k\naddent -key -p c@R -k 3 -e 17\n000102030405060708090a0b0c0d0e0f\n"
-                  b"l -k\nwkt j\n"),
-    (("ktcopy", "k", "new"), b""),
-    (("ktremove", "-p", "b@R", "k"), b""),
-    (("ktedit", "--in-place", "k"), ADDED.encode() + b"cut 98\n"),
-    (("ktcopy", "--in-place", "j", "k"), b""),
-    (("ccedit", "--in-place", "c"), b"config k - w\n"),
-    (("ccremove", "-p", "krbtgt/R@R", "c"), b""),
-    (("hold", "-k", "k"), frame(TWO)),
-    (("hold", "c"), frame(USUAL)),
+    *((line, b"") for line in ("klist -ktKe k", "klist -ktKe --json k", "klist -cef c", "ktfind k 0 0 host/a@R",
+                               "ktremove -n -p host/a@R k")),
+    ("ktedit k", ADDED.encode() + b"start\nstep 0\nrewrite\ncut 2\n"),
+    ("ccedit c", b"start\nconfig k - v\nstep 0\nrewrite\n"),
+    ("ktutil", b"rkt k\naddent -key -p c@R -k 3 -e 17\n000102030405060708090a0b0c0d0e0f\nl -k\nwkt j\n"),
+    ("ktcopy k new", b""), ("ktremove -p b@R k", b""),
+    ("ktedit --in-place k", ADDED.encode() + b"cut 98\n"),
+    ("ktcopy --in-place j k", b""), ("ccedit --in-place c", b"config k - w\n"),
+    ("ccremove -p krbtgt/R@R c", b""), ("hold -k k", frame(TWO)), ("hold c", frame(USUAL)),
 )
 
 
@@ -150,46 +141,34 @@ def check_edit(report: Report, program: str) -> None:
             report.check(f"the edit of krbfile(3) ends with {wanted.status}", faults)
 
 
-def check_memory(report: Report, folder: str) -> None:
-    """Refuses each allocation of each call in turn."""
-    built = build(folder, "refused_memory", "-Wl,--wrap=malloc,--wrap=realloc")
-    report.compare("C: each allocation fails in turn", Outcome(0), run(built, (), folder))
-
-
 def check_given(report: Report, folder: str) -> None:
-    """Passes calls no bytes, and bytes inside their own keytab or cache."""
-    for name in ("no_bytes", "own_bytes"):
-        built = build(folder, name, *SANITIZED)
-        report.compare(f"C: {name}.c under sanitizers", Outcome(0), run(built, (), folder))
+    """Passes calls no bytes, and bytes inside their own keytab or cache, and refuses each of their allocations in
+    turn."""
+    wraps = ("-Wl,--wrap=malloc,--wrap=realloc",)
+    for name, words in (("no_bytes", SANITIZED), ("own_bytes", SANITIZED), ("refused_memory", wraps)):
+        report.compare(f"C: {name}.c", Outcome(0), run(build(folder, name, *words), (), folder))
     if shutil.which("valgrind") is None:
         report.skip("own_bytes.c under valgrind", "valgrind is not there")
         return
     words = ("-q", "--error-exitcode=97", "--leak-check=full", build(folder, "own_bytes"))
-    report.compare("C: own_bytes.c under valgrind", Outcome(0),
-                   run(shutil.which("valgrind"), words, folder))
+    report.compare("C: own_bytes.c under valgrind", Outcome(0), run("valgrind", words, folder))
 
 
 def check_keys(report: Report, program: str, folder: str) -> None:
     """Checks that no freed block holds a key, in C and in the program."""
-    freed = os.path.join(folder, "freed.so")
-    subprocess.run(["cc", "-shared", "-fPIC", "-O2", "-Wall", "-Wextra", "-Werror", "-o", freed,
-                    os.path.join(SOURCES, "freed.c")], check=True, timeout=SECONDS)
+    freed = build(folder, "freed", "-shared", "-fPIC")
     with folder_of({"k": TWO, "c": USUAL}) as at:
-        runs = [(build(folder, "keys"), ("k", "c"), b"")]
+        runs = [(build(folder, "keys"), "k c", b"")]
         if report.is_proved:
-            runs += [(program, words, stdin) for words, stdin in PROGRAM_RUNS]
+            runs += [(program, line, stdin) for line, stdin in PROGRAM_RUNS]
         else:
             report.skip("keys", "the program is not proved: its memory does not come from the C library")
-        for named, words, stdin in runs:
-            seen = os.path.join(folder, "seen")
-            env = {**os.environ, "LD_PRELOAD": freed, "FREED_SEEN": seen}
-            got = run(named, words, at, stdin, env=env)
-            faults = [got.err.decode()] if got.status else []
-            if os.path.exists(seen):
-                os.remove(seen)
-            else:
-                faults.append("no block that was given back is seen")
-            report.check(f"keys are cleared: {os.path.basename(named)} {' '.join(words)}", faults)
+        for number, (named, line, stdin) in enumerate(runs):
+            seen = os.path.join(folder, f"seen-{number}")
+            got = run(named, line.split(), at, stdin, env={**os.environ, "LD_PRELOAD": freed, "FREED_SEEN": seen})
+            faults = [got.err.decode()] * (got.status != 0)
+            faults += ["no block that was given back is seen"] * (not os.path.exists(seen))
+            report.check(f"keys are cleared: {os.path.basename(named)} {line}", faults)
 
 
 def check(report: Report, program: str) -> None:
@@ -198,13 +177,8 @@ def check(report: Report, program: str) -> None:
         return
     check_symbols(report)
     with folder_of({}) as folder:
-        samples = (data for name, data in SAMPLES.items() if name.endswith(".keytab"))
-        check_lists(report, program, folder, "keytabs", "-k",
-                    (*samples, *corpus.images("keytab"), b"", b"\5", USUAL))
-        check_lists(report, program, folder, "caches", "-c",
-                    (USUAL, cache(TICKET, PA_TYPE), *corpus.images("ccache"), b"", b"\5\4\0", TWO))
+        check_lists(report, program, folder)
         check_example(report, program)
         check_traced(report, program, "the edit of krbfile(3)", check_edit)
         check_given(report, folder)
-        check_memory(report, folder)
         check_keys(report, program, folder)

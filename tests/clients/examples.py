@@ -56,7 +56,7 @@ def commands(name: str, text: str) -> list[list[str]]:
 
 
 def check_jobs(report: Report, folder: str, programs: str, env: dict[str, str]) -> None:
-    """Runs the jobs, each over no keytabs first, and README's line for cron."""
+    """Runs the jobs, and README's line for cron."""
     texts = {name: read(f"examples/{name}").replace("/usr/local/bin", programs) for name in (*JOBS, "keytabs.timer")}
     with folder_of({name: text.encode() for name, text in texts.items()}) as units:
         got = run("systemd-analyze", ("verify", "./keytabs.service", "./keytabs.timer"), units)
@@ -67,9 +67,8 @@ def check_jobs(report: Report, folder: str, programs: str, env: dict[str, str]) 
     report.check("README's line for cron", [] if got.status == 1 and FOUND in found else [f"{got}"])
     for name in JOBS:
         removal, search = commands(name, texts[name])
-        for words, at, *wanted in ((search, programs, 0, set()), (search, folder, 1, found),
-                                   (removal, folder, 0, {REMOVED}), (removal, folder, 0, set())):
-            got = run("env", words, at, env=env)
+        for words, *wanted in ((search, 1, found), (removal, 0, {REMOVED})):
+            got = run("env", words, folder, env=env)
             report.check(f"{name}: {words}", [] if [got.status, {*got.out.splitlines()}] == wanted else [f"{got}"])
         make(folder)
 

@@ -1,5 +1,5 @@
-"""Changes of files by Python's module, which the program saves: what is saved, what each end does if the other dies,
-and a storm of Python, the program and MIT's ktutil over one file."""
+"""Changes of files by Python's module, which the program saves: what is saved, and what each end does if the other
+dies."""
 
 import os
 import signal
@@ -9,27 +9,18 @@ import time
 from collections.abc import Callable, Iterator
 from concurrent.futures import ThreadPoolExecutor
 from contextlib import contextmanager, suppress
-from random import Random
 
 from clients.python_module import check_scripts
 from makers.cache_images import cache
-from makers.images import BIG, HOST, TWO, B, Entry, keytab, old
+from makers.images import BIG, HOST, TWO, B, keytab, old
 from makers.usual_caches import PA_TYPE, TICKET
 from pages.readme import LIBRARY, surroundings
-from peers.beside_mit import are_there
 from runs.harness import SECONDS, Report, folder_of
-from runs.storms import Run, rage
 from system.saving import NEW, OLD, edit, tree_faults
-from system.storm_kinds import change, names_of_keytab
 
 # What is saved: also in place, of the other byte order, under strange names and default ones, and by threads.
 SAVES = """
-from krbfile import Keytab, edit_cache, edit_keytab
-from pathlib import Path
-from threading import Thread
-import os, sys
-
-image, cache, big = map(bytes.fromhex, sys.stdin.read().split())
+image, cache, big = map(bytes.fromhex, image.decode().split())
 for name, data in (("k", image), ("c", cache), ("big", big)):
     Path(name).write_bytes(data)
 os.chmod("k", 0o640)
@@ -56,31 +47,22 @@ with edit_cache() as cache:
     cache.remove_at(cache.find("krbtgt/R@R").place)
     cache.rewrite()
 print(Path("c").read_bytes().hex(), sorted(os.listdir()))
-threads = [Thread(target=add, args=("many", number)) for number in range(5)]
-[thread.start() for thread in threads]
-[thread.join() for thread in threads]
+at_once([lambda number=number: add("many", number) for number in range(5)])
 print(sorted(entry.principal for entry in Keytab.load("many")))
 """
 
 # Blocks that save nothing: they change nothing, end by an exception, or are never left.
 BLOCKS = """
-from krbfile import edit_keytab
-from pathlib import Path
-import os, sys
-
-Path("k").write_bytes(sys.stdin.buffer.read())
+Path("k").write_bytes(image)
 before = os.stat("k")
 
-def stop(error):
-    def block(keytab):
-        keytab.remove_at(2)
-        raise error
-    return block
+def stop(keytab, error):
+    keytab.remove_at(2)
+    raise error
 
-def never(keytab):
-    edit_keytab("other").__enter__().add("a@R", 1, 17, bytes(16))
-
-for block in (list, stop(KeyError(1)), stop(KeyboardInterrupt()), stop(SystemExit(3)), lambda it: it.close(), never):
+for block in (list, *(lambda it, error=error: stop(it, error) for error in (
+                  KeyError(1), KeyboardInterrupt(), SystemExit(3))), lambda it: it.close(),
+              lambda _: edit_keytab("other").__enter__().add("a@R", 1, 17, bytes(16))):
     try:
         with edit_keytab("k") as keytab:
             block(keytab)
@@ -114,19 +96,6 @@ except BaseException as error:
 CHILD = "if os.fork() == 0: sys.stdin = sys.stdout = open(os.devnull, 'r+')"
 WORKER = "worker = os.fork() or live()"
 UNKNOWN = "worker = PyDLL(None).fork() or live()"
-
-# A run of a storm, which adds the name that it reads; and how many there are of each program.
-ADDS = """
-from krbfile import edit_keytab
-import sys
-name = sys.stdin.readline().strip()
-try:
-    with edit_keytab("k") as keytab:
-        keytab.add(name + "@R", 1, 17, bytes(16))
-except OSError as error:
-    sys.exit(print(error) or 3)
-"""
-EACH = 15
 
 # How many seconds a run has that is to wait, and one that is to end.
 MOMENT, LONG = 0.5, 30.0
@@ -208,7 +177,7 @@ def check_holds(report: Report, program: str) -> None:
         time.sleep(MOMENT)
         faults = ["the program did not wait"] * other.done()
         started.stdin.write(b"\n")
-        faults += [] if other.result().status == 0 else [f"{other.result()}"]
+        faults += [f"{other.result()}"] * (other.result().status != 0)
         report.check("a file that a block holds", faults + tree_faults({"k": keytab(HOST, HOST)}, folder))
     with folder_of({"k": OLD}) as folder, in_block(program, folder, UNKNOWN) as (started, worker):
         started.kill()
@@ -216,25 +185,6 @@ def check_holds(report: Report, program: str) -> None:
         os.kill(worker, signal.SIGKILL)
         faults += ["it is held"] * is_held(folder, LONG)
         report.check("the hold of an unknown worker", faults + tree_faults({"k": OLD}, folder))
-
-
-def check_storm(report: Report, program: str) -> None:
-    """Checks a storm: what Python and the program report as saved is there, some of each, and nothing is left."""
-    sources = {f"m{number}": keytab(Entry((b"m%d" % number,))) for number in range(EACH)}
-    with folder_of({"k": OLD}) as folder, folder_of(sources) as beside:
-        runs = [run for n in range(EACH) for run in (
-            Run(f"y{n}", (sys.executable, "-c", ADDS), f"y{n}\n"),
-            Run(f"p{n}", (program, "ktedit", "k"), change("ktedit", f"p{n}")[1]),
-            Run(f"m{n}", ("ktutil",), f"rkt {beside}/m{n}\nwkt k\n", is_mits=True))]
-        for each in runs:
-            each.start(folder, {**surroundings("/usr/sbin"), "KRBFILE": program, "KRB5_CONFIG": os.devnull})
-        rage(runs, Random(0), 1)
-        with open(os.path.join(folder, "k"), "rb") as file:
-            names = names_of_keytab(file.read()) or []
-        faults = [f"no {each} is there" for each in {*"ypm"} - {name[0] for name in names}]
-        faults += [fault for each in runs for fault in each.faults(names, True)]
-        faults += [f"{name} is left" for name in os.listdir(folder) if name != "k"]
-    report.check("a storm of Python, the program and MIT's ktutil", faults[:3])
 
 
 def check(report: Report, program: str) -> None:
@@ -246,5 +196,3 @@ def check(report: Report, program: str) -> None:
     for end in range(len(ENDS)):
         check_end(report, program, end)
     check_holds(report, program)
-    if are_there(report, "a storm of Python beside MIT's ktutil"):
-        check_storm(report, program)

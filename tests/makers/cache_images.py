@@ -19,20 +19,9 @@ REMOVED = {"authtime": 2**32 - 1, "endtime": 0}
 
 # The letters of a ticket's flags, in the order in which they are printed.
 FLAGS = {
-    b"F": 0x40000000,
-    b"f": 0x20000000,
-    b"P": 0x10000000,
-    b"p": 0x08000000,
-    b"D": 0x04000000,
-    b"d": 0x02000000,
-    b"i": 0x01000000,
-    b"R": 0x00800000,
-    b"I": 0x00400000,
-    b"H": 0x00100000,
-    b"A": 0x00200000,
-    b"T": 0x00080000,
-    b"O": 0x00040000,
-    b"a": 0x00008000,
+    b"F": 0x40000000, b"f": 0x20000000, b"P": 0x10000000, b"p": 0x08000000, b"D": 0x04000000, b"d": 0x02000000,
+    b"i": 0x01000000, b"R": 0x00800000, b"I": 0x00400000, b"H": 0x00100000, b"A": 0x00200000, b"T": 0x00080000,
+    b"O": 0x00040000, b"a": 0x00008000,
 }
 
 # An address, or an element of the authorization data: its type and its bytes.
@@ -85,13 +74,10 @@ class Credential:
         if version == 3:
             second = self.enctype if self.second_enctype is None else self.second_enctype
             parts.append(number(second, 2))
-        parts.append(counted32(self.key))
         times = (self.authtime, self.starttime, self.endtime, self.renew_till)
-        parts += [*(number(time, 4) for time in times)]
-        parts += [number(self.is_skey, 1), number(self.flags, 4)]
-        parts += [typed_list(self.addresses), typed_list(self.authdata)]
-        parts += [counted32(self.ticket), counted32(self.second_ticket)]
-        return b"".join(parts)
+        parts += [counted32(self.key), *(number(time, 4) for time in times)]
+        parts += [number(self.is_skey, 1), number(self.flags, 4), typed_list(self.addresses), typed_list(self.authdata)]
+        return b"".join([*parts, counted32(self.ticket), counted32(self.second_ticket)])
 
     def removed(self) -> Credential:
         """Returns the same with the removed mark."""
@@ -109,9 +95,7 @@ def typed_list(those: tuple[Typed, ...]) -> bytes:
     return number(len(those), 4) + b"".join(spelled)
 
 
-def config(
-    key: bytes, value: bytes, principal: bytes | None = None, client: Name = U
-) -> Credential:
+def config(key: bytes, value: bytes, principal: bytes | None = None, client: Name = U) -> Credential:
     """Returns a configuration entry: all unused fields are zero."""
     after = (key,) if principal is None else (key, principal)
     server = Name((CONFIG_FIRST, *after), CONFIG_REALM)

@@ -1,81 +1,49 @@
 """Damaged files: changed in bits, bytes, numbers or length, or by bytes of another file."""
 
-from collections.abc import Callable
 from random import Random
 
 from makers.images import BIG, LITTLE, number
 
-# A change of a file; bytes may come from the second file.
-Change = Callable[[Random, bytes, bytes], bytes]
 
-
-def span(random: Random, image: bytes) -> tuple[int, int]:
-    """Returns where some bytes begin and end, mostly few."""
-    at = random.randrange(len(image))
-    return at, min(len(image), at + random.choice([1, 1, 2, 4, 20, 100]))
-
-
-def flip(random: Random, image: bytes, _: bytes) -> bytes:
-    """Flips a bit."""
-    at = random.randrange(len(image))
-    return image[:at] + bytes([image[at] ^ 1 << random.randrange(8)]) + image[at + 1:]
-
-
-def set_byte(random: Random, image: bytes, _: bytes) -> bytes:
-    """Replaces a byte by another."""
-    at = random.randrange(len(image))
-    byte = random.choice([b"\0", b"\1", b"\x7f", b"\x80", b"\xff", random.randbytes(1)])
-    return image[:at] + byte + image[at + 1:]
-
-
-def likely_numbers(image: bytes, width: int, order: str) -> list[int]:
-    """Returns the places of numbers of that width that are small enough to be a count or a length."""
-    high = slice(0, width // 2) if order == BIG else slice(width - width // 2, width)
-    zeros = bytes(width // 2)
-    return [at for at in range(len(image) - width + 1) if image[at : at + width][high] == zeros]
-
-
-def set_number(random: Random, image: bytes, _: bytes) -> bytes:
-    """Sets a count or a length to 0, a little off, negative, far too great, or up to the end."""
+def renumbered(random: Random, image: bytes) -> bytes:
+    """Returns the file with what may be a count or a length, since it is small, set to 0, a little off, negative, far
+    too great, or up to the end."""
     width, order = random.choice([2, 4, 4]), random.choice([BIG, BIG, LITTLE])
-    places = likely_numbers(image, width, order)
+    high = slice(0, width // 2) if order == BIG else slice(width // 2, width)
+    places = [at for at in range(len(image) - width + 1) if not any(image[at:at + width][high])]
     if not places:
         return image
     at = random.choice(places)
-    old = int.from_bytes(image[at : at + width], order)
-    rest = len(image) - at - width
-    near = [old - 4, old - 1, old + 1, old + 4, -old, rest - 1, rest, rest + 1, -rest, -rest - 1]
-    edges = [0, 1, 2, -1, 2 ** (8 * width - 1), 2 ** (8 * width - 1) - 1, 2**16, 2**16 - 1]
-    new = random.choice([*near, *edges]) % 2 ** (8 * width)
-    return image[:at] + number(new, width, order) + image[at + width:]
+    old, rest, sign = int.from_bytes(image[at:at + width], order), len(image) - at - width, 2 ** (8 * width - 1)
+    new = random.choice([old - 4, old - 1, old + 1, old + 4, -old, rest - 1, rest, rest + 1, -rest, -rest - 1, 0, 1, 2,
+                         -1, sign, sign - 1, 2**16, 2**16 - 1])
+    return image[:at] + number(new % (2 * sign), width, order) + image[at + width:]
 
 
 def recut(random: Random, image: bytes, other: bytes) -> bytes:
-    """Removes, repeats or overwrites some bytes, goes on with another file's rest, cuts the file short, sometimes to
-    nothing, or inserts bytes, perhaps at the end."""
-    (at, to), begin = span(random, image), random.randrange(len(other))
-    most = min(len(image), 4) if random.random() < 0.3 else len(image)
-    place, count = random.randrange(len(image) + 1), random.choice([1, 2, 3, 4, 8, 30])
+    """Returns the file with a bit or a byte changed, some bytes removed, repeated or overwritten, another file's rest,
+    cut short, sometimes to nothing, or with bytes inserted, perhaps at the end."""
+    at, begin, place = (random.randrange(bound) for bound in (len(image), len(other), len(image) + 1))
+    to = min(len(image), at + random.choice([1, 1, 2, 4, 20, 100]))
+    byte = random.choice([*b"\0\1\x7f\x80\xff", random.randrange(256), *[image[at] ^ 1 << random.randrange(8)] * 6])
+    most = min(len(image), 4) if random.random() < 0.5 else len(image)
+    more = random.choice([bytes, random.randbytes])(random.choice([1, 2, 3, 4, 8, 30]))
     return random.choice([
+        *[image[:at] + bytes([byte]) + image[at + 1:]] * 5,
         image[:at] + image[to:],
         image[:to] + image[at:],
-        image[:at] + other[begin : begin + to - at] + image[to:],
+        image[:at] + other[begin:begin + to - at] + image[to:],
         *[image[:at] + other[begin:]] * 2,
-        *[image[: random.randrange(most)]] * 2,
-        image[:place] + random.choice([bytes(count), random.randbytes(count)]) + image[place:],
+        *[image[:random.randrange(most)]] * 3,
+        image[:place] + more + image[place:],
     ])
-
-
-# The changes, by how frequent they are.
-CHANGES: dict[Change, int] = {flip: 3, set_byte: 2, set_number: 6, recut: 8}
 
 
 def damaged(random: Random, image: bytes, other: bytes, most: int = 3) -> bytes:
     """Returns the file with up to that many changes, mostly one."""
     for _ in range(random.choice([1, 1, *range(1, most + 1)])):
         if image:
-            change = random.choices(list(CHANGES), CHANGES.values())[0]
-            image = change(random, image, other)
+            image = renumbered(random, image) if random.random() < 0.3 else recut(random, image, other)
     return image
 
 

@@ -28,7 +28,7 @@ def random_name(random: Random, may_be_config: bool = True) -> Name:
     """Returns a name, sometimes of a configuration entry, or close to one, if it may be."""
     parts = [random_bytes(random, 6) for _ in range(random.choice([0, 1, 1, 2, 2, 3]))]
     realm = random_bytes(random, 4)
-    if may_be_config and random.random() < 0.3:
+    if may_be_config and random.random() < 0.4:
         realm = random.choice([CONFIG_REALM] * 8 + [CONFIG_REALM[:-1], b"X-RMED-CONF:"])
         first = random.choice([CONFIG_FIRST] * 8 + [CONFIG_FIRST + b"x"])
         more = random.choice([1, 1, 2, 2, 2, 0, 3])
@@ -55,28 +55,22 @@ def random_credential(random: Random) -> Credential:
     """Returns a credential with any fields."""
     one_flag = random.choice([*FLAGS.values(), 2 ** random.randrange(32)])
     return Credential(
-        client=random_name(random),
-        server=random_name(random),
+        client=random_name(random), server=random_name(random),
         enctype=random.choice([*NAMES, random_number(random, 16)]),
         second_enctype=random.choice([None, random_number(random, 16)]),
-        key=random_bytes(random, 20),
-        is_skey=random.choice([0, 1, 255]),
+        key=random_bytes(random, 20), is_skey=random.choice([0, 1, 255]),
         flags=random.choice([0, 2**32 - 1, one_flag, random.randrange(2**32)]),
-        addresses=random_list(random),
-        authdata=random_list(random),
-        ticket=random.randbytes(random.choice([0, 1, 3, 20, 300])),
-        second_ticket=random_bytes(random, 12),
+        addresses=random_list(random), authdata=random_list(random),
+        ticket=random.randbytes(random.choice([0, 1, 3, 20, 300])), second_ticket=random_bytes(random, 12),
         **random_times(random),
     )
 
 
 def random_header(random: Random) -> bytes:
     """Returns the fields of a header, rarely with bytes that are not a field."""
-    fields = random.choices(
-        [offset(5, -10), offset(-300, 2**31 - 1), header_field(1, random_bytes(random, 9)),
-         header_field(random.randrange(2**16), random_bytes(random, 20))],
-        k=random.choice([0, 1, 1, 2, 4]),
-    )
+    fields = random.choices([offset(5, -10), offset(-300, 2**31 - 1), header_field(1, random_bytes(random, 9)),
+                             header_field(random.randrange(2**16), random_bytes(random, 20))],
+                            k=random.choice([0, 1, 1, 2, 4]))
     return b"".join(fields) + (random_bytes(random, 5) if random.random() < 0.05 else b"")
 
 
@@ -87,8 +81,7 @@ def random_cache(random: Random) -> bytes:
     if random.random() < 0.05:
         off = number(random_number(random, 32), 4)
         those.append(replace(random_credential(random), client=Name(count=int.from_bytes(off))))
-    cells = [one.spelled(version) for one in those]
-    return cache(*cells, default=random_name(random), fields=random_header(random), version=version)
+    return cache(*those, default=random_name(random), fields=random_header(random), version=version)
 
 
 def random_value(random: Random) -> bytes:
@@ -101,8 +94,7 @@ def random_setting(random: Random, default: Name) -> Credential:
     client = replace(default, name_type=random.choice([default.name_type, 1, 7]))
     client = random_name(random) if random.random() < 0.1 else client
     principal = random.choice(PRINCIPALS)
-    made = config(random.choice(KEYS), random_value(random),
-                  None if principal == b"-" else principal, client)
+    made = config(random.choice(KEYS), random_value(random), None if principal == b"-" else principal, client)
     if random.random() < 0.2:
         made = replace(random_credential(random), client=client, server=made.server)
     return made.removed() if random.random() < 0.2 else made
@@ -112,9 +104,8 @@ def filled_cache(random: Random, version: int, makers: list[Callable[[Random], C
     """Returns a sound cache of fewer than that many tickets, with values under a few names."""
     default = random_name(random, False)
     makers = [*makers, lambda random: random_setting(random, default)]
-    cells = [random.choice(makers)(random).spelled(version) for _ in range(random.randrange(most))]
-    fields = b"" if version == 3 else random_header(random)
-    return cache(*cells, default=default, fields=fields, version=version)
+    cells = [random.choice(makers)(random) for _ in range(random.randrange(most))]
+    return cache(*cells, default=default, fields=random_header(random), version=version)
 
 
 def with_damage(random: Random, image: bytes, chance: float) -> bytes:

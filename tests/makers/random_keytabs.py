@@ -1,6 +1,6 @@
 """Random keytabs: any images, those to be changed, and those of few names, so that many entries share one."""
 
-from dataclasses import dataclass, replace
+from dataclasses import dataclass
 from random import Random
 
 from makers.images import BIG, END, LITTLE, Entry, hole, keytab, record
@@ -20,68 +20,43 @@ def random_bytes(random: Random, most: int) -> bytes:
     return bytes(random.choices(alphabet, k=random.randrange(most + 1)))
 
 
-def random_entry(random: Random) -> Entry:
-    """Returns an entry with any fields. Its count of components is mostly the true one."""
-    return Entry(
-        components=tuple(random_bytes(random, 5) for _ in range(random.choice([0, 1, 2, 2, 3]))),
-        realm=random_bytes(random, 4),
-        name_type=random.randrange(2**32),
-        timestamp=random.randrange(2**32),
-        version8=random.randrange(2**8),
-        enctype=random.randrange(2**16),
-        key=random_bytes(random, 20),
-        version32=random.choice([None, 0, random.randrange(300), random.randrange(2**32)]),
-        count=random.randrange(5) if random.random() < 0.1 else None,
-    )
-
-
-def any_part(random: Random, version: int, order: str) -> bytes:
-    """Returns a record, a hole or an odd length."""
+def random_part(random: Random, version: int, order: str, is_sound: bool) -> bytes:
+    """Returns a record of any fields, perhaps with bytes after its entry, or a hole that may have room for an entry.
+    If it need not be sound, it may count its components wrongly, be cut off, or be an odd length."""
     kind = random.random()
-    if kind < 0.7:
-        entry = random_entry(random).spelled(version, order)
-        if random.random() < 0.3:
-            entry += random_bytes(random, 12)
-        if random.random() < 0.05:
-            entry = entry[: random.randrange(1, len(entry))]
-        return record(entry, order)
-    if kind < 0.9:
-        return hole(b"x" + random_bytes(random, 12), order)
-    return random.choice(LENGTHS)
+    if kind < 0.3:
+        is_odd = kind < 0.1 and not is_sound
+        return random.choice(LENGTHS) if is_odd else hole(random.randbytes(random.randrange(1, 130)), order)
+    entry = Entry(
+        components=tuple(random_bytes(random, 5) for _ in range(random.choice([0, 1, 2, 2, 3]))),
+        realm=random_bytes(random, 4), name_type=random.randrange(2**32), timestamp=random.randrange(2**32),
+        version8=random.randrange(2**8), enctype=random.randrange(2**16), key=random_bytes(random, 20),
+        version32=random.choice([None, 0, random.randrange(300), random.randrange(2**32)]),
+        count=random.randrange(5) if random.random() < 0.1 and not is_sound else None,
+    ).spelled(version, order) + bytes(random.choice([0, 0, 1, 4, 30]))
+    return record(entry if is_sound or random.random() < 0.95 else entry[:random.randrange(1, len(entry))], order)
 
 
 def random_image(random: Random) -> bytes:
-    """Returns a keytab of up to five parts, damaged a third of the time."""
-    version = random.choice([1, 2, 2])
+    """Returns a keytab of up to five parts, sometimes of no known version, damaged a third of the time."""
+    version = random.choice([1, 1, 2, 2, 2, 3])
     order = random.choice([BIG, LITTLE]) if version == 1 else BIG
-    parts = (any_part(random, version, order) for _ in range(random.randrange(6)))
+    parts = (random_part(random, version, order, False) for _ in range(random.randrange(6)))
     image = keytab(*parts, version=version)
     return damaged(random, image, image) if random.random() < 0.35 else image
 
 
-def sound_part(random: Random, version: int, order: str) -> bytes:
-    """Returns a record, perhaps with bytes after its entry, or a hole that may have room for an entry."""
-    if random.random() < 0.3:
-        return hole(random.randbytes(random.randrange(1, 130)), order)
-    data = replace(random_entry(random), count=None).spelled(version, order)
-    padding = random.choice([0, 0, 1, 4, 30])
-    return record(data + bytes(padding), order)
-
-
 def random_keytab(random: Random, most: int = 7) -> tuple[bytes, bool]:
-    """Returns a keytab of at most that many parts, and whether it is read as big-endian.
-
-    Some are damaged, and some are not keytabs.
-    """
+    """Returns a keytab of at most that many parts, and whether it is read as big-endian. Some are damaged or none."""
     v1_big = random.random() < 0.3
     kind = random.random()
-    if kind < 0.08:
+    if kind < 0.1:
         return random_image(random), v1_big
-    if kind < 0.16:
+    if kind < 0.2:
         return mutated(random, SAMPLES), v1_big
     version = random.choice([1, 2, 2, 2])
     order = BIG if version == 2 or v1_big else LITTLE
-    parts = [sound_part(random, version, order) for _ in range(random.randrange(most + 1))]
+    parts = [random_part(random, version, order, True) for _ in range(random.randrange(most + 1))]
     if random.random() < 0.2:
         parts += [END, random_bytes(random, 120)]
     return keytab(*parts, version=version), v1_big
@@ -102,16 +77,9 @@ class Choices:
         *components, realm = random.choice(self.names)
         kvno = random.choice(self.versions)
         wide = kvno > 255 or random.random() < 0.5
-        data = Entry(
-            tuple(components),
-            realm,
-            name_type=random.randrange(3),
-            timestamp=random.choice(self.timestamps),
-            version8=kvno % 256,
-            enctype=random.choice(self.enctypes),
-            key=random.choice(self.keys),
-            version32=kvno if wide else None,
-        ).spelled(version, order)
+        data = Entry(tuple(components), realm, random.randrange(3), random.choice(self.timestamps), kvno % 256,
+                     random.choice(self.enctypes), random.choice(self.keys), kvno if wide else None,
+                     ).spelled(version, order)
         kind = random.random()
         if kind < 0.86:
             return record(data + bytes(random.randrange(4)) * wide, order)

@@ -7,6 +7,8 @@ import re
 import select
 import shutil
 import subprocess
+from collections.abc import Callable
+from random import Random
 
 from runs.harness import SECONDS, Report, run
 from theorems.mit_listings import credential_lines, entry_line
@@ -23,6 +25,9 @@ CREDENTIAL = re.compile(r"^(?! )(?=.)", re.MULTILINE)
 
 # The prompt of MIT's ktutil, which it prints into a pipe too.
 PROMPT = b"ktutil:  "
+
+# How many random cases there are of a kind.
+SEEDS = 60
 
 # Where they are: those of the KDC may be outside a plain user's path.
 PATHS = os.pathsep.join([os.environ.get("PATH", ""), "/usr/sbin", "/usr/local/sbin"])
@@ -126,3 +131,8 @@ def are_there(report: Report, what: str, tools: tuple[str, ...] = ("klist", "ktu
     if missing:
         report.skip(what, f"{missing[0]} is not there (Debian: krb5-user, krb5-kdc, krb5-admin-server)")
     return not missing
+
+
+def check_seeds(report: Report, what: str, faults_of: Callable[[Random], list[str]]) -> None:
+    """Checks random cases, the same in each run."""
+    report.check(what, [fault for seed in range(SEEDS) for fault in faults_of(Random(seed))][:3])

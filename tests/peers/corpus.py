@@ -10,11 +10,19 @@ line or of the standard input that names a file of `dir` has that file copied to
 
 import json
 import os
+import re
+from functools import cache
 
 from runs.harness import TOP, Case, Outcome, Report
 
 # The folder of the files and cases.
 FOLDER = os.path.join(TOP, "tests", "corpus")
+
+# The rows of the tables in the folder's README: a file, and who wrote it.
+ROW = re.compile(r"^\| `(\S+)` \| (.*?) \| .*? \|$", re.M)
+
+# The most bytes of a file that has theorems: one of 5,000 takes a second and 0.8 GB, one of 20,000 six seconds, 4 GB.
+MOST_BYTES = 5000
 
 
 def given(value: dict) -> bytes:
@@ -40,28 +48,40 @@ def images(kind: str) -> list[bytes]:
     return [image for _, image in files(kind)]
 
 
+def small_files(kind: str) -> list[tuple[str, bytes]]:
+    """Returns the files of a kind that are not too large, each with its name."""
+    return [(name, image) for name, image in files(kind) if len(image) <= MOST_BYTES]
+
+
+@cache
+def writers() -> dict[str, str]:
+    """Returns who wrote each file."""
+    return dict(ROW.findall(read(os.path.join(FOLDER, "README.md")).decode()))
+
+
+@cache
+def cases(command: str = "") -> tuple[dict, ...]:
+    """Returns the cases, or those of a command."""
+    made = map(json.loads, read(os.path.join(FOLDER, "cases.jsonl")).splitlines())
+    return tuple(case for case in made if command in ("", case["argv"][0]))
+
+
 def case_of(fields: dict) -> Case:
-    """Returns the case in a line."""
+    """Returns a case as it is run."""
     source = os.path.join(FOLDER, fields["dir"])
     stdin = fields.get("stdin") or ""
-    files = {}
-    if fields.get("copy"):
-        name, to = fields["copy"]
-        files[to] = read(os.path.join(source, name))
-    for word in [*fields["argv"], *stdin.split()]:
-        path = os.path.join(source, word)
-        if "/" not in word and os.path.isfile(path):
-            files.setdefault(word, read(path))
-    after = dict(files)
-    for name, value in (fields.get("result_file") or {}).items():
-        is_name = isinstance(value, str)
-        after[name] = read(os.path.join(source, value)) if is_name else given(value)
+    name, to = fields.get("copy") or ("", "")
+    copied = {to: name} if to else {}
+    copied |= {word: word for word in (*fields["argv"], *stdin.split())
+               if word not in copied and "/" not in word and os.path.isfile(os.path.join(source, word))}
+    before = {to: read(os.path.join(source, name)) for to, name in copied.items()}
+    after = {name: read(os.path.join(source, value)) if isinstance(value, str) else given(value)
+             for name, value in (fields.get("result_file") or {}).items()}
     wanted = Outcome(fields["status"], given(fields["stdout"]), given(fields["stderr"]))
-    return Case(fields["id"], tuple(fields["argv"]), wanted, files, after, stdin.encode())
+    return Case(fields["id"], tuple(fields["argv"]), wanted, before, before | after, stdin.encode())
 
 
 def check(report: Report, program: str) -> None:
     """Runs each case."""
-    with open(os.path.join(FOLDER, "cases.jsonl"), encoding="utf-8") as file:
-        for line in file:
-            case_of(json.loads(line)).check(report, program)
+    for fields in cases():
+        case_of(fields).check(report, program)

@@ -3,8 +3,7 @@
 A key that MIT's ktutil adds while a run writes stays, and the run tells of it.
 """
 
-import subprocess
-import time
+from concurrent.futures import Future, ThreadPoolExecutor, wait
 
 from makers.images import HOST, Entry, keytab
 from peers.beside_mit import SURROUNDINGS, are_there, as_json
@@ -44,25 +43,18 @@ def ended_beside(program: str, options: tuple[str, ...], folder: str, mits: tupl
                  seconds: float) -> tuple[Outcome, bool, Outcome]:
     """Returns how a run ends that begins while one of MIT's programs is halted, whether it waits for so many seconds,
     and how MIT's program ends."""
-    started: list[tuple[subprocess.Popen[bytes], bool]] = []
+    started: list[tuple[Future[Outcome], bool]] = []
+    with ThreadPoolExecutor(1) as pool:
 
-    def begin(folder: str) -> None:
-        """Starts the run."""
-        ours = subprocess.Popen([program, "ktedit", *options, "k"], cwd=folder, stdin=subprocess.PIPE,
-                                stdout=subprocess.PIPE, stderr=subprocess.PIPE)
-        ours.stdin.write(ADD_LONG)
-        ours.stdin.close()
-        ours.stdin = None
-        until = time.monotonic() + seconds
-        while ours.poll() is None and time.monotonic() < until:
-            time.sleep(0.01)
-        started.append((ours, ours.poll() is None))
+        def begin(folder: str) -> None:
+            """Starts the run."""
+            ours = pool.submit(run, program, ("ktedit", *options, "k"), folder, ADD_LONG)
+            started.append((ours, ours in wait([ours], seconds).not_done))
 
-    peer, line, halt = mits
-    theirs = halted(peer, line, folder, halt, begin, SURROUNDINGS)
-    (ours, waits), = started
-    out, err = ours.communicate(timeout=SECONDS)
-    return Outcome(ours.returncode, out, err), waits, theirs
+        peer, line, halt = mits
+        theirs = halted(peer, line, folder, halt, begin, SURROUNDINGS)
+        (ours, waits), = started
+        return ours.result(), waits, theirs
 
 
 def check_peers(report: Report, program: str) -> None:

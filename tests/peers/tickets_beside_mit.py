@@ -64,27 +64,28 @@ class Filled:
     def remove(self, server: str, by_script: bool = False) -> None:
         """Removes the ticket for a server with ccremove, or with a script."""
         place, = self.places_of(server)
-        if by_script:
-            self.change("ccedit", printed(f"gone {place}"), f"cut {place}\n")
-        else:
-            self.change(f"ccremove -p {server}", printed(f"removed {place} {server}"))
+        self.change(*("ccedit", printed(f"gone {place}"), f"cut {place}\n") if by_script else
+                    (f"ccremove -p {server}", printed(f"removed {place} {server}")))
 
 
 @contextmanager
-def filled(program: str, made: Realm, *commands: tuple[str, ...], version: int = 4) -> Iterator[Filled]:
-    """Yields a cache that some commands of MIT's filled."""
+def filled(what: str, report: Report, program: str, made: Realm, *commands: tuple[str, ...],
+           version: int = 4) -> Iterator[Filled]:
+    """Yields a cache that some commands of MIT's filled, and reports the faults that are found."""
     with folder_of({"k": keytab(*made.keys())}) as folder:
         one = Filled(program, made, folder)
         for words in commands:
             one.use(*words, version=version)
         yield one
+    report.check(what, one.found)
 
 
-def check_removed(report: Report, program: str, made: Realm) -> None:
+def check_removed(*where: Report | str | Realm) -> None:
     """Checks that a ticket that ccremove or ccedit removed is requested again. A mark leaves its key in the file, which
     ccremove and a rewrite erase; a new ticket of kinit is used."""
     for by_script in (False, True):
-        with filled(program, made, USER, ("kvno", HOST, "svc/h")) as one:
+        what = f"kvno asks anew for what is removed by {'a script' if by_script else 'ccremove'}"
+        with filled(what, *where, USER, ("kvno", HOST, "svc/h")) as one:
             old, = one.keys_of(HOST_TEXT)
             kept = [one.keys_of(server) for server in (TGT, SVC_TEXT)]
             one.remove(HOST_TEXT, by_script)
@@ -101,12 +102,11 @@ def check_removed(report: Report, program: str, made: Realm) -> None:
             one.use(*USER)
             one.use("kvno", HOST)
             one.want("a new ticket of kinit is not used", len(one.keys_of(HOST_TEXT)) == 1)
-        report.check(f"kvno asks anew for what is removed by {'a script' if by_script else 'ccremove'}", one.found)
 
 
-def check_expired(report: Report, program: str, made: Realm) -> None:
+def check_expired(*where: Report | str | Realm) -> None:
     """Checks that tickets with a lifetime of a second are removed once it is over, and that values stay."""
-    with filled(program, made, (*KINIT, "-l", "1s", "user")) as one:
+    with filled("tickets of kinit that have expired", *where, (*KINIT, "-l", "1s", "user")) as one:
         values = len(one.listed("config"))
         time.sleep(max(0, max(ticket["endtime"] for ticket in one.listed()) - time.time()) + 0.01)
         one.change("ccremove --expired", printed(f"removed {one.places_of(TGT)[0]} {TGT}"))
@@ -115,23 +115,21 @@ def check_expired(report: Report, program: str, made: Realm) -> None:
         one.use(*USER)
         one.change("ccremove --expired", Outcome(0))
         one.use("kvno", HOST)
-    report.check("tickets of kinit that have expired", one.found)
 
 
-def check_values(report: Report, program: str, made: Realm) -> None:
+def check_values(*where: Report | str | Realm) -> None:
     """Checks that MIT's klist shows a value that ccedit set, in place of the one that kinit set."""
-    with filled(program, made, USER) as one:
+    with filled("MIT's klist shows a value that ccedit sets", *where, USER) as one:
         one.change("ccedit", script=f"config fast_avail {TGT} no\nconfig mine - 1\n")
         shown = mit_klist(one.folder, "-C", "c")
         one.want(f"MIT's klist shows {shown!r}", b"config: mine = 1\n" in shown
                  and shown.count(b"fast_avail") == 1 and b" = no\n" in shown)
         one.use("kvno", HOST)
-    report.check("MIT's klist shows a value that ccedit sets", one.found)
 
 
-def check_version_3(report: Report, program: str, made: Realm) -> None:
+def check_version_3(*where: Report | str | Realm) -> None:
     """Checks that a cache of version 3 is refused, and that kvno uses it as version 4 after a rewrite."""
-    with filled(program, made, USER, ("kvno", HOST), version=3) as one:
+    with filled("a cache of version 3 that is written anew", *where, USER, ("kvno", HOST), version=3) as one:
         before, keys = one.image(), one.keys_of(HOST_TEXT)
         one.change("ccremove --expired", message(1, "c: refused 8"))
         one.want("it changed", one.image() == before)
@@ -140,7 +138,6 @@ def check_version_3(report: Report, program: str, made: Realm) -> None:
         one.use("kvno", HOST, "svc/h")
         one.want("kvno asks again for what is there", one.keys_of(HOST_TEXT) == keys)
         one.remove(HOST_TEXT)
-    report.check("a cache of version 3 that is written anew", one.found)
 
 
 def check(report: Report, program: str) -> None:

@@ -28,16 +28,11 @@ HEXES = (*["78", "78" * 8, "78" * 20] * 6, "-")
 SAID = re.compile(rb"^krbfile: (?:t|line 2): MIT's programs see no entry from (\d+) on$", re.MULTILINE)
 
 
-def random_entry(random: Random, timestamp: int) -> Entry:
-    """Returns an entry of that time."""
-    return Entry(random.choice(NAMES), random.choice([b"R"] * 9 + [b""]), timestamp=timestamp, key=random.choice(KEYS),
-                 version32=random.choice((1, 2, 3)), enctype=random.choice((17, 18)))
-
-
 def random_keytab(random: Random, timestamp: int) -> bytes:
     """Returns a keytab of a few entries of that time, and holes."""
-    return keytab(*(random_entry(random, timestamp) if random.random() < 0.8 else random.randrange(1, 60)
-                    for _ in range(random.randrange(6))))
+    return keytab(*(Entry(random.choice(NAMES), random.choice([b"R"] * 9 + [b""]), timestamp=timestamp,
+                          key=random.choice(KEYS), version32=random.choice((1, 2, 3)), enctype=random.choice((17, 18)))
+                    if random.random() < 0.8 else random.randrange(1, 60) for _ in range(random.randrange(6))))
 
 
 def random_script(random: Random, places: list[int]) -> bytes:

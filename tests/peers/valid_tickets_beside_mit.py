@@ -2,13 +2,14 @@
 
 import sys
 from dataclasses import replace
+from functools import partial
 from random import Random
 
 from caches.valid_tickets import TICKETS
-from makers.cache_images import CONFIG_FIRST, CONFIG_REALM, Credential, Name, cache, header_field, number
+from makers.cache_images import CONFIG_FIRST, CONFIG_REALM, Name, cache, header_field, number
 from makers.random_caches import random_credential
 from makers.usual_caches import TICKET, config_ticket
-from peers.beside_mit import SURROUNDINGS, are_there, as_json
+from peers.beside_mit import SURROUNDINGS, are_there, as_json, check_seeds
 from peers.corpus import files
 from runs.harness import Outcome, Report, folder_of, run
 from runs.preload import Line, Preloaded, preloaded
@@ -19,8 +20,6 @@ END, LATER = TICKET.endtime, TICKET.endtime + 1_000
 # The servers of the random caches, two of which are a ticket-granting ticket of some realm.
 SERVERS = (Name((b"krbtgt", b"R")), Name((b"krbtgt", b"S")), Name((b"krbtgt", b"R"), b"S"), Name((b"host", b"a")),
            Name((CONFIG_FIRST, b"k"), CONFIG_REALM), Name((CONFIG_FIRST, b"k", b"p"), CONFIG_REALM))
-
-RANDOM_CACHES = 60
 
 
 def version_1() -> bytes:
@@ -94,22 +93,13 @@ def check_same(report: Report, under: Preloaded) -> None:
     report.check("MIT's klist -s and ours with --for", faults_of(under, image, 86_400))
 
 
-def random_ticket(random: Random) -> Credential:
-    """Returns a ticket for one of the servers, with one of two ends."""
-    ticket = replace(random_credential(random), server=random.choice(SERVERS), endtime=random.choice((END, LATER)))
-    return ticket.removed() if random.random() < 0.2 else ticket
-
-
-def check_random(report: Report, under: Preloaded) -> None:
-    """Checks random caches of a few tickets, some of them cut short."""
-    wrong = []
-    for seed in range(RANDOM_CACHES):
-        random = Random(seed)
-        tickets = (random_ticket(random) for _ in range(random.randrange(6)))
-        image = cache(*tickets, version=random.choice((3, 4)))
-        image = image[: random.randrange(len(image))] if random.random() < 0.2 else image
-        wrong += faults_of(under, image)
-    report.check("MIT's klist -s and ours: random caches", wrong[:3])
+def faults_of_random(under: Preloaded, random: Random) -> list[str]:
+    """Returns where the programs differ of a random cache of a few tickets, sometimes cut short."""
+    tickets = (replace(random_credential(random), server=random.choice(SERVERS), endtime=random.choice((END, LATER)))
+               for _ in range(random.randrange(6)))
+    image = cache(*(each.removed() if random.random() < 0.2 else each for each in tickets),
+                  version=random.choice((3, 4)))
+    return faults_of(under, image[:random.randrange(len(image))] if random.random() < 0.2 else image)
 
 
 def check(report: Report, program: str) -> None:
@@ -118,5 +108,6 @@ def check(report: Report, program: str) -> None:
         return
     with preloaded(report, program, "valid tickets beside MIT's klist", {}) as under:
         if under:
-            for each in (check_different, check_same, check_random):
-                each(report, under)
+            check_different(report, under)
+            check_same(report, under)
+            check_seeds(report, "MIT's klist -s and ours: random caches", partial(faults_of_random, under))

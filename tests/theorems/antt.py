@@ -5,31 +5,31 @@ import re
 from dataclasses import dataclass
 
 # Names that a module may import, by the module that they come from.
-IMPORTS = {
-    "Rattle.std.specs.Prelude": ("◌≡◌", "ℕ", "List", "[]", "◌∷◌", "◌++◌", "◌==◌", "◌||◌", "codes", "length", "map",
-                                 "filter", "get_or", "None", "Some", "true", "false", "not", "if◌then◌else◌", "Ok",
-                                 "Err", "pos", "negsuc"),
-    "Rattle.std.proofs.Common": ("refl",),
-    "Rattle.krb_walk.specs.declared.event.Event.TheVariants": ("Cut", "Rewrite"),
-    "Rattle.krb_walk.specs.declared.refusal.Code.TheVariants": ("NotFound", "KvnoNotFound"),
-    "Rattle.krb_keytab.specs.Changes": ("without",),
-    "Rattle.krb_keytab.specs.Find": ("PlacedEntry",),
-    "Rattle.krb_keytab.specs.Store": ("image_of",),
-    "Rattle.krb_ccache.specs.declared.open.CcOpenFault.TheVariants": ("BadVersion",),
-    "Rattle.krb_ccache.specs.Config": ("is_config",),
-    "Rattle.krb_ccache.specs.Credential": ("TypedData",),
-    "Rattle.krb_ccache.specs.Header": ("offset_in",),
-    "Rattle.krb_ccache.specs.Store": ("PlacedCredential", "placed_credentials"),
-    "Rattle.krb_ccache.specs.SetConfig": ("SettingParts", "setting_events"),
-    "Rattle.krb_text.specs.Calendar": ("day_number", "day_text", "next_day", "time_text_of"),
-    "Rattle.krb_text.specs.Found": ("found_line",),
-    "Rattle.krb_driver.specs.Loading": ("result_map",),
-    "Rattle.samples.proofs.Given": ("hex", "keytab", "cache", "found", "old", "listed", "cache_listed", "plain", "all",
-                                    "tickets", "details", "left", "printed", "cache_left"),
-    "Rattle.samples.proofs.Runs": ("words", "given", "those", "klist", "klist_silent", "ktfind", "ktcheck", "ktedit",
-                                   "ccedit", "ktremove", "ccremove", "ktcopy", "ktutil"),
-    "Rattle.samples.proofs.Unfolded": ("on_literals",),
-}
+IMPORTS = {source: names.split() for source, names in {
+    "Rattle.std.specs.Prelude":
+        "◌≡◌ ℕ List [] ◌∷◌ ◌++◌ ◌==◌ ◌||◌ codes length map filter get_or None Some true false not if◌then◌else◌ Ok "
+        "Err pos negsuc",
+    "Rattle.std.proofs.Common": "refl",
+    "Rattle.krb_walk.specs.declared.event.Event.TheVariants": "Cut Rewrite",
+    "Rattle.krb_walk.specs.declared.refusal.Code.TheVariants": "NotFound KvnoNotFound",
+    "Rattle.krb_keytab.specs.Changes": "without",
+    "Rattle.krb_keytab.specs.Find": "PlacedEntry",
+    "Rattle.krb_keytab.specs.Store": "image_of",
+    "Rattle.krb_ccache.specs.declared.open.CcOpenFault.TheVariants": "BadVersion",
+    "Rattle.krb_ccache.specs.Config": "is_config",
+    "Rattle.krb_ccache.specs.Credential": "TypedData",
+    "Rattle.krb_ccache.specs.Header": "offset_in",
+    "Rattle.krb_ccache.specs.Store": "PlacedCredential placed_credentials",
+    "Rattle.krb_ccache.specs.SetConfig": "SettingParts setting_events",
+    "Rattle.krb_text.specs.Calendar": "day_number day_text next_day time_text_of",
+    "Rattle.krb_text.specs.Found": "found_line",
+    "Rattle.krb_driver.specs.Loading": "result_map",
+    "Rattle.samples.proofs.Given":
+        "hex keytab cache found old listed cache_listed plain all tickets details left printed cache_left",
+    "Rattle.samples.proofs.Runs":
+        "words given those klist klist_silent ktfind ktcheck ktedit ccedit ktremove ccremove ktcopy ktutil",
+    "Rattle.samples.proofs.Unfolded": "on_literals",
+}.items()}
 TIME = re.compile(rb"(\d{4}-\d\d-\d\dT\d\d:\d\d:\d\dZ)")
 WORD = re.compile(r"◌?[^\s(){};,.]+")
 ESCAPES = {10: "\\n", 34: '\\"', 92: "\\\\"}
@@ -51,6 +51,11 @@ def text(data: bytes) -> str:
 def identifier(word: str) -> str:
     """Returns a word as a name."""
     return re.sub(r"[^A-Za-z0-9]+", "-", word).strip("-")
+
+
+def file_of(name: str) -> str:
+    """Returns the name that the bytes of a file have in a theorem."""
+    return f"file-{identifier(name)}"
 
 
 def seconds(moment: bytes) -> int:

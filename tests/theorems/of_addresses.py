@@ -7,8 +7,8 @@ their own forms and of the others only the types.
 import re
 from ipaddress import ip_address
 
-from theorems.antt import Module, bytes_of_digits, identifier, theorem
-from theorems.corpus_files import file_of, small_files, writers
+from peers.corpus import small_files, writers
+from theorems.antt import Module, bytes_of_digits, file_of, identifier, theorem
 from theorems.mit_listings import sections
 from theorems.of_listings import ALONE
 

@@ -1,8 +1,7 @@
 """Theorems of changes: the definitions leave the bytes that other programs left of files in `corpus`."""
 
-from peers.corpus import given
-from theorems.antt import Module, bytes_of_digits, identifier, text, theorem
-from theorems.corpus_files import cases, file_of, writers
+from peers.corpus import cases, given, writers
+from theorems.antt import Module, bytes_of_digits, file_of, identifier, text, theorem
 
 # Files that are as their writers left them, without holes. Written anew, each has the same bytes.
 WRITTEN = {

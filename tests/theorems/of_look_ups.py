@@ -2,9 +2,8 @@
 
 import re
 
-from peers.corpus import given
-from theorems.antt import Module, text, theorem
-from theorems.corpus_files import cases, file_of, writers
+from peers.corpus import cases, given, writers
+from theorems.antt import Module, file_of, text, theorem
 
 FOUND = re.compile(r"found kvno (\d+) etype (\d+) time (\d+) keylen (\d+) first (\w\w)")
 
