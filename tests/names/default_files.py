@@ -45,6 +45,10 @@ def bad(words: str | Line, env: dict[str, str | bytes], phrase: str) -> Explaine
 
 
 CASES = [
+    # With other options too the variable is read.
+    *(unchanged(line, *told, options={"env": {variable: "FILE:no"}}) for line, variable, told in (
+        ("klist -s --for 3", CCNAME, ()),
+        ("ktcheck -q --allow weak", KTNAME, [("no: no such file", f"{KTNAME} names it")]))),
     # The value of the variable that is read is not UTF-8.
     *(bad(each.words(None), {each.kind.variable: value}, f"{each.kind.variable} is not UTF-8")
       for each in DEFAULTS for value in (b"\xff", b"FILE:c\xc3", b"\xed\xa0\x80")),

@@ -8,8 +8,8 @@ from itertools import takewhile
 
 from makers.samples import folder_of_samples
 from pages.documents import literals, read
+from runs.commands import COMMANDS
 from runs.harness import TOP, Outcome, Report, folder_of, run
-from words.mistakes import COMMANDS
 
 LIBRARY = os.path.join(TOP, "lib", "libkrbfile.so.1")
 

@@ -6,10 +6,11 @@ import shutil
 from collections.abc import Iterator
 
 from pages.documents import read, sources
+from runs.commands import COMMANDS
 from runs.harness import TOP, Report, run
 from words import phrases
 from words.completions import offered
-from words.mistakes import COMMANDS, MISTAKES, NEAR
+from words.mistakes import MISTAKES, NEAR
 
 PAGE = "docs/krbfile.1"
 FORMATS = "docs/FORMATS.md"

@@ -63,7 +63,7 @@ COMMANDS = {
     "ktcheck": Command(reads=(undisturbed("ktcheck k", k=TWO),)),
     "ktedit": Command(
         (undisturbed("ktedit k", SCRIPT, k=OLD, name="adds"),), (undisturbed("ktedit k", SCRIPT, name="adds"),),
-        tuple(undisturbed("ktedit k", script, k=OLD, name=f"{script}")
+        tuple(undisturbed("ktedit k", script, k=TWO, name=f"{script}")
               for script in (b"", b"# none\n", WALK, b"resume 2\n", b"start\nfrob\n")),
         (undisturbed("ktedit k", b"cut 3\n", k=TWO, name="is refused"),),
         ("ktedit PATH", f"add 1 17 1700000000 {KEY} NAME@R\n")),
@@ -196,12 +196,8 @@ def talk(count: int, list_columns: str = "-t -k -e") -> Undisturbed:
     return at_now("ktutil", text(lines), a=mixed_keytab(count), b=marked, d=DAMAGED)
 
 
-def small_runs() -> list[Undisturbed]:
-    """Returns runs of each command over small files, help, and lines that are refused."""
-    image, tickets, rotated = mixed_keytab(12), mixed_cache(4), rotated_keytab(4)
-    many, others, script = many_keytab(), many_keytab(has_other_keys=True), mixed_script(image, 4)
-    edits = at_now("ktedit k", script, name="a small script", k=image)
-    removes = at_now("ccremove -p krbtgt/R@R c", name="of a service", c=USUAL)
+def small_reads(image: bytes, tickets: bytes) -> list[Undisturbed]:
+    """Returns runs that read a keytab and a cache, help, and lines that are refused."""
     return [
         at_now("klist -ktKe k", k=image),
         at_now("klist -k k", k=DAMAGED),
@@ -216,10 +212,34 @@ def small_runs() -> list[Undisturbed]:
         at_now("ktcheck k", k=image),
         at_now("ktcheck k", k=DAMAGED),
         at_now("ktcheck k no c d k", k=image, c=tickets, d=DAMAGED),
+    ]
+
+
+def small_edits(image: bytes, tickets: bytes, rotated: bytes) -> list[Undisturbed]:
+    """Returns scripts over a keytab and a cache, and holds of them."""
+    script = mixed_script(image, 4)
+    edits = at_now("ktedit k", script, name="a small script", k=image)
+    return [
         edits,
         in_place(edits),
         at_now("ktedit k", b"add 3 1 0 - b@R\nadd 3 1 0 00 c@R\nstart\nstep 0\n", name="no file"),
         at_now("ktedit k", script + b"frob\n", name="a faulty script", k=image),
+        talk(3),
+        at_now("ccedit c", mixed_script(tickets, 3), name="a small script", c=tickets),
+        at_now("ccedit c", b"start\nstep 0\nconfig k - v\ncut 3\n", name="a damaged cache", c=tickets[:-1]),
+        at_now("ccedit c", b"config k a@R v\nconfig k a v\n", name="a faulty script", c=tickets),
+        at_now("ccedit c", b"start\ncut 20\nconfig k - v\nrewrite\nstep 0\n", name="version 3", c=VERSION_3),
+        at_now("hold -k k", frame(rotated), name="a keytab", k=image),
+        at_now("hold -k k", frame(image), name="no file"),
+        in_place(at_now("hold c", frame(USUAL), name="a cache", c=tickets)),
+    ]
+
+
+def small_removals(image: bytes, tickets: bytes, rotated: bytes) -> list[Undisturbed]:
+    """Returns removals from a keytab and a cache, and copies."""
+    many, others = many_keytab(), many_keytab(has_other_keys=True)
+    removes = at_now("ccremove -p krbtgt/R@R c", name="of a service", c=USUAL)
+    return [
         at_now("ktremove -k old k", name="of old versions", k=rotated),
         at_now("ktremove -k old --age 0 k", name="of versions old for long", k=rotated),
         at_now("ktremove -p xxx/3@R -e 17 -e 23 k", name="of a name", k=image),
@@ -232,19 +252,18 @@ def small_runs() -> list[Undisturbed]:
         at_now("ktcopy -n --replace k t", name="that only prints", k=many, t=others),
         at_now("ktcopy k t", name="of what is there", k=many, t=many),
         at_now("ktcopy -k 4000 k t", name="of nothing", k=many, t=many),
-        talk(3),
-        at_now("ccedit c", mixed_script(tickets, 3), name="a small script", c=tickets),
-        at_now("ccedit c", b"start\nstep 0\nconfig k - v\ncut 3\n", name="a damaged cache", c=tickets[:-1]),
-        at_now("ccedit c", b"config k a@R v\nconfig k a v\n", name="a faulty script", c=tickets),
-        at_now("ccedit c", b"start\ncut 20\nconfig k - v\nrewrite\nstep 0\n", name="version 3", c=VERSION_3),
         removes,
         in_place(removes),
         at_now("ccremove --expired c", name="of expired ones", c=tickets),
         at_now("ccremove -p no@R c", name="of nothing", c=tickets),
-        at_now("hold -k k", frame(rotated), name="a keytab", k=image),
-        at_now("hold -k k", frame(image), name="no file"),
-        in_place(at_now("hold c", frame(USUAL), name="a cache", c=tickets)),
     ]
+
+
+def small_runs() -> list[Undisturbed]:
+    """Returns runs of each command over small files."""
+    image, tickets, rotated = mixed_keytab(12), mixed_cache(4), rotated_keytab(4)
+    return [*small_reads(image, tickets), *small_edits(image, tickets, rotated),
+            *small_removals(image, tickets, rotated)]
 
 
 def large_runs() -> list[Undisturbed]:

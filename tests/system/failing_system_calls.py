@@ -183,12 +183,15 @@ def faults_of_files(ends: Ends, files: dict[str, bytes]) -> list[str]:
 
 def killed(program: str, run: Undisturbed, call: Call, judge: Callable[[dict[str, bytes], list[str]], list[str]],
            ) -> list[str]:
-    """Returns the faults of a run that is killed at a call, or ended before, of what it left, and of the next run."""
+    """Returns the faults of a run that is killed at a call, or ended before, of what it left, and of the next run if it
+    changes a file."""
     with folder_of(run.files) as folder:
         got, trace = traced(program, Line(run.words, run.stdin), folder, *call.to("signal=KILL"))
         has_ended = got.status == run.wanted.status
         faults = differences(run.wanted if has_ended else Outcome(-signal.SIGKILL, got.out, got.err), got)
         faults += tree_faults(run.files_after, folder) if has_ended else judge(files_in(folder), trace)
+        if run.files_after == run.files:
+            return faults
         for name in {*files_in(folder), *run.files}:
             if name in run.files:
                 write(os.path.join(folder, name), run.files[name])

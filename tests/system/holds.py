@@ -100,7 +100,7 @@ CASES = [
     refused(K, ("k: refused 1", code(1)), files={"k": TWO[:-1]}),
     refused(C, ("k: refused 1", code(1, "hold")), files={"k": CUT_CACHE}),
     *(refused(line, ("k: no such file", "")) for line in (C, f"hold {IN_PLACE} k", PLACED)),
-    # It could not be saved: what is in the way is beside the file that a link leads to. What the load tells comes first.
+    # It could not be saved: what is in the way is beside the file that a link leads to. What a load tells comes first.
     case("hold of a link", "hold -k l", TWO, ("l: cannot write", CAUSES["in the way"].replace("NAME", "k")), status=3,
          out=b"", stdin=EMPTY, setting=lambda folder: (in_the_way(folder), link("k")(folder))),
     refused(K, ("k: refused 1", code(1)), files={"k": TWO[:-1]}, **IN_THE_WAY),

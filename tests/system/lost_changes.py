@@ -86,7 +86,7 @@ def of_each() -> Iterator[Row]:
 
 
 def of_kinds() -> Iterator[Row]:
-    """Yields each kind of change, in place of a file whose length stays: where the bytes are the same, nothing is told."""
+    """Yields each kind of change, in place if the length stays: where the bytes are the same, nothing is told."""
     lost, placed = ADD.as_case(), in_place(EQUAL).as_case()
     _, after = images(placed)
     left = {"bytes at the end": after + MORE, "the last byte": after[:-1] + b"\xff", "no byte any more": b""}

@@ -11,6 +11,7 @@ from makers.cache_images import cache
 from makers.images import B, TWO, keytab
 from makers.samples import SAMPLES
 from makers.usual_caches import OFFSET, PA_TYPE, USUAL
+from runs.commands import CHANGES, COMMANDS, READS
 from runs.harness import Case, Outcome, Report, message, run_case
 from runs.rows import BAD_LINE, Help, Line, printed, shown, words_of
 from runs.undisturbed import frame
@@ -93,13 +94,11 @@ SAME: dict[str, str] = {
     "ktcopy -n -p b@R -k new r t": "ktcopy --dry-run --principal=b@R --kvno=new r t",
     "ktcopy -e aes128-cts-hmac-sha1-96 r t": "ktcopy --enctype aes128-cts-hmac-sha1-96 r t",
     "ktcheck -q k m": "ktcheck --quiet k m", "--version": "-V, --version klist, -V klist -x, --explain -V",
-    "--help": "-h, help, --explain help", "ccedit --help": "help ccedit", "ccremove --help": "help ccremove",
-    "klist --help": "help klist, klist -h, klist -k --help, klist -k k --help, klist -ktKe --help, klist -c --help, "
-                    "klist -cefC -h, klist c --help, --explain help klist",
-    "ktfind --help": "help ktfind, ktfind -h, ktfind k --help, ktfind k 0 0 b@R --help",
-    "ktedit --help": "help ktedit, ktedit k -h", "ktcopy --help": "help ktcopy, ktcopy -h, ktcopy k t -h",
-    "ktcheck --help": "ktcheck -h, ktcheck k k --help, ktcheck --allow weak -h",
-    "ktutil --help": "help ktutil, ktutil --v1-big -h", "hold --help": "help hold, hold -k k -h",
+    "--help": "-h, help, --explain help",
+    **{f"{name} --help": ", ".join((
+        f"help {name}, {name} -h, --explain help {name}",
+        *(f"{' '.join(run.words)} {option}" for run in (*READS, *CHANGES) if run.words[0] == name
+          for option in ("-h", "--help")))) for name in COMMANDS},
     **{f"klist -{letters} {file}": ", ".join(f"klist -{''.join(each)} {file}" for each in permutations(letters))
        for letters, file in (("eKtk", "k"), ("cefC", "o"), ("efC", "o"))},
 }
@@ -148,8 +147,8 @@ CASES = [
     # A keytab is not a cache and a cache not a keytab; -e is an option of both.
     case("klist -e k", message(1, "k: not a cache (2)")), case("klist -ke c", message(1, "c: not a keytab (2)")),
     case("--version", printed(f"krbfile 1.0 (rattle {TOOLCHAIN})")),
-    Help("--help", (b"krbfile", *map(str.encode, HELP))),
-    *(Help(f"{command} --help", (f"krbfile {command}".encode(), *words)) for command, words in HELP.items()),
+    Help("--help", (b"krbfile", *map(str.encode, COMMANDS))),
+    *(Help(f"{command} --help", (f"krbfile {command}".encode(), *HELP[command])) for command in COMMANDS),
 ]
 
 

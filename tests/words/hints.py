@@ -14,7 +14,8 @@ from words.explaining import Explained, for_owner
 from words.phrases import FAULTS, FINDINGS, HINTS
 
 # The hints up to the file, and the beginnings of their lines.
-OLD, RC4, ONCE = (HINTS[each].replace("ETYPE..", "arcfour-hmac").partition("FILE")[0] for each in ("old", "weak", "same"))
+OLD, RC4, ONCE = (HINTS[each].replace("ETYPE..", "arcfour-hmac").partition("FILE")[0]
+                  for each in ("old", "weak", "same"))
 SEE = RC4.partition(" -e")[0]
 REMOVE = SEE.removesuffix(" -n")
 

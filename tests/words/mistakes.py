@@ -3,10 +3,11 @@
 import re
 
 from makers.images import TWO
+from runs.commands import COMMANDS
 from runs.harness import Case, Outcome, Report, differences, folder_of, run
 from runs.rows import Line, shown, words_of
 from runs.terminal import EXPLAIN, run_on_terminal, runs_with_words
-from words.command_lines import HELP, REFUSED, lines_of
+from words.command_lines import REFUSED, lines_of
 from words.explaining import Explained
 
 MESSAGE = b"krbfile: bad command line\n"
@@ -112,8 +113,6 @@ NEAR: dict[tuple[str, str], str] = {
     ("unknown option --replace=yes", "--replace"): "ktcopy --replace=yes k t",
     ("unknown option --v1-big=yes", "--v1-big"): "klist -k --v1-big=yes k",
 }
-
-COMMANDS = tuple(HELP)
 
 
 def mistake(line: str | Line, phrase: str) -> Explained:

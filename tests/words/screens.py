@@ -82,9 +82,9 @@ RUNS = [
 def of_commands() -> Iterator[Printed]:
     """Yields the runs of each command that print the name of the first entry or ticket, over others."""
     for each in READS:
-        if re.search(b" (host/a|krbtgt/R)@R\n", each.wanted.out):
+        if re.search(b" (host/a|krbtgt/R)@R[ \n]", each.wanted.out):
             wild = {"k": WILD_KEYTAB, "c": WILD_CACHE}
-            yield Printed(each.words, b" NAME/a@R\n", {name: wild.get(name, image) for name, image in each.files.items()},
+            yield Printed(each.words, b" NAME/a@R", {name: wild.get(name, image) for name, image in each.files.items()},
                           each.stdin, name=each.name)
 
 
