@@ -1,4 +1,4 @@
-"""The C library's header and manual page name its exports and their parameters."""
+"""The C library's header and manual page name its exports, their parameters and its statuses."""
 
 import glob
 import os
@@ -24,6 +24,11 @@ IN_C = {
     "&KrbfNumbers": ["const krbf_numbers *"],
     **{f"&mut Krbf{name}": [f"krbf_{name.lower()} *"] for name in ("Bytes", "Entry", "Ticket", "Keytab", "Ccache")},
 }
+
+# The sources of refusals, with what a status adds to their numbers, and the statuses that have other names there.
+REFUSALS = {"krb_keytab/src/open.rt": 10, "krb_ccache/src/open.rt": 10, "krb_wire/src/name_fault.rt": 20,
+            "krb_walk/src/refusal.rt": 30}
+STATUSES = {"DONE": 0, "NO_MEMORY": 1, "END": 2, "BAD_DEFAULT_PRINCIPAL": 15}
 
 # A call's return type, and the kinds of its parameters.
 Signature = tuple[str, tuple[str, ...]]
@@ -62,8 +67,21 @@ def shown() -> dict[str, Signature]:
             for answer, name, words in SYNOPSIS.findall(read("docs/krbfile.3"))}
 
 
+def statuses() -> dict[str, int]:
+    """Returns the statuses of the sources, by the names that the header gives them."""
+    found = dict(STATUSES)
+    for path, front in REFUSALS.items():
+        for name, number in re.findall(r"::(\w+) => (\d+),", read(f"crates/{path}")):
+            found.setdefault(re.sub(r"(?<=.)([A-Z])", r"_\1", name).upper(), front + int(number))
+    return found
+
+
 def check(report: Report, _program: str) -> None:
     """Runs this topic."""
+    numbers = {name: int(number) for name, number in re.findall(r"^ +KRBF_(\w+) = (\d+)", read("c/krbfile.h"), re.M)}
+    sources = statuses()
+    others = [f"{name} is not {number}" for name, number in numbers.items() if sources.get(name) != number]
+    report.check("the statuses of krbfile.h", others or ["too few were found"] * (len(numbers) < 19))
     declared, there = prototypes(), exports()
     wrong = sorted(name for name in declared.keys() | shown() if declared.get(name) != shown().get(name))
     report.check("the synopsis of krbfile(3)", wrong)
