@@ -95,7 +95,8 @@ def script_over(random: Random, run: Callable[[bytes], Undisturbed], kinds: dict
     for _ in range(2):
         for _ in range(random.randrange(12)):
             lines.append(script_line(random, chosen(random, kinds), places, lines.count(b"start")))
-        places = places + [int(it) for it in re.findall(rb"(?:placed|at|next) (\d+)", run(b"\n".join(lines)).wanted.out)]
+        printed = run(b"\n".join(lines)).wanted.out
+        places = places + [int(it) for it in re.findall(rb"(?:placed|at|next) (\d+)", printed)]
     if random.random() < 0.3:
         lines.insert(random.randrange(len(lines) + 1), faulty(random, faults))
     return b"\n".join(lines) + random.choice([b"", b"\n", b"\n\n"])

@@ -63,7 +63,8 @@ def look_up(random: Random) -> Iterator[Undisturbed]:
     image, is_big = FOUND.random_keytab(random)
     big = ("--v1-big",) if is_big != (random.random() < 0.1) else ()
     kvno, etype = random.choice([0, *FOUND.versions]), random.choice([0, *FOUND.enctypes])
-    yield undisturbed(("ktfind", *big, "k", str(kvno), str(etype), "--", name_text(random.choice(FOUND.names))), k=image)
+    name = name_text(random.choice(FOUND.names))
+    yield undisturbed(("ktfind", *big, "k", str(kvno), str(etype), "--", name), k=image)
 
 
 def random_place(random: Random) -> bytes | None:
@@ -109,8 +110,8 @@ TOPICS = (
           ("status 0", *(f"fault {number}" for number in (1, 2, 3)), "not a keytab (1)", "not a keytab (2)", 'kind":1'),
           usual=100, more=kinds_of_json),
     Topic("random caches", cache_listing,
-          ("status 0", "fault 4", *(f"not a cache ({why})" for why in (1, 2, 5)), "config", "a record", "renew", "Flags",
-           "Etype", "client_hex", "value_hex", 'etype_name":null'), usual=60, more=kinds_of_json),
+          ("status 0", "fault 4", *(f"not a cache ({why})" for why in (1, 2, 5)), "config", "a record", "renew",
+           "Flags", "Etype", "client_hex", "value_hex", 'etype_name":null'), usual=60, more=kinds_of_json),
     Topic("random look-ups", look_up, ("found", "refused 1", "refused 9", "refused 10"), usual=80),
     Topic("random checks", checked, (*FINDINGS, "fault 2", "entries", "no such file", "not a keytab"), usual=80),
     Topic("random questions for tickets", question, ("status 1", "status 0", "--for status 0"), usual=40),

@@ -1,5 +1,5 @@
-"""Runs that nothing disturbs. A test that disturbs a run compares it with the same run undisturbed; what such runs print
-and save is compared with the definitions by `computed`."""
+"""Runs that nothing disturbs. A test that disturbs a run compares it with the same run undisturbed; what such runs
+print and save is compared with the definitions by `computed`."""
 from __future__ import annotations
 
 import tempfile
@@ -33,7 +33,7 @@ def clock_library() -> tuple[str | None, object]:
 
 @dataclass(frozen=True)
 class Undisturbed:
-    """A run: its words, the files in its folder, its input, and the time of its clock, if it is not that of the system."""
+    """A run: its words, the files in its folder, its input, and the time of its clock, if that is not the system's."""
 
     name: str
     words: Line
@@ -81,7 +81,8 @@ def undisturbed(line: str | Line, stdin: bytes = b"", *, name: str = "", clock: 
 def in_place(made: Undisturbed) -> Undisturbed:
     """Returns the same run, which saves in place; it is compared with the one that does not."""
     command, *rest = made.words
-    return replace(made, name=f"{made.name}, in place", words=(command, IN_PLACE, *rest), plain=made.plain or made.words)
+    words = (command, IN_PLACE, *rest)
+    return replace(made, name=f"{made.name}, in place", words=words, plain=made.plain or made.words)
 
 
 def explained(made: Undisturbed) -> Undisturbed:
