@@ -32,9 +32,8 @@ pub fn computes() -> u8
 }}
 """
 
-# A refusal of a row, with its first line, and how a check ends.
+# A refusal of a row, with its first line.
 REFUSED = re.compile(r"\./proofs/\w+\.antt:\S+ error: `row_(\d+)`: (.*)")
-ENDED = "only=1 proved=1"
 
 # The statuses of bad command lines, and of runs in which a call failed.
 NOT_COMPUTED = (2, 3, 4)
@@ -91,8 +90,9 @@ def refusals(rows: dict[int, tuple[Case, str]], are_sources: bool) -> dict[int, 
         done = subprocess.run(words, cwd=folder, stdin=subprocess.DEVNULL, stdout=subprocess.PIPE,
                               stderr=subprocess.STDOUT, text=True, errors="replace", check=False)
     found = {int(number): why for number, why in REFUSED.findall(done.stdout)}
-    if not found and ENDED not in done.stdout.splitlines():
-        return {next(iter(rows)): f"the prover gave no answer: {done.stdout[-2000:]}"}
+    if done.returncode and not found:
+        errors = [line for line in done.stdout.splitlines() if "error" in line]
+        return {next(iter(rows)): f"the rows were not checked: {' '.join(errors[:2])}"}
     return found
 
 

@@ -50,9 +50,11 @@ use Rattle.krb_ktutil.specs.KtutilDue.{TalkDue, quiet_run, talk_due}
 
 -- ---- values of the code's types
 
+-- what a comparison says
 pub few : {m n : ℕ} → (nat_lt m n ≡ true) → m < n
 few is_less = grind (arith)
 
+-- a number is at most itself
 pub same : {n : ℕ} → n ≤ n
 same = grind (arith)
 
