@@ -1,4 +1,4 @@
-use Rattle.std.proofs.Common.{◌++◌, List, ℕ, take, subst, arith}
+use Rattle.std.proofs.Common.{◌++◌, List, take, subst, arith}
 use Rattle.std.proofs.lemmas.List.{take_all}
 use Rattle.krb_keytab.specs.Find.{PlacedEntry}
 use Rattle.krb_copy.specs.Texts.{AreTexts, entry_texts}
