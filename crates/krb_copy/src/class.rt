@@ -1,6 +1,6 @@
 //! A class of twins: entries of one name, version and enctype.
 
-ghost use Rattle.std.specs.Prelude.{◌≡◌, ◌∷◌, ◌++◌, [], ◌||◌, ℕ, List, OnOk, IfOk};
+ghost use Rattle.std.specs.Prelude.{◌≡◌, ◌∷◌, ◌++◌, [], ◌||◌, ℕ, List, OnOk, IfOk, false, true};
 ghost use Rattle.std.specs.Str.{bytes_eq};
 ghost use Rattle.krb_copy.specs.Classes.{has_among, has_key, places_in};
 ghost use Rattle.krb_copy.specs.declared.class.Entries.TheVariants.{One};
@@ -64,15 +64,34 @@ impl<'t, A: Allocator + Copy> Many<'t, A> {
 }
 
 impl<'t, A: Allocator + Copy> Class<'t, A> {
-    /// Returns the class of one entry.
-    pub fn of(place: u32, key: &'t [u8], stays: bool) -> Class<'t, A>
+    /// Returns the class of an entry that the keytab had before the run.
+    pub fn found(place: u32, key: &'t [u8]) -> Class<'t, A>
         ensures entries { result.entries ≡ One place key.entry }
-        ensures stays { result.stays ≡ stays }
+        ensures stays { result.stays ≡ false }
     {
         Class {
             entries: Entries::One(place, key),
-            stays,
+            stays: false,
         }
+    }
+
+    /// Returns the class of an entry that the run added.
+    pub fn copied(place: u32, key: &'t [u8]) -> Class<'t, A>
+        ensures entries { result.entries ≡ One place key.entry }
+        ensures stays { result.stays ≡ true }
+    {
+        Class {
+            entries: Entries::One(place, key),
+            stays: true,
+        }
+    }
+
+    /// Keeps its entries: one of them was asked for.
+    pub fn keep(&mut self)
+        ensures entries { self.new.entries ≡ self.old.entries }
+        ensures stays { self.new.stays ≡ true }
+    {
+        self.stays = true;
     }
 
     /// Returns the places of its entries, in order.

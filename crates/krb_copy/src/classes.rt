@@ -79,7 +79,7 @@ impl<'t, A: Allocator + Copy> Classes<'t, A> {
         if let Some(class) = self.map.get_mut(&key) {
             return class.push(alloc, place, secret);
         }
-        let _ = self.map.insert(key, Class::of(place, secret, false))?;
+        let _ = self.map.insert(key, Class::found(place, secret))?;
         Ok(())
     }
 
@@ -133,7 +133,7 @@ impl<'t, A: Allocator + Copy> Classes<'t, A> {
         ensures replace { self.new.replace ≡ self.old.replace }
     {
         if let Some(class) = self.map.get_mut(key) {
-            class.stays = true;
+            class.keep();
         }
     }
 
@@ -149,7 +149,7 @@ impl<'t, A: Allocator + Copy> Classes<'t, A> {
             → OnOk result (AreClasses (before ++ x ∷ []) (with_copy held x place) self.new.map) }
         ensures replace { self.new.replace ≡ self.old.replace }
     {
-        let _ = self.map.insert(key, Class::of(place, secret, true))?;
+        let _ = self.map.insert(key, Class::copied(place, secret))?;
         Ok(())
     }
 }

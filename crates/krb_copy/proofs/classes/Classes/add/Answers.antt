@@ -18,6 +18,6 @@ returns-in-Some-clause-classes g c = λ held x classes of_x secret.
 
 pub returns-clause-classes : goal.returns-clause-classes
 returns-clause-classes g c = λ held x classes of_x secret.
-    first_found held x c.args.place c.args.key c.args.secret c.args.self.now.map c.insert.new.self c.of.result classes of_x secret (sym c.in_default.ensures.value)
-    (λ q. c.in_ok-insert.ensures.updates.0 q ∙ ap (λ (m : BTreeMap ClassKey (Class g.row.A.Denot)). cond (is_eq (class_cmp c.args.key q)) (Some c.of.result) (get class_cmp m q)) c.get_mut.follows.holds-at-none)
-    c.of.ensures.entries c.of.ensures.stays
+    first_found held x c.args.place c.args.key c.args.secret c.args.self.now.map c.insert.new.self c.found.result classes of_x secret (sym c.in_default.ensures.value)
+    (λ q. c.in_ok-insert.ensures.updates.0 q ∙ ap (λ (m : BTreeMap ClassKey (Class g.row.A.Denot)). cond (is_eq (class_cmp c.args.key q)) (Some c.found.result) (get class_cmp m q)) c.get_mut.follows.holds-at-none)
+    c.found.ensures.entries c.found.ensures.stays
