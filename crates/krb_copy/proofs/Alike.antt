@@ -1,12 +1,9 @@
 -- Twins are alike in the same way in both directions and over three entries.
-use Rattle.std.proofs.Common.{Bool, true, false, refl, ◌≡◌}
-use Rattle.std.specs.Prelude.{◌&&◌}
+use Rattle.krb_copy.proofs.Names.{Bool, true, false, refl, ◌≡◌, ◌&&◌, EntryParts, are_twins, are_same}
 use Rattle.std.specs.Cmp.{IsEquivalence}
 use Rattle.std.proofs.lemmas.Cmp.{nat_eq_equiv, on_equiv, and_equiv, nat_list_eq_equiv, lists_equiv}
 use Rattle.krb_wire.specs.Spelling.{Parts}
 use Rattle.krb_wire.specs.SameName.{have_same_name}
-use Rattle.krb_keytab.specs.Entry.{EntryParts}
-use Rattle.krb_copy.specs.Twins.{are_twins, are_same}
 
 names_equiv : IsEquivalence have_same_name
 names_equiv = and_equiv (on_equiv (λ (p : Parts). p.realm) nat_list_eq_equiv) (on_equiv (λ (p : Parts). p.components) (lists_equiv nat_list_eq_equiv))

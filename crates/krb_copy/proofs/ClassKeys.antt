@@ -1,25 +1,23 @@
 -- Entries are twins iff their keys in a map compare equal.
-use Rattle.std.proofs.Common.{◌≡◌, ℕ, ◌+◌, ◌*◌, ◌<◌, Bool, true, false, cond, List, [], ◌∷◌, ◌++◌, length, None, Ok, refl, sym, ap, ◌∙◌, arith}
-use Rattle.std.specs.Prelude.{◌&&◌, ◌==◌, map, Result, nat_lt}
+use Rattle.krb_copy.proofs.Names.{◌≡◌, ℕ, ◌+◌, ◌<◌, Bool, true, false, cond, List, [], ◌∷◌, ◌++◌, length, None, Ok, refl, sym, ap, ◌∙◌, arith, ◌&&◌, ◌==◌, map, is_eq, bytes_eq, name_text, EntryParts, are_twins, ClassKey, class_cmp}
+use Rattle.std.proofs.Common.{◌*◌}
+use Rattle.std.specs.Prelude.{Result, nat_lt}
 use Rattle.std.specs.List.{join_with_byte}
 use Rattle.std.specs.declared.cmp.Ordering.{Ordering}
 use Rattle.std.specs.declared.cmp.Ordering.TheVariants.{Less, Equal, Greater}
-use Rattle.std.specs.Ordering.{nat_cmp, ordering_then, is_eq}
+use Rattle.std.specs.Ordering.{nat_cmp, ordering_then}
 use Rattle.std.specs.Cmp.Lexicographic.{slice_cmp}
-use Rattle.std.specs.Str.{bytes_eq}
 use Rattle.std.proofs.lemmas.Map.Text.{is_eq-slice_cmp}
 use Rattle.std.proofs.lemmas.Slice.Eq.{bytes_eq-Decides}
 use Rattle.krb_wire.specs.Spelling.{Parts}
-use Rattle.krb_wire.specs.Names.{name_text, joined_components}
+use Rattle.krb_wire.specs.Names.{joined_components}
 use Rattle.krb_wire.specs.NameOf.{name_of}
 use Rattle.krb_wire.specs.Quote.{quote}
 use Rattle.krb_wire.specs.SameName.{have_same_name}
 use Rattle.krb_wire.proofs.NamesCompared.{same_name_is, and_both, both_and}
 use Rattle.krb_wire.proofs.RoundTrip.{name_of-name_text}
-use Rattle.krb_keytab.specs.Entry.{EntryParts}
 use Rattle.krb_audit.specs.Hash.{hash_of}
-use Rattle.krb_copy.specs.Twins.{are_twins}
-use Rattle.krb_copy.specs.Classes.{ClassKey, IsClassKey, class_cmp}
+use Rattle.krb_copy.specs.Classes.{IsClassKey}
 
 -- ---- names as text
 

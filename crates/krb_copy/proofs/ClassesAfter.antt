@@ -1,20 +1,13 @@
 -- What is known of all classes, before a run and after each entry asked for.
-use Rattle.std.proofs.Common.{◌≡◌, ℕ, Bool, true, false, cond, List, [], ◌∷◌, ◌++◌, Option, Some, None, Result, Ok, Err, refl, sym, ap, subst, ◌∙◌}
-use Rattle.std.specs.Prelude.{map, filter, not, ◌&&◌, ◌||◌, OnOk}
-use Rattle.std.specs.List.{list_any}
-use Rattle.std.specs.Str.{bytes_eq}
-use Rattle.std.specs.Ordering.{is_eq}
-use Rattle.std.specs.BTreeMap.{BTreeMap, get}
-use Rattle.std.proofs.lemmas.List.{append-nil, map_push}
+use Rattle.krb_copy.proofs.Names.{◌≡◌, ℕ, Bool, true, false, cond, List, [], ◌∷◌, ◌++◌, Option, Some, None, Result, Ok, Err, refl, sym, ap, subst, ◌∙◌, map, filter, not, ◌&&◌, ◌||◌, list_any, bytes_eq, is_eq, BTreeMap, append-nil, list_any-append, EntryParts, Class, are_twins, are_same, Held, as_found, as_copied, twins, There, Clash, Copy, step_among, step_of, with_copy, AreClasses, ClassKey, class_cmp}
+use Rattle.std.specs.Prelude.{OnOk}
+use Rattle.std.specs.BTreeMap.{get}
+use Rattle.std.proofs.lemmas.List.{map_push}
 use Rattle.std.proofs.lemmas.List.Elements.{filter-append, filter_agree}
-use Rattle.std.proofs.lemmas.List.Folds.{list_any-append}
 use denote.Ref.{Bor}
-use Rattle.krb_keytab.specs.Entry.{EntryParts}
 use Rattle.krb_copy.specs.declared.class.Entries.TheVariants.{One}
-use Rattle.krb_copy.specs.declared.class.Class.{Class}
-use Rattle.krb_copy.specs.Twins.{are_twins, are_same}
-use Rattle.krb_copy.specs.Copying.{Held, as_found, as_copied, twins, is_kept, There, Clash, Copy, step_among, step_of, with_copy}
-use Rattle.krb_copy.specs.Classes.{AreClasses, ClassKey, HaveClass, IsClass, IsClassKey, class_cmp, has_key, places_in, step_at}
+use Rattle.krb_copy.specs.Copying.{is_kept}
+use Rattle.krb_copy.specs.Classes.{HaveClass, IsClass, IsClassKey, has_key, places_in, step_at}
 use Rattle.krb_copy.proofs.Alike.{twins_equiv}
 use Rattle.krb_copy.proofs.ClassKeys.{classes_agree}
 

@@ -1,23 +1,21 @@
 -- A change of one cell leaves the entries of all others.
-use Rattle.std.proofs.Common.{◌≡◌, ℕ, ◌+◌, ◌<◌, ◌≤◌, Bool, true, false, cond, List, [], ◌∷◌, ◌++◌, Option, Some, None, Result, Ok, Err, refl, sym, ap, subst, ◌∙◌, inl, inr, arith}
-use Rattle.std.specs.Prelude.{map, ◌==◌, ◌||◌, option_map}
-use Rattle.std.specs.List.{AllByRecursion, filter_map, cons_option, list_any, find}
-use Rattle.std.proofs.lemmas.List.{append-nil}
+use Rattle.krb_copy.proofs.Names.{◌≡◌, ℕ, ◌+◌, ◌<◌, Bool, true, false, cond, List, [], ◌∷◌, ◌++◌, Option, Some, None, Result, Ok, Err, refl, sym, ap, subst, ◌∙◌, inl, inr, arith, map, ◌==◌, ◌||◌, AllByRecursion, list_any, append-nil, some_is, Code, EntryParts, PlacedEntry, placed_entries, KeytabState, entry_at_place, put_result, without}
+use Rattle.std.proofs.Common.{◌≤◌}
+use Rattle.std.specs.Prelude.{option_map}
+use Rattle.std.specs.List.{filter_map, cons_option, find}
 use Rattle.std.proofs.lemmas.Bool.{ne_eqb}
 use Rattle.krb_wire.specs.declared.format.KtFormat.{KtFormat}
 use Rattle.krb_wire.specs.Reading.{◌>>=◌}
-use Rattle.krb_wire.proofs.Fields.{bind_some, some_is}
-use Rattle.krb_walk.specs.declared.refusal.Code.{Code}
+use Rattle.krb_wire.proofs.Fields.{bind_some}
 use Rattle.krb_walk.specs.Events.{cut_store}
 use Rattle.krb_walk.specs.Store.{Cell, Store, Standing, Record, standing, end_from, record_of, record_of_some, bytes_of_some, live_bytes}
 use Rattle.krb_walk.specs.Changes.{OneCell, Fills, Appends}
 use Rattle.krb_walk.proofs.Stops.{bytes_from}
 use Rattle.krb_walk.proofs.Splits.{bytes_ahead, bytes_here}
 use Rattle.krb_walk.proofs.Cells.{find_head, find_tail}
-use Rattle.krb_keytab.specs.Entry.{EntryParts, entry_at}
-use Rattle.krb_keytab.specs.Find.{PlacedEntry, placed_entries}
-use Rattle.krb_keytab.specs.Store.{KeytabState, store_of, store_cell, entry_at_place}
-use Rattle.krb_keytab.specs.Changes.{cut_result, put_result, without}
+use Rattle.krb_keytab.specs.Entry.{entry_at}
+use Rattle.krb_keytab.specs.Store.{store_of, store_cell}
+use Rattle.krb_keytab.specs.Changes.{cut_result}
 use Rattle.krb_keytab.proofs.Cuts.{store_sound}
 use Rattle.krb_keytab.proofs.AfterChanges.{cut_gives, put_gives}
 use Rattle.krb_keytab.proofs.StoreChanges.{removal_cuts, addition_puts}

@@ -1,15 +1,8 @@
 -- A pass over the entries of a keytab: those so far, and those still to come.
-use Rattle.std.proofs.Common.{◌≡◌, ℕ, ◌+◌, ◌<◌, List, [], ◌∷◌, ◌++◌, length, get_or, take, sym, ap, subst, ◌∙◌, append_assoc}
-use Rattle.std.specs.Prelude.{map}
-use Rattle.std.proofs.lemmas.List.{map_push, append-nil, take_more}
+use Rattle.krb_copy.proofs.Names.{◌≡◌, ℕ, ◌+◌, ◌<◌, List, [], ◌∷◌, ◌++◌, length, take, sym, ap, subst, ◌∙◌, append_assoc, map, append-nil, BTreeMap, name_text, PlacedEntry, AreClasses, ClassKey, Held, as_found, AreTexts, entry_texts, Class}
+use Rattle.std.proofs.Common.{get_or}
+use Rattle.std.proofs.lemmas.List.{map_push, take_more}
 use Rattle.std.proofs.lemmas.List.Concat.{flat_map-append}
-use Rattle.std.specs.BTreeMap.{BTreeMap}
-use Rattle.krb_wire.specs.Names.{name_text}
-use Rattle.krb_keytab.specs.Find.{PlacedEntry}
-use Rattle.krb_copy.specs.Classes.{AreClasses, ClassKey}
-use Rattle.krb_copy.specs.Copying.{Held, as_found}
-use Rattle.krb_copy.specs.Texts.{AreTexts, entry_texts}
-use Rattle.krb_copy.specs.declared.class.Class.{Class}
 
 -- the texts of those so far were appended
 pub record AreAppended (all rest : List PlacedEntry) (bytes lens : List ℕ) : Type 0 where

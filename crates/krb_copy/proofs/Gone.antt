@@ -1,25 +1,20 @@
 -- After removals and an addition a keytab has no entry but those that were left and the new one.
-use Rattle.std.proofs.Common.{◌≡◌, ℕ, ◌⊎◌, Bool, true, false, cond, List, [], ◌∷◌, Option, Some, None, Result, Ok, Err, refl, sym, ap, subst, ◌∙◌, inl, inr, arith}
-use Rattle.std.specs.Prelude.{map, filter, not, ◌==◌, ◌||◌, is_some}
-use Rattle.std.specs.List.{list_any}
+use Rattle.krb_copy.proofs.Names.{◌≡◌, ℕ, Bool, true, false, cond, List, [], ◌∷◌, Option, Some, None, Result, Ok, Err, refl, sym, ap, subst, ◌∙◌, inl, inr, arith, map, filter, not, ◌==◌, ◌||◌, list_any, list_any-append, Code, EntryParts, PlacedEntry, placed_entries, KeytabState, entry_at_place, put_result, without, are_twins, Held, Run, Step, There, Clash, Copy, as_found, as_copied, twins, step_of, with_copy, run_added, run_after, go_on, run_over, run_start, copy_run, has_lines}
+use Rattle.std.proofs.Common.{◌⊎◌}
+use Rattle.std.specs.Prelude.{is_some}
 use Rattle.std.proofs.lemmas.Bool.{eq-eqb}
-use Rattle.std.proofs.lemmas.List.Folds.{list_any-append}
 use Rattle.krb_wire.specs.declared.format.KtFormat.{KtFormat}
 use Rattle.krb_wire.specs.Reading.{◌>>=◌}
-use Rattle.krb_walk.specs.declared.refusal.Code.{Code}
 use Rattle.krb_walk.specs.declared.refusal.Code.TheVariants as code
 use Rattle.krb_walk.specs.declared.fault.FaultKind.{FaultKind}
 use Rattle.krb_walk.specs.Events.{cut_store}
 use Rattle.krb_walk.specs.Store.{Cell, fault_of, fault_from, live_bytes}
 use Rattle.krb_walk.proofs.Stops.{bytes_from}
-use Rattle.krb_keytab.specs.Entry.{EntryParts, entry_at}
-use Rattle.krb_keytab.specs.Find.{PlacedEntry, placed_entries}
-use Rattle.krb_keytab.specs.Store.{KeytabState, store_of, entry_at_place}
-use Rattle.krb_keytab.specs.Changes.{cut_result, put_result, without, with_hole}
+use Rattle.krb_keytab.specs.Entry.{entry_at}
+use Rattle.krb_keytab.specs.Store.{store_of}
+use Rattle.krb_keytab.specs.Changes.{cut_result, with_hole}
 use Rattle.krb_keytab.proofs.AfterChanges.{cut_gives, put_gives, removed_none}
 use Rattle.krb_keytab.proofs.StoreChanges.{removal_cuts, addition_puts}
-use Rattle.krb_copy.specs.Twins.{are_twins}
-use Rattle.krb_copy.specs.Copying.{Held, Run, Step, There, Clash, Copy, as_found, as_copied, twins, step_of, with_copy, run_added, run_after, go_on, run_over, run_start, copy_run, has_lines}
 use Rattle.krb_copy.specs.Laws.{GoesByItsEntries}
 use Rattle.krb_copy.proofs.Elsewhere.{elsewhere, appended_elsewhere, put_format, any_entry}
 use Rattle.krb_copy.proofs.LawLemmas.{any_parts, copy_step, start_there}

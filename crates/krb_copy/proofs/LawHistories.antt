@@ -1,20 +1,11 @@
 -- A run is a history of removals and additions, and without replacing of additions alone.
-use Rattle.std.proofs.Common.{◌≡◌, ℕ, Bool, true, false, cond, List, [], ◌∷◌, ◌++◌, Some, Result, Ok, Err, refl, sym, ap, subst, ◌∙◌}
-use Rattle.std.specs.Prelude.{map}
-use Rattle.std.specs.List.{list_any}
-use Rattle.std.specs.Str.{bytes_eq}
+use Rattle.krb_copy.proofs.Names.{◌≡◌, ℕ, Bool, true, false, cond, List, [], ◌∷◌, ◌++◌, Some, Result, Ok, Err, refl, sym, ap, subst, ◌∙◌, map, list_any, bytes_eq, Code, EntryParts, PlacedEntry, KeytabState, entry_at_place, put_result, without, Held, Run, Step, There, Clash, Copy, twins, step_among, step_of, run_added, run_after, go_on, run_over, run_start, copy_run, has_lines}
 use Rattle.krb_walk.specs.declared.event.Event.{Event}
 use Rattle.krb_walk.specs.declared.event.Event.TheVariants.{Put, Cut}
-use Rattle.krb_walk.specs.declared.refusal.Code.{Code}
 use Rattle.krb_walk.specs.Events.{SessionState, after, put_store}
 use Rattle.krb_walk.specs.History.{state_after}
-use Rattle.krb_keytab.specs.Entry.{EntryParts}
-use Rattle.krb_keytab.specs.Find.{PlacedEntry}
 use Rattle.krb_keytab.specs.Placed.{keytab_rules}
-use Rattle.krb_keytab.specs.Store.{KeytabState, entry_at_place}
-use Rattle.krb_keytab.specs.Changes.{put_result, without}
 use Rattle.krb_keytab.proofs.StoreChanges.{cuts_ran}
-use Rattle.krb_copy.specs.Copying.{Held, Run, Step, There, Clash, Copy, twins, step_among, step_of, run_added, run_after, go_on, run_over, run_start, copy_run, has_lines}
 use Rattle.krb_copy.specs.Laws.{AllStay, AreHistories, changes_of, changes_on, changes_over}
 use Rattle.krb_copy.proofs.Elsewhere.{put_elsewhere}
 use Rattle.krb_copy.proofs.LawRuns.{ok_is, ended}

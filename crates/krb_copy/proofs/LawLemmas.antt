@@ -1,18 +1,8 @@
 -- What a run does to the entries of its keytab.
-use Rattle.std.proofs.Common.{◌≡◌, ℕ, Bool, true, false, cond, List, [], ◌∷◌, ◌++◌, Some, Ok, refl, sym, ap, subst, ◌∙◌}
-use Rattle.std.specs.Prelude.{map, filter, not, ◌&&◌, ◌||◌}
-use Rattle.std.specs.List.{AllByRecursion, list_any}
-use Rattle.std.specs.Str.{bytes_eq}
-use Rattle.std.proofs.lemmas.List.Folds.{list_any-append}
-use Rattle.krb_wire.proofs.Fields.{some_is}
-use Rattle.krb_keytab.specs.Entry.{EntryParts}
-use Rattle.krb_keytab.specs.Find.{PlacedEntry, placed_entries}
+use Rattle.krb_copy.proofs.Names.{◌≡◌, ℕ, Bool, true, false, cond, List, [], ◌∷◌, ◌++◌, Some, Ok, refl, sym, ap, subst, ◌∙◌, map, filter, not, ◌&&◌, ◌||◌, AllByRecursion, list_any, bytes_eq, list_any-append, some_is, EntryParts, PlacedEntry, placed_entries, KeytabState, entry_at_place, put_result, without, are_twins, are_same, Held, There, Clash, Copy, as_found, as_copied, twins, step_among, step_of, with_copy}
 use Rattle.krb_keytab.specs.Form.{IsEntry, read_back}
-use Rattle.krb_keytab.specs.Store.{KeytabState, entry_at_place}
-use Rattle.krb_keytab.specs.Changes.{put_result, without}
 use Rattle.krb_keytab.proofs.AfterChanges.{added_reads}
-use Rattle.krb_copy.specs.Twins.{are_twins, are_same}
-use Rattle.krb_copy.specs.Copying.{Held, There, Clash, Copy, as_found, as_copied, twins, is_kept, step_among, step_of, with_copy}
+use Rattle.krb_copy.specs.Copying.{is_kept}
 use Rattle.krb_copy.specs.Laws.{IsInPlace}
 use Rattle.krb_copy.proofs.Alike.{twins_equiv, same_equiv, same_are_twins}
 use Rattle.krb_copy.proofs.Elsewhere.{entries_read, put_elsewhere, without_elsewhere}

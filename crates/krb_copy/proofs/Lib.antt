@@ -1,3 +1,4 @@
+pub mod Names
 pub mod Alike
 pub mod ClassKeys
 pub mod ClassesAfter

@@ -1,18 +1,6 @@
 -- After a run nothing else is in the keytab than was there or is asked for.
-use Rattle.std.proofs.Common.{◌≡◌, ℕ, Bool, true, false, cond, List, [], ◌∷◌, ◌++◌, Some, inl, inr, Result, Ok, Err, refl, sym, ap, subst, ◌∙◌, append_assoc}
-use Rattle.std.specs.Prelude.{◌==◌, ◌||◌, filter, map}
-use Rattle.std.specs.List.{AllByRecursion, list_any}
+use Rattle.krb_copy.proofs.Names.{◌≡◌, ℕ, Bool, true, false, cond, List, [], ◌∷◌, ◌++◌, Some, inl, inr, Result, Ok, Err, refl, sym, ap, subst, ◌∙◌, append_assoc, ◌==◌, ◌||◌, filter, map, AllByRecursion, list_any, append-nil, list_any-append, some_is, Code, EntryParts, PlacedEntry, placed_entries, KeytabState, entry_at_place, put_result, without, are_same, Held, Run, Step, There, Clash, Copy, as_copied, as_found, copy_run, go_on, has_lines, run_added, run_after, run_over, run_start, step_of, with_copy}
 use Rattle.std.proofs.lemmas.Bool.{cases_Bool, eqb-true, or_right}
-use Rattle.std.proofs.lemmas.List.{append-nil}
-use Rattle.std.proofs.lemmas.List.Folds.{list_any-append}
-use Rattle.krb_wire.proofs.Fields.{some_is}
-use Rattle.krb_walk.specs.declared.refusal.Code.{Code}
-use Rattle.krb_keytab.specs.Entry.{EntryParts}
-use Rattle.krb_keytab.specs.Find.{PlacedEntry, placed_entries}
-use Rattle.krb_keytab.specs.Store.{KeytabState, entry_at_place}
-use Rattle.krb_keytab.specs.Changes.{put_result, without}
-use Rattle.krb_copy.specs.Twins.{are_same}
-use Rattle.krb_copy.specs.Copying.{Held, Run, Step, There, Clash, Copy, as_copied, as_found, copy_run, go_on, has_lines, run_added, run_after, run_over, run_start, step_of, with_copy}
 use Rattle.krb_copy.specs.Laws.{NothingElse}
 use Rattle.krb_copy.proofs.Alike.{same_equiv}
 use Rattle.krb_copy.proofs.Gone.{goes_by_its_entries}

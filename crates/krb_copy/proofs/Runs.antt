@@ -1,18 +1,12 @@
 -- A run and its definition, entry by entry.
-use Rattle.std.proofs.Common.{◌≡◌, ℕ, ◌+◌, ◌<◌, Bool, true, false, cond, List, [], ◌∷◌, ◌++◌, length, get_or, drop, Result, Ok, Err, refl, sym, ap, subst, ◌∙◌}
-use Rattle.std.specs.Prelude.{map}
+use Rattle.krb_copy.proofs.Names.{◌≡◌, ℕ, ◌+◌, ◌<◌, Bool, true, false, cond, List, [], ◌∷◌, ◌++◌, length, drop, Result, Ok, Err, refl, sym, ap, subst, ◌∙◌, map, Code, PlacedEntry, placed_entries, KeytabState, put_result, without, Run, Copy, as_found, step_of, with_copy, run_after, run_added, has_lines, run_over, run_start, copy_run, go_on, AreClasses, AreTexts, entry_texts}
+use Rattle.std.proofs.Common.{get_or}
 use Rattle.std.proofs.lemmas.List.{drop_more}
-use Rattle.krb_walk.specs.declared.refusal.Code.{Code}
 use Rattle.krb_walk.specs.declared.refusal.Refusal.{Refusal}
 use Rattle.krb_walk.specs.declared.refusal.Refusal.TheVariants.{Code as ByCode, NoMemory}
 use Rattle.krb_walk.specs.Rules.{PutGives}
-use Rattle.krb_keytab.specs.Find.{PlacedEntry, placed_entries}
-use Rattle.krb_keytab.specs.Store.{KeytabState}
-use Rattle.krb_keytab.specs.Changes.{put_result, without}
 use Rattle.krb_copy.specs.declared.copy.Copying.{Copying}
-use Rattle.krb_copy.specs.Copying.{Run, Copy, as_found, step_of, with_copy, copied_lines, run_after, run_added, has_lines, run_over, run_start, copy_run, go_on}
-use Rattle.krb_copy.specs.Classes.{AreClasses}
-use Rattle.krb_copy.specs.Texts.{AreTexts, entry_texts}
+use Rattle.krb_copy.specs.Copying.{copied_lines}
 use Rattle.krb_copy.specs.Made.{IsMade, IsRefusal, IsRefusedBy, IsRun, Meets, Ends, EndsBy}
 
 -- an addition that is refused

@@ -15,8 +15,8 @@ pub fn others_stay()
     ensures all { AllStay }
 {}
 
-/// A run is a history of removals and additions, and goes by the entries that its keytab has by then. One that tells
-/// nothing has changed nothing.
+/// A run is the history of its removals and additions, and goes by the entries that its keytab has by then. One that
+/// tells nothing has changed nothing.
 pub fn runs_are_histories()
     ensures history { AreHistories }
     ensures entries { GoesByItsEntries }

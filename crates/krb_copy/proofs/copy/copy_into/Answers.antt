@@ -1,10 +1,7 @@
-use Rattle.std.proofs.Common.{sym, ap, subst, ◌++◌}
+use Rattle.krb_copy.proofs.Names.{sym, ap, subst, ◌++◌, placed_entries, entry_texts, copy_run, run_over, run_start}
 use Rattle.std.proofs.lemmas.Result.{err_from_is_err_and}
-use Rattle.krb_keytab.specs.Find.{placed_entries}
 use Rattle.krb_keytab.specs.Store.{InMemory}
 use Rattle.krb_copy.specs.declared.copy.Copying.{Copying}
-use Rattle.krb_copy.specs.Texts.{entry_texts}
-use Rattle.krb_copy.specs.Copying.{copy_run, run_over, run_start}
 use Rattle.krb_copy.specs.Made.{IsMade}
 use Rattle.krb_copy.proofs.Runs.{starts, due_is, made_is, refused_is}
 use Rattle.krb_copy.proofs.copy.copy_into.Goals as goal

@@ -1,8 +1,5 @@
-use Rattle.std.proofs.Common.{cond, refl, sym, ap, subst, ◌∙◌, Some}
-use Rattle.std.specs.Ordering.{is_eq}
-use Rattle.std.specs.BTreeMap.{BTreeMap, get}
-use Rattle.krb_copy.specs.declared.class.Class.{Class}
-use Rattle.krb_copy.specs.Classes.{ClassKey, class_cmp}
+use Rattle.krb_copy.proofs.Names.{cond, refl, sym, ap, subst, ◌∙◌, Some, is_eq, BTreeMap, Class, ClassKey, class_cmp}
+use Rattle.std.specs.BTreeMap.{get}
 use Rattle.std.specs.Prelude.{IsSome}
 use Rattle.krb_copy.proofs.ClassesAfter.{first_found, next_found, on_ok_both}
 use Rattle.krb_copy.proofs.classes.Classes.add.Goals as goal

@@ -1,9 +1,4 @@
-use Rattle.std.proofs.Common.{List, ℕ, subst, ◌∙◌, ◌++◌, ◌∷◌}
-use Rattle.std.specs.Prelude.{map}
-use Rattle.krb_wire.specs.Names.{name_text}
-use Rattle.krb_keytab.specs.Find.{PlacedEntry, placed_entries}
-use Rattle.krb_copy.specs.Copying.{as_found}
-use Rattle.krb_copy.specs.Texts.{AreTexts, entry_texts}
+use Rattle.krb_copy.proofs.Names.{List, ℕ, subst, ◌∙◌, ◌++◌, ◌∷◌, map, name_text, PlacedEntry, placed_entries, as_found, AreTexts, entry_texts}
 use Rattle.krb_copy.proofs.FoundTexts.{one_found}
 use Rattle.krb_copy.proofs.classes.Classes.of.Goals as goal
 

@@ -1,6 +1,4 @@
-use Rattle.std.proofs.Common.{◌≡◌, List, ℕ, ◌++◌}
-use Rattle.krb_keytab.specs.Find.{placed_entries}
-use Rattle.krb_copy.specs.Texts.{AreTexts, entry_texts}
+use Rattle.krb_copy.proofs.Names.{◌≡◌, List, ℕ, ◌++◌, placed_entries, AreTexts, entry_texts}
 use Rattle.krb_copy.proofs.FoundTexts.{AreFound}
 use Rattle.krb_copy.proofs.classes.Classes.of.Given as goal
 

@@ -1,7 +1,5 @@
-use Rattle.std.proofs.Common.{List, ◌+◌, drop, subst, arith}
+use Rattle.krb_copy.proofs.Names.{List, ◌+◌, drop, subst, arith, PlacedEntry, run_over}
 use Rattle.std.proofs.lemmas.List.{drop_all}
-use Rattle.krb_keytab.specs.Find.{PlacedEntry}
-use Rattle.krb_copy.specs.Copying.{run_over}
 use Rattle.krb_copy.proofs.Runs.{IsOnTheWay, one_met, all_met, ended, first_left}
 use Rattle.krb_copy.proofs.copy.Copying.go_over.Goals as goal
 

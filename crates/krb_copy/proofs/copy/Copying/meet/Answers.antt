@@ -1,9 +1,6 @@
-use Rattle.std.proofs.Common.{◌++◌, ◌∷◌, [], List, ℕ, sym, ap, ◌∙◌}
+use Rattle.krb_copy.proofs.Names.{◌++◌, ◌∷◌, [], List, ℕ, sym, ap, ◌∙◌, name_text, PlacedEntry, run_after, entry_texts}
 use Rattle.std.proofs.lemmas.Result.{err_from_is_err_and}
-use Rattle.krb_wire.specs.Names.{name_text}
-use Rattle.krb_keytab.specs.Find.{PlacedEntry}
-use Rattle.krb_copy.specs.Copying.{clash_line, copied_lines, run_after}
-use Rattle.krb_copy.specs.Texts.{entry_texts}
+use Rattle.krb_copy.specs.Copying.{clash_line, copied_lines}
 use Rattle.krb_copy.proofs.ClassesAfter.{after_clash}
 use Rattle.krb_copy.proofs.Runs.{copied_run, refused_run}
 use Rattle.krb_copy.proofs.copy.Copying.meet.Goals as goal

@@ -1,9 +1,5 @@
-use Rattle.std.proofs.Common.{◌≡◌, take, length, sym, ap, ◌∙◌, arith, List, ℕ}
-use Rattle.std.specs.List.{flat_map}
+use Rattle.krb_copy.proofs.Names.{◌≡◌, take, length, sym, ap, ◌∙◌, arith, List, ℕ, flat_map, KeytabState, put_result, removed_line}
 use Rattle.std.proofs.lemmas.List.{take_at}
-use Rattle.krb_keytab.specs.Store.{KeytabState}
-use Rattle.krb_keytab.specs.Changes.{put_result}
-use Rattle.krb_text.specs.Found.{removed_line}
 use Rattle.krb_copy.proofs.Runs.{refusal_is}
 use Rattle.krb_copy.proofs.making.Making.copy.Goals as goal
 

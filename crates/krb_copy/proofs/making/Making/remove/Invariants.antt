@@ -1,7 +1,4 @@
-use Rattle.std.proofs.Common.{◌≡◌, ◌++◌, take, drop}
-use Rattle.std.specs.List.{flat_map}
-use Rattle.krb_text.specs.Found.{removed_line}
-use Rattle.krb_keytab.specs.Changes.{without}
+use Rattle.krb_copy.proofs.Names.{◌≡◌, ◌++◌, take, drop, flat_map, removed_line, without}
 use Rattle.krb_copy.proofs.making.Making.remove.Given as goal
 
 -- removing at the places that are left gives what removing at all gives, and the others have their lines

@@ -1,5 +1,4 @@
-use Rattle.krb_keytab.specs.Find.{PlacedEntry, placed_entries}
-use Rattle.krb_copy.specs.Texts.{entry_texts}
+use Rattle.krb_copy.proofs.Names.{PlacedEntry, placed_entries, entry_texts}
 use Rattle.krb_copy.proofs.FoundTexts.{one_appended}
 use Rattle.krb_copy.proofs.texts.Texts.of.Goals as goal
 

@@ -1,7 +1,5 @@
-use Rattle.std.proofs.Common.{◌++◌, List, take, subst, arith}
+use Rattle.krb_copy.proofs.Names.{◌++◌, List, take, subst, arith, PlacedEntry, AreTexts, entry_texts}
 use Rattle.std.proofs.lemmas.List.{take_all}
-use Rattle.krb_keytab.specs.Find.{PlacedEntry}
-use Rattle.krb_copy.specs.Texts.{AreTexts, entry_texts}
 use Rattle.krb_copy.proofs.FoundTexts.{one_asked}
 use Rattle.krb_copy.proofs.texts.Texts.push_asked.Goals as goal
 
