@@ -28,7 +28,6 @@
 #include <dlfcn.h>
 #include <errno.h>
 #include <fcntl.h>
-#include <link.h>
 #include <stdarg.h>
 #include <stdint.h>
 #include <stdio.h>
@@ -70,32 +69,20 @@ static struct counts {
 
 /* Whether main has begun and not ended. */
 static int in_main;
-static uintptr_t program_start, program_end;
+static void *program_start;
 
-/* Finds where the program's own code lies: it is the first object. */
-static int find_program(struct dl_phdr_info *info, size_t size, void *data)
+/* Returns where the object of an address begins. */
+static void *start_of(void *address)
 {
-    (void)size;
-    (void)data;
-    program_start = UINTPTR_MAX;
-    for (int i = 0; i < info->dlpi_phnum; i++) {
-        if (info->dlpi_phdr[i].p_type != PT_LOAD)
-            continue;
-        uintptr_t start = info->dlpi_addr + info->dlpi_phdr[i].p_vaddr;
-        uintptr_t end = start + info->dlpi_phdr[i].p_memsz;
-        if (start < program_start)
-            program_start = start;
-        if (end > program_end)
-            program_end = end;
-    }
-    return 1;
+    Dl_info found = {0};
+    dladdr(address, &found);
+    return found.dli_fbase;
 }
 
 /* Counts a request for memory, and says whether it is refused. */
 static int refuses(void *caller)
 {
-    uintptr_t at = (uintptr_t)caller;
-    if (!in_main || at < program_start || at >= program_end)
+    if (!in_main || start_of(caller) != program_start)
         return 0;
     counts->requests++;
     requests.made++;
@@ -286,7 +273,7 @@ static main_function *program_main;
 static int counted_main(int argc, char **argv, char **envp)
 {
     const char *file = getenv("PRELOAD_COUNTS");
-    dl_iterate_phdr(find_program, NULL);
+    program_start = start_of((void *)program_main);
     if (file)
         share_counts(file);
     unsetenv("PRELOAD_COUNTS");

@@ -16,10 +16,9 @@ from makers.usual_caches import USUAL
 from runs.commands import CHANGES, COMMANDS, LEAVES, NEW, OLD, READS, SAVING, SCRIPT, Run, file_of, renamed
 from runs.harness import Case, Report, differences, faults_of, files_in, folder_of, message, run
 from runs.limits import limit
-from runs.namespaces import can_mount, run_within
+from runs.namespaces import can_mount, mounted, run_within
 from runs.terminal import EXPLAIN
 from runs.undisturbed import IN_PLACE, Undisturbed, in_place, undisturbed
-from system.disk_faults import mounted
 from system.placing import EQUAL, LONGER, MIXED, PLACED, explained, kept, refused, with_words
 from system.saving import (ADD, B_NEW, B_OLD, B_SAVED, GROUP, LINES, UNSAVED, USER, Owned, as_another, at, check_over,
                            faults_over, link, tree_faults, write)

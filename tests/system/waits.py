@@ -14,7 +14,7 @@ from contextlib import ExitStack, contextmanager
 
 from runs.commands import NEW, OLD, Run
 from runs.harness import Report, differences, folder_of
-from system.disk_faults import mounted
+from runs.namespaces import mounted
 from system.saving import ADD, SAVED, UNSAVED, edit, run_over, tree, tree_faults, write
 
 # More locks than fit in one read of the system's list, and enough of them to make the list slow.
