@@ -5,6 +5,7 @@ import errno
 import os
 import re
 from collections.abc import Iterator
+from functools import partial
 from itertools import chain, product
 
 from makers.images import B, TWO, keytab
@@ -126,7 +127,7 @@ def without_proc() -> Iterator[Row]:
             ("/proc/self", b"left", USER, UNSAVED))
     for path, stale, owner, wanted in rows if me == 0 else rows[:-1]:
         yield (adds(f"{path} cannot be reached, the file is of {owner}", wanted, stale=stale),
-               fails(f"{LOOK},{OPEN}", "ENOENT", path), (at("k", lambda it, owner=owner: os.chown(it, owner, -1)),), None)
+               fails(f"{LOOK},{OPEN}", "ENOENT", path), (at("k", partial(os.chown, uid=owner, gid=-1)),), None)
 
 
 def check_rows(report: Report, program: str) -> None:

@@ -6,7 +6,6 @@ from functools import cached_property
 from itertools import pairwise
 
 from runs.harness import Case, Outcome, message
-from runs.preload import Line
 from runs.terminal import EXPLAIN
 from runs.undisturbed import IN_PLACE, Undisturbed
 
@@ -42,11 +41,6 @@ class Ends:
         self.run = run
         self.command = run.words[run.words[0] == EXPLAIN]
         self.lines = run.stdin.splitlines(keepends=True)
-
-    @property
-    def line(self) -> Line:
-        """Its words and its input."""
-        return Line(self.run.words, self.run.stdin)
 
     @property
     def names(self) -> list[str]:

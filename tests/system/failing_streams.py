@@ -63,10 +63,10 @@ def are_met(ends: Ends, setting: str, given: int, end: End) -> bool:
 
 
 def faults_of_call(
-    over: Preloaded, ends: Ends, setting: str, nth: int, most: int, error: int
+    under: Preloaded, ends: Ends, setting: str, nth: int, most: int, error: int
 ) -> tuple[list[str], bool, bool]:
     """Returns the faults of a run where that call fails, whether it was made, and whether the run changed nothing."""
-    got = over.run(ends.line, CLOCK=NOW, **{setting: nth, "MOST": most, "ERROR": error})
+    got = under.run(ends.run, CLOCK=NOW, **{setting: nth, "MOST": most, "ERROR": error})
     end = got.outcome, got.files
     is_repeated = setting == "FAIL_SAVE" and error == EINTR and IN_PLACE in ends.run.words
     is_made, is_whole = bool(got.failures), end == ends.whole
@@ -76,12 +76,12 @@ def faults_of_call(
     return [] if is_wanted else [f"at {nth} {got.outcome.status}, {got.outcome.err!r}"], is_made, is_silent
 
 
-def check_setting(report: Report, over: Preloaded, ends: Ends, setting: str, ways: Iterable[tuple[int, int]]) -> None:
+def check_setting(report: Report, under: Preloaded, ends: Ends, setting: str, ways: Iterable[tuple[int, int]]) -> None:
     """Lets each call of a kind fail in each way."""
     for most, error in ways:
         faults, silent = [], 0
         for nth in range(1, MOST_CALLS):
-            found, is_made, is_silent = faults_of_call(over, ends, setting, nth, most, error)
+            found, is_made, is_silent = faults_of_call(under, ends, setting, nth, most, error)
             faults += found
             silent += is_silent
             if not is_made:
@@ -91,9 +91,9 @@ def check_setting(report: Report, over: Preloaded, ends: Ends, setting: str, way
         report.check(f"{setting} {errorcode[error]}, at most {most} bytes: {ends.run.name}", faults[:3])
 
 
-def check_few_bytes(report: Report, over: Preloaded, ends: Ends, most: int) -> None:
+def check_few_bytes(report: Report, under: Preloaded, ends: Ends, most: int) -> None:
     """Checks that reads and writes of at most that many bytes change nothing."""
-    got = over.run(ends.line, CLOCK=NOW, MOST=most)
+    got = under.run(ends.run, CLOCK=NOW, MOST=most)
     is_whole = (got.outcome, got.files) == ends.whole
     faults = [] if is_whole else [*differences(ends.run.wanted, got.outcome), "or other files"]
     report.check(f"{most} bytes at a time: {ends.run.name}", faults)
@@ -105,11 +105,11 @@ def check(report: Report, program: str) -> None:
         if under is None:
             return
         for run, ways in (*product(small_runs(), [OF_SMALL]), *product(large_runs(), [OF_LARGE])):
-            over, ends = under.over(run.files), Ends(run)
+            ends = Ends(run)
             for setting in settings(ends.command):
-                check_setting(report, over, ends, setting, ways)
+                check_setting(report, under, ends, setting, ways)
             for most in (1, 7, 4_095):
-                check_few_bytes(report, over, ends, most)
+                check_few_bytes(report, under, ends, most)
 
 
 def check_rounds(report: Report, program: str, seeds: range) -> None:
@@ -121,7 +121,7 @@ def check_rounds(report: Report, program: str, seeds: range) -> None:
             ends = Ends(random.choice(those))
             setting, error = random.choice(settings(ends.command)), random.choice(ERRORS)
             nth, most = int(2 ** random.uniform(0, 7)), int(2 ** random.uniform(0, 17))
-            faults, _, _ = faults_of_call(under.over(ends.run.files), ends, setting, nth, most, error)
+            faults, _, _ = faults_of_call(under, ends, setting, nth, most, error)
             name = f"{setting} {errorcode[error]}, at most {most} bytes, number {seed}"
             report.check(f"{name}: {ends.run.name}", faults)
 

@@ -14,7 +14,6 @@ from itertools import product
 from makers.images import B, TWO, keytab
 from runs.commands import CHANGES, MAKES, READS, file_of
 from runs.harness import Outcome, Report, differences, files_in, folder_of
-from runs.preload import Line
 from runs.system_calls import Call, calls_of, check_traced, traced
 from runs.undisturbed import IN_PLACE, Undisturbed, in_place, undisturbed
 from runs.undisturbed import explained as with_words
@@ -192,7 +191,7 @@ def killed(program: str, run: Undisturbed, call: Call, judge: Callable[[dict[str
     """Returns the faults of a run that is killed at a call, or ended before, of what it left, and of the next run if it
     changes a file."""
     with folder_of(run.files) as folder:
-        got, trace = traced(program, Line(run.words, run.stdin), folder, *call.to("signal=KILL"))
+        got, trace = traced(program, run, folder, *call.to("signal=KILL"))
         has_ended = got.status == run.wanted.status
         faults = differences(run.wanted if has_ended else Outcome(-signal.SIGKILL, got.out, got.err), got)
         faults += tree_faults(run.files_after, folder) if has_ended else judge(files_in(folder), trace)
@@ -209,7 +208,7 @@ def killed(program: str, run: Undisturbed, call: Call, judge: Callable[[dict[str
 def traced_run(program: str, run: Undisturbed, *options: str) -> tuple[End, list[str]]:
     """Makes a run under strace."""
     with folder_of(run.files) as folder:
-        outcome, trace = traced(program, Line(run.words, run.stdin), folder, *options)
+        outcome, trace = traced(program, run, folder, *options)
         return (outcome, files_in(folder)), trace
 
 
@@ -268,7 +267,7 @@ def at_link(program: str, run: Undisturbed, *options: str) -> tuple[Outcome, dic
     """Makes a run over a link to its file, beside a stale file of an earlier save."""
     with folder_of({"file": run.files["k"], "file.krbfile": REMAINS}) as folder:
         os.symlink("file", os.path.join(folder, "k"))
-        outcome, trace = traced(program, Line(run.words, run.stdin), folder, *options)
+        outcome, trace = traced(program, run, folder, *options)
         return outcome, tree(folder), trace
 
 

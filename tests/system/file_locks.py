@@ -10,7 +10,6 @@ from dataclasses import replace
 from makers.images import TWO
 from runs.commands import CHANGES, LEAVES, READS, SAVING, Run, both_ways, file_of
 from runs.harness import Case, Report, differences, faults_of, files_in, folder_of, run
-from runs.preload import Line
 from runs.system_calls import Halt, check_traced, halted, traced, under_strace
 from runs.undisturbed import Undisturbed, in_place, undisturbed
 from system.placing import ADD_LONG, EQUAL, LONGER, PLACED, SHORTER, refused, with_words
@@ -157,8 +156,7 @@ def check_other_handle(report: Report, program: str) -> None:
     """Checks a file of which only a handle that writes can be locked: then that one is."""
     for case, nth in ((LONGER, 2), (in_place(LONGER), 1)):
         with folder_of(case.files) as folder:
-            line = Line(case.words, case.stdin)
-            outcome, trace = traced(program, line, folder, "-e", f"inject=flock:error=EBADF:when={nth}")
+            outcome, trace = traced(program, case, folder, "-e", f"inject=flock:error=EBADF:when={nth}")
             faults = differences(case.wanted, outcome) + tree_faults(case.files_after, folder)
         opened = [number for number, each in enumerate(trace) if '"k", O_RDWR' in each]
         after = trace[opened[-1] + 1] if opened else ""
@@ -183,7 +181,7 @@ def check_held_to_end(report: Report, program: str) -> None:
     for case, halt in ((LONGER, load), (LONGER, sync), (placed, load), (placed, sync), (shorter, cut), (shorter, sync)):
         with folder_of(case.files) as folder:
             found: list[bool] = []
-            outcome = halted(program, Line(case.words, case.stdin), folder, halt,
+            outcome = halted(program, case, folder, halt,
                              lambda folder, found=found: found.append(is_locked(os.path.join(folder, "k"))))
             faults = differences(case.wanted, outcome) + tree_faults(case.files_after, folder)
         report.check(f"locked behind {halt.calls}: {case.name}", faults + ([] if found == [True] else ["not locked"]))

@@ -123,7 +123,7 @@ def check_while(report: Report, program: str, case: Case, call: str, change: Pla
     with folder_of(case.files) as folder:
         for place in places:
             place(folder)
-        got = halted(program, Line(case.words, case.stdin), folder, HALTS[call], change)
+        got = halted(program, case, folder, HALTS[call], change)
         faults = differences(case.wanted, got) + tree_faults(case.files_after, folder)
     report.check(f"{case.name}, behind the {call} of {' '.join(case.words)}", faults)
 
