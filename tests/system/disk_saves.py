@@ -2,7 +2,6 @@
 a pipe, leave alone, and keep of the file that is saved."""
 
 import os
-import subprocess
 from dataclasses import replace
 from itertools import product
 
@@ -15,7 +14,7 @@ from runs.undisturbed import in_place, undisturbed
 from system.pipe_files import fed
 from system.placing import PLACED, explained
 from system.saving import (ADD, GROUP, SAVED, UNREAD, UNSAVED, USER, Owned, Place, as_another, as_user, at, check_over,
-                           faults_over, link, run_over, tree, tree_faults, unsaved, write)
+                           faults_over, link, tree_faults, unsaved, write)
 from words.phrases import CAUSES
 
 # Runs that change a file: the last one copies over a file of no bytes.
@@ -114,13 +113,12 @@ def check_hard_links(report: Report, program: str) -> None:
     """Checks that a link is followed, a hard link is broken, a stale file is removed, and all else stays."""
     for case in ALL:
         name = file_of(case)
-        others = {each: data for each, data in case.files.items() if each != name}
-        with folder_of({**others, "file": case.files[name], "file.krbfile": b"left", "file.new": b"new"}) as folder:
-            os.symlink("file", os.path.join(folder, name))
-            os.link(os.path.join(folder, "file"), os.path.join(folder, "other"))
-            wanted = {**tree(folder), "file": case.files_after[name], "file.krbfile": None}
-            faults = differences(case.wanted, run_over(program, case, folder)) + tree_faults(wanted, folder)
-        report.check(f"a file of two names behind a link: {case.name}", faults)
+        files = {each: data for each, data in case.files.items() if each != name}
+        files |= {"file": case.files[name], "file.krbfile": b"left", "file.new": b"new"}
+        one = Case(f"a file of two names behind a link: {case.name}", case.words, case.wanted, files,
+                   {"file": case.files_after[name], "file.krbfile": None}, case.stdin)
+        check_over(report, program, one, link(name, "file"), lambda folder: os.link(
+            os.path.join(folder, "file"), os.path.join(folder, "other")))
 
 
 def check_removed(report: Report, program: str) -> None:
@@ -194,10 +192,6 @@ ROWS: list[tuple[Case, *tuple[Place, ...]]] = [
     *((copy(f"{len(image)} bytes on the standard input", "ktcopy /dev/stdin t", {}, wanted, after, image),)
       for image, wanted, after in ((TWO, COPIED, TWO), (b"", message(1, "/dev/stdin: not a keytab (1)"), None),
                                    (TWO[:-1], message(1, "/dev/stdin: refused 1"), None))),
-    # Two names of one keytab are one keytab.
-    *((copy(f"{what} of the same keytab", COPY, {"k": TWO}, Outcome(0)), place) for what, place in (
-        ("a link", link("t", "k")),
-        ("a second name", lambda folder: os.link(os.path.join(folder, "k"), os.path.join(folder, "t"))))),
     # What stands under the name of the new file: only a save is refused.
     *((copy(f"a folder in the way: {' '.join(words)}, {wanted.status}", words, {"k": TWO, "t": target}, wanted),
        at("t.krbfile", os.mkdir)) for words, target, wanted in (
@@ -212,30 +206,18 @@ ROWS: list[tuple[Case, *tuple[Place, ...]]] = [
 ]
 
 
-def check_pipes(report: Report, program: str) -> None:
-    """Checks that a pipe is copied from, and that a dry run opens one that it would copy into."""
-    with folder_of({}) as folder:
-        os.mkfifo(os.path.join(folder, "k"))
-        pieces = "exec >k; printf '\\005'; sleep 0.1; printf '\\002\\377'; sleep 0.1; printf '\\377'"
-        with subprocess.Popen(["sh", "-c", pieces], cwd=folder):
-            got = run(program, COPY, folder)
-        report.compare("a pipe to copy from, in pieces", message(1, "k: refused 1"), got)
+def check_pipe(report: Report, program: str) -> None:
+    """Checks that a dry run opens a pipe that it would copy into."""
     with folder_of({"k": TWO}) as folder, fed(os.path.join(folder, "t")) as opened:
         faults = differences(COPIED, run(program, (EXPLAIN, "ktcopy", "-n", "k", "t"), folder))
         faults += tree_faults({"k": TWO, "t": "p"}, folder) + ([] if opened else ["it was not opened"])
     report.check("a pipe to copy into, in a dry run", faults)
 
 
-def check_input(report: Report, program: str) -> None:
-    """Checks a file as standard input."""
-    line = ("-c", 'exec "$0" ktcopy /dev/stdin t < k', program)
-    check_over(report, "sh", copy("a file as standard input", line, {"k": TWO}, after=TWO))
-
-
 def check(report: Report, program: str) -> None:
     """Runs this topic."""
     for each in (check_new_files, check_own_files, check_others_files, check_hard_links, check_removed,
-                 check_locked_folder, check_pipes, check_input):
+                 check_locked_folder, check_pipe):
         each(report, program)
     for row in ROWS:
         check_over(report, program, *row)
