@@ -103,15 +103,12 @@ def check_mounted(report: Report, program: str) -> None:
     if not can_mount(report, "files that are mounted, saved in place"):
         return
     for case in (EQUAL, MIXED):
-        for one in (case, in_place(case)):
-            row = with_words(one) if IN_PLACE in one.words else refused(one, "EBUSY")
-            with folder_of({"k": b"under", "over": case.files["k"]}) as folder:
-                before = kept(os.path.join(folder, "over"))
-                mounts = {quote(os.path.join(folder, "k")): os.path.join(folder, "over")}
-                faults = differences(row.wanted, run_within(program, row.words, folder, mounts, stdin=case.stdin))
-                faults += [] if kept(os.path.join(folder, "over")) == before else ["not kept"]
-                faults += tree_faults({"k": b"under", "over": row.files_after["k"]}, folder)
-            report.check(f"a mount over the file: {one.name}", faults)
+        for row in (refused(case, "EBUSY"), with_words(in_place(case))):
+            one = Case(f"a mount over the file: {row.name}", row.words, row.wanted,
+                       {"k": b"under", "over": case.files["k"]}, {"over": row.files_after["k"]}, row.stdin)
+            check_over(report, program, one, make=lambda program, case, folder: run_within(
+                program, case.words, folder, {quote(os.path.join(folder, "k")): os.path.join(folder, "over")},
+                stdin=case.stdin))
 
 
 # Rows over a disk whose files take each of its pages. A save for which there is no room leaves the old bytes, also

@@ -6,7 +6,6 @@ A stale file of a killed run is removed. Anything else stays as it is, and then 
 import os
 from collections.abc import Callable, Iterator
 from concurrent.futures import ThreadPoolExecutor
-from dataclasses import replace
 
 from runs.commands import CHANGES, MAKES, NEW, OLD, SCRIPT, WALK, both_ways, file_of, renamed
 from runs.harness import Case, Report, message
@@ -90,8 +89,8 @@ def own_rows() -> list[Row]:
 
 
 def others_rows(user: dict[str, object]) -> list[Row]:
-    """Returns what is there of others, for root's runs and for those of a user: what the file's owner, root or that user
-    left is removed."""
+    """Returns what is there of others, for runs of root and of a user: what the file's owner, root or that user left is
+    removed."""
     strange, is_sticky = owned_by(STRANGER), {"mode": 0o1777}
     return [
         *((f"a user's file, {owner} owns that", strange, owner, {}) for owner in (0, None, USER)),

@@ -1,8 +1,6 @@
 """A save while others change the file, its name or its folder."""
 
-import fcntl
 import os
-import threading
 from collections.abc import Callable
 from dataclasses import replace
 from functools import partial
@@ -16,7 +14,7 @@ from runs.system_calls import Halt, check_traced, halted
 from runs.undisturbed import IN_PLACE, PROGRAM
 from system.placing import refused
 from system.saving import (B_NEW, B_OLD, B_SAVED, SAVED, UNSAVED, USER, Place, at, check_over, edit, link, tree,
-                           tree_faults, write)
+                           write)
 
 # The calls after which a run is halted, each under a name.
 HALTS = {
@@ -163,9 +161,9 @@ MOVED: list[tuple[Case, str, Place, *tuple[Place, ...]]] = [
           ("another file", OTHER, (IN_PLACE,), B_SAVED, {"k": B_NEW}),
           ("no file any more", GONE, (IN_PLACE,), message(1, "k: no such file"), {"k": None}))),
     # Another run overtakes this one while it makes its new file, or looks at a stale one.
-    *((added(f"overtaken beside {len(files)}", B_SAVED, {"k": OLD, **files}, {"k": B_NEW, **dict.fromkeys(files)}), call,
+    *((added(f"overtaken beside {left}", B_SAVED, {"k": OLD, **left}, {"k": B_NEW, **dict.fromkeys(left)}), call,
        lambda folder: edit(PROGRAM[0], folder, script=text([ADD_B])))
-      for call, files in (("making", {}), ("making", {"k.krbfile": b"left"}), ("finding", {"k.krbfile": b"left"}))),
+      for call, left in (("making", {}), ("making", {"k.krbfile": b"left"}), ("finding", {"k.krbfile": b"left"}))),
 ]
 
 
@@ -175,30 +173,6 @@ def check_moved(report: Report, program: str) -> None:
         check_while(report, program, *row)
 
 
-def check_crossed_hold(report: Report, program: str) -> None:
-    """Checks a run that finds a stale new file, in whose place there is then one that is held."""
-    with folder_of({"k": OLD, "k.krbfile": b"left"}) as folder:
-        held = []
-
-        def hold(folder: str) -> None:
-            os.remove(os.path.join(folder, "k.krbfile"))
-            held.append(open(os.path.join(folder, "k.krbfile"), "xb"))
-            fcntl.flock(held[0], fcntl.LOCK_EX)
-            timer.start()
-
-        def save() -> None:
-            write(os.path.join(folder, "k"), B_OLD)
-            os.remove(os.path.join(folder, "k.krbfile"))
-            held[0].close()
-
-        timer = threading.Timer(0.3, save)
-        faults = differences(B_SAVED, edited_while(program, folder, "finding", hold))
-        faults += tree_faults({"k": B_NEW}, folder)
-        timer.join()
-    report.check("held by another behind the finding of a new file", faults)
-
-
 def check(report: Report, program: str) -> None:
     """Runs this topic."""
-    check_traced(report, program, "files that are changed meanwhile", check_changes, check_names, check_moved,
-                 check_crossed_hold)
+    check_traced(report, program, "files that are changed meanwhile", check_changes, check_names, check_moved)
