@@ -262,6 +262,17 @@ static void share_counts(const char *file)
     counts = page;
 }
 
+/* The variables that are numbers, and what they set. */
+static const struct {
+    const char *name;
+    uint64_t *value;
+} settings[] = {
+    {"REFUSE", &requests.fail}, {"REFUSE_LASTS", &refuse_lasts}, {"FAIL_INPUT", &inputs.fail},
+    {"FAIL_READ", &reads.fail}, {"FAIL_WRITE", &writes.fail}, {"ZERO_WRITE", &writes.take_none},
+    {"FAIL_SAVE", &saves.fail}, {"ZERO_SAVE", &saves.take_none}, {"ERROR", &error}, {"MOST", &most},
+    {"CLOCK", &clock_seconds}, {"FAIL_CLOCK", &fail_clock},
+};
+
 typedef int main_function(int, char **, char **);
 typedef void plain_function(void);
 typedef int start_function(main_function *, int, char **, plain_function *, plain_function *,
@@ -278,18 +289,8 @@ static int counted_main(int argc, char **argv, char **envp)
         share_counts(file);
     unsetenv("PRELOAD_COUNTS");
     unsetenv("LD_PRELOAD");
-    requests.fail = taken("REFUSE");
-    refuse_lasts = taken("REFUSE_LASTS");
-    inputs.fail = taken("FAIL_INPUT");
-    reads.fail = taken("FAIL_READ");
-    writes.fail = taken("FAIL_WRITE");
-    writes.take_none = taken("ZERO_WRITE");
-    saves.fail = taken("FAIL_SAVE");
-    saves.take_none = taken("ZERO_SAVE");
-    error = taken("ERROR");
-    most = taken("MOST");
-    clock_seconds = taken("CLOCK");
-    fail_clock = taken("FAIL_CLOCK");
+    for (size_t i = 0; i < sizeof settings / sizeof *settings; i++)
+        *settings[i].value = taken(settings[i].name);
     is_paced = getenv("PACE") != NULL;
     pace = taken("PACE");
     proc = getenv("PROC") ? strdup(getenv("PROC")) : NULL;

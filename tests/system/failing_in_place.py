@@ -26,7 +26,7 @@ from words.phrases import AFTERMATHS, CAUSES
 PLACE = re.compile(r"(?:pwrite64\(\d+, .*, \d+|ftruncate\(\d+), (\d+)\) ")
 
 # The calls that change a file, whose order is proved.
-CHANGES = WRITE, _, _ = ("pwrite64", "ftruncate", "fsync")
+CHANGES = ("pwrite64", "ftruncate", "fsync")
 
 ERRORS = ("EIO", "ENOSPC", "EDQUOT")
 
@@ -77,7 +77,7 @@ def check_lost(report: Report, program: str, case: Undisturbed, call: Call, back
 
 def left_behind(backs: list[Call], back: Call, is_over: bool) -> str:
     """Returns what a failing call of those that bring old bytes back leaves: the first two write these, if any do."""
-    if backs[0].name != WRITE or back not in backs[:2]:
+    if backs[0].name != "pwrite64" or back not in backs[:2]:
         return ""
     return "damaged" if is_over or back == backs[1] else "restored"
 
