@@ -12,7 +12,7 @@ from random import Random
 
 from makers.images import Entry, keytab
 from peers.beside_mit import SURROUNDINGS, are_there
-from runs.harness import TOP, Report, folder_of, run
+from runs.harness import TOP, Report, folder_of
 from runs.random_runs import Rounds
 from runs.storms import Run, rage
 from runs.undisturbed import IN_PLACE
@@ -100,18 +100,6 @@ class Storm:
             self.found.append(f"{sorted(found)} are left")
         self.found += [f"{image[:40]}, {len(image)} bytes, was seen" for image in self.seen if self.kind.is_bad(image)]
 
-    def judge_next(self, folder: str, sources: str) -> None:
-        """Checks that stale files do not stop a later run, which also removes them."""
-        command = self.kind.command(0)
-        name = "last" if removes(command) else "new"
-        words, text = change(command, name, source=source_of(name, sources))
-        got = run(self.program, words, folder, text.encode())
-        found = tree(folder)
-        names = names_of(self.kind.option, found.get("k", b"")) or []
-        is_done = got.status == 0 and (name in names) != removes(command)
-        if not is_done or found.keys() != LEFT:
-            self.found.append(f"the next run: {got}, then {sorted(found)} are there")
-
 
 def storm(program: str, kind: Kind, seed: int) -> Storm:
     """Runs a storm, and returns its faults."""
@@ -124,7 +112,6 @@ def storm(program: str, kind: Kind, seed: int) -> Storm:
         made.start(folder, sources)
         made.rage(folder)
         made.judge(folder)
-        made.judge_next(folder, sources)
     return made
 
 

@@ -10,7 +10,7 @@ from runs.commands import CHANGES, CLASH, LEAVES, MAKES, NEW, OLD, READS, SAVING
 from runs.harness import Case, Outcome, Report, differences, folder_of, message, run
 from runs.rows import Line, printed, words_of
 from runs.terminal import EXPLAIN
-from runs.undisturbed import in_place, undisturbed
+from runs.undisturbed import IN_PLACE, in_place, undisturbed
 from system.pipe_files import fed
 from system.placing import PLACED, explained
 from system.saving import (ADD, GROUP, SAVED, UNREAD, UNSAVED, USER, Owned, Place, as_another, as_user, at, check_over,
@@ -91,21 +91,26 @@ def long_chain(count: int) -> list[tuple[str, str]]:
     return [*zip(names, names[1:])]
 
 
-# What leads to the file that is replaced or made, if anything does. Each link stays.
+# How a run ends that replaces or makes its file, and one in place: over a file, over none, where none can be made, and
+# over links that lead nowhere.
+MISSING = message(1, "k: no such file")
+OVER, MAKES_IT, NO_FOLDER, NOWHERE = (SAVED, SAVED), (SAVED, MISSING), (UNSAVED, MISSING), (UNREAD, UNREAD)
+
+# What leads to the file, if anything does. Each link stays.
 CHAIN = (("k", "u/a"), ("u/a", "../u/b"), ("u/b", "FOLDER/t/k"))
 LINKS = (
-    ("a relative link", SAVED, links_to(("k", "t/k"))),
-    ("a link through a parent folder", SAVED, links_to(("k", "u/../t/k"))),
-    ("an absolute link", SAVED, links_to(("k", "FOLDER/t/k"))),
-    ("a chain of links", SAVED, links_to(*CHAIN)),
-    ("a link through a link to a folder", SAVED, links_to(("d", "t"), ("k", "d/k"))),
-    ("a link that dangles", SAVED, links_to(("k", "t/k"), data=None)),
-    ("a chain that dangles", SAVED, links_to(*CHAIN, data=None)),
-    ("a chain of 40 links", SAVED, links_to(*long_chain(40))),
-    ("a link into no folder", UNSAVED, links_to(("k", "no/k"))),
-    ("a link to no folder", UNSAVED, links_to(("k", "no/"), data=None)),
-    ("a link in a circle", UNREAD, links_to(("k", "u/k"), ("u/k", "../k"))),
-    ("a chain of 41 links", UNREAD, links_to(*long_chain(41))),
+    ("a relative link", OVER, links_to(("k", "t/k"))),
+    ("a link through a parent folder", OVER, links_to(("k", "u/../t/k"))),
+    ("an absolute link", OVER, links_to(("k", "FOLDER/t/k"))),
+    ("a chain of links", OVER, links_to(*CHAIN)),
+    ("a link through a link to a folder", OVER, links_to(("d", "t"), ("k", "d/k"))),
+    ("a link that dangles", MAKES_IT, links_to(("k", "t/k"), data=None)),
+    ("a chain that dangles", MAKES_IT, links_to(*CHAIN, data=None)),
+    ("a chain of 40 links", OVER, links_to(*long_chain(40))),
+    ("a link into no folder", NO_FOLDER, links_to(("k", "no/k"))),
+    ("a link to no folder", NO_FOLDER, links_to(("k", "no/"), data=None)),
+    ("a link in a circle", NOWHERE, links_to(("k", "u/k"), ("u/k", "../k"))),
+    ("a chain of 41 links", NOWHERE, links_to(*long_chain(41))),
 )
 
 
@@ -186,8 +191,9 @@ def from_new_file(source: str, target: str, before: bytes, wanted: Outcome) -> l
 
 # Saves over links, copies, and what is made in their folders before.
 ROWS: list[tuple[Case, *tuple[Place, ...]]] = [
-    *((Case(f"save over {name}", ("ktedit", "k"), wanted, {}, {"t/k": NEW} if wanted == SAVED else None, SCRIPT), place)
-      for name, wanted, place in LINKS),
+    *((Case(f"save over {name} {option}", ("ktedit", *option.split(), "k"), wanted, {},
+            {"t/k": NEW} if wanted == SAVED else None, SCRIPT), place)
+      for name, ends, place in LINKS for option, wanted in zip(("", IN_PLACE), ends)),
     # The standard input is read to its end.
     *((copy(f"{len(image)} bytes on the standard input", "ktcopy /dev/stdin t", {}, wanted, after, image),)
       for image, wanted, after in ((TWO, COPIED, TWO), (b"", message(1, "/dev/stdin: not a keytab (1)"), None),

@@ -14,14 +14,14 @@ from shlex import quote
 from makers.images import HOST, TWO, Entry, keytab
 from makers.usual_caches import USUAL
 from runs.commands import CHANGES, COMMANDS, LEAVES, NEW, OLD, READS, SAVING, SCRIPT, Run, file_of, renamed
-from runs.harness import Case, Report, differences, faults_of, files_in, folder_of, message, run
+from runs.harness import Case, Report, differences, faults_of, files_in, folder_of, run
 from runs.limits import limit
 from runs.namespaces import can_mount, mounted, run_within
 from runs.terminal import EXPLAIN
 from runs.undisturbed import IN_PLACE, Undisturbed, in_place, undisturbed
 from system.placing import EQUAL, LONGER, MIXED, PLACED, explained, kept, refused, with_words
-from system.saving import (ADD, B_NEW, B_OLD, B_SAVED, GROUP, LINES, UNSAVED, USER, Owned, as_another, at, check_over,
-                           faults_over, link, tree_faults, write)
+from system.saving import (ADD, B_OLD, GROUP, LINES, UNSAVED, USER, Owned, as_another, at, check_over, faults_over,
+                           tree_faults, write)
 from words.explaining import FINDS_NONE, Explained, copy, no_keytab, unchanged
 from words.phrases import AFTERMATHS, BEGINS_AS_CACHE, CAUSES, LEAVE_OUT, NOT_READ, code, line_fault
 
@@ -197,7 +197,6 @@ def unwritten(name: str, phrase: str, lines: bytes = LINES, **more) -> Explained
 
 
 CASES = [
-    unchanged("ktedit k --in-place", ("k: no such file", ""), stdin=SCRIPT),
     # What comes before: a faulty script, and the file that is copied from.
     unchanged("ktedit --in-place k", ("line 1: fault 2", line_fault(2)), stdin=b"start 1\n"),
     *(copy("--in-place", None, target, ("k: no such file", "")) for target in (TWO, None)),
@@ -222,16 +221,6 @@ def check_missing(report: Report, program: str) -> None:
         missing(ADD, name).check(report, program)
 
 
-def check_links(report: Report, program: str) -> None:
-    """Checks links to no file, and one to a file, which is saved where it is."""
-    missing = message(1, "l: no such file")
-    for name, target, wanted, after in (("a link to nothing", "no", missing, B_OLD),
-                                        ("a link into no folder", "no/k", missing, B_OLD),
-                                        ("a link to a file", "k", B_SAVED, B_NEW)):
-        case = Case(f"{name}, in place", ("ktedit", IN_PLACE, "l"), wanted, {"k": B_OLD}, {"k": after}, SCRIPT)
-        check_over(report, program, case, link("l", target))
-
-
 def check_all_kept(report: Report, program: str) -> None:
     """Checks what each command keeps of a file of those attributes."""
     for case, attributes in product(PLACED, kinds(report)):
@@ -240,6 +229,5 @@ def check_all_kept(report: Report, program: str) -> None:
 
 def check(report: Report, program: str) -> None:
     """Runs this topic."""
-    for each in (check_missing, check_all_kept, check_set_id, check_mounted, check_disks, check_limit, check_sparse,
-                 check_links):
+    for each in (check_missing, check_all_kept, check_set_id, check_mounted, check_disks, check_limit, check_sparse):
         each(report, program)
