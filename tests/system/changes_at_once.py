@@ -27,13 +27,6 @@ LEFT = {"k", "link"}
 ADDS = ("sh", os.path.join(TOP, "examples", "edit-keytab.sh"))
 
 
-def source_of(name: str, folder: str) -> str:
-    """Makes a keytab of one entry of that name in a folder, and returns its path."""
-    path = os.path.join(folder, name)
-    write(path, keytab(Entry((name.encode(),))))
-    return path
-
-
 class Storm:
     """Programs that each add or remove an entry of the file `k` of a folder, at the same time."""
 
@@ -51,7 +44,8 @@ class Storm:
             is_mits, is_killed = self.kind.with_mit and is_odd, self.kind.kills and is_odd
             command = self.kind.command(number)
             name = f"{'m' if is_mits else 'h' if removes(command) else 'a'}{number}"
-            source = source_of(name, sources)
+            source = os.path.join(sources, name)
+            write(source, keytab(Entry((name.encode(),))))
             path = self.random.choice(PATHS)
             line, text = ("ktutil",), f"rkt {source}\nwkt k\n"
             if command == "hold":

@@ -1,4 +1,4 @@
-"""`hold`: what it gives and takes, when it gives nothing, and who waits meanwhile."""
+"""`hold`: what it gives and takes, when it gives nothing, and that its file is locked meanwhile."""
 
 import os
 import subprocess
