@@ -7,9 +7,7 @@ from dataclasses import replace
 from keytabs.finds import FIVE
 from makers.images import B, HOST, TWO, hole, keytab
 from names.named_files import NEITHER
-from runs.harness import Outcome, Report, folder_of, run
 from runs.rows import Line, shown, text, words_of
-from runs.terminal import EXPLAIN
 from words.explaining import Explained, Output
 from words.phrases import BEGINS_AS_NO_KEYTAB, CAUSES, FAULTS, FINDINGS, HINTS, NOT_READ
 
@@ -40,10 +38,16 @@ def set_modes(folder: str) -> None:
         os.chmod(os.path.join(folder, name), 0o644 if name == "all" else 0o600)
 
 
-def check_up(line: str | Line, out: list[str], *output: tuple[str, str], status: int = 0) -> Explained:
+# The options of a run whose output takes nothing, and what is said of that.
+FULL = {"preexec_fn": lambda: os.dup2(os.open("/dev/full", os.O_WRONLY), 1)}
+FAILED = ("cannot write output", CAUSES["ENOSPC"])
+
+
+def check_up(line: str | Line, out: list[str], *output: tuple[str, str], status: int = 0, **more) -> Explained:
     """Returns a run of ktcheck over some of the files, its output and its messages."""
     words = ("ktcheck", *words_of(line))
-    return Explained(shown(words), words, output, FILES, status=status, out=text(out), setting=set_modes, after=FILES)
+    return Explained(shown(words), words, output, FILES, status=status, out=text(out), setting=set_modes, after=FILES,
+                     **more)
 
 
 def labelled(**those: list[str]) -> list[str]:
@@ -97,28 +101,9 @@ CASES = [
     *(check_up(f"{allow(*(each for each in FINDINGS if each != counted))} all", ALL, *words("all", *FINDINGS),
                status=int(counted not in ("", "old"))) for counted in ("", *FINDINGS)),
     check_up(f"{allow(*FINDINGS)} d no", labelled(d=BROKEN), *fault("d"), MISSING, status=1),
+    # An output that takes nothing ends the run with the first file of which something would be printed.
+    *(check_up(line, [], *told, status=status, options=FULL) for line, told, status in (
+        ("k w no", [FAILED], 3), ("no k x", [MISSING, FAILED], 3), ("-q k e w no", [FAILED], 3),
+        ("-q no k . w x", [MISSING, UNREAD, FAILED], 3), ("-q k e no", [MISSING], 1),
+        ("no x", [MISSING, NO_KEYTAB], 1))),
 ]
-
-# Outputs that take nothing: what is reported, each with what explains it, and the status.
-FAILED = ("cannot write output", CAUSES["ENOSPC"])
-FAILING = {
-    "k w no": ((FAILED,), 3),
-    "no k x": ((MISSING, FAILED), 3),
-    "-q k e w no": ((FAILED,), 3),
-    "-q no k . w x": ((MISSING, UNREAD, FAILED), 3),
-    # Nothing is printed, so nothing fails.
-    "-q k e no": ((MISSING,), 1),
-    "no x": ((MISSING, NO_KEYTAB), 1),
-}
-
-
-def check(report: Report, program: str) -> None:
-    """Checks outputs that fail: the run ends with the first file of which something would be printed."""
-    with folder_of(FILES) as folder:
-        set_modes(folder)
-        for line, (messages, status) in FAILING.items():
-            for first in ((), (EXPLAIN,)):
-                lines = [each for one in messages for each in (one if first else one[:1]) if each]
-                shell = ("-c", 'exec "$0" "$@" > /dev/full', program, *first, "ktcheck", *line.split())
-                wanted = Outcome(status, err=text(f"krbfile: {each}" for each in lines))
-                report.compare(f"/dev/full: {shown(shell[3:])}", wanted, run("sh", shell, folder))

@@ -184,11 +184,11 @@ def mixed_cache(count: int) -> bytes:
     return cache(*parts, PA_TYPE, fields=header_field(9, b"xyz"))
 
 
-def talk(count: int, list_columns: str = "-t -k -e") -> Undisturbed:
+def talk(count: int) -> Undisturbed:
     """Returns a run of ktutil that reads `a` and `b`, makes `n` and changes `a`, with some faulty lines. `b` has an end
     mark, `d` is damaged, and `a` has that many entries."""
-    lines = ["l", "rkt a", f"l {list_columns}", "addent -key -p new/one@R -k 7 -e 18", KEYS[32],
-             "wkt n", "frob", "rkt b", "delent 2", "wkt n", "rkt no", f"l {list_columns}", "clear",
+    lines = ["l", "rkt a", "l -t -k -e", "addent -key -p new/one@R -k 7 -e 18", KEYS[32],
+             "wkt n", "frob", "rkt b", "delent 2", "wkt n", "rkt no", "l -t -k -e", "clear",
              "rkt d", "addent -key -p x@R -k 1 -e 17", "00", "rkt n", "wkt a", "wkt d", "l", "rkt a",
              "addent -p y@R -key -e 17 -k 300", KEYS[16], "wkt a", "l -e",
              "addent -key -p z@R -k 1 -e 1"]
@@ -196,95 +196,79 @@ def talk(count: int, list_columns: str = "-t -k -e") -> Undisturbed:
     return at_now("ktutil", text(lines), a=mixed_keytab(count), b=marked, d=DAMAGED)
 
 
-def small_reads(image: bytes, tickets: bytes) -> list[Undisturbed]:
-    """Returns runs that read a keytab and a cache, help, and lines that are refused."""
+def usual_runs(size: str, image: bytes, tickets: bytes, rotated: bytes, counts: tuple[int, int, int],
+               *copied: tuple[bytes, bytes]) -> list[Undisturbed]:
+    """Returns runs of each command over files of a size, with scripts and a talk of that many lines, and copies from a
+    keytab into another, of all entries and of new versions."""
     return [
         at_now("klist -ktKe k", k=image),
-        at_now("klist -k k", k=DAMAGED),
         at_now("klist -cefC c", c=tickets),
-        at_now("klist -c c", c=tickets[:-1]),
         at_now("klist -kK --json k", k=image),
         at_now("klist --json c", c=tickets),
-        at_now("klist -s c", c=VALID),
-        *map(at_now, ("--help", "klist --help", "frob", "klist -k k --nosuch")),
         at_now("ktfind k 0 17 -- xxx/3@R", k=image),
+        at_now("ktcheck k", k=rotated),
+        at_now("ktcheck k no r k", k=image, r=rotated),
+        at_now("ktedit k", mixed_script(image, counts[0]), name=f"a {size} script", k=image),
+        at_now("ktremove -k old k", name=f"of {size} old versions", k=rotated),
+        *(at_now(f"ktcopy {options} k t", name=f"{options} of {size} keytabs", k=source, t=target)
+          for options, (source, target) in zip(("", "-k new"), copied)),
+        at_now("ccedit c", mixed_script(tickets, counts[1]), name=f"a {size} script", c=tickets),
+        at_now("ccremove --expired c", name=f"of {size} expired ones", c=tickets),
+        at_now("hold -k k", frame(rotated), name=f"a {size} keytab", k=image),
+        talk(counts[2]),
+    ]
+
+
+def faulty_runs(image: bytes, tickets: bytes) -> list[Undisturbed]:
+    """Returns help, lines that are refused, and runs over small files that are damaged, missing or of another kind."""
+    return [
+        *map(at_now, ("--help", "klist --help", "frob", "klist -k k --nosuch")),
+        *(at_now(f"{command} k", k=DAMAGED) for command in ("klist -k", "ktcheck")),
+        at_now("klist -c c", c=tickets[:-1]),
+        at_now("klist -s c", c=VALID),
         at_now("ktfind k 4 0 -- xxx/3@R", k=image),
         at_now("ktcheck k", k=image),
-        at_now("ktcheck k", k=DAMAGED),
         at_now("ktcheck k no c d k", k=image, c=tickets, d=DAMAGED),
+        at_now("ktedit k", b"add 3 1 0 - b@R\nadd 3 1 0 00 c@R\nstart\nstep 0\n", name="no file"),
+        at_now("ktedit k", mixed_script(image, 4) + b"frob\n", name="a faulty script", k=image),
+        at_now("ccedit c", b"start\nstep 0\nconfig k - v\ncut 3\n", name="a damaged cache", c=tickets[:-1]),
+        at_now("ccedit c", b"config k a@R v\nconfig k a v\n", name="a faulty script", c=tickets),
+        at_now("hold -k k", frame(image), name="no file"),
     ]
 
 
 def small_edits(image: bytes, tickets: bytes, rotated: bytes) -> list[Undisturbed]:
-    """Returns scripts over a keytab and a cache, and holds of them."""
-    script = mixed_script(image, 4)
-    edits = at_now("ktedit k", script, name="a small script", k=image)
-    return [
-        edits,
-        in_place(edits),
-        at_now("ktedit k", b"add 3 1 0 - b@R\nadd 3 1 0 00 c@R\nstart\nstep 0\n", name="no file"),
-        at_now("ktedit k", script + b"frob\n", name="a faulty script", k=image),
-        talk(3),
-        at_now("ccedit c", mixed_script(tickets, 3), name="a small script", c=tickets),
-        at_now("ccedit c", b"start\nstep 0\nconfig k - v\ncut 3\n", name="a damaged cache", c=tickets[:-1]),
-        at_now("ccedit c", b"config k a@R v\nconfig k a v\n", name="a faulty script", c=tickets),
-        at_now("ccedit c", b"start\ncut 20\nconfig k - v\nrewrite\nstep 0\n", name="version 3", c=VERSION_3),
-        at_now("hold -k k", frame(rotated), name="a keytab", k=image),
-        at_now("hold -k k", frame(image), name="no file"),
-        in_place(at_now("hold c", frame(USUAL), name="a cache", c=tickets)),
-    ]
-
-
-def small_removals(image: bytes, tickets: bytes, rotated: bytes) -> list[Undisturbed]:
-    """Returns removals from a keytab and a cache, and copies."""
+    """Returns removals and copies of other kinds, changes in place, and a cache of version 3."""
     many, others = many_keytab(), many_keytab(has_other_keys=True)
     removes = at_now("ccremove -p krbtgt/R@R c", name="of a service", c=USUAL)
     return [
-        at_now("ktremove -k old k", name="of old versions", k=rotated),
+        in_place(at_now("ktedit k", mixed_script(image, 4), name="a small script", k=image)),
+        in_place(at_now("hold c", frame(USUAL), name="a cache", c=tickets)),
+        removes,
+        in_place(removes),
+        at_now("ccremove -p no@R c", name="of nothing", c=tickets),
+        at_now("ccedit c", b"start\ncut 20\nconfig k - v\nrewrite\nstep 0\n", name="version 3", c=VERSION_3),
         at_now("ktremove -k old --age 0 k", name="of versions old for long", k=rotated),
         at_now("ktremove -p xxx/3@R -e 17 -e 23 k", name="of a name", k=image),
         at_now("ktremove -k 4000 k", name="of nothing", k=image),
-        at_now("ktcopy k t", name="of what is missing", k=image, t=mixed_keytab(5)),
-        at_now("ktcopy -p /0@R -p x/1@R -k new k t", name="of new versions", k=rotated),
         at_now("ktcopy k t", name="into no bytes", k=TWO, t=b""),
-        at_now("ktcopy --replace k t", name="in place of others", k=many, t=others),
-        at_now("ktcopy k t", name="that clashes", k=many, t=others),
-        at_now("ktcopy -n --replace k t", name="that only prints", k=many, t=others),
-        at_now("ktcopy k t", name="of what is there", k=many, t=many),
-        at_now("ktcopy -k 4000 k t", name="of nothing", k=many, t=many),
-        removes,
-        in_place(removes),
-        at_now("ccremove --expired c", name="of expired ones", c=tickets),
-        at_now("ccremove -p no@R c", name="of nothing", c=tickets),
+        at_now("ktcopy -p /0@R -p x/1@R -k new k t", name="of new versions", k=rotated),
+        *(at_now(f"ktcopy {options} k t", name=f"{options} {name}", k=many, t=target) for options, name, target in (
+            ("--replace", "in place of others", others), ("", "that clashes", others),
+            ("-n --replace", "that only prints", others), ("", "of what is there", many),
+            ("-k 4000", "of nothing", many))),
     ]
 
 
 def small_runs() -> list[Undisturbed]:
     """Returns runs of each command over small files."""
     image, tickets, rotated = mixed_keytab(12), mixed_cache(4), rotated_keytab(4)
-    return [*small_reads(image, tickets), *small_edits(image, tickets, rotated),
-            *small_removals(image, tickets, rotated)]
+    return [*usual_runs("small", image, tickets, rotated, (4, 3, 3), (image, mixed_keytab(5))),
+            *faulty_runs(image, tickets), *small_edits(image, tickets, rotated)]
 
 
 def large_runs() -> list[Undisturbed]:
     """Returns runs of each command over larger files."""
-    image, tickets, rotated, target = mixed_keytab(3_000), mixed_cache(300), rotated_keytab(300), mixed_keytab(300)
-    return [
-        at_now("klist -k k", k=image),
-        at_now("klist -ktKe k", k=image + b"\0"),
-        at_now("klist -c c", c=tickets),
-        at_now("klist -cefC c", c=tickets + b"\0"),
-        at_now("klist -kK --json k", k=image),
-        at_now("klist --json c", c=tickets),
-        at_now("ktfind k 0 0 -- x/2971@R", k=image),
-        at_now("ktcheck k", k=rotated),
-        at_now("ktcheck k no r k", k=image, r=rotated_keytab(100)),
-        at_now("ktedit k", mixed_script(image, 200), name="a long script", k=image),
-        at_now("ktremove -k old k", name="of many old versions", k=rotated),
-        at_now("ktcopy k t", name="of many that are missing", k=mixed_keytab(400), t=target),
-        at_now("ktcopy -k new k t", name="of many new versions", k=rotated_keytab(100), t=target),
-        talk(200, "-e"),
-        at_now("ccedit c", mixed_script(tickets, 100), name="a long script", c=tickets),
-        at_now("ccremove --expired c", name="of many expired ones", c=tickets),
-        at_now("hold -k k", frame(rotated), name="a large keytab", k=image),
-    ]
+    target = mixed_keytab(300)
+    return usual_runs("large", mixed_keytab(3_000), mixed_cache(300), rotated_keytab(300), (200, 100, 200),
+                      (mixed_keytab(400), target), (rotated_keytab(100), target))

@@ -1,7 +1,9 @@
-"""Runs that see other files in place of the system's, by mounts of their own."""
+"""Runs that see other files in place of the system's, by mounts of their own, and disks that are mounted for them."""
 
 import os
 import subprocess
+from collections.abc import Iterator
+from contextlib import contextmanager
 from shlex import quote
 
 from runs.harness import SECONDS, Outcome, Report, run
@@ -37,3 +39,14 @@ def can_mount(report: Report, what: str) -> bool:
         pass
     report.skip(what, f"no folder can be mounted: {why}")
     return False
+
+
+@contextmanager
+def mounted(folder: str, *words: str) -> Iterator[bool]:
+    """Mounts something there; yields whether that was possible."""
+    mount = subprocess.run(["mount", *words, folder], check=False, capture_output=True)
+    try:
+        yield mount.returncode == 0
+    finally:
+        if mount.returncode == 0:
+            subprocess.run(["umount", folder], check=True)

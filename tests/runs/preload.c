@@ -28,7 +28,6 @@
 #include <dlfcn.h>
 #include <errno.h>
 #include <fcntl.h>
-#include <link.h>
 #include <stdarg.h>
 #include <stdint.h>
 #include <stdio.h>
@@ -70,32 +69,20 @@ static struct counts {
 
 /* Whether main has begun and not ended. */
 static int in_main;
-static uintptr_t program_start, program_end;
+static void *program_start;
 
-/* Finds where the program's own code lies: it is the first object. */
-static int find_program(struct dl_phdr_info *info, size_t size, void *data)
+/* Returns where the object of an address begins. */
+static void *start_of(void *address)
 {
-    (void)size;
-    (void)data;
-    program_start = UINTPTR_MAX;
-    for (int i = 0; i < info->dlpi_phnum; i++) {
-        if (info->dlpi_phdr[i].p_type != PT_LOAD)
-            continue;
-        uintptr_t start = info->dlpi_addr + info->dlpi_phdr[i].p_vaddr;
-        uintptr_t end = start + info->dlpi_phdr[i].p_memsz;
-        if (start < program_start)
-            program_start = start;
-        if (end > program_end)
-            program_end = end;
-    }
-    return 1;
+    Dl_info found = {0};
+    dladdr(address, &found);
+    return found.dli_fbase;
 }
 
 /* Counts a request for memory, and says whether it is refused. */
 static int refuses(void *caller)
 {
-    uintptr_t at = (uintptr_t)caller;
-    if (!in_main || at < program_start || at >= program_end)
+    if (!in_main || start_of(caller) != program_start)
         return 0;
     counts->requests++;
     requests.made++;
@@ -275,6 +262,17 @@ static void share_counts(const char *file)
     counts = page;
 }
 
+/* The variables that are numbers, and what they set. */
+static const struct {
+    const char *name;
+    uint64_t *value;
+} settings[] = {
+    {"REFUSE", &requests.fail}, {"REFUSE_LASTS", &refuse_lasts}, {"FAIL_INPUT", &inputs.fail},
+    {"FAIL_READ", &reads.fail}, {"FAIL_WRITE", &writes.fail}, {"ZERO_WRITE", &writes.take_none},
+    {"FAIL_SAVE", &saves.fail}, {"ZERO_SAVE", &saves.take_none}, {"ERROR", &error}, {"MOST", &most},
+    {"CLOCK", &clock_seconds}, {"FAIL_CLOCK", &fail_clock},
+};
+
 typedef int main_function(int, char **, char **);
 typedef void plain_function(void);
 typedef int start_function(main_function *, int, char **, plain_function *, plain_function *,
@@ -286,23 +284,13 @@ static main_function *program_main;
 static int counted_main(int argc, char **argv, char **envp)
 {
     const char *file = getenv("PRELOAD_COUNTS");
-    dl_iterate_phdr(find_program, NULL);
+    program_start = start_of((void *)program_main);
     if (file)
         share_counts(file);
     unsetenv("PRELOAD_COUNTS");
     unsetenv("LD_PRELOAD");
-    requests.fail = taken("REFUSE");
-    refuse_lasts = taken("REFUSE_LASTS");
-    inputs.fail = taken("FAIL_INPUT");
-    reads.fail = taken("FAIL_READ");
-    writes.fail = taken("FAIL_WRITE");
-    writes.take_none = taken("ZERO_WRITE");
-    saves.fail = taken("FAIL_SAVE");
-    saves.take_none = taken("ZERO_SAVE");
-    error = taken("ERROR");
-    most = taken("MOST");
-    clock_seconds = taken("CLOCK");
-    fail_clock = taken("FAIL_CLOCK");
+    for (size_t i = 0; i < sizeof settings / sizeof *settings; i++)
+        *settings[i].value = taken(settings[i].name);
     is_paced = getenv("PACE") != NULL;
     pace = taken("PACE");
     proc = getenv("PROC") ? strdup(getenv("PROC")) : NULL;

@@ -9,7 +9,7 @@ import subprocess
 import tempfile
 from collections.abc import Iterator
 from contextlib import contextmanager
-from dataclasses import dataclass
+from dataclasses import dataclass, field
 
 from runs.harness import Outcome, Report, files_in, folder_of, run
 
@@ -24,13 +24,11 @@ WHOLE = 1_000_000
 
 @dataclass(frozen=True)
 class Line:
-    """The program's words and its standard input."""
+    """The program's words, its standard input and its files. A case and an undisturbed run have these too."""
 
     words: tuple[str, ...]
     stdin: bytes = b""
-
-    def __str__(self) -> str:
-        return " ".join(self.words)
+    files: dict[str, bytes] = field(default_factory=dict)
 
 
 @dataclass(frozen=True)
@@ -49,20 +47,16 @@ class Counted:
 
 
 class Preloaded:
-    """Runs a program in a folder with some of its calls failing, each time over the same files."""
+    """Runs a program with some of its calls failing, each time over the same files, and those of the line."""
 
     def __init__(self, program: str, library: str, files: dict[str, bytes]) -> None:
         self.program = program
         self.library = library
         self.files = files
 
-    def over(self, files: dict[str, bytes]) -> Preloaded:
-        """Returns the same over other files."""
-        return Preloaded(self.program, self.library, files)
-
     def run(self, line: Line, **settings: int | str) -> Counted | None:
         """Makes a run with the settings that the source describes, and other variables; None if that was not loaded."""
-        with folder_of(self.files) as folder:
+        with folder_of(self.files | line.files) as folder:
             return self.run_in(folder, line, **settings)
 
     def run_in(self, folder: str, line: Line, **settings: int | str) -> Counted | None:

@@ -12,7 +12,7 @@ from random import Random
 
 from makers.images import Entry, keytab
 from peers.beside_mit import SURROUNDINGS, are_there
-from runs.harness import TOP, Report, folder_of, run
+from runs.harness import TOP, Report, folder_of
 from runs.random_runs import Rounds
 from runs.storms import Run, rage
 from runs.undisturbed import IN_PLACE
@@ -25,13 +25,6 @@ LEFT = {"k", "link"}
 
 # Another program that adds entries by `hold`, which a keytab has.
 ADDS = ("sh", os.path.join(TOP, "examples", "edit-keytab.sh"))
-
-
-def source_of(name: str, folder: str) -> str:
-    """Makes a keytab of one entry of that name in a folder, and returns its path."""
-    path = os.path.join(folder, name)
-    write(path, keytab(Entry((name.encode(),))))
-    return path
 
 
 class Storm:
@@ -51,7 +44,8 @@ class Storm:
             is_mits, is_killed = self.kind.with_mit and is_odd, self.kind.kills and is_odd
             command = self.kind.command(number)
             name = f"{'m' if is_mits else 'h' if removes(command) else 'a'}{number}"
-            source = source_of(name, sources)
+            source = os.path.join(sources, name)
+            write(source, keytab(Entry((name.encode(),))))
             path = self.random.choice(PATHS)
             line, text = ("ktutil",), f"rkt {source}\nwkt k\n"
             if command == "hold":
@@ -100,18 +94,6 @@ class Storm:
             self.found.append(f"{sorted(found)} are left")
         self.found += [f"{image[:40]}, {len(image)} bytes, was seen" for image in self.seen if self.kind.is_bad(image)]
 
-    def judge_next(self, folder: str, sources: str) -> None:
-        """Checks that stale files do not stop a later run, which also removes them."""
-        command = self.kind.command(0)
-        name = "last" if removes(command) else "new"
-        words, text = change(command, name, source=source_of(name, sources))
-        got = run(self.program, words, folder, text.encode())
-        found = tree(folder)
-        names = names_of(self.kind.option, found.get("k", b"")) or []
-        is_done = got.status == 0 and (name in names) != removes(command)
-        if not is_done or found.keys() != LEFT:
-            self.found.append(f"the next run: {got}, then {sorted(found)} are there")
-
 
 def storm(program: str, kind: Kind, seed: int) -> Storm:
     """Runs a storm, and returns its faults."""
@@ -124,7 +106,6 @@ def storm(program: str, kind: Kind, seed: int) -> Storm:
         made.start(folder, sources)
         made.rage(folder)
         made.judge(folder)
-        made.judge_next(folder, sources)
     return made
 
 

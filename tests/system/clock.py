@@ -10,13 +10,13 @@ from keytabs.removals import FOUR, X, versioned
 from makers.cache_images import cache, offset
 from makers.images import keytab
 from makers.usual_caches import OFFSET, PA_TYPE, TICKET, USUAL
-from runs.harness import Outcome, Report, differences, message
-from runs.preload import Line, preloaded
-from runs.rows import BAD_LINE, text
+from runs.harness import Case, Outcome, Report, faults_of, message
+from runs.preload import preloaded
+from runs.rows import BAD_LINE, over, text, words_of
 from words.phrases import CLOCK
 
-# A run: its name, its line, its files, the settings of its clock, its outcome, and the files that it changes.
-Row = tuple[str, Line, dict[str, bytes], dict[str, int], Outcome, dict[str, bytes]]
+# A run, and the settings of its clock.
+Row = tuple[Case, dict[str, int]]
 
 # Settings of the clock, and the time that is listed: 0 if the seconds do not fit 32 bits.
 KNOWN = [
@@ -74,30 +74,28 @@ def expired() -> Iterator[Row]:
     """Yields removals of tickets: each has expired from the second in which it ends."""
     tickets = [replace(TICKET, endtime=end) for end in ENDS]
     for fields, (now, count) in product(HEADERS, LEFT):
-        lines = [f"removed {22 + len(fields) + 108 * number} krbtgt/R@R" for number in range(count)]
+        removed = [f"removed {22 + len(fields) + 108 * number} krbtgt/R@R" for number in range(count)]
         before, after = (cache(*tickets[at:], fields=fields) for at in (0, count))
-        yield (f"expired at {now}, with the header {fields.hex()}", Line(("ccremove", "--expired", "c")),
-               {"c": before}, {"CLOCK": now}, Outcome(0, text(lines)), {"c": after})
+        yield over(f"expired at {now}, the header is {fields.hex()}", f"{EXPIRED} c", before,
+                   removed, after), {"CLOCK": now}
 
 
 def aged() -> Iterator[Row]:
     """Yields removals of an old entry: it goes once the newest version of its name is that old."""
     old, new = versioned(1, 2**32 - 1), versioned(2, 1_000_000)
     for now, age, is_removed in AGED:
-        yield (f"{age} old at {now}", Line(("ktremove", "-k", "old", "--age", str(age), "k")),
-               {"k": keytab(old, new)}, {"CLOCK": now}, Outcome(0, b"removed 2 kvno 1 etype 17 a@R\n" * is_removed),
-               {"k": keytab(41 if is_removed else old, new)})
-    yield ("a clock below an age", Line(("ktremove", "-k", "old", "--age", "6", "k")),
-           {"k": keytab(old, versioned(2, 0))}, {"CLOCK": 5}, Outcome(0), {})
+        yield over(f"{age} old at {now}", f"ktremove -k old --age {age} k", keytab(old, new),
+                   ["removed 2 kvno 1 etype 17 a@R"] * is_removed,
+                   keytab(41 if is_removed else old, new)), {"CLOCK": now}
+    yield over("a clock below an age", "ktremove -k old --age 6 k", keytab(old, versioned(2, 0)), []), {"CLOCK": 5}
 
 
 def valid() -> Iterator[Row]:
     """Yields questions about a ticket: it is valid until the second in which it ends."""
     for fields, (end, now, seconds, is_valid) in product(HEADERS, ENDING):
-        for words in (("--for", str(seconds)), *[()] * (seconds == 0)):
-            yield (f"{end} at {now} {' '.join(words)}, with the header {fields.hex()}",
-                   Line(("klist", "-s", *words, "c")), {"c": cache(replace(TICKET, endtime=end), fields=fields)},
-                   {"CLOCK": now}, Outcome(0 if is_valid else 1), {})
+        for words in (f"--for {seconds} ", *[""] * (seconds == 0)):
+            yield over(f"{end} at {now} {words}, with the header {fields.hex()}", f"klist -s {words}c",
+                       cache(replace(TICKET, endtime=end), fields=fields), Outcome(1 - is_valid)), {"CLOCK": now}
 
 
 def unread() -> Iterator[Row]:
@@ -105,25 +103,21 @@ def unread() -> Iterator[Row]:
     files = {"k": FOUR, "c": USUAL}
     for setting in UNREAD:
         for wanted, lines in ENDED:
-            yield from ((f"no clock by {setting}: {line}", Line((*line.split(),)), files, setting, wanted, {})
-                        for line in lines)
-        yield (f"no clock is asked for, {setting}", Line(("ccremove", "-p", "krbtgt/R@R", "c")), files, setting,
-               Outcome(0, b"removed 40 krbtgt/R@R\n"), {"c": cache(PA_TYPE, fields=OFFSET)})
+            yield from ((Case(f"no clock by {setting}: {it}", words_of(it), wanted, files), setting) for it in lines)
+        yield over(f"no clock is asked for, {setting}", "ccremove -p krbtgt/R@R c", USUAL, ["removed 40 krbtgt/R@R"],
+                   cache(PA_TYPE, fields=OFFSET)), setting
 
 
 def known() -> Iterator[Row]:
     """Yields lines of ktutil that add an entry of the time of the clock, and list it."""
-    line = Line(("ktutil",), text([ADDENT, KEY, "l -t"]))
     for setting, time in KNOWN:
-        wanted = Outcome(0, text([*TIMES, f"   1    3 {time} host/a@R"]))
-        yield f"the clock with {setting}", line, {}, setting, wanted, {}
+        yield over(f"the clock with {setting}", "ktutil", None, [*TIMES, f"   1    3 {time} host/a@R"],
+                   given=[ADDENT, KEY, "l -t"]), setting
 
 
 def check(report: Report, program: str) -> None:
     """Makes each run."""
     with preloaded(report, program, "the clock", {}) as under:
-        for name, line, files, setting, wanted, after in chain(expired(), aged(), valid(), unread(), known()):
-            if under:
-                got = under.over(files).run(line, **setting)
-                faults = differences(wanted, got.outcome)
-                report.check(name, faults + ([] if got.files == {**files, **after} else ["other files"]))
+        for case, setting in chain(expired(), aged(), valid(), unread(), known()) if under else ():
+            got = under.run(case, **setting)
+            report.check(case.name, faults_of(case, got.outcome, got.files))

@@ -2,7 +2,6 @@
 a pipe, leave alone, and keep of the file that is saved."""
 
 import os
-import subprocess
 from dataclasses import replace
 from itertools import product
 
@@ -11,11 +10,11 @@ from runs.commands import CHANGES, CLASH, LEAVES, MAKES, NEW, OLD, READS, SAVING
 from runs.harness import Case, Outcome, Report, differences, folder_of, message, run
 from runs.rows import Line, printed, words_of
 from runs.terminal import EXPLAIN
-from runs.undisturbed import in_place, undisturbed
+from runs.undisturbed import IN_PLACE, in_place, undisturbed
 from system.pipe_files import fed
 from system.placing import PLACED, explained
 from system.saving import (ADD, GROUP, SAVED, UNREAD, UNSAVED, USER, Owned, Place, as_another, as_user, at, check_over,
-                           faults_over, link, run_over, tree, tree_faults, unsaved, write)
+                           faults_over, link, tree_faults, unsaved, write)
 from words.phrases import CAUSES
 
 # Runs that change a file: the last one copies over a file of no bytes.
@@ -92,21 +91,26 @@ def long_chain(count: int) -> list[tuple[str, str]]:
     return [*zip(names, names[1:])]
 
 
-# What leads to the file that is replaced or made, if anything does. Each link stays.
+# How a run ends that replaces or makes its file, and one in place: over a file, over none, where none can be made, and
+# over links that lead nowhere.
+MISSING = message(1, "k: no such file")
+OVER, MAKES_IT, NO_FOLDER, NOWHERE = (SAVED, SAVED), (SAVED, MISSING), (UNSAVED, MISSING), (UNREAD, UNREAD)
+
+# What leads to the file, if anything does. Each link stays.
 CHAIN = (("k", "u/a"), ("u/a", "../u/b"), ("u/b", "FOLDER/t/k"))
 LINKS = (
-    ("a relative link", SAVED, links_to(("k", "t/k"))),
-    ("a link through a parent folder", SAVED, links_to(("k", "u/../t/k"))),
-    ("an absolute link", SAVED, links_to(("k", "FOLDER/t/k"))),
-    ("a chain of links", SAVED, links_to(*CHAIN)),
-    ("a link through a link to a folder", SAVED, links_to(("d", "t"), ("k", "d/k"))),
-    ("a link that dangles", SAVED, links_to(("k", "t/k"), data=None)),
-    ("a chain that dangles", SAVED, links_to(*CHAIN, data=None)),
-    ("a chain of 40 links", SAVED, links_to(*long_chain(40))),
-    ("a link into no folder", UNSAVED, links_to(("k", "no/k"))),
-    ("a link to no folder", UNSAVED, links_to(("k", "no/"), data=None)),
-    ("a link in a circle", UNREAD, links_to(("k", "u/k"), ("u/k", "../k"))),
-    ("a chain of 41 links", UNREAD, links_to(*long_chain(41))),
+    ("a relative link", OVER, links_to(("k", "t/k"))),
+    ("a link through a parent folder", OVER, links_to(("k", "u/../t/k"))),
+    ("an absolute link", OVER, links_to(("k", "FOLDER/t/k"))),
+    ("a chain of links", OVER, links_to(*CHAIN)),
+    ("a link through a link to a folder", OVER, links_to(("d", "t"), ("k", "d/k"))),
+    ("a link that dangles", MAKES_IT, links_to(("k", "t/k"), data=None)),
+    ("a chain that dangles", MAKES_IT, links_to(*CHAIN, data=None)),
+    ("a chain of 40 links", OVER, links_to(*long_chain(40))),
+    ("a link into no folder", NO_FOLDER, links_to(("k", "no/k"))),
+    ("a link to no folder", NO_FOLDER, links_to(("k", "no/"), data=None)),
+    ("a link in a circle", NOWHERE, links_to(("k", "u/k"), ("u/k", "../k"))),
+    ("a chain of 41 links", NOWHERE, links_to(*long_chain(41))),
 )
 
 
@@ -114,13 +118,12 @@ def check_hard_links(report: Report, program: str) -> None:
     """Checks that a link is followed, a hard link is broken, a stale file is removed, and all else stays."""
     for case in ALL:
         name = file_of(case)
-        others = {each: data for each, data in case.files.items() if each != name}
-        with folder_of({**others, "file": case.files[name], "file.krbfile": b"left", "file.new": b"new"}) as folder:
-            os.symlink("file", os.path.join(folder, name))
-            os.link(os.path.join(folder, "file"), os.path.join(folder, "other"))
-            wanted = {**tree(folder), "file": case.files_after[name], "file.krbfile": None}
-            faults = differences(case.wanted, run_over(program, case, folder)) + tree_faults(wanted, folder)
-        report.check(f"a file of two names behind a link: {case.name}", faults)
+        files = {each: data for each, data in case.files.items() if each != name}
+        files |= {"file": case.files[name], "file.krbfile": b"left", "file.new": b"new"}
+        one = Case(f"a file of two names behind a link: {case.name}", case.words, case.wanted, files,
+                   {"file": case.files_after[name], "file.krbfile": None}, case.stdin)
+        check_over(report, program, one, link(name, "file"), lambda folder: os.link(
+            os.path.join(folder, "file"), os.path.join(folder, "other")))
 
 
 def check_removed(report: Report, program: str) -> None:
@@ -188,16 +191,13 @@ def from_new_file(source: str, target: str, before: bytes, wanted: Outcome) -> l
 
 # Saves over links, copies, and what is made in their folders before.
 ROWS: list[tuple[Case, *tuple[Place, ...]]] = [
-    *((Case(f"save over {name}", ("ktedit", "k"), wanted, {}, {"t/k": NEW} if wanted == SAVED else None, SCRIPT), place)
-      for name, wanted, place in LINKS),
+    *((Case(f"save over {name} {option}", ("ktedit", *option.split(), "k"), wanted, {},
+            {"t/k": NEW} if wanted == SAVED else None, SCRIPT), place)
+      for name, ends, place in LINKS for option, wanted in zip(("", IN_PLACE), ends)),
     # The standard input is read to its end.
     *((copy(f"{len(image)} bytes on the standard input", "ktcopy /dev/stdin t", {}, wanted, after, image),)
       for image, wanted, after in ((TWO, COPIED, TWO), (b"", message(1, "/dev/stdin: not a keytab (1)"), None),
                                    (TWO[:-1], message(1, "/dev/stdin: refused 1"), None))),
-    # Two names of one keytab are one keytab.
-    *((copy(f"{what} of the same keytab", COPY, {"k": TWO}, Outcome(0)), place) for what, place in (
-        ("a link", link("t", "k")),
-        ("a second name", lambda folder: os.link(os.path.join(folder, "k"), os.path.join(folder, "t"))))),
     # What stands under the name of the new file: only a save is refused.
     *((copy(f"a folder in the way: {' '.join(words)}, {wanted.status}", words, {"k": TWO, "t": target}, wanted),
        at("t.krbfile", os.mkdir)) for words, target, wanted in (
@@ -212,30 +212,18 @@ ROWS: list[tuple[Case, *tuple[Place, ...]]] = [
 ]
 
 
-def check_pipes(report: Report, program: str) -> None:
-    """Checks that a pipe is copied from, and that a dry run opens one that it would copy into."""
-    with folder_of({}) as folder:
-        os.mkfifo(os.path.join(folder, "k"))
-        pieces = "exec >k; printf '\\005'; sleep 0.1; printf '\\002\\377'; sleep 0.1; printf '\\377'"
-        with subprocess.Popen(["sh", "-c", pieces], cwd=folder):
-            got = run(program, COPY, folder)
-        report.compare("a pipe to copy from, in pieces", message(1, "k: refused 1"), got)
+def check_pipe(report: Report, program: str) -> None:
+    """Checks that a dry run opens a pipe that it would copy into."""
     with folder_of({"k": TWO}) as folder, fed(os.path.join(folder, "t")) as opened:
         faults = differences(COPIED, run(program, (EXPLAIN, "ktcopy", "-n", "k", "t"), folder))
         faults += tree_faults({"k": TWO, "t": "p"}, folder) + ([] if opened else ["it was not opened"])
     report.check("a pipe to copy into, in a dry run", faults)
 
 
-def check_input(report: Report, program: str) -> None:
-    """Checks a file as standard input."""
-    line = ("-c", 'exec "$0" ktcopy /dev/stdin t < k', program)
-    check_over(report, "sh", copy("a file as standard input", line, {"k": TWO}, after=TWO))
-
-
 def check(report: Report, program: str) -> None:
     """Runs this topic."""
     for each in (check_new_files, check_own_files, check_others_files, check_hard_links, check_removed,
-                 check_locked_folder, check_pipes, check_input):
+                 check_locked_folder, check_pipe):
         each(report, program)
     for row in ROWS:
         check_over(report, program, *row)

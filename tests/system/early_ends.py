@@ -3,12 +3,10 @@
 from collections.abc import Iterator
 from dataclasses import dataclass, replace
 from functools import cached_property
-from itertools import pairwise
 
 from runs.harness import Case, Outcome, message
-from runs.preload import Line
 from runs.terminal import EXPLAIN
-from runs.undisturbed import IN_PLACE, Undisturbed
+from runs.undisturbed import Undisturbed
 
 NO_MEMORY = message(4, "out of memory")
 
@@ -42,11 +40,6 @@ class Ends:
         self.run = run
         self.command = run.words[run.words[0] == EXPLAIN]
         self.lines = run.stdin.splitlines(keepends=True)
-
-    @property
-    def line(self) -> Line:
-        """Its words and its input."""
-        return Line(self.run.words, self.run.stdin)
 
     @property
     def names(self) -> list[str]:
@@ -108,13 +101,6 @@ class Ends:
         unsaved = message(3, f"{self.run.words[-1]}: cannot write")
         printed = [replace(unsaved, out=self.run.wanted.out)] if self.command == "hold" else []
         return [(outcome, self.run.files) for outcome in (unsaved, *printed)]
-
-    @cached_property
-    def replaced(self) -> list[int]:
-        """The lengths of the files that it replaces."""
-        states = [] if IN_PLACE in self.run.words else [*(each.files for each in self.stages), self.run.files_after]
-        return [len(image) for before, after in pairwise(states) for name, image in before.items()
-                if after[name] != image]
 
     def of_input(self, given: int) -> End:
         """Returns how it ends if its input fails after that many bytes."""

@@ -20,8 +20,8 @@ from system.placing import told
 
 ERRORS = (EINTR, EAGAIN, ENOSPC, ENOMEM, EACCES)
 
-# How few bytes one read or write moves, and the most that one read of a file that is compared asks for.
-FEW, PIECE = 60, 16_384
+# How few bytes one read or write moves.
+FEW = 60
 
 NO_OUTPUT = message(3, "cannot write output")
 
@@ -46,54 +46,45 @@ def ends_in_output(ends: Ends, end: End) -> bool:
     return ends.stops(end, NO_OUTPUT, ends.stages if has_stages else [Stage(b"", b"", ends.run.files_after)])
 
 
-def last_looks(ends: Ends, most: int) -> int:
-    """Returns how many reads of a run, of at most that many bytes, are of files that it has replaced."""
-    return sum(-(-length // min(most, PIECE)) + 1 for length in ends.replaced)
-
-
 def are_met(ends: Ends, setting: str, given: int, end: End) -> bool:
     """Whether a run in which that failed ended as it has to."""
+    is_placed, is_saved = IN_PLACE in ends.run.words, ends.run.files_after != ends.run.files
     if setting == "FAIL_INPUT":
         return end == ends.of_input(given)
     if setting == "FAIL_READ":
-        # A file that is to be saved is read again before, and one that was saved in place after it too.
-        seen = [(told(ends.run, "mixed"), ends.run.files_after)] if IN_PLACE in ends.run.words else []
-        return end in [*ends.of_loads, *ends.of_saves, *seen]
+        # A file that is to be saved is read again before, and after it too: if it was replaced nothing is said of that.
+        seen = (told(ends.run, "mixed"), ends.run.files_after) if is_placed else ends.whole
+        return end in [*ends.of_loads, *ends.of_saves, *[seen] * is_saved]
     return end in ends.of_saves if setting in ("FAIL_SAVE", "ZERO_SAVE") else ends_in_output(ends, end)
 
 
 def faults_of_call(
-    over: Preloaded, ends: Ends, setting: str, nth: int, most: int, error: int
-) -> tuple[list[str], bool, bool]:
-    """Returns the faults of a run where that call fails, whether it was made, and whether the run changed nothing."""
-    got = over.run(ends.line, CLOCK=NOW, **{setting: nth, "MOST": most, "ERROR": error})
-    end = got.outcome, got.files
+    under: Preloaded, ends: Ends, setting: str, nth: int, most: int, error: int
+) -> tuple[list[str], bool]:
+    """Returns the faults of a run where that call fails, and whether it was made."""
+    got = under.run(ends.run, CLOCK=NOW, **{setting: nth, "MOST": most, "ERROR": error})
+    end, is_made = (got.outcome, got.files), bool(got.failures)
     is_repeated = setting == "FAIL_SAVE" and error == EINTR and IN_PLACE in ends.run.words
-    is_made, is_whole = bool(got.failures), end == ends.whole
-    is_silent = is_made and setting == "FAIL_READ" and is_whole and last_looks(ends, most) > 0
-    has_no_effect = not is_made or is_repeated or is_silent
-    is_wanted = is_whole if has_no_effect else are_met(ends, setting, (nth - 1) * most, end)
-    return [] if is_wanted else [f"at {nth} {got.outcome.status}, {got.outcome.err!r}"], is_made, is_silent
+    has_no_effect = not is_made or is_repeated
+    is_wanted = end == ends.whole if has_no_effect else are_met(ends, setting, (nth - 1) * most, end)
+    return [] if is_wanted else [f"at {nth} {got.outcome.status}, {got.outcome.err!r}"], is_made
 
 
-def check_setting(report: Report, over: Preloaded, ends: Ends, setting: str, ways: Iterable[tuple[int, int]]) -> None:
+def check_setting(report: Report, under: Preloaded, ends: Ends, setting: str, ways: Iterable[tuple[int, int]]) -> None:
     """Lets each call of a kind fail in each way."""
     for most, error in ways:
-        faults, silent = [], 0
+        faults = []
         for nth in range(1, MOST_CALLS):
-            found, is_made, is_silent = faults_of_call(over, ends, setting, nth, most, error)
+            found, is_made = faults_of_call(under, ends, setting, nth, most, error)
             faults += found
-            silent += is_silent
             if not is_made:
                 break
-        if setting == "FAIL_READ" and silent != (looks := last_looks(ends, most)):
-            faults.append(f"{silent} reads failed and changed nothing, not {looks}")
         report.check(f"{setting} {errorcode[error]}, at most {most} bytes: {ends.run.name}", faults[:3])
 
 
-def check_few_bytes(report: Report, over: Preloaded, ends: Ends, most: int) -> None:
+def check_few_bytes(report: Report, under: Preloaded, ends: Ends, most: int) -> None:
     """Checks that reads and writes of at most that many bytes change nothing."""
-    got = over.run(ends.line, CLOCK=NOW, MOST=most)
+    got = under.run(ends.run, CLOCK=NOW, MOST=most)
     is_whole = (got.outcome, got.files) == ends.whole
     faults = [] if is_whole else [*differences(ends.run.wanted, got.outcome), "or other files"]
     report.check(f"{most} bytes at a time: {ends.run.name}", faults)
@@ -105,11 +96,11 @@ def check(report: Report, program: str) -> None:
         if under is None:
             return
         for run, ways in (*product(small_runs(), [OF_SMALL]), *product(large_runs(), [OF_LARGE])):
-            over, ends = under.over(run.files), Ends(run)
+            ends = Ends(run)
             for setting in settings(ends.command):
-                check_setting(report, over, ends, setting, ways)
+                check_setting(report, under, ends, setting, ways)
             for most in (1, 7, 4_095):
-                check_few_bytes(report, over, ends, most)
+                check_few_bytes(report, under, ends, most)
 
 
 def check_rounds(report: Report, program: str, seeds: range) -> None:
@@ -121,7 +112,7 @@ def check_rounds(report: Report, program: str, seeds: range) -> None:
             ends = Ends(random.choice(those))
             setting, error = random.choice(settings(ends.command)), random.choice(ERRORS)
             nth, most = int(2 ** random.uniform(0, 7)), int(2 ** random.uniform(0, 17))
-            faults, _, _ = faults_of_call(under.over(ends.run.files), ends, setting, nth, most, error)
+            faults, _ = faults_of_call(under, ends, setting, nth, most, error)
             name = f"{setting} {errorcode[error]}, at most {most} bytes, number {seed}"
             report.check(f"{name}: {ends.run.name}", faults)
 

@@ -9,17 +9,19 @@ import re
 import signal
 from collections.abc import Callable
 from dataclasses import dataclass
+from itertools import product
 
 from makers.images import B, TWO, keytab
 from runs.commands import CHANGES, MAKES, READS, file_of
 from runs.harness import Outcome, Report, differences, files_in, folder_of
-from runs.preload import Line
 from runs.system_calls import Call, calls_of, check_traced, traced
-from runs.undisturbed import Undisturbed, undisturbed
+from runs.undisturbed import IN_PLACE, Undisturbed, in_place, undisturbed
+from runs.undisturbed import explained as with_words
 from system.early_ends import End, Ends
-from system.failing_streams import ends_in_output
-from system.placing import told
-from system.saving import run_over, tree_faults, write
+from system.failing_streams import NO_OUTPUT, ends_in_output
+from system.placing import explained, images, told
+from system.saving import ADD, UNREAD, UNSAVED, run_over, tree, tree_faults, write
+from words.phrases import CAUSES
 
 ERRORS = ("EIO", "ENOSPC", "EACCES", "EPERM", "EINTR", "ENOMEM")
 
@@ -28,6 +30,9 @@ REPEATED = ("open", "openat", "flock", "fchmod", "fsync", "pwrite64", "ftruncate
 
 # How often the list of locks is read.
 READINGS = 5
+
+# What an earlier save left in its new file.
+REMAINS = b"remains"
 
 # The errors of fchown that mean that the owner may not be set: the mode is narrowed.
 NOT_PERMITTED = ("EACCES", "EPERM")
@@ -186,7 +191,7 @@ def killed(program: str, run: Undisturbed, call: Call, judge: Callable[[dict[str
     """Returns the faults of a run that is killed at a call, or ended before, of what it left, and of the next run if it
     changes a file."""
     with folder_of(run.files) as folder:
-        got, trace = traced(program, Line(run.words, run.stdin), folder, *call.to("signal=KILL"))
+        got, trace = traced(program, run, folder, *call.to("signal=KILL"))
         has_ended = got.status == run.wanted.status
         faults = differences(run.wanted if has_ended else Outcome(-signal.SIGKILL, got.out, got.err), got)
         faults += tree_faults(run.files_after, folder) if has_ended else judge(files_in(folder), trace)
@@ -203,7 +208,7 @@ def killed(program: str, run: Undisturbed, call: Call, judge: Callable[[dict[str
 def traced_run(program: str, run: Undisturbed, *options: str) -> tuple[End, list[str]]:
     """Makes a run under strace."""
     with folder_of(run.files) as folder:
-        outcome, trace = traced(program, Line(run.words, run.stdin), folder, *options)
+        outcome, trace = traced(program, run, folder, *options)
         return (outcome, files_in(folder)), trace
 
 
@@ -212,30 +217,25 @@ def first_text(ends: Ends, steps: list[Step]) -> str:
     return "read(0" if steps[0] == READ else f'"{ends.names[0]}"'
 
 
-def hasty_renames(calls: list[Call], files: dict[str, bytes]) -> list[str]:
-    """Returns the renames over a file before which the locks were not read often enough after the last fsync."""
-    found, readings = [], 0
-    for call in calls:
-        readings = 0 if call.line.startswith("fsync") else readings + ('"/proc/locks"' in call.line)
-        renamed = re.match(r'rename.*"(\w+)"[^"]*$', call.line)
-        if renamed and renamed[1] in files and readings < READINGS:
-            found.append(f"{readings} readings before {call.line}")
+def faults_of_renames(calls: list[Call], files: dict[str, bytes]) -> list[str]:
+    """Returns the renames before which the new file is not synced once it has its mode, or over a file before which the
+    locks are not read often enough then, or after which the folder is not synced at once."""
+    found, lines = [], [call.line for call in calls]
+    for at in (at for at, line in enumerate(lines) if line.startswith("rename")):
+        before, after = "\n".join(lines[:at]).rpartition("\nrename")[2], "\n".join(lines[at + 1:at + 3])
+        is_synced = re.match(r'open.*"\.", .* = (\d+)\nfsync\(\1\) += 0$', after)
+        ready = re.search(r"(?ms)^fchmod\((\d+), .*^fsync\(\1\) += 0$(.*)", before)
+        least = READINGS if lines[at].split('"')[-2] in files else 0
+        if not (is_synced and ready and ready[2].count('"/proc/locks"') >= least):
+            found.append(lines[at])
     return found
-
-
-def unsynced_renames(calls: list[Call]) -> list[str]:
-    """Returns the renames after which the folder is not synced at once."""
-    lines = [call.line for call in calls]
-    return [line for at, line in enumerate(lines) if line.startswith("rename")
-            and not re.match(r'open.*"\.", .*\nfsync', "\n".join(lines[at + 1:at + 3]))]
 
 
 def calls_of_run(report: Report, program: str, ends: Ends, steps: list[Step]) -> list[Call]:
     """Returns the calls of a run, each of which has to belong to a step."""
     end, trace = traced_run(program, ends.run)
     calls, name = [*calls_of(trace, first_text(ends, steps))], ends.run.name
-    report.check(f"the locks before a rename of {name}", hasty_renames(calls, ends.run.files))
-    report.check(f"the sync after a rename of {name}", unsynced_renames(calls))
+    report.check(f"the syncs and locks of a rename of {name}", faults_of_renames(calls, ends.run.files))
     is_wanted = steps_of(calls, steps) and end == ends.whole
     report.check(f"the system calls of {name}", [] if is_wanted else ["not as wanted"])
     return calls if is_wanted else []
@@ -263,6 +263,36 @@ def check_runs(report: Report, program: str) -> None:
                 program, ends.run, call, lambda files, _, ends=ends: faults_of_files(ends, files)))
 
 
+def at_link(program: str, run: Undisturbed, *options: str) -> tuple[Outcome, dict[str, object], list[str]]:
+    """Makes a run over a link to its file, beside a stale file of an earlier save."""
+    with folder_of({"file": run.files["k"], "file.krbfile": REMAINS}) as folder:
+        os.symlink("file", os.path.join(folder, "k"))
+        outcome, trace = traced(program, run, folder, *options)
+        return outcome, tree(folder), trace
+
+
+def faults_at_link(program: str, run: Undisturbed, call: Call, error: str) -> list[str]:
+    """Returns the faults of such a run in which a call fails: the cause is reported, and the file is whole. One that
+    fails early does not reach the stale file, nor does one that saves in place."""
+    got, left, _ = at_link(program, run, *call.to(f"error={error}"))
+    (old, new), is_placed = images(run), IN_PLACE in run.words
+    phrase = CAUSES["owner" if call.name == "fchown" else error]
+    failed = {UNREAD: old, UNSAVED: old, NO_OUTPUT: new}
+    ends = {run.wanted: new, **{explained(outcome, phrase): image for outcome, image in failed.items()}}
+    image = (ends | ({told(run, "mixed"): new} if is_placed else {})).get(got)
+    stale = [{}] * (not is_placed) + [{"file.krbfile": REMAINS}] * (is_placed or image == old)
+    return [] if left in [{"k": "file", "file": image, **more} for more in stale] else [f"{got} and {left}"]
+
+
+def check_links(report: Report, program: str) -> None:
+    """Lets each call of such runs fail, in both ways."""
+    for run in map(with_words, (ADD, in_place(ADD))):
+        outcome, _, trace = at_link(program, run)
+        report.compare(f"no call fails at a link: {run.name}", run.wanted, outcome)
+        for call, error in product(calls_of(trace, '"k"'), ERRORS[:2]):
+            report.check(f"{call} fails with {error}, at a link: {run.name}", faults_at_link(program, run, call, error))
+
+
 def check(report: Report, program: str) -> None:
     """Runs this topic."""
-    check_traced(report, program, "system calls that fail", check_runs)
+    check_traced(report, program, "system calls that fail", check_runs, check_links)

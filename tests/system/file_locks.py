@@ -3,18 +3,17 @@
 import fcntl
 import os
 import time
-from collections.abc import Callable
+from collections.abc import Callable, Iterator
 from concurrent.futures import ThreadPoolExecutor
 from dataclasses import replace
 
 from makers.images import TWO
-from runs.commands import CHANGES, LEAVES, READS, SAVING, Run, both_ways, file_of
+from runs.commands import CHANGES, LEAVES, OLD, READS, SAVING, SCRIPT, Run, both_ways, file_of
 from runs.harness import Case, Report, differences, faults_of, files_in, folder_of, run
-from runs.preload import Line
 from runs.system_calls import Halt, check_traced, halted, traced, under_strace
-from runs.undisturbed import Undisturbed, in_place, undisturbed
-from system.placing import ADD_LONG, EQUAL, LONGER, PLACED, SHORTER, refused, with_words
-from system.saving import B_OLD, check_over, stands, tree_faults
+from runs.undisturbed import IN_PLACE, Undisturbed, in_place, undisturbed
+from system.placing import EQUAL, LONGER, PLACED, SHORTER, refused, with_words
+from system.saving import ADD, B_OLD, check_over, stands, tree_faults
 from system.waits import AT_ONCE, LEAST_WAIT, LONGEST_WAIT, RUNS, faults_of_waiting, ofd_lock
 
 # Runs that change a file, that have nothing to save, and that take no lock, in both ways if there are two.
@@ -118,30 +117,6 @@ def check_given_up(report: Report, program: str) -> None:
         report.check(f"a flock of {file} that stays: {case.name}", faults.result())
 
 
-def renamed_while_held(program: str, case: Case) -> list[str]:
-    """Returns the faults of a run that waits for the lock of a file while another file takes its name."""
-    with folder_of({"k": TWO, "new": case.files["k"]}) as folder:
-        new, path = os.path.join(folder, "new"), os.path.join(folder, "k")
-        with open(path, "rb") as old:
-            fcntl.flock(old, fcntl.LOCK_EX)
-            kept = os.dup(old.fileno())
-
-            def end() -> None:
-                os.rename(new, path)
-                fcntl.flock(old, fcntl.LOCK_UN)
-
-            faults = faults_of_waiting(program, folder, end, case)
-        with open(kept, "rb") as old:
-            return faults + ([] if old.read() == TWO else ["the old file was changed"])
-
-
-def check_renamed(report: Report, program: str) -> None:
-    """Checks a lock that is held while another file takes the name: that one is changed."""
-    add = undisturbed("ktedit k", ADD_LONG, k=B_OLD, name="adds")
-    for case in (add, in_place(add)):
-        report.check(f"a lock that is held through a rename: {case.name}", renamed_while_held(program, case.as_case()))
-
-
 def check_without(report: Report, program: str) -> None:
     """Checks a file that cannot be locked: it is replaced, and not saved in place."""
     placed = in_place(LONGER)
@@ -157,8 +132,7 @@ def check_other_handle(report: Report, program: str) -> None:
     """Checks a file of which only a handle that writes can be locked: then that one is."""
     for case, nth in ((LONGER, 2), (in_place(LONGER), 1)):
         with folder_of(case.files) as folder:
-            line = Line(case.words, case.stdin)
-            outcome, trace = traced(program, line, folder, "-e", f"inject=flock:error=EBADF:when={nth}")
+            outcome, trace = traced(program, case, folder, "-e", f"inject=flock:error=EBADF:when={nth}")
             faults = differences(case.wanted, outcome) + tree_faults(case.files_after, folder)
         opened = [number for number, each in enumerate(trace) if '"k", O_RDWR' in each]
         after = trace[opened[-1] + 1] if opened else ""
@@ -176,17 +150,45 @@ def is_locked(path: str) -> bool:
     return False
 
 
-def check_held_to_end(report: Report, program: str) -> None:
-    """Checks that the lock is held from before the load to the end of the save."""
+# Runs whose save, or load, has ended when they print: a script, one that changes nothing, and what is refused.
+TALK = undisturbed("ktutil", b"rkt j\nwkt k\nwkt x\nl\n", j=B_OLD, k=OLD, x=b"other", name="saves, and is refused")
+PRINTING = (ADD, undisturbed("ktedit k", b"cut 3\n", k=OLD), undisturbed("ktedit k", SCRIPT, k=b"other"), TALK,
+            *(replace(TALK, files={**TALK.files, "k": image}) for image in (b"other", TWO[:-1])))
+
+
+def halted_runs() -> Iterator[tuple[Undisturbed, Halt, bool]]:
+    """Yields runs, a call behind which each is halted, and whether its file is locked then."""
     load, sync, cut = Halt("read", paths=("k",)), Halt("fsync"), Halt("ftruncate")
-    placed, shorter = map(in_place, (LONGER, SHORTER))
-    for case, halt in ((LONGER, load), (LONGER, sync), (placed, load), (placed, sync), (shorter, cut), (shorter, sync)):
-        with folder_of(case.files) as folder:
-            found: list[bool] = []
-            outcome = halted(program, Line(case.words, case.stdin), folder, halt,
-                             lambda folder, found=found: found.append(is_locked(os.path.join(folder, "k"))))
-            faults = differences(case.wanted, outcome) + tree_faults(case.files_after, folder)
-        report.check(f"locked behind {halt.calls}: {case.name}", faults + ([] if found == [True] else ["not locked"]))
+    yield from ((case, halt, True) for case in (LONGER, in_place(LONGER)) for halt in (load, sync))
+    yield from ((in_place(SHORTER), halt, True) for halt in (cut, sync))
+    for case in both_ways(*PRINTING):
+        # The new bytes of a file that is replaced are the first write.
+        writes = case.files != case.files_after and IN_PLACE not in case.words
+        yield from ((case, Halt("write", nth + writes), False) for nth in range(1, 3 if "ktutil" in case.words else 2))
+
+
+def faults_of_halt(program: str, case: Undisturbed, halt: Halt, is_held: bool) -> list[str]:
+    """Returns the faults of a run that is halted, and of what is locked then."""
+    found: list[tuple[set[str], set[str]]] = []
+
+    def look(folder: str) -> None:
+        names = {*os.listdir(folder)}
+        found.append(({name for name in names if is_locked(os.path.join(folder, name))}, names))
+
+    with folder_of(case.files) as folder:
+        faults = differences(case.wanted, halted(program, case, folder, halt, look))
+        faults += tree_faults(case.files_after, folder)
+    new = {"k.krbfile"} if is_held and IN_PLACE not in case.words else set()
+    is_wanted = found == [({*"k" * is_held} | new, {*case.files} | new)]
+    return faults + ([] if is_wanted else [f"{found} are locked"])
+
+
+def check_held_to_end(report: Report, program: str) -> None:
+    """Checks that the lock is held from before the load to the end of the save, and no more once the run prints, which
+    may take as long as nobody reads that."""
+    for case, halt, is_held in halted_runs():
+        report.check(f"locked behind {halt.calls} {halt.nth}, {is_held}: {case.name}",
+                     faults_of_halt(program, case, halt, is_held))
 
 
 def check(report: Report, program: str) -> None:
@@ -194,5 +196,4 @@ def check(report: Report, program: str) -> None:
     check_waits(report, program)
     check_no_waits(report, program)
     check_given_up(report, program)
-    check_renamed(report, program)
     check_traced(report, program, "locks of files", check_without, check_other_handle, check_held_to_end)

@@ -14,15 +14,14 @@ from shlex import quote
 from makers.images import HOST, TWO, Entry, keytab
 from makers.usual_caches import USUAL
 from runs.commands import CHANGES, COMMANDS, LEAVES, NEW, OLD, READS, SAVING, SCRIPT, Run, file_of, renamed
-from runs.harness import Case, Report, differences, faults_of, files_in, folder_of, message, run
+from runs.harness import Case, Report, differences, faults_of, files_in, folder_of, run
 from runs.limits import limit
-from runs.namespaces import can_mount, run_within
+from runs.namespaces import can_mount, mounted, run_within
 from runs.terminal import EXPLAIN
 from runs.undisturbed import IN_PLACE, Undisturbed, in_place, undisturbed
-from system.disk_faults import mounted
 from system.placing import EQUAL, LONGER, MIXED, PLACED, explained, kept, refused, with_words
-from system.saving import (ADD, B_NEW, B_OLD, B_SAVED, GROUP, LINES, UNSAVED, USER, Owned, as_another, at, check_over,
-                           faults_over, link, tree_faults, write)
+from system.saving import (ADD, B_OLD, GROUP, LINES, UNSAVED, USER, Owned, as_another, at, check_over, faults_over,
+                           tree_faults, write)
 from words.explaining import FINDS_NONE, Explained, copy, no_keytab, unchanged
 from words.phrases import AFTERMATHS, BEGINS_AS_CACHE, CAUSES, LEAVE_OUT, NOT_READ, code, line_fault
 
@@ -62,29 +61,24 @@ def kinds(report: Report) -> list[dict[str, bytes]]:
 
 
 def check_kept(report: Report, program: str, case: Undisturbed, attributes: dict[str, bytes]) -> None:
-    """Checks a save of a file that has another name, those attributes, and if root makes it another owner."""
-    placed, name = in_place(case), file_of(case)
-    with folder_of(case.files) as folder:
-        path, other = os.path.join(folder, name), os.path.join(folder, "other")
+    """Checks a save of a file that has those attributes, another name, and if root makes it another owner. As it stays
+    the same file, its other names, and who has it open, have the new bytes."""
+    placed = in_place(case)
+    with folder_of(case.files) as folder, folder_of({}) as other:
+        path = os.path.join(folder, file_of(case))
         with suppress(PermissionError):
             os.chown(path, USER, GROUP)
         os.chmod(path, MODE)
         for each, value in attributes.items():
             os.setxattr(path, each, value)
-        os.link(path, other)
+        os.link(path, os.path.join(other, "k"))
         wanted = kept(path)
         os.utime(folder, (1, 1))
-        with open(path, "rb", buffering=0) as reader:
-            reader.read()
-            got = run(program, placed.words, folder, case.stdin)
-            reader.seek(0)
-            seen = reader.read()
+        got = run(program, placed.words, folder, case.stdin)
         faults = ["the folder was changed"] if os.stat(folder).st_mtime != 1 else []
         faults += [] if kept(path) == wanted else [f"{kept(path)}, not {wanted}"]
-        faults += [] if seen == case.files_after[name] else ["who has it open reads other bytes"]
-        after = files_in(folder)
-        faults += [] if after.pop("other") == after[name] else ["the other name has other bytes"]
-    report.check(f"{placed.name}, with {[*attributes]}", faults + faults_of(placed, got, after))
+        faults += faults_of(placed, got, files_in(folder))
+    report.check(f"{placed.name}, with {[*attributes]}", faults)
 
 
 def check_set_id(report: Report, program: str) -> None:
@@ -104,15 +98,12 @@ def check_mounted(report: Report, program: str) -> None:
     if not can_mount(report, "files that are mounted, saved in place"):
         return
     for case in (EQUAL, MIXED):
-        for one in (case, in_place(case)):
-            row = with_words(one) if IN_PLACE in one.words else refused(one, "EBUSY")
-            with folder_of({"k": b"under", "over": case.files["k"]}) as folder:
-                before = kept(os.path.join(folder, "over"))
-                mounts = {quote(os.path.join(folder, "k")): os.path.join(folder, "over")}
-                faults = differences(row.wanted, run_within(program, row.words, folder, mounts, stdin=case.stdin))
-                faults += [] if kept(os.path.join(folder, "over")) == before else ["not kept"]
-                faults += tree_faults({"k": b"under", "over": row.files_after["k"]}, folder)
-            report.check(f"a mount over the file: {one.name}", faults)
+        for row in (refused(case, "EBUSY"), with_words(in_place(case))):
+            one = Case(f"a mount over the file: {row.name}", row.words, row.wanted,
+                       {"k": b"under", "over": case.files["k"]}, {"over": row.files_after["k"]}, row.stdin)
+            check_over(report, program, one, make=lambda program, case, folder: run_within(
+                program, case.words, folder, {quote(os.path.join(folder, "k")): os.path.join(folder, "over")},
+                stdin=case.stdin))
 
 
 # Rows over a disk whose files take each of its pages. A save for which there is no room leaves the old bytes, also
@@ -201,7 +192,6 @@ def unwritten(name: str, phrase: str, lines: bytes = LINES, **more) -> Explained
 
 
 CASES = [
-    unchanged("ktedit k --in-place", ("k: no such file", ""), stdin=SCRIPT),
     # What comes before: a faulty script, and the file that is copied from.
     unchanged("ktedit --in-place k", ("line 1: fault 2", line_fault(2)), stdin=b"start 1\n"),
     *(copy("--in-place", None, target, ("k: no such file", "")) for target in (TWO, None)),
@@ -226,16 +216,6 @@ def check_missing(report: Report, program: str) -> None:
         missing(ADD, name).check(report, program)
 
 
-def check_links(report: Report, program: str) -> None:
-    """Checks links to no file, and one to a file, which is saved where it is."""
-    missing = message(1, "l: no such file")
-    for name, target, wanted, after in (("a link to nothing", "no", missing, B_OLD),
-                                        ("a link into no folder", "no/k", missing, B_OLD),
-                                        ("a link to a file", "k", B_SAVED, B_NEW)):
-        case = Case(f"{name}, in place", ("ktedit", IN_PLACE, "l"), wanted, {"k": B_OLD}, {"k": after}, SCRIPT)
-        check_over(report, program, case, link("l", target))
-
-
 def check_all_kept(report: Report, program: str) -> None:
     """Checks what each command keeps of a file of those attributes."""
     for case, attributes in product(PLACED, kinds(report)):
@@ -244,6 +224,5 @@ def check_all_kept(report: Report, program: str) -> None:
 
 def check(report: Report, program: str) -> None:
     """Runs this topic."""
-    for each in (check_missing, check_all_kept, check_set_id, check_mounted, check_disks, check_limit, check_sparse,
-                 check_links):
+    for each in (check_missing, check_all_kept, check_set_id, check_mounted, check_disks, check_limit, check_sparse):
         each(report, program)

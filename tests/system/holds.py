@@ -1,9 +1,7 @@
-"""`hold`: what it gives and takes, when it gives nothing, and who waits meanwhile."""
+"""`hold`: what it gives and takes, when it gives nothing, and that its file is locked meanwhile."""
 
 import os
 import subprocess
-import time
-from concurrent.futures import ThreadPoolExecutor
 from dataclasses import replace
 from functools import partial
 from itertools import product
@@ -12,13 +10,13 @@ from keytabs.file_names import LIMIT, sized
 from keytabs.listings import B_LINE, HOST_LINE, listed
 from makers.images import B, BIG, HOST, TWO, keytab, old, record
 from makers.usual_caches import USUAL, VERSION_3
-from runs.harness import SECONDS, Outcome, Report, differences, folder_of, message, run
+from runs.harness import SECONDS, Case, Outcome, Report, differences, folder_of, run
 from runs.terminal import EXPLAIN, all_of
 from runs.undisturbed import IN_PLACE, frame
 from system.failing_streams import NO_OUTPUT
+from system.file_locks import is_locked
 from system.placing import explained
-from system.saving import as_another, stands, tree_faults
-from system.waits import AT_ONCE, LEAST_WAIT, LONGEST_WAIT
+from system.saving import as_another, check_over, stands, tree_faults
 from words.explaining import CUT_CACHE, Explained, case, failed, in_the_way, link, no_keytab, unchanged
 from words.phrases import (BAD_DEFAULT, BAD_HEADER, BEGINS_AS_CACHE, BEGINS_AS_NO_CACHE, BEGINS_AS_NO_KEYTAB, CAUSES,
                            GIVEN_DAMAGED, HELD_AS_KEYTAB, LARGE, NOT_WHOLE, SHORT, TO_A_PROGRAM, code)
@@ -139,16 +137,12 @@ def check_locked(report: Report, program: str) -> None:
 
 
 def check_outputs(report: Report, program: str) -> None:
-    """Checks outputs that fail, and a terminal: nothing is saved, and the input is left. Checks an input that fails."""
-    unread = explained(message(3, "cannot read input"), "error 9")
-    for line, (stream, wanted) in product((K, PLACED), {
-            ">/dev/full": replace(explained(NO_OUTPUT, CAUSES["ENOSPC"]), out=EMPTY),
-            ">&-": replace(explained(NO_OUTPUT, "error 9"), out=EMPTY),
-            "<&-": replace(unread, out=frame(TWO) + EMPTY)}.items()):
-        with folder_of({"k": TWO}) as folder:
-            script = f'"$0" "$@" {stream}; status=$?; cat; exit $status'
-            got = run("sh", ("-c", script, program, EXPLAIN, *line.split()), folder, EMPTY)
-            report.check(f"{line} {stream}", differences(wanted, got) + tree_faults({"k": TWO}, folder))
+    """Checks an output that takes nothing, and a terminal: nothing is saved, and the input is left."""
+    full = '"$0" "$@" >/dev/full; status=$?; cat; exit $status'
+    for line in (K, PLACED):
+        case = Case(f"{line} >/dev/full", ("-c", full, program, EXPLAIN, *line.split()),
+                    replace(explained(NO_OUTPUT, CAUSES["ENOSPC"]), out=EMPTY), {"k": TWO}, stdin=EMPTY)
+        check_over(report, "sh", case)
     for files in ({}, {"k": b"other"}, LEFT):
         ours, theirs = os.openpty()
         with folder_of(files) as folder:
@@ -160,30 +154,17 @@ def check_outputs(report: Report, program: str) -> None:
         report.check(f"a terminal, and {[*files]}", faults)
 
 
-def timed(program: str, words: tuple[str, ...], folder: str, data: bytes = b"") -> tuple[Outcome, float]:
-    """Makes a run, and returns how long it took too."""
-    begun = time.monotonic()
-    return run(program, words, folder, data), time.monotonic() - begun
-
-
 def check_lasts(report: Report, program: str, *options: str) -> None:
-    """Checks that until its input ends, others wait ten seconds and are refused, and that listings go on."""
-    in_use = explained(message(3, "k: cannot write"), CAUSES["in use"])
-    others = {("ktremove", "-p", "b@R", "k"): in_use, ("hold", "-k", "k"): in_use, ("ktedit", IN_PLACE, "k"): in_use,
-              ("klist", "-k", "k"): Outcome(0, listed(HOST_LINE, B_LINE))}
-    with folder_of({"k": TWO}) as folder, ThreadPoolExecutor() as pool, subprocess.Popen(
+    """Checks that the file is locked until the input ends, and not any more then, and that listings go on."""
+    with folder_of({"k": TWO}) as folder, subprocess.Popen(
             [program, "hold", *options, "-k", "k"], cwd=folder, stdin=subprocess.PIPE, stdout=subprocess.PIPE) as held:
+        path = os.path.join(folder, "k")
         faults = [] if held.stdout.read(len(frame(TWO))) == frame(TWO) else ["no frame"]
-        runs = {words: pool.submit(timed, program, (EXPLAIN, *words), folder, b"cut 2\n") for words in others}
-        for words, wanted in others.items():
-            got, seconds = runs[words].result()
-            least, most = (LEAST_WAIT, LONGEST_WAIT) if wanted is in_use else (0, AT_ONCE)
-            faults += differences(wanted, got) + ([] if least <= seconds <= most else [f"{words} took {seconds:.1f}"])
+        faults += [] if is_locked(path) else ["not locked"]
+        faults += differences(Outcome(0, listed(HOST_LINE, B_LINE)), run(program, ("klist", "-k", "k"), folder))
         rest, _ = held.communicate(frame(keytab(B)), timeout=SECONDS)
         faults += [] if (held.returncode, rest) == (0, b"") else [f"status {held.returncode}, {rest!r}"]
-        faults += tree_faults({"k": keytab(B)}, folder)
-        faults += differences(Outcome(0, b"removed 2 kvno 3 etype 17 b@R\n"),
-                              run(program, ("ktremove", "-p", "b@R", "k"), folder))
+        faults += tree_faults({"k": keytab(B)}, folder) + ["still locked"] * is_locked(path)
     report.check(f"a hold lasts {options}", faults)
 
 

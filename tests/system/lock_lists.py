@@ -16,7 +16,7 @@ from system.placing import EQUAL, explained
 from system.saving import ADD, UNSAVED
 from words.phrases import CAUSES
 
-LINE = Line((EXPLAIN, "ktedit", "k"), SCRIPT)
+LINE = Line((EXPLAIN, "ktedit", "k"), SCRIPT, {"k": OLD})
 
 
 def lock(file: str, kind: str = "POSIX  ADVISORY  WRITE 12") -> bytes:
@@ -66,11 +66,11 @@ ENDS = (
 
 
 def seen(under: Preloaded, lists: dict[str, bytes | None], pace: int = 0, is_taken: bool = False,
-         line: Line = LINE) -> Counted:
+         line: Line | Run = LINE) -> Counted:
     """Makes a run to which the system shows those lists, and by whose clock time passes in that way."""
     lists = {"locks": b"", "fdinfo": OPEN_FILE, "mountinfo": MOUNTS, **lists}
     there = {name: data for name, data in lists.items() if data is not ENDLESS}
-    with folder_of(there) as proc, folder_of(under.files) as folder:
+    with folder_of(there) as proc, folder_of(line.files) as folder:
         for name in lists.keys() - there.keys():
             os.symlink("/dev/zero", os.path.join(proc, name))
         if is_taken:
@@ -88,10 +88,9 @@ def faults_of_save(got: Counted, is_waited: bool, case: Run = ADD) -> list[str]:
 def check_readings(report: Report, under: Preloaded) -> None:
     """Checks that a lock which one reading shows is waited for: most readings may miss it. So is a list too long."""
     for case, looks, locks in LOOKS:
-        over, line = under.over(case.files), Line(case.words, case.stdin)
         for lock in locks:
             for nth in range(1, looks * READINGS + 2):
-                faults = faults_of_save(seen(over, {str(nth): lock}, line=line), nth <= looks * READINGS, case)
+                faults = faults_of_save(seen(under, {str(nth): lock}, line=case), nth <= looks * READINGS, case)
                 report.check(f"a lock to {lock.split()[3].decode()} in reading {nth}: {case.name}", faults)
     got = seen(under, {str(2 * READINGS): ENDLESS})
     report.check("a list without an end, once", faults_of_save(got, True))
@@ -128,6 +127,6 @@ def check_two_waits(report: Report, under: Preloaded) -> None:
 
 def check(report: Report, program: str) -> None:
     """Runs this topic."""
-    with preloaded(report, program, "lists of locks", {"k": OLD}) as under:
+    with preloaded(report, program, "lists of locks", {}) as under:
         for each in (check_readings, check_lines, check_ends, check_two_waits) if under else ():
             each(report, under)

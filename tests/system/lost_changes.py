@@ -14,7 +14,6 @@ from makers.images import B, HOST, keytab
 from runs.commands import CHANGES as CHANGES_OF_ALL
 from runs.commands import file_of
 from runs.harness import Case, Report, differences, folder_of
-from runs.preload import Line
 from runs.rows import shown
 from runs.system_calls import Halt, check_traced, halted
 from runs.terminal import EXPLAIN
@@ -56,7 +55,7 @@ ADD_MORE, _ = CHANGES["bytes at the end"]
 def changed_while(program: str, case: Case, halt: Halt, change: Change) -> list[str]:
     """Returns the faults of a run while which another program changes the file by a handle that it has."""
     with folder_of(case.files) as folder, open(os.path.join(folder, file_of(case)), "r+b", buffering=0) as file:
-        got = halted(program, Line(case.words, case.stdin), folder, halt, lambda folder: change(file))
+        got = halted(program, case, folder, halt, lambda folder: change(file))
         return differences(case.wanted, got) + tree_faults(case.files_after, folder)
 
 

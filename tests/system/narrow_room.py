@@ -1,8 +1,8 @@
-"""The greatest files and inputs, run in plenty of memory, on a small stack, and in little memory.
+"""The greatest files and inputs, on a small stack, and in little memory.
 
-On a small stack each run ends as usual. In little memory it does too, or reports that it is out of
-memory: then a prefix of its text may be printed, and each file is as before or as after the whole run. If
-a file would take all of the memory, each command has to report that.
+On a small stack each run ends as usual. In little memory it does too, or reports that it is out of memory: then a
+prefix of its text may be printed, and each file is as before or as after the whole run. If a file would take all of the
+memory, each command has to report that.
 """
 
 import resource
@@ -26,8 +26,8 @@ SPACE = 64 * 1024 * 1024
 # How many of the greatest files a run checks, and the memory for it, which is less than that of the files.
 MANY, ROOM = 40, 256 * 1024 * 1024
 
-# The memory that a long test lets a run have, as powers of two: from a little more than the program
-# itself takes up to more than any run does.
+# The memory that a long test lets a run have, as powers of two: from a little more than the program itself takes up to
+# more than any run does.
 LEAST_POWER, MOST_POWER = 22, 30
 
 # The commands that may print, or save, a part of what they do.
@@ -79,8 +79,6 @@ def of_many() -> Case:
 
 def check(report: Report, program: str) -> None:
     """Runs this topic."""
-    for case in [*cases(), *greatest_caches.cases()]:
-        case.check(report, program)
     for case, most in ((of_many(), ROOM), *((each, LIMIT) for each in without_room())):
         report.check(case.name, faults_of(case, *run_case(program, case, preexec_fn=limit(resource.RLIMIT_AS, most))))
     for case in all_cases():

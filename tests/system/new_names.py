@@ -6,13 +6,12 @@ A stale file of a killed run is removed. Anything else stays as it is, and then 
 import os
 from collections.abc import Callable, Iterator
 from concurrent.futures import ThreadPoolExecutor
-from dataclasses import replace
 
 from runs.commands import CHANGES, MAKES, NEW, OLD, SCRIPT, WALK, both_ways, file_of, renamed
 from runs.harness import Case, Report, message
 from runs.rows import printed
 from runs.undisturbed import IN_PLACE, Undisturbed, in_place
-from system.saving import (ADD, LINES, SAVED, USER, as_another, at, check_over, faults_over, link, unsaved, write)
+from system.saving import (ADD, SAVED, USER, as_another, at, check_over, faults_over, link, unsaved, write)
 from system.waits import RUNS
 from words.explaining import Explained, in_the_way_of, unchanged
 from words.phrases import CAUSES
@@ -55,87 +54,86 @@ STRANGE: list[tuple[str, Make]] = [
 ]
 
 
-def faults_in_the_way(program: str, make: Make, mode: int, owner: int | None, case: Undisturbed = ADD,
-                      **options) -> list[str]:
-    """Returns the faults of a run with something in place of its new file, in a folder of that mode."""
-    files = {"other": b"other"}
-    places = [at(f"{file_of(case)}.krbfile", make), at(".", lambda path: os.chmod(path, mode))]
+def faults_beside(program: str, make: Make, owner: int | None, case: Undisturbed = ADD, mode: int = 0o777,
+                  is_saved: bool = False, **options) -> list[str]:
+    """Returns the faults of a run with something in place of its new file, in a folder of that mode. A save removes it,
+    unless it is in place."""
+    name, files = file_of(case), {"other": b"other", **(case.files if owner is not None else {})}
+    new = f"{name}.krbfile"
+    places = [at(new, make), at(".", lambda path: os.chmod(path, mode))]
     if owner is not None:
-        files |= case.files
-        places.insert(0, at(file_of(case), lambda path: os.chown(path, owner, -1)))
-    if IN_PLACE in case.words:
-        return faults_over(program, replace(case.as_case(), files=files), *places, **options)
-    return faults_over(program, Case(case.name, case.words, unsaved(case), files, stdin=case.stdin), *places, **options)
+        places.insert(0, at(name, lambda path: os.chown(path, owner, -1)))
+    after = {**case.files_after, **({} if IN_PLACE in case.words else {new: None})} if is_saved else None
+    wanted = case.wanted if is_saved else unsaved(case)
+    return faults_over(program, Case(case.name, case.words, wanted, files, after, case.stdin), *places, **options)
 
 
-def check_strange(report: Report, program: str) -> None:
-    """Checks that what no killed run of this user, or of the file's owner, left is not touched."""
-    root, user = os.geteuid() == 0, as_another(program)
-    cases = [(f"{name}: {case.name}", make, 0o700, os.geteuid(), {"case": case})
-             for name, make in STRANGE for case in CHANGES]
-    cases += [("a folder where no file is", os.mkdir, 0o700, None, {})]
-    # A save in place looks at none of them, also not at what a killed run left.
-    cases += [(f"{name}, in place", make, 0o700, os.geteuid(), {"case": in_place(ADD)})
-              for name, make in (*STRANGE[:-1], ("a file", owned_by(os.geteuid())))]
-    if root:
-        cases += [("a user's file beside root's", owned_by(STRANGER), 0o700, 0, {}),
-                  ("a user's file where no file is", owned_by(STRANGER), 0o700, None, {}),
-                  ("a user's file beside another's", owned_by(STRANGER), 0o700, USER, {})]
-    if root and user:
-        cases += [("another's that is open to all", owned_by(STRANGER, 0o666), 0o777, USER, user),
-                  ("another's, in a sticky folder", owned_by(STRANGER, 0o666), 0o1777, USER, user),
-                  *((f"another's that is closed: {case.name}", owned_by(STRANGER), 0o1777, USER,
-                     {"case": case, **user}) for case in CHANGES),
-                  ("an own file that may not be opened", owned_by(USER, 0), 0o777, USER, user),
-                  ("an own file that may not be read", owned_by(USER, 0o200), 0o777, USER, user)]
-    with ThreadPoolExecutor(len(cases)) as pool:
-        found = [pool.submit(faults_in_the_way, program, make, mode, owner, **options)
-                 for _, make, mode, owner, options in cases]
-    for (name, *_), faults in zip(cases, found):
+# What has the name of a new file, what makes it, who owns the file, if there is one, and how the run differs from one
+# that adds an entry and is refused.
+Row = tuple[str, Make, int | None, dict[str, object]]
+SAVES = {"is_saved": True}
+
+
+def own_rows() -> list[Row]:
+    """Returns what no killed run left, and what one of this user did. A save in place looks at neither."""
+    me = os.geteuid()
+    return [
+        *((f"{name}: {case.name}", make, me, {"case": case}) for name, make in STRANGE for case in CHANGES),
+        ("a folder where no file is", os.mkdir, None, {}),
+        *((f"{name}, in place", make, me, {"case": in_place(ADD)} | SAVES)
+          for name, make in (*STRANGE[:-1], ("a file", owned_by(me)))),
+        ("what a killed run left", owned_by(me), me, SAVES),
+        ("what a killed run left, to be read", owned_by(me, 0o400), me, SAVES),
+        ("what a killed run left where no file is", owned_by(me), None, SAVES),
+    ]
+
+
+def others_rows(user: dict[str, object]) -> list[Row]:
+    """Returns what is there of others, for runs of root and of a user: what the file's owner, root or that user left is
+    removed."""
+    strange, is_sticky = owned_by(STRANGER), {"mode": 0o1777}
+    return [
+        *((f"a user's file, {owner} owns that", strange, owner, {}) for owner in (0, None, USER)),
+        *((f"another's that is open to all, {more}", owned_by(STRANGER, 0o666), USER, user | more)
+          for more in ({}, is_sticky)),
+        *((f"another's that is closed: {case.name}", strange, USER, user | is_sticky | {"case": case})
+          for case in CHANGES),
+        *((f"an own file of mode {mode:o}", owned_by(USER, mode), USER, user) for mode in (0, 0o200)),
+        ("root's that may not be read", owned_by(0, 0), 0, SAVES),
+        *((f"a file of {left} left beside one of {owner}", owned_by(left), owner, SAVES | more)
+          for left, owner, more in ((STRANGER, STRANGER, {}), (0, STRANGER, {}), (USER, USER, user), (USER, 0, user))),
+    ]
+
+
+def check_beside(report: Report, program: str) -> None:
+    """Checks that what killed runs of this user, or of the file's owner, left is removed, and nothing else touched."""
+    user, rows = as_another(program), own_rows()
+    if user:
+        rows += others_rows(user)
+    else:
+        report.skip("new files of others", "none but root may make them, or start the program")
+    with ThreadPoolExecutor(len(rows)) as pool:
+        found = [pool.submit(faults_beside, program, make, owner, **more) for _, make, owner, more in rows]
+    for (name, *_), faults in zip(rows, found):
         report.check(f"{name} in the new file's place", faults.result())
 
 
-def check_stale_files(report: Report, program: str) -> None:
-    """Checks that stale files of killed runs are removed."""
-    root, user, me = os.geteuid() == 0, as_another(program), os.geteuid()
-    cases = [("to be written", {"k": OLD}, owned_by(me), me, {}),
-             ("to be read", {"k": OLD}, owned_by(me, 0o400), me, {}),
-             ("where no file is", {}, owned_by(me), me, {})]
-    if root:
-        cases += [("that may not be read", {"k": OLD}, owned_by(me, 0), me, {}),
-                  ("of the file's owner", {"k": OLD}, owned_by(STRANGER), STRANGER, {}),
-                  ("of root, beside a user's file", {"k": OLD}, owned_by(0), STRANGER, {})]
-    if root and user:
-        cases += [("of a user's", {"k": OLD}, owned_by(USER), USER, user),
-                  ("of a user's, beside root's file", {"k": OLD}, owned_by(USER), 0, user)]
-    for name, files, make, owner, options in cases:
-        case = Case(f"what a killed run left, {name}", ADD.words, SAVED, files, {"k": NEW, NEW_FILE: None}, SCRIPT)
-        owners = (at(each, lambda path, owner=owner: os.chown(path, owner, -1)) for each in files)
-        open_to_all = at(".", lambda path: os.chmod(path, 0o777))
-        check_over(report, program, case, *owners, at(NEW_FILE, make), open_to_all, **options)
-
-
-def check_own_names(report: Report, program: str) -> None:
-    """Checks that a file with the name of a new one can be walked over, but not changed, also through a link."""
-    for name in (NEW_FILE, ".krbfile", "k.krbfile.krbfile", "./k.krbfile", "link", "dangling"):
-        path = "t.krbfile" if name == "link" else os.path.normpath(name)
-        files = {} if name == "dangling" else {path: OLD}
-        unsaved, talk = message(3, f"{name}: cannot write"), LINES + f"wkt {name}\n".encode()
-        rows = [(("ktedit", name), SCRIPT, unsaved), (("ktutil",), talk, unsaved)]
-        rows += [(("ktedit", name), WALK, printed("walk 0 at 2", "walk 0 end 2"))] if files else []
-        for words, given, wanted in rows:
-            case = Case(f"{given[:6]} as {name}, which has a new file's name", words, wanted, files, stdin=given)
-            check_over(report, program, case, link("link", "t.krbfile"), link("dangling", "no.krbfile"))
+# Names under which a file is saved, and is not; and those that a new file may have.
+LONGEST = "x" * (255 - len(".krbfile"))
+SAVED_AS, UNSAVED_AS = ("k", "./k", "k.krbfil", "krbfile", LONGEST), (f"{LONGEST}x", "no/k", "", "dangling")
+OWN_NAMES = (NEW_FILE, ".krbfile", "k.krbfile.krbfile", "./k.krbfile", "link")
 
 
 def check_places(report: Report, program: str) -> None:
-    """Checks names under which no file can be saved, and the longest that can be."""
-    longest = "x" * (255 - len(".krbfile"))
-    cases = {name: message(3, f"{name}: cannot write") for name in (f"{longest}x", "no/k", "")}
-    for name, wanted in {**dict.fromkeys(("k", "./k", "k.krbfil", "krbfile", longest), SAVED), **cases}.items():
-        after = {os.path.normpath(name): NEW} if wanted == SAVED else None
-        check_over(report, program, Case(f"save as {name[:20]!r}", ("ktedit", name), wanted,
-                                         {".krbfile": b"other", ".new": b"other"}, after, SCRIPT))
+    """Checks those names: a file with the name of a new one can be walked over, but not changed, also by a link."""
+    for name in (*SAVED_AS, *UNSAVED_AS, *OWN_NAMES):
+        path, wanted = os.path.normpath(name), SAVED if name in SAVED_AS else message(3, f"{name}: cannot write")
+        files = {".krbfile": OLD, "t.krbfile": OLD, **({path: OLD} if name in OWN_NAMES[:-1] else {})}
+        rows = [(SCRIPT, wanted, {path: NEW} if name in SAVED_AS else None)]
+        rows += [(WALK, printed("walk 0 at 2", "walk 0 end 2"), None)] * (name in OWN_NAMES)
+        for script, ends, after in rows:
+            case = Case(f"{script[:6]} as {name[:20]!r}", ("ktedit", name), ends, files, after, script)
+            check_over(report, program, case, link("link", "t.krbfile"), link("dangling", "no.krbfile"))
 
 
 def unsaved_as(run: Undisturbed, name: str, cause: str, setting: Make = lambda folder: None) -> Explained:
@@ -171,10 +169,6 @@ def check_names(report: Report, program: str) -> None:
 
 def check(report: Report, program: str) -> None:
     """Runs this topic."""
-    if os.geteuid() != 0 or as_another(program) is None:
-        report.skip("new files of others", "none but root may make them, or start the program")
-    check_strange(report, program)
-    check_stale_files(report, program)
-    check_own_names(report, program)
+    check_beside(report, program)
     check_places(report, program)
     check_names(report, program)

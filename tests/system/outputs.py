@@ -10,18 +10,17 @@ import signal
 import socket
 import subprocess
 from dataclasses import replace
+from itertools import product
 
 from makers.images import B, HOST, TWO, Entry, keytab
 from runs.commands import CHANGES, COMMANDS, LEAVES, READS, both_ways, mixed_cache, mixed_keytab, small_runs
-from runs.harness import SECONDS, Outcome, Report, differences, folder_of, message, run, run_case
+from runs.harness import SECONDS, Outcome, Report, differences, folder_of, run, run_case
 from runs.limits import limit
 from runs.rows import shown, words_of
 from runs.terminal import EXPLAIN
 from runs.undisturbed import Undisturbed, undisturbed
 from system.early_ends import End, Ends
 from system.failing_streams import NO_OUTPUT, ends_in_output
-
-NO_INPUT = message(3, "cannot read input")
 
 # Runs whose output is cut at each byte, and runs whose messages are.
 CUT = (undisturbed("klist -k k", k=TWO), undisturbed("ktcheck k s k", k=TWO, s=keytab(HOST, HOST)))
@@ -91,32 +90,33 @@ def check_closed_pipe(report: Report, program: str, taken: int, action: signal.H
 
 
 def is_met(ends: Ends, stream: str, end: End) -> bool:
-    """Whether a run ended as it has to without that output. It does not matter if nothing is written to it."""
+    """Whether a run ended as it has to without that stream. It does not matter if that is not used."""
     wanted, files = ends.whole
+    if stream == "stdin":
+        reads_input = ends.command in COMMANDS and COMMANDS[ends.command].reads_input
+        return end == (ends.of_input(0) if reads_input else ends.whole)
     if stream == "stdout" and wanted.out:
         return ends_in_output(ends, end)
     return end == (wanted if stream == "stdout" else replace(wanted, err=b""), files)
 
 
-def check_lost(report: Report, program: str, stream: str) -> None:
-    """Makes runs that do not depend on the clock with that output on a full device, and then with it closed."""
-    number = {"stdout": 1, "stderr": 2}[stream]
+def closed(number: int) -> dict[str, object]:
+    """Returns the options of a run one of whose streams is closed."""
+    return {"preexec_fn": lambda: os.close(number)}
+
+
+def check_lost(report: Report, program: str) -> None:
+    """Makes runs that do not depend on the clock with each stream closed, and with outputs on a full device."""
     timeless = [run for run in small_runs() if run.words[0] not in ("ccremove", "ktutil")]
     with open("/dev/full", "wb") as full:
-        lost = {"full": {stream: full}, "closed": {stream: None, "preexec_fn": lambda: os.close(number)}}
-        for ends in map(Ends, (*timeless, *CHANGES, *READS, *LEAVES, *TALKS)):
-            for how, options in lost.items():
-                got, files = run_case(program, ends.run, **options)
-                found = [] if is_met(ends, stream, (got, files)) else [f"{got} and {sorted(files)}"]
-                report.check(f"{how} {stream}: {ends.run.name}", found)
-
-
-def check_closed_input(report: Report, program: str) -> None:
-    """Checks an input that is closed."""
-    for case in (each for each in CHANGES if each.stdin and each.words[0] != "hold"):
-        with folder_of(case.files) as folder:
-            got = run(program, case.words, folder, preexec_fn=lambda: os.close(0))
-        report.compare(f"a closed input: {case.name}", NO_INPUT, got)
+        lost = (("stdin", "closed", closed(0)),
+                ("stdout", "full", {"stdout": full}), ("stdout", "closed", closed(1) | {"stdout": None}),
+                ("stderr", "full", {"stderr": full}), ("stderr", "closed", closed(2) | {"stderr": None}))
+        for ends, (stream, how, options) in product(
+                map(Ends, (*timeless, *both_ways(*CHANGES), *READS, *LEAVES, *TALKS)), lost):
+            got, files = run_case(program, ends.run, **options)
+            found = [] if is_met(ends, stream, (got, files)) else [f"{got} and {sorted(files)}"]
+            report.check(f"{how} {stream}: {ends.run.name}", found)
 
 
 def pieces_of(program: str, case: Undisturbed, stream: str = "stdout") -> tuple[Outcome, list[int]]:
@@ -172,8 +172,6 @@ def check(report: Report, program: str) -> None:
     for action in (signal.SIG_DFL, signal.SIG_IGN):
         for taken in (0, 1, 20, 1000, 70_000):
             check_closed_pipe(report, program, taken, action)
-    check_lost(report, program, "stdout")
-    check_lost(report, program, "stderr")
-    check_closed_input(report, program)
+    check_lost(report, program)
     check_pieces(report, program)
     check_left(report, program)

@@ -70,16 +70,16 @@ def faults_of(ends: Ends, nth: int, got: Counted, may_print: bool) -> list[str]:
 def check_run(report: Report, under: Preloaded, ends: Ends, numbers: Callable[[int], Iterable[int]],
               **env: str) -> None:
     """Refuses the allocations whose numbers are chosen from how many there are, in both ways."""
-    over, command = under.over(ends.run.files), COMMANDS.get(ends.command)
+    command = COMMANDS.get(ends.command)
     may_print = (command is None or command.prints_early) and not env
-    whole = over.run(ends.line, CLOCK=NOW, **env)
+    whole = under.run(ends.run, CLOCK=NOW, **env)
     if (whole.outcome, whole.files) != ends.whole or whole.requests == 0:
         report.check(ends.run.name, ["it is not whole where nothing is refused, or its requests are not seen"])
         return
     for way, settings in WAYS.items():
         faults = []
         for nth in numbers(whole.requests):
-            got = over.run(ends.line, CLOCK=NOW, REFUSE=nth, **settings, **env)
+            got = under.run(ends.run, CLOCK=NOW, REFUSE=nth, **settings, **env)
             faults += faults_of(ends, nth, got, may_print)
         report.check(f"memory refused {way}: {ends.run.name}", faults[:3])
 

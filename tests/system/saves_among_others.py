@@ -1,8 +1,6 @@
 """A save while others change the file, its name or its folder."""
 
-import fcntl
 import os
-import threading
 from collections.abc import Callable
 from dataclasses import replace
 from functools import partial
@@ -13,9 +11,9 @@ from runs.harness import Case, Outcome, Report, differences, folder_of, message
 from runs.preload import Line
 from runs.rows import text
 from runs.system_calls import Halt, check_traced, halted
-from runs.undisturbed import IN_PLACE
+from runs.undisturbed import IN_PLACE, PROGRAM
 from system.placing import refused
-from system.saving import (B_NEW, B_OLD, B_SAVED, SAVED, UNSAVED, USER, Place, at, edit, link, tree, tree_faults,
+from system.saving import (B_NEW, B_OLD, B_SAVED, SAVED, UNSAVED, USER, Place, at, check_over, edit, link, tree,
                            write)
 
 # The calls after which a run is halted, each under a name.
@@ -118,14 +116,12 @@ def check_changes(report: Report, program: str) -> None:
         check_change(report, program, "syncing", of, IN_PLACE)
 
 
+
+
 def check_while(report: Report, program: str, case: Case, call: str, change: Place, *places: Place) -> None:
     """Checks a case that is halted after a system call while a change is made."""
-    with folder_of(case.files) as folder:
-        for place in places:
-            place(folder)
-        got = halted(program, Line(case.words, case.stdin), folder, HALTS[call], change)
-        faults = differences(case.wanted, got) + tree_faults(case.files_after, folder)
-    report.check(f"{case.name}, behind the {call} of {' '.join(case.words)}", faults)
+    one = replace(case, name=f"{case.name}, behind the {call} of {' '.join(case.words)}")
+    check_over(report, program, one, *places, make=lambda *run: halted(*run, HALTS[call], change))
 
 
 def check_names(report: Report, program: str) -> None:
@@ -135,10 +131,9 @@ def check_names(report: Report, program: str) -> None:
     led = named("k", lambda path: os.symlink("other", path))
     for what, cause, change, after in (("another file", "other file", OTHER, {"k": B_OLD}),
                                        ("a link to another file", "other file", led, {"k": "other"}),
-                                       ("no file any more", "no file", GONE, {})):
+                                       ("no file any more", "no file", GONE, {"k": None})):
         for one in (case, refused(case, cause)):
-            one = replace(one, name=what, files_after={"other": B_OLD, **after})
-            check_while(report, program, one, "syncing", change)
+            check_while(report, program, replace(one, name=what, files_after=after), "syncing", change)
 
 
 def added(name: str, wanted: Outcome, files: dict[str, bytes], after: dict[str, object], *options: str) -> Case:
@@ -151,12 +146,12 @@ def added(name: str, wanted: Outcome, files: dict[str, bytes], after: dict[str, 
 MOVED: list[tuple[Case, str, Place, *tuple[Place, ...]]] = [
     # A link that changes: the file that was loaded is saved, and no other gets its keys.
     *((added(f"{what} in place of a link", SAVED, {"file": OLD, "other": OLD},
-             {"file": NEW, "other": OLD, "k": left}), call, named("k", make), LINK)
+             {"file": NEW, "k": left}), call, named("k", make), LINK)
       for call in ("opening", "load", "writing", "syncing")
       for what, left, make in (("another link", "other", lambda path: os.symlink("other", path)),
                                ("a file", OLD, lambda path: write(path, OLD, 0o644)))),
     # A file that others save, make or remove while a link to it is followed.
-    *((added(f"{what} at the end of a link", SAVED, files, {"k": "file", "file": NEW}), "look", change, LINK)
+    *((added(f"{what} at the end of a link", SAVED, files, {"file": NEW}), "look", change, LINK)
       for what, files, change in (("another file", {"file": OLD}, MAKE), ("a file where none was", {}, MAKE),
                                   ("no file any more", {"file": OLD}, at("file", os.remove)))),
     # A file that is replaced before it is locked: the one that is there then is loaded and saved.
@@ -164,7 +159,11 @@ MOVED: list[tuple[Case, str, Place, *tuple[Place, ...]]] = [
       for what, change, options, wanted, after in (
           ("another file", OTHER, (), B_SAVED, {"k": B_NEW}), ("no file any more", GONE, (), SAVED, {"k": NEW}),
           ("another file", OTHER, (IN_PLACE,), B_SAVED, {"k": B_NEW}),
-          ("no file any more", GONE, (IN_PLACE,), message(1, "k: no such file"), {}))),
+          ("no file any more", GONE, (IN_PLACE,), message(1, "k: no such file"), {"k": None}))),
+    # Another run overtakes this one while it makes its new file, or looks at a stale one.
+    *((added(f"overtaken beside {left}", B_SAVED, {"k": OLD, **left}, {"k": B_NEW, **dict.fromkeys(left)}), call,
+       lambda folder: edit(PROGRAM[0], folder, script=text([ADD_B])))
+      for call, left in (("making", {}), ("making", {"k.krbfile": b"left"}), ("finding", {"k.krbfile": b"left"}))),
 ]
 
 
@@ -174,40 +173,6 @@ def check_moved(report: Report, program: str) -> None:
         check_while(report, program, *row)
 
 
-def check_crossed(report: Report, program: str) -> None:
-    """Checks a run that is overtaken while it makes its new file, or looks at a stale one."""
-    for call, files in (("making", {}), ("making", {"k.krbfile": b"left"}), ("finding", {"k.krbfile": b"left"})):
-        def save(folder: str) -> None:
-            report.compare("who overtakes a run", SAVED, edit(program, folder, script=text([ADD_B])))
-
-        case = added(f"overtaken beside {len(files)}", B_SAVED, {"k": OLD, **files}, {"k": B_NEW})
-        check_while(report, program, case, call, save)
-
-
-def check_crossed_hold(report: Report, program: str) -> None:
-    """Checks a run that finds a stale new file, in whose place there is then one that is held."""
-    with folder_of({"k": OLD, "k.krbfile": b"left"}) as folder:
-        held = []
-
-        def hold(folder: str) -> None:
-            os.remove(os.path.join(folder, "k.krbfile"))
-            held.append(open(os.path.join(folder, "k.krbfile"), "xb"))
-            fcntl.flock(held[0], fcntl.LOCK_EX)
-            timer.start()
-
-        def save() -> None:
-            write(os.path.join(folder, "k"), B_OLD)
-            os.remove(os.path.join(folder, "k.krbfile"))
-            held[0].close()
-
-        timer = threading.Timer(0.3, save)
-        faults = differences(B_SAVED, edited_while(program, folder, "finding", hold))
-        faults += tree_faults({"k": B_NEW}, folder)
-        timer.join()
-    report.check("held by another behind the finding of a new file", faults)
-
-
 def check(report: Report, program: str) -> None:
     """Runs this topic."""
-    check_traced(report, program, "files that are changed meanwhile", check_changes, check_names, check_moved,
-                 check_crossed, check_crossed_hold)
+    check_traced(report, program, "files that are changed meanwhile", check_changes, check_names, check_moved)

@@ -36,7 +36,8 @@ def unsaved(case: Run, name: str = "") -> Outcome:
     return message(3, f"{name or file_of(case)}: cannot write")
 
 
-def faults_over(program: str, case: Run, *places: Place, left: Owned | None = None, **options: object) -> list[str]:
+def faults_over(program: str, case: Run, *places: Place, left: Owned | None = None,
+                make: Callable[..., Outcome] = run_over, **options: object) -> list[str]:
     """Returns the faults of a case in a folder where more is made before: what it does not change stays as it was, and
     its file is owned in that way then."""
     with folder_of(case.files) as folder:
@@ -44,7 +45,7 @@ def faults_over(program: str, case: Run, *places: Place, left: Owned | None = No
             place(folder)
         before = stands(folder)
         wanted = {**tree(folder), **(case.files_after or {})}
-        faults = differences(case.wanted, run_over(program, case, folder, **options))
+        faults = differences(case.wanted, make(program, case, folder, **options))
         after = stands(folder)
         faults += [f"{name} is not as it was" for name, own in before.items()
                    if own[0] == wanted[name] != "d" and own != after.get(name)]
@@ -122,7 +123,7 @@ def stands(folder: str) -> dict[str, tuple[object, ...]]:
     found = {}
     for name, data in tree(folder).items():
         own = os.lstat(os.path.join(folder, name))
-        found[name] = (data, own.st_ino, own.st_mode, own.st_uid, own.st_nlink, own.st_mtime_ns)
+        found[name] = (data, own.st_ino, own.st_mode, own.st_uid, own.st_mtime_ns)
     return found
 
 

@@ -2,7 +2,6 @@
 
 import json
 from dataclasses import dataclass, replace
-from functools import partial
 
 from makers.cache_images import Name, cache
 from makers.images import Entry, keytab
@@ -42,9 +41,6 @@ def names_of(option: str, image: bytes) -> list[str] | None:
     if found is None or found["fault"]:
         return None
     return [each[member].split("@")[0] for part, member in NAMED.items() for each in found.get(part, ())]
-
-
-names_of_keytab = partial(names_of, "-k")
 
 
 @dataclass(frozen=True)

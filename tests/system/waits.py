@@ -1,4 +1,4 @@
-"""A run waits for whoever has locked the file or made its new file, and gives up after some ten seconds."""
+"""A run finds who has locked its file, or waits for that, in the system's own list of locks."""
 
 import fcntl
 import os
@@ -8,18 +8,16 @@ import sys
 import tempfile
 import threading
 import time
-from collections.abc import Callable, Iterator
-from concurrent.futures import ThreadPoolExecutor
-from contextlib import ExitStack, contextmanager
+from collections.abc import Callable
+from contextlib import ExitStack
 
-from runs.commands import NEW, OLD, Run
+from runs.commands import OLD, Run
 from runs.harness import Report, differences, folder_of
-from system.disk_faults import mounted
-from system.saving import ADD, SAVED, UNSAVED, edit, run_over, tree, tree_faults, write
+from runs.namespaces import mounted
+from system.saving import ADD, SAVED, edit, run_over, tree_faults, write
 
-# More locks than fit in one read of the system's list, and enough of them to make the list slow.
+# More locks than fit in one read of the system's list.
 MANY = 300
-MOST = 10_000
 
 # A run that gives up takes this many seconds, however busy the machine is.
 LEAST_WAIT, LONGEST_WAIT = 9, 20
@@ -27,22 +25,11 @@ LEAST_WAIT, LONGEST_WAIT = 9, 20
 # What needs no hold ends within this many seconds.
 AT_ONCE = 3
 
-# Runs that wait at the same time, and for how many seconds.
-RUNS, WHILE = 8, 3
+# Runs that wait at the same time.
+RUNS = 8
 
-# A program that waits to lock a file, and one that makes and frees locks of its own without end. Locks are
-# listed by the processor that made them, so these come before those of a higher one.
+# A program that waits to lock a file.
 WAITER = "import fcntl, sys; fcntl.lockf(open(sys.argv[1], 'r+b'), fcntl.LOCK_EX)"
-CHANGER = """
-import fcntl, os, sys
-os.sched_setaffinity(0, {min(os.sched_getaffinity(0))})
-with open(sys.argv[1], "wb") as file:
-    print(flush=True)
-    while True:
-        for kind in (fcntl.LOCK_EX, fcntl.LOCK_UN):
-            for at in range(100):
-                fcntl.lockf(file, kind, 1, 2 * at)
-"""
 
 
 def ofd_lock(file, kind: int) -> None:
@@ -98,77 +85,6 @@ def is_waited_for(path: str) -> bool:
         return any("->" in line and f":{os.stat(path).st_ino} " in line for line in locks)
 
 
-def faults_of_giving_up(program: str, folder: str) -> list[str]:
-    """Returns the faults of a run that waits for a lock that stays."""
-    wanted = tree(folder)
-    started = time.monotonic()
-    faults = differences(UNSAVED, edit(program, folder)) + tree_faults(wanted, folder)
-    waited = time.monotonic() - started
-    if not LEAST_WAIT <= waited <= LONGEST_WAIT:
-        faults.append(f"it waited for {waited:.1f} seconds")
-    return faults
-
-
-def check_lasting_locks(report: Report, program: str) -> None:
-    """Checks that each save is refused after some ten seconds of a lock that stays, however many locks others have."""
-    for others in (0, MOST):
-        with ExitStack() as stack:
-            ours = stack.enter_context(tempfile.TemporaryFile())
-            for at in range(others):
-                fcntl.lockf(ours, fcntl.LOCK_EX, 1, 2 * at)
-            folders = [stack.enter_context(folder_of({"k": OLD, **files}))
-                       for files in ({}, {"k.krbfile": b"other"})]
-            held = stack.enter_context(open(os.path.join(folders[0], "k"), "r+b"))
-            ofd_lock(held, fcntl.F_WRLCK)
-            new = stack.enter_context(open(os.path.join(folders[1], "k.krbfile"), "rb"))
-            fcntl.flock(new, fcntl.LOCK_EX)
-            with ThreadPoolExecutor() as pool:
-                faults = [*pool.map(faults_of_giving_up, [program] * 2, folders)]
-        for what, found in zip(("a lock", "another run's lock"), faults):
-            report.check(f"{what} that stays, beside {others} others", found)
-
-
-@contextmanager
-def on_last_processor() -> Iterator[None]:
-    """Runs the body on the last processor."""
-    those = os.sched_getaffinity(0)
-    os.sched_setaffinity(0, {max(those)})
-    yield
-    os.sched_setaffinity(0, those)
-
-
-@contextmanager
-def changing_locks() -> Iterator[None]:
-    """Runs two programs whose locks come and go."""
-    with tempfile.TemporaryDirectory() as folder, ExitStack() as stack:
-        for name in ("one", "other"):
-            words = (sys.executable, "-c", CHANGER, os.path.join(folder, name))
-            started = stack.enter_context(subprocess.Popen(words, stdout=subprocess.PIPE))
-            stack.callback(started.kill)
-            started.stdout.read(1)
-        yield
-
-
-def check_changing_locks(report: Report, program: str) -> None:
-    """Checks that each run waits for a lock that is held all the time, while other locks come and go."""
-    with ExitStack() as stack, ThreadPoolExecutor(RUNS) as pool:
-        folders = [stack.enter_context(folder_of({"k": OLD})) for _ in range(RUNS)]
-        held = [stack.enter_context(open(os.path.join(folder, "k"), "r+b")) for folder in folders]
-        with on_last_processor():
-            for file in held:
-                ofd_lock(file, fcntl.F_WRLCK)
-        with changing_locks():
-            runs = [pool.submit(edit, program, folder) for folder in folders]
-            time.sleep(WHILE)
-            ended = [run.done() for run in runs]
-        for file in held:
-            file.close()
-        faults = [f"{sum(ended)} of {RUNS} did not wait"] if any(ended) else []
-        for run, folder in zip(runs, folders):
-            faults += differences(SAVED, run.result()) + tree_faults({"k": NEW}, folder)
-    report.check("a lock is waited for while others come and go", faults)
-
-
 def check_other_disk(report: Report, program: str) -> None:
     """Checks that a lock counts only on the file's own disk, not on a file of the same number elsewhere."""
     with folder_of({}) as here, folder_of({}) as there, ExitStack() as stack:
@@ -196,8 +112,6 @@ def check(report: Report, program: str) -> None:
     if os.path.exists("/proc/locks"):
         check_many_locks(report, program)
         check_waiting_locks(report, program)
-        check_lasting_locks(report, program)
-        check_changing_locks(report, program)
         check_other_disk(report, program)
     else:
         report.skip("locks that are waited for", "there is no list of locks")
