@@ -198,6 +198,10 @@ ROWS: list[tuple[Case, *tuple[Place, ...]]] = [
     *((copy(f"{len(image)} bytes on the standard input", "ktcopy /dev/stdin t", {}, wanted, after, image),)
       for image, wanted, after in ((TWO, COPIED, TWO), (b"", message(1, "/dev/stdin: not a keytab (1)"), None),
                                    (TWO[:-1], message(1, "/dev/stdin: refused 1"), None))),
+    # Two names of one keytab are one keytab.
+    *((copy(f"{what} of the same keytab", COPY, {"k": TWO}, Outcome(0)), place) for what, place in (
+        ("a link", link("t", "k")),
+        ("a second name", lambda folder: os.link(os.path.join(folder, "k"), os.path.join(folder, "t"))))),
     # What stands under the name of the new file: only a save is refused.
     *((copy(f"a folder in the way: {' '.join(words)}, {wanted.status}", words, {"k": TWO, "t": target}, wanted),
        at("t.krbfile", os.mkdir)) for words, target, wanted in (
