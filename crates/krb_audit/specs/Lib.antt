@@ -7,10 +7,11 @@ pub mod Laws
 -- For private contracts alone.
 pub mod Names
 pub mod Hash
-pub mod Stamps
+pub mod Rows
 pub mod Known
-pub mod Young
-pub mod Prepared
+pub mod Table
+pub mod EntryText
+pub mod Criteria
 pub mod TicketText
 pub mod TicketCriteria
 pub mod Firsts
