@@ -3,7 +3,7 @@ pub mod FirstNumbers
 pub mod Numbering
 pub mod RowLemmas
 pub mod NewestStamps
-pub mod KnownLemmas
+pub mod KvnoMarkLemmas
 pub mod FirstsLemmas
 pub mod FindingsLemmas
 pub mod Octal

@@ -9,17 +9,17 @@ use Rattle.krb_audit.specs.declared.selection.SelectedKvno.{SelectedKvno}
 use Rattle.krb_audit.specs.declared.selection.SelectedKvno.TheVariants.{Any, Exactly}
 use Rattle.krb_audit.specs.declared.selection.Selection.{Selection}
 use Rattle.krb_audit.specs.declared.selected_versions.SelectedVersions.{SelectedVersions}
-use Rattle.krb_audit.specs.declared.selected_versions.SelectedVersions.TheVariants.{Each, This, Known}
+use Rattle.krb_audit.specs.declared.selected_versions.SelectedVersions.TheVariants.{Each, This, Marked}
 use Rattle.krb_audit.specs.declared.selected.Selected.{Selected}
 use Rattle.krb_audit.specs.EntryText.{EntryText}
 use Rattle.krb_audit.specs.Selection.{has_selected_enctype, has_text, texts_of}
-use Rattle.krb_audit.specs.Table.{AreKnown}
+use Rattle.krb_audit.specs.Table.{AreMarks}
 
 -- the prepared kvnos are the selected ones, for a pass over the entries `rest` among all
 abbrev pub AreVersions : {A : Type 0} → SelectedKvno → ℕ → List PlacedEntry → List PlacedEntry → SelectedVersions A → Type 0
 AreVersions kvno now all rest Each = kvno ≡ Any
 AreVersions kvno now all rest (This version) = kvno ≡ Exactly version
-AreVersions kvno now all rest (Known known) = AreKnown kvno now all rest (into_iter_items known)
+AreVersions kvno now all rest (Marked marks) = AreMarks kvno now all rest (into_iter_items marks)
 
 -- the selected names as they are printed, and the selected enctypes
 abbrev pub entry_text : {A : Type 0} → Selection A → EntryText

@@ -2,7 +2,6 @@
 use Rattle.std.specs.Prelude.{◌≡◌, ℕ, List, map, get_or, Bool, false, true, not, ◌&&◌, ◌==◌, Option, Some, None, option_map}
 use Rattle.krb_wire.specs.Spelling.{Parts}
 use Rattle.krb_keytab.specs.Find.{PlacedEntry}
-use Rattle.krb_audit.specs.declared.known.Known.{Known}
 use Rattle.krb_audit.specs.declared.rows.Row.{Row}
 use Rattle.krb_audit.specs.declared.selection.SelectedKvno.{SelectedKvno}
 use Rattle.krb_audit.specs.declared.selection.SelectedKvno.TheVariants.{Any, Exactly, Newest, Old, OldFor}
@@ -40,14 +39,6 @@ selects_kvno (OldFor seconds) version is_old is_young = is_old && not is_young
 abbrev pub selects_row : SelectedKvno → List (Option Stamp) → List Bool → Row → Bool
 selects_row kvno newest young r = selects_kvno kvno r.stamp.kvno (is_old_row newest r) (get_or young r.first false)
 
--- what is known of an entry
-abbrev pub known_shown : Known → Option ℕ × Bool
-known_shown k = (Some k.first, k.is_selected)
-
--- what is to be known of it: the number of the first entry of its name among all, and whether its kvno is selected
-abbrev pub known_in : SelectedKvno → ℕ → List PlacedEntry → PlacedEntry → Option ℕ × Bool
-known_in kvno now all x = (first_number x.1.principal all, has_selected_kvno kvno now all x.1)
-
--- that is known of these entries
-abbrev pub AreKnown : SelectedKvno → ℕ → List PlacedEntry → List PlacedEntry → List Known → Type 0
-AreKnown kvno now all xs known = map known_shown known ≡ map (known_in kvno now all) xs
+-- for each of some entries, whether its kvno is selected
+abbrev pub AreMarks : SelectedKvno → ℕ → List PlacedEntry → List PlacedEntry → List Bool → Type 0
+AreMarks kvno now all xs marks = marks ≡ map (λ x. has_selected_kvno kvno now all x.1) xs

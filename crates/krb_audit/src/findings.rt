@@ -2,22 +2,23 @@
 
 ghost use Rattle.std.specs.Prelude.{◌≡◌, ◌∷◌, ◌++◌, ◌&&◌, ◌||◌, [], List, length, not, OnOk, IfOk};
 ghost use Rattle.std.specs.List.{flat_map};
-ghost use Rattle.std.specs.Vec.Iter.{into_iter_items};
 ghost use Rattle.krb_keytab.specs.Find.{PlacedEntry, placed_entries};
 ghost use Rattle.krb_keytab.specs.Store.{KeytabState};
 ghost use Rattle.krb_audit.specs.Before.{IsBefore};
 ghost use Rattle.krb_audit.specs.Findings.{marked, marks_of, weak_among};
 ghost use Rattle.krb_audit.specs.declared.selection.SelectedKvno.TheVariants.{Old};
-ghost use Rattle.krb_audit.specs.Table.{AreKnown};
+ghost use Rattle.krb_audit.specs.Table.{AreMarks};
+ghost use Rattle.krb_audit.specs.Rows.{AreRows};
 ghost use Rattle.krb_audit.specs.Report.{labelled_fault, mark_lines, report, words_found, words_of, wrong_words};
 
 use crate::counts::append_counts;
 use crate::finding_words::FindingWords;
 use crate::firsts::Firsts;
-use crate::known::{Known, known_of, next_known};
+use crate::kvno_marks::{marks_of, next_mark};
 use crate::marks::Marks;
 use crate::mit::ends_mit;
 use crate::mode::{append_mode, is_open_file, is_open_to_all};
+use crate::rows::{Row, next_row, rows_of};
 use crate::selection::SelectedKvno;
 use crate::weak_etypes::WeakEtypes;
 use krb_keytab::{EntryView, Keytab};
@@ -42,8 +43,9 @@ pub struct CheckUp<A: Allocator> {
 /// What is known before an entry is checked.
 #[derive(Drop)]
 struct Before<'a, A: Allocator> {
-    // What is known of the entries that are still to come.
-    known: IntoIter<Known, A>,
+    // The rows of the entries that are still to come, and which of them are old.
+    rows: IntoIter<Row, A>,
+    are_old: IntoIter<bool, A>,
     firsts: Firsts<'a, A>,
     /// True if MIT's programs stop before one of the entries so far.
     has_ended: bool,
@@ -66,12 +68,14 @@ fn either(held: bool, holds: bool) -> bool
 
 impl<'a, A: Allocator + Copy> Before<'a, A> {
     // Returns what is known before the first entry of a keytab.
-    fn first(alloc: A, known: IntoIter<Known, A>) -> Before<'a, A>
-        ensures { (k : KeytabState) → AreKnown Old 0 (placed_entries k) (placed_entries k) (into_iter_items known)
+    fn first(alloc: A, rows: Vec<Row, A>, are_old: Vec<bool, A>) -> Before<'a, A>
+        ensures { (k : KeytabState) → AreRows (placed_entries k) (placed_entries k) rows.items
+            → AreMarks Old 0 (placed_entries k) (placed_entries k) are_old.items
             → IsBefore k [] (placed_entries k) result }
     {
         Before {
-            known,
+            rows: rows.into_iter(),
+            are_old: are_old.into_iter(),
             firsts: Firsts::new(alloc),
             has_ended: false,
             weak_etypes: WeakEtypes::none(),
@@ -88,17 +92,17 @@ impl<'a, A: Allocator + Copy> Before<'a, A> {
         let etype = entry.enctype();
         let ends = ends_mit(entry);
         let hidden = is_first(ends, self.has_ended);
-        let known = next_known(&mut self.known);
-        let alike = self
-            .firsts
-            .consider((known.first, kvno, etype), place, entry.key())?;
+        let first = next_row(&mut self.rows).first;
+        let old = next_mark(&mut self.are_old);
+        let key = (first, kvno, etype);
+        let alike = self.firsts.consider(key, place, entry.key())?;
         self.has_ended = either(self.has_ended, ends);
         self.weak_etypes = self.weak_etypes.with(etype);
         Ok(Marks {
             weak: is_weak(etype),
             hidden,
             alike,
-            old: known.is_selected,
+            old,
         })
     }
 }
@@ -124,11 +128,12 @@ fn append_marks<A: Allocator + Copy, B: Allocator>(
     ensures weak_etypes { IfOk result (λ listed. listed.weak_etypes ≡ weak_among (placed_entries keytab.now.state)) }
     ensures count { IfOk result (λ listed. listed.count ≡ length (placed_entries keytab.now.state)) }
 {
-    let known = known_of(alloc, keytab, SelectedKvno::Old, 0)?;
+    let rows = rows_of(alloc, keytab)?;
+    let are_old = marks_of(alloc, &rows, SelectedKvno::Old, 0)?;
     // Bounds the number of entries, so that it fits.
     let _few = keytab.cell_count();
-    let count = known.len() as u32;
-    let mut before = Before::first(alloc, known.into_iter());
+    let count = rows.len() as u32;
+    let mut before = Before::first(alloc, rows, are_old);
     let mut words_found = FindingWords::none();
     'entries: for (place, entry) in keytab.entries() {
         let marks = before.marks(place, &entry)?;

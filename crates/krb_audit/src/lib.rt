@@ -8,7 +8,7 @@ mod finding_words;
 mod findings;
 mod firsts;
 mod hash;
-mod known;
+mod kvno_marks;
 mod laws;
 mod marks;
 mod mit;

@@ -26,8 +26,9 @@ fn renew<A: Allocator>(newest: &mut Vec<Option<Stamp>, A>, row: Row)
     ensures { newest.new.items ≡ slice_set newest.old.items row.first
         (newer_stamp (get_or newest.old.items row.first None) row.stamp) }
 {
-    if row.first < newest.len() {
-        newest[row.first] = newer(newest[row.first], row.stamp);
+    let first = row.first as usize;
+    if first < newest.len() {
+        newest[first] = newer(newest[first], row.stamp);
     }
 }
 
@@ -50,7 +51,7 @@ pub fn newest_stamps<A: Allocator + Copy>(
 pub fn is_old(newest: &[Option<Stamp>], row: Row) -> bool
     ensures { result ≡ is_old_row newest.now row }
 {
-    match newest.get(row.first) {
+    match newest.get(row.first as usize) {
         Some(Some(newest)) => row.stamp.kvno != newest.kvno,
         _ => false,
     }

@@ -1,11 +1,12 @@
 //! The entries of a keytab with their names numbered.
 
 ghost use Rattle.std.specs.Prelude.{◌≡◌, ◌∷◌, List, IfOk, OnOk, Some, unwrap_or};
+ghost use Rattle.std.specs.Vec.Iter.{into_iter_items};
 ghost use Rattle.std.specs.BTreeMap.{get, Updates};
 ghost use Rattle.krb_keytab.specs.Entry.{entry_at};
 ghost use Rattle.krb_keytab.specs.Find.{PlacedEntry, placed_entries};
 ghost use Rattle.krb_audit.specs.Known.{name_cmp, AreNumbered};
-ghost use Rattle.krb_audit.specs.Rows.{AreRows};
+ghost use Rattle.krb_audit.specs.Rows.{AreRows, first_number};
 
 use crate::hash::hash_of;
 use crate::names::named_entry;
@@ -14,20 +15,21 @@ use krb_keytab::{Keytab, KtCell};
 use krb_wire::{KtFormat, NoMemory};
 use std::alloc::Allocator;
 use std::collections::BTreeMap;
+use std::vec::IntoIter;
 
 /// An entry: the number of the first entry of its name, and its stamp. Entries are numbered from 0 in file order.
 #[derive(Clone, Copy, Debug)]
 pub struct Row {
-    pub first: usize,
+    pub first: u32,
     pub stamp: Stamp,
 }
 
 // Returns the number of a name. A new name gets the number `next`.
 fn number_of<'a, A: Allocator + Clone>(
-    numbers: &mut BTreeMap<(u64, &'a [u8]), usize, A>,
+    numbers: &mut BTreeMap<(u64, &'a [u8]), u32, A>,
     name: (u64, &'a [u8]),
-    next: usize,
-) -> Result<usize, NoMemory>
+    next: u32,
+) -> Result<u32, NoMemory>
     ensures number { IfOk result (λ n. n ≡ unwrap_or (get name_cmp numbers.old name.entry) next) }
     ensures kept { IfOk result (λ n. Updates name_cmp numbers.old numbers.new
         name.entry (Some n)) }
@@ -38,7 +40,7 @@ fn number_of<'a, A: Allocator + Clone>(
 // The names of the entries so far, each with the number of its first entry, and the rows of the entries.
 #[derive(Drop)]
 struct Names<'a, A: Allocator> {
-    numbers: BTreeMap<(u64, &'a [u8]), usize, A>,
+    numbers: BTreeMap<(u64, &'a [u8]), u32, A>,
     rows: Vec<Row, A>,
 }
 
@@ -51,7 +53,10 @@ impl<'a, A: Allocator + Copy> Names<'a, A> {
         let Some((name, entry)) = named_entry(format, bytes) else {
             return Ok(());
         };
-        let next = self.rows.len();
+        // A keytab has fewer entries than 2 ^ 32.
+        let Ok(next) = u32::try_from(self.rows.len()) else {
+            return Err(NoMemory);
+        };
         let hash = hash_of(name);
         let first = number_of(&mut self.numbers, (hash, name), next)?;
         let stamp = Stamp::of(&entry);
@@ -78,4 +83,21 @@ pub fn rows_of<A: Allocator + Copy, B: Allocator>(
         }
     }
     Ok(names.rows)
+}
+
+/// Returns the next row.
+pub fn next_row<A: Allocator>(rows: &mut IntoIter<Row, A>) -> Row
+    ensures { (all rest : List PlacedEntry) (x : PlacedEntry) → AreRows all (x ∷ rest) (into_iter_items rows.old)
+        → (first_number x.1.principal all ≡ Some result.first) × AreRows all rest (into_iter_items rows.new) }
+{
+    match rows.next() {
+        Some(next) => next,
+        None => Row {
+            first: 0,
+            stamp: Stamp {
+                kvno: 0,
+                timestamp: 0,
+            },
+        },
+    }
 }

@@ -6,7 +6,8 @@ ghost use Rattle.krb_audit.specs.declared.selection.SelectedKvno.{SelectedKvno};
 ghost use Rattle.krb_audit.specs.Criteria.{AreVersions};
 ghost use Rattle.krb_audit.specs.Selection.{has_selected_kvno};
 
-use crate::known::{Known, known_of, next_known};
+use crate::kvno_marks::{marks_of, next_mark};
+use crate::rows::rows_of;
 use crate::selection::SelectedKvno;
 use krb_keytab::Keytab;
 use krb_wire::NoMemory;
@@ -18,7 +19,7 @@ use std::vec::IntoIter;
 pub enum SelectedVersions<A: Allocator> {
     Each,
     This(u32),
-    Known(IntoIter<Known, A>),
+    Marked(IntoIter<bool, A>),
 }
 
 impl<A: Allocator + Copy> SelectedVersions<A> {
@@ -34,8 +35,9 @@ impl<A: Allocator + Copy> SelectedVersions<A> {
             SelectedKvno::Any => Ok(SelectedVersions::Each),
             SelectedKvno::Exactly(version) => Ok(SelectedVersions::This(version)),
             _ => {
-                let known = known_of(alloc, keytab, kvno, now)?;
-                Ok(SelectedVersions::Known(known.into_iter()))
+                let rows = rows_of(alloc, keytab)?;
+                let marks = marks_of(alloc, &rows, kvno, now)?;
+                Ok(SelectedVersions::Marked(marks.into_iter()))
             }
         }
     }
@@ -51,7 +53,7 @@ impl<A: Allocator> SelectedVersions<A> {
         match self {
             SelectedVersions::Each => true,
             SelectedVersions::This(selected) => version == *selected,
-            SelectedVersions::Known(known) => next_known(known).is_selected,
+            SelectedVersions::Marked(marks) => next_mark(marks),
         }
     }
 }

@@ -34,8 +34,9 @@ fn is_young_newest(now: u32, seconds: u32, newest: &[Option<Stamp>], row: Row) -
 fn mark_if<A: Allocator>(holds: bool, young: &mut Vec<bool, A>, row: Row)
     ensures { young.new.items ≡ slice_set young.old.items row.first (get_or young.old.items row.first false || holds) }
 {
-    if row.first < young.len() {
-        young[row.first] = young[row.first] || holds;
+    let first = row.first as usize;
+    if first < young.len() {
+        young[first] = young[first] || holds;
     }
 }
 

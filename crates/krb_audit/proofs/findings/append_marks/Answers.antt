@@ -1,15 +1,15 @@
 use Rattle.std.proofs.Common.{List, sym, subst, arith, ◌∙◌}
 use Rattle.krb_keytab.specs.Find.{PlacedEntry, placed_entries}
-use Rattle.krb_audit.specs.declared.selection.SelectedKvno.TheVariants.{Old}
+use Rattle.krb_audit.specs.Rows.{AreRows}
 use Rattle.krb_audit.proofs.FindingsLemmas.{IsListedUpTo, entries_few, none_listed, one_listed}
-use Rattle.krb_audit.proofs.KnownLemmas.{known_count}
+use Rattle.krb_audit.proofs.RowLemmas.{row_count}
 use Rattle.krb_audit.proofs.findings.append_marks.Goals as goal
 
 pub overflow_cast-count : goal.overflow_cast-count
 overflow_cast-count g c =
     let k = c.args.keytab.now.state in
-    let known = c.in_ok-known.known in
-    let count = c.len-count.ensures ∙ known.ok.0 ∙ known_count Old 0 (placed_entries k) (placed_entries k) known.items c.in_ok-known.ensures in
+    let rows = c.in_ok-rows.rows in
+    let count = c.len-count.ensures ∙ rows.ok.0 ∙ row_count (placed_entries k) (placed_entries k) rows.items c.in_ok-rows.ensures in
     let few = c.cell_count-few.ensures.few in
     let cells = c.cell_count-few.ensures.count in
     omega (arith, count, few, cells, entries_few k)
@@ -17,13 +17,14 @@ overflow_cast-count g c =
 pub returns-clause-count : goal.returns-clause-count
 returns-clause-count g c =
     let all = placed_entries c.args.keytab.now.state in
-    let known = c.in_ok-known.known in
-    c.len-count.ensures ∙ known.ok.0 ∙ known_count Old 0 all all known.items c.in_ok-known.ensures
+    let rows = c.in_ok-rows.rows in
+    c.len-count.ensures ∙ rows.ok.0 ∙ row_count all all rows.items c.in_ok-rows.ensures
 
 pub entries-init : goal.entries-init
 entries-init g c =
     let k = c.args.keytab.now.state in
-    let start = none_listed c.args.label.now k _ _ c.args.out.now.items (c.first-before.ensures k (rw c.into_iter.ensures.rest c.in_ok-known.ensures)) c.none-words_found.ensures in
+    let old = c.in_ok-are_old.ensures (placed_entries k) (subst (AreRows (placed_entries k) (placed_entries k)) (sym c.deref.ensures.value) c.in_ok-rows.ensures) in
+    let start = none_listed c.args.label.now k _ _ c.args.out.now.items (c.first-before.ensures k c.in_ok-rows.ensures old) c.none-words_found.ensures in
     subst (λ (xs : List PlacedEntry). IsListedUpTo c.args.label.now k xs c.first-before.result c.none-words_found.result c.args.out.now.items c.args.out.now.items) (sym (c.into_iter-place-iterator.ensures.into_iter_gives ∙ c.entries-place-items.ensures)) start
 
 pub entries-preserved : goal.entries-preserved

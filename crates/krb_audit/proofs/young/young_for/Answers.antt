@@ -3,7 +3,7 @@ use Rattle.std.specs.List.{fold}
 use Rattle.std.proofs.lemmas.List.{take_all}
 use Rattle.krb_audit.specs.declared.selection.SelectedKvno.TheVariants.{OldFor}
 use Rattle.krb_audit.specs.Table.{AreYoung}
-use Rattle.krb_audit.proofs.KnownLemmas.{are_young, marked}
+use Rattle.krb_audit.proofs.KvnoMarkLemmas.{are_young, marked}
 use Rattle.krb_audit.proofs.young.young_for.Goals as goal
 
 pub returns : goal.returns

@@ -1,6 +1,6 @@
 use Rattle.std.proofs.Common.{◌≡◌, length, replicate, take, false}
 use Rattle.std.specs.List.{fold}
-use Rattle.krb_audit.proofs.KnownLemmas.{marked}
+use Rattle.krb_audit.proofs.KvnoMarkLemmas.{marked}
 use Rattle.krb_audit.proofs.young.young_for.Given as goal
 
 abbrev pub invariant-rows : goal.invariant-rows

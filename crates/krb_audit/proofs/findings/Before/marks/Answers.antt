@@ -15,8 +15,9 @@ returns g c = λ k before rest known.
     let all = placed_entries k in
     let x : PlacedEntry = (c.args.place, c.args.entry.now) in
     let old = c.args.self.now in
-    let first = c.next_known-known.result.first in
-    let next = c.next_known-known.ensures Old 0 all rest x known.known in
+    let first = c.next_row-first.result.first in
+    let next = c.next_row-first.ensures all rest x known.rows in
+    let marked = c.next_mark-old.ensures Old 0 all rest x known.are_old in
     let look : Key → Option (ℕ × List ℕ) = looked old.firsts in
     let key : Key = (first, c.kvno-kvno.result, c.enctype-etype.result) in
     let is : key ≡ key_in first x = λ i. (first, c.kvno-kvno.ensures i, c.enctype-etype.ensures i) in
@@ -27,10 +28,11 @@ returns g c = λ k before rest known.
     let puts : (l : Key) → looked c.consider.new.self l ≡ cond (same_key (key_in first x) l) (Some (unwrap_or (look (key_in first x)) (x.0, x.1.key))) (look l) = λ l.
     c.in_ok-alike.ensures.kept l ∙ ap (λ (m : Key). cond (same_key m l) (Some (unwrap_or (look m) (x.0, c.key.result.now))) (look l)) is
     ∙ ap (λ (s : List ℕ). cond (same_key (key_in first x) l) (Some (unwrap_or (look (key_in first x)) (x.0, s))) (look l)) c.key.ensures in (
-      λ i. record { weak = weak i; hidden = hidden i; alike = alike i; old = next.1 i },
+      λ i. record { weak = weak i; hidden = hidden i; alike = alike i; old = marked.0 i },
       record {
         all = known.all ∙ sym (append_assoc before (x ∷ []) rest);
-        known = next.2;
+        rows = next.1;
+        are_old = marked.1;
         firsts = firsts_next all before x first look (looked c.consider.new.self) known.firsts next.0 puts;
         has_ended = c.either-self.ensures ∙ ap (λ (b : Bool). old.has_ended || b) c.ends_mit-ends.ensures ∙ ended_here before x old.has_ended known.has_ended;
         weak_etypes = c.with-self.ensures before x known.weak_etypes c.enctype-etype.ensures;

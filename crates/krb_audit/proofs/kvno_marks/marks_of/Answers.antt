@@ -1,8 +1,8 @@
 use Rattle.std.proofs.Common.{ap, subst, sym, ◌∙◌, map, arith}
 use Rattle.std.proofs.lemmas.List.{take_all}
-use Rattle.krb_audit.specs.Table.{AreNewest}
-use Rattle.krb_audit.proofs.KnownLemmas.{are_known, from_row}
-use Rattle.krb_audit.proofs.known.known_of_rows.Goals as goal
+use Rattle.krb_audit.specs.Table.{AreNewest, selects_row}
+use Rattle.krb_audit.proofs.KvnoMarkLemmas.{are_marks}
+use Rattle.krb_audit.proofs.kvno_marks.marks_of.Goals as goal
 
 pub returns : goal.returns
 returns g c = λ xs are.
@@ -13,4 +13,4 @@ returns g c = λ xs are.
     let stamps = c.in_ok-newest.ensures xs are in
     let lent = subst (AreNewest xs) (sym c.deref.ensures.value) stamps in
     let all = take_all c.rows.row-index rows (omega arith) in
-    are_known kvno c.args.now xs newest young rows c.rows.known.items are stamps (c.in_ok-young.ensures xs are lent) (c.rows.invariant ∙ ap (map (from_row kvno newest young)) all)
+    c.rows.invariant ∙ ap (map (selects_row kvno newest young)) all ∙ are_marks kvno c.args.now xs newest young rows are stamps (c.in_ok-young.ensures xs are lent)

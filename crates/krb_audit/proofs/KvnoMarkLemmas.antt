@@ -1,13 +1,11 @@
--- What is known of entries, from the rows.
-use Rattle.std.proofs.Common.{◌≡◌, ℕ, Bool, true, false, cond, List, [], ◌∷◌, get_or, map, replicate, length, Option, Some, refl, ap, sym, ◌∙◌}
+-- Which entries have a selected kvno, from the rows.
+use Rattle.std.proofs.Common.{◌≡◌, ℕ, Bool, true, false, cond, List, [], ◌∷◌, get_or, map, replicate, length, Option, refl, ap, sym, ◌∙◌}
 use Rattle.std.specs.Prelude.{◌&&◌, ◌||◌, ◌==◌, not}
 use Rattle.std.specs.List.{fold, list_any}
 use Rattle.std.proofs.Math.Bool.{or_assoc, or-false}
-use Rattle.std.proofs.lemmas.List.{length-map}
 use Rattle.krb_wire.specs.Spelling.{Parts}
 use Rattle.krb_wire.specs.SameName.{have_same_name}
 use Rattle.krb_keytab.specs.Find.{PlacedEntry}
-use Rattle.krb_audit.specs.declared.known.Known.{Known}
 use Rattle.krb_audit.specs.declared.rows.Row.{Row}
 use Rattle.krb_audit.specs.declared.selection.SelectedKvno.{SelectedKvno}
 use Rattle.krb_audit.specs.declared.selection.SelectedKvno.TheVariants.{Any, Exactly, Newest, Old, OldFor}
@@ -15,7 +13,7 @@ use Rattle.krb_audit.specs.declared.stamp.Stamp.{Stamp}
 use Rattle.krb_audit.specs.Newest.{is_old}
 use Rattle.krb_audit.specs.Rows.{AreRows}
 use Rattle.krb_audit.specs.Selection.{has_selected_kvno, is_young}
-use Rattle.krb_audit.specs.Table.{AreKnown, AreNewest, AreYoung, is_old_row, is_young_row, known_in, known_shown, selects_row}
+use Rattle.krb_audit.specs.Table.{AreMarks, AreNewest, AreYoung, is_old_row, is_young_row, selects_row}
 use Rattle.krb_audit.proofs.NewestStamps.{at_name, old_row}
 use Rattle.krb_audit.proofs.RowLemmas.{IsRow, map_rows, stepped}
 
@@ -54,15 +52,6 @@ selects_by Old now xs newest young r x stamps marks is = old_row xs newest r x s
 selects_by (OldFor seconds) now xs newest young r x stamps marks is =
     ap (λ (old : Bool). old && not (get_or young r.first false)) (old_row xs newest r x stamps is) ∙ ap (λ (b : Bool). is_old xs x.1 && not b) (marks x.1.principal r.first is.first)
 
--- what is known from a row
-abbrev pub from_row : SelectedKvno → List (Option Stamp) → List Bool → Row → Option ℕ × Bool
-from_row kvno newest young r = (Some r.first, selects_row kvno newest young r)
-
-pub are_known : (kvno : SelectedKvno) (now : ℕ) (xs : List PlacedEntry) (newest : List (Option Stamp)) (young : List Bool) (rows : List Row) (known : List Known) → AreRows xs xs rows → AreNewest xs newest → AreYoung kvno now xs young
-    → map known_shown known ≡ map (from_row kvno newest young) rows → AreKnown kvno now xs xs known
-are_known kvno now xs newest young rows known are stamps marks is =
-    is ∙ map_rows (from_row kvno newest young) (known_in kvno now xs) xs (λ r x row. λ i. (sym row.first i, selects_by kvno now xs newest young r x stamps marks row i)) xs rows are
-
--- as much is known as there are entries
-pub known_count : (kvno : SelectedKvno) (now : ℕ) (all xs : List PlacedEntry) (known : List Known) → AreKnown kvno now all xs known → length known ≡ length xs
-known_count kvno now all xs known h = sym (length-map known known_shown) ∙ ap length h ∙ length-map xs (known_in kvno now all)
+pub are_marks : (kvno : SelectedKvno) (now : ℕ) (xs : List PlacedEntry) (newest : List (Option Stamp)) (young : List Bool) (rows : List Row) → AreRows xs xs rows → AreNewest xs newest → AreYoung kvno now xs young → AreMarks kvno now xs xs (map (selects_row kvno newest young) rows)
+are_marks kvno now xs newest young rows are stamps marks =
+    map_rows (selects_row kvno newest young) (λ x. has_selected_kvno kvno now xs x.1) xs (λ r x row. selects_by kvno now xs newest young r x stamps marks row) xs rows are
