@@ -1,13 +1,16 @@
 -- What is found when one more entry is checked.
-use Rattle.std.proofs.Common.{◌≡◌, ℕ, suc, ◌+◌, ◌≤◌, arith, Bool, List, [], ◌∷◌, ◌++◌, length, map, Option, Some, None, refl, sym, ap, ◌∙◌, append_assoc}
+use Rattle.std.proofs.Common.{◌≡◌, ℕ, suc, ◌≤◌, arith, Bool, List, [], ◌∷◌, ◌++◌, length, Option, Some, None, refl, sym, ap, ◌∙◌, append_assoc}
 use Rattle.std.specs.Prelude.{◌||◌}
 use Rattle.std.specs.List.{flat_map, filter_map, cons_option, list_any}
 use Rattle.std.proofs.Math.Bool.{or_assoc, or-false}
 use Rattle.std.proofs.lemmas.List.Folds.{list_any-append}
-use Rattle.krb_walk.specs.Store.{records, record_of, standing}
-use Rattle.krb_keytab.specs.Cells.{Cell, size}
-use Rattle.krb_keytab.specs.Find.{PlacedEntry, placed_entries, placed_entry}
-use Rattle.krb_keytab.specs.Store.{KeytabState, store_cell, store_of}
+use Rattle.krb_keytab.specs.CellViews.{cells_of}
+use Rattle.krb_keytab.specs.Changes.{placed_cells}
+use Rattle.krb_keytab.specs.Entries.{entry_in}
+use Rattle.krb_keytab.specs.Find.{PlacedEntry, placed_entries}
+use Rattle.krb_keytab.specs.Store.{KeytabState}
+use Rattle.krb_keytab.proofs.EntryLists.{entries_of_cells}
+use Rattle.krb_keytab.proofs.ImageChanges.{placed_len}
 use Rattle.krb_audit.specs.declared.findings.Before.{Before}
 use Rattle.krb_audit.specs.declared.marks.Marks.{Marks}
 use Rattle.krb_audit.specs.declared.finding_words.FindingWords.{FindingWords}
@@ -55,12 +58,9 @@ none_listed label k b t start known none = record {
   words_found = ap (λ u. joined u (words_of (marked k))) none;
 }
 
--- what the check of the next entry must return, and what must be known after it
-abbrev pub Gives : {A : Type 0} → KeytabState → PlacedEntry → List PlacedEntry → Before A → Marks → Before A → Type 0
-Gives k x rest b m c = (before : List PlacedEntry) → IsBefore k before (x ∷ rest) b → (m ≡ marks_of k before x) × IsBefore k (before ++ x ∷ []) rest c
-
+-- the check of the next entry is listed
 pub one_listed : {A : Type 0} (label : List ℕ) (k : KeytabState) (x : PlacedEntry) (rest : List PlacedEntry) (b c : Before A) (m : Marks) (t u : FindingWords) (start text new : List ℕ) → IsListedUpTo label k (x ∷ rest) b t start text
-    → Gives k x rest b m c → u ≡ with_marks t m → new ≡ text ++ mark_lines label (x, m) → IsListedUpTo label k rest c u start new
+    → ((before : List PlacedEntry) → IsBefore k before (x ∷ rest) b → (m ≡ marks_of k before x) × IsBefore k (before ++ x ∷ []) rest c) → u ≡ with_marks t m → new ≡ text ++ mark_lines label (x, m) → IsListedUpTo label k rest c u start new
 one_listed label k x rest b c m t u start text new h gives words_found lines =
     let given = gives h.before h.known in
     let after = marked_after k (h.before ++ x ∷ []) rest in
@@ -84,17 +84,13 @@ mapped_head : {Y : Type 0} (o : Option Y) (ys : List Y) (n : ℕ) → length ys 
 mapped_head None ys n le = omega (arith, le)
 mapped_head (Some y) ys n le = omega (arith, le)
 
-standing_count : (at : ℕ) (cells : List Cell) → length (standing at (map store_cell cells)) ≡ length cells
-standing_count at [] = refl
-standing_count at (c ∷ cs) = ap suc (standing_count (at + (4 + size c)) cs)
-
 mapped_few : {X Y : Type 0} (h : X → Option Y) (xs : List X) → length (filter_map h xs) ≤ length xs
 mapped_few h [] = omega arith
 mapped_few h (x ∷ xs) = mapped_head (h x) (filter_map h xs) (length xs) (mapped_few h xs)
 
 pub entries_few : (k : KeytabState) → length (placed_entries k) ≤ length k.contents.cells
 entries_few k =
-    let of_records = mapped_few (placed_entry k) (records (store_of k)) in
-    let of_cells = mapped_few record_of (standing 2 (map store_cell k.contents.cells)) in
-    let stand = standing_count 2 k.contents.cells in
-    omega (arith, of_records, of_cells, stand)
+    let listed = ap length (entries_of_cells k (cells_of k) refl) in
+    let of_cells = mapped_few (entry_in k.format) (placed_cells 2 k.contents.cells) in
+    let placed = placed_len 2 k.contents.cells in
+    omega (arith, listed, of_cells, placed)

@@ -13,7 +13,7 @@ use Rattle.krb_audit.specs.declared.stamp.Stamp.{Stamp}
 use Rattle.krb_audit.specs.Newest.{is_old}
 use Rattle.krb_audit.specs.Rows.{AreRows}
 use Rattle.krb_audit.specs.Selection.{has_selected_kvno, is_young}
-use Rattle.krb_audit.specs.Table.{AreMarks, AreNewest, AreYoung, is_old_row, is_young_row, selects_row}
+use Rattle.krb_audit.specs.KvnoMarks.{AreMarks, AreNewest, AreYoung, is_old_row, is_young_row, selects_row}
 use Rattle.krb_audit.proofs.NewestStamps.{at_name, old_row}
 use Rattle.krb_audit.proofs.RowLemmas.{IsRow, map_rows, stepped}
 

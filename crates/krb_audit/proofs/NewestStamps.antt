@@ -11,7 +11,7 @@ use Rattle.krb_audit.specs.declared.rows.Row.{Row}
 use Rattle.krb_audit.specs.declared.stamp.Stamp.{Stamp}
 use Rattle.krb_audit.specs.Newest.{has_other_version, is_newer, is_old, newer, newest, newest_from}
 use Rattle.krb_audit.specs.Rows.{AreRows, first_number, newer_stamp, stamp_of, stamped}
-use Rattle.krb_audit.specs.Table.{AreNewest, is_old_row}
+use Rattle.krb_audit.specs.KvnoMarks.{AreNewest, is_old_row}
 use Rattle.krb_audit.proofs.FirstNumbers.{first_within, number_test, same_equiv}
 use Rattle.krb_audit.proofs.RowLemmas.{IsRow, at_number, fold_rows, row_count, stepped}
 

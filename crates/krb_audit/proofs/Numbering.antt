@@ -21,9 +21,8 @@ use Rattle.krb_audit.specs.declared.rows.Names.{Names}
 use Rattle.krb_audit.specs.declared.rows.Row.{Row}
 use Rattle.krb_audit.specs.declared.stamp.Stamp.{Stamp}
 use Rattle.krb_audit.specs.Hash.{hash_of}
-use Rattle.krb_audit.specs.Known.{HashedName, name_cmp, to_name, AreNumbered}
+use Rattle.krb_audit.specs.Rows.{HashedName, name_cmp, to_name, AreNumbered, AreRows, first_from, first_number, row_in, shown, stamp_of}
 use Rattle.krb_audit.specs.Names.{kt_name}
-use Rattle.krb_audit.specs.Rows.{AreRows, first_from, first_number, row_in, shown, stamp_of}
 use Rattle.krb_audit.proofs.FirstNumbers.{same_equiv, first_alike}
 use Rattle.krb_audit.proofs.NameBytes.{same_bytes}
 

@@ -9,7 +9,7 @@ use Rattle.krb_audit.specs.declared.selection.SelectedKvno.TheVariants.{Old}
 use Rattle.krb_audit.specs.Findings.{ends_mit, weak_among}
 use Rattle.krb_audit.specs.Firsts.{AreFirsts, looked}
 use Rattle.krb_audit.specs.Rows.{AreRows}
-use Rattle.krb_audit.specs.Table.{AreMarks}
+use Rattle.krb_audit.specs.KvnoMarks.{AreMarks}
 
 -- what is known of a keytab between the entries `before` and the entries `rest`
 pub record IsBefore {A : Type 0} (k : KeytabState) (before rest : List PlacedEntry) (b : Before A) : Type 0 where

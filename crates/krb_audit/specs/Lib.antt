@@ -8,10 +8,9 @@ pub mod Laws
 pub mod Names
 pub mod Hash
 pub mod Rows
-pub mod Known
-pub mod Table
+pub mod KvnoMarks
 pub mod EntryText
-pub mod Criteria
+pub mod EntryCriteria
 pub mod TicketText
 pub mod TicketCriteria
 pub mod Firsts

@@ -1,7 +1,7 @@
 //! The criteria by which entries are selected, but for the kvno.
 
 ghost use Rattle.std.specs.Prelude.{◌≡◌, ◌&&◌, IfOk};
-ghost use Rattle.krb_audit.specs.Criteria.{entry_text, has_entry_text};
+ghost use Rattle.krb_audit.specs.EntryCriteria.{entry_text, has_entry_text};
 ghost use Rattle.krb_audit.specs.Selection.{has_selected_enctype};
 
 use crate::selected_names::SelectedNames;

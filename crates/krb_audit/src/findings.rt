@@ -7,7 +7,7 @@ ghost use Rattle.krb_keytab.specs.Store.{KeytabState};
 ghost use Rattle.krb_audit.specs.Before.{IsBefore};
 ghost use Rattle.krb_audit.specs.Findings.{marked, marks_of, weak_among};
 ghost use Rattle.krb_audit.specs.declared.selection.SelectedKvno.TheVariants.{Old};
-ghost use Rattle.krb_audit.specs.Table.{AreMarks};
+ghost use Rattle.krb_audit.specs.KvnoMarks.{AreMarks};
 ghost use Rattle.krb_audit.specs.Rows.{AreRows};
 ghost use Rattle.krb_audit.specs.Report.{labelled_fault, mark_lines, report, words_found, words_of, wrong_words};
 
@@ -18,7 +18,7 @@ use crate::kvno_marks::{marks_of, next_mark};
 use crate::marks::Marks;
 use crate::mit::ends_mit;
 use crate::mode::{append_mode, is_open_file, is_open_to_all};
-use crate::rows::{Row, next_row, rows_of};
+use crate::rows::{Row, next_number, rows_of};
 use crate::selection::SelectedKvno;
 use crate::weak_etypes::WeakEtypes;
 use krb_keytab::{EntryView, Keytab};
@@ -92,7 +92,7 @@ impl<'a, A: Allocator + Copy> Before<'a, A> {
         let etype = entry.enctype();
         let ends = ends_mit(entry);
         let hidden = is_first(ends, self.has_ended);
-        let first = next_row(&mut self.rows).first;
+        let first = next_number(&mut self.rows);
         let old = next_mark(&mut self.are_old);
         let key = (first, kvno, etype);
         let alike = self.firsts.consider(key, place, entry.key())?;

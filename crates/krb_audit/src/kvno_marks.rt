@@ -1,12 +1,12 @@
 //! Which entries have a selected kvno.
 
-ghost use Rattle.std.specs.Prelude.{◌≡◌, ℕ, ◌∷◌, List, IfOk, Some};
+ghost use Rattle.std.specs.Prelude.{◌≡◌, ℕ, ◌∷◌, List, IfOk, false, get_or};
 ghost use Rattle.std.specs.Vec.Iter.{into_iter_items};
 ghost use Rattle.krb_keytab.specs.Find.{PlacedEntry};
 ghost use Rattle.krb_audit.specs.Rows.{AreRows};
 ghost use Rattle.krb_audit.specs.Selection.{has_selected_kvno};
 ghost use Rattle.krb_audit.specs.declared.selection.SelectedKvno.{SelectedKvno};
-ghost use Rattle.krb_audit.specs.Table.{AreMarks, selects_kvno, selects_row};
+ghost use Rattle.krb_audit.specs.KvnoMarks.{AreMarks, selects_row};
 
 use crate::newest::{is_old, newest_stamps};
 use crate::rows::Row;
@@ -17,25 +17,24 @@ use krb_wire::NoMemory;
 use std::alloc::Allocator;
 use std::vec::IntoIter;
 
-// Returns whether a kvno is selected, if its entry is old, and if its name has a young entry.
-fn selects_kvno(kvno: SelectedKvno, version: u32, is_old: bool, is_young: bool) -> bool
-    ensures { result ≡ selects_kvno kvno version is_old is_young }
+// Returns whether there is a mark at the number of a row's name.
+fn is_marked(marks: &[bool], row: Row) -> bool
+    ensures { result ≡ get_or marks.now row.first false }
 {
-    match kvno {
-        SelectedKvno::Any => true,
-        SelectedKvno::Exactly(selected) => version == selected,
-        SelectedKvno::Newest => !is_old,
-        SelectedKvno::Old => is_old,
-        SelectedKvno::OldFor(_) => is_old && !is_young,
-    }
+    marks.get(row.first as usize).copied().unwrap_or(false)
 }
 
 // Returns whether the entry of a row has a selected kvno.
 fn selects_row(kvno: SelectedKvno, newest: &[Option<Stamp>], young: &[bool], row: Row) -> bool
     ensures { result ≡ selects_row kvno newest.now young.now row }
 {
-    let is_young = young.get(row.first as usize).copied().unwrap_or(false);
-    selects_kvno(kvno, row.stamp.kvno, is_old(newest, row), is_young)
+    match kvno {
+        SelectedKvno::Any => true,
+        SelectedKvno::Exactly(selected) => row.stamp.kvno == selected,
+        SelectedKvno::Newest => !is_old(newest, row),
+        SelectedKvno::Old => is_old(newest, row),
+        SelectedKvno::OldFor(_) => is_old(newest, row) && !is_marked(young, row),
+    }
 }
 
 /// Returns, for each of the entries of these rows, whether its kvno is selected.

@@ -3,7 +3,7 @@
 ghost use Rattle.std.specs.Prelude.{◌≡◌, List, IfOk, None, get_or, slice_set};
 ghost use Rattle.krb_keytab.specs.Find.{PlacedEntry};
 ghost use Rattle.krb_audit.specs.Rows.{AreRows, newer_stamp};
-ghost use Rattle.krb_audit.specs.Table.{AreNewest, is_old_row};
+ghost use Rattle.krb_audit.specs.KvnoMarks.{AreNewest, is_old_row};
 
 use crate::rows::Row;
 use crate::stamp::Stamp;
@@ -15,7 +15,8 @@ fn newer(newest: Option<Stamp>, later: Stamp) -> Option<Stamp>
     ensures { result ≡ newer_stamp newest later }
 {
     match newest {
-        Some(newest) => Some(newest.newer(later)),
+        Some(newest) if newest.is_older_than(later) => Some(later),
+        Some(newest) => Some(newest),
         None => Some(later),
     }
 }

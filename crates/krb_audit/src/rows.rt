@@ -5,8 +5,7 @@ ghost use Rattle.std.specs.Vec.Iter.{into_iter_items};
 ghost use Rattle.std.specs.BTreeMap.{get, Updates};
 ghost use Rattle.krb_keytab.specs.Entry.{entry_at};
 ghost use Rattle.krb_keytab.specs.Find.{PlacedEntry, placed_entries};
-ghost use Rattle.krb_audit.specs.Known.{name_cmp, AreNumbered};
-ghost use Rattle.krb_audit.specs.Rows.{AreRows, first_number};
+ghost use Rattle.krb_audit.specs.Rows.{name_cmp, AreNumbered, AreRows, first_number};
 
 use crate::hash::hash_of;
 use crate::names::named_entry;
@@ -85,19 +84,13 @@ pub fn rows_of<A: Allocator + Copy, B: Allocator>(
     Ok(names.rows)
 }
 
-/// Returns the next row.
-pub fn next_row<A: Allocator>(rows: &mut IntoIter<Row, A>) -> Row
+/// Returns the number of the name of the next row.
+pub fn next_number<A: Allocator>(rows: &mut IntoIter<Row, A>) -> u32
     ensures { (all rest : List PlacedEntry) (x : PlacedEntry) → AreRows all (x ∷ rest) (into_iter_items rows.old)
-        → (first_number x.1.principal all ≡ Some result.first) × AreRows all rest (into_iter_items rows.new) }
+        → (first_number x.1.principal all ≡ Some result) × AreRows all rest (into_iter_items rows.new) }
 {
     match rows.next() {
-        Some(next) => next,
-        None => Row {
-            first: 0,
-            stamp: Stamp {
-                kvno: 0,
-                timestamp: 0,
-            },
-        },
+        Some(row) => row.first,
+        None => 0,
     }
 }

@@ -1,8 +1,8 @@
 //! Which of two entries of a name is the newer one.
 
-ghost use Rattle.std.specs.Prelude.{◌≡◌, Some};
+ghost use Rattle.std.specs.Prelude.{◌≡◌};
 ghost use Rattle.krb_audit.specs.Newest.{has_wrapped, is_newer};
-ghost use Rattle.krb_audit.specs.Rows.{newer_stamp, stamp_of, stamped};
+ghost use Rattle.krb_audit.specs.Rows.{stamp_of, stamped};
 
 use krb_keytab::EntryView;
 
@@ -30,8 +30,8 @@ impl Stamp {
         }
     }
 
-    // Returns whether a later entry of the name replaces this one as the newest.
-    fn is_older_than(self, later: Stamp) -> bool
+    /// Returns whether a later entry of the name replaces this one as the newest.
+    pub fn is_older_than(self, later: Stamp) -> bool
         ensures { result ≡ is_newer (stamped self) (stamped later) }
     {
         if has_wrapped(later.kvno, self.kvno) {
@@ -40,17 +40,6 @@ impl Stamp {
             self.timestamp < later.timestamp
         } else {
             self.kvno < later.kvno
-        }
-    }
-
-    /// Returns the newer of this stamp and of that of a later entry of the name.
-    pub fn newer(self, later: Stamp) -> Stamp
-        ensures { Some result ≡ newer_stamp (Some self) later }
-    {
-        if self.is_older_than(later) {
-            later
-        } else {
-            self
         }
     }
 }

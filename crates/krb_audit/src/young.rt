@@ -5,7 +5,7 @@ ghost use Rattle.krb_keytab.specs.Find.{PlacedEntry};
 ghost use Rattle.krb_audit.specs.declared.selection.SelectedKvno.TheVariants.{OldFor};
 ghost use Rattle.krb_audit.specs.Rows.{AreRows, stamped};
 ghost use Rattle.krb_audit.specs.Selection.{is_young};
-ghost use Rattle.krb_audit.specs.Table.{AreNewest, AreYoung, is_young_row};
+ghost use Rattle.krb_audit.specs.KvnoMarks.{AreNewest, AreYoung, is_young_row};
 
 use crate::newest::is_old;
 use crate::rows::Row;

@@ -7,7 +7,7 @@ use Rattle.krb_keytab.specs.Entries.{entries_in}
 use Rattle.krb_keytab.specs.Entry.{entry_at}
 use Rattle.krb_keytab.specs.Find.{PlacedEntry, placed_entries}
 use Rattle.krb_keytab.proofs.EntryLists.{entries_of_cells, listed_live}
-use Rattle.krb_audit.specs.Known.{AreNumbered}
+use Rattle.krb_audit.specs.Rows.{AreNumbered}
 use Rattle.krb_audit.proofs.Numbering.{none_numbered}
 use Rattle.krb_audit.proofs.rows.rows_of.Goals as goal
 

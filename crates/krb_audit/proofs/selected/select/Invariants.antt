@@ -1,6 +1,6 @@
 use Rattle.std.proofs.Common.{◌≡◌}
 use Rattle.krb_keytab.specs.Find.{placed_entries}
-use Rattle.krb_audit.specs.Criteria.{AreVersions, EntriesSoFar, entry_text}
+use Rattle.krb_audit.specs.EntryCriteria.{AreVersions, EntriesSoFar, entry_text}
 use Rattle.krb_audit.specs.Selection.{has_selected_kvno}
 use Rattle.krb_audit.proofs.selected.select.Given as goal
 

@@ -1,6 +1,6 @@
 use Rattle.std.proofs.Common.{◌≡◌, ◌++◌}
 use Rattle.krb_keytab.specs.Find.{placed_entries}
-use Rattle.krb_audit.specs.Criteria.{AreVersions, entries_among, entry_text}
+use Rattle.krb_audit.specs.EntryCriteria.{AreVersions, entries_among, entry_text}
 use Rattle.krb_audit.specs.Selection.{has_selected_kvno, selected_in}
 use Rattle.krb_audit.proofs.selected.selected_entries.Given as goal
 

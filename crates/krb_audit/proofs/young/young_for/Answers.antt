@@ -2,7 +2,7 @@ use Rattle.std.proofs.Common.{false, ap, sym, subst, ◌∙◌, length, replicat
 use Rattle.std.specs.List.{fold}
 use Rattle.std.proofs.lemmas.List.{take_all}
 use Rattle.krb_audit.specs.declared.selection.SelectedKvno.TheVariants.{OldFor}
-use Rattle.krb_audit.specs.Table.{AreYoung}
+use Rattle.krb_audit.specs.KvnoMarks.{AreYoung}
 use Rattle.krb_audit.proofs.KvnoMarkLemmas.{are_young, marked}
 use Rattle.krb_audit.proofs.young.young_for.Goals as goal
 

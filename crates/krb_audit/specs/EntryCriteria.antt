@@ -13,7 +13,7 @@ use Rattle.krb_audit.specs.declared.selected_versions.SelectedVersions.TheVarian
 use Rattle.krb_audit.specs.declared.selected.Selected.{Selected}
 use Rattle.krb_audit.specs.EntryText.{EntryText}
 use Rattle.krb_audit.specs.Selection.{has_selected_enctype, has_text, texts_of}
-use Rattle.krb_audit.specs.Table.{AreMarks}
+use Rattle.krb_audit.specs.KvnoMarks.{AreMarks}
 
 -- the prepared kvnos are the selected ones, for a pass over the entries `rest` among all
 abbrev pub AreVersions : {A : Type 0} → SelectedKvno → ℕ → List PlacedEntry → List PlacedEntry → SelectedVersions A → Type 0

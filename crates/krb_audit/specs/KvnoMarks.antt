@@ -27,17 +27,13 @@ abbrev pub AreYoung : SelectedKvno → ℕ → List PlacedEntry → List Bool �
 AreYoung (OldFor seconds) now xs young = (p : Parts) (i : ℕ) → first_number p xs ≡ Some i → get_or young i false ≡ has_young now seconds xs p
 AreYoung kvno now xs young = Unit {0}
 
--- a kvno is selected, if its entry is old, and if its name has a young entry
-abbrev pub selects_kvno : SelectedKvno → ℕ → Bool → Bool → Bool
-selects_kvno Any version is_old is_young = true
-selects_kvno (Exactly selected) version is_old is_young = version == selected
-selects_kvno Newest version is_old is_young = not is_old
-selects_kvno Old version is_old is_young = is_old
-selects_kvno (OldFor seconds) version is_old is_young = is_old && not is_young
-
--- the row of an entry has a selected kvno
+-- the entry of a row has a selected kvno, by those stamps and marks
 abbrev pub selects_row : SelectedKvno → List (Option Stamp) → List Bool → Row → Bool
-selects_row kvno newest young r = selects_kvno kvno r.stamp.kvno (is_old_row newest r) (get_or young r.first false)
+selects_row Any newest young r = true
+selects_row (Exactly version) newest young r = r.stamp.kvno == version
+selects_row Newest newest young r = not (is_old_row newest r)
+selects_row Old newest young r = is_old_row newest r
+selects_row (OldFor seconds) newest young r = is_old_row newest r && not (get_or young r.first false)
 
 -- for each of some entries, whether its kvno is selected
 abbrev pub AreMarks : SelectedKvno → ℕ → List PlacedEntry → List PlacedEntry → List Bool → Type 0
