@@ -1,17 +1,14 @@
-pub mod UpTo
 pub mod NameBytes
 pub mod FirstNumbers
-pub mod Keeping
-pub mod Knowing
-pub mod Selecting
-pub mod Passing
-pub mod YoungLemmas
-pub mod Octal
-pub mod CountsLemmas
-pub mod Numbers
-pub mod WeakNumbers
+pub mod Numbering
+pub mod RowLemmas
+pub mod NewestStamps
+pub mod KvnoMarkLemmas
 pub mod FirstsLemmas
 pub mod FindingsLemmas
+pub mod Octal
+pub mod CountsLemmas
+pub mod WeakNumbers
 pub mod NewestLemmas
 pub mod OnLiterals
 mod Samples

@@ -1,5 +1,5 @@
 -- Worked samples of the definitions.
-use Rattle.std.specs.Prelude.{◌≡◌, [], ◌∷◌, ◌++◌, codes, Some, true, false}
+use Rattle.std.specs.Prelude.{◌≡◌, [], ◌∷◌, codes, Some, true, false}
 use Rattle.std.proofs.Common.{refl}
 use Rattle.krb_audit.specs.Report.{mark_lines}
 use Rattle.krb_audit.proofs.OnLiterals.{krb_audit_on_literals}

@@ -1,20 +1,16 @@
 -- The first entry of each name, kvno and enctype, in a map.
-use Rattle.std.specs.Prelude.{◌≡◌, ℕ, List, find, Bool, ◌&&◌, ◌==◌, Option, option_map}
+use Rattle.std.specs.Prelude.{◌≡◌, ℕ, List, find, Bool, ◌&&◌, ◌==◌, Option, Some, option_map}
 use Rattle.std.specs.BTreeMap.{get}
-use Rattle.std.specs.Option.{unwrap_or}
 use Rattle.std.specs.declared.cmp.Ordering.{Ordering}
 use Rattle.std.specs.Ordering.{nat_cmp, ordering_then}
 use Rattle.krb_keytab.specs.Find.{PlacedEntry}
 use Rattle.krb_audit.specs.declared.firsts.Firsts.{Firsts}
-use Rattle.krb_audit.specs.Stamps.{first_number}
+use Rattle.krb_audit.specs.Findings.{is_alike}
+use Rattle.krb_audit.specs.Rows.{first_number}
 
 -- a name, as the number of its first entry, a kvno and an enctype
 abbrev pub Key : Type 0
 Key = ℕ × ℕ × ℕ
-
--- the key of one of the entries
-abbrev pub key_of : List PlacedEntry → PlacedEntry → Key
-key_of all x = (unwrap_or (first_number x.1.principal all) 0, x.1.version, x.1.enctype)
 
 -- two keys are the same
 abbrev pub same_key : Key → Key → Bool
@@ -28,6 +24,6 @@ key_cmp k l = ordering_then (ordering_then (nat_cmp k.0 l.0) (nat_cmp k.1 l.1)) 
 abbrev pub looked : {A : Type 0} → Firsts A → Key → Option (ℕ × List ℕ)
 looked firsts k = option_map (λ v. (v.0, v.1.now)) (get key_cmp firsts.map k)
 
--- for each key, the place and the secret key of the first entry among `xs` that has it
+-- for the key of each entry, the place and the secret key of the first entry among `xs` that is alike
 abbrev pub AreFirsts : List PlacedEntry → List PlacedEntry → (Key → Option (ℕ × List ℕ)) → Type 0
-AreFirsts all xs look = (k : Key) → look k ≡ option_map (λ x. (x.0, x.1.key)) (find (λ x. same_key k (key_of all x)) xs)
+AreFirsts all xs look = (x : PlacedEntry) (i : ℕ) → first_number x.1.principal all ≡ Some i → look (i, x.1.version, x.1.enctype) ≡ option_map (λ y. (y.0, y.1.key)) (find (is_alike x) xs)

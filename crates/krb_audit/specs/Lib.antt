@@ -7,10 +7,10 @@ pub mod Laws
 -- For private contracts alone.
 pub mod Names
 pub mod Hash
-pub mod Stamps
-pub mod Known
-pub mod Young
-pub mod Prepared
+pub mod Rows
+pub mod KvnoMarks
+pub mod EntryText
+pub mod EntryCriteria
 pub mod TicketText
 pub mod TicketCriteria
 pub mod Firsts

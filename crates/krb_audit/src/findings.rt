@@ -1,26 +1,32 @@
 //! Checks a keytab for what an administrator should know.
 
-ghost use Rattle.std.specs.Prelude.{◌≡◌, ◌+◌, ◌<◌, ◌^◌, ◌∷◌, ◌++◌, ◌&&◌, ◌||◌, [], List, length, not, OnOk, IfOk};
+ghost use Rattle.std.specs.Prelude.{◌≡◌, ◌∷◌, ◌++◌, ◌&&◌, ◌||◌, [], List, length, not, OnOk, IfOk};
 ghost use Rattle.std.specs.List.{flat_map};
 ghost use Rattle.krb_keytab.specs.Find.{PlacedEntry, placed_entries};
 ghost use Rattle.krb_keytab.specs.Store.{KeytabState};
 ghost use Rattle.krb_audit.specs.Before.{IsBefore};
 ghost use Rattle.krb_audit.specs.Findings.{marked, marks_of, weak_among};
+ghost use Rattle.krb_audit.specs.declared.selection.SelectedKvno.TheVariants.{Old};
+ghost use Rattle.krb_audit.specs.KvnoMarks.{AreMarks};
+ghost use Rattle.krb_audit.specs.Rows.{AreRows};
 ghost use Rattle.krb_audit.specs.Report.{labelled_fault, mark_lines, report, words_found, words_of, wrong_words};
 
 use crate::counts::append_counts;
 use crate::finding_words::FindingWords;
 use crate::firsts::Firsts;
+use crate::kvno_marks::{marks_of, next_mark};
 use crate::marks::Marks;
 use crate::mit::ends_mit;
 use crate::mode::{append_mode, is_open_file, is_open_to_all};
-use crate::newest::NewestVersions;
+use crate::rows::{Row, next_number, rows_of};
+use crate::selection::SelectedKvno;
 use crate::weak_etypes::WeakEtypes;
 use krb_keytab::{EntryView, Keytab};
 use krb_text::{append, append_fault_line, is_weak};
 use krb_walk::Fault;
 use krb_wire::NoMemory;
 use std::alloc::Allocator;
+use std::vec::IntoIter;
 
 /// What a check of a keytab found.
 #[derive(Drop)]
@@ -37,11 +43,11 @@ pub struct CheckUp<A: Allocator> {
 /// What is known before an entry is checked.
 #[derive(Drop)]
 struct Before<'a, A: Allocator> {
-    newest: NewestVersions<A>,
+    // The rows of the entries that are still to come, and which of them are old.
+    rows: IntoIter<Row, A>,
+    are_old: IntoIter<bool, A>,
     firsts: Firsts<'a, A>,
-    /// The number of entries before it.
-    count: u32,
-    /// True if MIT's programs stop before one of them.
+    /// True if MIT's programs stop before one of the entries so far.
     has_ended: bool,
     weak_etypes: WeakEtypes,
 }
@@ -62,44 +68,41 @@ fn either(held: bool, holds: bool) -> bool
 
 impl<'a, A: Allocator + Copy> Before<'a, A> {
     // Returns what is known before the first entry of a keytab.
-    fn first<B: Allocator>(alloc: A, keytab: &Keytab<B>) -> Result<Before<'a, A>, NoMemory>
-        ensures { IfOk result (IsBefore keytab.now.state []) }
+    fn first(alloc: A, rows: Vec<Row, A>, are_old: Vec<bool, A>) -> Before<'a, A>
+        ensures { (k : KeytabState) → AreRows (placed_entries k) (placed_entries k) rows.items
+            → AreMarks Old 0 (placed_entries k) (placed_entries k) are_old.items
+            → IsBefore k [] (placed_entries k) result }
     {
-        Ok(Before {
-            newest: NewestVersions::of(alloc, keytab)?,
+        Before {
+            rows: rows.into_iter(),
+            are_old: are_old.into_iter(),
             firsts: Firsts::new(alloc),
-            count: 0,
             has_ended: false,
             weak_etypes: WeakEtypes::none(),
-        })
+        }
     }
 
     // Returns what is found about the next entry, and adds the entry to those before the next.
     fn marks(&mut self, place: u32, entry: &EntryView<'a>) -> Result<Marks, NoMemory>
-        requires { self.old.count + 1 < 2 ^ 32 }
-        ensures marks { (k : KeytabState) (before rest : List PlacedEntry) → IsBefore k before self.old
-            → placed_entries k ≡ before ++ (place, entry.now) ∷ rest
-            → IfOk result (λ marks. marks ≡ marks_of k before (place, entry.now)) }
-        ensures next { (k : KeytabState) (before rest : List PlacedEntry) → IsBefore k before self.old
-            → placed_entries k ≡ before ++ (place, entry.now) ∷ rest
-            → OnOk result (IsBefore k (before ++ (place, entry.now) ∷ []) self.new) }
+        ensures { (k : KeytabState) (before rest : List PlacedEntry) → IsBefore k before ((place, entry.now) ∷ rest) self.old
+            → IfOk result (λ marks. (marks ≡ marks_of k before (place, entry.now))
+            × IsBefore k (before ++ (place, entry.now) ∷ []) rest self.new) }
     {
-        let number = self.count as usize;
         let kvno = entry.kvno();
         let etype = entry.enctype();
         let ends = ends_mit(entry);
         let hidden = is_first(ends, self.has_ended);
-        let first = self.newest.first(number).unwrap_or(0);
+        let first = next_number(&mut self.rows);
+        let old = next_mark(&mut self.are_old);
         let key = (first, kvno, etype);
         let alike = self.firsts.consider(key, place, entry.key())?;
-        self.count += 1;
         self.has_ended = either(self.has_ended, ends);
         self.weak_etypes = self.weak_etypes.with(etype);
         Ok(Marks {
             weak: is_weak(etype),
             hidden,
             alike,
-            old: self.newest.is_old(number, kvno),
+            old,
         })
     }
 }
@@ -125,8 +128,12 @@ fn append_marks<A: Allocator + Copy, B: Allocator>(
     ensures weak_etypes { IfOk result (λ listed. listed.weak_etypes ≡ weak_among (placed_entries keytab.now.state)) }
     ensures count { IfOk result (λ listed. listed.count ≡ length (placed_entries keytab.now.state)) }
 {
+    let rows = rows_of(alloc, keytab)?;
+    let are_old = marks_of(alloc, &rows, SelectedKvno::Old, 0)?;
+    // Bounds the number of entries, so that it fits.
     let _few = keytab.cell_count();
-    let mut before = Before::first(alloc, keytab)?;
+    let count = rows.len() as u32;
+    let mut before = Before::first(alloc, rows, are_old);
     let mut words_found = FindingWords::none();
     'entries: for (place, entry) in keytab.entries() {
         let marks = before.marks(place, &entry)?;
@@ -136,7 +143,7 @@ fn append_marks<A: Allocator + Copy, B: Allocator>(
     Ok(Listed {
         words_found,
         weak_etypes: before.weak_etypes,
-        count: before.count,
+        count,
     })
 }
 

@@ -11,7 +11,7 @@ use std::alloc::Allocator;
 use std::collections::BTreeMap;
 
 /// A name, as the number of its first entry, a kvno and an enctype.
-pub type Key = (usize, u32, u16);
+pub type Key = (u32, u32, u16);
 
 /// Maps each `Key` to the place and the secret key of its first entry.
 #[derive(Drop)]

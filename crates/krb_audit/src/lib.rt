@@ -3,16 +3,19 @@
 #![tactic(auto)]
 
 mod counts;
+mod entry_criteria;
 mod finding_words;
 mod findings;
 mod firsts;
 mod hash;
+mod kvno_marks;
 mod laws;
 mod marks;
 mod mit;
 mod mode;
 mod names;
 mod newest;
+mod rows;
 mod selected;
 mod selected_names;
 mod selected_versions;

@@ -1,12 +1,12 @@
 //! Selects entries of a keytab.
 
-ghost use Rattle.std.specs.Prelude.{◌≡◌, ◌&&◌, if◌then◌else◌, ℕ, ◌++◌, ◌∷◌, [], List, slice_get, IfOk, OnOk, Some};
+ghost use Rattle.std.specs.Prelude.{◌≡◌, ◌++◌, ◌∷◌, [], if◌then◌else◌, Bool, List, IfOk, OnOk};
 ghost use Rattle.krb_keytab.specs.Find.{PlacedEntry, placed_entries};
 ghost use Rattle.krb_text.specs.Found.{removed_line};
-ghost use Rattle.krb_audit.specs.Prepared.{IsPrepared, SelectsOf};
-ghost use Rattle.krb_audit.specs.Selection.{Selects, is_named, has_selected_enctype, has_selected_kvno, selected_in};
+ghost use Rattle.krb_audit.specs.EntryCriteria.{EntriesSoFar};
+ghost use Rattle.krb_audit.specs.Selection.{Selects, selected_in};
 
-use crate::selected_names::SelectedNames;
+use crate::entry_criteria::EntryCriteria;
 use crate::selected_versions::SelectedVersions;
 use crate::selection::Selection;
 use krb_keytab::{EntryView, Keytab};
@@ -36,96 +36,31 @@ impl<A: Allocator> Selected<A> {
         self.places.push(place)?;
         append_placed(b"removed ", place, entry, &mut self.text)
     }
-}
 
-fn has_selected_enctype(selected: &[u16], enctype: u16) -> bool
-    ensures { result ≡ has_selected_enctype selected.now enctype }
-{
-    selected.is_empty() || selected.contains(&enctype)
-}
-
-// A selection, prepared for the entries of a keytab at some time.
-#[derive(Drop)]
-struct Prepared<'s, A: Allocator, B: Allocator> {
-    selection: &'s Selection<B>,
-    names: SelectedNames<A>,
-    versions: SelectedVersions<A>,
-}
-
-impl<'s, A: Allocator + Copy, B: Allocator> Prepared<'s, A, B> {
-    fn of(
-        alloc: A,
-        keytab: &Keytab<A>,
-        selection: &'s Selection<B>,
-        now: u32,
-    ) -> Result<Prepared<'s, A, B>, NoMemory>
-        ensures selection { IfOk result (λ a. a.selection.now ≡ selection.now) }
-        ensures prepared { IfOk result (IsPrepared (placed_entries keytab.now.state) now) }
-    {
-        let names = SelectedNames::of(alloc, &selection.names)?;
-        let versions = SelectedVersions::of(alloc, keytab, selection.kvno, now)?;
-        Ok(Prepared {
-            selection,
-            names,
-            versions,
-        })
-    }
-
-    // Returns whether an entry has the selected name and enctype.
-    fn names(&mut self, entry: &EntryView<'_>) -> Result<bool, NoMemory>
-        ensures selection { self.new.selection ≡ self.old.selection }
-        ensures prepared { (xs : List PlacedEntry) (now : ℕ) → IsPrepared xs now self.old → IsPrepared xs now self.new }
-        ensures named { (xs : List PlacedEntry) (now : ℕ) → IsPrepared xs now self.old
-            → IfOk result (λ b. b ≡ is_named self.old.selection.now entry.now) }
-    {
-        if !has_selected_enctype(&self.selection.enctypes, entry.enctype()) {
-            return Ok(false);
-        }
-        self.names.has(entry.principal())
-    }
-
-    // Returns whether the entry `number` is selected.
-    fn selects(&mut self, number: usize, entry: &EntryView<'_>) -> Result<bool, NoMemory>
-        ensures selection { self.new.selection ≡ self.old.selection }
-        ensures prepared { (xs : List PlacedEntry) (now : ℕ) → IsPrepared xs now self.old → IsPrepared xs now self.new }
-        ensures selects { (xs : List PlacedEntry) (x : PlacedEntry) (now : ℕ) → IsPrepared xs now self.old
-            → slice_get xs number ≡ Some x → x.1 ≡ entry.now
-            → IfOk result (λ b. b ≡ (is_named self.old.selection.now x.1 && has_selected_kvno self.old.selection.now.kvno now xs x.1)) }
-    {
-        if !self.versions.has(number, entry.kvno()) {
-            return Ok(false);
-        }
-        self.names(entry)
-    }
-
-    // Adds the next entry if it is selected.
-    fn consider(
+    // Adds the next entry if it is selected; `has_kvno` says whether its kvno is.
+    fn consider<B: Allocator>(
         &mut self,
-        number: usize,
+        criteria: &mut EntryCriteria<'_, B>,
+        has_kvno: bool,
         place: u32,
         entry: &EntryView<'_>,
-        selected: &mut Selected<A>,
     ) -> Result<(), NoMemory>
-        ensures selection { self.new.selection ≡ self.old.selection }
-        ensures prepared { (xs : List PlacedEntry) (now : ℕ) → IsPrepared xs now self.old → IsPrepared xs now self.new }
-        ensures selects { (xs some : List PlacedEntry) (now : ℕ) → IsPrepared xs now self.old
-            → slice_get xs number ≡ Some (place, entry.now)
-            → SelectsOf self.old.selection.now now xs some selected.old
-            → OnOk result (SelectsOf self.old.selection.now now xs
-            (some ++ (place, entry.now) ∷ []) selected.new) }
+        ensures kept { criteria.new ≡ criteria.old }
+        ensures selects { (h : PlacedEntry → Bool) (rest all : List PlacedEntry) → h (place, entry.now) ≡ has_kvno
+            → EntriesSoFar criteria.old h ((place, entry.now) ∷ rest) all self.old
+            → OnOk result (EntriesSoFar criteria.old h rest all self.new) }
     {
-        let has_version = self.versions.has(number, entry.kvno());
-        if selected.is_named && !has_version {
+        if self.is_named && !has_kvno {
             return Ok(());
         }
-        if !self.names(entry)? {
+        if !criteria.names(entry)? {
             return Ok(());
         }
-        selected.is_named = true;
-        if !has_version {
+        self.is_named = true;
+        if !has_kvno {
             return Ok(());
         }
-        selected.add(place, entry)
+        self.add(place, entry)
     }
 }
 
@@ -139,18 +74,16 @@ pub fn select<A: Allocator + Copy, B: Allocator>(
 ) -> Result<Selected<A>, NoMemory>
     ensures { IfOk result (Selects selection.now now keytab.now.state) }
 {
-    let mut prepared = Prepared::of(alloc, keytab, selection, now)?;
+    let mut criteria = EntryCriteria::of(alloc, selection)?;
+    let mut versions = SelectedVersions::of(alloc, keytab, selection.kvno, now)?;
     let mut selected = Selected {
         places: Vec::new(alloc),
         text: Vec::new(alloc),
         is_named: false,
     };
-    // Bounds the number of entries, so that `number` does not overflow.
-    let _count = keytab.cell_count();
-    let mut number = 0;
     'entries: for (place, entry) in keytab.entries() {
-        prepared.consider(number, place, &entry, &mut selected)?;
-        number += 1;
+        let has_kvno = versions.next(entry.kvno());
+        selected.consider(&mut criteria, has_kvno, place, &entry)?;
     }
     Ok(selected)
 }
@@ -162,8 +95,8 @@ fn add_if<'k, A: Allocator>(
     entry: EntryView<'k>,
     entries: &mut Vec<(u32, EntryView<'k>), A>,
 ) -> Result<(), NoMemory>
-    ensures { OnOk result (entries.new.items
-        ≡ entries.old.items ++ (if is_selected then (place, entry.entry) ∷ [] else [])) }
+    ensures { (rest : List PlacedEntry) → OnOk result (entries.new.items ++ rest
+        ≡ entries.old.items ++ (if is_selected then (place, entry.entry) ∷ rest else rest)) }
 {
     if is_selected {
         entries.push((place, entry))?;
@@ -180,15 +113,13 @@ pub fn selected_entries<'k, A: Allocator + Copy, B: Allocator>(
 ) -> Result<Vec<(u32, EntryView<'k>), A>, NoMemory>
     ensures { IfOk result (λ entries. entries.items ≡ selected_in selection.now 0 keytab.now.state) }
 {
-    let mut prepared = Prepared::of(alloc, keytab, selection, 0)?;
+    let mut criteria = EntryCriteria::of(alloc, selection)?;
+    let mut versions = SelectedVersions::of(alloc, keytab, selection.kvno, 0)?;
     let mut entries = Vec::new(alloc);
-    // Bounds the number of entries, so that `number` does not overflow.
-    let _count = keytab.cell_count();
-    let mut number = 0;
     'entries: for (place, entry) in keytab.entries() {
-        let is_selected = prepared.selects(number, &entry)?;
+        let has_kvno = versions.next(entry.kvno());
+        let is_selected = criteria.selects(has_kvno, &entry)?;
         add_if(is_selected, place, entry, &mut entries)?;
-        number += 1;
     }
     Ok(entries)
 }

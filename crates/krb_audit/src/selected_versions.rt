@@ -1,25 +1,25 @@
 //! The selected kvnos.
 
-ghost use Rattle.std.specs.Prelude.{◌≡◌, ℕ, List, slice_get, IfOk, Some};
+ghost use Rattle.std.specs.Prelude.{◌≡◌, ◌∷◌, ℕ, List, IfOk};
 ghost use Rattle.krb_keytab.specs.Find.{PlacedEntry, placed_entries};
-ghost use Rattle.krb_audit.specs.Prepared.{kvno_of, AreVersions};
+ghost use Rattle.krb_audit.specs.declared.selection.SelectedKvno.{SelectedKvno};
+ghost use Rattle.krb_audit.specs.EntryCriteria.{AreVersions};
 ghost use Rattle.krb_audit.specs.Selection.{has_selected_kvno};
 
-use crate::newest::NewestVersions;
+use crate::kvno_marks::{marks_of, next_mark};
+use crate::rows::rows_of;
 use crate::selection::SelectedKvno;
-use crate::young::Young;
 use krb_keytab::Keytab;
 use krb_wire::NoMemory;
 use std::alloc::Allocator;
+use std::vec::IntoIter;
 
-/// The selected kvnos, prepared for the entries of a keytab.
+/// The selected kvnos, for a pass over the entries of a keytab.
 #[derive(Drop)]
 pub enum SelectedVersions<A: Allocator> {
     Each,
     This(u32),
-    NewestOf(NewestVersions<A>),
-    OtherThan(NewestVersions<A>),
-    Aged(Young<A>),
+    Marked(IntoIter<bool, A>),
 }
 
 impl<A: Allocator + Copy> SelectedVersions<A> {
@@ -29,38 +29,31 @@ impl<A: Allocator + Copy> SelectedVersions<A> {
         kvno: SelectedKvno,
         now: u32,
     ) -> Result<SelectedVersions<A>, NoMemory>
-        ensures kvno { IfOk result (λ v. kvno_of v ≡ kvno) }
-        ensures versions { IfOk result (AreVersions (placed_entries keytab.now.state) now) }
+        ensures { IfOk result (AreVersions kvno now (placed_entries keytab.now.state) (placed_entries keytab.now.state)) }
     {
         match kvno {
             SelectedKvno::Any => Ok(SelectedVersions::Each),
             SelectedKvno::Exactly(version) => Ok(SelectedVersions::This(version)),
-            SelectedKvno::Newest => Ok(SelectedVersions::NewestOf(NewestVersions::of(
-                alloc, keytab,
-            )?)),
-            SelectedKvno::Old => Ok(SelectedVersions::OtherThan(NewestVersions::of(
-                alloc, keytab,
-            )?)),
-            SelectedKvno::OldFor(seconds) => {
-                Ok(SelectedVersions::Aged(Young::of(alloc, keytab, now, seconds)?))
+            _ => {
+                let rows = rows_of(alloc, keytab)?;
+                let marks = marks_of(alloc, &rows, kvno, now)?;
+                Ok(SelectedVersions::Marked(marks.into_iter()))
             }
         }
     }
 }
 
 impl<A: Allocator> SelectedVersions<A> {
-    /// Returns whether entry `number`, whose kvno is `version`, has a selected kvno.
-    pub fn has(&self, number: usize, version: u32) -> bool
-        ensures { (xs : List PlacedEntry) (x : PlacedEntry) (now : ℕ) → AreVersions xs now self.now
-            → slice_get xs number ≡ Some x → x.1.version ≡ version
-            → result ≡ has_selected_kvno (kvno_of self.now) now xs x.1 }
+    /// Returns whether the next entry, whose kvno is `version`, has a selected kvno.
+    pub fn next(&mut self, version: u32) -> bool
+        ensures { (kvno : SelectedKvno) (now : ℕ) (all rest : List PlacedEntry) (x : PlacedEntry)
+            → AreVersions kvno now all (x ∷ rest) self.old → x.1.version ≡ version
+            → (result ≡ has_selected_kvno kvno now all x.1) × AreVersions kvno now all rest self.new }
     {
         match self {
             SelectedVersions::Each => true,
             SelectedVersions::This(selected) => version == *selected,
-            SelectedVersions::NewestOf(newest) => !newest.is_old(number, version),
-            SelectedVersions::OtherThan(newest) => newest.is_old(number, version),
-            SelectedVersions::Aged(young) => young.is_replaced(number, version),
+            SelectedVersions::Marked(marks) => next_mark(marks),
         }
     }
 }

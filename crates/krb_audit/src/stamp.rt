@@ -1,9 +1,8 @@
 //! Which of two entries of a name is the newer one.
 
 ghost use Rattle.std.specs.Prelude.{◌≡◌};
-ghost use Rattle.krb_keytab.specs.Entry.{EntryParts};
 ghost use Rattle.krb_audit.specs.Newest.{has_wrapped, is_newer};
-ghost use Rattle.krb_audit.specs.Stamps.{stamp_of};
+ghost use Rattle.krb_audit.specs.Rows.{stamp_of, stamped};
 
 use krb_keytab::EntryView;
 
@@ -33,8 +32,7 @@ impl Stamp {
 
     /// Returns whether a later entry of the name replaces this one as the newest.
     pub fn is_older_than(self, later: Stamp) -> bool
-        ensures { (e l : EntryParts) → self ≡ stamp_of e → later ≡ stamp_of l
-            → result ≡ is_newer e l }
+        ensures { result ≡ is_newer (stamped self) (stamped later) }
     {
         if has_wrapped(later.kvno, self.kvno) {
             self.timestamp <= later.timestamp

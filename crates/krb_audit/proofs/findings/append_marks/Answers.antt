@@ -1,21 +1,34 @@
-use Rattle.std.proofs.Common.{List, subst, arith, ◌∙◌}
-use Rattle.krb_keytab.specs.Find.{PlacedEntry}
-use Rattle.krb_audit.proofs.FindingsLemmas.{IsListedUpTo, none_listed, one_listed, next_counts}
+use Rattle.std.proofs.Common.{List, sym, subst, arith, ◌∙◌}
+use Rattle.krb_keytab.specs.Find.{PlacedEntry, placed_entries}
+use Rattle.krb_audit.specs.Rows.{AreRows}
+use Rattle.krb_audit.proofs.FindingsLemmas.{IsListedUpTo, entries_few, none_listed, one_listed}
+use Rattle.krb_audit.proofs.RowLemmas.{row_count}
 use Rattle.krb_audit.proofs.findings.append_marks.Goals as goal
 
+pub overflow_cast-count : goal.overflow_cast-count
+overflow_cast-count g c =
+    let k = c.args.keytab.now.state in
+    let rows = c.in_ok-rows.rows in
+    let count = c.len-count.ensures ∙ rows.ok.0 ∙ row_count (placed_entries k) (placed_entries k) rows.items c.in_ok-rows.ensures in
+    let few = c.cell_count-few.ensures.few in
+    let cells = c.cell_count-few.ensures.count in
+    omega (arith, count, few, cells, entries_few k)
+
+pub returns-clause-count : goal.returns-clause-count
+returns-clause-count g c =
+    let all = placed_entries c.args.keytab.now.state in
+    let rows = c.in_ok-rows.rows in
+    c.len-count.ensures ∙ rows.ok.0 ∙ row_count all all rows.items c.in_ok-rows.ensures
+
 pub entries-init : goal.entries-init
-entries-init g c = none_listed c.args.label.now _ _ _ _ _ (c.into_iter-place-iterator.ensures.into_iter_gives ∙ c.entries-place-items.ensures) c.in_ok-before.ensures c.none-words_found.ensures
+entries-init g c =
+    let k = c.args.keytab.now.state in
+    let old = c.in_ok-are_old.ensures (placed_entries k) (subst (AreRows (placed_entries k) (placed_entries k)) (sym c.deref.ensures.value) c.in_ok-rows.ensures) in
+    let start = none_listed c.args.label.now k _ _ c.args.out.now.items (c.first-before.ensures k c.in_ok-rows.ensures old) c.none-words_found.ensures in
+    subst (λ (xs : List PlacedEntry). IsListedUpTo c.args.label.now k xs c.first-before.result c.none-words_found.result c.args.out.now.items c.args.out.now.items) (sym (c.into_iter-place-iterator.ensures.into_iter_gives ∙ c.entries-place-items.ensures)) start
 
 pub entries-preserved : goal.entries-preserved
 entries-preserved g c =
     let k = c.args.keytab.now.state in
     let listed = subst (λ (xs : List PlacedEntry). IsListedUpTo c.args.label.now k xs c.entries.before c.entries.words_found c.args.out.now.items c.entries.out.items) c.in-Some.ensures.steps c.entries.invariant in
-    one_listed c.args.label.now k _ _ _ _ _ _ _ _ _ _ listed (λ before rest known all. (c.in_ok-marks.ensures.marks k before rest known all, c.in_ok-marks.ensures.next k before rest known all)) c.with-words_found.ensures c.in_ok-append_lines.ensures
-
-pub marks-requires : goal.marks-requires
-marks-requires g c =
-    let listed = c.entries.invariant in
-    let counted = next_counts c.args.keytab.now.state listed.before c.entries.place-iterator _ c.next.new.self c.entries.before.count listed.all c.in-Some.ensures.steps listed.known.count in
-    let cells = c.cell_count-few.ensures.count in
-    let few = c.cell_count-few.ensures.few in
-    omega (arith, counted, cells, few)
+    one_listed c.args.label.now k _ _ _ _ _ _ _ _ _ _ listed (λ before known. c.in_ok-marks.ensures k before _ known) c.with-words_found.ensures c.in_ok-append_lines.ensures

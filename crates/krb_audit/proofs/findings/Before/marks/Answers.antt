@@ -1,29 +1,40 @@
-use Rattle.std.proofs.Common.{ap, sym, ◌∙◌}
-use Rattle.std.specs.Prelude.{◌&&◌, ◌||◌, not, Bool}
+use Rattle.std.proofs.Common.{◌≡◌, List, ℕ, cond, Option, Some, ap, sym, ◌∙◌, ◌∷◌, [], append_assoc}
+use Rattle.std.specs.Prelude.{◌&&◌, ◌||◌, not, Bool, find, option_map}
+use Rattle.std.specs.Option.{unwrap_or}
 use Rattle.krb_keytab.specs.Find.{PlacedEntry, placed_entries}
 use Rattle.krb_text.specs.Etype.{is_weak}
-use Rattle.krb_audit.specs.Firsts.{looked}
-use Rattle.krb_audit.proofs.FindingsLemmas.{entry_at_count, key_here, marks_here, firsts_here, count_here, ended_here}
+use Rattle.krb_audit.specs.declared.selection.SelectedKvno.TheVariants.{Old}
+use Rattle.krb_audit.specs.Findings.{as_alike, ends_mit, is_alike}
+use Rattle.krb_audit.specs.Firsts.{Key, looked, same_key}
+use Rattle.krb_audit.proofs.FindingsLemmas.{ended_here}
+use Rattle.krb_audit.proofs.FirstsLemmas.{alike_here, alike_to, firsts_next, key_in}
 use Rattle.krb_audit.proofs.findings.Before.marks.Goals as goal
 
-pub returns-clause-marks : goal.returns-clause-marks
-returns-clause-marks g c = λ k before rest known is.
+pub returns : goal.returns
+returns g c = λ k before rest known.
+    let all = placed_entries k in
     let x : PlacedEntry = (c.args.place, c.args.entry.now) in
-    let here = entry_at_count (placed_entries k) before x rest c.args.self.now.count is known.count in
-    let key = key_here (placed_entries k) x c.args.self.now.count c.unwrap_or-first.result c.kvno-kvno.result c.enctype-etype.result c.first.result here (c.first.ensures (placed_entries k) known.newest) c.unwrap_or-first.ensures c.kvno-kvno.ensures c.enctype-etype.ensures in
-    marks_here k before x rest (looked c.args.self.now.firsts) (c.unwrap_or-first.result, c.kvno-kvno.result, c.enctype-etype.result) c.key.result.now c.in_ok-alike.alike _ _ _ c.args.self.now.has_ended is known.firsts key c.key.ensures c.in_ok-alike.ensures.alike
-    (c.is_weak.ensures ∙ ap is_weak c.enctype-etype.ensures) (c.is_first-hidden.ensures ∙ ap (λ (b : Bool). b && not c.args.self.now.has_ended) c.ends_mit-ends.ensures) known.has_ended
-    (c.is_old.ensures (placed_entries k) x known.newest here (sym c.kvno-kvno.ensures))
-
-pub returns-clause-next : goal.returns-clause-next
-returns-clause-next g c = λ k before rest known is.
-    let x : PlacedEntry = (c.args.place, c.args.entry.now) in
-    let here = entry_at_count (placed_entries k) before x rest c.args.self.now.count is known.count in
-    let key = key_here (placed_entries k) x c.args.self.now.count c.unwrap_or-first.result c.kvno-kvno.result c.enctype-etype.result c.first.result here (c.first.ensures (placed_entries k) known.newest) c.unwrap_or-first.ensures c.kvno-kvno.ensures c.enctype-etype.ensures in
-    record {
-      newest = known.newest;
-      firsts = firsts_here (placed_entries k) before x (looked c.args.self.now.firsts) (looked c.consider.new.self) (c.unwrap_or-first.result, c.kvno-kvno.result, c.enctype-etype.result) c.key.result.now known.firsts key c.key.ensures c.in_ok-alike.ensures.kept;
-      count = count_here before x c.args.self.now.count known.count;
-      has_ended = c.either-self.ensures ∙ ap (λ (b : Bool). c.args.self.now.has_ended || b) c.ends_mit-ends.ensures ∙ ended_here before x c.args.self.now.has_ended known.has_ended;
-      weak_etypes = c.with-self.ensures before x known.weak_etypes c.enctype-etype.ensures;
-    }
+    let old = c.args.self.now in
+    let first = c.next_number-first.result in
+    let next = c.next_number-first.ensures all rest x known.rows in
+    let marked = c.next_mark-old.ensures Old 0 all rest x known.are_old in
+    let look : Key → Option (ℕ × List ℕ) = looked old.firsts in
+    let key : Key = (first, c.kvno-kvno.result, c.enctype-etype.result) in
+    let is : key ≡ key_in first x = λ i. (first, c.kvno-kvno.ensures i, c.enctype-etype.ensures i) in
+    let weak = c.is_weak.ensures ∙ ap is_weak c.enctype-etype.ensures in
+    let hidden = c.is_first-hidden.ensures ∙ ap (λ (b : Bool). b && not old.has_ended) c.ends_mit-ends.ensures ∙ ap (λ (b : Bool). ends_mit x.1 && not b) known.has_ended in
+    let alike : c.in_ok-alike.alike ≡ option_map (as_alike x) (find (is_alike x) before) =
+    c.in_ok-alike.ensures.alike ∙ ap (λ (s : List ℕ). option_map (alike_to s) (look key)) c.key.ensures ∙ ap (λ (l : Key). option_map (alike_to x.1.key) (look l)) is ∙ alike_here all before x first look known.firsts next.0 in
+    let puts : (l : Key) → looked c.consider.new.self l ≡ cond (same_key (key_in first x) l) (Some (unwrap_or (look (key_in first x)) (x.0, x.1.key))) (look l) = λ l.
+    c.in_ok-alike.ensures.kept l ∙ ap (λ (m : Key). cond (same_key m l) (Some (unwrap_or (look m) (x.0, c.key.result.now))) (look l)) is
+    ∙ ap (λ (s : List ℕ). cond (same_key (key_in first x) l) (Some (unwrap_or (look (key_in first x)) (x.0, s))) (look l)) c.key.ensures in (
+      λ i. record { weak = weak i; hidden = hidden i; alike = alike i; old = marked.0 i },
+      record {
+        all = known.all ∙ sym (append_assoc before (x ∷ []) rest);
+        rows = next.1;
+        are_old = marked.1;
+        firsts = firsts_next all before x first look (looked c.consider.new.self) known.firsts next.0 puts;
+        has_ended = c.either-self.ensures ∙ ap (λ (b : Bool). old.has_ended || b) c.ends_mit-ends.ensures ∙ ended_here before x old.has_ended known.has_ended;
+        weak_etypes = c.with-self.ensures before x known.weak_etypes c.enctype-etype.ensures;
+      },
+    )

@@ -1,0 +1,57 @@
+-- Which entries have a selected kvno, from the rows.
+use Rattle.std.proofs.Common.{◌≡◌, ℕ, Bool, true, false, cond, List, [], ◌∷◌, get_or, map, replicate, length, Option, refl, ap, sym, ◌∙◌}
+use Rattle.std.specs.Prelude.{◌&&◌, ◌||◌, ◌==◌, not}
+use Rattle.std.specs.List.{fold, list_any}
+use Rattle.std.proofs.Math.Bool.{or_assoc, or-false}
+use Rattle.krb_wire.specs.Spelling.{Parts}
+use Rattle.krb_wire.specs.SameName.{have_same_name}
+use Rattle.krb_keytab.specs.Find.{PlacedEntry}
+use Rattle.krb_audit.specs.declared.rows.Row.{Row}
+use Rattle.krb_audit.specs.declared.selection.SelectedKvno.{SelectedKvno}
+use Rattle.krb_audit.specs.declared.selection.SelectedKvno.TheVariants.{Any, Exactly, Newest, Old, OldFor}
+use Rattle.krb_audit.specs.declared.stamp.Stamp.{Stamp}
+use Rattle.krb_audit.specs.Newest.{is_old}
+use Rattle.krb_audit.specs.Rows.{AreRows}
+use Rattle.krb_audit.specs.Selection.{has_selected_kvno, is_young}
+use Rattle.krb_audit.specs.KvnoMarks.{AreMarks, AreNewest, AreYoung, is_old_row, is_young_row, selects_row}
+use Rattle.krb_audit.proofs.NewestStamps.{at_name, old_row}
+use Rattle.krb_audit.proofs.RowLemmas.{IsRow, map_rows, stepped}
+
+-- ---- names with a young entry
+
+-- the marks with one more row
+abbrev pub marked : ℕ → ℕ → List (Option Stamp) → List Bool → Row → List Bool
+marked now seconds newest = stepped (λ (b : Bool) (r : Row). b || is_young_row now seconds newest r) false
+
+any_by : (same young b : Bool) → cond same (b || young) b ≡ (b || (same && young))
+any_by true young b = refl
+any_by false young b = sym (or-false b)
+
+any_folded : (young : PlacedEntry → Bool) (p : Parts) (xs : List PlacedEntry) (b : Bool) → fold (λ (b : Bool) (x : PlacedEntry). cond (have_same_name p x.1.principal) (b || young x) b) b xs ≡ (b || list_any (λ x. have_same_name p x.1.principal && young x) xs)
+any_folded young p [] b = sym (or-false b)
+any_folded young p (x ∷ xs) b =
+    let same = have_same_name p x.1.principal in
+    any_folded young p xs (cond same (b || young x) b)
+    ∙ ap (λ (c : Bool). c || list_any (λ y. have_same_name p y.1.principal && young y) xs) (any_by same (young x) b)
+    ∙ or_assoc b (same && young x) (list_any (λ y. have_same_name p y.1.principal && young y) xs)
+
+pub are_young : (now seconds : ℕ) (xs : List PlacedEntry) (rows : List Row) (newest : List (Option Stamp)) → AreRows xs xs rows → AreNewest xs newest → AreYoung (OldFor seconds) now xs (fold (marked now seconds newest) (replicate (length rows) false) rows)
+are_young now seconds xs rows newest are stamps p i first =
+    at_name (λ (b : Bool) (r : Row). b || is_young_row now seconds newest r) (λ (b : Bool) (x : PlacedEntry). b || (is_young now seconds x.1 && not (is_old xs x.1))) false xs rows p i are
+    (λ b r x is. ap (λ (s : Stamp). b || (is_young now seconds (record { principal = x.1.principal; timestamp = s.timestamp; version = 0; enctype = 0; key = [] }) && not (is_old_row newest r))) is.stamp
+    ∙ ap (λ (old : Bool). b || (is_young now seconds x.1 && not old)) (old_row xs newest r x stamps is)) first
+    ∙ any_folded (λ x. is_young now seconds x.1 && not (is_old xs x.1)) p xs false
+
+-- ---- selected kvnos
+
+selects_by : (kvno : SelectedKvno) (now : ℕ) (xs : List PlacedEntry) (newest : List (Option Stamp)) (young : List Bool) (r : Row) (x : PlacedEntry) → AreNewest xs newest → AreYoung kvno now xs young → IsRow xs x r → selects_row kvno newest young r ≡ has_selected_kvno kvno now xs x.1
+selects_by Any now xs newest young r x stamps marks is = refl
+selects_by (Exactly version) now xs newest young r x stamps marks is = ap (λ (s : Stamp). s.kvno == version) is.stamp
+selects_by Newest now xs newest young r x stamps marks is = ap not (old_row xs newest r x stamps is)
+selects_by Old now xs newest young r x stamps marks is = old_row xs newest r x stamps is
+selects_by (OldFor seconds) now xs newest young r x stamps marks is =
+    ap (λ (old : Bool). old && not (get_or young r.first false)) (old_row xs newest r x stamps is) ∙ ap (λ (b : Bool). is_old xs x.1 && not b) (marks x.1.principal r.first is.first)
+
+pub are_marks : (kvno : SelectedKvno) (now : ℕ) (xs : List PlacedEntry) (newest : List (Option Stamp)) (young : List Bool) (rows : List Row) → AreRows xs xs rows → AreNewest xs newest → AreYoung kvno now xs young → AreMarks kvno now xs xs (map (selects_row kvno newest young) rows)
+are_marks kvno now xs newest young rows are stamps marks =
+    map_rows (selects_row kvno newest young) (λ x. has_selected_kvno kvno now xs x.1) xs (λ r x row. selects_by kvno now xs newest young r x stamps marks row) xs rows are

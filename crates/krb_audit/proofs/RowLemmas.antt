@@ -1,0 +1,63 @@
+-- Rows, the entries that they are of, and lists with something at the number of each name.
+use Rattle.std.proofs.Common.{◌≡◌, ℕ, ◌<◌, ◌==◌, Bool, true, false, cond, List, [], ◌∷◌, length, map, set, get_or, Option, Some, refl, ap, sym, ◌∙◌, drop, arith}
+use Rattle.std.specs.List.{fold}
+use Rattle.std.proofs.lemmas.Bool.{eqb-true, eq-eqb}
+use Rattle.std.proofs.lemmas.List.{get_or-set_same, get_or-set_other, length-set, length-map}
+use Rattle.krb_keytab.specs.Find.{PlacedEntry}
+use Rattle.krb_audit.specs.declared.rows.Row.{Row}
+use Rattle.krb_audit.specs.declared.stamp.Stamp.{Stamp}
+use Rattle.krb_audit.specs.Rows.{AreRows, first_number, row_in, shown, stamp_of}
+
+-- a row is that of an entry among all
+pub record IsRow (all : List PlacedEntry) (x : PlacedEntry) (r : Row) : Type 0 where
+  pub first : first_number x.1.principal all ≡ Some r.first
+  pub stamp : r.stamp ≡ stamp_of x.1
+
+head_row : (all xs : List PlacedEntry) (x : PlacedEntry) (r : Row) (rs : List Row) → AreRows all (x ∷ xs) (r ∷ rs) → IsRow all x r
+head_row all xs x r rs h =
+    let heads : shown r ≡ row_in all x = ap (λ (l : List (Option ℕ × Stamp)). get_or l 0 (shown r)) h in
+    record { first = sym (ap (λ (s : Option ℕ × Stamp). s.0) heads); stamp = ap (λ (s : Option ℕ × Stamp). s.1) heads }
+
+other_rows : (all xs : List PlacedEntry) (x : PlacedEntry) (r : Row) (rs : List Row) → AreRows all (x ∷ xs) (r ∷ rs) → AreRows all xs rs
+other_rows all xs x r rs h = ap (λ (l : List (Option ℕ × Stamp)). drop 1 l) h
+
+pub row_count : (all xs : List PlacedEntry) (rows : List Row) → AreRows all xs rows → length rows ≡ length xs
+row_count all xs rows h = sym (length-map rows shown) ∙ ap length h ∙ length-map xs (row_in all)
+
+-- what is read of rows can be read of the entries
+pub map_rows : {B : Type 0} (f : Row → B) (g : PlacedEntry → B) (all : List PlacedEntry) → ((r : Row) (x : PlacedEntry) → IsRow all x r → f r ≡ g x) → (xs : List PlacedEntry) (rows : List Row) → AreRows all xs rows → map f rows ≡ map g xs
+map_rows f g all each [] [] h = refl
+map_rows f g all each [] (r ∷ rs) h = absurd cc
+map_rows f g all each (x ∷ xs) [] h = absurd cc
+map_rows f g all each (x ∷ xs) (r ∷ rs) h =
+    let here = each r x (head_row all xs x r rs h) in
+    let others = map_rows f g all each xs rs (other_rows all xs x r rs h) in
+    λ i. here i ∷ others i
+
+pub fold_rows : {V : Type 0} (f : V → Row → V) (g : V → PlacedEntry → V) (all : List PlacedEntry) → ((v : V) (r : Row) (x : PlacedEntry) → IsRow all x r → f v r ≡ g v x) → (v : V) (xs : List PlacedEntry) (rows : List Row) → AreRows all xs rows → fold f v rows ≡ fold g v xs
+fold_rows f g all each v [] [] h = refl
+fold_rows f g all each v [] (r ∷ rs) h = absurd cc
+fold_rows f g all each v (x ∷ xs) [] h = absurd cc
+fold_rows f g all each v (x ∷ xs) (r ∷ rs) h =
+    fold_rows f g all each (f v r) xs rs (other_rows all xs x r rs h) ∙ ap (λ w. fold g w xs) (each v r x (head_row all xs x r rs h))
+
+-- ---- lists with a value for each name
+
+-- the list with a step at a row's number
+abbrev pub stepped : {V : Type 0} → (V → Row → V) → V → List V → Row → List V
+stepped step none t r = set t r.first (step (get_or t r.first none) r)
+
+at_step : {V : Type 0} (step : V → Row → V) (none : V) (i : ℕ) (r : Row) (t : List V) (b : Bool) → (r.first == i) ≡ b → i < length t → get_or (stepped step none t r) i none ≡ cond b (step (get_or t i none) r) (get_or t i none)
+at_step step none i r t true same lt =
+    let is : r.first ≡ i = eqb-true r.first i same in
+    ap (λ (n : ℕ). get_or (set t n (step (get_or t n none) r)) i none) is ∙ get_or-set_same t i (step (get_or t i none) r) none lt
+at_step step none i r t false other lt =
+    get_or-set_other t r.first i (step (get_or t r.first none) r) none (λ e. (let clash : true ≡ false = sym (eq-eqb r.first i (sym e)) ∙ other in absurd cc))
+
+-- after some rows, a number has the steps of the rows that have it
+pub at_number : {V : Type 0} (step : V → Row → V) (none : V) (i : ℕ) (rows : List Row) (t : List V) → i < length t → get_or (fold (stepped step none) t rows) i none ≡ fold (λ v r. cond (r.first == i) (step v r) v) (get_or t i none) rows
+at_number step none i [] t lt = refl
+at_number step none i (r ∷ rs) t lt =
+    let kept = length-set t r.first (step (get_or t r.first none) r) in
+    at_number step none i rs (stepped step none t r) (omega (arith, lt, kept))
+    ∙ ap (λ w. fold (λ v q. cond (q.first == i) (step v q) v) w rs) (at_step step none i r t (r.first == i) refl lt)

@@ -1,0 +1,39 @@
+use Rattle.std.proofs.Common.{List, ap, sym, subst, ◌∙◌}
+use Rattle.krb_wire.specs.declared.format.KtFormat.{KtFormat}
+use Rattle.krb_wire.proofs.Fields.{is_some_has}
+use Rattle.krb_keytab.specs.declared.cells.KtCell.{KtCell}
+use Rattle.krb_keytab.specs.CellViews.{CellsFrom, BeginsWith, cell_of}
+use Rattle.krb_keytab.specs.Entries.{entries_in}
+use Rattle.krb_keytab.specs.Entry.{entry_at}
+use Rattle.krb_keytab.specs.Find.{PlacedEntry, placed_entries}
+use Rattle.krb_keytab.proofs.EntryLists.{entries_of_cells, listed_live}
+use Rattle.krb_audit.specs.Rows.{AreNumbered}
+use Rattle.krb_audit.proofs.Numbering.{none_numbered}
+use Rattle.krb_audit.proofs.rows.rows_of.Goals as goal
+
+pub loop-place-init : goal.loop-place-init
+loop-place-init g c =
+    let k = c.args.keytab.now.state in
+    let is = c.into_iter-place-iterator.ensures.into_iter_gives ∙ c.cells-place-items.ensures in
+    record {
+      numbered = none_numbered c.format-format.result (placed_entries k) _ _ (entries_of_cells k c.into_iter-place-iterator.result is) c.new.ensures.empty c.new-2.ensures.items;
+      format = ap (λ (x : CellsFrom). x.format) is ∙ sym c.format-format.ensures;
+    }
+
+pub loop-place-preserved-in-Continue-1 : goal.loop-place-preserved-in-Continue-1
+loop-place-preserved-in-Continue-1 g c =
+    let f = c.format-format.result in
+    let all = placed_entries c.args.keytab.now.state in
+    let old = c.loop-place._place-iterator in
+    let new = c.next.new.self in
+    let at = c.in-Some._place in
+    let bytes = c.in-Live.bytes.now in
+    let steps = subst (λ (d : KtCell). BeginsWith old at (cell_of d) new) c.in-Live.is c.in-Some.ensures.steps in
+    let h = c.loop-place.invariant in
+    let e = is_some_has (entry_at old.format bytes) steps.sound.2 in
+    let read = ap (λ (x : KtFormat). entry_at x bytes) (sym h.format) ∙ e.1 in
+    let next = subst (λ (xs : List PlacedEntry). AreNumbered f all xs c.loop-place.names) (listed_live old new at bytes e.0 steps e.1) h.numbered in
+    record {
+      numbered = c.in_ok-consider.ensures all (entries_in new.format new.place new.contents.cells) (at, e.0) read next;
+      format = steps.format ∙ h.format;
+    }

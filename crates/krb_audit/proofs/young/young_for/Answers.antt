@@ -1,0 +1,14 @@
+use Rattle.std.proofs.Common.{false, ap, sym, subst, ◌∙◌, length, replicate, arith}
+use Rattle.std.specs.List.{fold}
+use Rattle.std.proofs.lemmas.List.{take_all}
+use Rattle.krb_audit.specs.declared.selection.SelectedKvno.TheVariants.{OldFor}
+use Rattle.krb_audit.specs.KvnoMarks.{AreYoung}
+use Rattle.krb_audit.proofs.KvnoMarkLemmas.{are_young, marked}
+use Rattle.krb_audit.proofs.young.young_for.Goals as goal
+
+pub returns : goal.returns
+returns g c = λ xs are newest.
+    let rows = c.args.rows.now in
+    let marks = marked c.args.now c.args.seconds c.args.newest.now in
+    let all = take_all c.rows.row-index rows (omega arith) in
+    subst (AreYoung (OldFor c.args.seconds) c.args.now xs) (sym (c.rows.invariant ∙ ap (fold marks (replicate (length rows) false)) all)) (are_young c.args.now c.args.seconds xs rows c.args.newest.now are newest)

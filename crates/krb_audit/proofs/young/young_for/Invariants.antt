@@ -1,0 +1,7 @@
+use Rattle.std.proofs.Common.{◌≡◌, length, replicate, take, false}
+use Rattle.std.specs.List.{fold}
+use Rattle.krb_audit.proofs.KvnoMarkLemmas.{marked}
+use Rattle.krb_audit.proofs.young.young_for.Given as goal
+
+abbrev pub invariant-rows : goal.invariant-rows
+invariant-rows g l = l.young.items ≡ fold (marked l.fn.now l.fn.seconds l.newest) (replicate (length l.rows) false) (take l.row-index l.rows)

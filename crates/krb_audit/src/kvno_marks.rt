@@ -1,0 +1,68 @@
+//! Which entries have a selected kvno.
+
+ghost use Rattle.std.specs.Prelude.{◌≡◌, ℕ, ◌∷◌, List, IfOk, false, get_or};
+ghost use Rattle.std.specs.Vec.Iter.{into_iter_items};
+ghost use Rattle.krb_keytab.specs.Find.{PlacedEntry};
+ghost use Rattle.krb_audit.specs.Rows.{AreRows};
+ghost use Rattle.krb_audit.specs.Selection.{has_selected_kvno};
+ghost use Rattle.krb_audit.specs.declared.selection.SelectedKvno.{SelectedKvno};
+ghost use Rattle.krb_audit.specs.KvnoMarks.{AreMarks, selects_row};
+
+use crate::newest::{is_old, newest_stamps};
+use crate::rows::Row;
+use crate::selection::SelectedKvno;
+use crate::stamp::Stamp;
+use crate::young::young_names;
+use krb_wire::NoMemory;
+use std::alloc::Allocator;
+use std::vec::IntoIter;
+
+// Returns whether there is a mark at the number of a row's name.
+fn is_marked(marks: &[bool], row: Row) -> bool
+    ensures { result ≡ get_or marks.now row.first false }
+{
+    marks.get(row.first as usize).copied().unwrap_or(false)
+}
+
+// Returns whether the entry of a row has a selected kvno.
+fn selects_row(kvno: SelectedKvno, newest: &[Option<Stamp>], young: &[bool], row: Row) -> bool
+    ensures { result ≡ selects_row kvno newest.now young.now row }
+{
+    match kvno {
+        SelectedKvno::Any => true,
+        SelectedKvno::Exactly(selected) => row.stamp.kvno == selected,
+        SelectedKvno::Newest => !is_old(newest, row),
+        SelectedKvno::Old => is_old(newest, row),
+        SelectedKvno::OldFor(_) => is_old(newest, row) && !is_marked(young, row),
+    }
+}
+
+/// Returns, for each of the entries of these rows, whether its kvno is selected.
+pub fn marks_of<A: Allocator + Copy>(
+    alloc: A,
+    rows: &[Row],
+    kvno: SelectedKvno,
+    now: u32,
+) -> Result<Vec<bool, A>, NoMemory>
+    ensures { (xs : List PlacedEntry) → AreRows xs xs rows.now → IfOk result (λ marks. AreMarks kvno now xs xs marks.items) }
+{
+    let newest = newest_stamps(alloc, rows)?;
+    let young = young_names(alloc, rows, &newest, kvno, now)?;
+    let mut marks = Vec::new(alloc);
+    'rows: for row in rows {
+        marks.push(selects_row(kvno, &newest, &young, *row))?;
+    }
+    Ok(marks)
+}
+
+/// Returns the next mark.
+pub fn next_mark<A: Allocator>(marks: &mut IntoIter<bool, A>) -> bool
+    ensures { (kvno : SelectedKvno) (now : ℕ) (all rest : List PlacedEntry) (x : PlacedEntry)
+        → AreMarks kvno now all (x ∷ rest) (into_iter_items marks.old)
+        → (result ≡ has_selected_kvno kvno now all x.1) × AreMarks kvno now all rest (into_iter_items marks.new) }
+{
+    match marks.next() {
+        Some(next) => next,
+        None => false,
+    }
+}

@@ -1,0 +1,96 @@
+//! The entries of a keytab with their names numbered.
+
+ghost use Rattle.std.specs.Prelude.{◌≡◌, ◌∷◌, List, IfOk, OnOk, Some, unwrap_or};
+ghost use Rattle.std.specs.Vec.Iter.{into_iter_items};
+ghost use Rattle.std.specs.BTreeMap.{get, Updates};
+ghost use Rattle.krb_keytab.specs.Entry.{entry_at};
+ghost use Rattle.krb_keytab.specs.Find.{PlacedEntry, placed_entries};
+ghost use Rattle.krb_audit.specs.Rows.{name_cmp, AreNumbered, AreRows, first_number};
+
+use crate::hash::hash_of;
+use crate::names::named_entry;
+use crate::stamp::Stamp;
+use krb_keytab::{Keytab, KtCell};
+use krb_wire::{KtFormat, NoMemory};
+use std::alloc::Allocator;
+use std::collections::BTreeMap;
+use std::vec::IntoIter;
+
+/// An entry: the number of the first entry of its name, and its stamp. Entries are numbered from 0 in file order.
+#[derive(Clone, Copy, Debug)]
+pub struct Row {
+    pub first: u32,
+    pub stamp: Stamp,
+}
+
+// Returns the number of a name. A new name gets the number `next`.
+fn number_of<'a, A: Allocator + Clone>(
+    numbers: &mut BTreeMap<(u64, &'a [u8]), u32, A>,
+    name: (u64, &'a [u8]),
+    next: u32,
+) -> Result<u32, NoMemory>
+    ensures number { IfOk result (λ n. n ≡ unwrap_or (get name_cmp numbers.old name.entry) next) }
+    ensures kept { IfOk result (λ n. Updates name_cmp numbers.old numbers.new
+        name.entry (Some n)) }
+{
+    Ok(*numbers.entry(name)?.or_insert(next))
+}
+
+// The names of the entries so far, each with the number of its first entry, and the rows of the entries.
+#[derive(Drop)]
+struct Names<'a, A: Allocator> {
+    numbers: BTreeMap<(u64, &'a [u8]), u32, A>,
+    rows: Vec<Row, A>,
+}
+
+impl<'a, A: Allocator + Copy> Names<'a, A> {
+    // Adds the entry of the next record.
+    fn consider(&mut self, format: KtFormat, bytes: &'a [u8]) -> Result<(), NoMemory>
+        ensures { (all rest : List PlacedEntry) (x : PlacedEntry) → entry_at format bytes.now ≡ Some x.1
+            → AreNumbered format all (x ∷ rest) self.old → OnOk result (AreNumbered format all rest self.new) }
+    {
+        let Some((name, entry)) = named_entry(format, bytes) else {
+            return Ok(());
+        };
+        // A keytab has fewer entries than 2 ^ 32.
+        let Ok(next) = u32::try_from(self.rows.len()) else {
+            return Err(NoMemory);
+        };
+        let hash = hash_of(name);
+        let first = number_of(&mut self.numbers, (hash, name), next)?;
+        let stamp = Stamp::of(&entry);
+        self.rows.push(Row { first, stamp })?;
+        Ok(())
+    }
+}
+
+/// Returns the rows of a keytab's entries, in file order.
+pub fn rows_of<A: Allocator + Copy, B: Allocator>(
+    alloc: A,
+    keytab: &Keytab<B>,
+) -> Result<Vec<Row, A>, NoMemory>
+    ensures { IfOk result (λ rows. AreRows (placed_entries keytab.now.state) (placed_entries keytab.now.state) rows.items) }
+{
+    let format = keytab.format();
+    let mut names = Names {
+        numbers: BTreeMap::new(alloc),
+        rows: Vec::new(alloc),
+    };
+    for (_place, cell) in keytab.cells() {
+        if let KtCell::Live(bytes) = cell {
+            names.consider(format, bytes)?;
+        }
+    }
+    Ok(names.rows)
+}
+
+/// Returns the number of the name of the next row.
+pub fn next_number<A: Allocator>(rows: &mut IntoIter<Row, A>) -> u32
+    ensures { (all rest : List PlacedEntry) (x : PlacedEntry) → AreRows all (x ∷ rest) (into_iter_items rows.old)
+        → (first_number x.1.principal all ≡ Some result) × AreRows all rest (into_iter_items rows.new) }
+{
+    match rows.next() {
+        Some(row) => row.first,
+        None => 0,
+    }
+}
