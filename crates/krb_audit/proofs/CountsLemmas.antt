@@ -1,10 +1,8 @@
 -- Bounds on the number of holes and on their total size.
-use Rattle.std.proofs.Common.{◌≡◌, ℕ, ◌+◌, ◌≤◌, arith, List, [], ◌∷◌, length, map, sym, ap, ◌∙◌}
-use Rattle.std.specs.List.{fold, sum_by}
+use Rattle.krb_audit.proofs.Cited.{◌≡◌, ℕ, ◌+◌, ◌≤◌, arith, List, [], ◌∷◌, length, map, sym, ap, ◌∙◌, fold, sum_by, size, holes}
 use Rattle.krb_walk.specs.Store.{end_from}
-use Rattle.krb_keytab.specs.Cells.{Cell, Live, Free, size}
+use Rattle.krb_keytab.specs.Cells.{Cell, Live, Free}
 use Rattle.krb_keytab.specs.Store.{store_cell}
-use Rattle.krb_audit.specs.Report.{holes}
 
 -- a number plus the sizes of cells
 abbrev pub added : ℕ → List Cell → ℕ

@@ -1,13 +1,11 @@
 -- What is found when one more entry is checked.
-use Rattle.std.proofs.Common.{◌≡◌, ℕ, suc, ◌≤◌, arith, Bool, List, [], ◌∷◌, ◌++◌, length, Option, Some, None, refl, sym, ap, ◌∙◌, append_assoc}
-use Rattle.std.specs.Prelude.{◌||◌}
-use Rattle.std.specs.List.{flat_map, filter_map, cons_option, list_any}
+use Rattle.krb_audit.proofs.Cited.{◌≡◌, ℕ, suc, ◌≤◌, arith, Bool, List, [], ◌∷◌, ◌++◌, length, Option, Some, None, refl, sym, ap, ◌∙◌, append_assoc, ◌||◌, list_any, PlacedEntry, placed_entries}
+use Rattle.std.specs.List.{flat_map, filter_map, cons_option}
 use Rattle.std.proofs.Math.Bool.{or_assoc, or-false}
 use Rattle.std.proofs.lemmas.List.Folds.{list_any-append}
 use Rattle.krb_keytab.specs.CellViews.{cells_of}
 use Rattle.krb_keytab.specs.Changes.{placed_cells}
 use Rattle.krb_keytab.specs.Entries.{entry_in}
-use Rattle.krb_keytab.specs.Find.{PlacedEntry, placed_entries}
 use Rattle.krb_keytab.specs.Store.{KeytabState}
 use Rattle.krb_keytab.proofs.EntryLists.{entries_of_cells}
 use Rattle.krb_keytab.proofs.ImageChanges.{placed_len}

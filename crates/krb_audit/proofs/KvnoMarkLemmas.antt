@@ -1,19 +1,10 @@
 -- Which entries have a selected kvno, from the rows.
-use Rattle.std.proofs.Common.{◌≡◌, ℕ, Bool, true, false, cond, List, [], ◌∷◌, get_or, map, replicate, length, Option, refl, ap, sym, ◌∙◌}
-use Rattle.std.specs.Prelude.{◌&&◌, ◌||◌, ◌==◌, not}
-use Rattle.std.specs.List.{fold, list_any}
+use Rattle.krb_audit.proofs.Cited.{◌≡◌, ℕ, Bool, true, false, cond, List, [], ◌∷◌, get_or, map, replicate, length, Option, refl, ap, sym, ◌∙◌, ◌&&◌, ◌||◌, ◌==◌, not, fold, list_any, Parts, have_same_name, PlacedEntry, Row, Stamp, is_old, AreRows, has_selected_kvno, AreNewest, selects_row}
 use Rattle.std.proofs.Math.Bool.{or_assoc, or-false}
-use Rattle.krb_wire.specs.Spelling.{Parts}
-use Rattle.krb_wire.specs.SameName.{have_same_name}
-use Rattle.krb_keytab.specs.Find.{PlacedEntry}
-use Rattle.krb_audit.specs.declared.rows.Row.{Row}
 use Rattle.krb_audit.specs.declared.selection.SelectedKvno.{SelectedKvno}
 use Rattle.krb_audit.specs.declared.selection.SelectedKvno.TheVariants.{Any, Exactly, Newest, Old, OldFor}
-use Rattle.krb_audit.specs.declared.stamp.Stamp.{Stamp}
-use Rattle.krb_audit.specs.Newest.{is_old}
-use Rattle.krb_audit.specs.Rows.{AreRows}
-use Rattle.krb_audit.specs.Selection.{has_selected_kvno, is_young}
-use Rattle.krb_audit.specs.KvnoMarks.{AreMarks, AreNewest, AreYoung, is_old_row, is_young_row, selects_row}
+use Rattle.krb_audit.specs.Selection.{is_young}
+use Rattle.krb_audit.specs.KvnoMarks.{AreMarks, AreYoung, is_old_row, is_young_row}
 use Rattle.krb_audit.proofs.NewestStamps.{at_name, old_row}
 use Rattle.krb_audit.proofs.RowLemmas.{IsRow, map_rows, stepped}
 

@@ -1,3 +1,4 @@
+pub mod Cited
 pub mod NameBytes
 pub mod FirstNumbers
 pub mod Numbering

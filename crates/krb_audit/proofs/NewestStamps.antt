@@ -1,17 +1,11 @@
 -- The newest stamps at the numbers of names.
-use Rattle.std.proofs.Common.{◌≡◌, ℕ, ◌<◌, ◌==◌, Bool, true, false, cond, List, [], ◌∷◌, length, get_or, replicate, Option, Some, None, refl, ap, ◌∙◌, arith}
-use Rattle.std.specs.Prelude.{filter, option_map}
-use Rattle.std.specs.List.{fold}
+use Rattle.krb_audit.proofs.Cited.{◌≡◌, ℕ, ◌<◌, Bool, true, false, cond, List, [], ◌∷◌, length, get_or, replicate, Option, Some, None, refl, ap, ◌∙◌, arith, option_map, fold, Parts, have_same_name, EntryParts, PlacedEntry, Row, Stamp, is_old, AreRows, first_number, stamp_of, AreNewest}
+use Rattle.std.proofs.Common.{◌==◌}
+use Rattle.std.specs.Prelude.{filter}
 use Rattle.std.proofs.lemmas.List.{get_or-replicate, length-replicate}
-use Rattle.krb_wire.specs.Spelling.{Parts}
-use Rattle.krb_wire.specs.SameName.{have_same_name}
-use Rattle.krb_keytab.specs.Entry.{EntryParts}
-use Rattle.krb_keytab.specs.Find.{PlacedEntry}
-use Rattle.krb_audit.specs.declared.rows.Row.{Row}
-use Rattle.krb_audit.specs.declared.stamp.Stamp.{Stamp}
-use Rattle.krb_audit.specs.Newest.{has_other_version, is_newer, is_old, newer, newest, newest_from}
-use Rattle.krb_audit.specs.Rows.{AreRows, first_number, newer_stamp, stamp_of, stamped}
-use Rattle.krb_audit.specs.KvnoMarks.{AreNewest, is_old_row}
+use Rattle.krb_audit.specs.Newest.{has_other_version, is_newer, newer, newest, newest_from}
+use Rattle.krb_audit.specs.Rows.{newer_stamp, stamped}
+use Rattle.krb_audit.specs.KvnoMarks.{is_old_row}
 use Rattle.krb_audit.proofs.FirstNumbers.{first_within, number_test, same_equiv}
 use Rattle.krb_audit.proofs.RowLemmas.{IsRow, at_number, fold_rows, row_count, stepped}
 

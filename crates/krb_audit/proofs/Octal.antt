@@ -1,6 +1,6 @@
 -- One more octal digit.
-use Rattle.std.proofs.Common.{◌≡◌, ◌≢◌, ℕ, zero, suc, ◌+◌, ◌-◌, ◌/◌, ◌%◌, arith, Bool, false, cond, [], ◌∷◌, ◌++◌, refl, sym, ap, ◌∙◌}
-use Rattle.std.specs.Prelude.{◌==◌}
+use Rattle.krb_audit.proofs.Cited.{◌≡◌, ℕ, suc, ◌+◌, arith, Bool, false, cond, [], ◌∷◌, ◌++◌, refl, sym, ap, ◌∙◌, ◌==◌}
+use Rattle.std.proofs.Common.{◌≢◌, zero, ◌-◌, ◌/◌, ◌%◌}
 use Rattle.krb_audit.specs.Report.{octal}
 
 not_zero : (n : ℕ) → n ≢ 0 → (n == 0) ≡ false

@@ -1,12 +1,8 @@
 -- Rows, the entries that they are of, and lists with something at the number of each name.
-use Rattle.std.proofs.Common.{◌≡◌, ℕ, ◌<◌, ◌==◌, Bool, true, false, cond, List, [], ◌∷◌, length, map, set, get_or, Option, Some, refl, ap, sym, ◌∙◌, drop, arith}
-use Rattle.std.specs.List.{fold}
-use Rattle.std.proofs.lemmas.Bool.{eqb-true, eq-eqb}
+use Rattle.krb_audit.proofs.Cited.{◌≡◌, ℕ, ◌<◌, Bool, true, false, cond, List, [], ◌∷◌, length, map, get_or, Option, Some, refl, ap, sym, ◌∙◌, arith, fold, eqb-true, eq-eqb, PlacedEntry, Row, Stamp, AreRows, first_number, stamp_of}
+use Rattle.std.proofs.Common.{◌==◌, set, drop}
 use Rattle.std.proofs.lemmas.List.{get_or-set_same, get_or-set_other, length-set, length-map}
-use Rattle.krb_keytab.specs.Find.{PlacedEntry}
-use Rattle.krb_audit.specs.declared.rows.Row.{Row}
-use Rattle.krb_audit.specs.declared.stamp.Stamp.{Stamp}
-use Rattle.krb_audit.specs.Rows.{AreRows, first_number, row_in, shown, stamp_of}
+use Rattle.krb_audit.specs.Rows.{row_in, shown}
 
 -- a row is that of an entry among all
 pub record IsRow (all : List PlacedEntry) (x : PlacedEntry) (r : Row) : Type 0 where

@@ -1,5 +1,5 @@
 -- Twins are alike in the same way in both directions and over three entries.
-use Rattle.krb_copy.proofs.Names.{Bool, true, false, refl, ◌≡◌, ◌&&◌, EntryParts, are_twins, are_same}
+use Rattle.krb_copy.proofs.Cited.{Bool, true, false, refl, ◌≡◌, ◌&&◌, EntryParts, are_twins, are_same}
 use Rattle.std.specs.Cmp.{IsEquivalence}
 use Rattle.std.proofs.lemmas.Cmp.{nat_eq_equiv, on_equiv, and_equiv, nat_list_eq_equiv, lists_equiv}
 use Rattle.krb_wire.specs.Spelling.{Parts}

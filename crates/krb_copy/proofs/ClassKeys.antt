@@ -1,5 +1,5 @@
 -- Entries are twins iff their keys in a map compare equal.
-use Rattle.krb_copy.proofs.Names.{◌≡◌, ℕ, ◌+◌, ◌<◌, Bool, true, false, cond, List, [], ◌∷◌, ◌++◌, length, None, Ok, refl, sym, ap, ◌∙◌, arith, ◌&&◌, ◌==◌, map, is_eq, bytes_eq, name_text, EntryParts, are_twins, ClassKey, class_cmp}
+use Rattle.krb_copy.proofs.Cited.{◌≡◌, ℕ, ◌+◌, ◌<◌, Bool, true, false, cond, List, [], ◌∷◌, ◌++◌, length, None, Ok, refl, sym, ap, ◌∙◌, arith, ◌&&◌, ◌==◌, map, is_eq, bytes_eq, name_text, EntryParts, are_twins, ClassKey, class_cmp}
 use Rattle.std.proofs.Common.{◌*◌}
 use Rattle.std.specs.Prelude.{Result, nat_lt}
 use Rattle.std.specs.List.{join_with_byte}

@@ -1,5 +1,5 @@
 -- What is known of all classes, before a run and after each entry asked for.
-use Rattle.krb_copy.proofs.Names.{◌≡◌, ℕ, Bool, true, false, cond, List, [], ◌∷◌, ◌++◌, Option, Some, None, Result, Ok, Err, refl, sym, ap, subst, ◌∙◌, map, filter, not, ◌&&◌, ◌||◌, list_any, bytes_eq, is_eq, BTreeMap, append-nil, list_any-append, EntryParts, Class, are_twins, are_same, Held, as_found, as_copied, twins, There, Clash, Copy, step_among, step_of, with_copy, AreClasses, ClassKey, class_cmp}
+use Rattle.krb_copy.proofs.Cited.{◌≡◌, ℕ, Bool, true, false, cond, List, [], ◌∷◌, ◌++◌, Option, Some, None, Result, Ok, Err, refl, sym, ap, subst, ◌∙◌, map, filter, not, ◌&&◌, ◌||◌, list_any, bytes_eq, is_eq, BTreeMap, append-nil, list_any-append, EntryParts, Class, are_twins, are_same, Held, as_found, as_copied, twins, There, Clash, Copy, step_among, step_of, with_copy, AreClasses, ClassKey, class_cmp}
 use Rattle.std.specs.Prelude.{OnOk}
 use Rattle.std.specs.BTreeMap.{get}
 use Rattle.std.proofs.lemmas.List.{map_push}

@@ -1,5 +1,5 @@
 -- After removals and an addition a keytab has no entry but those that were left and the new one.
-use Rattle.krb_copy.proofs.Names.{◌≡◌, ℕ, Bool, true, false, cond, List, [], ◌∷◌, Option, Some, None, Result, Ok, Err, refl, sym, ap, subst, ◌∙◌, inl, inr, arith, map, filter, not, ◌==◌, ◌||◌, list_any, list_any-append, Code, EntryParts, PlacedEntry, placed_entries, KeytabState, entry_at_place, put_result, without, are_twins, Held, Run, Step, There, Clash, Copy, as_found, as_copied, twins, step_of, with_copy, run_added, run_after, go_on, run_over, run_start, copy_run, has_lines}
+use Rattle.krb_copy.proofs.Cited.{◌≡◌, ℕ, Bool, true, false, cond, List, [], ◌∷◌, Option, Some, None, Result, Ok, Err, refl, sym, ap, subst, ◌∙◌, inl, inr, arith, map, filter, not, ◌==◌, ◌||◌, list_any, list_any-append, Code, EntryParts, PlacedEntry, placed_entries, KeytabState, entry_at_place, put_result, without, are_twins, Held, Run, Step, There, Clash, Copy, as_found, as_copied, twins, step_of, with_copy, run_added, run_after, go_on, run_over, run_start, copy_run, has_lines}
 use Rattle.std.proofs.Common.{◌⊎◌}
 use Rattle.std.specs.Prelude.{is_some}
 use Rattle.std.proofs.lemmas.Bool.{eq-eqb}

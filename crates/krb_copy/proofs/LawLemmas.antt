@@ -1,5 +1,5 @@
 -- What a run does to the entries of its keytab.
-use Rattle.krb_copy.proofs.Names.{◌≡◌, ℕ, Bool, true, false, cond, List, [], ◌∷◌, ◌++◌, Some, Ok, refl, sym, ap, subst, ◌∙◌, map, filter, not, ◌&&◌, ◌||◌, AllByRecursion, list_any, bytes_eq, list_any-append, some_is, EntryParts, PlacedEntry, placed_entries, KeytabState, entry_at_place, put_result, without, are_twins, are_same, Held, There, Clash, Copy, as_found, as_copied, twins, step_among, step_of, with_copy}
+use Rattle.krb_copy.proofs.Cited.{◌≡◌, ℕ, Bool, true, false, cond, List, [], ◌∷◌, ◌++◌, Some, Ok, refl, sym, ap, subst, ◌∙◌, map, filter, not, ◌&&◌, ◌||◌, AllByRecursion, list_any, bytes_eq, list_any-append, some_is, EntryParts, PlacedEntry, placed_entries, KeytabState, entry_at_place, put_result, without, are_twins, are_same, Held, There, Clash, Copy, as_found, as_copied, twins, step_among, step_of, with_copy}
 use Rattle.krb_keytab.specs.Form.{IsEntry, read_back}
 use Rattle.krb_keytab.proofs.AfterChanges.{added_reads}
 use Rattle.krb_copy.specs.Copying.{is_kept}

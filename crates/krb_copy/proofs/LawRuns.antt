@@ -1,5 +1,5 @@
 -- What a run over all entries asked for does to the entries of its keytab.
-use Rattle.krb_copy.proofs.Names.{◌≡◌, ℕ, Bool, true, false, cond, List, [], ◌∷◌, ◌++◌, Some, Result, Ok, Err, refl, sym, ap, subst, ◌∙◌, append_assoc, map, ◌||◌, AllByRecursion, list_any, flat_map, append-nil, Code, removed_line, EntryParts, PlacedEntry, placed_entries, KeytabState, entry_at_place, put_result, without, are_twins, are_same, Held, Run, Step, There, Clash, Copy, as_found, step_of, with_copy, run_added, run_after, go_on, run_over, run_start, copy_run, has_lines}
+use Rattle.krb_copy.proofs.Cited.{◌≡◌, ℕ, Bool, true, false, cond, List, [], ◌∷◌, ◌++◌, Some, Result, Ok, Err, refl, sym, ap, subst, ◌∙◌, append_assoc, map, ◌||◌, AllByRecursion, list_any, flat_map, append-nil, Code, removed_line, EntryParts, PlacedEntry, placed_entries, KeytabState, entry_at_place, put_result, without, are_twins, are_same, Held, Run, Step, There, Clash, Copy, as_found, step_of, with_copy, run_added, run_after, go_on, run_over, run_start, copy_run, has_lines}
 use Rattle.krb_keytab.specs.Form.{IsEntry}
 use Rattle.krb_copy.specs.Laws.{Has, AreEntries, IsInPlace, HasEachAsked, SecondDoesNothing, OthersStay, ChangesAreTold}
 use Rattle.krb_copy.proofs.Alike.{same_equiv}

@@ -1,4 +1,4 @@
-pub mod Names
+pub mod Cited
 pub mod Alike
 pub mod ClassKeys
 pub mod ClassesAfter

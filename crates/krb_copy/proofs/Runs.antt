@@ -1,5 +1,5 @@
 -- A run and its definition, entry by entry.
-use Rattle.krb_copy.proofs.Names.{◌≡◌, ℕ, ◌+◌, ◌<◌, Bool, true, false, cond, List, [], ◌∷◌, ◌++◌, length, drop, Result, Ok, Err, refl, sym, ap, subst, ◌∙◌, map, Code, PlacedEntry, placed_entries, KeytabState, put_result, without, Run, Copy, as_found, step_of, with_copy, run_after, run_added, has_lines, run_over, run_start, copy_run, go_on, AreClasses, AreTexts, entry_texts}
+use Rattle.krb_copy.proofs.Cited.{◌≡◌, ℕ, ◌+◌, ◌<◌, Bool, true, false, cond, List, [], ◌∷◌, ◌++◌, length, drop, Result, Ok, Err, refl, sym, ap, subst, ◌∙◌, map, Code, PlacedEntry, placed_entries, KeytabState, put_result, without, Run, Copy, as_found, step_of, with_copy, run_after, run_added, has_lines, run_over, run_start, copy_run, go_on, AreClasses, AreTexts, entry_texts}
 use Rattle.std.proofs.Common.{get_or}
 use Rattle.std.proofs.lemmas.List.{drop_more}
 use Rattle.krb_walk.specs.declared.refusal.Refusal.{Refusal}

@@ -1,9 +1,7 @@
-use Rattle.std.proofs.Common.{◌≡◌, ◌∷◌, ◌∙◌, ◌+◌, ap, length, arith}
-use Rattle.std.specs.List.{sum_by}
+use Rattle.krb_audit.proofs.Cited.{◌≡◌, ◌∷◌, ◌∙◌, ◌+◌, ap, length, arith, sum_by, size, holes}
 use Rattle.krb_keytab.specs.declared.cells.KtCell.{KtCell}
-use Rattle.krb_keytab.specs.Cells.{Free, size}
+use Rattle.krb_keytab.specs.Cells.{Free}
 use Rattle.krb_keytab.specs.CellViews.{cell_of}
-use Rattle.krb_audit.specs.Report.{holes}
 use Rattle.krb_audit.proofs.CountsLemmas.{added_ge, hole_added, hole_counted, holes_few, holes_small}
 use Rattle.krb_audit.proofs.counts.count_holes.Goals as goal
 

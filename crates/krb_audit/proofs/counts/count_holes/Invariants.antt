@@ -1,7 +1,4 @@
-use Rattle.std.proofs.Common.{◌≡◌, ◌+◌, length}
-use Rattle.std.specs.List.{sum_by}
-use Rattle.krb_keytab.specs.Cells.{size}
-use Rattle.krb_audit.specs.Report.{holes}
+use Rattle.krb_audit.proofs.Cited.{◌≡◌, ◌+◌, length, sum_by, size, holes}
 use Rattle.krb_audit.proofs.CountsLemmas.{added}
 use Rattle.krb_audit.proofs.counts.count_holes.Given as goal
 

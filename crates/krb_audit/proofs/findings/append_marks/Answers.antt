@@ -1,6 +1,4 @@
-use Rattle.std.proofs.Common.{List, sym, subst, arith, ◌∙◌}
-use Rattle.krb_keytab.specs.Find.{PlacedEntry, placed_entries}
-use Rattle.krb_audit.specs.Rows.{AreRows}
+use Rattle.krb_audit.proofs.Cited.{List, sym, subst, arith, ◌∙◌, PlacedEntry, placed_entries, AreRows}
 use Rattle.krb_audit.proofs.FindingsLemmas.{IsListedUpTo, entries_few, none_listed, one_listed}
 use Rattle.krb_audit.proofs.RowLemmas.{row_count}
 use Rattle.krb_audit.proofs.findings.append_marks.Goals as goal

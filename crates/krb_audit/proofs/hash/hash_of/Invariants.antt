@@ -1,5 +1,4 @@
-use Rattle.std.proofs.Common.{◌≡◌, take}
-use Rattle.std.specs.List.{fold}
+use Rattle.krb_audit.proofs.Cited.{◌≡◌, take, fold}
 use Rattle.krb_audit.specs.Hash.{hash_step}
 use Rattle.krb_audit.proofs.hash.hash_of.Given as goal
 

@@ -1,6 +1,4 @@
-use Rattle.std.proofs.Common.{ap, subst, sym, ◌∙◌, map, arith}
-use Rattle.std.proofs.lemmas.List.{take_all}
-use Rattle.krb_audit.specs.KvnoMarks.{AreNewest, selects_row}
+use Rattle.krb_audit.proofs.Cited.{ap, subst, sym, ◌∙◌, map, arith, take_all, AreNewest, selects_row}
 use Rattle.krb_audit.proofs.KvnoMarkLemmas.{are_marks}
 use Rattle.krb_audit.proofs.kvno_marks.marks_of.Goals as goal
 

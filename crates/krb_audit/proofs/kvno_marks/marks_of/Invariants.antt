@@ -1,5 +1,4 @@
-use Rattle.std.proofs.Common.{◌≡◌, map, take}
-use Rattle.krb_audit.specs.KvnoMarks.{selects_row}
+use Rattle.krb_audit.proofs.Cited.{◌≡◌, map, take, selects_row}
 use Rattle.krb_audit.proofs.kvno_marks.marks_of.Given as goal
 
 abbrev pub invariant-rows : goal.invariant-rows

@@ -1,5 +1,4 @@
-use Rattle.std.proofs.Common.{◌≡◌, List, ℕ, length}
-use Rattle.std.specs.List.{list_any}
+use Rattle.krb_audit.proofs.Cited.{◌≡◌, List, ℕ, length, list_any}
 use Rattle.krb_audit.specs.Findings.{is_out}
 use Rattle.krb_audit.proofs.mit.has_such.Given as goal
 

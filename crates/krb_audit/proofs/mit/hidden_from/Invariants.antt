@@ -1,4 +1,4 @@
-use Rattle.std.proofs.Common.{◌≡◌}
+use Rattle.krb_audit.proofs.Cited.{◌≡◌}
 use Rattle.krb_audit.specs.Findings.{first_hidden, hidden_from}
 use Rattle.krb_audit.proofs.mit.hidden_from.Given as goal
 

@@ -1,4 +1,5 @@
-use Rattle.std.proofs.Common.{List, ℕ, ◌++◌, ◌∷◌, [], ◌+◌, ◌%◌, ap, sym, append_assoc, ◌∙◌}
+use Rattle.krb_audit.proofs.Cited.{List, ℕ, ◌++◌, ◌∷◌, [], ◌+◌, ap, sym, append_assoc, ◌∙◌}
+use Rattle.std.proofs.Common.{◌%◌}
 use Rattle.std.proofs.lemmas.Result.{on_ok_weaker}
 use Rattle.krb_audit.proofs.Octal.{octal_more}
 use Rattle.krb_audit.proofs.mode.+append_octal.Goals as goal

@@ -1,7 +1,4 @@
-use Rattle.std.proofs.Common.{None, ap, sym, subst, ◌∙◌, length, replicate, arith}
-use Rattle.std.specs.List.{fold}
-use Rattle.std.proofs.lemmas.List.{take_all}
-use Rattle.krb_audit.specs.KvnoMarks.{AreNewest}
+use Rattle.krb_audit.proofs.Cited.{None, ap, sym, subst, ◌∙◌, length, replicate, arith, fold, take_all, AreNewest}
 use Rattle.krb_audit.proofs.NewestStamps.{are_newest, renewed}
 use Rattle.krb_audit.proofs.newest.newest_stamps.Goals as goal
 

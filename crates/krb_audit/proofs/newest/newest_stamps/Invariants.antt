@@ -1,5 +1,4 @@
-use Rattle.std.proofs.Common.{◌≡◌, length, replicate, take, None}
-use Rattle.std.specs.List.{fold}
+use Rattle.krb_audit.proofs.Cited.{◌≡◌, length, replicate, take, None, fold}
 use Rattle.krb_audit.proofs.NewestStamps.{renewed}
 use Rattle.krb_audit.proofs.newest.newest_stamps.Given as goal
 

@@ -1,4 +1,4 @@
-use Rattle.std.proofs.Common.{sym}
+use Rattle.krb_audit.proofs.Cited.{sym}
 use Rattle.krb_audit.proofs.rows.number_of.Goals as goal
 
 -- the map after the call is the one that `entry` borrowed

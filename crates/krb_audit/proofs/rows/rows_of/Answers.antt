@@ -1,13 +1,10 @@
-use Rattle.std.proofs.Common.{List, ap, sym, subst, ◌∙◌}
-use Rattle.krb_wire.specs.declared.format.KtFormat.{KtFormat}
+use Rattle.krb_audit.proofs.Cited.{List, ap, sym, subst, ◌∙◌, KtFormat, PlacedEntry, placed_entries, AreNumbered}
 use Rattle.krb_wire.proofs.Fields.{is_some_has}
 use Rattle.krb_keytab.specs.declared.cells.KtCell.{KtCell}
 use Rattle.krb_keytab.specs.CellViews.{CellsFrom, BeginsWith, cell_of}
 use Rattle.krb_keytab.specs.Entries.{entries_in}
 use Rattle.krb_keytab.specs.Entry.{entry_at}
-use Rattle.krb_keytab.specs.Find.{PlacedEntry, placed_entries}
 use Rattle.krb_keytab.proofs.EntryLists.{entries_of_cells, listed_live}
-use Rattle.krb_audit.specs.Rows.{AreNumbered}
 use Rattle.krb_audit.proofs.Numbering.{none_numbered}
 use Rattle.krb_audit.proofs.rows.rows_of.Goals as goal
 

@@ -1,7 +1,5 @@
-use Rattle.std.proofs.Common.{◌≡◌}
+use Rattle.krb_audit.proofs.Cited.{◌≡◌, placed_entries, AreNumbered}
 use Rattle.krb_keytab.specs.Entries.{entries_in}
-use Rattle.krb_keytab.specs.Find.{placed_entries}
-use Rattle.krb_audit.specs.Rows.{AreNumbered}
 use Rattle.krb_audit.proofs.rows.rows_of.Given as goal
 
 -- the names of the entries so far are numbered

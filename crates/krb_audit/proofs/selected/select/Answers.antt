@@ -1,9 +1,7 @@
-use Rattle.std.proofs.Common.{List, sym, subst, ◌∙◌}
+use Rattle.krb_audit.proofs.Cited.{List, sym, subst, ◌∙◌, PlacedEntry, placed_entries, AreVersions, has_selected_kvno}
 use Rattle.std.specs.Prelude.{Bool}
-use Rattle.krb_keytab.specs.Find.{PlacedEntry, placed_entries}
-use Rattle.krb_audit.specs.EntryCriteria.{AreVersions, EntriesSoFar}
+use Rattle.krb_audit.specs.EntryCriteria.{EntriesSoFar}
 use Rattle.krb_audit.specs.EntryText.{EntryText}
-use Rattle.krb_audit.specs.Selection.{has_selected_kvno}
 use Rattle.krb_audit.proofs.selected.select.Goals as goal
 
 -- the next entry was added if it is selected

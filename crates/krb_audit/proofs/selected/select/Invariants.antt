@@ -1,7 +1,5 @@
-use Rattle.std.proofs.Common.{◌≡◌}
-use Rattle.krb_keytab.specs.Find.{placed_entries}
-use Rattle.krb_audit.specs.EntryCriteria.{AreVersions, EntriesSoFar, entry_text}
-use Rattle.krb_audit.specs.Selection.{has_selected_kvno}
+use Rattle.krb_audit.proofs.Cited.{◌≡◌, placed_entries, AreVersions, entry_text, has_selected_kvno}
+use Rattle.krb_audit.specs.EntryCriteria.{EntriesSoFar}
 use Rattle.krb_audit.proofs.selected.select.Given as goal
 
 -- the selected ones of the entries so far were added

@@ -1,9 +1,6 @@
-use Rattle.std.proofs.Common.{List, Bool, ◌∷◌, ◌++◌, cond, ap, sym, subst, ◌∙◌}
-use Rattle.std.specs.Prelude.{◌&&◌}
-use Rattle.krb_keytab.specs.Find.{PlacedEntry, placed_entries}
-use Rattle.krb_audit.specs.EntryCriteria.{AreVersions, entries_among, entry_text, has_entry_text}
+use Rattle.krb_audit.proofs.Cited.{List, Bool, ◌∷◌, ◌++◌, cond, ap, sym, subst, ◌∙◌, ◌&&◌, PlacedEntry, placed_entries, AreVersions, entry_text, has_selected_kvno}
+use Rattle.krb_audit.specs.EntryCriteria.{entries_among, has_entry_text}
 use Rattle.krb_audit.specs.EntryText.{EntryText}
-use Rattle.krb_audit.specs.Selection.{has_selected_kvno}
 use Rattle.krb_audit.proofs.selected.selected_entries.Goals as goal
 
 -- the next entry was added if it is selected

@@ -1,7 +1,6 @@
-use Rattle.std.proofs.Common.{◌≡◌, ◌++◌}
-use Rattle.krb_keytab.specs.Find.{placed_entries}
-use Rattle.krb_audit.specs.EntryCriteria.{AreVersions, entries_among, entry_text}
-use Rattle.krb_audit.specs.Selection.{has_selected_kvno, selected_in}
+use Rattle.krb_audit.proofs.Cited.{◌≡◌, ◌++◌, placed_entries, AreVersions, entry_text, has_selected_kvno}
+use Rattle.krb_audit.specs.EntryCriteria.{entries_among}
+use Rattle.krb_audit.specs.Selection.{selected_in}
 use Rattle.krb_audit.proofs.selected.selected_entries.Given as goal
 
 -- the selected ones of the entries so far were added

@@ -1,6 +1,5 @@
-use Rattle.std.proofs.Common.{◌≡◌, drop, map}
-use Rattle.std.specs.List.{list_any}
-use Rattle.std.specs.Str.{bytes_eq}
+use Rattle.krb_audit.proofs.Cited.{◌≡◌, map, list_any, bytes_eq}
+use Rattle.std.proofs.Common.{drop}
 use Rattle.std.specs.Vec.{vec_items}
 use Rattle.krb_audit.proofs.selected_names.is_among.Given as goal
 

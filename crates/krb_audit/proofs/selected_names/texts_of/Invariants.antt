@@ -1,4 +1,4 @@
-use Rattle.std.proofs.Common.{◌≡◌, map, take}
+use Rattle.krb_audit.proofs.Cited.{◌≡◌, map, take}
 use Rattle.std.specs.Vec.{vec_items}
 use Rattle.krb_audit.specs.Selection.{texts_of}
 use Rattle.krb_audit.proofs.selected_names.texts_of.Given as goal

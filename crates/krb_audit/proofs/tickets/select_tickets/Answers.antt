@@ -1,4 +1,4 @@
-use Rattle.std.proofs.Common.{List, sym, subst, ◌∙◌}
+use Rattle.krb_audit.proofs.Cited.{List, sym, subst, ◌∙◌}
 use Rattle.krb_ccache.specs.Store.{PlacedCredential, placed_credentials}
 use Rattle.krb_audit.specs.TicketCriteria.{SelectsSoFar}
 use Rattle.krb_audit.specs.TicketText.{TicketText}

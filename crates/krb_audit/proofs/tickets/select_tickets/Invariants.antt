@@ -1,4 +1,4 @@
-use Rattle.std.proofs.Common.{◌≡◌}
+use Rattle.krb_audit.proofs.Cited.{◌≡◌}
 use Rattle.krb_ccache.specs.Store.{placed_credentials}
 use Rattle.krb_audit.specs.TicketCriteria.{ticket_text, SelectsSoFar}
 use Rattle.krb_audit.proofs.tickets.select_tickets.Given as goal

@@ -1,6 +1,4 @@
-use Rattle.std.proofs.Common.{false, ap, sym, subst, ◌∙◌, length, replicate, arith}
-use Rattle.std.specs.List.{fold}
-use Rattle.std.proofs.lemmas.List.{take_all}
+use Rattle.krb_audit.proofs.Cited.{false, ap, sym, subst, ◌∙◌, length, replicate, arith, fold, take_all}
 use Rattle.krb_audit.specs.declared.selection.SelectedKvno.TheVariants.{OldFor}
 use Rattle.krb_audit.specs.KvnoMarks.{AreYoung}
 use Rattle.krb_audit.proofs.KvnoMarkLemmas.{are_young, marked}

@@ -1,5 +1,4 @@
-use Rattle.std.proofs.Common.{◌≡◌, length, replicate, take, false}
-use Rattle.std.specs.List.{fold}
+use Rattle.krb_audit.proofs.Cited.{◌≡◌, length, replicate, take, false, fold}
 use Rattle.krb_audit.proofs.KvnoMarkLemmas.{marked}
 use Rattle.krb_audit.proofs.young.young_for.Given as goal
 

@@ -1,4 +1,4 @@
-use Rattle.krb_copy.proofs.Names.{sym, ap, subst, ◌++◌, placed_entries, entry_texts, copy_run, run_over, run_start}
+use Rattle.krb_copy.proofs.Cited.{sym, ap, subst, ◌++◌, placed_entries, entry_texts, copy_run, run_over, run_start}
 use Rattle.std.proofs.lemmas.Result.{err_from_is_err_and}
 use Rattle.krb_keytab.specs.Store.{InMemory}
 use Rattle.krb_copy.specs.declared.copy.Copying.{Copying}

@@ -1,7 +1,6 @@
-use Rattle.std.proofs.Common.{◌≡◌, List, ℕ, cond, Option, Some, ap, sym, ◌∙◌, ◌∷◌, [], append_assoc}
-use Rattle.std.specs.Prelude.{◌&&◌, ◌||◌, not, Bool, find, option_map}
+use Rattle.krb_audit.proofs.Cited.{◌≡◌, List, ℕ, cond, Option, Some, ap, sym, ◌∙◌, ◌∷◌, [], append_assoc, ◌&&◌, ◌||◌, not, option_map, PlacedEntry, placed_entries}
+use Rattle.std.specs.Prelude.{Bool, find}
 use Rattle.std.specs.Option.{unwrap_or}
-use Rattle.krb_keytab.specs.Find.{PlacedEntry, placed_entries}
 use Rattle.krb_text.specs.Etype.{is_weak}
 use Rattle.krb_audit.specs.declared.selection.SelectedKvno.TheVariants.{Old}
 use Rattle.krb_audit.specs.Findings.{as_alike, ends_mit, is_alike}

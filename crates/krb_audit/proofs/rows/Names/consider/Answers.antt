@@ -1,9 +1,5 @@
-use Rattle.std.proofs.Common.{◌≡◌, ◌∷◌, sym, subst, ◌∙◌, arith}
-use Rattle.krb_wire.proofs.Fields.{some_is}
-use Rattle.krb_keytab.specs.Entry.{EntryParts}
-use Rattle.krb_keytab.specs.Find.{PlacedEntry}
+use Rattle.krb_audit.proofs.Cited.{◌≡◌, ◌∷◌, sym, subst, ◌∙◌, arith, some_is, EntryParts, PlacedEntry, AreNumbered}
 use Rattle.krb_audit.specs.declared.rows.Names.{Names}
-use Rattle.krb_audit.specs.Rows.{AreNumbered}
 use Rattle.krb_audit.proofs.Numbering.{first_here, numbered_next}
 use Rattle.krb_audit.proofs.rows.Names.consider.Goals as goal
 

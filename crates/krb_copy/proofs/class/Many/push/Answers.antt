@@ -1,4 +1,4 @@
-use Rattle.krb_copy.proofs.Names.{ap, ◌∙◌, cond, true, Bool}
+use Rattle.krb_copy.proofs.Cited.{ap, ◌∙◌, cond, true, Bool}
 use Rattle.std.proofs.lemmas.Cmp.{nat_list_eq_equiv}
 use Rattle.std.proofs.lemmas.Map.Text.{is_eq-slice_cmp}
 use Rattle.krb_copy.specs.Classes.{has_among}

@@ -1,4 +1,4 @@
-use Rattle.krb_copy.proofs.Names.{cond, refl, sym, ap, subst, ◌∙◌, Some, is_eq, BTreeMap, Class, ClassKey, class_cmp}
+use Rattle.krb_copy.proofs.Cited.{cond, refl, sym, ap, subst, ◌∙◌, Some, is_eq, BTreeMap, Class, ClassKey, class_cmp}
 use Rattle.std.specs.BTreeMap.{get}
 use Rattle.std.specs.Prelude.{IsSome}
 use Rattle.krb_copy.proofs.ClassesAfter.{first_found, next_found, on_ok_both}

@@ -1,4 +1,4 @@
-use Rattle.krb_copy.proofs.Names.{refl, sym, subst}
+use Rattle.krb_copy.proofs.Cited.{refl, sym, subst}
 use Rattle.std.specs.Prelude.{IsSome}
 use Rattle.krb_copy.proofs.ClassesAfter.{after_there, none_there}
 use Rattle.krb_copy.proofs.classes.Classes.keep.Goals as goal

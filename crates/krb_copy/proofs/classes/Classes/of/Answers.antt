@@ -1,4 +1,4 @@
-use Rattle.krb_copy.proofs.Names.{List, ℕ, subst, ◌∙◌, ◌++◌, ◌∷◌, map, name_text, PlacedEntry, placed_entries, as_found, AreTexts, entry_texts}
+use Rattle.krb_copy.proofs.Cited.{List, ℕ, subst, ◌∙◌, ◌++◌, ◌∷◌, map, name_text, PlacedEntry, placed_entries, as_found, AreTexts, entry_texts}
 use Rattle.krb_copy.proofs.FoundTexts.{one_found}
 use Rattle.krb_copy.proofs.classes.Classes.of.Goals as goal
 

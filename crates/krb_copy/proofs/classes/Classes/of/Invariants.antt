@@ -1,4 +1,4 @@
-use Rattle.krb_copy.proofs.Names.{◌≡◌, List, ℕ, ◌++◌, placed_entries, AreTexts, entry_texts}
+use Rattle.krb_copy.proofs.Cited.{◌≡◌, List, ℕ, ◌++◌, placed_entries, AreTexts, entry_texts}
 use Rattle.krb_copy.proofs.FoundTexts.{AreFound}
 use Rattle.krb_copy.proofs.classes.Classes.of.Given as goal
 

@@ -1,4 +1,4 @@
-use Rattle.krb_copy.proofs.Names.{sym, ap, ◌∙◌, true, false}
+use Rattle.krb_copy.proofs.Cited.{sym, ap, ◌∙◌, true, false}
 use Rattle.krb_copy.specs.Classes.{has_key, places_in}
 use Rattle.krb_copy.proofs.ClassesAfter.{class_is, none_is, step_by, step_of_none}
 use Rattle.krb_copy.proofs.classes.Classes.step.Goals as goal

@@ -1,4 +1,4 @@
-use Rattle.krb_copy.proofs.Names.{◌++◌, ◌∷◌, [], List, ℕ, sym, ap, ◌∙◌, name_text, PlacedEntry, run_after, entry_texts}
+use Rattle.krb_copy.proofs.Cited.{◌++◌, ◌∷◌, [], List, ℕ, sym, ap, ◌∙◌, name_text, PlacedEntry, run_after, entry_texts}
 use Rattle.std.proofs.lemmas.Result.{err_from_is_err_and}
 use Rattle.krb_copy.specs.Copying.{clash_line, copied_lines}
 use Rattle.krb_copy.proofs.ClassesAfter.{after_clash}

@@ -1,4 +1,4 @@
-use Rattle.krb_copy.proofs.Names.{◌≡◌, ◌++◌, take, drop, flat_map, removed_line, without}
+use Rattle.krb_copy.proofs.Cited.{◌≡◌, ◌++◌, take, drop, flat_map, removed_line, without}
 use Rattle.krb_copy.proofs.making.Making.remove.Given as goal
 
 -- removing at the places that are left gives what removing at all gives, and the others have their lines

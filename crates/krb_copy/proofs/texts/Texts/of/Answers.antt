@@ -1,4 +1,4 @@
-use Rattle.krb_copy.proofs.Names.{PlacedEntry, placed_entries, entry_texts}
+use Rattle.krb_copy.proofs.Cited.{PlacedEntry, placed_entries, entry_texts}
 use Rattle.krb_copy.proofs.FoundTexts.{one_appended}
 use Rattle.krb_copy.proofs.texts.Texts.of.Goals as goal
 

@@ -1,4 +1,4 @@
-use Rattle.krb_copy.proofs.Names.{placed_entries}
+use Rattle.krb_copy.proofs.Cited.{placed_entries}
 use Rattle.krb_copy.proofs.FoundTexts.{AreAppended}
 use Rattle.krb_copy.proofs.texts.Texts.of.Given as goal
 

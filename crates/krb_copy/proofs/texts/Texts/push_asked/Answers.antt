@@ -1,4 +1,4 @@
-use Rattle.krb_copy.proofs.Names.{◌++◌, List, take, subst, arith, PlacedEntry, AreTexts, entry_texts}
+use Rattle.krb_copy.proofs.Cited.{◌++◌, List, take, subst, arith, PlacedEntry, AreTexts, entry_texts}
 use Rattle.std.proofs.lemmas.List.{take_all}
 use Rattle.krb_copy.proofs.FoundTexts.{one_asked}
 use Rattle.krb_copy.proofs.texts.Texts.push_asked.Goals as goal

@@ -1,4 +1,4 @@
-use Rattle.krb_copy.proofs.Names.{List, ℕ, ◌++◌, take, AreTexts, entry_texts}
+use Rattle.krb_copy.proofs.Cited.{List, ℕ, ◌++◌, take, AreTexts, entry_texts}
 use Rattle.krb_copy.proofs.texts.Texts.push_asked.Given as goal
 
 -- the names of the entries so far were appended
