@@ -4,13 +4,13 @@ import re
 from collections.abc import Callable, Iterator
 from random import Random
 
-from caches.cache_scripts import FAULTS as CACHE_FAULTS
+from caches.cache_edits import FAULTS as CACHE_FAULTS
 from computed.random_listings import NOW, SERVERS, options, random_ticket
 from computed.topic import Topic
 from keytabs.columns import ETYPES, KEY_SIZES
+from keytabs.edits import FAULTS
 from keytabs.ktutil_lines import FAULTS as KTUTIL_FAULTS
 from keytabs.ktutil_lines import NO_KEYS
-from keytabs.scripts import FAULTS
 from makers.images import BIG, LITTLE, hole, keytab, name_text
 from makers.mutations import damaged
 from makers.random_caches import KEYS, PRINCIPALS, filled_cache, random_credential, random_value, with_damage

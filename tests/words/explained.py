@@ -9,13 +9,13 @@ from functools import partial
 from itertools import product
 
 from caches.cache_edits import long_ticket
-from caches.cache_scripts import FAULTS as CACHE_FAULTS
+from caches.cache_edits import FAULTS as CACHE_FAULTS
 from keytabs.copies import OTHER, Y
 from keytabs.edits import ADD_HOST
+from keytabs.edits import FAULTS as LINE_FAULTS
 from keytabs.file_names import LIMIT
 from keytabs.ktutil_lines import FAULTS as TALK_FAULTS
 from keytabs.ktutil_lines import KEY
-from keytabs.scripts import FAULTS as LINE_FAULTS
 from makers.cache_images import cache
 from makers.images import B, HOST, TWO, keytab, record
 from makers.usual_caches import USUAL, VERSION_3
