@@ -15,7 +15,7 @@ from makers.images import BIG, LITTLE, hole, keytab, name_text
 from makers.mutations import damaged
 from makers.random_caches import KEYS, PRINCIPALS, filled_cache, random_credential, random_value, with_damage
 from makers.random_keytabs import Choices, random_bytes, random_keytab
-from runs.undisturbed import Undisturbed, explained, undisturbed
+from runs.undisturbed import Undisturbed, undisturbed
 
 # Few names, versions, types and keys, so that many entries agree; MIT's programs do not see those with empty parts.
 REMOVED = Choices(names=((b"a", b"R"), (b"a", b"b", b"R"), (b"a/b", b"R"), (b"", b"R"), (b"R",)),
@@ -52,10 +52,14 @@ def in_turn(run: Callable[[bytes | None], Undisturbed], image: bytes | None, fil
         image = made.files_after.get(file)
 
 
-def random_number(random: Random) -> str:
+def with_zeros(random: Random, number: int) -> bytes:
     """Returns a number, sometimes with leading zeros."""
-    found = random.choice([0, 1, 3, 255, 256, 300, NOW, 2**32 - 1])
-    return f"{found:010}" if random.random() < 0.1 else str(found)
+    return (b"%010d" if random.random() < 0.1 else b"%d") % number
+
+
+def random_number(random: Random) -> bytes:
+    """Returns a number of an entry."""
+    return with_zeros(random, random.choice([0, 1, 3, 255, 256, 300, NOW, 2**32 - 1]))
 
 
 def random_name(random: Random) -> bytes:
@@ -77,14 +81,13 @@ def script_line(random: Random, kind: str, places: list[int], walks: int) -> byt
     words = [kind.encode()]
     if kind == "add":
         etype, key = random_etype_and_key(random)
-        words += [random_number(random).encode(), etype.encode(), random_number(random).encode(), key.encode(),
-                  random_name(random)]
+        words += [random_number(random), etype.encode(), random_number(random), key.encode(), random_name(random)]
     elif kind == "config":
         words += [random.choice(KEYS), random.choice(PRINCIPALS), random_value(random)]
     elif kind in ("cut", "resume"):
-        words.append(b"%d" % random.choice([*places * 4, 0, 1, 3, random.randrange(400), 2**32 - 1]))
+        words.append(with_zeros(random, random.choice([*places * 4, 0, 1, 3, random.randrange(400), 2**32 - 1])))
     elif kind == "step":
-        words.append(b"%d" % random.randrange(walks + 1 if random.random() < 0.1 else max(walks, 1)))
+        words.append(with_zeros(random, random.randrange(walks + 1 if random.random() < 0.1 else max(walks, 1))))
     return b" ".join(words)
 
 
@@ -119,7 +122,7 @@ def keytab_script(random: Random) -> Iterator[Undisturbed]:
             return undisturbed(f"ktedit{big} k", script, k=image)
 
         made = run(script_over(random, run, LINES, places, FAULTS))
-        yield random.choice((explained(made), made))
+        yield made
         image = made.files_after.get("k")
 
 
@@ -131,8 +134,7 @@ def cache_script(random: Random) -> Iterator[Undisturbed]:
     def run(script: bytes) -> Undisturbed:
         return undisturbed("ccedit c", script, c=image)
 
-    made = run(script_over(random, run, CACHE_LINES, places, CACHE_FAULTS))
-    yield random.choice((explained(made), made))
+    yield run(script_over(random, run, CACHE_LINES, places, CACHE_FAULTS))
 
 
 def ktutil_line(random: Random) -> bytes:
@@ -147,7 +149,7 @@ def ktutil_line(random: Random) -> bytes:
     if not kind.startswith("add"):
         return kind.encode()
     etype, key = random_etype_and_key(random)
-    words = [[b"-key"], [b"-p", random_name(random).replace(b" ", b"\\ ")], [b"-k", random_number(random).encode()],
+    words = [[b"-key"], [b"-p", random_name(random).replace(b" ", b"\\ ")], [b"-k", random_number(random)],
              [b"-e", etype.encode()]]
     random.shuffle(words)
     key = random.choice(NO_KEYS) if random.random() < 0.1 else key
@@ -160,9 +162,8 @@ def ktutil_input(random: Random) -> Iterator[Undisturbed]:
     lines = [faulty(random, KTUTIL_FAULTS) if random.random() < 0.15 else ktutil_line(random)
              for _ in range(random.randrange(20))]
     big = " --v1-big" * any(is_big for _, is_big in made.values())
-    run = undisturbed(f"ktutil{big}", b"\n".join(lines) + random.choice([b"", b"\n"]), clock=NOW,
+    yield undisturbed(f"ktutil{big}", b"\n".join(lines) + random.choice([b"", b"\n"]), clock=NOW,
                       **{name: image for name, (image, _) in made.items()})
-    yield random.choice((explained(run), run))
 
 
 def selectors(random: Random, names: list[bytes], chance: float) -> list[str | bytes]:
@@ -213,10 +214,10 @@ def copy(random: Random) -> Iterator[Undisturbed]:
                       for _ in range(2))
     words = [*options(random, "--replace", "-n"), *("--v1-big",) * v1_big,
              *selectors(random, [name_text(name) for name in FEW.names], 0.1)]
-    if random.random() < 0.1:
-        words += ["-k", random.choice(["new", "1", "257"])]
+    if random.random() < 0.2:
+        words += ["-k", random.choice(["new", "new", "1", "257"])]
     runs = [*in_turn(lambda it: undisturbed(("ktcopy", *words, "k", "t"), k=source, t=it), target, "t")]
-    yield from (random.choice((explained(run), run)) for run in runs)
+    yield from runs
     yield undisturbed(("ktcopy", *words, "t", "k"), k=source, t=runs[-1].files_after.get("t"))
 
 

@@ -15,11 +15,11 @@ from makers.random_caches import filled_cache, random_cache, random_credential, 
 from makers.random_keytabs import SAMPLES as KEYTABS
 from makers.random_keytabs import Choices, random_image
 from runs.harness import Case
-from runs.undisturbed import Undisturbed, explained, undisturbed
+from runs.undisturbed import Undisturbed, undisturbed
 from words.phrases import FINDINGS
 
 # Few names, versions, types and keys, so that many entries agree.
-FOUND = Choices(names=((b"a", b"R"), (b"a", b"b", b"R"), (b"a/b", b"R"), (b"", b"\n", b"@")),
+FOUND = Choices(names=((b"a", b"R"), (b"a", b"b", b"R"), (b"a/b", b"R"), (b"", b"\n", b"@"), (b"\n", b"@"), (b"-A", b"R")),
                 versions=(0, 1, 2, 255, 256, 257, 2**32 - 1), enctypes=(0, 17, 18, 273))
 CHECKED = Choices(names=((b"a", b"R"), (b"a", b"b", b"R"), (b"", b"R")), versions=(1, 240),
                   enctypes=(3, 17, 23), timestamps=(0, 1, 2**32 - 1), keys=(b"", b"x", b"x", b"y"))
@@ -77,12 +77,11 @@ def random_place(random: Random) -> bytes | None:
 
 
 def checked(random: Random) -> Iterator[Undisturbed]:
-    """Yields a check of up to six files, with its findings explained or not."""
+    """Yields a check of up to six files."""
     files = {name: random_place(random) for name in "kjid"}
     words = random.choices([*"kjid", "FILE:k", "WRFILE:j", "KCM:k"], k=random.choice((1, 1, 2, 3, 6)))
     allowed = [f"--allow={word}" for word in random.choices([*FINDINGS], k=random.choice((0, 0, 1, 5)))]
-    made = undisturbed(("ktcheck", *options(random, "-q", "--v1-big"), *allowed, *words), **files)
-    yield random.choice((explained(made), made))
+    yield undisturbed(("ktcheck", *options(random, "-q", "--v1-big"), *allowed, *words), **files)
 
 
 def random_ticket(random: Random) -> Credential:
