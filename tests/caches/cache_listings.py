@@ -9,12 +9,8 @@ from makers.usual_caches import TICKET
 from runs.harness import Case, Outcome
 from runs.rows import over
 
-START, END = b"2023-11-14T22:13:20Z", b"2023-11-15T08:13:20Z"
-TIMES = START + b" " + END + b" "
+TIMES = b"2023-11-14T22:13:20Z 2023-11-15T08:13:20Z "
 TICKET_LINE = TIMES + b"krbtgt/R@R"
-FLAGS_LINE = b"    Flags: FRIA"
-ETYPE_LINE = b"    Etype: aes128-cts-hmac-sha1-96"
-CONFIG_LINE = b"config: pa_type(krbtgt/R@R) = 2"
 
 of_host = partial(replace, TICKET, server=Name((b"host", b"a")))
 
@@ -44,7 +40,6 @@ ESCAPED = (b"".join(b"\\x%02x" % byte for byte in range(0x20)) + bytes(range(0x2
 LONG = Name((b"",) * 70_000 + (b"y" * 100_000,))
 NUMBERS = range(1, 2001)
 
-# The lines of words list the usual cache, with each set of columns; those that are explained name what is no cache.
 CASES = [
     case("2000 tickets", cache(*(replace(TICKET, server=Name((b"svc", b"%d" % n))) for n in NUMBERS)),
          *(TIMES + b"svc/%d@R" % n for n in NUMBERS)),

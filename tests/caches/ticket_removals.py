@@ -1,5 +1,7 @@
-"""Removals by `ccremove`: words that select, as they stand on a line. What each selects random removals show. Places are
-counted by hand: a ticket has 108 bytes or 106, pa_type's value 136."""
+"""Removals by `ccremove`: words that select, as they stand on a line. What each selects random removals show.
+
+Places are counted by hand: a ticket has 108 bytes or 106, pa_type's value 136.
+"""
 
 from dataclasses import replace
 

@@ -16,6 +16,7 @@ from makers.mutations import damaged
 from makers.random_caches import KEYS, PRINCIPALS, filled_cache, random_credential, random_value, with_damage
 from makers.random_keytabs import Choices, random_bytes, random_keytab
 from runs.undisturbed import Undisturbed, undisturbed
+from words.phrases import BEGINS_AS_CACHE, CLASH, TO_REPLACE, code, line_fault
 
 # Few names, versions, types and keys, so that many entries agree; MIT's programs do not see those with empty parts.
 REMOVED = Choices(names=((b"a", b"R"), (b"a", b"b", b"R"), (b"a/b", b"R"), (b"", b"R"), (b"R",)),
@@ -222,16 +223,21 @@ def copy(random: Random) -> Iterator[Undisturbed]:
 
 
 REPLIES = ("walk at", "walk gave", "walk end", "walk fault", "placed", "gone", "rewritten")
-REMOVALS = ("removed", "nothing to do", "refused 1", "refused 9", "-n removed")
+REMOVALS = ("removed", "nothing to do", "refused 1", "-n removed")
 
 TOPICS = (
-    Topic("random scripts", keytab_script, (*REPLIES, *(f"refused {code}" for code in (1, 4, 5, 6)),
-                                            *(f"fault {number}" for number in range(1, 7)), "not a keytab"), usual=60),
+    Topic("random scripts", keytab_script,
+          (*REPLIES, *(f"refused {number}: {code(number)}" for number in (1, 4, 5, 6)),
+           *(f"fault {number}" for number in range(1, 7)), line_fault(2), line_fault(5), "not a keytab"), usual=60),
     Topic("random scripts over caches", cache_script,
-          (*REPLIES, *(f"refused {code}" for code in (1, 4, 5, 6, 8)), "fault 3"), usual=60),
+          (*REPLIES, *(f"refused {number}: {code(number, 'ccedit')}" for number in (1, 4, 5, 6, 8)), "fault 3"),
+          usual=70),
     Topic("random inputs of ktutil", ktutil_input,
-          ("a record", "no such file", "refused 1", *(f"fault {number}" for number in range(1, 8))), usual=60),
-    Topic("random removals", removal, REMOVALS, usual=50),
-    Topic("random removals of tickets", ticket_removal, (*REMOVALS[:2], "refused 9", "-n removed"), usual=70),
-    Topic("random copies", copy, ("copied", "removed", "clash", "-n copied", "nothing to do"), usual=60),
+          ("a record", "no such file", code(1), *(f"fault {number}" for number in range(1, 8)),
+           *(line_fault(number, "ktutil") for number in range(1, 8))), usual=80),
+    Topic("random removals", removal, (*REMOVALS, code(9, "ktremove")), usual=50),
+    Topic("random removals of tickets", ticket_removal,
+          (*REMOVALS, *(code(number, "ccremove") for number in (1, 8, 9))), usual=70),
+    Topic("random copies", copy, ("copied", "removed", f"clash: {CLASH}", TO_REPLACE, "-n copied", "nothing to do",
+                                  code(9, "ktcopy"), BEGINS_AS_CACHE[1]), usual=60),
 )

@@ -11,16 +11,17 @@ from makers.cache_images import CONFIG_FIRST, CONFIG_REALM, Credential, Name, ca
 from makers.images import TWO, name_text
 from makers.mutations import damaged, mutated
 from makers.random_caches import SAMPLES as CACHES
-from makers.random_caches import filled_cache, random_cache, random_credential, with_damage
+from makers.random_caches import random_cache, random_credential, with_damage
 from makers.random_keytabs import SAMPLES as KEYTABS
 from makers.random_keytabs import Choices, random_image
 from runs.harness import Case
 from runs.undisturbed import Undisturbed, undisturbed
-from words.phrases import FINDINGS
+from words.phrases import (BAD_DEFAULT, BAD_HEADER, BEGINS_AS_NO_CACHE, BEGINS_AS_NO_KEYTAB, FAULTS, FINDINGS,
+                           LISTED_AS_KEYTAB, SHORT, code)
 
 # Few names, versions, types and keys, so that many entries agree.
-FOUND = Choices(names=((b"a", b"R"), (b"a", b"b", b"R"), (b"a/b", b"R"), (b"", b"\n", b"@"), (b"\n", b"@"), (b"-A", b"R")),
-                versions=(0, 1, 2, 255, 256, 257, 2**32 - 1), enctypes=(0, 17, 18, 273))
+FOUND = Choices(names=((b"a", b"R"), (b"a", b"b", b"R"), (b"a/b", b"R"), (b"", b"\n", b"@"), (b"\n", b"@"),
+                       (b"-A", b"R")), versions=(0, 1, 2, 255, 256, 257, 2**32 - 1), enctypes=(0, 17, 18, 273))
 CHECKED = Choices(names=((b"a", b"R"), (b"a", b"b", b"R"), (b"", b"R")), versions=(1, 240),
                   enctypes=(3, 17, 23), timestamps=(0, 1, 2**32 - 1), keys=(b"", b"x", b"x", b"y"))
 
@@ -106,12 +107,14 @@ def kinds_of_json(case: Case) -> Iterator[str]:
 
 TOPICS = (
     Topic("random keytabs", keytab_listing,
-          ("status 0", *(f"fault {number}" for number in (1, 2, 3)), "not a keytab (1)", "not a keytab (2)", 'kind":1'),
-          usual=100, more=kinds_of_json),
+          ("status 0", *(FAULTS[number] for number in (1, 2, 3)), 'kind":1',
+           *(phrase for _, phrase in (SHORT, LISTED_AS_KEYTAB, BEGINS_AS_NO_KEYTAB))), usual=100, more=kinds_of_json),
     Topic("random caches", cache_listing,
-          ("status 0", "fault 4", *(f"not a cache ({why})" for why in (1, 2, 5)), "config", "a record", "renew",
+          ("status 0", FAULTS[4], "not a cache (1)", *(phrase for _, phrase in (
+              BEGINS_AS_NO_CACHE, BAD_HEADER, BAD_DEFAULT)), "config", "a record", "renew",
            "Flags", "Etype", "client_hex", "value_hex", 'etype_name":null'), usual=60, more=kinds_of_json),
-    Topic("random look-ups", look_up, ("found", "refused 1", "refused 9", "refused 10"), usual=80),
-    Topic("random checks", checked, (*FINDINGS, "fault 2", "entries", "no such file", "not a keytab"), usual=80),
+    Topic("random look-ups", look_up, ("found", code(1), code(9), code(10)), usual=80),
+    Topic("random checks", checked, (*(": ".join(each) for each in FINDINGS.items()), FAULTS[2], FAULTS[3], SHORT[1],
+                                     "entries", "no such file"), usual=80),
     Topic("random questions for tickets", question, ("status 1", "status 0", "--for status 0"), usual=40),
 )

@@ -40,7 +40,8 @@ class Topic:
         return self.title.replace(" ", "_")
 
     def make(self, report: Report, numbers: range) -> None:
-        """Makes the runs of some numbers, with messages explained for odd ones. They are compared with the definitions."""
+        """Makes the runs of some numbers, with their messages explained if the number is odd. The definitions compute
+        the same."""
         seen: Counter[str] = Counter()
         for number in numbers:
             for run in self.runs(Random(number)):

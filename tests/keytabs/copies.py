@@ -8,7 +8,7 @@ from dataclasses import replace
 from keytabs import greatest
 from keytabs.file_names import LIMIT
 from keytabs.finds import AES256, DAMAGED, FIVE, NOT_FOUND, told
-from keytabs.removals import B3, FOUR
+from keytabs.removals import FOUR
 from makers.images import B, HOST, TWO, Entry, keytab, old, record
 from runs.harness import Case, Outcome, Report, message
 from runs.rows import check_rows, printed, words_of
