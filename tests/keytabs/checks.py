@@ -28,7 +28,6 @@ EVEN = {
     "odd numbers": Entry(name_type=2**32 - 1, timestamp=2**31, enctype=65_535, version32=0),
 }
 
-
 # Modes, and the status; None where the mode has no line, since no other than the owner may read or write the file.
 MODES = {0o600: None, 0o400: None, 0o611: None, 0o7711: None, 0o640: 0, 0o660: 0, 0o620: 0, 0o604: 1, 0o602: 1,
          0o644: 1, 0o666: 1, 0o4640: 0, 0o1644: 1, 0o060: 0, 0o006: 1}
