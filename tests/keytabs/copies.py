@@ -67,6 +67,7 @@ CASES = [
     copy("nothing selected, no keytab to copy to", "-p c@R", TWO, b"xy", NOT_FOUND),
     *(copy(f"to {image.hex()[-8:]}", options, TWO, image, message(1, f"t: {what}"))
       for image, what in UNSOUND.items() for options in ("-n", "--replace -p b@R")),
+    copy("nothing into a damaged keytab", "", keytab(), TWO[:-1], message(1, "t: refused 1")),
     *(Case(f"{source} to {target}", ("ktcopy", source, target), wanted, {"k": TWO, "t": keytab(B)})
       for source, target, wanted in (
           ("no", ".", message(1, "no: no such file")), ("no/k", "t", message(1, "no/k: no such file")),
