@@ -7,13 +7,12 @@ from makers.images import B, HOST, LITTLE, TWO, Entry, keytab, old, record
 from runs.harness import Case, Outcome, message
 from runs.rows import over, printed
 
-# Lines that add host/a@R, b@R and c@R, as HOST, B and C have them.
+# Lines that add host/a@R and b@R, as HOST and B have them, and c@R.
 ADD_HOST = "add 3 17 1700000000 000102030405060708090a0b0c0d0e0f host/a@R"
 B_KEY = B.key.hex()
 ADD = f"add 3 17 1700000000 {B_KEY}"
 ADD_B = f"{ADD} b@R"
 ADD_C = "add 3 17 1700000000 202122232425262728292a2b2c2d2e2f c@R"
-C = Entry((b"c",), key=bytes(range(32, 48)))
 
 
 def by_line(lines: dict[int, list[str]]) -> dict[str, int]:

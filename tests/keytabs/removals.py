@@ -16,9 +16,9 @@ FOUR = keytab(*THOSE)
 X = "removed 2 kvno 3 etype 17 host/a@R"
 
 
-def versioned(kvno: int, seconds: int, enctype: int = 17) -> Entry:
+def versioned(kvno: int, seconds: int) -> Entry:
     """Returns an entry of a@R."""
-    return Entry((b"a",), timestamp=seconds, version8=kvno % 256, enctype=enctype, version32=kvno)
+    return Entry((b"a",), timestamp=seconds, version8=kvno % 256, version32=kvno)
 
 
 def remove(name: str, words: str, those: tuple[Entry, ...], *gone: int) -> Case:
