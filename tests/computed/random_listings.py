@@ -20,13 +20,13 @@ from words.phrases import (BAD_DEFAULT, BAD_HEADER, BEGINS_AS_NO_CACHE, BEGINS_A
                            LISTED_AS_KEYTAB, SHORT, code)
 
 # Few names, versions, types and keys, so that many entries agree.
-FOUND = Choices(names=((b"a", b"R"), (b"a", b"b", b"R"), (b"a/b", b"R"), (b"", b"\n", b"@"), (b"\n", b"@"),
-                       (b"-A", b"R")), versions=(0, 1, 2, 255, 256, 257, 2**32 - 1), enctypes=(0, 17, 18, 273))
+FOUND = Choices(names=(*[(b"a", b"R")] * 5, (b"a", b"b", b"R"), (b"a/b", b"R"), (b"", b"\n", b"@"), (b"\n", b"@"),
+                       (b"-A", b"R")), versions=(0, 1, 255, 256, 257, 2**32 - 1), enctypes=(0, 17, 18, 273))
 CHECKED = Choices(names=((b"a", b"R"), (b"a", b"b", b"R"), (b"", b"R")), versions=(1, 240),
                   enctypes=(3, 17, 23), timestamps=(0, 1, 2**32 - 1), keys=(b"", b"x", b"x", b"y"))
 
 # The names of servers, some of which print alike.
-SERVERS = [Name((b"krbtgt", b"R")), Name((b"host", b"a")), Name((b"host", b"a"), name_type=3),
+SERVERS = [*[Name((b"krbtgt", b"R"))] * 3, Name((b"host", b"a")), Name((b"host", b"a"), name_type=3),
            Name((b"host/a",)), Name(()), Name((b"",)), Name((b"a\n@",), b"R@S"),
            Name((CONFIG_FIRST, b"k"), CONFIG_REALM), Name((CONFIG_FIRST,), CONFIG_REALM)]
 
@@ -63,7 +63,7 @@ def look_up(random: Random) -> Iterator[Undisturbed]:
     """Yields a look-up in a keytab, which is mostly read in its own byte order."""
     image, is_big = FOUND.random_keytab(random)
     big = ("--v1-big",) if is_big != (random.random() < 0.1) else ()
-    kvno, etype = random.choice([0, *FOUND.versions]), random.choice([0, *FOUND.enctypes])
+    kvno, etype = (random.choice([0] * 6 + [*those]) for those in (FOUND.versions, FOUND.enctypes))
     name = name_text(random.choice(FOUND.names))
     yield undisturbed(("ktfind", *big, "k", str(kvno), str(etype), "--", name), k=image)
 
@@ -94,7 +94,7 @@ def random_ticket(random: Random) -> Credential:
 def question(random: Random) -> Iterator[Undisturbed]:
     """Yields a question whether a cache has a valid ticket, or one that is valid for a while."""
     tickets = (random_ticket(random) for _ in range(random.randrange(9)))
-    made = cache(*tickets, default=Name(realm=random.choice((b"R", b"S"))), version=random.choice((3, 4)))
+    made = cache(*tickets, default=Name(realm=random.choice((b"R", b"R", b"S"))), version=random.choice((3, 4)))
     seconds = random.choice(WHILES)
     words = () if seconds is None else ("--for", str(seconds))
     yield undisturbed(("klist", "-s", *words, "c"), clock=NOW, c=with_damage(random, made, 0.1))
