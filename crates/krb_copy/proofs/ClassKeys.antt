@@ -19,7 +19,7 @@ use Rattle.krb_wire.proofs.RoundTrip.{name_of-name_text}
 use Rattle.krb_keytab.specs.Entry.{EntryParts}
 use Rattle.krb_audit.specs.Hash.{hash_of}
 use Rattle.krb_copy.specs.Twins.{are_twins}
-use Rattle.krb_copy.specs.Numbers.{ClassKey, IsClassKey, KeyIn, class_cmp, key_cmp}
+use Rattle.krb_copy.specs.Classes.{ClassKey, IsClassKey, class_cmp}
 
 -- ---- names as text
 
@@ -127,10 +127,3 @@ classes_agree x y k l of_x of_y =
     ∙ regroup (x.version * 65536 + x.enctype == y.version * 65536 + y.enctype) (length x.principal.components == length y.principal.components) (bytes_eq (name_text x.principal) (name_text y.principal))
     ∙ ap (λ (b : Bool). b && (x.version * 65536 + x.enctype == y.version * 65536 + y.enctype)) (names_agree x.principal y.principal)
     ∙ ap (λ (b : Bool). have_same_name x.principal y.principal && b) (kinds_agree x.version x.enctype y.version y.enctype of_x.small of_y.small))
-
--- keys compare equal iff their classes have the same number and they have the same bytes
-pub keys_agree : (k l : KeyIn) → is_eq (key_cmp k l) ≡ ((k.0 == l.0) && bytes_eq k.1.now l.1.now)
-keys_agree k l =
-    then_is (nat_cmp k.0 l.0) (slice_cmp nat_cmp k.1.now l.1.now)
-    ∙ ap (λ (b : Bool). b && is_eq (slice_cmp nat_cmp k.1.now l.1.now)) (nat_is k.0 l.0)
-    ∙ ap (λ (b : Bool). (k.0 == l.0) && b) (is_eq-slice_cmp k.1.now l.1.now)

@@ -1,7 +1,7 @@
 -- A run is a history of removals and additions, and without replacing of additions alone.
 use Rattle.std.proofs.Common.{◌≡◌, ℕ, Bool, true, false, cond, List, [], ◌∷◌, ◌++◌, Some, Result, Ok, Err, refl, sym, ap, subst, ◌∙◌}
 use Rattle.std.specs.Prelude.{map}
-use Rattle.std.specs.List.{AllByRecursion, list_any}
+use Rattle.std.specs.List.{list_any}
 use Rattle.std.specs.Str.{bytes_eq}
 use Rattle.krb_walk.specs.declared.event.Event.{Event}
 use Rattle.krb_walk.specs.declared.event.Event.TheVariants.{Put, Cut}
@@ -15,9 +15,8 @@ use Rattle.krb_keytab.specs.Store.{KeytabState, entry_at_place}
 use Rattle.krb_keytab.specs.Changes.{put_result, without}
 use Rattle.krb_keytab.proofs.StoreChanges.{cuts_ran}
 use Rattle.krb_copy.specs.Copying.{Held, Run, Step, There, Clash, Copy, twins, step_among, step_of, run_added, run_after, go_on, run_over, run_start, copy_run, has_lines}
-use Rattle.krb_copy.specs.Laws.{AllStay, AreHistories, IsChange}
+use Rattle.krb_copy.specs.Laws.{AllStay, AreHistories, changes_of, changes_on, changes_over}
 use Rattle.krb_copy.proofs.Elsewhere.{put_elsewhere}
-use Rattle.krb_copy.proofs.LawLemmas.{all_append}
 use Rattle.krb_copy.proofs.LawRuns.{ok_is, ended}
 
 -- ---- histories
@@ -26,61 +25,42 @@ use Rattle.krb_copy.proofs.LawRuns.{ok_is, ended}
 abbrev session : KeytabState → SessionState KeytabState
 session k = record { store = k; cursors = [] }
 
--- a keytab comes of another by removals and additions
-record Comes (k new : KeytabState) : Type 0 where
-  events : List (Event EntryParts)
-  changes : AllByRecursion IsChange events
-  state : state_after keytab_rules (session k) events ≡ session new
-
 after-append : (s : SessionState KeytabState) (es fs : List (Event EntryParts)) → state_after keytab_rules s (es ++ fs) ≡ state_after keytab_rules (state_after keytab_rules s es) fs
 after-append s [] fs = refl
 after-append s (e ∷ es) fs = after-append (after keytab_rules s e) es fs
 
-comes_then : (k mid new : KeytabState) → Comes k mid → Comes mid new → Comes k new
-comes_then k mid new a b = record {
-  events = a.events ++ b.events;
-  changes = all_append IsChange a.events b.events a.changes b.changes;
-  state = after-append (session k) a.events b.events ∙ ap (λ (s : SessionState KeytabState). state_after keytab_rules s b.events) a.state ∙ b.state;
-}
+-- events lead from one keytab to another
+abbrev Lead : List (Event EntryParts) → KeytabState → KeytabState → Type 0
+Lead events k new = state_after keytab_rules (session k) events ≡ session new
 
-cuts_change : (places : List ℕ) → AllByRecursion IsChange (map Cut places)
-cuts_change [] = tt
-cuts_change (p ∷ ps) = (tt, cuts_change ps)
+lead_on : (es fs : List (Event EntryParts)) (k mid new : KeytabState) → Lead es k mid → Lead fs mid new → Lead (es ++ fs) k new
+lead_on es fs k mid new a b = after-append (session k) es fs ∙ ap (λ (s : SessionState KeytabState). state_after keytab_rules s fs) a ∙ b
 
-removals : (k : KeytabState) (places : List ℕ) → Comes k (without k places)
-removals k places = record { events = map Cut places; changes = cuts_change places; state = sym (cuts_ran k places).state }
+added_by : (run next : Run) (x : EntryParts) (places : List ℕ) (r : Result (ℕ × KeytabState) Code) → put_result (without run.keytab places) x ≡ r → run_added run x places r ≡ Ok next → Lead (changes_of x (Copy places)) run.keytab next.keytab
+added_by run next x places (Err code) put e = absurd cc
+added_by run next x places (Ok given) put e =
+    subst (λ (n : Run). Lead (changes_of x (Copy places)) run.keytab n.keytab) (ok_is _ next (run_added run x places (Ok given)) refl e)
+    (lead_on (map Cut places) (Put x ∷ []) run.keytab (without run.keytab places) given.1 (sym (cuts_ran run.keytab places).state) (ap (λ (r : Result (ℕ × KeytabState) Code). session (put_store (without run.keytab places) r)) put))
 
-addition : (k : KeytabState) (x : EntryParts) (given : ℕ × KeytabState) → put_result k x ≡ Ok given → Comes k given.1
-addition k x given put = record { events = Put x ∷ []; changes = (tt, tt); state = ap (λ (r : Result (ℕ × KeytabState) Code). session (put_store k r)) put }
+step_leads : (run next : Run) (x : PlacedEntry) (s : Step) → run_after run x s ≡ Ok next → Lead (changes_of x.1 s) run.keytab next.keytab
+step_leads run next x There e = subst (λ (n : Run). Lead [] run.keytab n.keytab) (ok_is _ next (run_after run x There) refl e) refl
+step_leads run next x (Clash twin) e = subst (λ (n : Run). Lead [] run.keytab n.keytab) (ok_is _ next (run_after run x (Clash twin)) refl e) refl
+step_leads run next x (Copy places) e = added_by run next x.1 places (put_result (without run.keytab places) x.1) refl e
 
-same : (k : KeytabState) → Comes k k
-same k = record { events = []; changes = tt; state = refl }
+leads_by : (replace : Bool) (x : PlacedEntry) (xs : List PlacedEntry) (run final : Run) (r : Result Run Code) → run_after run x (step_of replace run.before run.held x.1) ≡ r → go_on (run_over replace xs) run r ≡ Ok final
+    → ((next : Run) → run_over replace xs next ≡ Ok final → Lead (changes_over replace xs next) next.keytab final.keytab) → Lead (changes_on (changes_over replace xs) (changes_of x.1 (step_of replace run.before run.held x.1)) r) run.keytab final.keytab
+leads_by replace x xs run final (Ok next) step e ih =
+    let s = step_of replace run.before run.held x.1 in
+    lead_on (changes_of x.1 s) (changes_over replace xs next) run.keytab next.keytab final.keytab (step_leads run next x s step) (ih next e)
+leads_by replace x xs run final (Err code) step e ih = ap (λ (n : Run). session n.keytab) (ended (has_lines run.clashes) run final code refl e).0
 
-added_comes : (run next : Run) (x : EntryParts) (places : List ℕ) (r : Result (ℕ × KeytabState) Code) → put_result (without run.keytab places) x ≡ r → run_added run x places r ≡ Ok next → Comes run.keytab next.keytab
-added_comes run next x places (Err code) put e = absurd cc
-added_comes run next x places (Ok given) put e =
-    subst (λ (n : Run). Comes run.keytab n.keytab) (ok_is _ next (run_added run x places (Ok given)) refl e)
-    (comes_then run.keytab (without run.keytab places) given.1 (removals run.keytab places) (addition (without run.keytab places) x given put))
-
-step_comes : (run next : Run) (x : PlacedEntry) (s : Step) → run_after run x s ≡ Ok next → Comes run.keytab next.keytab
-step_comes run next x There e = subst (λ (n : Run). Comes run.keytab n.keytab) (ok_is _ next (run_after run x There) refl e) (same run.keytab)
-step_comes run next x (Clash twin) e = subst (λ (n : Run). Comes run.keytab n.keytab) (ok_is _ next (run_after run x (Clash twin)) refl e) (same run.keytab)
-step_comes run next x (Copy places) e = added_comes run next x.1 places (put_result (without run.keytab places) x.1) refl e
-
-comes_by : (replace : Bool) (x : PlacedEntry) (xs : List PlacedEntry) (run final : Run) (r : Result Run Code) → run_after run x (step_of replace run.before run.held x.1) ≡ r → go_on (run_over replace xs) run r ≡ Ok final
-    → ((next : Run) → run_over replace xs next ≡ Ok final → Comes next.keytab final.keytab) → Comes run.keytab final.keytab
-comes_by replace x xs run final (Ok next) step e ih = comes_then run.keytab next.keytab final.keytab (step_comes run next x (step_of replace run.before run.held x.1) step) (ih next e)
-comes_by replace x xs run final (Err code) step e ih = subst (λ (n : Run). Comes run.keytab n.keytab) (ended (has_lines run.clashes) run final code refl e).0 (same run.keytab)
-
-comes_over : (replace : Bool) (asked : List PlacedEntry) (run final : Run) → run_over replace asked run ≡ Ok final → Comes run.keytab final.keytab
-comes_over replace [] run final e = subst (λ (n : Run). Comes run.keytab n.keytab) (ok_is run final (Ok run) refl e) (same run.keytab)
-comes_over replace (x ∷ xs) run final e = comes_by replace x xs run final (run_after run x (step_of replace run.before run.held x.1)) refl e (λ next f. comes_over replace xs next final f)
+leads_over : (replace : Bool) (asked : List PlacedEntry) (run final : Run) → run_over replace asked run ≡ Ok final → Lead (changes_over replace asked run) run.keytab final.keytab
+leads_over replace [] run final e = ap (λ (n : Run). session n.keytab) (ok_is run final (Ok run) refl e)
+leads_over replace (x ∷ xs) run final e = leads_by replace x xs run final (run_after run x (step_of replace run.before run.held x.1)) refl e (λ next f. leads_over replace xs next final f)
 
 pub are_histories : AreHistories
 unfolding copy_run
-are_histories replace asked k run e =
-    let c = comes_over replace asked (run_start k) run e in
-    (c.events, c.changes, ap (λ (s : SessionState KeytabState). s.store) c.state)
+are_histories replace asked k run e = ap (λ (s : SessionState KeytabState). s.store) (leads_over replace asked (run_start k) run e)
 
 -- ---- without replacing
 

@@ -16,7 +16,10 @@ use Rattle.krb_copy.specs.Laws.{Has, AreEntries, IsInPlace, HasEachAsked, Second
 use Rattle.krb_copy.proofs.Alike.{same_equiv}
 use Rattle.krb_copy.proofs.Elsewhere.{any_entry}
 use Rattle.krb_copy.proofs.LawLemmas.{AreThere, IsHeld, no_clash, start_there, copy_step, stays_after, copy_there, none_gone, copy_held, all_held_after, all_append, held_there, there_held}
-use Rattle.krb_copy.proofs.ListPlaces.{bare}
+
+-- the entries without their places
+abbrev pub bare : List PlacedEntry → List EntryParts
+bare = map (λ x. x.1)
 
 pub ok_is : {X E : Type 0} (x y : X) (r : Result X E) → r ≡ Ok x → r ≡ Ok y → x ≡ y
 ok_is x y r e f = cc

@@ -1,11 +1,7 @@
 pub mod Alike
-pub mod Positions
 pub mod ClassKeys
-pub mod KeyNumbers
-pub mod Named
-pub mod ListPlaces
-pub mod Meeting
-pub mod MetAfter
+pub mod ClassesAfter
+pub mod FoundTexts
 pub mod Runs
 pub mod Elsewhere
 pub mod LawLemmas

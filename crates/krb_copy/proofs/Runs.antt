@@ -1,83 +1,66 @@
 -- A run and its definition, entry by entry.
 use Rattle.std.proofs.Common.{◌≡◌, ℕ, ◌+◌, ◌<◌, Bool, true, false, cond, List, [], ◌∷◌, ◌++◌, length, get_or, drop, Result, Ok, Err, refl, sym, ap, subst, ◌∙◌}
 use Rattle.std.specs.Prelude.{map}
+use Rattle.std.proofs.lemmas.List.{drop_more}
 use Rattle.krb_walk.specs.declared.refusal.Code.{Code}
 use Rattle.krb_walk.specs.declared.refusal.Refusal.{Refusal}
 use Rattle.krb_walk.specs.declared.refusal.Refusal.TheVariants.{Code as ByCode, NoMemory}
 use Rattle.krb_walk.specs.Rules.{PutGives}
-use Rattle.krb_keytab.specs.Entry.{EntryParts}
 use Rattle.krb_keytab.specs.Find.{PlacedEntry, placed_entries}
 use Rattle.krb_keytab.specs.Store.{KeytabState}
 use Rattle.krb_keytab.specs.Changes.{put_result, without}
-use Rattle.krb_copy.specs.declared.classes.Classes.{Classes}
 use Rattle.krb_copy.specs.declared.copy.Copying.{Copying}
-use Rattle.krb_copy.specs.Copying.{Held, Run, Clash, Copy, step_of, with_copy, copied_lines, run_after, run_added, has_lines, run_over, run_start, copy_run, go_on, as_found}
-use Rattle.krb_copy.specs.Classes.{Follows}
+use Rattle.krb_copy.specs.Copying.{Run, Copy, as_found, step_of, with_copy, copied_lines, run_after, run_added, has_lines, run_over, run_start, copy_run, go_on}
+use Rattle.krb_copy.specs.Classes.{AreClasses}
+use Rattle.krb_copy.specs.Texts.{AreTexts, entry_texts}
 use Rattle.krb_copy.specs.Made.{IsMade, IsRefusal, IsRefusedBy, IsRun, Meets, Ends, EndsBy}
-use Rattle.std.proofs.lemmas.List.{drop_more, get_or-map, length-map}
-use Rattle.krb_copy.specs.declared.numbers.Number.{Number}
-use Rattle.krb_copy.specs.Numbers.{numbers_in, shown}
-use Rattle.krb_copy.proofs.Meeting.{not_there}
-use Rattle.krb_copy.proofs.MetAfter.{met_clash}
 
 -- an addition that is refused
 pub refusal_is : (due given : Result (ℕ × KeytabState) Code) (old new : List ℕ) (k k' : KeytabState) (refusal : Refusal) → due ≡ given → new ≡ old → PutGives given k (Err refusal) k' → IsRefusal due old new refusal
 refusal_is due given old new k k' (ByCode code) same untold gives = (same ∙ gives.0, untold)
 refusal_is due given old new k k' NoMemory same untold gives = tt
 
--- classes stay as they are when an entry clashes
-pub clash_follows : {A : Type 0} (all : List EntryParts) (xs : List PlacedEntry) (before : List EntryParts) (held : List Held) (x : EntryParts) (classes : Classes A) (twin : ℕ) → Follows all xs before held classes
-    → Clash twin ≡ step_of classes.replace before held x → Follows all xs (before ++ x ∷ []) held classes
-clash_follows all xs before held x classes twin f step = record {
-  places = f.places;
-  met = met_clash all xs before held x classes.met.items f.met (not_there classes.replace before held x twin (sym step));
-  size = f.size;
-  count = f.count;
-  rest = f.rest;
-  front = f.front;
-}
-
 -- an entry that is copied
-pub copied_run : {A : Type 0} (all : List EntryParts) (xs : List PlacedEntry) (run : Run) (x : PlacedEntry) (replace : Bool) (places : List ℕ) (place : ℕ) (old : KeytabState) (new : Copying A) → old ≡ run.keytab
+pub copied_run : {A : Type 0} (run : Run) (x : PlacedEntry) (asked : List PlacedEntry) (replace : Bool) (places : List ℕ) (place : ℕ) (old : KeytabState) (new : Copying A) → old ≡ run.keytab
     → Copy places ≡ step_of replace run.before run.held x.1 → put_result (without old places) x.1 ≡ Ok (place, new.making.keytab.state) → new.making.text.items ≡ run.text ++ copied_lines x.1 places place → new.making.clashes.items ≡ run.clashes → new.making.places.items ≡ run.places ++ place ∷ []
-    → Follows all xs (run.before ++ x.1 ∷ []) (with_copy run.held x.1 place) new.classes
-    → (next : Run) × (run_after run x (step_of replace run.before run.held x.1) ≡ Ok next) × IsRun all xs next new
-copied_run all xs run x replace places place old new keytab step added text clash to follows = (
+    → AreClasses (run.before ++ x.1 ∷ []) (with_copy run.held x.1 place) new.classes.map → AreTexts (entry_texts asked) new.texts.bytes.now new.texts.lens.now
+    → (next : Run) × (run_after run x (step_of replace run.before run.held x.1) ≡ Ok next) × IsRun next asked new
+copied_run run x asked replace places place old new keytab step added text clash to classes texts = (
   record { keytab = new.making.keytab.state; held = with_copy run.held x.1 place; before = run.before ++ x.1 ∷ []; text = run.text ++ copied_lines x.1 places place; clashes = run.clashes; places = run.places ++ place ∷ [] },
   ap (run_after run x) (sym step) ∙ ap (run_added run x.1 places) (ap (λ (k : KeytabState). put_result (without k places) x.1) (sym keytab) ∙ added),
-  record { keytab = refl; text = text; clashes = clash; places = to; classes = follows },
+  record { keytab = refl; text = text; clashes = clash; places = to; classes = classes; texts = texts },
 )
 
 -- an entry whose addition is refused
-pub refused_run : {A : Type 0} (all : List EntryParts) (xs : List PlacedEntry) (run : Run) (x : PlacedEntry) (replace : Bool) (places : List ℕ) (old : KeytabState) (text : List ℕ) (refusal : Refusal) (new : Copying A) → old ≡ run.keytab → text ≡ run.text
+pub refused_run : {A : Type 0} (run : Run) (x : PlacedEntry) (asked : List PlacedEntry) (replace : Bool) (places : List ℕ) (old : KeytabState) (text : List ℕ) (refusal : Refusal) (new : Copying A) → old ≡ run.keytab → text ≡ run.text
     → Copy places ≡ step_of replace run.before run.held x.1 → IsRefusal (put_result (without old places) x.1) text new.making.text.items refusal → new.making.clashes.items ≡ run.clashes
-    → Meets all xs run (run_after run x (step_of replace run.before run.held x.1)) (Err refusal) new
-refused_run all xs run x replace places old text (ByCode code) new keytab same step refused clash =
+    → Meets run asked (run_after run x (step_of replace run.before run.held x.1)) (Err refusal) new
+refused_run run x asked replace places old text (ByCode code) new keytab same step refused clash =
     (ap (run_after run x) (sym step) ∙ ap (run_added run x.1 places) (ap (λ (k : KeytabState). put_result (without k places) x.1) (sym keytab) ∙ refused.0), refused.1 ∙ same, clash)
-refused_run all xs run x replace places old text NoMemory new keytab same step refused clash = tt
+refused_run run x asked replace places old text NoMemory new keytab same step refused clash = tt
 
 -- ---- all entries
 
 -- where a run is on its way over the entries that are left, and what they come to
-pub record IsOnTheWay {A : Type 0} (all : List EntryParts) (xs : List PlacedEntry) (due : Result Run Code) (replace : Bool) (rest : List PlacedEntry) (copying : Copying A) : Type 0 where
+pub record IsOnTheWay {A : Type 0} (due : Result Run Code) (replace : Bool) (rest : List PlacedEntry) (copying : Copying A) : Type 0 where
   pub now : Run
-  pub is_run : IsRun all xs now copying
+  pub is_run : IsRun now rest copying
   pub same : run_over replace rest now ≡ due
   pub replace_is : copying.classes.replace ≡ replace
 
 -- one entry further
-pub one_met : {A : Type 0} (all : List EntryParts) (xs : List PlacedEntry) (due : Result Run Code) (replace : Bool) (x : PlacedEntry) (rest : List PlacedEntry) (old new : Copying A) → (w : IsOnTheWay all xs due replace (x ∷ rest) old)
-    → Meets all xs w.now (run_after w.now x (step_of old.classes.replace w.now.before w.now.held x.1)) (Ok tt) new → new.classes.replace ≡ old.classes.replace → IsOnTheWay all xs due replace rest new
-one_met all xs due replace x rest old new w meets replaces = record {
+pub one_met : {A : Type 0} (due : Result Run Code) (replace : Bool) (x : PlacedEntry) (rest : List PlacedEntry) (old new : Copying A) → (w : IsOnTheWay due replace (x ∷ rest) old)
+    → Meets w.now rest (run_after w.now x (step_of old.classes.replace w.now.before w.now.held x.1)) (Ok tt) new → new.classes.replace ≡ old.classes.replace → IsOnTheWay due replace rest new
+one_met due replace x rest old new w meets replaces = record {
   now = meets.0;
   is_run = meets.2;
-  same = ap (go_on (run_over replace rest) w.now) (sym meets.1) ∙ ap (λ (b : Bool). go_on (run_over replace rest) w.now (run_after w.now x (step_of b w.now.before w.now.held x.1))) w.replace_is ∙ w.same;
+  same = ap (go_on (run_over replace rest) w.now) (sym meets.1 ∙ ap (λ (b : Bool). run_after w.now x (step_of b w.now.before w.now.held x.1)) w.replace_is) ∙ w.same;
   replace_is = replaces ∙ w.replace_is;
 }
 
 -- all were met
-pub all_met : {A : Type 0} (all : List EntryParts) (xs : List PlacedEntry) (due : Result Run Code) (replace : Bool) (copying : Copying A) → IsOnTheWay all xs due replace [] copying → Ends due (Ok tt) copying
-all_met all xs due replace copying w = record { run = w.now; is_due = sym w.same; text_is = w.is_run.text; clashes_are = w.is_run.clashes; places_are = λ _. w.is_run.places; keytab_is = λ _. w.is_run.keytab }
+pub all_met : {A : Type 0} (due : Result Run Code) (replace : Bool) (copying : Copying A) → IsOnTheWay due replace [] copying → Ends due (Ok tt) copying
+all_met due replace copying w = record { run = w.now; is_due = sym w.same; text_is = w.is_run.text; clashes_are = w.is_run.clashes; places_are = λ _. w.is_run.places; keytab_is = λ _. w.is_run.keytab }
 
 no_clash : {P : Type 0} (b : Bool) → b ≡ true → b ≡ false → P
 no_clash b t f = let clash : true ≡ false = sym t ∙ f in absurd cc
@@ -101,35 +84,24 @@ out_of_memory true result e = e
 out_of_memory false result e = e
 
 -- a refusal
-pub ended : {A : Type 0} (all : List EntryParts) (xs : List PlacedEntry) (due : Result Run Code) (replace : Bool) (x : PlacedEntry) (rest : List PlacedEntry) (old new : Copying A) (refusal : Refusal) (result : Result (Unit {0}) Refusal) → (w : IsOnTheWay all xs due replace (x ∷ rest) old)
-    → Meets all xs w.now (run_after w.now x (step_of old.classes.replace w.now.before w.now.held x.1)) (Err refusal) new → EndsBy (has_lines new.making.clashes.items) refusal result → Ends due result new
-ended all xs due replace x rest old new (ByCode code) result w meets ends =
-    let same : cond (has_lines w.now.clashes) (Ok w.now) (Err code) ≡ due = ap (go_on (run_over replace rest) w.now) (sym meets.0) ∙ ap (λ (b : Bool). go_on (run_over replace rest) w.now (run_after w.now x (step_of b w.now.before w.now.held x.1))) w.replace_is ∙ w.same in
+pub ended : {A : Type 0} (due : Result Run Code) (replace : Bool) (x : PlacedEntry) (rest : List PlacedEntry) (old new : Copying A) (refusal : Refusal) (result : Result (Unit {0}) Refusal) → (w : IsOnTheWay due replace (x ∷ rest) old)
+    → Meets w.now rest (run_after w.now x (step_of old.classes.replace w.now.before w.now.held x.1)) (Err refusal) new → EndsBy (has_lines new.making.clashes.items) refusal result → Ends due result new
+ended due replace x rest old new (ByCode code) result w meets ends =
+    let same : cond (has_lines w.now.clashes) (Ok w.now) (Err code) ≡ due = ap (go_on (run_over replace rest) w.now) (sym meets.0 ∙ ap (λ (b : Bool). run_after w.now x (step_of b w.now.before w.now.held x.1)) w.replace_is) ∙ w.same in
     ended_by due w.now code (has_lines new.making.clashes.items) result new refl same meets.1 meets.2 ends
-ended all xs due replace x rest old new NoMemory result w meets ends = subst (λ (r : Result (Unit {0}) Refusal). Ends due r new) (sym (out_of_memory (has_lines new.making.clashes.items) result ends)) tt
+ended due replace x rest old new NoMemory result w meets ends = subst (λ (r : Result (Unit {0}) Refusal). Ends due r new) (sym (out_of_memory (has_lines new.making.clashes.items) result ends)) tt
 
 -- the entry that is met is the first of those that are left
-pub first_left : {A : Type 0} (all : List EntryParts) (xs : List PlacedEntry) (due : Result Run Code) (replace : Bool) (asked : List PlacedEntry) (i : ℕ) (x : PlacedEntry) (copying : Copying A) → i < length asked → x ≡ get_or asked i x
-    → IsOnTheWay all xs due replace (drop i asked) copying → IsOnTheWay all xs due replace (x ∷ drop (i + 1) asked) copying
-first_left all xs due replace asked i x copying lt here w = subst (λ (ys : List PlacedEntry). IsOnTheWay all xs due replace ys copying) (drop_more asked i x lt ∙ ap (λ (y : PlacedEntry). y ∷ drop (i + 1) asked) (sym here)) w
-
--- its number
-pub number_of_entry : (all : List EntryParts) (numbers : List Number) (asked : List PlacedEntry) (i : ℕ) (d : Number) (x : PlacedEntry) → i < length asked → i < length numbers → x ≡ get_or asked i x
-    → map shown numbers ≡ map (λ y. numbers_in all y.1) asked → shown (get_or numbers i d) ≡ numbers_in all x.1
-number_of_entry all numbers asked i d x lt lt' x_is same =
-    sym (get_or-map shown numbers i d (shown d) lt') ∙ ap (λ l. get_or l i (shown d)) same
-    ∙ get_or-map (λ (y : PlacedEntry). numbers_in all y.1) asked i x (shown d) lt ∙ ap (λ (y : PlacedEntry). numbers_in all y.1) (sym x_is)
-
--- there are as many numbers as entries
-pub numbers_count : (all : List EntryParts) (numbers : List Number) (asked : List PlacedEntry) → map shown numbers ≡ map (λ y. numbers_in all y.1) asked → length numbers ≡ length asked
-numbers_count all numbers asked e = sym (length-map numbers shown) ∙ ap length e ∙ length-map asked (λ (y : PlacedEntry). numbers_in all y.1)
+pub first_left : {A : Type 0} (due : Result Run Code) (replace : Bool) (asked : List PlacedEntry) (i : ℕ) (x : PlacedEntry) (copying : Copying A) → i < length asked → x ≡ get_or asked i x
+    → IsOnTheWay due replace (drop i asked) copying → IsOnTheWay due replace (x ∷ drop (i + 1) asked) copying
+first_left due replace asked i x copying lt here w = subst (λ (ys : List PlacedEntry). IsOnTheWay due replace ys copying) (drop_more asked i x lt ∙ ap (λ (y : PlacedEntry). y ∷ drop (i + 1) asked) (sym here)) w
 
 -- ---- the whole run
 
 -- a run at its start
-pub starts : {A : Type 0} (all : List EntryParts) (k : KeytabState) (copying : Copying A) → copying.making.keytab.state ≡ k → copying.making.text.items ≡ [] → copying.making.clashes.items ≡ [] → copying.making.places.items ≡ [] → Follows all (placed_entries k) [] (map as_found (placed_entries k)) copying.classes
-    → IsRun all (placed_entries k) (run_start k) copying
-starts all k copying keytab text clash to follows = record { keytab = keytab; text = text; clashes = clash; places = to; classes = follows }
+pub starts : {A : Type 0} (k : KeytabState) (asked : List PlacedEntry) (copying : Copying A) → copying.making.keytab.state ≡ k → copying.making.text.items ≡ [] → copying.making.clashes.items ≡ [] → copying.making.places.items ≡ []
+    → AreClasses [] (map as_found (placed_entries k)) copying.classes.map → AreTexts (entry_texts asked) copying.texts.bytes.now copying.texts.lens.now → IsRun (run_start k) asked copying
+starts k asked copying keytab text clash to classes texts = record { keytab = keytab; text = text; clashes = clash; places = to; classes = classes; texts = texts }
 
 pub due_is : (replace by : Bool) (asked : List PlacedEntry) (k : KeytabState) → by ≡ replace → run_over by asked (run_start k) ≡ copy_run replace asked k
 unfolding copy_run

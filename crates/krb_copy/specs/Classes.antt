@@ -1,89 +1,79 @@
--- What is known of the twins of each entry during a run.
-use Rattle.std.specs.Prelude.{◌≡◌, ℕ, List, [], ◌∷◌, ◌++◌, length, map, filter, Bool, true, false, get_or, Some, ◌&&◌, not, if◌then◌else◌}
+-- What the keytab has of each class of twins during a run.
+use Rattle.std.specs.Prelude.{◌≡◌, ℕ, ◌+◌, ◌*◌, ◌<◌, List, [], ◌∷◌, length, map, Bool, ◌&&◌, not, Option, Some, None, if◌then◌else◌}
 use Rattle.std.specs.List.{list_any}
+use Rattle.std.specs.Str.{bytes_eq}
+use Rattle.std.specs.declared.cmp.Ordering.{Ordering}
+use Rattle.std.specs.Ordering.{nat_cmp, ordering_then}
+use Rattle.std.specs.Cmp.Lexicographic.{slice_cmp}
+use Rattle.std.specs.BTreeMap.{BTreeMap, get}
+use Rattle.std.specs.BTreeSet.{BTreeSet, contains_by}
+use denote.Ref.{Bor}
+use Rattle.krb_wire.specs.Names.{name_text}
 use Rattle.krb_keytab.specs.Entry.{EntryParts}
-use Rattle.krb_keytab.specs.Find.{PlacedEntry}
-use Rattle.krb_copy.specs.Twins.{are_twins}
-use Rattle.krb_copy.specs.Copying.{Held, as_found, as_copied, twins, is_kept, Step, There, Clash, Copy}
-use Rattle.krb_copy.specs.Numbers.{first_twin, first_same}
-use Rattle.krb_copy.specs.declared.classes.Classes.{Classes}
+use Rattle.krb_audit.specs.Hash.{hash_of}
+use Rattle.krb_copy.specs.Copying.{Held, twins, is_kept, Step, There, Clash, Copy}
+use Rattle.krb_copy.specs.declared.class.Entries.{Entries}
+use Rattle.krb_copy.specs.declared.class.Entries.TheVariants.{One, More}
+use Rattle.krb_copy.specs.declared.class.Class.{Class}
 use Rattle.krb_copy.specs.declared.classes.Step.{Step as StepOf}
 use Rattle.krb_copy.specs.declared.classes.Step.TheVariants as step
-use Rattle.krb_copy.specs.declared.lists.Places.{Places}
-use Rattle.krb_copy.specs.declared.lists.Places.TheVariants.{None, One, More}
-use Rattle.krb_copy.specs.declared.classes.Met.{Met}
-use Rattle.krb_copy.specs.declared.classes.Met.TheVariants.{New, Kept, Copied}
 
--- the twins that the keytab had before the run
-abbrev pub found_twins : EntryParts → List PlacedEntry → List PlacedEntry
-found_twins x xs = filter (λ y. are_twins x y.1) xs
+-- ---- one class
 
--- the places of a class
-abbrev pub places_in : {A : Type 0} → Places A → List ℕ
-places_in None = []
-places_in (One place) = place ∷ []
-places_in (More places) = places.items
+-- a set has a key
+abbrev pub has_among : BTreeSet (Bor (List ℕ)) → List ℕ → Bool
+has_among keys key = contains_by (λ k. slice_cmp nat_cmp key k.now) keys
 
--- the places of class c
-abbrev pub list_at : {A : Type 0} → List (Places A) → ℕ → List ℕ
-list_at lists c = get_or (map places_in lists) c []
+-- the places of its entries, in order
+abbrev pub places_in : {A : Type 0} → Entries A → List ℕ
+places_in (One place key) = place ∷ []
+places_in (More many) = many.value.places.items
 
--- each class of entries has the places of its entries in the keytab
-abbrev pub ArePlaces : {A : Type 0} → List EntryParts → List PlacedEntry → List (Places A) → Type 0
-ArePlaces all xs lists = (x : EntryParts) (c : ℕ) → first_twin x all ≡ Some c → list_at lists c ≡ map (λ y. y.0) (found_twins x xs)
+-- one of them has a key
+abbrev pub has_key : {A : Type 0} → Entries A → List ℕ → Bool
+has_key (One place first) key = bytes_eq key first.now
+has_key (More many) key = has_among many.value.keys key
 
--- the keytab has the twins of an entry that it had before the run, and whether one of them stays is known
-pub record AreFound (xs : List PlacedEntry) (before : List EntryParts) (held : List Held) (x : EntryParts) (one_stays : Bool) : Type 0 where
-  pub found : twins x held ≡ map as_found (found_twins x xs)
-  pub kept : list_any (is_kept before) (twins x held) ≡ one_stays
+-- it is that of these entries: their places, their keys, and whether one stays
+pub record IsClass {A : Type 0} (before : List EntryParts) (held : List Held) (class : Class A) : Type 0 where
+  pub places : places_in class.entries ≡ map (λ h. h.place) held
+  pub keys : (key : List ℕ) → has_key class.entries key ≡ list_any (λ h. bytes_eq key h.entry.key) held
+  pub stays : class.stays ≡ list_any (is_kept before) held
 
--- the keytab has one twin of an entry, which the run added
-pub record IsCopied (all : List EntryParts) (held : List Held) (x : EntryParts) (key place : ℕ) : Type 0 where
-  pub copy : EntryParts
-  pub only : twins x held ≡ as_copied place copy ∷ []
-  pub number : first_same copy all ≡ Some key
-  pub alike : are_twins x copy ≡ true
+-- entries have a class iff there are any
+abbrev pub HaveClass : {A : Type 0} → List EntryParts → List Held → Option (Class A) → Type 0
+HaveClass before held None = held ≡ []
+HaveClass before held (Some class) = IsClass before held class
 
--- what is known of the twins of an entry, by what the run has met of them
-abbrev pub IsMet : List EntryParts → List PlacedEntry → List EntryParts → List Held → EntryParts → Met → Type 0
-IsMet all xs before held x New = AreFound xs before held x false
-IsMet all xs before held x Kept = AreFound xs before held x true
-IsMet all xs before held x (Copied key place) = IsCopied all held x key place
+-- ---- all classes
 
--- what the run has met of a class once an entry of it was there
-abbrev pub kept_of : Met → Met
-kept_of New = Kept
-kept_of Kept = Kept
-kept_of (Copied key place) = Copied key place
+-- what twins have in common: a hash of the name's text, a version and an enctype of 16 bits as one number, the number of the name's components, and the text
+abbrev pub ClassKey : Type 0
+ClassKey = ℕ × ℕ × ℕ × Bor (List ℕ)
 
--- the step of an entry that is not there, if the run copied none of its twins, by whether one of them stays, and their places
+-- that of an entry
+pub record IsClassKey (x : EntryParts) (k : ClassKey) : Type 0 where
+  pub hash : k.0 ≡ hash_of (name_text x.principal)
+  pub kind : k.1 ≡ x.version * 65536 + x.enctype
+  pub small : x.enctype < 65536
+  pub count : k.2 ≡ length x.principal.components
+  pub name : k.3.now ≡ name_text x.principal
+
+-- their order
+abbrev pub class_cmp : ClassKey → ClassKey → Ordering
+class_cmp k l = ordering_then (ordering_then (ordering_then (nat_cmp k.0 l.0) (nat_cmp k.1 l.1)) (nat_cmp k.2 l.2)) (slice_cmp nat_cmp k.3.now l.3.now)
+
+-- the twins of each entry have their class, after these were asked for
+abbrev pub AreClasses : {A : Type 0} → List EntryParts → List Held → BTreeMap ClassKey (Class A) → Type 0
+AreClasses before held classes = (x : EntryParts) (k : ClassKey) → IsClassKey x k → HaveClass before (twins x held) (get class_cmp classes k)
+
+-- the step of an entry whose key none of its twins has, by whether one of these stays, and their places
 abbrev pub step_at : Bool → Bool → List ℕ → Step
 step_at replace stays [] = Copy []
 step_at replace stays (p ∷ ps) = if replace && not stays then Copy (p ∷ ps) else Clash p
-
--- the same for any entry, by whether it is there
-abbrev pub found_step : Bool → Bool → Bool → List ℕ → Step
-found_step replace stays is_there places = if is_there then There else step_at replace stays places
-
--- this is known of each entry, by the number of its class
-abbrev pub AreMet : List EntryParts → List PlacedEntry → List EntryParts → List Held → List Met → Type 0
-AreMet all xs before held met = (x : EntryParts) (c : ℕ) → first_twin x all ≡ Some c → IsMet all xs before held x (get_or met c New)
-
--- the classes follow a run: for the keytab's entries before the run and all, those asked for so far, and the entries by now
-pub record Follows {A : Type 0} (all : List EntryParts) (xs : List PlacedEntry) (before : List EntryParts) (held : List Held) (classes : Classes A) : Type 0 where
-  pub places : ArePlaces all xs classes.lists.items
-  pub met : AreMet all xs before held classes.met.items
-  pub size : length classes.met.items ≡ length all
-  pub count : length classes.lists.items ≡ length xs
-  pub rest : List EntryParts
-  pub front : all ≡ map (λ y. y.1) xs ++ rest
 
 -- a step, without where its places are in memory
 abbrev pub seen_step : StepOf → Step
 seen_step step.There = There
 seen_step (step.Clash twin) = Clash twin
 seen_step (step.Copy places) = Copy places.now
-
--- the keytab's entries and those asked for
-abbrev pub all_of : List PlacedEntry → List PlacedEntry → List EntryParts
-all_of xs asked = map (λ y. y.1) xs ++ map (λ y. y.1) asked

@@ -1,8 +1,9 @@
 -- Laws of the definitions.
-use Rattle.std.specs.Prelude.{◌≡◌, ℕ, List, [], ◌++◌, Bool, false, true, ◌==◌, Some, Ok}
+use Rattle.std.specs.Prelude.{◌≡◌, ℕ, List, [], ◌∷◌, ◌++◌, map, Bool, false, true, ◌==◌, Some, Result, Ok, Err}
 use Rattle.std.specs.List.{AllByRecursion, list_any}
 use Rattle.krb_walk.specs.declared.event.Event.{Event}
 use Rattle.krb_walk.specs.declared.event.Event.TheVariants.{Put, Cut}
+use Rattle.krb_walk.specs.declared.refusal.Code.{Code}
 use Rattle.krb_walk.specs.History.{state_after}
 use Rattle.krb_keytab.specs.Entry.{EntryParts}
 use Rattle.krb_keytab.specs.Find.{PlacedEntry, placed_entries}
@@ -10,7 +11,7 @@ use Rattle.krb_keytab.specs.Form.{IsEntry}
 use Rattle.krb_keytab.specs.Placed.{keytab_rules}
 use Rattle.krb_keytab.specs.Store.{KeytabState, entry_at_place}
 use Rattle.krb_copy.specs.Twins.{are_twins, are_same}
-use Rattle.krb_copy.specs.Copying.{Held, Run, copy_run, has_lines}
+use Rattle.krb_copy.specs.Copying.{Held, Run, Step, There, Clash, Copy, copy_run, has_lines, run_after, run_start, step_of}
 
 -- the keytab has an entry with name, version, enctype and key of this one
 abbrev pub Has : KeytabState → EntryParts → Type 0
@@ -42,16 +43,27 @@ ChangesAreTold = (replace : Bool) (asked : List PlacedEntry) (k : KeytabState) (
 abbrev pub AllStay : Type 0
 AllStay = (asked : List PlacedEntry) (k : KeytabState) (run : Run) → copy_run false asked k ≡ Ok run → (place : ℕ) (e : EntryParts) → entry_at_place k place ≡ Some e → entry_at_place run.keytab place ≡ Some e
 
--- an event is a removal or an addition
-abbrev pub IsChange : Event EntryParts → Type 0
-IsChange (Cut place) = Unit {0}
-IsChange (Put e) = Unit {0}
-IsChange other = ⊥
+-- the removals and the addition of a step
+abbrev pub changes_of : EntryParts → Step → List (Event EntryParts)
+changes_of x There = []
+changes_of x (Clash twin) = []
+changes_of x (Copy places) = map Cut places ++ Put x ∷ []
 
--- a run is a history of removals and additions
+-- those of a step and of what follows, unless its addition is refused
+abbrev pub changes_on : (Run → List (Event EntryParts)) → List (Event EntryParts) → Result Run Code → List (Event EntryParts)
+changes_on others changes (Ok next) = changes ++ others next
+changes_on others changes (Err code) = []
+
+-- those of a run over more entries asked for, in order
+abbrev pub changes_over : Bool → List PlacedEntry → Run → List (Event EntryParts)
+changes_over replace [] run = []
+changes_over replace (x ∷ xs) run =
+    changes_on (changes_over replace xs) (changes_of x.1 (step_of replace run.before run.held x.1)) (run_after run x (step_of replace run.before run.held x.1))
+
+-- a run is the history of its removals and additions
 abbrev pub AreHistories : Type 0
 AreHistories = (replace : Bool) (asked : List PlacedEntry) (k : KeytabState) (run : Run) → copy_run replace asked k ≡ Ok run
-    → (events : List (Event EntryParts)) × AllByRecursion IsChange events × ((state_after keytab_rules (record { store = k; cursors = [] }) events).store ≡ run.keytab)
+    → (state_after keytab_rules (record { store = k; cursors = [] }) (changes_over replace asked (run_start k))).store ≡ run.keytab
 
 -- an entry that a run has is in the keytab, at its place
 abbrev pub IsInPlace : KeytabState → Held → Type 0

@@ -2,7 +2,6 @@ pub mod Twins
 pub mod Copying
 pub mod Laws
 -- For private contracts alone.
-pub mod Names
-pub mod Numbers
+pub mod Texts
 pub mod Classes
 pub mod Made

@@ -3,11 +3,11 @@ use Rattle.std.specs.Prelude.{◌≡◌, ℕ, List, Bool, true, false, Result, O
 use Rattle.krb_walk.specs.declared.refusal.Code.{Code}
 use Rattle.krb_walk.specs.declared.refusal.Refusal.{Refusal}
 use Rattle.krb_walk.specs.declared.refusal.Refusal.TheVariants.{Code as ByCode, NoMemory}
-use Rattle.krb_keytab.specs.Entry.{EntryParts}
 use Rattle.krb_keytab.specs.Find.{PlacedEntry}
 use Rattle.krb_keytab.specs.Store.{KeytabState}
 use Rattle.krb_copy.specs.Copying.{Run, has_lines}
-use Rattle.krb_copy.specs.Classes.{Follows}
+use Rattle.krb_copy.specs.Classes.{AreClasses}
+use Rattle.krb_copy.specs.Texts.{AreTexts, entry_texts}
 use Rattle.krb_copy.specs.declared.copy.Copying.{Copying}
 
 -- the lines, those of the clashes, and, if there are none of these, the places of the copies and the keytab are those of the run
@@ -26,13 +26,14 @@ IsRefusedBy due NoMemory = Unit {0}
 
 -- ---- for private contracts
 
--- a run of the code is at that run of the definition
-pub record IsRun {A : Type 0} (all : List EntryParts) (xs : List PlacedEntry) (run : Run) (copying : Copying A) : Type 0 where
+-- a run of the code is at that run of the definition, before these are asked for
+pub record IsRun {A : Type 0} (run : Run) (asked : List PlacedEntry) (copying : Copying A) : Type 0 where
   pub keytab : copying.making.keytab.state ≡ run.keytab
   pub text : copying.making.text.items ≡ run.text
   pub clashes : copying.making.clashes.items ≡ run.clashes
   pub places : copying.making.places.items ≡ run.places
-  pub classes : Follows all xs run.before run.held copying.classes
+  pub classes : AreClasses run.before run.held copying.classes.map
+  pub texts : AreTexts (entry_texts asked) copying.texts.bytes.now copying.texts.lens.now
 
 -- an addition is refused and adds no line, or memory ran out
 abbrev pub IsRefusal : {X : Type 0} → Result X Code → List ℕ → List ℕ → Refusal → Type 0
@@ -40,10 +41,10 @@ IsRefusal due old new (ByCode code) = (due ≡ Err code) × (new ≡ old)
 IsRefusal due old new NoMemory = Unit {0}
 
 -- the run after the next entry, or why its addition is refused
-abbrev pub Meets : {A : Type 0} → List EntryParts → List PlacedEntry → Run → Result Run Code → Result (Unit {0}) Refusal → Copying A → Type 0
-Meets all xs run due (Ok done) new = (next : Run) × (due ≡ Ok next) × IsRun all xs next new
-Meets all xs run due (Err (ByCode code)) new = (due ≡ Err code) × (new.making.text.items ≡ run.text) × (new.making.clashes.items ≡ run.clashes)
-Meets all xs run due (Err NoMemory) new = Unit {0}
+abbrev pub Meets : {A : Type 0} → Run → List PlacedEntry → Result Run Code → Result (Unit {0}) Refusal → Copying A → Type 0
+Meets run asked due (Ok done) new = (next : Run) × (due ≡ Ok next) × IsRun next asked new
+Meets run asked due (Err (ByCode code)) new = (due ≡ Err code) × (new.making.text.items ≡ run.text) × (new.making.clashes.items ≡ run.clashes)
+Meets run asked due (Err NoMemory) new = Unit {0}
 
 -- the run has come to its end, or is refused
 abbrev pub Ends : {A : Type 0} → Result Run Code → Result (Unit {0}) Refusal → Copying A → Type 0

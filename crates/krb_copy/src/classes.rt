@@ -1,29 +1,22 @@
-//! What is known of each class of twins during a run.
+//! The classes of twins that a keytab has during a run.
 
-ghost use Rattle.std.specs.Prelude.{◌≡◌, ◌<◌, ◌∷◌, ◌++◌, [], ℕ, List, map, length, get_or, replicate, nat_lt, ◌==◌, if◌then◌else◌, IfOk};
+ghost use Rattle.std.specs.Prelude.{◌≡◌, ◌∷◌, ◌++◌, [], ℕ, List, map, OnOk, IfOk};
+ghost use Rattle.std.specs.BTreeMap.{get};
+ghost use Rattle.krb_wire.specs.Names.{name_text};
 ghost use Rattle.krb_keytab.specs.Entry.{EntryParts};
-ghost use Rattle.krb_keytab.specs.Find.{PlacedEntry};
+ghost use Rattle.krb_keytab.specs.Find.{placed_entries};
 ghost use Rattle.krb_copy.specs.Copying.{Held, as_found, step_of, with_copy};
 ghost use Rattle.krb_copy.specs.Copying as due;
-ghost use Rattle.krb_copy.specs.Classes.{found_step, kept_of, list_at, seen_step, ArePlaces, Follows};
-ghost use Rattle.krb_copy.specs.Numbers.{numbers_in, shown};
-ghost use Rattle.krb_copy.specs.declared.classes.Met.TheVariants.{New, Kept, Copied};
+ghost use Rattle.krb_copy.specs.Classes.{AreClasses, IsClassKey, places_in, seen_step, step_at};
+ghost use Rattle.krb_copy.specs.Texts.{AreTexts, entry_texts};
 
-use crate::lists::Lists;
-use crate::numbers::Number;
-use krb_wire::NoMemory;
+use crate::class::Class;
+use crate::texts::TextsLeft;
+use krb_audit::hash_of;
+use krb_keytab::{EntryView, Keytab};
+use krb_wire::{Name, NoMemory};
 use std::alloc::Allocator;
-
-/// What a run has met of the twins of a class.
-#[derive(Clone, Copy, Debug, PartialEq, Eq)]
-pub enum Met {
-    /// No entry asked for was there or was copied.
-    New,
-    /// An entry asked for was there.
-    Kept,
-    /// An entry with this key, by its number, was copied to this place.
-    Copied(usize, u32),
-}
+use std::collections::BTreeMap;
 
 /// What becomes of an entry asked for.
 #[derive(Drop)]
@@ -35,144 +28,128 @@ pub enum Step<'a> {
     Copy(&'a [u32]),
 }
 
-/// The classes of the entries of a keytab and of those asked for.
+/// What twins have in common: a hash of the name's text, which is cheap to compare, a version and an enctype as one
+/// number, the number of the name's components, and the text: names of different counts may print alike.
+pub type ClassKey<'t> = (u64, u64, usize, &'t [u8]);
+
+/// Returns that of an entry, by the text of its name.
+pub fn class_key<'t>(name: &'t [u8], entry: &EntryView<'_>) -> ClassKey<'t>
+    ensures { name.now ≡ name_text entry.now.principal → IsClassKey entry.now result }
+{
+    let count = entry.principal().count();
+    let kind = u64::from(entry.kvno()) * 65_536 + u64::from(entry.enctype());
+    (hash_of(name), kind, count, name)
+}
+
+// Returns what becomes of an entry whose key none of its class has.
+fn step_at<'a, A: Allocator + Copy>(replace: bool, class: &'a Class<'_, A>) -> Step<'a>
+    ensures { seen_step result ≡ step_at replace class.now.stays (places_in class.now.entries) }
+{
+    let places = class.places();
+    let Some(first) = places.first() else {
+        return Step::Copy(places);
+    };
+    if replace && !class.stays {
+        return Step::Copy(places);
+    }
+    Step::Clash(*first)
+}
+
+/// The class of each entry that has twins in the keytab.
 #[derive(Drop)]
-pub struct Classes<A: Allocator> {
-    // The places of the keytab's entries.
-    lists: Lists<A>,
-    met: Vec<Met, A>,
+pub struct Classes<'t, A: Allocator> {
+    map: BTreeMap<ClassKey<'t>, Class<'t, A>, A>,
     replace: bool,
 }
 
-impl Met {
-    // Returns what the run has met once an entry was there.
-    fn kept(self) -> Met
-        ensures { result ≡ kept_of self }
-    {
-        match self {
-            Met::New => Met::Kept,
-            met => met,
-        }
-    }
-}
-
-// Sets what the run has met of a class.
-fn replace_at(met: &mut [Met], class: usize, new: Met)
-    ensures count { length met.new ≡ length met.old }
-    ensures new { class < length met.old → (c : ℕ) → get_or met.new c New
-        ≡ (if c == class then new else get_or met.old c New) }
-{
-    if class < met.len() {
-        met[class] = new;
-    }
-}
-
-// Returns `count` classes that no entry asked for has met.
-fn none_met<A: Allocator>(alloc: A, count: usize) -> Result<Vec<Met, A>, NoMemory>
-    ensures { IfOk result (λ met. met.items ≡ replicate count New) }
-{
-    Ok(vec![in alloc; Met::New; count]?)
-}
-
-// Returns what becomes of an entry with this number, if a twin with that key was copied to that place.
-fn step_copied<'a>(number: Number, key: usize, place: u32) -> Step<'a>
-    ensures { seen_step result ≡ (if key == number.key then due.There else due.Clash place) }
-{
-    if key == number.key {
-        Step::There
-    } else {
-        Step::Clash(place)
-    }
-}
-
-impl<A: Allocator + Copy> Classes<A> {
-    /// Returns the classes before a run, with the places of the keytab's entries, for `count` entries in all.
-    pub fn new(
+impl<'t, A: Allocator + Copy> Classes<'t, A> {
+    // Adds an entry that the keytab has before the run.
+    fn add(
+        &mut self,
         alloc: A,
-        lists: Lists<A>,
-        count: usize,
+        key: ClassKey<'t>,
+        place: u32,
+        secret: &'t [u8],
+    ) -> Result<(), NoMemory>
+        ensures classes { (held : List Held) (x : EntryParts) → AreClasses [] held self.old.map
+            → IsClassKey x key.entry → secret.now ≡ x.key
+            → OnOk result (AreClasses [] (held ++ as_found (place, x) ∷ []) self.new.map) }
+        ensures replace { self.new.replace ≡ self.old.replace }
+    {
+        if let Some(class) = self.map.get_mut(&key) {
+            return class.push(alloc, place, secret);
+        }
+        let _ = self.map.insert(key, Class::found(place, secret))?;
+        Ok(())
+    }
+
+    /// Returns those of a keytab before a run. The next texts are those of its entries.
+    pub fn of<B: Allocator>(
+        alloc: A,
+        keytab: &Keytab<B>,
+        texts: &mut TextsLeft<'t>,
         replace: bool,
-    ) -> Result<Classes<A>, NoMemory>
-        ensures follows { (all rest : List EntryParts) (xs : List PlacedEntry) → ArePlaces all xs lists.items
-            → length lists.items ≡ length xs → count ≡ length all → all ≡ map (λ y. y.1) xs ++ rest
-            → IfOk result (Follows all xs [] (map as_found xs)) }
+    ) -> Result<Classes<'t, A>, NoMemory>
+        ensures classes { (more : List (List ℕ))
+            → AreTexts (entry_texts (placed_entries keytab.now.state) ++ more) texts.old.bytes.now texts.old.lens.now
+            → IfOk result (λ classes. AreClasses [] (map as_found (placed_entries keytab.now.state)) classes.map) }
+        ensures texts { (more : List (List ℕ))
+            → AreTexts (entry_texts (placed_entries keytab.now.state) ++ more) texts.old.bytes.now texts.old.lens.now
+            → OnOk result (AreTexts more texts.new.bytes.now texts.new.lens.now) }
         ensures replace { IfOk result (λ classes. classes.replace ≡ replace) }
     {
-        Ok(Classes {
-            lists,
-            met: none_met(alloc, count)?,
+        let mut classes = Classes {
+            map: BTreeMap::new(alloc),
             replace,
-        })
-    }
-
-    // Returns the places of a class.
-    fn places(&self, class: usize) -> &[u32]
-        ensures { result.now ≡ list_at self.now.lists.items class }
-    {
-        match self.lists.get(class) {
-            Some(places) => places.as_slice(),
-            None => &[],
-        }
-    }
-
-    // Returns what the run has met of a class.
-    fn met(&self, class: usize) -> Met
-        ensures { result ≡ get_or self.now.met.items class New }
-    {
-        self.met.get(class).copied().unwrap_or(Met::New)
-    }
-
-    // Returns what becomes of an entry with this number, if the run copied none of its twins. `stays` is whether one of
-    // these stays.
-    fn step_found(&self, number: Number, stays: bool) -> Step<'_>
-        ensures { seen_step result ≡ found_step self.now.replace stays
-            (nat_lt number.key (length self.now.lists.items)) (list_at self.now.lists.items number.class) }
-    {
-        if number.key < self.lists.len() {
-            return Step::There;
-        }
-        let places = self.places(number.class);
-        let Some(first) = places.first() else {
-            return Step::Copy(places);
         };
-        if self.replace && !stays {
-            return Step::Copy(places);
+        'entries: for (place, entry) in keytab.entries() {
+            let key = class_key(texts.next(), &entry);
+            let secret = texts.next();
+            classes.add(alloc, key, place, secret)?;
         }
-        Step::Clash(*first)
+        Ok(classes)
     }
 
     /// Returns what becomes of the next entry.
-    pub fn step(&self, number: Number) -> Step<'_>
-        ensures { (all before : List EntryParts) (xs : List PlacedEntry) (held : List Held) (x : EntryParts)
-            → Follows all xs before held self.now → shown number ≡ numbers_in all x
+    pub fn step(&self, key: &ClassKey<'t>, secret: &[u8]) -> Step<'_>
+        ensures { (before : List EntryParts) (held : List Held) (x : EntryParts) → AreClasses before held self.now.map
+            → IsClassKey x key.now → secret.now ≡ x.key
             → seen_step result ≡ step_of self.now.replace before held x }
     {
-        match self.met(number.class) {
-            Met::New => self.step_found(number, false),
-            Met::Kept => self.step_found(number, true),
-            Met::Copied(key, place) => step_copied(number, key, place),
+        let Some(class) = self.map.get(key) else {
+            return Step::Copy(&[]);
+        };
+        if class.has_key(secret) {
+            return Step::There;
         }
+        step_at(self.replace, class)
     }
 
     /// Keeps the twins of an entry that is there.
-    pub fn keep(&mut self, number: Number)
-        ensures follows { (all before : List EntryParts) (xs : List PlacedEntry) (held : List Held) (x : EntryParts)
-            → Follows all xs before held self.old → shown number ≡ numbers_in all x
-            → step_of self.old.replace before held x ≡ due.There
-            → Follows all xs (before ++ x ∷ []) held self.new }
+    pub fn keep(&mut self, key: &ClassKey<'t>)
+        ensures classes { (before : List EntryParts) (held : List Held) (x : EntryParts) → AreClasses before held self.old.map
+            → IsClassKey x key.now → step_of self.old.replace before held x ≡ due.There
+            → AreClasses (before ++ x ∷ []) held self.new.map }
         ensures replace { self.new.replace ≡ self.old.replace }
     {
-        let met = self.met(number.class).kept();
-        replace_at(&mut self.met, number.class, met);
+        if let Some(class) = self.map.get_mut(key) {
+            class.keep();
+        }
     }
 
     /// Sets an entry in the place of its twins, at this place of the keytab.
-    pub fn set_copy(&mut self, number: Number, place: u32)
-        ensures follows { (all before : List EntryParts) (xs : List PlacedEntry) (held : List Held) (x : EntryParts)
-            → Follows all xs before held self.old → shown number ≡ numbers_in all x
-            → Follows all xs (before ++ x ∷ []) (with_copy held x place) self.new }
+    pub fn set_copy(
+        &mut self,
+        key: ClassKey<'t>,
+        place: u32,
+        secret: &'t [u8],
+    ) -> Result<(), NoMemory>
+        ensures classes { (before : List EntryParts) (held : List Held) (x : EntryParts) → AreClasses before held self.old.map
+            → IsClassKey x key.entry → secret.now ≡ x.key
+            → OnOk result (AreClasses (before ++ x ∷ []) (with_copy held x place) self.new.map) }
         ensures replace { self.new.replace ≡ self.old.replace }
     {
-        replace_at(&mut self.met, number.class, Met::Copied(number.key, place));
+        let _ = self.map.insert(key, Class::copied(place, secret))?;
+        Ok(())
     }
 }

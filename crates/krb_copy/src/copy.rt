@@ -1,21 +1,15 @@
 //! Copying the entries asked for into a keytab.
 
-ghost use Rattle.std.specs.Prelude.{◌≡◌, ◌++◌, [], List, map, length, IfOk, IfErr};
-ghost use Rattle.krb_keytab.specs.Entry.{EntryParts};
+ghost use Rattle.std.specs.Prelude.{◌≡◌, ◌∷◌, List, IfOk, IfErr};
 ghost use Rattle.krb_keytab.specs.Find.{PlacedEntry, placed_entries};
-ghost use Rattle.krb_copy.specs.Classes.{all_of, Follows};
-ghost use Rattle.krb_copy.specs.Copying.{Run, as_found, copy_run, has_lines, run_after, run_over, step_of};
+ghost use Rattle.krb_copy.specs.Copying.{Run, copy_run, has_lines, run_after, run_over, step_of};
 ghost use Rattle.krb_copy.specs.Made.{Ends, EndsBy, IsMade, IsRefusedBy, Meets, IsRun};
-ghost use Rattle.krb_copy.specs.Numbers.{numbers_in, shown};
 
-use crate::classes::{Classes, Step};
-use crate::lists::{numbers_of, places_of};
+use crate::classes::{Classes, Step, class_key};
 use crate::making::Making;
-use crate::names::Names;
-use crate::numbers::{Number, Numbers};
+use crate::texts::{Texts, TextsLeft};
 use krb_keytab::{EntryView, Indexed, Keytab};
 use krb_walk::Refusal;
-use krb_wire::NoMemory;
 use std::alloc::Allocator;
 
 /// What copying came to.
@@ -30,31 +24,27 @@ pub struct Copied<A: Allocator> {
     pub keytab: Keytab<A>,
 }
 
-// A run.
+// A run, and the texts of the entries that it meets next.
 #[derive(Drop)]
-struct Copying<A: Allocator> {
+struct Copying<'t, A: Allocator> {
     making: Making<A>,
-    classes: Classes<A>,
+    classes: Classes<'t, A>,
+    texts: TextsLeft<'t>,
 }
 
-impl<A: Allocator + Copy> Copying<A> {
+impl<'t, A: Allocator + Copy> Copying<'t, A> {
     // Copies the next entry after its twins are removed, adds the line of its clash, or does nothing.
-    fn meet(
-        &mut self,
-        alloc: A,
-        place: u32,
-        entry: &EntryView<'_>,
-        number: Number,
-    ) -> Result<(), Refusal>
-        ensures meets { (all : List EntryParts) (xs : List PlacedEntry) (run : Run) → IsRun all xs run self.old
-            → shown number ≡ numbers_in all entry.now
-            → Meets all xs run (run_after run (place, entry.now)
+    fn meet(&mut self, alloc: A, place: u32, entry: &EntryView<'_>) -> Result<(), Refusal>
+        ensures meets { (run : Run) (asked : List PlacedEntry) → IsRun run ((place, entry.now) ∷ asked) self.old
+            → Meets run asked (run_after run (place, entry.now)
             (step_of self.old.classes.replace run.before run.held entry.now)) result self.new }
         ensures replace { self.new.classes.replace ≡ self.old.classes.replace }
     {
-        match self.classes.step(number) {
+        let key = class_key(self.texts.next(), entry);
+        let secret = self.texts.next();
+        match self.classes.step(&key, secret) {
             Step::There => {
-                self.classes.keep(number);
+                self.classes.keep(&key);
                 Ok(())
             }
             Step::Clash(twin) => {
@@ -63,7 +53,7 @@ impl<A: Allocator + Copy> Copying<A> {
             }
             Step::Copy(places) => {
                 let place = self.making.copy(alloc, places, entry)?;
-                self.classes.set_copy(number, place);
+                self.classes.set_copy(key, place, secret)?;
                 Ok(())
             }
         }
@@ -80,49 +70,17 @@ impl<A: Allocator + Copy> Copying<A> {
     }
 
     // Goes over the entries asked for.
-    fn go_over(
-        &mut self,
-        alloc: A,
-        asked: &[(u32, EntryView<'_>)],
-        numbers: &[Number],
-    ) -> Result<(), Refusal>
-        requires { length numbers.now ≡ length asked.now }
-        ensures { (all : List EntryParts) (xs : List PlacedEntry) (run : Run) → IsRun all xs run self.old
-            → map shown numbers.now ≡ map (λ x. numbers_in all x.1) asked.now
+    fn go_over(&mut self, alloc: A, asked: &[(u32, EntryView<'_>)]) -> Result<(), Refusal>
+        ensures { (run : Run) → IsRun run asked.now self.old
             → Ends (run_over self.old.classes.replace asked.now run) result self.new }
     {
-        'asked: for i in 0..asked.len() {
-            let (place, entry) = &asked[i];
-            let number = numbers[i];
-            if let Err(refusal) = self.meet(alloc, *place, entry, number) {
+        'asked: for (place, entry) in asked {
+            if let Err(refusal) = self.meet(alloc, *place, entry) {
                 return self.end(refusal);
             }
         }
         Ok(())
     }
-}
-
-// Returns the classes before a run, and the numbers of the entries asked for.
-fn prepare<'a, A: Allocator + Copy>(
-    alloc: A,
-    asked: &'a [(u32, EntryView<'a>)],
-    to: &'a Keytab<A>,
-    replace: bool,
-) -> Result<(Classes<A>, Vec<Number, A>), NoMemory>
-    ensures follows { IfOk result (λ x. Follows (all_of (placed_entries to.now.state) asked.now)
-        (placed_entries to.now.state) [] (map as_found (placed_entries to.now.state)) x.0) }
-    ensures replace { IfOk result (λ x. x.0.replace ≡ replace) }
-    ensures numbers { IfOk result (λ x. map shown x.1.items
-        ≡ map (λ y. numbers_in (all_of (placed_entries to.now.state) asked.now) y.1) asked.now) }
-{
-    let names = Names::of(alloc, to, asked)?;
-    let left = names.left();
-    let mut numbers = Numbers::new(alloc, left);
-    let lists = places_of(alloc, &*to, &mut numbers)?;
-    let of_asked = numbers_of(alloc, &*asked, &mut numbers, lists.len())?;
-    let count = lists.len() + of_asked.len();
-    let classes = Classes::new(alloc, lists, count, replace)?;
-    Ok((classes, of_asked))
 }
 
 /// Copies the entries asked for, which have their places in another keytab, in order. One with name, kvno, enctype and
@@ -139,7 +97,9 @@ pub fn copy_into<A: Allocator + Copy>(
         copied.text.items copied.clashes.items copied.places.items copied.keytab.state) }
     ensures refused { IfErr result (IsRefusedBy (copy_run replace asked.now to.state)) }
 {
-    let (classes, numbers) = prepare(alloc, &*asked, &to, replace)?;
+    let texts = Texts::of(alloc, &to, asked)?;
+    let mut left = texts.left();
+    let classes = Classes::of(alloc, &to, &mut left, replace)?;
     let Ok(keytab) = Indexed::of(alloc, to) else {
         return Err(Refusal::NoMemory);
     };
@@ -149,8 +109,12 @@ pub fn copy_into<A: Allocator + Copy>(
         clashes: Vec::new(alloc),
         places: Vec::new(alloc),
     };
-    let mut copying = Copying { making, classes };
-    copying.go_over(alloc, asked, &numbers)?;
+    let mut copying = Copying {
+        making,
+        classes,
+        texts: left,
+    };
+    copying.go_over(alloc, asked)?;
     Ok(Copied {
         text: copying.making.text,
         clashes: copying.making.clashes,

@@ -1,13 +1,12 @@
 //! Copying entries from one keytab into another.
 #![tactic(auto)]
 
+mod class;
 mod classes;
 mod copy;
 mod laws;
-mod lists;
 mod making;
-mod names;
-mod numbers;
+mod texts;
 
 pub use copy::{Copied, copy_into};
 pub use laws::{

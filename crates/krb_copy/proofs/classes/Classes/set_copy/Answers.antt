@@ -1,26 +1,6 @@
-use Rattle.std.proofs.Common.{◌<◌, cond, length, get_or, ap, ◌∙◌, List, arith}
-use Rattle.std.specs.Prelude.{◌==◌}
-use Rattle.std.specs.Vec.{with_items}
-use Rattle.std.proofs.lemmas.List.{with_items_is}
-use Rattle.krb_copy.specs.declared.classes.Met.{Met}
-use Rattle.krb_copy.specs.declared.classes.Met.TheVariants.{New, Copied}
-use Rattle.krb_copy.proofs.MetAfter.{met_copied, class_lt}
+use Rattle.krb_copy.proofs.ClassesAfter.{after_copy}
 use Rattle.krb_copy.proofs.classes.Classes.set_copy.Goals as goal
 
-pub returns-clause-follows : goal.returns-clause-follows
-returns-clause-follows g c = λ all before xs held x f e.
-    let old : List Met = c.args.self.now.met.items in
-    let class = c.args.number.class in
-    let whole = with_items_is c.args.self.now.met c.replace_at.new.met (c.replace_at.ensures.count ∙ c.deref_mut.ensures.len) in
-    let value = c.deref_mut.ensures.value in
-    let lt : class < length c.deref_mut.result.now = (let one = class_lt all x c.args.number e in let size = f.size in let same = ap length value in omega (arith, one, size, same)) in
-    record {
-      places = f.places;
-      met = met_copied all xs before held x c.args.number c.args.place old (with_items c.args.self.now.met c.replace_at.new.met).items f.met e
-          (λ at. ap (λ (l : List Met). get_or l at New) whole ∙ c.replace_at.ensures.new lt at
-          ∙ ap (λ (l : List Met). cond (at == class) (Copied c.args.number.key c.args.place) (get_or l at New)) value);
-      size = ap length whole ∙ c.replace_at.ensures.count ∙ ap length value ∙ f.size;
-      count = f.count;
-      rest = f.rest;
-      front = f.front;
-    }
+pub returns-clause-classes : goal.returns-clause-classes
+returns-clause-classes g c = λ before held x classes of_x secret.
+    after_copy before held x c.args.place c.args.key c.args.secret c.args.self.now.map c.insert.new.self c.copied.result classes of_x secret c.in_ok-insert.ensures.updates.0 c.copied.ensures.entries c.copied.ensures.stays

@@ -1,17 +1,20 @@
-use Rattle.std.proofs.Common.{◌∙◌}
-use Rattle.krb_copy.specs.declared.classes.Met.TheVariants.{New, Kept, Copied}
-use Rattle.krb_copy.proofs.Meeting.{met_is, step_found_is, copied_step_is, key_is}
+use Rattle.std.proofs.Common.{sym, ap, ◌∙◌, true, false}
+use Rattle.krb_copy.specs.Classes.{has_key, places_in}
+use Rattle.krb_copy.proofs.ClassesAfter.{class_is, none_is, step_by, step_of_none}
 use Rattle.krb_copy.proofs.classes.Classes.step.Goals as goal
 
-pub returns-in-New : goal.returns-in-New
-returns-in-New g c = λ all before xs held x f e.
-    c.step_found.ensures ∙ step_found_is all xs before held x c.args.self.now c.args.number _ f e (met_is all xs before held x c.args.self.now c.args.number New f e c.in-New.ensures)
+pub returns-in_default : goal.returns-in_default
+returns-in_default g c = λ before held x classes of_x secret.
+    step_of_none c.args.self.now.replace before held x (none_is before held x c.args.key.now c.args.self.now.map classes of_x (sym c.in_default.ensures.value))
 
-pub returns-in-Kept : goal.returns-in-Kept
-returns-in-Kept g c = λ all before xs held x f e.
-    c.step_found-in-Kept.ensures ∙ step_found_is all xs before held x c.args.self.now c.args.number _ f e (met_is all xs before held x c.args.self.now c.args.number Kept f e c.in-Kept.ensures)
+pub returns-then-has_key : goal.returns-then-has_key
+returns-then-has_key g c = λ before held x classes of_x secret.
+    let class = c.in-Some.class.now in
+    let is = class_is before held x c.args.key.now c.args.self.now.map class classes of_x (sym c.in-Some.ensures.value) in
+    step_by c.args.self.now.replace before held x true class.stays (places_in class.entries) (c.if-has_key.ensures ∙ ap (has_key class.entries) secret ∙ is.keys x.key) is.stays is.places
 
-pub returns-in-Copied : goal.returns-in-Copied
-returns-in-Copied g c = λ all before xs held x f e.
-    c.step_copied.ensures
-    ∙ copied_step_is all before held x c.args.self.now.replace c.in-Copied.key c.in-Copied.place c.args.number.key (met_is all xs before held x c.args.self.now c.args.number (Copied c.in-Copied.key c.in-Copied.place) f e c.in-Copied.ensures) (key_is all x c.args.number e)
+pub returns : goal.returns
+returns g c = λ before held x classes of_x secret.
+    let class = c.in-Some.class.now in
+    let is = class_is before held x c.args.key.now c.args.self.now.map class classes of_x (sym c.in-Some.ensures.value) in
+    c.step_at.ensures ∙ step_by c.args.self.now.replace before held x false class.stays (places_in class.entries) (c.if-has_key.ensures ∙ ap (has_key class.entries) secret ∙ is.keys x.key) is.stays is.places

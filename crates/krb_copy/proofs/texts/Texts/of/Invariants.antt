@@ -1,0 +1,7 @@
+use Rattle.krb_keytab.specs.Find.{placed_entries}
+use Rattle.krb_copy.proofs.FoundTexts.{AreAppended}
+use Rattle.krb_copy.proofs.texts.Texts.of.Given as goal
+
+-- the texts of the entries so far were appended, and the others are still to come
+abbrev pub invariant-entries : goal.invariant-entries
+invariant-entries g l = AreAppended (placed_entries l.keytab.state) l._place-iterator l.texts.bytes.items l.texts.lens.items

@@ -1,0 +1,122 @@
+//! The names and keys of entries, in one buffer, so that a keytab that had them can be changed.
+
+ghost use Rattle.std.specs.Prelude.{◌≡◌, ◌∷◌, ◌++◌, [], ℕ, List, OnOk, IfOk};
+ghost use Rattle.krb_wire.specs.Names.{name_text};
+ghost use Rattle.krb_keytab.specs.Find.{placed_entries};
+ghost use Rattle.krb_copy.specs.Texts.{AreTexts, entry_texts};
+
+use krb_keytab::{EntryView, Keytab};
+use krb_text::append;
+use krb_wire::{NoMemory, write_name};
+use std::alloc::Allocator;
+
+// How many bytes a name's text and a key seldom exceed.
+const USUAL_LEN: usize = 72;
+
+/// Texts, one after another, and their lengths.
+#[derive(Drop)]
+pub struct Texts<A: Allocator> {
+    bytes: Vec<u8, A>,
+    lens: Vec<usize, A>,
+}
+
+/// The texts that are left.
+#[derive(Drop)]
+pub struct TextsLeft<'t> {
+    bytes: &'t [u8],
+    lens: &'t [usize],
+}
+
+// Returns a capacity that most names and keys of a keytab and of `count` entries fit.
+fn usual_capacity<B: Allocator>(keytab: &Keytab<B>, count: usize) -> usize {
+    keytab
+        .image()
+        .len()
+        .saturating_add(count.saturating_mul(USUAL_LEN))
+}
+
+impl<A: Allocator + Copy> Texts<A> {
+    // Appends the name of an entry.
+    fn push_name(&mut self, entry: &EntryView<'_>) -> Result<(), NoMemory>
+        ensures { (ts : List (List ℕ)) → AreTexts ts self.old.bytes.items self.old.lens.items
+            → OnOk result (AreTexts (ts ++ name_text entry.now.principal ∷ []) self.new.bytes.items self.new.lens.items) }
+    {
+        let start = self.bytes.len();
+        write_name(entry.principal(), &mut self.bytes)?;
+        let end = self.bytes.len();
+        self.lens.push(end - start)?;
+        Ok(())
+    }
+
+    // Appends the name and the key of an entry.
+    fn push_entry(&mut self, entry: &EntryView<'_>) -> Result<(), NoMemory>
+        ensures { (ts : List (List ℕ)) → AreTexts ts self.old.bytes.items self.old.lens.items
+            → OnOk result (AreTexts (ts ++ name_text entry.now.principal ∷ entry.now.key ∷ []) self.new.bytes.items self.new.lens.items) }
+    {
+        self.push_name(entry)?;
+        let key = entry.key();
+        append(key, &mut self.bytes)?;
+        self.lens.push(key.len())?;
+        Ok(())
+    }
+
+    // Appends those of entries asked for.
+    fn push_asked(&mut self, asked: &[(u32, EntryView<'_>)]) -> Result<(), NoMemory>
+        ensures { (ts : List (List ℕ)) → AreTexts ts self.old.bytes.items self.old.lens.items
+            → OnOk result (AreTexts (ts ++ entry_texts asked.now) self.new.bytes.items self.new.lens.items) }
+    {
+        'asked: for (_place, entry) in asked {
+            self.push_entry(entry)?;
+        }
+        Ok(())
+    }
+
+    /// Returns those of the entries of a keytab, and of those asked for.
+    pub fn of<B: Allocator>(
+        alloc: A,
+        keytab: &Keytab<B>,
+        asked: &[(u32, EntryView<'_>)],
+    ) -> Result<Texts<A>, NoMemory>
+        ensures { IfOk result (λ texts. AreTexts
+            (entry_texts (placed_entries keytab.now.state) ++ entry_texts asked.now) texts.bytes.items texts.lens.items) }
+    {
+        let mut texts = Texts {
+            bytes: Vec::with_capacity(alloc, usual_capacity(keytab, asked.len()))?,
+            lens: Vec::new(alloc),
+        };
+        'entries: for (_place, entry) in keytab.entries() {
+            texts.push_entry(&entry)?;
+        }
+        texts.push_asked(asked)?;
+        Ok(texts)
+    }
+
+    /// Returns all of them.
+    pub fn left(&self) -> TextsLeft<'_>
+        ensures { (ts : List (List ℕ)) → AreTexts ts self.now.bytes.items self.now.lens.items
+            → AreTexts ts result.bytes.now result.lens.now }
+    {
+        TextsLeft {
+            bytes: &self.bytes,
+            lens: &self.lens,
+        }
+    }
+}
+
+impl<'t> TextsLeft<'t> {
+    /// Returns the next.
+    pub fn next(&mut self) -> &'t [u8]
+        ensures { (t : List ℕ) (ts : List (List ℕ)) → AreTexts (t ∷ ts) self.old.bytes.now self.old.lens.now
+            → (result.now ≡ t) × AreTexts ts self.new.bytes.now self.new.lens.now }
+    {
+        let Some((len, lens)) = self.lens.split_first() else {
+            return &[];
+        };
+        let Some((text, bytes)) = self.bytes.split_at_checked(*len) else {
+            return &[];
+        };
+        self.lens = lens;
+        self.bytes = bytes;
+        text
+    }
+}
