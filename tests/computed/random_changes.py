@@ -19,7 +19,7 @@ from runs.undisturbed import Undisturbed, undisturbed
 from words.phrases import BEGINS_AS_CACHE, CLASH, TO_REPLACE, code, line_fault
 
 # Few names, versions, types and keys, so that many entries agree; MIT's programs do not see those with empty parts.
-REMOVED = Choices(names=((b"a", b"R"), (b"a", b"b", b"R"), (b"a/b", b"R"), (b"", b"R"), (b"R",)),
+REMOVED = Choices(names=(*[(b"a", b"R")] * 6, (b"a", b"b", b"R"), (b"a/b", b"R"), (b"", b"R"), (b"R",)),
                   versions=(0, 1, 127, 128, 240, 241, 255, 256, 2**32 - 1), enctypes=(0, 17, 18, 23),
                   timestamps=(0, 1, 2, NOW, 2**32 - 1))
 FEW = Choices(names=((b"a", b"R"), (b"", b"R"), (b"R",)), versions=(1, 1, 1, 257), enctypes=(17, 17, 18),
