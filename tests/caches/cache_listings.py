@@ -4,17 +4,13 @@ from dataclasses import replace
 from functools import partial
 
 from keytabs.columns import KNOWN_TIMES
-from makers.cache_images import CONFIG_FIRST, CONFIG_REALM, FLAGS, Name, cache, config, header_field, offset
-from makers.usual_caches import TICKET, USUAL, config_ticket
+from makers.cache_images import FLAGS, Name, cache, config, header_field, offset
+from makers.usual_caches import TICKET
 from runs.harness import Case, Outcome
 from runs.rows import over
 
-START, END = b"2023-11-14T22:13:20Z", b"2023-11-15T08:13:20Z"
-TIMES = START + b" " + END + b" "
+TIMES = b"2023-11-14T22:13:20Z 2023-11-15T08:13:20Z "
 TICKET_LINE = TIMES + b"krbtgt/R@R"
-FLAGS_LINE = b"    Flags: FRIA"
-ETYPE_LINE = b"    Etype: aes128-cts-hmac-sha1-96"
-CONFIG_LINE = b"config: pa_type(krbtgt/R@R) = 2"
 
 of_host = partial(replace, TICKET, server=Name((b"host", b"a")))
 
@@ -38,60 +34,30 @@ LETTERS = {**{bit: letter for letter, bit in FLAGS.items()}, 0: b"", 2**32 - 1: 
 
 # A starttime or a renewal time of 0 means none.
 TIMED = {second: text for second, text in KNOWN_TIMES.items() if second}
-NEVER, GREATEST = b"1970-01-01T00:00:00Z", b"2106-02-07T06:28:15Z"
-
-# Times that are almost those of the removed mark, which is endtime 0 with the greatest authtime.
-ALMOST_REMOVED = {
-    START + b" " + NEVER: {"endtime": 0}, NEVER + b" " + NEVER: {"authtime": 0, "endtime": 0},
-    GREATEST + b" " + END: {"authtime": 2**32 - 1}, GREATEST + b" " + NEVER: {"starttime": 2**32 - 1, "endtime": 0},
-    b"2106-02-07T06:28:14Z " + NEVER: {"authtime": 2**32 - 2, "endtime": 0},
-    GREATEST + b" 1970-01-01T00:00:01Z": {"authtime": 2**32 - 1, "endtime": 1},
-}
-
-# Tickets for servers that are almost those of configuration entries, and their names.
-ALMOST_CONFIGURED = {
-    CONFIG_FIRST + b"@X-CACHECONF:": config_ticket(),
-    CONFIG_FIRST + b"/a/b/c@X-CACHECONF:": config_ticket(b"a", b"b", b"c"),
-    CONFIG_FIRST[:-1] + b"/k@X-CACHECONF:": config_ticket(b"k", first=CONFIG_FIRST[:-1]),
-    CONFIG_FIRST + b"/k@X-CACHECONF": config_ticket(b"k", realm=CONFIG_REALM[:-1]),
-    CONFIG_FIRST + b"/k@X-RMED-CONF:": config_ticket(b"k", realm=b"X-RMED-CONF:"),
-}
-
 BYTES = bytes(range(256))
 ESCAPED = (b"".join(b"\\x%02x" % byte for byte in range(0x20)) + bytes(range(0x20, 0x5C)) + b"\\\\"
            + bytes(range(0x5D, 0x7F)) + b"".join(b"\\x%02x" % byte for byte in range(0x7F, 0x100)))
 LONG = Name((b"",) * 70_000 + (b"y" * 100_000,))
 NUMBERS = range(1, 2001)
-COUNT = 129  # the place of the count of the ticket's addresses
 
-# The lines of words list the usual cache, with each set of columns; those that are explained name what is no cache.
 CASES = [
     case("2000 tickets", cache(*(replace(TICKET, server=Name((b"svc", b"%d" % n))) for n in NUMBERS)),
          *(TIMES + b"svc/%d@R" % n for n in NUMBERS)),
     case("flags", cache(*(replace(TICKET, flags=flags) for flags in LETTERS)),
          *(line for letters in LETTERS.values() for line in (TICKET_LINE, b"    Flags: " + letters)), columns="f"),
-    case("almost removed", cache(*(replace(TICKET, **times) for times in ALMOST_REMOVED.values())),
-         *(times + b" krbtgt/R@R" for times in ALMOST_REMOVED)),
-    case("removed, with a starttime", cache(replace(TICKET, starttime=1).removed())),
     case("known times", cache(*(replace(TICKET, starttime=at, endtime=at, renew_till=at) for at in TIMED)),
          *(line for text in TIMED.values()
            for line in (text + b" " + text + b" krbtgt/R@R", b"    renew until " + text))),
     case("a long name", cache(replace(TICKET, server=LONG), default=LONG),
          TIMES + b"/" * 70_000 + b"y" * 100_000 + b"@R", default=b"/" * 70_000 + b"y" * 100_000 + b"@R"),
-    # Configuration entries: which credentials are, and how a key, a principal and a value are escaped.
+    # How a key, a principal and a value are escaped.
     case("each byte of a value", cache(config(BYTES, BYTES, BYTES)),
          b"config: " + ESCAPED + b"(" + ESCAPED + b") = " + ESCAPED, columns="C"),
-    case("no byte of a value", cache(config(b"", b"", b"")), b"config: () = ", columns="C"),
-    case("a value with times and a key", cache(config_ticket(b"k")), b"config: k = tkt", columns="C"),
-    case("no values", cache(*ALMOST_CONFIGURED.values()), *(TIMES + name for name in ALMOST_CONFIGURED), columns="C"),
     # Headers of many fields, and of a field of the greatest length.
     *(case(f"header, {name}", cache(TICKET, fields=fields), TICKET_LINE) for name, fields in (
         ("an offset of 4 bytes", header_field(1, bytes(4))),
         ("300 fields", b"".join(header_field(tag, b"x" * tag) for tag in range(300)) + offset(5, 0)),
         ("a field of 65,531 bytes", header_field(3, bytes(65_531))))),
-    # Bytes that do not begin a credential: what precedes them is listed, what follows is not.
-    case("a byte after the last credential", USUAL + b"\0", TICKET_LINE, b"fault 4 at 392"),
-    case("the greatest count of addresses", USUAL[:COUNT] + b"\xff" * 4 + USUAL[COUNT + 4:], b"fault 4 at 40"),
     lambda: case("the greatest count before a million zeros",
                  cache(TICKET.client.spelled() + b"\0\0\0\0" + b"\xff" * 4 + bytes(1_000_000)), b"fault 4 at 22"),
 ]

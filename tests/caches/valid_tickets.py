@@ -5,7 +5,7 @@ from dataclasses import replace
 
 from caches.cache_listings import of_host
 from keytabs.file_names import LIMIT, check_unreadable
-from makers.cache_images import Credential, Name, cache, offset
+from makers.cache_images import Credential, Name, cache
 from makers.images import TWO
 from makers.usual_caches import PA_TYPE, TICKET, config_ticket
 from runs.harness import Case, Outcome, Report, differences, folder_of, run
@@ -68,16 +68,11 @@ TICKETS: list[tuple[str, tuple[Credential | bytes, ...], Outcome]] = [
 
 CASES = [
     *(ask(name, cache(*those), wanted) for name, those, wanted in TICKETS),
-    # Files that are no caches, and default principals of other realms.
+    # Files that are no caches.
     ask("no bytes", b"", NONE),
     ask("a keytab", TWO, NONE),
     ask("a damaged header", cache(TGT, fields=b"\0\x01\0"), NONE),
     ask("no default principal", b"\x05\x04\0\0", NONE),
-    ask("version 3", cache(replace(TGT, second_enctype=23), version=3), VALID),
-    ask("a default principal of another realm", cache(OVER, HOST, default=Name((b"u",), b"S")), VALID),
-    ask("its ticket is over", cache(service(b"krbtgt", b"S", realm=b"S", endtime=1), TGT, default=Name(realm=b"S")),
-        NONE),
-    ask("an offset", cache(TGT, fields=offset(2**31 - 1, 0)), VALID),
     # Words that mean the same: whether a ticket is left in this many seconds. None is if the clock and these come to
     # more than the greatest time, or to more than 32 bits.
     *(ask("for a while", cache(TGT), VALID, options) for options in (

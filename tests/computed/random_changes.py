@@ -4,21 +4,22 @@ import re
 from collections.abc import Callable, Iterator
 from random import Random
 
-from caches.cache_scripts import FAULTS as CACHE_FAULTS
+from caches.cache_edits import FAULTS as CACHE_FAULTS
 from computed.random_listings import NOW, SERVERS, options, random_ticket
 from computed.topic import Topic
 from keytabs.columns import ETYPES, KEY_SIZES
+from keytabs.edits import FAULTS
 from keytabs.ktutil_lines import FAULTS as KTUTIL_FAULTS
 from keytabs.ktutil_lines import NO_KEYS
-from keytabs.scripts import FAULTS
 from makers.images import BIG, LITTLE, hole, keytab, name_text
 from makers.mutations import damaged
 from makers.random_caches import KEYS, PRINCIPALS, filled_cache, random_credential, random_value, with_damage
 from makers.random_keytabs import Choices, random_bytes, random_keytab
-from runs.undisturbed import Undisturbed, explained, undisturbed
+from runs.undisturbed import Undisturbed, undisturbed
+from words.phrases import BEGINS_AS_CACHE, CLASH, TO_REPLACE, code, line_fault
 
 # Few names, versions, types and keys, so that many entries agree; MIT's programs do not see those with empty parts.
-REMOVED = Choices(names=((b"a", b"R"), (b"a", b"b", b"R"), (b"a/b", b"R"), (b"", b"R"), (b"R",)),
+REMOVED = Choices(names=(*[(b"a", b"R")] * 6, (b"a", b"b", b"R"), (b"a/b", b"R"), (b"", b"R"), (b"R",)),
                   versions=(0, 1, 127, 128, 240, 241, 255, 256, 2**32 - 1), enctypes=(0, 17, 18, 23),
                   timestamps=(0, 1, 2, NOW, 2**32 - 1))
 FEW = Choices(names=((b"a", b"R"), (b"", b"R"), (b"R",)), versions=(1, 1, 1, 257), enctypes=(17, 17, 18),
@@ -52,10 +53,14 @@ def in_turn(run: Callable[[bytes | None], Undisturbed], image: bytes | None, fil
         image = made.files_after.get(file)
 
 
-def random_number(random: Random) -> str:
+def with_zeros(random: Random, number: int) -> bytes:
     """Returns a number, sometimes with leading zeros."""
-    found = random.choice([0, 1, 3, 255, 256, 300, NOW, 2**32 - 1])
-    return f"{found:010}" if random.random() < 0.1 else str(found)
+    return (b"%010d" if random.random() < 0.1 else b"%d") % number
+
+
+def random_number(random: Random) -> bytes:
+    """Returns a number of an entry."""
+    return with_zeros(random, random.choice([0, 1, 3, 255, 256, 300, NOW, 2**32 - 1]))
 
 
 def random_name(random: Random) -> bytes:
@@ -77,14 +82,13 @@ def script_line(random: Random, kind: str, places: list[int], walks: int) -> byt
     words = [kind.encode()]
     if kind == "add":
         etype, key = random_etype_and_key(random)
-        words += [random_number(random).encode(), etype.encode(), random_number(random).encode(), key.encode(),
-                  random_name(random)]
+        words += [random_number(random), etype.encode(), random_number(random), key.encode(), random_name(random)]
     elif kind == "config":
         words += [random.choice(KEYS), random.choice(PRINCIPALS), random_value(random)]
     elif kind in ("cut", "resume"):
-        words.append(b"%d" % random.choice([*places * 4, 0, 1, 3, random.randrange(400), 2**32 - 1]))
+        words.append(with_zeros(random, random.choice([*places * 4, 0, 1, 3, random.randrange(400), 2**32 - 1])))
     elif kind == "step":
-        words.append(b"%d" % random.randrange(walks + 1 if random.random() < 0.1 else max(walks, 1)))
+        words.append(with_zeros(random, random.randrange(walks + 1 if random.random() < 0.1 else max(walks, 1))))
     return b" ".join(words)
 
 
@@ -119,7 +123,7 @@ def keytab_script(random: Random) -> Iterator[Undisturbed]:
             return undisturbed(f"ktedit{big} k", script, k=image)
 
         made = run(script_over(random, run, LINES, places, FAULTS))
-        yield random.choice((explained(made), made))
+        yield made
         image = made.files_after.get("k")
 
 
@@ -131,8 +135,7 @@ def cache_script(random: Random) -> Iterator[Undisturbed]:
     def run(script: bytes) -> Undisturbed:
         return undisturbed("ccedit c", script, c=image)
 
-    made = run(script_over(random, run, CACHE_LINES, places, CACHE_FAULTS))
-    yield random.choice((explained(made), made))
+    yield run(script_over(random, run, CACHE_LINES, places, CACHE_FAULTS))
 
 
 def ktutil_line(random: Random) -> bytes:
@@ -147,7 +150,7 @@ def ktutil_line(random: Random) -> bytes:
     if not kind.startswith("add"):
         return kind.encode()
     etype, key = random_etype_and_key(random)
-    words = [[b"-key"], [b"-p", random_name(random).replace(b" ", b"\\ ")], [b"-k", random_number(random).encode()],
+    words = [[b"-key"], [b"-p", random_name(random).replace(b" ", b"\\ ")], [b"-k", random_number(random)],
              [b"-e", etype.encode()]]
     random.shuffle(words)
     key = random.choice(NO_KEYS) if random.random() < 0.1 else key
@@ -160,9 +163,8 @@ def ktutil_input(random: Random) -> Iterator[Undisturbed]:
     lines = [faulty(random, KTUTIL_FAULTS) if random.random() < 0.15 else ktutil_line(random)
              for _ in range(random.randrange(20))]
     big = " --v1-big" * any(is_big for _, is_big in made.values())
-    run = undisturbed(f"ktutil{big}", b"\n".join(lines) + random.choice([b"", b"\n"]), clock=NOW,
+    yield undisturbed(f"ktutil{big}", b"\n".join(lines) + random.choice([b"", b"\n"]), clock=NOW,
                       **{name: image for name, (image, _) in made.items()})
-    yield random.choice((explained(run), run))
 
 
 def selectors(random: Random, names: list[bytes], chance: float) -> list[str | bytes]:
@@ -213,24 +215,29 @@ def copy(random: Random) -> Iterator[Undisturbed]:
                       for _ in range(2))
     words = [*options(random, "--replace", "-n"), *("--v1-big",) * v1_big,
              *selectors(random, [name_text(name) for name in FEW.names], 0.1)]
-    if random.random() < 0.1:
-        words += ["-k", random.choice(["new", "1", "257"])]
+    if random.random() < 0.2:
+        words += ["-k", random.choice(["new", "new", "1", "257"])]
     runs = [*in_turn(lambda it: undisturbed(("ktcopy", *words, "k", "t"), k=source, t=it), target, "t")]
-    yield from (random.choice((explained(run), run)) for run in runs)
+    yield from runs
     yield undisturbed(("ktcopy", *words, "t", "k"), k=source, t=runs[-1].files_after.get("t"))
 
 
 REPLIES = ("walk at", "walk gave", "walk end", "walk fault", "placed", "gone", "rewritten")
-REMOVALS = ("removed", "nothing to do", "refused 1", "refused 9", "-n removed")
+REMOVALS = ("removed", "nothing to do", "refused 1", "-n removed")
 
 TOPICS = (
-    Topic("random scripts", keytab_script, (*REPLIES, *(f"refused {code}" for code in (1, 4, 5, 6)),
-                                            *(f"fault {number}" for number in range(1, 7)), "not a keytab"), usual=60),
+    Topic("random scripts", keytab_script,
+          (*REPLIES, *(f"refused {number}: {code(number)}" for number in (1, 4, 5, 6)),
+           *(f"fault {number}" for number in range(1, 7)), line_fault(2), line_fault(5), "not a keytab"), usual=60),
     Topic("random scripts over caches", cache_script,
-          (*REPLIES, *(f"refused {code}" for code in (1, 4, 5, 6, 8)), "fault 3"), usual=60),
+          (*REPLIES, *(f"refused {number}: {code(number, 'ccedit')}" for number in (1, 4, 5, 6, 8)), "fault 3"),
+          usual=70),
     Topic("random inputs of ktutil", ktutil_input,
-          ("a record", "no such file", "refused 1", *(f"fault {number}" for number in range(1, 8))), usual=60),
-    Topic("random removals", removal, REMOVALS, usual=50),
-    Topic("random removals of tickets", ticket_removal, (*REMOVALS[:2], "refused 9", "-n removed"), usual=70),
-    Topic("random copies", copy, ("copied", "removed", "clash", "-n copied", "nothing to do"), usual=60),
+          ("a record", "no such file", code(1), *(f"fault {number}" for number in range(1, 8)),
+           *(line_fault(number, "ktutil") for number in range(1, 8))), usual=80),
+    Topic("random removals", removal, (*REMOVALS, code(9, "ktremove")), usual=50),
+    Topic("random removals of tickets", ticket_removal,
+          (*REMOVALS, *(code(number, "ccremove") for number in (1, 8, 9))), usual=70),
+    Topic("random copies", copy, ("copied", "removed", f"clash: {CLASH}", TO_REPLACE, "-n copied", "nothing to do",
+                                  code(9, "ktcopy"), BEGINS_AS_CACHE[1]), usual=60),
 )

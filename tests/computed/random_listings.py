@@ -11,21 +11,22 @@ from makers.cache_images import CONFIG_FIRST, CONFIG_REALM, Credential, Name, ca
 from makers.images import TWO, name_text
 from makers.mutations import damaged, mutated
 from makers.random_caches import SAMPLES as CACHES
-from makers.random_caches import filled_cache, random_cache, random_credential, with_damage
+from makers.random_caches import random_cache, random_credential, with_damage
 from makers.random_keytabs import SAMPLES as KEYTABS
 from makers.random_keytabs import Choices, random_image
 from runs.harness import Case
-from runs.undisturbed import Undisturbed, explained, undisturbed
-from words.phrases import FINDINGS
+from runs.undisturbed import Undisturbed, undisturbed
+from words.phrases import (BAD_DEFAULT, BAD_HEADER, BEGINS_AS_NO_CACHE, BEGINS_AS_NO_KEYTAB, FAULTS, FINDINGS,
+                           LISTED_AS_KEYTAB, SHORT, code)
 
 # Few names, versions, types and keys, so that many entries agree.
-FOUND = Choices(names=((b"a", b"R"), (b"a", b"b", b"R"), (b"a/b", b"R"), (b"", b"\n", b"@")),
-                versions=(0, 1, 2, 255, 256, 257, 2**32 - 1), enctypes=(0, 17, 18, 273))
+FOUND = Choices(names=(*[(b"a", b"R")] * 5, (b"a", b"b", b"R"), (b"a/b", b"R"), (b"", b"\n", b"@"), (b"\n", b"@"),
+                       (b"-A", b"R")), versions=(0, 1, 255, 256, 257, 2**32 - 1), enctypes=(0, 17, 18, 273))
 CHECKED = Choices(names=((b"a", b"R"), (b"a", b"b", b"R"), (b"", b"R")), versions=(1, 240),
                   enctypes=(3, 17, 23), timestamps=(0, 1, 2**32 - 1), keys=(b"", b"x", b"x", b"y"))
 
 # The names of servers, some of which print alike.
-SERVERS = [Name((b"krbtgt", b"R")), Name((b"host", b"a")), Name((b"host", b"a"), name_type=3),
+SERVERS = [*[Name((b"krbtgt", b"R"))] * 3, Name((b"host", b"a")), Name((b"host", b"a"), name_type=3),
            Name((b"host/a",)), Name(()), Name((b"",)), Name((b"a\n@",), b"R@S"),
            Name((CONFIG_FIRST, b"k"), CONFIG_REALM), Name((CONFIG_FIRST,), CONFIG_REALM)]
 
@@ -62,7 +63,7 @@ def look_up(random: Random) -> Iterator[Undisturbed]:
     """Yields a look-up in a keytab, which is mostly read in its own byte order."""
     image, is_big = FOUND.random_keytab(random)
     big = ("--v1-big",) if is_big != (random.random() < 0.1) else ()
-    kvno, etype = random.choice([0, *FOUND.versions]), random.choice([0, *FOUND.enctypes])
+    kvno, etype = (random.choice([0] * 6 + [*those]) for those in (FOUND.versions, FOUND.enctypes))
     name = name_text(random.choice(FOUND.names))
     yield undisturbed(("ktfind", *big, "k", str(kvno), str(etype), "--", name), k=image)
 
@@ -77,12 +78,11 @@ def random_place(random: Random) -> bytes | None:
 
 
 def checked(random: Random) -> Iterator[Undisturbed]:
-    """Yields a check of up to six files, with its findings explained or not."""
+    """Yields a check of up to six files."""
     files = {name: random_place(random) for name in "kjid"}
     words = random.choices([*"kjid", "FILE:k", "WRFILE:j", "KCM:k"], k=random.choice((1, 1, 2, 3, 6)))
     allowed = [f"--allow={word}" for word in random.choices([*FINDINGS], k=random.choice((0, 0, 1, 5)))]
-    made = undisturbed(("ktcheck", *options(random, "-q", "--v1-big"), *allowed, *words), **files)
-    yield random.choice((explained(made), made))
+    yield undisturbed(("ktcheck", *options(random, "-q", "--v1-big"), *allowed, *words), **files)
 
 
 def random_ticket(random: Random) -> Credential:
@@ -94,7 +94,7 @@ def random_ticket(random: Random) -> Credential:
 def question(random: Random) -> Iterator[Undisturbed]:
     """Yields a question whether a cache has a valid ticket, or one that is valid for a while."""
     tickets = (random_ticket(random) for _ in range(random.randrange(9)))
-    made = cache(*tickets, default=Name(realm=random.choice((b"R", b"S"))), version=random.choice((3, 4)))
+    made = cache(*tickets, default=Name(realm=random.choice((b"R", b"R", b"S"))), version=random.choice((3, 4)))
     seconds = random.choice(WHILES)
     words = () if seconds is None else ("--for", str(seconds))
     yield undisturbed(("klist", "-s", *words, "c"), clock=NOW, c=with_damage(random, made, 0.1))
@@ -107,12 +107,14 @@ def kinds_of_json(case: Case) -> Iterator[str]:
 
 TOPICS = (
     Topic("random keytabs", keytab_listing,
-          ("status 0", *(f"fault {number}" for number in (1, 2, 3)), "not a keytab (1)", "not a keytab (2)", 'kind":1'),
-          usual=100, more=kinds_of_json),
+          ("status 0", *(FAULTS[number] for number in (1, 2, 3)), 'kind":1',
+           *(phrase for _, phrase in (SHORT, LISTED_AS_KEYTAB, BEGINS_AS_NO_KEYTAB))), usual=100, more=kinds_of_json),
     Topic("random caches", cache_listing,
-          ("status 0", "fault 4", *(f"not a cache ({why})" for why in (1, 2, 5)), "config", "a record", "renew",
+          ("status 0", FAULTS[4], "not a cache (1)", *(phrase for _, phrase in (
+              BEGINS_AS_NO_CACHE, BAD_HEADER, BAD_DEFAULT)), "config", "a record", "renew",
            "Flags", "Etype", "client_hex", "value_hex", 'etype_name":null'), usual=60, more=kinds_of_json),
-    Topic("random look-ups", look_up, ("found", "refused 1", "refused 9", "refused 10"), usual=80),
-    Topic("random checks", checked, (*FINDINGS, "fault 2", "entries", "no such file", "not a keytab"), usual=80),
+    Topic("random look-ups", look_up, ("found", code(1), code(9), code(10)), usual=80),
+    Topic("random checks", checked, (*(": ".join(each) for each in FINDINGS.items()), FAULTS[2], FAULTS[3], SHORT[1],
+                                     "entries", "no such file"), usual=80),
     Topic("random questions for tickets", question, ("status 1", "status 0", "--for status 0"), usual=40),
 )

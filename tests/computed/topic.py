@@ -11,7 +11,7 @@ from proving import compiler
 from runs import undisturbed
 from runs.harness import Case, Report
 from runs.random_runs import FEWEST, ONE_IN, kinds_of
-from runs.undisturbed import Undisturbed
+from runs.undisturbed import Undisturbed, explained
 
 
 def none(_: Case) -> Iterator[str]:
@@ -40,11 +40,12 @@ class Topic:
         return self.title.replace(" ", "_")
 
     def make(self, report: Report, numbers: range) -> None:
-        """Makes the runs of some numbers, which are then compared with the definitions."""
+        """Makes the runs of some numbers, with their messages explained if the number is odd. The definitions compute
+        the same."""
         seen: Counter[str] = Counter()
         for number in numbers:
             for run in self.runs(Random(number)):
-                case = run.as_case()
+                case = (explained(run) if number % 2 else run).as_case()
                 seen.update({*kinds_of(case), *self.more(case)})
         if len(numbers) >= self.usual:
             report.check(f"{self.title}: each kind", [f"no {kind}" for kind in self.kinds if seen[kind] < FEWEST])

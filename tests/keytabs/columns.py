@@ -1,7 +1,7 @@
 """Listings with times, enctypes and keys. The expected results are written by hand."""
 
 from keytabs.listings import case, listed
-from makers.images import B, BIG, HOST, Entry, keytab, old
+from makers.images import Entry, keytab
 
 # The enctypes that have names: the lengths of their keys, and the names, of which the first is printed.
 ETYPES = {
@@ -46,15 +46,6 @@ def sample(letters: str) -> bytes:
 KEYS = [(bytes(range(256)) * 256)[:length] for length in (*range(70), 255, 256, 4_095, 4_096, 32_767, 32_768, 65_535)]
 
 CASES = [
-    # Whole lines with all columns.
-    case("a wide version and a quoted name",
-         keytab(Entry((b"a/b@c\\\n\0",), b"x y", version8=16, version32=10_000, enctype=23, key=b"\xff")),
-         b"10000 " + TIME + b"a\\/b\\@c\\\\\\n\\0@x y (arcfour-hmac) (0xff)", letters="teK"),
-    case("the greatest numbers",
-         keytab(Entry((b"a",), timestamp=2**32 - 1, version32=2**32 - 1, enctype=65_535, key=b"\0a")),
-         b"4294967295 2106-02-07T06:28:15Z a@R (etype 65535) (0x0061)", letters="teK"),
-    case("version 1, big-endian", old(HOST, B, order=BIG), b"   3 " + TIME + b"host/a@R" + ETYPE + HOST_KEY,
-         b"   3 " + TIME + b"b@R" + ETYPE + B_KEY, letters="teK", options="--v1-big"),
     # All enctypes, with the names of those that have one.
     lambda: case("enctypes", keytab(*(Entry((b"a",), enctype=each, key=b"") for each in range(65_536))),
                  *(b"   3 a@R (%s)" % NAMES.get(each, b"etype %d" % each) for each in range(65_536)), letters="e"),

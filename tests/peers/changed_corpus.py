@@ -16,15 +16,6 @@ SET = ["config: fast_avail(krbtgt/R@R) = no\n", "config: mine = 1\n"]
 # A time at which some of the tickets have expired.
 NOW = 1_800_000_000
 
-# A value, and where the file in which MIT's library set it ended before and after.
-VALUES = (
-    ("config k - ", 22, 137),
-    ("config sp - a b", 137, 256),
-    (f"config long - {'v' * 200}", 380, 698),
-    ("config odd=key(x) a/b@R 1", 698, 832),
-)
-
-
 @cache
 def listed(program: str, image: bytes) -> tuple[dict, list[str]]:
     """Returns what our klist says of a cache, and the credentials that MIT's shows."""
@@ -65,21 +56,8 @@ def faults_of(program: str, made: Undisturbed, those: list[str]) -> list[str]:
     return found + ([] if got == wanted else [f"MIT's klist shows {got}, not {wanted}"])
 
 
-def check_as_mit(report: Report) -> None:
-    """Makes changes that MIT's library made: the same bytes are left of a removed ticket, and of each value set after
-    those before it."""
-    caches = dict(files("ccache"))
-    image = caches["lib-config-values"]
-    rows = [("cut 120", caches["lib-removed-before"], caches["lib-removed"]),
-            *((line, image[:start], image[:end]) for line, start, end in VALUES)]
-    for line, before, after in rows:
-        got = edited(before, f"{line}\n".encode(), line).files_after["c"]
-        report.check(f"{line} as MIT's library does it", [] if got == after else [got.hex()])
-
-
 def check(report: Report, program: str) -> None:
     """Changes each cache."""
-    check_as_mit(report)
     if not are_there(report, "changed caches beside MIT's klist", ("klist",)):
         return
     for name, image in files("ccache"):

@@ -5,7 +5,6 @@ import subprocess
 from dataclasses import replace
 from itertools import permutations
 
-from caches.cache_listings import CONFIG_LINE, ETYPE_LINE, FLAGS_LINE, TICKET_LINE, listed
 from keytabs.columns import sample
 from makers.cache_images import cache
 from makers.images import B, TWO, keytab
@@ -121,12 +120,6 @@ FILES = {"k": TWO, "t": keytab(B), "c": USUAL, "r": SAMPLES["rotated.keytab"], "
 GONE = printed("removed 40 krbtgt/R@R")
 
 
-def listing(letters: str) -> bytes:
-    """Returns the listing of the usual cache with those columns."""
-    columns = {"f": FLAGS_LINE, "e": ETYPE_LINE, "C": CONFIG_LINE}
-    return listed(b"u@R", TICKET_LINE, *(line for letter, line in columns.items() if letter in letters))
-
-
 def case(line: str | Line, wanted: Outcome, **after: bytes) -> Case:
     """Returns a line beside those files, with an input that is a script, and the files that it changes."""
     return Case(shown(line), words_of(line), wanted, FILES, {**FILES, **after}, b"start")
@@ -136,8 +129,6 @@ CASES = [
     *(case(line, BAD_LINE) for line in REFUSED),
     *(case(f"klist -k{letters} k", Outcome(0, sample(letters)))
       for letters in ("", "t", "e", "K", "te", "tK", "Ke", "tKe")),
-    *(case(f"klist -c{letters} c", Outcome(0, listing(letters)))
-      for letters in ("", "f", "e", "C", "fe", "fC", "eC", "efC")),
     case("ktfind k 0 0 b@R", printed("found 53 kvno 3 etype 17 b@R")),
     case("ktedit k", printed("walk 0 at 2")), case("ccedit c", printed("walk 0 at 40")),
     case("ktutil", message(1, "line 1: fault 1")),

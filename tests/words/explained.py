@@ -1,4 +1,5 @@
-"""Each message with its explanation: a pipe gets the message alone, a terminal and `--explain` also the explanation."""
+"""Messages with explanations: a pipe gets the message alone, a terminal and `--explain` also the explanation. Random
+runs have each of the others."""
 
 import os
 import re
@@ -9,27 +10,23 @@ from functools import partial
 from itertools import product
 
 from caches.cache_edits import long_ticket
-from caches.cache_scripts import FAULTS as CACHE_FAULTS
-from keytabs.copies import OTHER, Y
 from keytabs.edits import ADD_HOST
 from keytabs.file_names import LIMIT
-from keytabs.ktutil_lines import FAULTS as TALK_FAULTS
 from keytabs.ktutil_lines import KEY
-from keytabs.scripts import FAULTS as LINE_FAULTS
 from makers.cache_images import cache
 from makers.images import B, HOST, TWO, keytab, record
-from makers.usual_caches import USUAL, VERSION_3
+from makers.usual_caches import USUAL
 from runs.harness import Report, folder_of, run
 from runs.terminal import EXPLAIN, WAYS, run_explained, run_on_terminal
-from words.explaining import CUT_CACHE, Explained, case, copy, failed, link, no_keytab
+from words.explaining import Explained, case, copy, failed, link, no_keytab
 from words.phrases import (BAD_DEFAULT, BAD_HEADER, BEGINS_AS_CACHE, BEGINS_AS_KEYTAB, BEGINS_AS_NO_CACHE,
-                           BEGINS_AS_NO_KEYTAB, CAUSES, CLASH, FAULTS, FINDINGS, LARGE, LISTED_AS_KEYTAB, NO_ENTRY,
-                           NO_PASSWORDS, SEE_HELP, SHORT, TO_REPLACE, code, line_fault, unknown)
+                           BEGINS_AS_NO_KEYTAB, CAUSES, LARGE, LISTED_AS_KEYTAB, NO_PASSWORDS, SEE_HELP, SHORT, code,
+                           line_fault, unknown)
 
 ADD = f"{ADD_HOST}\n".encode()
 ADDENT = "addent -key -p host/a@R -k 3 -e 17\n"
 WRITE = f"{ADDENT}{KEY}\nwkt k\n".encode()
-CUT = TWO + b"\0\0\0"
+
 
 def talk(given: bytes, image: bytes | None, *told: tuple[int, str, str]) -> Explained:
     """Returns a run of ktutil, and what is told of each of some lines: the explanation has the number too."""
@@ -41,13 +38,6 @@ def faulty_talk(line: str, number: int, phrase: str = "") -> Explained:
     """Returns a run over a faulty line of ktutil."""
     return talk(f"l\n{line}\n".encode(errors="surrogateescape"), TWO,
                 (2, f"fault {number}", phrase or line_fault(number, "ktutil")))
-
-
-def replies(command: str, image: bytes, script: bytes, refusals: tuple[int, ...], *faults: int) -> Explained:
-    """Returns a run whose replies have those numbers, each of which is explained once, refusals before faults."""
-    return case(f"{command}: replies to {script[:80]!r}", f"{command} k", image,
-                *(("", f"refused {number}: {code(number, command)}") for number in refusals),
-                *(("", f"fault {number}: {FAULTS[number]}") for number in faults), stdin=script)
 
 
 def socket_in(folder: str) -> None:
@@ -89,36 +79,16 @@ CASES = [
           (b"", SHORT), (b"\5\1", BEGINS_AS_KEYTAB), (b"\5\2", BEGINS_AS_KEYTAB), (b"\4\4", BEGINS_AS_NO_CACHE),
           (b"\5\4\0", BAD_HEADER), (b"\5\3", BAD_DEFAULT))
       for line, stdin in (("klist", b""), *CHANGING)),
-    # What is refused.
-    *(case(f"{line}: refused {number}", line, image, (f"k: refused {number}", code(number, line.split()[0])))
-      for line, image, number in (
-          ("ktfind k 0 0 c@R", TWO, 9), ("ktfind k 4 0 b@R", TWO, 10), ("ktfind k 3 0 b@R", CUT, 1),
-          ("ktremove -k 4 k", TWO, 9), ("ktremove -k old k", CUT, 1), ("ccremove -p c@R k", USUAL, 9),
-          ("ccremove -p c@R --expired k", USUAL, 9), ("ccremove --expired k", CUT_CACHE, 1),
-          ("ccremove --expired k", VERSION_3, 8))),
-    case("ccremove: nothing to do", "ccremove --expired k", cache(), status=0),
-    talk(b"rkt k\n", CUT, (1, "refused 1", code(1))),
-    talk(WRITE, CUT, (3, "refused 1", code(1))),
+    # What is refused for its length.
     talk(f"addent -key -p {'x' * 65_536}@R -k 3 -e 17\n{KEY}\nwkt k\n".encode(), None, (3, "refused 2", code(2))),
     lambda: talk(WRITE, keytab(record(HOST.spelled().ljust(LIMIT - 6, b"\0"))), (3, "refused 3", code(3))),
-    # A mode alone has its word, and no hint.
-    case("ktcheck: a group that may read", "ktcheck k", TWO, ("", f"mode: {FINDINGS['mode']}"), status=0,
-         setting=lambda folder: os.chmod(os.path.join(folder, "k"), 0o640)),
-    # Faulty lines of scripts and of ktutil: the first of each fault.
-    *(case(f"{command}: {line!r}", f"{command} k", image, (f"line 2: fault {number}", line_fault(number)),
-           stdin=f"start\n{line}\n".encode())
-      for command, image, faults in (("ktedit", TWO, LINE_FAULTS), ("ccedit", USUAL, CACHE_FAULTS))
-      for number, line in {fault: line for line, fault in reversed(faults.items())}.items()),
-    *(faulty_talk(line, number) for number, line in {
-        fault: line for line, fault in reversed(TALK_FAULTS.items())}.items()),
+    # Faulty lines of ktutil.
     faulty_talk("rkt \udcff", 8),
     *(faulty_talk(line, 1, SEE_HELP) for line in ("?", "help", "lr", "list_requests", " help\tlist")),
     *(faulty_talk(line, 1) for line in ("HELP", "helps", "\\?")),
     *(faulty_talk(line, 2, NO_PASSWORDS)
       for line in ("addent -password -p b@R -k 3 -e 17", "add_entry -p b@R -k 3 -e 17 -password")),
     *(faulty_talk(line, 2) for line in ("rkt -password k", "addent -Password -p b@R -k 3 -e 17", "l -password")),
-    talk(f"{ADDENT}00\nx\n".encode(), None,
-         *((at, f"fault {number}", line_fault(number, "ktutil")) for at, number in ((2, 5), (3, 1)))),
     # What is shown of an unknown first word, and that of a line of the other kind: `add` has hexadecimal digits alone.
     *(case(f"{command}: {line!r}", f"{command} k", image, ("line 3: fault 1", phrase), stdin=b"start\n\n" + line)
       for command, image, other in (("ktedit", TWO, {b"config k - v": unknown("config")}),
@@ -130,31 +100,11 @@ CASES = [
     failed(("klist", "-k", "l"), "read", "ELOOP", TWO, setting=link("l")),
     failed(("klist", "-k", "s"), "read", f"error {ENXIO}", TWO, setting=socket_in),
     failed(("ktedit", "l"), "write", "bad link", None, stdin=ADD, setting=link(b"\xff")),
-    *(case(f"wkt of no entry over {image}", "ktutil", image, ("", f"line 1: {NO_ENTRY.replace('NAME', 'k')}"),
-           stdin=b"wkt k\n", status=0, after={"k": image or keytab()})
-      for image in (None, keytab(), keytab(41), b"\5\2\0")),
-    case("wkt of no entry over two", "ktutil", TWO, stdin=b"wkt k\n", status=0),
-    # Faults of damaged files, which stand in the listing, and replies of scripts.
-    *(case(f"listed: fault {number}", line, image, ("", f"k: fault {number} at {at}"), ("", FAULTS[number]))
-      for number, line, image, at in (
-          (1, "klist -k k", CUT, 98), (2, "klist -k k", TWO + b"\x7f\xff\xff\xff", 98),
-          (3, "klist -k k", keytab(record(bytes(3))), 2), (4, "klist k", CUT_CACHE, 392))),
-    replies("ktedit", TWO, b"step 7\ncut 3\nresume 3\ncut 4\nstep 7\n", (4, 5, 6)),
-    replies("ktedit", TWO, b"start\n" * 1_025, (7,)),
-    replies("ktedit", CUT, b"resume 98\nstep 0\ncut 2\nstep 0\n", (1,), 1),
-    replies("ccedit", USUAL, b"step 7\ncut 3\nresume 3\ncut 284\nstep 7\n", (4, 5, 6)),
-    replies("ccedit", CUT_CACHE, b"resume 392\nstep 0\ncut 40\nconfig k - v\nrewrite\nstep 0\n", (1,), 4),
-    replies("ccedit", VERSION_3[:-1], b"start\nstep 0\ncut 20\nconfig k - v\nrewrite\n", (1, 8), 4),
-    lambda: replies("ccedit", cache(long_ticket(LIMIT - 22)), b"config k - v\n", (3,)),
-    # Messages about either keytab of a copy; its clashes are explained once.
-    copy("", b"\5\4", None, no_keytab(BEGINS_AS_CACHE)),
-    copy("", TWO, b"\5\4", no_keytab(BEGINS_AS_CACHE, "t")),
-    copy("", b"", TWO, no_keytab(SHORT)),
-    copy("", TWO, TWO[:-1], ("t: refused 1", code(1))),
+    # What depends on a size: walks, and changes for which there is no room.
+    case("ktedit: walks", "ktedit k", TWO, ("", f"refused 7: {code(7)}"), stdin=b"start\n" * 1_025),
+    lambda: case("ccedit: no room", "ccedit k", cache(long_ticket(LIMIT - 22)), ("", f"refused 3: {code(3)}"),
+                 stdin=b"config k - v\n"),
     lambda: copy("", TWO, keytab(record(B.spelled().ljust(LIMIT - 6, b"\0"))), ("t: refused 3", code(3))),
-    copy("", keytab(B, OTHER, OTHER), None, ("", f"clash: {CLASH}"), ("", TO_REPLACE),
-         out=[f"clash 47 2 {Y}", f"clash 92 2 {Y}"]),
-    copy("-n --replace -p b@R", TWO, keytab(OTHER), status=0, out=[f"removed 2 {Y}", f"copied 2 {Y}"]),
     # Large scripts.
     *(partial(case, f"{command}: a large script", f"{command} k", None, ("input too large", LARGE),
               stdin=bytes(LIMIT + 1)) for command in ("ktedit", "ccedit")),

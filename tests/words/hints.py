@@ -85,11 +85,6 @@ CASES = [
     *(check_up("k", {"k": weak(17, number)}, "weak", f"{SEE} -e {name} k") for number, name in WEAK.items()),
     *(check_up("k", {"k": weak(*order)}, "weak", EACH)
       for order in (WEAK, reversed(WEAK), (8, 16, 5, 24, 1, 4, 8, 2, 23, 18, 1, 3, 6))),
-    # Words, the fault, hints; of the entries before the fault.
-    check_up("k", {"k": keytab(weak(23)[2:], record(bytes(10)), weak(3)[2:])}, "weak", "k: fault 3 at 47", FAULTS[3],
-             f"{RC4}k"),
-    check_up("k", {"k": ALL + b"\0"}, "weak", "same", "old", f"k: fault 1 at {len(ALL)}", FAULTS[1], f"{OLD}k",
-             f"{RC4}k", f"{ONCE}k NEW"),
     # A newline in a name makes no line of its own.
     check_up(("new\nline",), {"new\nline": keytab(weak(23)[2:], record(bytes(10)))}, "weak",
              "new\\x0aline: fault 3 at 47", FAULTS[3]),
