@@ -5,8 +5,6 @@ import os
 import stat
 import subprocess
 import tempfile
-import time
-from collections.abc import Callable
 from contextlib import contextmanager
 from dataclasses import dataclass, field, replace
 
@@ -184,11 +182,3 @@ def faults_of(case: Case, got: Outcome, after: dict[str, bytes]) -> list[str]:
         if after.get(name) != wanted.get(name):
             found.append(f"file {name} is not as it should be")
     return found
-
-
-def faults_by_clock(program: str, case_at: Callable[[int], Case]) -> list[str]:
-    """Returns the faults of a run that depends on the clock: the program read the time while it ran."""
-    before = int(time.time())
-    got = run_case(program, case_at(before))
-    tried = [faults_of(case_at(now), *got) for now in range(before, int(time.time()) + 1)]
-    return min(tried, key=len)
