@@ -2,7 +2,6 @@
 use Rattle.std.specs.Prelude.{ℕ, List, [], ◌∷◌, ◌++◌, length, map, find, Bool, not, ◌&&◌, ◌||◌, ◌==◌, nat_le, nat_lt, if◌then◌else◌, Option, None, Some, option_map, option_and_then}
 use Rattle.std.specs.List.{list_any, range_with_len}
 use Rattle.std.specs.Str.{bytes_eq}
-use Rattle.krb_wire.specs.SameName.{have_same_name}
 use Rattle.krb_keytab.specs.Entry.{EntryParts}
 use Rattle.krb_keytab.specs.Find.{PlacedEntry, placed_entries}
 use Rattle.krb_keytab.specs.Store.{KeytabState}
@@ -11,6 +10,7 @@ use Rattle.krb_audit.specs.declared.marks.Alike.{Alike}
 use Rattle.krb_audit.specs.declared.marks.Marks.{Marks}
 use Rattle.krb_audit.specs.declared.weak_etypes.WeakEtypes.{WeakEtypes}
 use Rattle.krb_audit.specs.Newest.{is_old}
+use Rattle.krb_audit.specs.Twins.{are_twins}
 
 -- a count or a length with which MIT's programs read no entry
 abbrev pub is_out : ℕ → Bool
@@ -40,7 +40,7 @@ hides_added k added = option_and_then (hidden_at added) (hidden_from k)
 
 -- the second entry has the name, the kvno and the enctype of the first
 abbrev pub is_alike : PlacedEntry → PlacedEntry → Bool
-is_alike x y = have_same_name x.1.principal y.1.principal && (x.1.version == y.1.version && x.1.enctype == y.1.enctype)
+is_alike x y = are_twins x.1 y.1
 
 -- what a later entry `x` that is alike reports of an entry `y`: its place, and whether it has the same key
 abbrev pub as_alike : PlacedEntry → PlacedEntry → Alike

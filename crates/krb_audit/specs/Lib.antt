@@ -1,3 +1,4 @@
+pub mod Twins
 pub mod Newest
 pub mod Selection
 pub mod Tickets

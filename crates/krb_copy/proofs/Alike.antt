@@ -1,12 +1,8 @@
 -- Twins are alike in the same way in both directions and over three entries.
 use Rattle.krb_copy.proofs.Cited.{Bool, true, false, refl, ◌≡◌, ◌&&◌, EntryParts, are_twins, are_same}
 use Rattle.std.specs.Cmp.{IsEquivalence}
-use Rattle.std.proofs.lemmas.Cmp.{nat_eq_equiv, on_equiv, and_equiv, nat_list_eq_equiv, lists_equiv}
-use Rattle.krb_wire.specs.Spelling.{Parts}
-use Rattle.krb_wire.specs.SameName.{have_same_name}
-
-names_equiv : IsEquivalence have_same_name
-names_equiv = and_equiv (on_equiv (λ (p : Parts). p.realm) nat_list_eq_equiv) (on_equiv (λ (p : Parts). p.components) (lists_equiv nat_list_eq_equiv))
+use Rattle.std.proofs.lemmas.Cmp.{nat_eq_equiv, on_equiv, and_equiv, nat_list_eq_equiv}
+use Rattle.krb_audit.proofs.FirstNumbers.{same_equiv as names_equiv}
 
 pub twins_equiv : IsEquivalence are_twins
 twins_equiv = and_equiv (on_equiv (λ (x : EntryParts). x.principal) names_equiv) (and_equiv (on_equiv (λ (x : EntryParts). x.version) nat_eq_equiv) (on_equiv (λ (x : EntryParts). x.enctype) nat_eq_equiv))

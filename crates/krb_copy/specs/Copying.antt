@@ -8,7 +8,7 @@ use Rattle.krb_keytab.specs.Find.{PlacedEntry, placed_entries}
 use Rattle.krb_keytab.specs.Store.{KeytabState}
 use Rattle.krb_keytab.specs.Changes.{put_result, without}
 use Rattle.krb_text.specs.Found.{placed_line, removed_line}
-use Rattle.krb_copy.specs.Twins.{are_twins, are_same}
+use Rattle.krb_audit.specs.Twins.{are_twins, are_same}
 
 -- ---- what becomes of an entry
 

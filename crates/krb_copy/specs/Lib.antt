@@ -1,4 +1,3 @@
-pub mod Twins
 pub mod Copying
 pub mod Laws
 -- For private contracts alone.
