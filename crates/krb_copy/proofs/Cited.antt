@@ -10,7 +10,7 @@ pub use Rattle.std.specs.Str.{bytes_eq}
 pub use Rattle.krb_copy.specs.Classes.{ClassKey, AreClasses, class_cmp}
 pub use Rattle.krb_copy.specs.Copying.{as_found, run_over, Copy, Held, step_of, Clash, Run, There, run_after, run_start, with_copy, go_on, has_lines, run_added, Step, as_copied, twins, step_among}
 unfoldable pub use Rattle.krb_copy.specs.Copying.{copy_run}
-pub use Rattle.krb_copy.specs.Texts.{entry_texts, AreTexts}
+pub use Rattle.krb_copy.specs.Texts.{entry_texts, name_texts, AreTexts}
 pub use Rattle.krb_audit.specs.Twins.{are_twins, are_same}
 pub use Rattle.krb_copy.specs.declared.class.Class.{Class}
 pub use Rattle.krb_keytab.specs.Changes.{put_result, without}

@@ -5,9 +5,9 @@ use Rattle.std.specs.BTreeMap.{get}
 use Rattle.std.proofs.lemmas.List.{map_push}
 use Rattle.std.proofs.lemmas.List.Elements.{filter-append, filter_agree}
 use denote.Ref.{Bor}
-use Rattle.krb_copy.specs.declared.class.Entries.TheVariants.{One}
+use Rattle.krb_copy.specs.declared.class.Class.TheVariants.{Found, Kept}
 use Rattle.krb_copy.specs.Copying.{is_kept}
-use Rattle.krb_copy.specs.Classes.{HaveClass, IsClass, IsClassKey, has_key, places_in, step_at}
+use Rattle.krb_copy.specs.Classes.{HaveClass, IsClass, IsClassKey, has_key, places_of, stays, step_at}
 use Rattle.krb_copy.proofs.Alike.{twins_equiv}
 use Rattle.krb_copy.proofs.ClassKeys.{classes_agree}
 
@@ -117,30 +117,30 @@ pub none_is : {A : Type 0} (before : List EntryParts) (held : List Held) (x : En
 none_is before held x k m classes of_x none = subst (HaveClass before (twins x held)) none (classes x k of_x)
 
 -- of one entry
-of_one : {A : Type 0} (before : List EntryParts) (h : Held) (key : Bor (List ℕ)) (c : Class A) → c.entries ≡ One h.place key → key.now ≡ h.entry.key → c.stays ≡ is_kept before h → IsClass before (h ∷ []) c
-of_one before h key c is key_is stays = record {
-  places = ap places_in is;
-  keys = λ k. ap (λ es. has_key es k) is ∙ ap (bytes_eq k) key_is ∙ sym (or_none (bytes_eq k h.entry.key));
-  stays = stays ∙ sym (or_none (is_kept before h));
+of_one : {A : Type 0} (before : List EntryParts) (h : Held) (key : Bor (List ℕ)) (c : Class A) → places_of c ≡ h.place ∷ [] → ((k : List ℕ) → has_key c k ≡ bytes_eq k key.now) → key.now ≡ h.entry.key → stays c ≡ is_kept before h → IsClass before (h ∷ []) c
+of_one before h key c places keys key_is kept = record {
+  places = places;
+  keys = λ k. keys k ∙ ap (bytes_eq k) key_is ∙ sym (or_none (bytes_eq k h.entry.key));
+  kept = kept ∙ sym (or_none (is_kept before h));
 }
 
 -- of one entry more, which does not stay
-of_more : {A : Type 0} (before : List EntryParts) (held : List Held) (h : Held) (key : Bor (List ℕ)) (old new : Class A) → IsClass before held old → places_in new.entries ≡ places_in old.entries ++ h.place ∷ []
-    → ((k : List ℕ) → has_key new.entries k ≡ (has_key old.entries k || bytes_eq k key.now)) → key.now ≡ h.entry.key → new.stays ≡ old.stays → is_kept before h ≡ false → IsClass before (held ++ h ∷ []) new
-of_more before held h key old new c places keys key_is stays goes = record {
+of_more : {A : Type 0} (before : List EntryParts) (held : List Held) (h : Held) (key : Bor (List ℕ)) (old new : Class A) → IsClass before held old → places_of new ≡ places_of old ++ h.place ∷ []
+    → ((k : List ℕ) → has_key new k ≡ (has_key old k || bytes_eq k key.now)) → key.now ≡ h.entry.key → stays new ≡ stays old → is_kept before h ≡ false → IsClass before (held ++ h ∷ []) new
+of_more before held h key old new c places keys key_is same goes = record {
   places = places ∙ ap (λ (ps : List ℕ). ps ++ h.place ∷ []) c.places ∙ sym (map_push (λ (g : Held). g.place) held h);
   keys = λ k. keys k ∙ ap (λ (b : Bool). b || bytes_eq k key.now) (c.keys k) ∙ ap (λ (b : List ℕ). list_any (λ g. bytes_eq k g.entry.key) held || bytes_eq k b) key_is
       ∙ ap (λ (b : Bool). list_any (λ g. bytes_eq k g.entry.key) held || b) (sym (or_none (bytes_eq k h.entry.key))) ∙ sym (list_any-append (λ g. bytes_eq k g.entry.key) held (h ∷ []));
-  stays = stays ∙ c.stays ∙ sym (list_any-append (is_kept before) held (h ∷ []) ∙ ap (λ (b : Bool). list_any (is_kept before) held || (b || false)) goes ∙ or_none (list_any (is_kept before) held));
+  kept = same ∙ c.kept ∙ sym (list_any-append (is_kept before) held (h ∷ []) ∙ ap (λ (b : Bool). list_any (is_kept before) held || (b || false)) goes ∙ or_none (list_any (is_kept before) held));
 }
 
 -- of the same entries, of which one stays iff one stayed before
 unchanged : {A : Type 0} (before before' : List EntryParts) (held held' : List Held) (o : Option (Class A)) → held' ≡ held → list_any (is_kept before') held ≡ list_any (is_kept before) held → HaveClass before held o → HaveClass before' held' o
-unchanged before before' held held' None same stays none = same ∙ none
-unchanged before before' held held' (Some c) same stays is = record {
+unchanged before before' held held' None same same_kept none = same ∙ none
+unchanged before before' held held' (Some c) same same_kept is = record {
   places = is.places ∙ ap (map (λ (h : Held). h.place)) (sym same);
   keys = λ k. is.keys k ∙ ap (list_any (λ h. bytes_eq k h.entry.key)) (sym same);
-  stays = is.stays ∙ sym stays ∙ ap (list_any (is_kept before')) (sym same);
+  kept = is.kept ∙ sym same_kept ∙ ap (list_any (is_kept before')) (sym same);
 }
 
 -- ---- one class of all
@@ -171,22 +171,27 @@ found_leaves : (held : List Held) (x : EntryParts) (place : ℕ) → Leaves [] [
 found_leaves held x place y apart = (twins_more y held (as_found (place, x)) false (other x y apart) ∙ append-nil (twins y held), refl)
 
 -- it is the first of its class
-pub first_found : {A : Type 0} (held : List Held) (x : EntryParts) (place : ℕ) (k : ClassKey) (key : Bor (List ℕ)) (old new : BTreeMap ClassKey (Class A)) (c : Class A) → AreClasses [] held old → IsClassKey x k → key.now ≡ x.key → get class_cmp old k ≡ None
-    → ((q : ClassKey) → get class_cmp new q ≡ cond (is_eq (class_cmp k q)) (Some c) (get class_cmp old q)) → c.entries ≡ One place key → c.stays ≡ false → AreClasses [] (held ++ as_found (place, x) ∷ []) new
-first_found held x place k key old new c classes of_x key_is none updates entries stays =
+pub first_found : {A : Type 0} (held : List Held) (x : EntryParts) (place : ℕ) (k : ClassKey) (key : Bor (List ℕ)) (old new : BTreeMap ClassKey (Class A)) (c : Class A) → c ≡ Found place key → AreClasses [] held old → IsClassKey x k → key.now ≡ x.key → get class_cmp old k ≡ None
+    → ((q : ClassKey) → get class_cmp new q ≡ cond (is_eq (class_cmp k q)) (Some c) (get class_cmp old q)) → AreClasses [] (held ++ as_found (place, x) ∷ []) new
+first_found held x place k key old new c is classes of_x key_is none updates =
     let h = as_found (place, x) in
     let alone : twins x (held ++ h ∷ []) ≡ h ∷ [] = twins_more x held h true (twins_equiv.refl x) ∙ ap (λ (hs : List Held). hs ++ h ∷ []) (none_is [] held x k old classes of_x none) in
-    updated [] [] held (held ++ h ∷ []) x k old new c of_x updates (subst (λ (hs : List Held). IsClass [] hs c) (sym alone) (of_one [] h key c entries key_is stays)) (found_leaves held x place) classes
+    updated [] [] held (held ++ h ∷ []) x k old new c of_x updates (subst (λ (hs : List Held). IsClass [] hs c) (sym alone) (of_one [] h key c (ap places_of is) (λ q. ap (λ d. has_key d q) is) key_is (ap stays is))) (found_leaves held x place) classes
 
--- its class has one already
-pub next_found : {A : Type 0} (held : List Held) (x : EntryParts) (place : ℕ) (k : ClassKey) (key : Bor (List ℕ)) (old new : BTreeMap ClassKey (Class A)) (was c : Class A) → AreClasses [] held old → IsClassKey x k → key.now ≡ x.key → get class_cmp old k ≡ Some was
-    → ((q : ClassKey) → get class_cmp new q ≡ cond (is_eq (class_cmp k q)) (Some c) (get class_cmp old q)) → places_in c.entries ≡ places_in was.entries ++ place ∷ []
-    → ((k : List ℕ) → has_key c.entries k ≡ (has_key was.entries k || bytes_eq k key.now)) → c.stays ≡ was.stays → AreClasses [] (held ++ as_found (place, x) ∷ []) new
-next_found held x place k key old new was c classes of_x key_is some updates places keys stays =
+cond_twice : {X : Type 0} (b : Bool) (x y z : X) → cond b x (cond b y z) ≡ cond b x z
+cond_twice true x y z = refl
+cond_twice false x y z = refl
+
+-- its class has one already, which it takes the place of until it is added to it
+pub next_found : {A : Type 0} (held : List Held) (x : EntryParts) (place : ℕ) (k : ClassKey) (key : Bor (List ℕ)) (old mid new : BTreeMap ClassKey (Class A)) (was c other : Class A) → AreClasses [] held old → IsClassKey x k → key.now ≡ x.key → get class_cmp old k ≡ Some was
+    → ((q : ClassKey) → get class_cmp mid q ≡ cond (is_eq (class_cmp k q)) (Some other) (get class_cmp old q)) → ((q : ClassKey) → get class_cmp new q ≡ cond (is_eq (class_cmp k q)) (Some c) (get class_cmp mid q))
+    → places_of c ≡ places_of was ++ place ∷ [] → ((k : List ℕ) → has_key c k ≡ (has_key was k || bytes_eq k key.now)) → stays c ≡ stays was → AreClasses [] (held ++ as_found (place, x) ∷ []) new
+next_found held x place k key old mid new was c other classes of_x key_is some first then places keys kept =
     let h = as_found (place, x) in
     let before = class_is [] held x k old was classes of_x some in
-    updated [] [] held (held ++ h ∷ []) x k old new c of_x updates
-    (subst (λ (hs : List Held). IsClass [] hs c) (sym (twins_more x held h true (twins_equiv.refl x))) (of_more [] (twins x held) h key was c before places keys key_is stays refl))
+    updated [] [] held (held ++ h ∷ []) x k old new c of_x
+    (λ q. then q ∙ ap (cond (is_eq (class_cmp k q)) (Some c)) (first q) ∙ cond_twice (is_eq (class_cmp k q)) (Some c) (Some other) (get class_cmp old q))
+    (subst (λ (hs : List Held). IsClass [] hs c) (sym (twins_more x held h true (twins_equiv.refl x))) (of_more [] (twins x held) h key was c before places keys key_is kept refl))
     (found_leaves held x place) classes
 
 -- ---- the step of an entry
@@ -231,12 +236,12 @@ asked_leaves before held x y apart = (refl, kept_others before x y held apart)
 
 -- it is there: one of its class stays
 pub after_there : {A : Type 0} (replace : Bool) (before : List EntryParts) (held : List Held) (x : EntryParts) (k : ClassKey) (old new : BTreeMap ClassKey (Class A)) (was c : Class A) → AreClasses before held old → IsClassKey x k → step_of replace before held x ≡ There → get class_cmp old k ≡ Some was
-    → ((q : ClassKey) → get class_cmp new q ≡ cond (is_eq (class_cmp k q)) (Some c) (get class_cmp old q)) → c.entries ≡ was.entries → c.stays ≡ true → AreClasses (before ++ x ∷ []) held new
-after_there replace before held x k old new was c classes of_x step some updates entries stays =
+    → ((q : ClassKey) → get class_cmp new q ≡ cond (is_eq (class_cmp k q)) (Some c) (get class_cmp old q)) → places_of c ≡ places_of was → ((key : List ℕ) → has_key c key ≡ has_key was key) → stays c ≡ true → AreClasses (before ++ x ∷ []) held new
+after_there replace before held x k old new was c classes of_x step some updates places keys kept =
     let is = class_is before held x k old was classes of_x some in
-    let kept : list_any (is_kept (before ++ x ∷ [])) (twins x held) ≡ true = kept_twins before x held ∙ ap (λ (b : Bool). list_any (is_kept before) (twins x held) || b) (is_there replace before held x step) ∙ or_true (list_any (is_kept before) (twins x held)) in
+    let one_stays : list_any (is_kept (before ++ x ∷ [])) (twins x held) ≡ true = kept_twins before x held ∙ ap (λ (b : Bool). list_any (is_kept before) (twins x held) || b) (is_there replace before held x step) ∙ or_true (list_any (is_kept before) (twins x held)) in
     updated before (before ++ x ∷ []) held held x k old new c of_x updates
-    (record { places = ap places_in entries ∙ is.places; keys = λ key. ap (λ es. has_key es key) entries ∙ is.keys key; stays = stays ∙ sym kept }) (asked_leaves before held x) classes
+    (record { places = places ∙ is.places; keys = λ key. keys key ∙ is.keys key; kept = kept ∙ sym one_stays }) (asked_leaves before held x) classes
 
 -- an entry without twins is not there
 pub none_there : {A : Type 0} (replace : Bool) (before : List EntryParts) (held : List Held) (x : EntryParts) (k : ClassKey) (m : BTreeMap ClassKey (Class A)) → AreClasses before held m → IsClassKey x k → step_of replace before held x ≡ There → get class_cmp m k ≡ None → ⊥
@@ -254,9 +259,9 @@ after_clash replace before held x twin m classes step y q of_y =
     unchanged before (before ++ x ∷ []) (twins y held) (twins y held) (get class_cmp m q) refl (clash_leaves before held x y (are_twins x y) refl (not_there replace before held x twin step)) (classes y q of_y)
 
 -- it is copied: it is the only one of its class, and stays
-pub after_copy : {A : Type 0} (before : List EntryParts) (held : List Held) (x : EntryParts) (place : ℕ) (k : ClassKey) (key : Bor (List ℕ)) (old new : BTreeMap ClassKey (Class A)) (c : Class A) → AreClasses before held old → IsClassKey x k → key.now ≡ x.key
-    → ((q : ClassKey) → get class_cmp new q ≡ cond (is_eq (class_cmp k q)) (Some c) (get class_cmp old q)) → c.entries ≡ One place key → c.stays ≡ true → AreClasses (before ++ x ∷ []) (with_copy held x place) new
-after_copy before held x place k key old new c classes of_x key_is updates entries stays =
+pub after_copy : {A : Type 0} (before : List EntryParts) (held : List Held) (x : EntryParts) (place : ℕ) (k : ClassKey) (key : Bor (List ℕ)) (old new : BTreeMap ClassKey (Class A)) (c : Class A) → c ≡ Kept place key → AreClasses before held old → IsClassKey x k → key.now ≡ x.key
+    → ((q : ClassKey) → get class_cmp new q ≡ cond (is_eq (class_cmp k q)) (Some c) (get class_cmp old q)) → AreClasses (before ++ x ∷ []) (with_copy held x place) new
+after_copy before held x place k key old new c is classes of_x key_is updates =
     updated before (before ++ x ∷ []) held (with_copy held x place) x k old new c of_x updates
-    (subst (λ (hs : List Held). IsClass (before ++ x ∷ []) hs c) (sym (copy_alone x x held place (twins_equiv.refl x))) (of_one (before ++ x ∷ []) (as_copied place x) key c entries key_is stays))
+    (subst (λ (hs : List Held). IsClass (before ++ x ∷ []) hs c) (sym (copy_alone x x held place (twins_equiv.refl x))) (of_one (before ++ x ∷ []) (as_copied place x) key c (ap places_of is) (λ q. ap (λ d. has_key d q) is) key_is (ap stays is)))
     (λ y apart. (copy_apart x y held place apart, kept_others before x y held apart)) classes

@@ -1,5 +1,5 @@
 -- A pass over the entries of a keytab: those so far, and those still to come.
-use Rattle.krb_copy.proofs.Cited.{◌≡◌, ℕ, ◌+◌, ◌<◌, List, [], ◌∷◌, ◌++◌, length, take, sym, ap, subst, ◌∙◌, append_assoc, map, append-nil, BTreeMap, name_text, PlacedEntry, AreClasses, ClassKey, Held, as_found, AreTexts, entry_texts, Class}
+use Rattle.krb_copy.proofs.Cited.{name_texts, ◌≡◌, ℕ, ◌+◌, ◌<◌, List, [], ◌∷◌, ◌++◌, length, take, sym, ap, subst, ◌∙◌, append_assoc, map, append-nil, BTreeMap, name_text, PlacedEntry, AreClasses, ClassKey, Held, as_found, AreTexts, entry_texts, Class}
 use Rattle.std.proofs.Common.{get_or}
 use Rattle.std.proofs.lemmas.List.{map_push, take_more}
 use Rattle.std.proofs.lemmas.List.Concat.{flat_map-append}
@@ -24,10 +24,10 @@ one_appended all rest next x bytes lens bytes' lens' a steps texts = record {
   texts = subst (λ ts. AreTexts ts bytes' lens') (sym (one_more a.before x)) texts;
 }
 
--- those of one more entry asked for
-pub one_asked : (ts : List (List ℕ)) (asked : List PlacedEntry) (i : ℕ) (x : PlacedEntry) → i < length asked → x ≡ get_or asked i x → (ts ++ entry_texts (take i asked)) ++ name_text x.1.principal ∷ x.1.key ∷ [] ≡ ts ++ entry_texts (take (i + 1) asked)
-one_asked ts asked i x lt here = append_assoc ts (entry_texts (take i asked)) (name_text x.1.principal ∷ x.1.key ∷ [])
-    ∙ ap (λ (more : List (List ℕ)). ts ++ more) (sym (one_more (take i asked) x) ∙ ap entry_texts (ap (λ (y : PlacedEntry). take i asked ++ y ∷ []) here ∙ sym (take_more asked i x lt)))
+-- one more name of those asked for
+pub one_asked : (ts : List (List ℕ)) (asked : List PlacedEntry) (i : ℕ) (x : PlacedEntry) → i < length asked → x ≡ get_or asked i x → (ts ++ name_texts (take i asked)) ++ name_text x.1.principal ∷ [] ≡ ts ++ name_texts (take (i + 1) asked)
+one_asked ts asked i x lt here = append_assoc ts (name_texts (take i asked)) (name_text x.1.principal ∷ [])
+    ∙ ap (λ (names : List (List ℕ)). ts ++ names) (sym (map_push (λ (y : PlacedEntry). name_text y.1.principal) (take i asked) x) ∙ ap name_texts (ap (λ (y : PlacedEntry). take i asked ++ y ∷ []) here ∙ sym (take_more asked i x lt)))
 
 -- the classes are those of the entries so far, and the texts those of the others
 pub record AreFound {A : Type 0} (all rest : List PlacedEntry) (more : List (List ℕ)) (classes : BTreeMap ClassKey (Class A)) (bytes lens : List ℕ) : Type 0 where

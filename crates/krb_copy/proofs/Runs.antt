@@ -1,5 +1,5 @@
 -- A run and its definition, entry by entry.
-use Rattle.krb_copy.proofs.Cited.{◌≡◌, ℕ, ◌+◌, ◌<◌, Bool, true, false, cond, List, [], ◌∷◌, ◌++◌, length, drop, Result, Ok, Err, refl, sym, ap, subst, ◌∙◌, map, Code, PlacedEntry, placed_entries, KeytabState, put_result, without, Run, Copy, as_found, step_of, with_copy, run_after, run_added, has_lines, run_over, run_start, copy_run, go_on, AreClasses, AreTexts, entry_texts}
+use Rattle.krb_copy.proofs.Cited.{◌≡◌, ℕ, ◌+◌, ◌<◌, Bool, true, false, cond, List, [], ◌∷◌, ◌++◌, length, drop, Result, Ok, Err, refl, sym, ap, subst, ◌∙◌, map, Code, PlacedEntry, placed_entries, KeytabState, put_result, without, Run, Copy, as_found, step_of, with_copy, run_after, run_added, has_lines, run_over, run_start, copy_run, go_on, AreClasses, AreTexts, name_texts}
 use Rattle.std.proofs.Common.{get_or}
 use Rattle.std.proofs.lemmas.List.{drop_more}
 use Rattle.krb_walk.specs.declared.refusal.Refusal.{Refusal}
@@ -17,7 +17,7 @@ refusal_is due given old new k k' NoMemory same untold gives = tt
 -- an entry that is copied
 pub copied_run : {A : Type 0} (run : Run) (x : PlacedEntry) (asked : List PlacedEntry) (replace : Bool) (places : List ℕ) (place : ℕ) (old : KeytabState) (new : Copying A) → old ≡ run.keytab
     → Copy places ≡ step_of replace run.before run.held x.1 → put_result (without old places) x.1 ≡ Ok (place, new.making.keytab.state) → new.making.text.items ≡ run.text ++ copied_lines x.1 places place → new.making.clashes.items ≡ run.clashes → new.making.places.items ≡ run.places ++ place ∷ []
-    → AreClasses (run.before ++ x.1 ∷ []) (with_copy run.held x.1 place) new.classes.map → AreTexts (entry_texts asked) new.texts.bytes.now new.texts.lens.now
+    → AreClasses (run.before ++ x.1 ∷ []) (with_copy run.held x.1 place) new.classes.map → AreTexts (name_texts asked) new.texts.bytes.now new.texts.lens.now
     → (next : Run) × (run_after run x (step_of replace run.before run.held x.1) ≡ Ok next) × IsRun next asked new
 copied_run run x asked replace places place old new keytab step added text clash to classes texts = (
   record { keytab = new.making.keytab.state; held = with_copy run.held x.1 place; before = run.before ++ x.1 ∷ []; text = run.text ++ copied_lines x.1 places place; clashes = run.clashes; places = run.places ++ place ∷ [] },
@@ -94,7 +94,7 @@ first_left due replace asked i x copying lt here w = subst (λ (ys : List Placed
 
 -- a run at its start
 pub starts : {A : Type 0} (k : KeytabState) (asked : List PlacedEntry) (copying : Copying A) → copying.making.keytab.state ≡ k → copying.making.text.items ≡ [] → copying.making.clashes.items ≡ [] → copying.making.places.items ≡ []
-    → AreClasses [] (map as_found (placed_entries k)) copying.classes.map → AreTexts (entry_texts asked) copying.texts.bytes.now copying.texts.lens.now → IsRun (run_start k) asked copying
+    → AreClasses [] (map as_found (placed_entries k)) copying.classes.map → AreTexts (name_texts asked) copying.texts.bytes.now copying.texts.lens.now → IsRun (run_start k) asked copying
 starts k asked copying keytab text clash to classes texts = record { keytab = keytab; text = text; clashes = clash; places = to; classes = classes; texts = texts }
 
 pub due_is : (replace by : Bool) (asked : List PlacedEntry) (k : KeytabState) → by ≡ replace → run_over by asked (run_start k) ≡ copy_run replace asked k

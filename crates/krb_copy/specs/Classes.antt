@@ -1,5 +1,5 @@
 -- What the keytab has of each class of twins during a run.
-use Rattle.std.specs.Prelude.{◌≡◌, ℕ, ◌+◌, ◌*◌, ◌<◌, List, [], ◌∷◌, length, map, Bool, ◌&&◌, not, Option, Some, None, if◌then◌else◌}
+use Rattle.std.specs.Prelude.{◌≡◌, ℕ, ◌+◌, ◌*◌, ◌<◌, List, [], ◌∷◌, length, map, Bool, true, false, ◌&&◌, not, Option, Some, None, if◌then◌else◌}
 use Rattle.std.specs.List.{list_any}
 use Rattle.std.specs.Str.{bytes_eq}
 use Rattle.std.specs.declared.cmp.Ordering.{Ordering}
@@ -12,9 +12,8 @@ use Rattle.krb_wire.specs.Names.{name_text}
 use Rattle.krb_keytab.specs.Entry.{EntryParts}
 use Rattle.krb_audit.specs.Hash.{hash_of}
 use Rattle.krb_copy.specs.Copying.{Held, twins, is_kept, Step, There, Clash, Copy}
-use Rattle.krb_copy.specs.declared.class.Entries.{Entries}
-use Rattle.krb_copy.specs.declared.class.Entries.TheVariants.{One, More}
 use Rattle.krb_copy.specs.declared.class.Class.{Class}
+use Rattle.krb_copy.specs.declared.class.Class.TheVariants.{Found, Kept, More}
 use Rattle.krb_copy.specs.declared.classes.Step.{Step as StepOf}
 use Rattle.krb_copy.specs.declared.classes.Step.TheVariants as step
 
@@ -25,20 +24,28 @@ abbrev pub has_among : BTreeSet (Bor (List ℕ)) → List ℕ → Bool
 has_among keys key = contains_by (λ k. slice_cmp nat_cmp key k.now) keys
 
 -- the places of its entries, in order
-abbrev pub places_in : {A : Type 0} → Entries A → List ℕ
-places_in (One place key) = place ∷ []
-places_in (More many) = many.value.places.items
+abbrev pub places_of : {A : Type 0} → Class A → List ℕ
+places_of (Found place key) = place ∷ []
+places_of (Kept place key) = place ∷ []
+places_of (More many) = many.value.places.items
 
 -- one of them has a key
-abbrev pub has_key : {A : Type 0} → Entries A → List ℕ → Bool
-has_key (One place first) key = bytes_eq key first.now
+abbrev pub has_key : {A : Type 0} → Class A → List ℕ → Bool
+has_key (Found place first) key = bytes_eq key first.now
+has_key (Kept place first) key = bytes_eq key first.now
 has_key (More many) key = has_among many.value.keys key
+
+-- one of them stays
+abbrev pub stays : {A : Type 0} → Class A → Bool
+stays (Found place key) = false
+stays (Kept place key) = true
+stays (More many) = many.value.stays
 
 -- it is that of these entries: their places, their keys, and whether one stays
 pub record IsClass {A : Type 0} (before : List EntryParts) (held : List Held) (class : Class A) : Type 0 where
-  pub places : places_in class.entries ≡ map (λ h. h.place) held
-  pub keys : (key : List ℕ) → has_key class.entries key ≡ list_any (λ h. bytes_eq key h.entry.key) held
-  pub stays : class.stays ≡ list_any (is_kept before) held
+  pub places : places_of class ≡ map (λ h. h.place) held
+  pub keys : (key : List ℕ) → has_key class key ≡ list_any (λ h. bytes_eq key h.entry.key) held
+  pub kept : stays class ≡ list_any (is_kept before) held
 
 -- entries have a class iff there are any
 abbrev pub HaveClass : {A : Type 0} → List EntryParts → List Held → Option (Class A) → Type 0

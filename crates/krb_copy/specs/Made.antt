@@ -7,7 +7,7 @@ use Rattle.krb_keytab.specs.Find.{PlacedEntry}
 use Rattle.krb_keytab.specs.Store.{KeytabState}
 use Rattle.krb_copy.specs.Copying.{Run, has_lines}
 use Rattle.krb_copy.specs.Classes.{AreClasses}
-use Rattle.krb_copy.specs.Texts.{AreTexts, entry_texts}
+use Rattle.krb_copy.specs.Texts.{AreTexts, name_texts}
 use Rattle.krb_copy.specs.declared.copy.Copying.{Copying}
 
 -- the lines, those of the clashes, and, if there are none of these, the places of the copies and the keytab are those of the run
@@ -33,7 +33,7 @@ pub record IsRun {A : Type 0} (run : Run) (asked : List PlacedEntry) (copying : 
   pub clashes : copying.making.clashes.items ≡ run.clashes
   pub places : copying.making.places.items ≡ run.places
   pub classes : AreClasses run.before run.held copying.classes.map
-  pub texts : AreTexts (entry_texts asked) copying.texts.bytes.now copying.texts.lens.now
+  pub texts : AreTexts (name_texts asked) copying.texts.bytes.now copying.texts.lens.now
 
 -- an addition is refused and adds no line, or memory ran out
 abbrev pub IsRefusal : {X : Type 0} → Result X Code → List ℕ → List ℕ → Refusal → Type 0

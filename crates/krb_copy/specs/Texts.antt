@@ -12,3 +12,7 @@ pub record AreTexts (texts : List (List ℕ)) (bytes lens : List ℕ) : Type 0 w
 -- the name and the key of each entry
 abbrev pub entry_texts : List PlacedEntry → List (List ℕ)
 entry_texts xs = flat_map (λ x. name_text x.1.principal ∷ x.1.key ∷ []) xs
+
+-- the name of each entry
+abbrev pub name_texts : List PlacedEntry → List (List ℕ)
+name_texts xs = map (λ x. name_text x.1.principal) xs

@@ -7,7 +7,7 @@ ghost use Rattle.krb_keytab.specs.Entry.{EntryParts};
 ghost use Rattle.krb_keytab.specs.Find.{placed_entries};
 ghost use Rattle.krb_copy.specs.Copying.{Held, as_found, step_of, with_copy};
 ghost use Rattle.krb_copy.specs.Copying as due;
-ghost use Rattle.krb_copy.specs.Classes.{AreClasses, IsClassKey, places_in, seen_step, step_at};
+ghost use Rattle.krb_copy.specs.Classes.{AreClasses, IsClassKey, places_of, seen_step, stays, step_at};
 ghost use Rattle.krb_copy.specs.Texts.{AreTexts, entry_texts};
 
 use crate::class::Class;
@@ -43,13 +43,13 @@ pub fn class_key<'t>(name: &'t [u8], entry: &EntryView<'_>) -> ClassKey<'t>
 
 // Returns what becomes of an entry whose key none of its class has.
 fn step_at<'a, A: Allocator + Copy>(replace: bool, class: &'a Class<'_, A>) -> Step<'a>
-    ensures { seen_step result ≡ step_at replace class.now.stays (places_in class.now.entries) }
+    ensures { seen_step result ≡ step_at replace (stays class.now) (places_of class.now) }
 {
     let places = class.places();
     let Some(first) = places.first() else {
         return Step::Copy(places);
     };
-    if replace && !class.stays {
+    if replace && !class.stays() {
         return Step::Copy(places);
     }
     Step::Clash(*first)
@@ -76,10 +76,12 @@ impl<'t, A: Allocator + Copy> Classes<'t, A> {
             → OnOk result (AreClasses [] (held ++ as_found (place, x) ∷ []) self.new.map) }
         ensures replace { self.new.replace ≡ self.old.replace }
     {
-        if let Some(class) = self.map.get_mut(&key) {
-            return class.push(alloc, place, secret);
-        }
-        let _ = self.map.insert(key, Class::found(place, secret))?;
+        let new = Class::Found(place, secret);
+        let Some(class) = self.map.insert(key, new)? else {
+            return Ok(());
+        };
+        let class = class.with(alloc, place, secret)?;
+        let _ = self.map.insert(key, class)?;
         Ok(())
     }
 
@@ -149,7 +151,7 @@ impl<'t, A: Allocator + Copy> Classes<'t, A> {
             → OnOk result (AreClasses (before ++ x ∷ []) (with_copy held x place) self.new.map) }
         ensures replace { self.new.replace ≡ self.old.replace }
     {
-        let _ = self.map.insert(key, Class::copied(place, secret))?;
+        let _ = self.map.insert(key, Class::Kept(place, secret))?;
         Ok(())
     }
 }

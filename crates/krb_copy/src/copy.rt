@@ -1,8 +1,9 @@
 //! Copying the entries asked for into a keytab.
 
-ghost use Rattle.std.specs.Prelude.{◌≡◌, ◌∷◌, List, IfOk, IfErr};
+ghost use Rattle.std.specs.Prelude.{◌≡◌, ◌∷◌, ◌++◌, List, IfOk, IfErr};
 ghost use Rattle.krb_keytab.specs.Find.{PlacedEntry, placed_entries};
 ghost use Rattle.krb_copy.specs.Copying.{Run, copy_run, has_lines, run_after, run_over, step_of};
+ghost use Rattle.krb_copy.specs.Texts.{AreTexts, entry_texts, name_texts};
 ghost use Rattle.krb_copy.specs.Made.{Ends, EndsBy, IsMade, IsRefusedBy, Meets, IsRun};
 
 use crate::classes::{Classes, Step, class_key};
@@ -24,7 +25,7 @@ pub struct Copied<A: Allocator> {
     pub keytab: Keytab<A>,
 }
 
-// A run, and the texts of the entries that it meets next.
+// A run, and the names of the entries that it meets next.
 #[derive(Drop)]
 struct Copying<'t, A: Allocator> {
     making: Making<A>,
@@ -34,15 +35,14 @@ struct Copying<'t, A: Allocator> {
 
 impl<'t, A: Allocator + Copy> Copying<'t, A> {
     // Copies the next entry after its twins are removed, adds the line of its clash, or does nothing.
-    fn meet(&mut self, alloc: A, place: u32, entry: &EntryView<'_>) -> Result<(), Refusal>
+    fn meet(&mut self, alloc: A, place: u32, entry: &EntryView<'t>) -> Result<(), Refusal>
         ensures meets { (run : Run) (asked : List PlacedEntry) → IsRun run ((place, entry.now) ∷ asked) self.old
             → Meets run asked (run_after run (place, entry.now)
             (step_of self.old.classes.replace run.before run.held entry.now)) result self.new }
         ensures replace { self.new.classes.replace ≡ self.old.classes.replace }
     {
         let key = class_key(self.texts.next(), entry);
-        let secret = self.texts.next();
-        match self.classes.step(&key, secret) {
+        match self.classes.step(&key, entry.key()) {
             Step::There => {
                 self.classes.keep(&key);
                 Ok(())
@@ -53,7 +53,7 @@ impl<'t, A: Allocator + Copy> Copying<'t, A> {
             }
             Step::Copy(places) => {
                 let place = self.making.copy(alloc, places, entry)?;
-                self.classes.set_copy(key, place, secret)?;
+                self.classes.set_copy(key, place, entry.key())?;
                 Ok(())
             }
         }
@@ -70,7 +70,7 @@ impl<'t, A: Allocator + Copy> Copying<'t, A> {
     }
 
     // Goes over the entries asked for.
-    fn go_over(&mut self, alloc: A, asked: &[(u32, EntryView<'_>)]) -> Result<(), Refusal>
+    fn go_over(&mut self, alloc: A, asked: &'t [(u32, EntryView<'t>)]) -> Result<(), Refusal>
         ensures { (run : Run) → IsRun run asked.now self.old
             → Ends (run_over self.old.classes.replace asked.now run) result self.new }
     {
@@ -83,21 +83,19 @@ impl<'t, A: Allocator + Copy> Copying<'t, A> {
     }
 }
 
-/// Copies the entries asked for, which have their places in another keytab, in order. One with name, kvno, enctype and
-/// key of an entry of the keytab is passed over. One with the name, kvno and enctype of others clashes, or with
-/// `replace` takes their place, unless one of these was copied before or has the key of an entry asked for before.
-/// Refused as an addition is; one that is refused after a clash ends the run. Takes time n log n in the bytes of both.
-pub fn copy_into<A: Allocator + Copy>(
+// Copies them, by the names and keys of the keytab's entries and the names of those asked for.
+fn copy_by<'t, A: Allocator + Copy>(
     alloc: A,
-    asked: &[(u32, EntryView<'_>)],
+    asked: &'t [(u32, EntryView<'t>)],
+    texts: &'t Texts<A>,
     to: Keytab<A>,
     replace: bool,
 ) -> Result<Copied<A>, Refusal>
+    requires { AreTexts (entry_texts (placed_entries to.state) ++ name_texts asked.now) texts.now.bytes.items texts.now.lens.items }
     ensures made { IfOk result (λ copied. IsMade (copy_run replace asked.now to.state)
         copied.text.items copied.clashes.items copied.places.items copied.keytab.state) }
     ensures refused { IfErr result (IsRefusedBy (copy_run replace asked.now to.state)) }
 {
-    let texts = Texts::of(alloc, &to, asked)?;
     let mut left = texts.left();
     let classes = Classes::of(alloc, &to, &mut left, replace)?;
     let Ok(keytab) = Indexed::of(alloc, to) else {
@@ -121,4 +119,22 @@ pub fn copy_into<A: Allocator + Copy>(
         places: copying.making.places,
         keytab: copying.making.keytab.into_keytab(),
     })
+}
+
+/// Copies the entries asked for, which have their places in another keytab, in order. One with name, kvno, enctype and
+/// key of an entry of the keytab is passed over. One with the name, kvno and enctype of others clashes, or with
+/// `replace` takes their place, unless one of these was copied before or has the key of an entry asked for before.
+/// Refused as an addition is; one that is refused after a clash ends the run. Takes time n log n in the bytes of both.
+pub fn copy_into<A: Allocator + Copy>(
+    alloc: A,
+    asked: &[(u32, EntryView<'_>)],
+    to: Keytab<A>,
+    replace: bool,
+) -> Result<Copied<A>, Refusal>
+    ensures made { IfOk result (λ copied. IsMade (copy_run replace asked.now to.state)
+        copied.text.items copied.clashes.items copied.places.items copied.keytab.state) }
+    ensures refused { IfErr result (IsRefusedBy (copy_run replace asked.now to.state)) }
+{
+    let texts = Texts::of(alloc, &to, asked)?;
+    copy_by(alloc, &*asked, &texts, to, replace)
 }

@@ -3,15 +3,15 @@
 ghost use Rattle.std.specs.Prelude.{◌≡◌, ◌∷◌, ◌++◌, [], ℕ, List, OnOk, IfOk};
 ghost use Rattle.krb_wire.specs.Names.{name_text};
 ghost use Rattle.krb_keytab.specs.Find.{placed_entries};
-ghost use Rattle.krb_copy.specs.Texts.{AreTexts, entry_texts};
+ghost use Rattle.krb_copy.specs.Texts.{AreTexts, entry_texts, name_texts};
 
 use krb_keytab::{EntryView, Keytab};
 use krb_text::append;
 use krb_wire::{NoMemory, write_name};
 use std::alloc::Allocator;
 
-// How many bytes a name's text and a key seldom exceed.
-const USUAL_LEN: usize = 72;
+// How many bytes a name's text seldom exceeds.
+const USUAL_LEN: usize = 40;
 
 /// Texts, one after another, and their lengths.
 #[derive(Drop)]
@@ -27,12 +27,10 @@ pub struct TextsLeft<'t> {
     lens: &'t [usize],
 }
 
-// Returns a capacity that most names and keys of a keytab and of `count` entries fit.
+// Returns a capacity that most names and keys of a keytab, and names of `count` entries, fit.
 fn usual_capacity<B: Allocator>(keytab: &Keytab<B>, count: usize) -> usize {
-    keytab
-        .image()
-        .len()
-        .saturating_add(count.saturating_mul(USUAL_LEN))
+    let len = keytab.image().len();
+    (len - len / 4).saturating_add(count.saturating_mul(USUAL_LEN))
 }
 
 impl<A: Allocator + Copy> Texts<A> {
@@ -60,25 +58,25 @@ impl<A: Allocator + Copy> Texts<A> {
         Ok(())
     }
 
-    // Appends those of entries asked for.
-    fn push_asked(&mut self, asked: &[(u32, EntryView<'_>)]) -> Result<(), NoMemory>
+    // Appends the names of entries.
+    fn push_names(&mut self, asked: &[(u32, EntryView<'_>)]) -> Result<(), NoMemory>
         ensures { (ts : List (List ℕ)) → AreTexts ts self.old.bytes.items self.old.lens.items
-            → OnOk result (AreTexts (ts ++ entry_texts asked.now) self.new.bytes.items self.new.lens.items) }
+            → OnOk result (AreTexts (ts ++ name_texts asked.now) self.new.bytes.items self.new.lens.items) }
     {
         'asked: for (_place, entry) in asked {
-            self.push_entry(entry)?;
+            self.push_name(entry)?;
         }
         Ok(())
     }
 
-    /// Returns those of the entries of a keytab, and of those asked for.
+    /// Returns the names and keys of a keytab's entries, and the names of those asked for.
     pub fn of<B: Allocator>(
         alloc: A,
         keytab: &Keytab<B>,
         asked: &[(u32, EntryView<'_>)],
     ) -> Result<Texts<A>, NoMemory>
         ensures { IfOk result (λ texts. AreTexts
-            (entry_texts (placed_entries keytab.now.state) ++ entry_texts asked.now) texts.bytes.items texts.lens.items) }
+            (entry_texts (placed_entries keytab.now.state) ++ name_texts asked.now) texts.bytes.items texts.lens.items) }
     {
         let mut texts = Texts {
             bytes: Vec::with_capacity(alloc, usual_capacity(keytab, asked.len()))?,
@@ -87,7 +85,7 @@ impl<A: Allocator + Copy> Texts<A> {
         'entries: for (_place, entry) in keytab.entries() {
             texts.push_entry(&entry)?;
         }
-        texts.push_asked(asked)?;
+        texts.push_names(asked)?;
         Ok(texts)
     }
 

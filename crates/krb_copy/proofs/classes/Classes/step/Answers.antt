@@ -1,5 +1,5 @@
 use Rattle.krb_copy.proofs.Cited.{sym, ap, ◌∙◌, true, false}
-use Rattle.krb_copy.specs.Classes.{has_key, places_in}
+use Rattle.krb_copy.specs.Classes.{has_key, places_of, stays}
 use Rattle.krb_copy.proofs.ClassesAfter.{class_is, none_is, step_by, step_of_none}
 use Rattle.krb_copy.proofs.classes.Classes.step.Goals as goal
 
@@ -11,10 +11,10 @@ pub returns-then-has_key : goal.returns-then-has_key
 returns-then-has_key g c = λ before held x classes of_x secret.
     let class = c.in-Some.class.now in
     let is = class_is before held x c.args.key.now c.args.self.now.map class classes of_x (sym c.in-Some.ensures.value) in
-    step_by c.args.self.now.replace before held x true class.stays (places_in class.entries) (c.if-has_key.ensures ∙ ap (has_key class.entries) secret ∙ is.keys x.key) is.stays is.places
+    step_by c.args.self.now.replace before held x true (stays class) (places_of class) (c.if-has_key.ensures ∙ ap (has_key class) secret ∙ is.keys x.key) is.kept is.places
 
 pub returns : goal.returns
 returns g c = λ before held x classes of_x secret.
     let class = c.in-Some.class.now in
     let is = class_is before held x c.args.key.now c.args.self.now.map class classes of_x (sym c.in-Some.ensures.value) in
-    c.step_at.ensures ∙ step_by c.args.self.now.replace before held x false class.stays (places_in class.entries) (c.if-has_key.ensures ∙ ap (has_key class.entries) secret ∙ is.keys x.key) is.stays is.places
+    c.step_at.ensures ∙ step_by c.args.self.now.replace before held x false (stays class) (places_of class) (c.if-has_key.ensures ∙ ap (has_key class) secret ∙ is.keys x.key) is.kept is.places
