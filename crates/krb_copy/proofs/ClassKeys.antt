@@ -17,7 +17,7 @@ use Rattle.krb_wire.specs.SameName.{have_same_name}
 use Rattle.krb_wire.proofs.NamesCompared.{same_name_is, and_both, both_and}
 use Rattle.krb_wire.proofs.RoundTrip.{name_of-name_text}
 use Rattle.krb_audit.specs.Hash.{hash_of}
-use Rattle.krb_copy.specs.Classes.{IsClassKey}
+use Rattle.krb_copy.specs.Classes.{IsClassKey, emptiness}
 
 -- ---- names as text
 
@@ -38,12 +38,19 @@ one_empty : (p : Parts) → p.components ≡ [] → name_text (record p { compon
 unfolding joined_components quote
 one_empty p e = ap (λ (cs : List (List ℕ)). join_with_byte 47 (map quote cs) ++ 64 ∷ quote p.realm) (sym e)
 
-by_counted : (p q : Parts) (a b : List (List ℕ)) → p.components ≡ a → q.components ≡ b → length a ≡ length b → name_text p ≡ name_text q → SameParts p q
-by_counted p q [] [] ep eq n e =
+-- 1 if a list is empty
+abbrev bit_of : List (List ℕ) → ℕ
+bit_of cs = cond (length cs == 0) 1 0
+
+bit_some : (c : List ℕ) (cs : List (List ℕ)) → bit_of (c ∷ cs) ≡ 0
+bit_some c cs = let e : (length (c ∷ cs) == 0) ≡ false = grind arith in ap (λ (b : Bool). let bit : ℕ = cond b 1 0 in bit) e
+
+by_emptiness : (p q : Parts) (a b : List (List ℕ)) → p.components ≡ a → q.components ≡ b → bit_of a ≡ bit_of b → name_text p ≡ name_text q → SameParts p q
+by_emptiness p q [] [] ep eq n e =
     ((by_text (record p { components = [] ∷ [] }) (record q { components = [] ∷ [] }) (omega arith) (omega arith) (one_empty p ep ∙ e ∙ sym (one_empty q eq))).0, ep ∙ sym eq)
-by_counted p q [] (b ∷ bs) ep eq n e = absurd (omega (arith, n))
-by_counted p q (a ∷ as') [] ep eq n e = absurd (omega (arith, n))
-by_counted p q (a ∷ as') (b ∷ bs) ep eq n e =
+by_emptiness p q [] (b ∷ bs) ep eq n e = let none = bit_some b bs in absurd (omega (arith, n, none))
+by_emptiness p q (a ∷ as') [] ep eq n e = let none = bit_some a as' in absurd (omega (arith, n, none))
+by_emptiness p q (a ∷ as') (b ∷ bs) ep eq n e =
     let lp = ap length ep in
     let lq = ap length eq in
     by_text p q (omega (arith, lp)) (omega (arith, lq)) e
@@ -73,12 +80,12 @@ same_number m n e = grind arith
 number_same : (m n : ℕ) → m ≡ n → (m == n) ≡ true
 number_same m n e = grind arith
 
--- the counts of components and the texts are equal iff the names are the same
-names_agree : (p q : Parts) → (length p.components == length q.components && bytes_eq (name_text p) (name_text q)) ≡ have_same_name p q
-names_agree p q = same_name_is p q (length p.components == length q.components && bytes_eq (name_text p) (name_text q))
-    (λ e. let both = and_both (length p.components == length q.components) (bytes_eq (name_text p) (name_text q)) e in
-    by_counted p q p.components q.components refl refl (same_number _ _ both.0) ((bytes_eq-Decides (name_text p) (name_text q)).0 both.1))
-    (λ realm components. both_and _ _ (number_same _ _ (ap length components))
+-- both or neither have no components, and the texts are equal, iff the names are the same
+names_agree : (p q : Parts) → (emptiness p == emptiness q && bytes_eq (name_text p) (name_text q)) ≡ have_same_name p q
+names_agree p q = same_name_is p q (emptiness p == emptiness q && bytes_eq (name_text p) (name_text q))
+    (λ e. let both = and_both (emptiness p == emptiness q) (bytes_eq (name_text p) (name_text q)) e in
+    by_emptiness p q p.components q.components refl refl (same_number _ _ both.0) ((bytes_eq-Decides (name_text p) (name_text q)).0 both.1))
+    (λ realm components. both_and _ _ (number_same _ _ (ap bit_of components))
     ((bytes_eq-Decides (name_text p) (name_text q)).1 (ap (λ (r : List ℕ). name_text (record p { realm = r })) realm ∙ ap (λ (cs : List (List ℕ)). name_text (record q { components = cs })) components)))
 
 regroup : (k n t : Bool) → ((k && n) && t) ≡ ((n && t) && k)
@@ -94,9 +101,9 @@ and_false true = refl
 and_false false = refl
 
 -- equal texts have equal hashes
-drop_hash : (h k n t : Bool) → (t ≡ true → h ≡ true) → (((h && k) && n) && t) ≡ ((k && n) && t)
-drop_hash h k n true same = ap (λ (b : Bool). ((b && k) && n) && true) (same refl)
-drop_hash h k n false same = and_false ((h && k) && n) ∙ sym (and_false (k && n))
+drop_hash : (h k t : Bool) → (t ≡ true → h ≡ true) → ((h && k) && t) ≡ (k && t)
+drop_hash h k true same = ap (λ (b : Bool). (b && k) && true) (same refl)
+drop_hash h k false same = and_false (h && k) ∙ sym (and_false k)
 
 both_by : (a b c : Bool) → (a ≡ true → (b ≡ true) × (c ≡ true)) → (b ≡ true → c ≡ true → a ≡ true) → a ≡ (b && c)
 both_by true b c down up = sym (both_and b c (down refl).0 (down refl).1)
@@ -104,24 +111,32 @@ both_by false true true down up = up refl refl
 both_by false true false down up = refl
 both_by false false c down up = refl
 
--- a version and an enctype of 16 bits are equal iff they are as one number
-kinds_agree : (v e w f : ℕ) → e < 65536 → f < 65536 → (v * 65536 + e == w * 65536 + f) ≡ (v == w && e == f)
-kinds_agree v e w f small other = both_by (v * 65536 + e == w * 65536 + f) (v == w) (e == f)
-    (λ same. let is = same_number (v * 65536 + e) (w * 65536 + f) same in (number_same v w (omega (arith, is, small, other)), number_same e f (omega (arith, is, small, other))))
-    (λ versions enctypes. let vs = same_number v w versions in let es = same_number e f enctypes in number_same _ _ (omega (arith, vs, es)))
+bit_small : (cs : List (List ℕ)) → bit_of cs < 2
+bit_small [] = omega arith
+bit_small (c ∷ cs) = let none = bit_some c cs in omega (arith, none)
+
+-- a version, an enctype of 16 bits and a bit are equal iff they are as one number
+kinds_agree : (v e w f a b : ℕ) → e < 65536 → f < 65536 → a < 2 → b < 2 → ((v * 65536 + e) * 2 + a == (w * 65536 + f) * 2 + b) ≡ ((v == w && e == f) && a == b)
+kinds_agree v e w f a b small other bit bit' = both_by ((v * 65536 + e) * 2 + a == (w * 65536 + f) * 2 + b) (v == w && e == f) (a == b)
+    (λ same. let is = same_number ((v * 65536 + e) * 2 + a) ((w * 65536 + f) * 2 + b) same in
+    (both_and (v == w) (e == f) (number_same v w (omega (arith, is, small, other, bit, bit'))) (number_same e f (omega (arith, is, small, other, bit, bit'))), number_same a b (omega (arith, is, bit, bit'))))
+    (λ kinds bits. let ks = and_both (v == w) (e == f) kinds in let vs = same_number v w ks.0 in let es = same_number e f ks.1 in let as' = same_number a b bits in number_same _ _ (omega (arith, vs, es, as')))
 
 -- entries are twins iff their keys compare equal
 pub classes_agree : (x y : EntryParts) (k l : ClassKey) → IsClassKey x k → IsClassKey y l → is_eq (class_cmp k l) ≡ are_twins x y
 classes_agree x y k l of_x of_y =
-    then_is _ (slice_cmp nat_cmp k.3.now l.3.now)
-    ∙ ap (λ (b : Bool). b && is_eq (slice_cmp nat_cmp k.3.now l.3.now)) (then_is _ (nat_cmp k.2 l.2) ∙ ap (λ (b : Bool). b && is_eq (nat_cmp k.2 l.2)) (then_is (nat_cmp k.0 l.0) (nat_cmp k.1 l.1)))
-    ∙ ap (λ (b : Bool). ((is_eq (nat_cmp k.0 l.0) && is_eq (nat_cmp k.1 l.1)) && is_eq (nat_cmp k.2 l.2)) && b) (is_eq-slice_cmp k.3.now l.3.now)
-    ∙ ap (λ (b : Bool). ((b && is_eq (nat_cmp k.1 l.1)) && is_eq (nat_cmp k.2 l.2)) && bytes_eq k.3.now l.3.now) (nat_is k.0 l.0)
-    ∙ ap (λ (b : Bool). (((k.0 == l.0) && b) && is_eq (nat_cmp k.2 l.2)) && bytes_eq k.3.now l.3.now) (nat_is k.1 l.1)
-    ∙ ap (λ (b : Bool). (((k.0 == l.0) && (k.1 == l.1)) && b) && bytes_eq k.3.now l.3.now) (nat_is k.2 l.2)
-    ∙ rw (of_x.hash, of_x.kind, of_x.count, of_x.name, of_y.hash, of_y.kind, of_y.count, of_y.name)
-    (drop_hash (hash_of (name_text x.principal) == hash_of (name_text y.principal)) (x.version * 65536 + x.enctype == y.version * 65536 + y.enctype) (length x.principal.components == length y.principal.components) (bytes_eq (name_text x.principal) (name_text y.principal))
-    (λ same. number_same _ _ (ap hash_of ((bytes_eq-Decides (name_text x.principal) (name_text y.principal)).0 same)))
-    ∙ regroup (x.version * 65536 + x.enctype == y.version * 65536 + y.enctype) (length x.principal.components == length y.principal.components) (bytes_eq (name_text x.principal) (name_text y.principal))
-    ∙ ap (λ (b : Bool). b && (x.version * 65536 + x.enctype == y.version * 65536 + y.enctype)) (names_agree x.principal y.principal)
-    ∙ ap (λ (b : Bool). have_same_name x.principal y.principal && b) (kinds_agree x.version x.enctype y.version y.enctype of_x.small of_y.small))
+    let p = x.principal in
+    let q = y.principal in
+    let same_kind : Bool = x.version == y.version && x.enctype == y.enctype in
+    let same_text : Bool = bytes_eq (name_text p) (name_text q) in
+    then_is _ (slice_cmp nat_cmp k.2.now l.2.now)
+    ∙ ap (λ (b : Bool). b && is_eq (slice_cmp nat_cmp k.2.now l.2.now)) (then_is (nat_cmp k.0 l.0) (nat_cmp k.1 l.1))
+    ∙ ap (λ (b : Bool). (is_eq (nat_cmp k.0 l.0) && is_eq (nat_cmp k.1 l.1)) && b) (is_eq-slice_cmp k.2.now l.2.now)
+    ∙ ap (λ (b : Bool). (b && is_eq (nat_cmp k.1 l.1)) && bytes_eq k.2.now l.2.now) (nat_is k.0 l.0)
+    ∙ ap (λ (b : Bool). ((k.0 == l.0) && b) && bytes_eq k.2.now l.2.now) (nat_is k.1 l.1)
+    ∙ rw (of_x.hash, of_x.kind, of_x.name, of_y.hash, of_y.kind, of_y.name)
+    (drop_hash (hash_of (name_text p) == hash_of (name_text q)) ((x.version * 65536 + x.enctype) * 2 + emptiness p == (y.version * 65536 + y.enctype) * 2 + emptiness q) same_text
+    (λ same. number_same _ _ (ap hash_of ((bytes_eq-Decides (name_text p) (name_text q)).0 same)))
+    ∙ ap (λ (b : Bool). b && same_text) (kinds_agree x.version x.enctype y.version y.enctype (emptiness p) (emptiness q) of_x.small of_y.small (bit_small p.components) (bit_small q.components))
+    ∙ regroup same_kind (emptiness p == emptiness q) same_text
+    ∙ ap (λ (b : Bool). b && same_kind) (names_agree p q))

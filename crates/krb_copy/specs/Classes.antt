@@ -1,5 +1,5 @@
 -- What the keytab has of each class of twins during a run.
-use Rattle.std.specs.Prelude.{◌≡◌, ℕ, ◌+◌, ◌*◌, ◌<◌, List, [], ◌∷◌, length, map, Bool, true, false, ◌&&◌, not, Option, Some, None, if◌then◌else◌}
+use Rattle.std.specs.Prelude.{◌≡◌, ℕ, ◌+◌, ◌*◌, ◌<◌, List, [], ◌∷◌, length, map, Bool, true, false, ◌==◌, ◌&&◌, not, Option, Some, None, if◌then◌else◌}
 use Rattle.std.specs.List.{list_any}
 use Rattle.std.specs.Str.{bytes_eq}
 use Rattle.std.specs.declared.cmp.Ordering.{Ordering}
@@ -8,6 +8,7 @@ use Rattle.std.specs.Cmp.Lexicographic.{slice_cmp}
 use Rattle.std.specs.BTreeMap.{BTreeMap, get}
 use Rattle.std.specs.BTreeSet.{BTreeSet, contains_by}
 use denote.Ref.{Bor}
+use Rattle.krb_wire.specs.Spelling.{Parts}
 use Rattle.krb_wire.specs.Names.{name_text}
 use Rattle.krb_keytab.specs.Entry.{EntryParts}
 use Rattle.krb_audit.specs.Hash.{hash_of}
@@ -54,21 +55,24 @@ HaveClass before held (Some class) = IsClass before held class
 
 -- ---- all classes
 
--- what twins have in common: a hash of the name's text, a version and an enctype of 16 bits as one number, the number of the name's components, and the text
+-- what twins have in common: a hash of the name's text; a version, an enctype of 16 bits and whether the name has no components, as one number; and the text
 abbrev pub ClassKey : Type 0
-ClassKey = ℕ × ℕ × ℕ × Bor (List ℕ)
+ClassKey = ℕ × ℕ × Bor (List ℕ)
+
+-- 1 if a name has no components
+abbrev pub emptiness : Parts → ℕ
+emptiness p = if length p.components == 0 then 1 else 0
 
 -- that of an entry
 pub record IsClassKey (x : EntryParts) (k : ClassKey) : Type 0 where
   pub hash : k.0 ≡ hash_of (name_text x.principal)
-  pub kind : k.1 ≡ x.version * 65536 + x.enctype
+  pub kind : k.1 ≡ (x.version * 65536 + x.enctype) * 2 + emptiness x.principal
   pub small : x.enctype < 65536
-  pub count : k.2 ≡ length x.principal.components
-  pub name : k.3.now ≡ name_text x.principal
+  pub name : k.2.now ≡ name_text x.principal
 
 -- their order
 abbrev pub class_cmp : ClassKey → ClassKey → Ordering
-class_cmp k l = ordering_then (ordering_then (ordering_then (nat_cmp k.0 l.0) (nat_cmp k.1 l.1)) (nat_cmp k.2 l.2)) (slice_cmp nat_cmp k.3.now l.3.now)
+class_cmp k l = ordering_then (ordering_then (nat_cmp k.0 l.0) (nat_cmp k.1 l.1)) (slice_cmp nat_cmp k.2.now l.2.now)
 
 -- the twins of each entry have their class, after these were asked for
 abbrev pub AreClasses : {A : Type 0} → List EntryParts → List Held → BTreeMap ClassKey (Class A) → Type 0

@@ -28,17 +28,17 @@ pub enum Step<'a> {
     Copy(&'a [u32]),
 }
 
-/// What twins have in common: a hash of the name's text, which is cheap to compare, a version and an enctype as one
-/// number, the number of the name's components, and the text: names of different counts may print alike.
-pub type ClassKey<'t> = (u64, u64, usize, &'t [u8]);
+/// What twins have in common: a hash of the name's text, which is cheap to compare; a version, an enctype and whether
+/// the name has no components, as one number; and the text. A name without components prints as one with an empty one.
+pub type ClassKey<'t> = (u64, u64, &'t [u8]);
 
 /// Returns that of an entry, by the text of its name.
 pub fn class_key<'t>(name: &'t [u8], entry: &EntryView<'_>) -> ClassKey<'t>
     ensures { name.now ≡ name_text entry.now.principal → IsClassKey entry.now result }
 {
-    let count = entry.principal().count();
     let kind = u64::from(entry.kvno()) * 65_536 + u64::from(entry.enctype());
-    (hash_of(name), kind, count, name)
+    let is_empty = entry.principal().count() == 0;
+    (hash_of(name), kind * 2 + u64::from(is_empty), name)
 }
 
 // Returns what becomes of an entry whose key none of its class has.
