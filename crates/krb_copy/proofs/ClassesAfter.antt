@@ -1,13 +1,14 @@
 -- What is known of all classes, before a run and after each entry asked for.
-use Rattle.krb_copy.proofs.Cited.{◌≡◌, ℕ, Bool, true, false, cond, List, [], ◌∷◌, ◌++◌, Option, Some, None, Result, Ok, Err, refl, sym, ap, subst, ◌∙◌, map, filter, not, ◌&&◌, ◌||◌, list_any, bytes_eq, is_eq, BTreeMap, append-nil, list_any-append, EntryParts, Class, are_twins, are_same, Held, as_found, as_copied, twins, There, Clash, Copy, step_among, step_of, with_copy, AreClasses, ClassKey, class_cmp}
-use Rattle.std.specs.Prelude.{OnOk}
-use Rattle.std.specs.BTreeMap.{get}
+use Rattle.krb_copy.proofs.Cited.{◌≡◌, ℕ, Bool, true, false, cond, List, [], ◌∷◌, ◌++◌, Option, Some, None, refl, sym, ap, subst, ◌∙◌, map, filter, not, ◌&&◌, ◌||◌, list_any, bytes_eq, append-nil, list_any-append, EntryParts, are_twins, are_same, Held, as_found, as_copied, twins, There, Clash, Copy, step_among, step_of, with_copy, AreClasses, ClassKey}
+use Rattle.std.specs.Prelude.{unwrap_or}
+use Rattle.std.specs.BTreeMap.{BTreeMap, get, Updates}
 use Rattle.std.proofs.lemmas.List.{map_push}
 use Rattle.std.proofs.lemmas.List.Elements.{filter-append, filter_agree}
 use denote.Ref.{Bor}
-use Rattle.krb_copy.specs.declared.class.Class.TheVariants.{Found, Kept}
+use Rattle.krb_copy.specs.declared.class.Class.{Class}
+use Rattle.krb_copy.specs.declared.class.Class.TheVariants.{Empty, Kept}
 use Rattle.krb_copy.specs.Copying.{is_kept}
-use Rattle.krb_copy.specs.Classes.{HaveClass, IsClass, IsClassKey, has_key, places_of, stays, step_at}
+use Rattle.krb_copy.specs.Classes.{HaveClass, IsClass, IsClassKey, class_cmp, has_key, places_of, stays, step_at}
 use Rattle.krb_copy.proofs.Alike.{twins_equiv}
 use Rattle.krb_copy.proofs.ClassKeys.{classes_agree}
 
@@ -67,9 +68,6 @@ kept_others before x y (h ∷ hs) other = apart_here (are_twins y h.entry) h (is
 same_twins : (x y : EntryParts) (held : List Held) → are_twins x y ≡ true → twins x held ≡ twins y held
 same_twins x y held twin = filter_agree (λ (h : Held). are_twins x h.entry) (λ (h : Held). are_twins y h.entry) (λ h. twins_equiv.congr x y h.entry twin) held
 
-kept_of_twin : (before : List EntryParts) (x y : EntryParts) (held : List Held) → are_twins x y ≡ true → list_any (is_kept (before ++ x ∷ [])) (twins y held) ≡ (list_any (is_kept before) (twins y held) || list_any (λ h. bytes_eq x.key h.entry.key) (twins x held))
-kept_of_twin before x y held twin = ap (list_any (is_kept (before ++ x ∷ []))) (sym (same_twins x y held twin)) ∙ kept_twins before x held ∙ ap (λ (hs : List Held). list_any (is_kept before) hs || list_any (λ h. bytes_eq x.key h.entry.key) (twins x held)) (same_twins x y held twin)
-
 gone_by : (t s : Bool) (h : Held) (p : Held → Bool) (others : List Held) → p h ≡ s → s ≡ t → filter p others ≡ [] → filter p (cond (not t) (h ∷ others) others) ≡ []
 gone_by true s h p others is same ih = ih
 gone_by false s h p others is same ih = ap (λ (b : Bool). cond b (h ∷ filter p others) (filter p others)) (is ∙ same) ∙ ih
@@ -104,17 +102,6 @@ or_true false = refl
 pub or_added : (old b : Bool) → cond b true old ≡ (old || b)
 or_added old true = sym (or_true old)
 or_added old false = sym (or_none old)
-
-pub on_ok_both : {E P Q R : Type 0} (r : Result (Unit {0}) E) → (P → Q → R) → OnOk r P → OnOk r Q → OnOk r R
-on_ok_both (Ok x) f p q = f p q
-on_ok_both (Err e) f p q = tt
-
--- that of an entry, or none if it has no twins
-pub class_is : {A : Type 0} (before : List EntryParts) (held : List Held) (x : EntryParts) (k : ClassKey) (m : BTreeMap ClassKey (Class A)) (c : Class A) → AreClasses before held m → IsClassKey x k → get class_cmp m k ≡ Some c → IsClass before (twins x held) c
-class_is before held x k m c classes of_x found = subst (HaveClass before (twins x held)) found (classes x k of_x)
-
-pub none_is : {A : Type 0} (before : List EntryParts) (held : List Held) (x : EntryParts) (k : ClassKey) (m : BTreeMap ClassKey (Class A)) → AreClasses before held m → IsClassKey x k → get class_cmp m k ≡ None → twins x held ≡ []
-none_is before held x k m classes of_x none = subst (HaveClass before (twins x held)) none (classes x k of_x)
 
 -- of one entry
 of_one : {A : Type 0} (before : List EntryParts) (h : Held) (key : Bor (List ℕ)) (c : Class A) → places_of c ≡ h.place ∷ [] → ((k : List ℕ) → has_key c k ≡ bytes_eq k key.now) → key.now ≡ h.entry.key → stays c ≡ is_kept before h → IsClass before (h ∷ []) c
@@ -154,59 +141,42 @@ updated_by : {A : Type 0} (before before' : List EntryParts) (held held' : List 
 updated_by before before' held held' x y c o true twin is leaves old = subst (λ (hs : List Held). IsClass before' hs c) (same_twins x y held' twin) is
 updated_by before before' held held' x y c o false apart is leaves old = let l = leaves y apart in unchanged before before' (twins y held) (twins y held') o l.0 l.1 old
 
--- an entry's class is a new one, and others stay
-updated : {A : Type 0} (before before' : List EntryParts) (held held' : List Held) (x : EntryParts) (k : ClassKey) (old new : BTreeMap ClassKey (Class A)) (c : Class A) → IsClassKey x k
-    → ((q : ClassKey) → get class_cmp new q ≡ cond (is_eq (class_cmp k q)) (Some c) (get class_cmp old q)) → IsClass before' (twins x held') c → Leaves before before' held held' x → AreClasses before held old → AreClasses before' held' new
-updated before before' held held' x k old new c of_x updates is leaves classes y q of_y =
-    subst (HaveClass before' (twins y held')) (sym (updates q ∙ ap (λ (b : Bool). cond b (Some c) (get class_cmp old q)) (classes_agree x y k q of_x of_y)))
-    (updated_by before before' held held' x y c (get class_cmp old q) (are_twins x y) refl is leaves (classes y q of_y))
-
--- ---- before a run
-
-pub none_yet : {A : Type 0} (m : BTreeMap ClassKey (Class A)) → m.entries ≡ [] → AreClasses [] [] m
-none_yet m none x k is = let e : get class_cmp m k ≡ None = rw none refl in subst (HaveClass [] []) (sym e) refl
-
 -- one more entry leaves other classes
 found_leaves : (held : List Held) (x : EntryParts) (place : ℕ) → Leaves [] [] held (held ++ as_found (place, x) ∷ []) x
 found_leaves held x place y apart = (twins_more y held (as_found (place, x)) false (other x y apart) ∙ append-nil (twins y held), refl)
 
--- it is the first of its class
-pub first_found : {A : Type 0} (held : List Held) (x : EntryParts) (place : ℕ) (k : ClassKey) (key : Bor (List ℕ)) (old new : BTreeMap ClassKey (Class A)) (c : Class A) → c ≡ Found place key → AreClasses [] held old → IsClassKey x k → key.now ≡ x.key → get class_cmp old k ≡ None
-    → ((q : ClassKey) → get class_cmp new q ≡ cond (is_eq (class_cmp k q)) (Some c) (get class_cmp old q)) → AreClasses [] (held ++ as_found (place, x) ∷ []) new
-first_found held x place k key old new c is classes of_x key_is none updates =
-    let h = as_found (place, x) in
-    let alone : twins x (held ++ h ∷ []) ≡ h ∷ [] = twins_more x held h true (twins_equiv.refl x) ∙ ap (λ (hs : List Held). hs ++ h ∷ []) (none_is [] held x k old classes of_x none) in
-    updated [] [] held (held ++ h ∷ []) x k old new c of_x updates (subst (λ (hs : List Held). IsClass [] hs c) (sym alone) (of_one [] h key c (ap places_of is) (λ q. ap (λ d. has_key d q) is) key_is (ap stays is))) (found_leaves held x place) classes
+-- it leaves what stays of other classes
+asked_leaves : (before : List EntryParts) (held : List Held) (x : EntryParts) → Leaves before (before ++ x ∷ []) held held x
+asked_leaves before held x y apart = (refl, kept_others before x y held apart)
 
-cond_twice : {X : Type 0} (b : Bool) (x y z : X) → cond b x (cond b y z) ≡ cond b x z
-cond_twice true x y z = refl
-cond_twice false x y z = refl
+-- ---- an entry and its class
 
--- its class has one already, which it takes the place of until it is added to it
-pub next_found : {A : Type 0} (held : List Held) (x : EntryParts) (place : ℕ) (k : ClassKey) (key : Bor (List ℕ)) (old mid new : BTreeMap ClassKey (Class A)) (was c other : Class A) → AreClasses [] held old → IsClassKey x k → key.now ≡ x.key → get class_cmp old k ≡ Some was
-    → ((q : ClassKey) → get class_cmp mid q ≡ cond (is_eq (class_cmp k q)) (Some other) (get class_cmp old q)) → ((q : ClassKey) → get class_cmp new q ≡ cond (is_eq (class_cmp k q)) (Some c) (get class_cmp mid q))
-    → places_of c ≡ places_of was ++ place ∷ [] → ((k : List ℕ) → has_key c k ≡ (has_key was k || bytes_eq k key.now)) → stays c ≡ stays was → AreClasses [] (held ++ as_found (place, x) ∷ []) new
-next_found held x place k key old mid new was c other classes of_x key_is some first then places keys kept =
-    let h = as_found (place, x) in
-    let before = class_is [] held x k old was classes of_x some in
-    updated [] [] held (held ++ h ∷ []) x k old new c of_x
-    (λ q. then q ∙ ap (cond (is_eq (class_cmp k q)) (Some c)) (first q) ∙ cond_twice (is_eq (class_cmp k q)) (Some c) (Some other) (get class_cmp old q))
-    (subst (λ (hs : List Held). IsClass [] hs c) (sym (twins_more x held h true (twins_equiv.refl x))) (of_more [] (twins x held) h key was c before places keys key_is kept refl))
-    (found_leaves held x place) classes
+-- what is known of an entry: the key of its class, and the class
+pub record IsMet {A : Type 0} (before : List EntryParts) (held : List Held) (x : EntryParts) (k : ClassKey) (old : BTreeMap ClassKey (Class A)) (class : Class A) : Type 0 where
+  pub classes : AreClasses before held old
+  pub of_x : IsClassKey x k
+  pub is : IsClass before (twins x held) class
 
--- ---- the step of an entry
+-- without twins it is empty
+or_empty : {A : Type 0} (before : List EntryParts) (held : List Held) (o : Option (Class A)) → HaveClass before held o → IsClass before held (unwrap_or o Empty)
+or_empty {A} before held None none = subst (λ (hs : List Held). IsClass {A = A} before hs Empty) (sym none) (record { places = refl; keys = λ k. refl; kept = refl })
+or_empty before held (Some c) is = is
+
+-- by what the map has at its key
+pub met : {A : Type 0} {value : Option (Class A)} (before : List EntryParts) (held : List Held) (x : EntryParts) (k : ClassKey) (m : BTreeMap ClassKey (Class A)) (c : Class A) → AreClasses before held m → IsClassKey x k → value ≡ get class_cmp m k → c ≡ unwrap_or value Empty → IsMet before held x k m c
+met before held x k m c classes of_x found is = record { classes = classes; of_x = of_x; is = subst (IsClass before (twins x held)) (sym is) (or_empty before (twins x held) _ (subst (HaveClass before (twins x held)) (sym found) (classes x k of_x))) }
 
 at_places : (replace : Bool) (before : List EntryParts) (ts : List Held) → step_at replace (list_any (is_kept before) ts) (map (λ h. h.place) ts) ≡ step_among replace before ts
 at_places replace before [] = refl
 at_places replace before (t ∷ ts) = refl
 
 -- by the class of its twins
-pub step_by : (replace : Bool) (before : List EntryParts) (held : List Held) (x : EntryParts) (b stays : Bool) (places : List ℕ) → b ≡ list_any (λ h. bytes_eq x.key h.entry.key) (twins x held) → stays ≡ list_any (is_kept before) (twins x held)
+step_by : (replace : Bool) (before : List EntryParts) (held : List Held) (x : EntryParts) (b stays : Bool) (places : List ℕ) → b ≡ list_any (λ h. bytes_eq x.key h.entry.key) (twins x held) → stays ≡ list_any (is_kept before) (twins x held)
     → places ≡ map (λ h. h.place) (twins x held) → cond b There (step_at replace stays places) ≡ step_of replace before held x
 step_by replace before held x b stays places keys kept are = rw (keys, kept, are) (ap (cond (list_any (λ h. bytes_eq x.key h.entry.key) (twins x held)) There) (at_places replace before (twins x held)))
 
-pub step_of_none : (replace : Bool) (before : List EntryParts) (held : List Held) (x : EntryParts) → twins x held ≡ [] → Copy [] ≡ step_of replace before held x
-step_of_none replace before held x none = sym (ap (λ (ts : List Held). cond (list_any (λ h. bytes_eq x.key h.entry.key) ts) There (step_among replace before ts)) none)
+pub step_is : {A : Type 0} {before : List EntryParts} {held : List Held} {x : EntryParts} {k : ClassKey} {old : BTreeMap ClassKey (Class A)} {c : Class A} (replace : Bool) (key : List ℕ) → IsMet before held x k old c → key ≡ x.key → cond (has_key c key) There (step_at replace (stays c) (places_of c)) ≡ step_of replace before held x
+step_is {A} {before} {held} {x} {k} {old} {c} replace key m same = step_by replace before held x (has_key c key) (stays c) (places_of c) (ap (has_key c) same ∙ m.is.keys x.key) m.is.kept m.is.places
 
 -- an entry is there, or it is not, by its step
 no_there : (b : Bool) (places : List ℕ) (place : ℕ) → cond b (Copy places) (Clash place) ≡ There → ⊥
@@ -228,40 +198,39 @@ is_there replace before held x e = there_step (list_any (λ h. bytes_eq x.key h.
 not_there : (replace : Bool) (before : List EntryParts) (held : List Held) (x : EntryParts) (place : ℕ) → step_of replace before held x ≡ Clash place → list_any (λ h. bytes_eq x.key h.entry.key) (twins x held) ≡ false
 not_there replace before held x place e = clash_step (list_any (λ h. bytes_eq x.key h.entry.key) (twins x held)) replace before (twins x held) place e
 
--- ---- after an entry asked for
+-- ---- after an entry
 
--- it leaves what stays of other classes
-asked_leaves : (before : List EntryParts) (held : List Held) (x : EntryParts) → Leaves before (before ++ x ∷ []) held held x
-asked_leaves before held x y apart = (refl, kept_others before x y held apart)
+-- a map in which its class is set
+module _ {A : Type 0} {before : List EntryParts} {held : List Held} {x : EntryParts} {k : ClassKey} {old new after : BTreeMap ClassKey (Class A)} {was : Class A} (c : Class A) (m : IsMet before held x k old was) (same : after ≡ new) (updates : Updates class_cmp old new k (Some c)) where
+  -- others stay
+  updated : (before' : List EntryParts) (held' : List Held) → IsClass before' (twins x held') c → Leaves before before' held held' x → AreClasses before' held' after
+  updated before' held' is leaves y q of_y =
+      subst (HaveClass before' (twins y held')) (sym (ap (λ n. get class_cmp n q) same ∙ updates.0 q ∙ ap (λ (b : Bool). cond b (Some c) (get class_cmp old q)) (classes_agree x y k q m.of_x of_y)))
+      (updated_by before before' held held' x y c (get class_cmp old q) (are_twins x y) refl is leaves (m.classes y q of_y))
 
--- it is there: one of its class stays
-pub after_there : {A : Type 0} (replace : Bool) (before : List EntryParts) (held : List Held) (x : EntryParts) (k : ClassKey) (old new : BTreeMap ClassKey (Class A)) (was c : Class A) → AreClasses before held old → IsClassKey x k → step_of replace before held x ≡ There → get class_cmp old k ≡ Some was
-    → ((q : ClassKey) → get class_cmp new q ≡ cond (is_eq (class_cmp k q)) (Some c) (get class_cmp old q)) → places_of c ≡ places_of was → ((key : List ℕ) → has_key c key ≡ has_key was key) → stays c ≡ true → AreClasses (before ++ x ∷ []) held new
-after_there replace before held x k old new was c classes of_x step some updates places keys kept =
-    let is = class_is before held x k old was classes of_x some in
-    let one_stays : list_any (is_kept (before ++ x ∷ [])) (twins x held) ≡ true = kept_twins before x held ∙ ap (λ (b : Bool). list_any (is_kept before) (twins x held) || b) (is_there replace before held x step) ∙ or_true (list_any (is_kept before) (twins x held)) in
-    updated before (before ++ x ∷ []) held held x k old new c of_x updates
-    (record { places = places ∙ is.places; keys = λ key. keys key ∙ is.keys key; kept = kept ∙ sym one_stays }) (asked_leaves before held x) classes
+  -- it is there: one of its class stays
+  pub after_there : (replace : Bool) → There ≡ step_of replace before held x → places_of c ≡ places_of was → ((key : List ℕ) → has_key c key ≡ has_key was key) → ((key : List ℕ) → has_key was key ≡ true → stays c ≡ true) → AreClasses (before ++ x ∷ []) held after
+  after_there replace step places keys kept =
+      let there = is_there replace before held x (sym step) in
+      let one_stays : list_any (is_kept (before ++ x ∷ [])) (twins x held) ≡ true = kept_twins before x held ∙ ap (λ (b : Bool). list_any (is_kept before) (twins x held) || b) there ∙ or_true (list_any (is_kept before) (twins x held)) in
+      updated (before ++ x ∷ []) held (record { places = places ∙ m.is.places; keys = λ key. keys key ∙ m.is.keys key; kept = kept x.key (m.is.keys x.key ∙ there) ∙ sym one_stays }) (asked_leaves before held x)
 
--- an entry without twins is not there
-pub none_there : {A : Type 0} (replace : Bool) (before : List EntryParts) (held : List Held) (x : EntryParts) (k : ClassKey) (m : BTreeMap ClassKey (Class A)) → AreClasses before held m → IsClassKey x k → step_of replace before held x ≡ There → get class_cmp m k ≡ None → ⊥
-none_there replace before held x k m classes of_x step none =
-    let no : Copy [] ≡ There = step_of_none replace before held x (none_is before held x k m classes of_x none) ∙ step in
-    cc
+  -- it clashes: its class stays as it is
+  pub after_clash : (replace : Bool) (twin : ℕ) → c ≡ was → Clash twin ≡ step_of replace before held x → AreClasses (before ++ x ∷ []) held after
+  after_clash replace twin is step =
+      let kept : list_any (is_kept (before ++ x ∷ [])) (twins x held) ≡ list_any (is_kept before) (twins x held) = kept_twins before x held ∙ ap (λ (b : Bool). list_any (is_kept before) (twins x held) || b) (not_there replace before held x twin (sym step)) ∙ or_none (list_any (is_kept before) (twins x held)) in
+      updated (before ++ x ∷ []) held (subst (IsClass (before ++ x ∷ []) (twins x held)) (sym is) (record { places = m.is.places; keys = m.is.keys; kept = m.is.kept ∙ sym kept })) (asked_leaves before held x)
 
-clash_leaves : (before : List EntryParts) (held : List Held) (x y : EntryParts) (t : Bool) → are_twins x y ≡ t → list_any (λ h. bytes_eq x.key h.entry.key) (twins x held) ≡ false → list_any (is_kept (before ++ x ∷ [])) (twins y held) ≡ list_any (is_kept before) (twins y held)
-clash_leaves before held x y true twin none = kept_of_twin before x y held twin ∙ ap (λ (b : Bool). list_any (is_kept before) (twins y held) || b) none ∙ or_none (list_any (is_kept before) (twins y held))
-clash_leaves before held x y false apart none = kept_others before x y held apart
+  -- it is copied: it is the only one of its class, and stays
+  pub after_copy : (place : ℕ) (key : Bor (List ℕ)) → c ≡ Kept place key → key.now ≡ x.key → AreClasses (before ++ x ∷ []) (with_copy held x place) after
+  after_copy place key is key_is =
+      updated (before ++ x ∷ []) (with_copy held x place)
+      (subst (λ (hs : List Held). IsClass (before ++ x ∷ []) hs c) (sym (copy_alone x x held place (twins_equiv.refl x))) (of_one (before ++ x ∷ []) (as_copied place x) key c (ap places_of is) (λ q. ap (λ d. has_key d q) is) key_is (ap stays is)))
+      (λ y apart. (copy_apart x y held place apart, kept_others before x y held apart))
 
--- it clashes: classes stay as they are
-pub after_clash : {A : Type 0} (replace : Bool) (before : List EntryParts) (held : List Held) (x : EntryParts) (twin : ℕ) (m : BTreeMap ClassKey (Class A)) → AreClasses before held m → step_of replace before held x ≡ Clash twin → AreClasses (before ++ x ∷ []) held m
-after_clash replace before held x twin m classes step y q of_y =
-    unchanged before (before ++ x ∷ []) (twins y held) (twins y held) (get class_cmp m q) refl (clash_leaves before held x y (are_twins x y) refl (not_there replace before held x twin step)) (classes y q of_y)
-
--- it is copied: it is the only one of its class, and stays
-pub after_copy : {A : Type 0} (before : List EntryParts) (held : List Held) (x : EntryParts) (place : ℕ) (k : ClassKey) (key : Bor (List ℕ)) (old new : BTreeMap ClassKey (Class A)) (c : Class A) → c ≡ Kept place key → AreClasses before held old → IsClassKey x k → key.now ≡ x.key
-    → ((q : ClassKey) → get class_cmp new q ≡ cond (is_eq (class_cmp k q)) (Some c) (get class_cmp old q)) → AreClasses (before ++ x ∷ []) (with_copy held x place) new
-after_copy before held x place k key old new c is classes of_x key_is updates =
-    updated before (before ++ x ∷ []) held (with_copy held x place) x k old new c of_x updates
-    (subst (λ (hs : List Held). IsClass (before ++ x ∷ []) hs c) (sym (copy_alone x x held place (twins_equiv.refl x))) (of_one (before ++ x ∷ []) (as_copied place x) key c (ap places_of is) (λ q. ap (λ d. has_key d q) is) key_is (ap stays is)))
-    (λ y apart. (copy_apart x y held place apart, kept_others before x y held apart)) classes
+-- it was there before the run
+pub one_found : {A : Type 0} {held : List Held} {x : EntryParts} {k : ClassKey} {old new after : BTreeMap ClassKey (Class A)} {was : Class A} (c : Class A) (place : ℕ) (key : Bor (List ℕ)) → IsMet [] held x k old was → after ≡ new → Updates class_cmp old new k (Some c)
+    → key.now ≡ x.key → places_of c ≡ places_of was ++ place ∷ [] → ((k : List ℕ) → has_key c k ≡ (has_key was k || bytes_eq k key.now)) → stays c ≡ stays was → AreClasses [] (held ++ as_found (place, x) ∷ []) after
+one_found {A} {held} {x} {k} {old} {new} {after} {was} c place key m same updates key_is places keys kept =
+    let h = as_found (place, x) in
+    updated c m same updates [] (held ++ h ∷ []) (subst (λ (hs : List Held). IsClass [] hs c) (sym (twins_more x held h true (twins_equiv.refl x))) (of_more [] (twins x held) h key was c m.is places keys key_is kept refl)) (found_leaves held x place)

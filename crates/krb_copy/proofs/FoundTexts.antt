@@ -1,8 +1,10 @@
 -- A pass over the entries of a keytab: those so far, and those still to come.
-use Rattle.krb_copy.proofs.Cited.{name_texts, ◌≡◌, ℕ, ◌+◌, ◌<◌, List, [], ◌∷◌, ◌++◌, length, take, sym, ap, subst, ◌∙◌, append_assoc, map, append-nil, BTreeMap, name_text, PlacedEntry, AreClasses, ClassKey, Held, as_found, AreTexts, entry_texts, Class}
+use Rattle.krb_copy.proofs.Cited.{name_texts, ◌≡◌, ℕ, ◌+◌, ◌<◌, List, [], ◌∷◌, ◌++◌, length, take, sym, ap, subst, ◌∙◌, append_assoc, map, name_text, PlacedEntry, AreClasses, ClassKey, Held, as_found, AreTexts, entry_texts}
 use Rattle.std.proofs.Common.{get_or}
 use Rattle.std.proofs.lemmas.List.{map_push, take_more}
 use Rattle.std.proofs.lemmas.List.Concat.{flat_map-append}
+use Rattle.std.specs.BTreeMap.{BTreeMap}
+use Rattle.krb_copy.specs.declared.class.Class.{Class}
 
 -- the texts of those so far were appended
 pub record AreAppended (all rest : List PlacedEntry) (bytes lens : List ℕ) : Type 0 where
@@ -44,7 +46,3 @@ one_found all rest next more x old new bytes lens bytes' lens' f steps classes t
   classes_are = subst (λ (held : List Held). AreClasses [] held new) (sym (map_push as_found f.before x)) classes;
   texts = texts;
 }
-
--- at the end they are those of all entries
-pub all_found : {A : Type 0} (all : List PlacedEntry) (more : List (List ℕ)) (classes : BTreeMap ClassKey (Class A)) (bytes lens : List ℕ) → AreFound all [] more classes bytes lens → AreClasses [] (map as_found all) classes
-all_found all more classes bytes lens f = subst (λ (xs : List PlacedEntry). AreClasses [] (map as_found xs) classes) (sym (append-nil f.before) ∙ f.parts) f.classes_are

@@ -17,7 +17,7 @@ refusal_is due given old new k k' NoMemory same untold gives = tt
 -- an entry that is copied
 pub copied_run : {A : Type 0} (run : Run) (x : PlacedEntry) (asked : List PlacedEntry) (replace : Bool) (places : List ℕ) (place : ℕ) (old : KeytabState) (new : Copying A) → old ≡ run.keytab
     → Copy places ≡ step_of replace run.before run.held x.1 → put_result (without old places) x.1 ≡ Ok (place, new.making.keytab.state) → new.making.text.items ≡ run.text ++ copied_lines x.1 places place → new.making.clashes.items ≡ run.clashes → new.making.places.items ≡ run.places ++ place ∷ []
-    → AreClasses (run.before ++ x.1 ∷ []) (with_copy run.held x.1 place) new.classes.map → AreTexts (name_texts asked) new.texts.bytes.now new.texts.lens.now
+    → AreClasses (run.before ++ x.1 ∷ []) (with_copy run.held x.1 place) new.classes → AreTexts (name_texts asked) new.texts.bytes.now new.texts.lens.now
     → (next : Run) × (run_after run x (step_of replace run.before run.held x.1) ≡ Ok next) × IsRun next asked new
 copied_run run x asked replace places place old new keytab step added text clash to classes texts = (
   record { keytab = new.making.keytab.state; held = with_copy run.held x.1 place; before = run.before ++ x.1 ∷ []; text = run.text ++ copied_lines x.1 places place; clashes = run.clashes; places = run.places ++ place ∷ [] },
@@ -40,11 +40,11 @@ pub record IsOnTheWay {A : Type 0} (due : Result Run Code) (replace : Bool) (res
   pub now : Run
   pub is_run : IsRun now rest copying
   pub same : run_over replace rest now ≡ due
-  pub replace_is : copying.classes.replace ≡ replace
+  pub replace_is : copying.replace ≡ replace
 
 -- one entry further
 pub one_met : {A : Type 0} (due : Result Run Code) (replace : Bool) (x : PlacedEntry) (rest : List PlacedEntry) (old new : Copying A) → (w : IsOnTheWay due replace (x ∷ rest) old)
-    → Meets w.now rest (run_after w.now x (step_of old.classes.replace w.now.before w.now.held x.1)) (Ok tt) new → new.classes.replace ≡ old.classes.replace → IsOnTheWay due replace rest new
+    → Meets w.now rest (run_after w.now x (step_of old.replace w.now.before w.now.held x.1)) (Ok tt) new → new.replace ≡ old.replace → IsOnTheWay due replace rest new
 one_met due replace x rest old new w meets replaces = record {
   now = meets.0;
   is_run = meets.2;
@@ -79,7 +79,7 @@ out_of_memory false result e = e
 
 -- a refusal
 pub ended : {A : Type 0} (due : Result Run Code) (replace : Bool) (x : PlacedEntry) (rest : List PlacedEntry) (old new : Copying A) (refusal : Refusal) (result : Result (Unit {0}) Refusal) → (w : IsOnTheWay due replace (x ∷ rest) old)
-    → Meets w.now rest (run_after w.now x (step_of old.classes.replace w.now.before w.now.held x.1)) (Err refusal) new → EndsBy (has_lines new.making.clashes.items) refusal result → Ends due result new
+    → Meets w.now rest (run_after w.now x (step_of old.replace w.now.before w.now.held x.1)) (Err refusal) new → EndsBy (has_lines new.making.clashes.items) refusal result → Ends due result new
 ended due replace x rest old new (ByCode code) result w meets ends =
     let same : cond (has_lines w.now.clashes) (Ok w.now) (Err code) ≡ due = ap (go_on (run_over replace rest) w.now) (sym meets.0 ∙ ap (λ (b : Bool). run_after w.now x (step_of b w.now.before w.now.held x.1)) w.replace_is) ∙ w.same in
     ended_by due w.now code (has_lines new.making.clashes.items) result new refl same meets.1 meets.2 ends
@@ -94,12 +94,12 @@ first_left due replace asked i x copying lt here w = subst (λ (ys : List Placed
 
 -- a run at its start
 pub starts : {A : Type 0} (k : KeytabState) (asked : List PlacedEntry) (copying : Copying A) → copying.making.keytab.state ≡ k → copying.making.text.items ≡ [] → copying.making.clashes.items ≡ [] → copying.making.places.items ≡ []
-    → AreClasses [] (map as_found (placed_entries k)) copying.classes.map → AreTexts (name_texts asked) copying.texts.bytes.now copying.texts.lens.now → IsRun (run_start k) asked copying
+    → AreClasses [] (map as_found (placed_entries k)) copying.classes → AreTexts (name_texts asked) copying.texts.bytes.now copying.texts.lens.now → IsRun (run_start k) asked copying
 starts k asked copying keytab text clash to classes texts = record { keytab = keytab; text = text; clashes = clash; places = to; classes = classes; texts = texts }
 
-pub due_is : (replace by : Bool) (asked : List PlacedEntry) (k : KeytabState) → by ≡ replace → run_over by asked (run_start k) ≡ copy_run replace asked k
+pub due_is : (replace : Bool) (asked : List PlacedEntry) (k : KeytabState) → run_over replace asked (run_start k) ≡ copy_run replace asked k
 unfolding copy_run
-due_is replace by asked k e = ap (λ (b : Bool). run_over b asked (run_start k)) e
+due_is replace asked k = refl
 
 pub made_is : (due other : Result Run Code) (text clashes places : List ℕ) (keytab : KeytabState) → due ≡ other → IsMade due text clashes places keytab → IsMade other text clashes places keytab
 made_is due other text clashes places keytab e m = record { run = m.run; is_due = sym e ∙ m.is_due; text_is = m.text_is; clashes_are = m.clashes_are; places_are = m.places_are; keytab_is = m.keytab_is }

@@ -32,7 +32,7 @@ pub record IsRun {A : Type 0} (run : Run) (asked : List PlacedEntry) (copying : 
   pub text : copying.making.text.items ≡ run.text
   pub clashes : copying.making.clashes.items ≡ run.clashes
   pub places : copying.making.places.items ≡ run.places
-  pub classes : AreClasses run.before run.held copying.classes.map
+  pub classes : AreClasses run.before run.held copying.classes
   pub texts : AreTexts (name_texts asked) copying.texts.bytes.now copying.texts.lens.now
 
 -- an addition is refused and adds no line, or memory ran out

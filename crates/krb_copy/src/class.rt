@@ -1,8 +1,9 @@
 //! A class of twins: entries of one name, version and enctype.
 
-ghost use Rattle.std.specs.Prelude.{◌≡◌, ◌∷◌, ◌++◌, [], ◌||◌, ℕ, List, OnOk, IfOk, false, true};
+ghost use Rattle.std.specs.Prelude.{◌≡◌, ◌∷◌, ◌++◌, [], ◌||◌, ℕ, List, OnOk, IfOk, false, true, cond};
 ghost use Rattle.std.specs.Str.{bytes_eq};
-ghost use Rattle.krb_copy.specs.Classes.{has_among, has_key, places_of, stays};
+ghost use Rattle.krb_copy.specs.Copying as due;
+ghost use Rattle.krb_copy.specs.Classes.{has_among, has_key, places_of, seen_step, stays, step_at};
 
 use krb_wire::NoMemory;
 use std::alloc::Allocator;
@@ -18,10 +19,22 @@ pub struct Many<'t, A: Allocator> {
     stays: bool,
 }
 
-/// What a keytab has of a class: an entry at least. An entry stays if it was asked for, or the run added it. Most classes
-/// have one entry, which takes no memory of its own.
+/// What becomes of an entry asked for.
+#[derive(Drop)]
+pub enum Step<'a> {
+    There,
+    /// It clashes with the one at this place.
+    Clash(u32),
+    /// It is copied after those at these places are removed.
+    Copy(&'a [u32]),
+}
+
+/// What a keytab has of a class. An entry stays if it was asked for, or the run added it. Most classes have one entry,
+/// which takes no memory of its own.
 #[derive(Drop)]
 pub enum Class<'t, A: Allocator> {
+    /// Its first entry is still to be added.
+    Empty,
     /// The place and the key of one that was there before the run.
     Found(u32, &'t [u8]),
     /// The place and the key of one that stays.
@@ -64,68 +77,96 @@ impl<'t, A: Allocator + Copy> Many<'t, A> {
 }
 
 impl<'t, A: Allocator + Copy> Class<'t, A> {
-    /// Returns the places of its entries, in order.
-    pub fn places(&self) -> &[u32]
+    // Returns the places of its entries, in order.
+    fn places(&self) -> &[u32]
         ensures { result.now ≡ places_of self.now }
     {
         match self {
+            Class::Empty => &[],
             Class::Found(place, _) => slice::from_ref(place),
             Class::Kept(place, _) => slice::from_ref(place),
             Class::More(many) => &many.places,
         }
     }
 
-    /// Returns whether one of its entries has a key.
-    pub fn has_key(&self, key: &[u8]) -> bool
+    // Returns whether one of its entries has a key.
+    fn has_key(&self, key: &[u8]) -> bool
         ensures { result ≡ has_key self.now key.now }
     {
         match self {
+            Class::Empty => false,
             Class::Found(_, first) => key == *first,
             Class::Kept(_, first) => key == *first,
             Class::More(many) => many.keys.contains(key),
         }
     }
 
-    /// Returns whether one of its entries stays.
-    pub fn stays(&self) -> bool
+    // Returns whether one of its entries stays.
+    fn stays(&self) -> bool
         ensures { result ≡ stays self.now }
     {
         match self {
+            Class::Empty => false,
             Class::Found(_, _) => false,
             Class::Kept(_, _) => true,
             Class::More(many) => many.stays,
         }
     }
 
-    /// Returns the class with one more entry that was there before the run.
-    pub fn with(self, alloc: A, place: u32, key: &'t [u8]) -> Result<Class<'t, A>, NoMemory>
-        ensures places { IfOk result (λ class. places_of class ≡ places_of self.entry ++ place ∷ []) }
-        ensures keys { IfOk result (λ class. (k : List ℕ) → has_key class k ≡ (has_key self.entry k || bytes_eq k key.now)) }
-        ensures stays { IfOk result (λ class. stays class ≡ stays self.entry) }
+    // Returns what becomes of an entry whose key none of the class has.
+    fn step_at(&self, replace: bool) -> Step<'_>
+        ensures { seen_step result ≡ step_at replace (stays self.now) (places_of self.now) }
+    {
+        let places = self.places();
+        let Some(first) = places.first() else {
+            return Step::Copy(places);
+        };
+        if replace && !self.stays() {
+            return Step::Copy(places);
+        }
+        Step::Clash(*first)
+    }
+
+    /// Returns what becomes of an entry of the class that has this key.
+    pub fn step(&self, replace: bool, key: &[u8]) -> Step<'_>
+        ensures { seen_step result
+            ≡ cond (has_key self.now key.now) due.There (step_at replace (stays self.now) (places_of self.now)) }
+    {
+        if self.has_key(key) {
+            return Step::There;
+        }
+        self.step_at(replace)
+    }
+
+    /// Adds an entry that was there before the run.
+    pub fn push(&mut self, alloc: A, place: u32, key: &'t [u8]) -> Result<(), NoMemory>
+        ensures places { OnOk result (places_of self.new ≡ places_of self.old ++ place ∷ []) }
+        ensures keys { OnOk result ((k : List ℕ) → has_key self.new k ≡ (has_key self.old k || bytes_eq k key.now)) }
+        ensures stays { OnOk result (stays self.new ≡ stays self.old) }
     {
         match self {
+            Class::Empty => *self = Class::Found(place, key),
             Class::Found(first, first_key) => {
-                let many = Many::two(alloc, (first, first_key), (place, key), false)?;
-                Ok(Class::More(many))
+                let many = Many::two(alloc, (*first, *first_key), (place, key), false)?;
+                *self = Class::More(many);
             }
             Class::Kept(first, first_key) => {
-                let many = Many::two(alloc, (first, first_key), (place, key), true)?;
-                Ok(Class::More(many))
+                let many = Many::two(alloc, (*first, *first_key), (place, key), true)?;
+                *self = Class::More(many);
             }
-            Class::More(mut many) => {
-                many.push(place, key)?;
-                Ok(Class::More(many))
-            }
+            Class::More(many) => many.push(place, key)?,
         }
+        Ok(())
     }
 
     /// Keeps its entries: one of them was asked for.
     pub fn keep(&mut self)
         ensures places { places_of self.new ≡ places_of self.old }
         ensures keys { (k : List ℕ) → has_key self.new k ≡ has_key self.old k }
-        ensures stays { stays self.new ≡ true }
+        ensures stays { (k : List ℕ) → has_key self.old k ≡ true → stays self.new ≡ true }
     {
         match self {
+            Class::Empty => {}
             Class::Found(place, key) => *self = Class::Kept(*place, *key),
             Class::Kept(_, _) => {}
             Class::More(many) => many.stays = true,

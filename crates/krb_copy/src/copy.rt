@@ -6,7 +6,8 @@ ghost use Rattle.krb_copy.specs.Copying.{Run, copy_run, has_lines, run_after, ru
 ghost use Rattle.krb_copy.specs.Texts.{AreTexts, entry_texts, name_texts};
 ghost use Rattle.krb_copy.specs.Made.{Ends, EndsBy, IsMade, IsRefusedBy, Meets, IsRun};
 
-use crate::classes::{Classes, Step, class_key};
+use crate::class::{Class, Step};
+use crate::classes::{Classes, class_key, classes_of};
 use crate::making::Making;
 use crate::texts::{Texts, TextsLeft};
 use krb_keytab::{EntryView, Indexed, Keytab};
@@ -31,6 +32,7 @@ struct Copying<'t, A: Allocator> {
     making: Making<A>,
     classes: Classes<'t, A>,
     texts: TextsLeft<'t>,
+    replace: bool,
 }
 
 impl<'t, A: Allocator + Copy> Copying<'t, A> {
@@ -38,25 +40,20 @@ impl<'t, A: Allocator + Copy> Copying<'t, A> {
     fn meet(&mut self, alloc: A, place: u32, entry: &EntryView<'t>) -> Result<(), Refusal>
         ensures meets { (run : Run) (asked : List PlacedEntry) → IsRun run ((place, entry.now) ∷ asked) self.old
             → Meets run asked (run_after run (place, entry.now)
-            (step_of self.old.classes.replace run.before run.held entry.now)) result self.new }
-        ensures replace { self.new.classes.replace ≡ self.old.classes.replace }
+            (step_of self.old.replace run.before run.held entry.now)) result self.new }
+        ensures replace { self.new.replace ≡ self.old.replace }
     {
         let key = class_key(self.texts.next(), entry);
-        match self.classes.step(&key, entry.key()) {
-            Step::There => {
-                self.classes.keep(&key);
-                Ok(())
-            }
-            Step::Clash(twin) => {
-                self.making.clash(place, entry, twin)?;
-                Ok(())
-            }
+        let class = self.classes.entry(key)?.or_insert(Class::Empty);
+        match class.step(self.replace, entry.key()) {
+            Step::There => class.keep(),
+            Step::Clash(twin) => self.making.clash(place, entry, twin)?,
             Step::Copy(places) => {
                 let place = self.making.copy(alloc, places, entry)?;
-                self.classes.set_copy(key, place, entry.key())?;
-                Ok(())
+                *class = Class::Kept(place, entry.key());
             }
         }
+        Ok(())
     }
 
     // Ends the run at a refusal.
@@ -72,7 +69,7 @@ impl<'t, A: Allocator + Copy> Copying<'t, A> {
     // Goes over the entries asked for.
     fn go_over(&mut self, alloc: A, asked: &'t [(u32, EntryView<'t>)]) -> Result<(), Refusal>
         ensures { (run : Run) → IsRun run asked.now self.old
-            → Ends (run_over self.old.classes.replace asked.now run) result self.new }
+            → Ends (run_over self.old.replace asked.now run) result self.new }
     {
         'asked: for (place, entry) in asked {
             if let Err(refusal) = self.meet(alloc, *place, entry) {
@@ -97,7 +94,7 @@ fn copy_by<'t, A: Allocator + Copy>(
     ensures refused { IfErr result (IsRefusedBy (copy_run replace asked.now to.state)) }
 {
     let mut left = texts.left();
-    let classes = Classes::of(alloc, &to, &mut left, replace)?;
+    let classes = classes_of(alloc, &to, &mut left)?;
     let Ok(keytab) = Indexed::of(alloc, to) else {
         return Err(Refusal::NoMemory);
     };
@@ -111,6 +108,7 @@ fn copy_by<'t, A: Allocator + Copy>(
         making,
         classes,
         texts: left,
+        replace,
     };
     copying.go_over(alloc, asked)?;
     Ok(Copied {

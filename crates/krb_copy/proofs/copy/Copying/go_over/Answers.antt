@@ -6,7 +6,7 @@ use Rattle.krb_copy.proofs.copy.Copying.go_over.Goals as goal
 pub returns-in-Err : goal.returns-in-Err
 returns-in-Err g c = λ run s.
     let asked = c.args.asked.now in
-    let replace = c.args.self.now.classes.replace in
+    let replace = c.args.self.now.replace in
     let due = run_over replace asked run in
     let i = c.asked.place-index in
     let x : PlacedEntry = c.asked-item.result in
@@ -16,7 +16,7 @@ returns-in-Err g c = λ run s.
 pub asked-preserved : goal.asked-preserved
 asked-preserved g c = λ run s.
     let asked = c.args.asked.now in
-    let replace = c.args.self.now.classes.replace in
+    let replace = c.args.self.now.replace in
     let due = run_over replace asked run in
     let i = c.asked.place-index in
     let x : PlacedEntry = c.asked-item.result in
@@ -26,6 +26,6 @@ asked-preserved g c = λ run s.
 pub returns : goal.returns
 returns g c = λ run s.
     let asked = c.args.asked.now in
-    let replace = c.args.self.now.classes.replace in
+    let replace = c.args.self.now.replace in
     let due = run_over replace asked run in
     all_met due replace c.asked.self (subst (λ (ys : List PlacedEntry). IsOnTheWay due replace ys c.asked.self) (drop_all c.asked.place-index asked (omega arith)) (c.asked.invariant run s))
