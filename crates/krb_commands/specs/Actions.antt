@@ -1,11 +1,10 @@
 -- The action of a command line, and what it does.
-use Rattle.std.specs.Prelude.{unwrap_or, ◌≡◌, ℕ, List, [], ◌∷◌, codes, map, slice_get, Bool, true, false, IsTrue, IsFalse, if◌then◌else◌, Option, None, Some, Result, Ok, Err, string_bytes}
+use Rattle.std.specs.Prelude.{unwrap_or, ◌≡◌, ℕ, List, [], ◌∷◌, codes, map, slice_get, length, not, ◌==◌, is_some, Bool, true, false, IsTrue, IsFalse, if◌then◌else◌, Option, None, Some, Result, Ok, Err, string_bytes}
 use Rattle.krb_files.specs.declared.files.Files.{Ghosts}
-use Rattle.krb_files.specs.Bytes.{Watch}
-use Rattle.krb_files.specs.Reader.{Source}
 use Rattle.krb_audit.specs.declared.selection.SelectedKvno.{SelectedKvno}
 use Rattle.krb_audit.specs.declared.selection.SelectedKvno.TheVariants.{OldFor}
 use Rattle.krb_commands.specs.declared.action.Action.{Action}
+use Rattle.krb_commands.specs.declared.action.Needs.{Needs}
 use Rattle.krb_commands.specs.declared.action.Action.TheVariants.{CheckTicket, Ccedit, Ccremove, Klist, Ktcheck, Ktcopy, Ktedit, Ktfind, Ktremove, Ktutil, Hold, HoldOnTerminal, Help}
 use Rattle.krb_driver.specs.declared.command_line.mistake.WordFault.{WordFault}
 use Rattle.krb_driver.specs.declared.command_line.mistake.WordFault.TheVariants as word
@@ -18,11 +17,11 @@ use Rattle.krb_driver.specs.declared.file_name.NameSource.TheVariants.{Word}
 use Rattle.krb_driver.specs.declared.verdict.FileKind.{FileKind}
 use Rattle.krb_driver.specs.declared.verdict.FileKind.TheVariants.{Keytab, Cache}
 use Rattle.krb_driver.specs.declared.verdict.Verdict.TheVariants.{Well}
+use Rattle.krb_driver.specs.declared.world.World.{World}
 use Rattle.krb_driver.specs.FileNames.{IsNamed, bare_name, is_other_type}
 use Rattle.krb_editors.specs.Ccedit.{ccedit_fairly, ccedit_plan}
-use Rattle.krb_editors.specs.Ccremove.{RunsCcremove, SpellsTickets, ended_by, ticket_mistake}
-use Rattle.krb_driver.specs.Commands.{RunsCommand, always, any}
-use Rattle.krb_driver.specs.ErrorOutput.{ErrorWatch}
+use Rattle.krb_editors.specs.Ccremove.{SpellsTickets, ccremove_plan, ended_by, ticket_mistake}
+use Rattle.krb_driver.specs.Commands.{Runs, RunsWith, always, any}
 use Rattle.krb_readers.specs.Klist.{file_kind, klist_plan, list_mistake, list_options}
 use Rattle.krb_readers.specs.TicketCheck.{RunsTicketCheck, check_mistake, check_of}
 use Rattle.krb_readers.specs.declared.klist.ticket_check.TicketCheck.{TicketCheck}
@@ -34,7 +33,7 @@ use Rattle.krb_editors.specs.Hold.{RunsHold, file_kind as held_kind, hold_kind, 
 use Rattle.krb_editors.specs.Ktedit.{ktedit_fairly, ktedit_plan}
 use Rattle.krb_readers.specs.Ktfind.{SpellsEntry, find_mistake, ktfind_plan}
 use Rattle.krb_editors.specs.Ktcopy.{SpellsCopy, copy_mistake, ktcopy_plan}
-use Rattle.krb_editors.specs.Ktremove.{RunsKtremove, SpellsRemoval, needed_time, remove_mistake}
+use Rattle.krb_editors.specs.Ktremove.{SpellsRemoval, ktremove_plan, needed_time, remove_mistake}
 use Rattle.krb_ktutil.specs.Ktutil.{RunsKtutil}
 use Rattle.krb_driver.specs.Matches.{Matched, v1_order}
 use Rattle.krb_driver.specs.Mistakes.{MistakeParts, word_status, word_text}
@@ -118,29 +117,42 @@ abbrev pub is_timed : SelectedKvno → Bool
 is_timed (OldFor seconds) = true
 is_timed kvno = false
 
--- an action needs the time of the clock
-abbrev pub needs_clock : Action → Bool
-needs_clock (CheckTicket check file) = true
-needs_clock (Ktutil options) = true
-needs_clock (Ktremove options file) = is_timed options.selection.kvno
-needs_clock (Ccremove options file) = options.expired
-needs_clock action = false
+-- what a line needs beside its files: nothing
+abbrev pub nothing : Needs
+nothing = record { clock = false; plain = false; in_place = false; script = false; json = false; left_out = None }
 
--- an action is for plain files alone
-abbrev pub wants_plain : Action → Bool
-wants_plain (CheckTicket check file) = true
-wants_plain action = false
+-- a line that edits a file needs what its words say of saves, and perhaps a script or the time
+abbrev pub edits : FileName → Bool → Bool → Needs
+edits file script clock = record nothing { clock = clock; script = script; in_place = file.in_place }
 
--- an action saves its file in place
-abbrev pub saves_in_place : Action → Bool
-saves_in_place (Ktedit order file) = file.in_place
-saves_in_place (Ktremove options file) = file.in_place
-saves_in_place (Ktcopy options from to) = to.in_place
-saves_in_place (Ccedit file) = file.in_place
-saves_in_place (Ccremove options file) = file.in_place
-saves_in_place (Ktutil options) = options.in_place
-saves_in_place (Hold kind file) = file.in_place
-saves_in_place action = false
+-- a file of that kind is left out by that command, unless the line names one
+abbrev pub left_out : Bool → FileKind → CommandName → Option (FileKind × CommandName)
+left_out is_named kind command = if is_named then None else Some (kind, command)
+
+-- what an action needs
+abbrev pub needs : Action → Needs
+needs (Klist options file) = record nothing { json = options.json; left_out = left_out (is_some file) (file_kind options.kind) name.Klist }
+needs (CheckTicket check file) = record nothing { clock = true; plain = true; left_out = left_out (is_some file) Cache name.Klist }
+needs (Ktcheck options names) = record nothing { left_out = left_out (not (length names.items == 0)) Keytab name.Ktcheck }
+needs (Ktedit order file) = edits file true false
+needs (Ccedit file) = edits file true false
+needs (Ktremove options file) = edits file false (is_timed options.selection.kvno)
+needs (Ccremove options file) = edits file false options.expired
+needs (Ktcopy options from to) = edits to false false
+needs (Hold kind file) = edits file false false
+needs (Ktutil options) = record nothing { clock = true; in_place = options.in_place }
+needs action = nothing
+
+-- what a line needs; nothing if it was not read
+abbrev pub needs_of : Result Action WordFault → Needs
+needs_of (Ok action) = needs action
+needs_of (Err fault) = nothing
+
+-- a line at a terminal as the output, or typed on one: no image is printed to it, and ktutil prompts for what is typed
+abbrev pub at_terminal : Bool → Bool → Result Action WordFault → Result Action WordFault
+at_terminal shows types (Ok (Hold kind file)) = Ok (if shows then HoldOnTerminal else Hold kind file)
+at_terminal shows types (Ok (Ktutil options)) = Ok (Ktutil (record options { prompts = types }))
+at_terminal shows types parsed = parsed
 
 -- the run that prints a help text
 abbrev pub help_run : List ℕ → Run
@@ -155,54 +167,57 @@ abbrev pub file_or : Option FileName → DefaultName → DefaultName
 file_or (Some file) default = Ok file
 file_or None default = default
 
-module _ {F : Type 0} (trait : Ghosts F) (old new : F) (out out' : Watch) (err err' : ErrorWatch) (status : ℕ) where
+module _ {F R W E : Type 0} (trait : Ghosts F) (old new : World F R W E) (status : ℕ) where
   -- it is reported why the command line was not read, and nothing else is done
   pub record EndsByWords (fault : WordFault) : Type 0 where
-    pub files : new ≡ old
-    pub quiet : out' ≡ out
-    pub writes : Writes err.to err'.to (word_text err.explains fault)
-    pub still : err'.explains ≡ err.explains
+    pub same : new ≡ record old { err = new.err }
+    pub writes : Writes old.err.to new.err.to (word_text old.err.explains fault)
+    pub still : new.err.explains ≡ old.err.explains
     pub status_is : status ≡ word_status fault
 
   -- a file is listed
   abbrev pub Lists : KlistOptions → DefaultName → Type 0
-  Lists options (Ok file) = RunsCommand trait (always (klist_plan options file)) any old new out out' err err' status
+  Lists options (Ok file) = Runs trait (always (klist_plan options file)) any old new status
   Lists options (Err fault) = EndsByWords fault
 
   -- the tickets of a file are checked, which prints nothing; without memory for its name neither
   abbrev pub ChecksTickets : TicketCheck → Option ℕ → DefaultName → Type 0
-  ChecksTickets check now (Ok file) = RunsTicketCheck trait file old new status check now × (out' ≡ out) × (err' ≡ err)
-  ChecksTickets check now (Err word.NoMemory) = (new ≡ old) × (out' ≡ out) × (err' ≡ err) × (status ≡ 4)
+  ChecksTickets check now (Ok file) = RunsTicketCheck trait file old.files new.files status check now × (new ≡ record old { files = new.files })
+  ChecksTickets check now (Err word.NoMemory) = (new ≡ old) × (status ≡ 4)
   ChecksTickets check now (Err fault) = EndsByWords fault
 
   -- the default keytab is checked
   abbrev pub ChecksDefault : CheckOptions → DefaultName → Type 0
-  ChecksDefault options (Ok file) = ChecksAll trait options (file ∷ []) old new out out' err err' status
+  ChecksDefault options (Ok file) = ChecksAll trait options (file ∷ []) old new status
   ChecksDefault options (Err fault) = EndsByWords fault
 
   -- keytabs are checked: the default one if none is named
   abbrev pub ChecksKeytabs : CheckOptions → DefaultName → List FileName → Type 0
   ChecksKeytabs options default [] = ChecksDefault options default
-  ChecksKeytabs options default (file ∷ files) = ChecksAll trait options (file ∷ files) old new out out' err err' status
+  ChecksKeytabs options default (file ∷ files) = ChecksAll trait options (file ∷ files) old new status
 
-module _ {F : Type 0} (trait : Ghosts F) (now : Option ℕ) (default : DefaultName) (input input' : Source) (old new : F) (out out' : Watch) (err err' : ErrorWatch) (status : ℕ) where
-  -- what an action does over the files, and over what the standard input gives: only scripts, the lines of ktutil and what is given back to hold are read
+  -- a run that uses no file prints and reports what is due
+  abbrev pub Prints : Run → Type 0
+  Prints due = (new ≡ record old { out = new.out; err = new.err }) × EndsRun [] None due old.out new.out old.err new.err status
+
+module _ {F R W E : Type 0} (trait : Ghosts F) (old new : World F R W E) (status : ℕ) (now : Option ℕ) (default : DefaultName) where
+  -- what an action does over a world: only scripts, the lines of ktutil and what is given back to hold are read from its input
   abbrev pub EndsAction : Action → Type 0
-  EndsAction (Klist options file) = Lists trait old new out out' err err' status options (file_or file default) × (input' ≡ input)
-  EndsAction (CheckTicket check file) = ChecksTickets trait old new out out' err err' status check now (file_or file default) × (input' ≡ input)
-  EndsAction (Ktfind options file) = RunsCommand trait (always (ktfind_plan options file)) any old new out out' err err' status × (input' ≡ input)
-  EndsAction (Ktedit order file) = RunsScript trait old new out out' err err' status (ktedit_plan order file) (ktedit_fairly order file) event_in input input'
-  EndsAction (Ktcheck options names) = ChecksKeytabs trait old new out out' err err' status options default names.items × (input' ≡ input)
-  EndsAction (Ktremove options file) = RunsKtremove trait file options old new out out' err err' status (needed_time options.selection.kvno now) × (input' ≡ input)
-  EndsAction (Ktcopy options from to) = RunsCommand trait (always (ktcopy_plan options from to)) any old new out out' err err' status × (input' ≡ input)
-  EndsAction (Ktutil options) = RunsKtutil trait options.v1_order options.prompts (unwrap_or now 0) input input' old new out out' err err' status
-  EndsAction (Ccedit file) = RunsScript trait old new out out' err err' status (ccedit_plan file) ccedit_fairly cache_line_in input input'
-  EndsAction (Ccremove options file) = RunsCcremove trait file options old new out out' err err' status (ended_by options now) × (input' ≡ input)
-  EndsAction (Hold kind file) = RunsHold trait old new out out' err err' status kind file input input'
-  EndsAction HoldOnTerminal = (new ≡ old) × (input' ≡ input) × EndsRun [] None (ends_by OutputIsTerminal) out out' err err' status
-  EndsAction (Help text) = (new ≡ old) × (input' ≡ input) × EndsRun [] None (help_run (string_bytes text)) out out' err err' status
+  EndsAction (Klist options file) = Lists trait old new status options (file_or file default)
+  EndsAction (CheckTicket check file) = ChecksTickets trait old new status check now (file_or file default)
+  EndsAction (Ktfind options file) = Runs trait (always (ktfind_plan options file)) any old new status
+  EndsAction (Ktedit order file) = RunsScript trait old new status (ktedit_plan order file) (ktedit_fairly order file) event_in
+  EndsAction (Ktcheck options names) = ChecksKeytabs trait old new status options default names.items
+  EndsAction (Ktremove options file) = RunsWith trait old new status (ktremove_plan options file) (λ time. any) (needed_time options.selection.kvno now)
+  EndsAction (Ktcopy options from to) = Runs trait (always (ktcopy_plan options from to)) any old new status
+  EndsAction (Ktutil options) = RunsKtutil trait options.v1_order options.prompts (unwrap_or now 0) old new status
+  EndsAction (Ccedit file) = RunsScript trait old new status (ccedit_plan file) ccedit_fairly cache_line_in
+  EndsAction (Ccremove options file) = RunsWith trait old new status (ccremove_plan options file) (λ ended. any) (ended_by options now)
+  EndsAction (Hold kind file) = RunsHold trait old new status kind file
+  EndsAction HoldOnTerminal = Prints trait old new status (ends_by OutputIsTerminal)
+  EndsAction (Help text) = Prints trait old new status (help_run (string_bytes text))
 
   -- the action was run, or it was reported why there is none
   abbrev pub EndsParsed : Result Action WordFault → Type 0
   EndsParsed (Ok action) = EndsAction action
-  EndsParsed (Err fault) = EndsByWords trait old new out out' err err' status fault × (input' ≡ input)
+  EndsParsed (Err fault) = EndsByWords trait old new status fault

@@ -1,7 +1,7 @@
 //! The commands, and the actions of their command lines.
 
 ghost use Rattle.std.specs.Prelude.{◌≡◌, codes, map, slice_get, IfErr, IfOk, None, OnOk};
-ghost use Rattle.krb_commands.specs.Actions.{AreNamed, Asks, AsksHold, AsksKlist, AsksKtcheck, IsEdited, NamesFile, klist_mistake, line_mistake, needs_clock, saves_in_place, wants_plain};
+ghost use Rattle.krb_commands.specs.Actions.{AreNamed, Asks, AsksHold, AsksKlist, AsksKtcheck, IsEdited, NamesFile, at_terminal, edits, klist_mistake, left_out, line_mistake, needs, needs_of, nothing};
 ghost use Rattle.krb_driver.specs.FileNames.{IsNamed};
 ghost use Rattle.krb_driver.specs.declared.file_name.NameSource.TheVariants.{Word};
 ghost use Rattle.krb_readers.specs.CheckWords.{bad_findings};
@@ -86,77 +86,127 @@ pub enum Action<'a> {
     Help(String),
 }
 
+/// What the run of a command line needs of the system, beside its files.
+#[derive(Clone, Copy)]
+pub struct Needs {
+    /// The time: for entries that ktutil adds, entries that have been old for some time, or tickets that have expired
+    /// or will.
+    pub clock: bool,
+    /// Only plain files are loaded: any other is refused before it is opened.
+    pub plain: bool,
+    /// Files are saved in place.
+    pub in_place: bool,
+    /// A script is read.
+    pub script: bool,
+    /// JSON is printed, which a terminal shows as it is.
+    pub json: bool,
+    /// The kind of the file that the line leaves out, and its command.
+    pub left_out: Option<(FileKind, CommandName)>,
+}
+
+impl Needs {
+    // Returns those of a line that needs nothing more.
+    fn nothing() -> Needs
+        ensures { result ≡ nothing }
+    {
+        Needs {
+            clock: false,
+            plain: false,
+            in_place: false,
+            script: false,
+            json: false,
+            left_out: None,
+        }
+    }
+
+    // Returns those of a line that edits a file, by a script or not.
+    fn edits(file: &FileName<'_>, script: bool, clock: bool) -> Needs
+        ensures { result ≡ edits file.now script clock }
+    {
+        Needs {
+            clock,
+            script,
+            in_place: file.in_place,
+            ..Needs::nothing()
+        }
+    }
+}
+
+// Returns what is left out if a line does not name its file.
+fn left_out(is_named: bool, kind: FileKind, command: CommandName) -> Option<(FileKind, CommandName)>
+    ensures { result ≡ left_out is_named kind command }
+{
+    if is_named {
+        None
+    } else {
+        Some((kind, command))
+    }
+}
+
 impl Action<'_> {
-    /// Returns whether it needs the current time: for entries that ktutil adds, entries that have been old for some
-    /// time, or tickets that have expired or will.
-    pub fn needs_clock(&self) -> bool
-        ensures { result ≡ needs_clock self.now }
+    // Returns what it needs.
+    fn needs(&self) -> Needs
+        ensures { result ≡ needs self.now }
     {
         match self {
-            Action::CheckTicket(..) | Action::Ktutil(..) => true,
-            Action::Ktremove(options, _) => {
-                matches!(options.selection.kvno, SelectedKvno::OldFor(_))
+            Action::Klist(options, file) => Needs {
+                json: options.json,
+                left_out: left_out(file.is_some(), options.kind.file_kind(), CommandName::Klist),
+                ..Needs::nothing()
+            },
+            Action::CheckTicket(_, file) => Needs {
+                clock: true,
+                plain: true,
+                left_out: left_out(file.is_some(), FileKind::Cache, CommandName::Klist),
+                ..Needs::nothing()
+            },
+            Action::Ktcheck(_, names) => Needs {
+                left_out: left_out(!names.is_empty(), FileKind::Keytab, CommandName::Ktcheck),
+                ..Needs::nothing()
+            },
+            Action::Ktedit(_, file) | Action::Ccedit(file) => Needs::edits(file, true, false),
+            Action::Ktremove(options, file) => {
+                let is_timed = matches!(options.selection.kvno, SelectedKvno::OldFor(_));
+                Needs::edits(file, false, is_timed)
             }
-            Action::Ccremove(options, _) => options.expired,
-            _ => false,
+            Action::Ccremove(options, file) => Needs::edits(file, false, options.expired),
+            Action::Ktcopy(_, _, file) | Action::Hold(_, file) => Needs::edits(file, false, false),
+            Action::Ktutil(options) => Needs {
+                clock: true,
+                in_place: options.in_place,
+                ..Needs::nothing()
+            },
+            Action::Ktfind(..) | Action::HoldOnTerminal | Action::Help(_) => Needs::nothing(),
         }
     }
+}
 
-    /// Returns the kind of the file that the line leaves out, if it does, and the name of the command.
-    pub fn left_out(&self) -> Option<(FileKind, &'static str)> {
-        match self {
-            Action::Klist(options, None) => Some((options.kind.file_kind(), KLIST.name)),
-            Action::CheckTicket(_, None) => Some((FileKind::Cache, KLIST.name)),
-            Action::Ktcheck(_, names) if names.is_empty() => Some((FileKind::Keytab, KTCHECK.name)),
-            _ => None,
-        }
+/// Returns the action of a line for a terminal as the output, and for one that is typed on and has the error output
+/// too: no image is printed to a terminal, and ktutil prompts for lines that are typed.
+pub fn at_terminal<'a>(
+    parsed: Result<Action<'a>, WordFault<'a>>,
+    shows: bool,
+    types: bool,
+) -> Result<Action<'a>, WordFault<'a>>
+    ensures { result ≡ at_terminal shows types parsed.entry }
+{
+    match parsed {
+        Ok(Action::Hold(..)) if shows => Ok(Action::HoldOnTerminal),
+        Ok(Action::Ktutil(options)) => Ok(Action::Ktutil(KtutilOptions {
+            prompts: types,
+            ..options
+        })),
+        parsed => parsed,
     }
+}
 
-    /// Returns whether it is for plain files alone, so that any other is to be refused before it is opened.
-    pub fn wants_plain(&self) -> bool
-        ensures { result ≡ wants_plain self.now }
-    {
-        matches!(self, Action::CheckTicket(..))
-    }
-
-    /// Returns the action for an output that is a terminal: no image is printed there.
-    pub fn on_terminal(self) -> Self {
-        match self {
-            Action::Hold(..) => Action::HoldOnTerminal,
-            action => action,
-        }
-    }
-
-    /// Returns the action for an input and an error output that are terminals: ktutil prompts for its lines.
-    pub fn with_prompts(self) -> Self {
-        match self {
-            Action::Ktutil(options) => Action::Ktutil(KtutilOptions {
-                prompts: true,
-                ..options
-            }),
-            action => action,
-        }
-    }
-
-    /// Returns whether it reads a script.
-    pub fn reads_script(&self) -> bool {
-        matches!(self, Action::Ktedit(..) | Action::Ccedit(_))
-    }
-
-    /// Returns whether it saves its file in place.
-    pub fn saves_in_place(&self) -> bool
-        ensures { result ≡ saves_in_place self.now }
-    {
-        match self {
-            Action::Ktedit(_, file)
-            | Action::Ktremove(_, file)
-            | Action::Ktcopy(_, _, file)
-            | Action::Ccedit(file)
-            | Action::Ccremove(_, file)
-            | Action::Hold(_, file) => file.in_place,
-            Action::Ktutil(options) => options.in_place,
-            _ => false,
-        }
+/// Returns what the run of a line needs.
+pub fn needs_of(parsed: &Result<Action<'_>, WordFault<'_>>) -> Needs
+    ensures { result ≡ needs_of parsed.now }
+{
+    match parsed {
+        Ok(action) => action.needs(),
+        Err(_) => Needs::nothing(),
     }
 }
 

@@ -4,10 +4,12 @@
 mod action;
 mod response;
 
-pub use action::{Action, COMMANDS, KtutilOptions, action_of, words_of};
+pub use action::{
+    Action, COMMANDS, KtutilOptions, Needs, action_of, at_terminal, needs_of, words_of,
+};
 pub use krb_driver::{
     BadLine, CommandName, CommandWords, ErrorOutput, FileKind, FileName, Matches, Mistake, More,
-    NameSource, NotKeytab, Streams, Word, WordFault,
+    NameSource, NotKeytab, Word, WordFault, World,
 };
 pub use krb_editors::{
     CopyOptions, HoldKind, RemoveOptions, TicketOptions, run_ccedit, run_ccremove, run_hold,

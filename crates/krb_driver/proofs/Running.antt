@@ -9,13 +9,13 @@ use Rattle.krb_files.specs.Bytes.{Watch}
 use Rattle.krb_files.specs.Files.{SameFiles, CountsFailure}
 use Rattle.krb_driver.specs.declared.error.RunError.TheVariants as error
 use Rattle.krb_files.specs.Loading.{Answer, SavesFile, TurnsHold}
-use Rattle.krb_driver.specs.ErrorOutput.{ErrorWatch}
+use Rattle.krb_driver.specs.declared.world.World.{World}
 use Rattle.krb_driver.specs.Runs.{Run, Shows, Reports, ends_by}
 use Rattle.krb_driver.specs.RunErrors.{Ending}
 use Rattle.krb_driver.specs.declared.reporting.details.Details.{Details}
 use Rattle.krb_driver.specs.declared.verdict.Verdict.{Verdict}
 use Rattle.krb_files.specs.Plan.{follow}
-use Rattle.krb_driver.specs.Commands.{Does, EndsCommand, Keeps, RunsCommand, Settles, ShowsEnd, ShowsPage, Takes}
+use Rattle.krb_driver.specs.Commands.{Does, EndsCommand, Keeps, Settles, ShowsEnd, ShowsPage, Takes}
 use Rattle.krb_driver.specs.Effects.{CommandPlan, Displays, Effect, Fails, Page, Saves, about, faults, files_after, saved_end, settled, text}
 use Rattle.krb_files.proofs.PlanLaws.{comes, count-more, count-trans, loaded-lasts, same-trans, with_bytes-set}
 
@@ -122,28 +122,24 @@ keeps-left trait plan old done new end left (inr (inl failed)) =
 keeps-left trait plan old done new end left (inr (inr spent)) = inr (inr (same-trans (trait.file old) (trait.file done) (trait.file new) spent.0 left.same, spent.1))
 
 -- a command did its work, released what it held, showed what is left to show, and its end was reported
-runs-shown : {F : Type 0} (trait : Ghosts F) (plan : Option ℕ → CommandPlan) (Fairly : List Answer → Type 0) (old done new : F) (out out' : Watch) (err err' : ErrorWatch) (status : ℕ) (end : Effect) (ending : Ending) (details : Details)
-    → Does trait plan Fairly old done end → TurnsHold trait None done new → ShowsEnd out out' ending end → Reports (about end) None details ending err err' status → details.aftermath ≡ trait.aftermath new
-    → RunsCommand trait plan Fairly old new out out' err err' status
-runs-shown trait plan Fairly old done new out out' err err' status end ending details d left shows reported told = record {
-  end = end;
-  ending = ending;
-  done = done;
-  does = d;
-  left = left;
-  shown = shows;
-  details = details;
-  reported = reported;
-  told = told;
-  honest = λ h. keeps-left trait (plan (trait.mode d.between)) old done new end left (does-keeps trait plan Fairly old done end d h);
-  spared = λ spent h. same-trans (trait.file old) (trait.file done) (trait.file new) (does-spared trait plan Fairly old done end d h out out' ending spent shows) left.same;
-  quiet = λ spent. quiet-end out out' ending spent end shows;
+pub ends-shown : {F R W E : Type 0} (trait : Ghosts F) (plan : Option ℕ → CommandPlan) (Fairly : List Answer → Type 0) (old new : World F R W E) (done : F) (status : ℕ) (end : Effect) (ending : Ending) (details : Details)
+    → Does trait plan Fairly old.files done end → TurnsHold trait None done new.files → ShowsEnd old.out new.out ending end → Reports (about end) None details ending old.err new.err status → details.aftermath ≡ trait.aftermath new.files
+    → new.input ≡ old.input → EndsCommand trait plan Fairly old new (record { ending = ending; status = status })
+ends-shown trait plan Fairly old new done status end ending details d left shows reported told input = record {
+  runs = record {
+    end = end;
+    ending = ending;
+    done = done;
+    does = d;
+    left = left;
+    shown = shows;
+    details = details;
+    reported = reported;
+    told = told;
+    input = input;
+    honest = λ h. keeps-left trait (plan (trait.mode d.between)) old.files done new.files end left (does-keeps trait plan Fairly old.files done end d h);
+    spared = λ spent h. same-trans (trait.file old.files) (trait.file done) (trait.file new.files) (does-spared trait plan Fairly old.files done end d h old.out new.out ending spent shows) left.same;
+    quiet = λ spent. quiet-end old.out new.out ending spent end shows;
+  };
+  ending_is = refl;
 }
-
--- the same, with how it ended
-pub ends-shown : {F : Type 0} (trait : Ghosts F) (plan : Option ℕ → CommandPlan) (Fairly : List Answer → Type 0) (old done new : F) (out out' : Watch) (err err' : ErrorWatch) (status : ℕ) (end : Effect) (ending : Ending) (details : Details)
-    → Does trait plan Fairly old done end → TurnsHold trait None done new → ShowsEnd out out' ending end → Reports (about end) None details ending err err' status → details.aftermath ≡ trait.aftermath new
-    → EndsCommand trait plan Fairly old new out out' err err' (record { ending = ending; status = status })
-unfolding runs-shown
-ends-shown trait plan Fairly old done new out out' err err' status end ending details d left shows reported told =
-    record { runs = runs-shown trait plan Fairly old done new out out' err err' status end ending details d left shows reported told; ending_is = refl }

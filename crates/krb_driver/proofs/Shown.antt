@@ -1,15 +1,32 @@
 -- What is shown of a run.
-use Rattle.std.proofs.Common.{◌≡◌, ℕ, List, [], ◌++◌, refl, sym, subst, arith}
-use Rattle.std.specs.Prelude.{max, Bool, true, false, Option, None, Ok}
+use Rattle.std.proofs.Common.{◌≡◌, ℕ, List, [], ◌++◌, refl, sym, subst, inl, ◌∙◌, arith}
+use Rattle.std.specs.Prelude.{max, Bool, true, false, Option, None, IsTrue, Result, Ok, Err}
+use Rattle.std.proofs.lemmas.Bool.{true≢false}
 use Rattle.krb_files.specs.Bytes.{Watch}
 use Rattle.krb_files.proofs.Prefixes.{AppendsPrefix-none, Appends-nil}
 use Rattle.krb_driver.specs.declared.verdict.Verdict.TheVariants.{Well}
-use Rattle.krb_driver.specs.Runs.{Writes, ReportsEnd}
+use Rattle.krb_driver.specs.declared.command.FileError.{FileError}
+use Rattle.krb_driver.specs.declared.command.Ready.{Ready}
+use Rattle.krb_driver.specs.declared.command.Ready.TheVariants as ready
+use Rattle.krb_driver.specs.declared.error.RunError.TheVariants.{OutputNotWritten}
+use Rattle.krb_driver.specs.Commands.{ShowsEnd, ready_end}
+use Rattle.krb_driver.specs.Effects.{Page}
+use Rattle.krb_driver.specs.Runs.{Run, Shows, Writes, ReportsEnd, ends_by}
 use Rattle.krb_files.specs.declared.aftermath.Aftermath.{Aftermath}
 use Rattle.krb_driver.specs.declared.reporting.details.Details.{Details}
 use Rattle.krb_driver.specs.Words.{aftermath_text, ending_words, own_text, words_if}
 use Rattle.krb_driver.specs.ErrorOutput.{ErrorWatch}
 use Rattle.krb_driver.specs.RunErrors.{Ending, aftermath_status, end_status, ending_message, ending_status}
+
+-- once an output has failed, nothing more is shown
+module _ (out : Watch) (failed : IsTrue out.failed) where
+  pub unshown : (due : Run) → Shows due out out (Err OutputNotWritten)
+  unshown due = record { done = λ well. absurd (true≢false (sym failed ∙ well)); prefix = AppendsPrefix-none out.contents due.out; failed = λ _. refl; still = λ _. refl }
+
+  pub unshown-end : {A S : Type 0} (page : S → List ℕ → Page) (file : List ℕ) (end : Result (Ready A S) FileError) → ShowsEnd out out (Err OutputNotWritten) (ready_end page file end)
+  unshown-end page file (Ok (ready.Shows shown)) = inl (unshown (record { out = (page shown file).out; ending = Ok (page shown file).verdict }))
+  unshown-end page file (Ok (ready.Prints shown)) = inl (unshown (record { out = shown.text.items; ending = Ok shown.verdict }))
+  unshown-end page file (Err met) = unshown (ends_by met.error)
 
 -- nothing was to be written
 pub Writes-nothing : (w : Watch) → Writes w w []

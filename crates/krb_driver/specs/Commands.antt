@@ -17,9 +17,9 @@ use Rattle.krb_driver.specs.declared.command.Ready.TheVariants as ready
 use Rattle.krb_driver.specs.declared.reporting.details.Details.{Details}
 use Rattle.krb_driver.specs.declared.error.RunError.{RunError}
 use Rattle.krb_driver.specs.declared.file_name.FileName.{FileName}
+use Rattle.krb_driver.specs.declared.world.World.{World}
 use Rattle.krb_driver.specs.declared.error.RunError.TheVariants as error
 use Rattle.krb_driver.specs.Effects.{CommandPlan, Effect, Fails, Displays, Saves, IsFailure, IsSpent, Page, about, faults, files_after, opens, saved_end, settled, text}
-use Rattle.krb_driver.specs.ErrorOutput.{ErrorWatch}
 use Rattle.krb_driver.specs.Runs.{Run, Shows, BreaksOff, Reports, ends_by}
 use Rattle.krb_driver.specs.RunErrors.{Ending, error_of_name}
 
@@ -116,27 +116,39 @@ abbrev pub Takes : Effect → Type 0
 Takes (Displays file page) = IsTrue page.takes
 Takes effect = ⊥
 
--- a run of a command: what it saves and prints and how it ends is a function of its calls' results; it then holds nothing, and tells what its save left behind
-pub record RunsCommand {F : Type 0} (trait : Ghosts F) (plan : Option ℕ → CommandPlan) (Fairly : List Answer → Type 0) (old new : F) (out out' : Watch) (err err' : ErrorWatch) (status : ℕ) : Type 0 where
-  pub end : Effect
-  pub ending : Ending
-  pub done : F
-  pub does : Does trait plan Fairly old done end
-  pub left : TurnsHold trait None done new
-  pub shown : ShowsEnd out out' ending end
-  pub details : Details
-  pub reported : Reports (about end) None details ending err err' status
-  pub told : details.aftermath ≡ trait.aftermath new
-  -- over honest files
-  pub honest : trait.is_honest old → Keeps trait (plan (trait.mode does.between)) old new end
-  -- if memory runs out
-  pub spared : ending ≡ Err error.NoMemory → trait.is_honest old → SameFiles (trait.file old) (trait.file new)
-  pub quiet : ending ≡ Err error.NoMemory → Shows (ends_by error.NoMemory) out out' ending ⊎ Takes end
+module _ {F R W E : Type 0} (trait : Ghosts F) (plan : Option ℕ → CommandPlan) (Fairly : List Answer → Type 0) (old new : World F R W E) where
+  -- a run of a command: what it saves and prints and how it ends is a function of its calls' results; it then holds nothing, and tells what its save left behind
+  pub record Runs (status : ℕ) : Type 0 where
+    pub end : Effect
+    pub ending : Ending
+    pub done : F
+    pub does : Does trait plan Fairly old.files done end
+    pub left : TurnsHold trait None done new.files
+    pub shown : ShowsEnd old.out new.out ending end
+    pub details : Details
+    pub reported : Reports (about end) None details ending old.err new.err status
+    pub told : details.aftermath ≡ trait.aftermath new.files
+    pub input : new.input ≡ old.input
+    -- over honest files
+    pub honest : trait.is_honest old.files → Keeps trait (plan (trait.mode does.between)) old.files new.files end
+    -- if memory runs out
+    pub spared : ending ≡ Err error.NoMemory → trait.is_honest old.files → SameFiles (trait.file old.files) (trait.file new.files)
+    pub quiet : ending ≡ Err error.NoMemory → Shows (ends_by error.NoMemory) old.out new.out ending ⊎ Takes end
 
--- the same for a run that ended so
-pub record EndsCommand {F : Type 0} (trait : Ghosts F) (plan : Option ℕ → CommandPlan) (Fairly : List Answer → Type 0) (old new : F) (out out' : Watch) (err err' : ErrorWatch) (end : RunEnd) : Type 0 where
-  pub runs : RunsCommand trait plan Fairly old new out out' err err' end.status
-  pub ending_is : runs.ending ≡ end.ending
+  -- the same for a run that ended so
+  pub record EndsCommand (end : RunEnd) : Type 0 where
+    pub runs : Runs end.status
+    pub ending_is : runs.ending ≡ end.ending
+
+module _ {F R W E : Type 0} (trait : Ghosts F) (old new : World F R W E) (status : ℕ) where
+  -- an error ends a run before it does anything; there is no save that left something behind
+  abbrev pub EndsBefore : RunError → Type 0
+  EndsBefore why = (new ≡ record old { err = new.err }) × ((details : Details) × ((details.aftermath ≡ None) × Reports [] None details (Err why) old.err new.err status))
+
+  -- a command is run with what it needs first, or the error that there is none ends the run
+  abbrev pub RunsWith : {X : Type 0} → (X → CommandPlan) → (X → List Answer → Type 0) → Result X RunError → Type 0
+  RunsWith plan fairly (Ok x) = Runs trait (λ mode. plan x) (fairly x) old new status
+  RunsWith plan fairly (Err why) = EndsBefore why
 
 -- that plan, whatever the mode of the file is
 unfoldable pub always : CommandPlan → Option ℕ → CommandPlan

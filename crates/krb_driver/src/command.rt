@@ -1,18 +1,18 @@
 //! What a command is, and the driver that runs one.
 
-ghost use Rattle.std.specs.Prelude.{◌≡◌, ℕ, List, IsFalse};
-ghost use Rattle.krb_driver.specs.Commands.{Does, EndsCommand, RunsCommand, ShowsEnd, output_page, made_effect, ready_end};
+ghost use Rattle.std.specs.Prelude.{◌≡◌, ℕ, List};
+ghost use Rattle.krb_driver.specs.Commands.{Does, EndsBefore, EndsCommand, Runs, ShowsEnd, output_page, made_effect, ready_end};
 ghost use Rattle.krb_driver.specs.Effects.{Page, about};
 ghost use Rattle.krb_driver.specs.RunErrors.{aftermath_status, end_status, ending_status};
 
 use crate::error::RunError;
 use crate::file_name::FileName;
 use crate::holding::release;
-use crate::reporting::details::details_of;
+use crate::reporting::details::{Details, details_of};
 use crate::reporting::{report, show};
-use crate::streams::Streams;
 use crate::verdict::Verdict;
-use krb_files::{Aftermath, Files, Watched};
+use crate::world::World;
+use krb_files::{Aftermath, Cause, Files, Watched};
 use krb_wire::NoMemory;
 use std::alloc::Allocator;
 use std::io::{Read, Write};
@@ -191,9 +191,11 @@ fn show_ready<A: Allocator + Copy, S: Show<A>, W: Write>(
     ready: Result<Ready<A, S>, FileError<'_>>,
     out: &mut Watched<W>,
 ) -> Result<Verdict, RunError>
-    requires { IsFalse out.old.failed }
     ensures { ShowsEnd out.old out.new result (ready_end S.page file.now ready.entry) }
 {
+    if out.has_failed() {
+        return Err(RunError::OutputNotWritten);
+    }
     match ready {
         Ok(Ready::Shows(shown)) => shown.show(alloc, file, out),
         Ok(Ready::Prints(text)) => text.show(alloc, file, out),
@@ -234,21 +236,17 @@ pub fn end_status(ending: Result<Verdict, RunError>, aftermath: Option<Aftermath
 pub fn run_to_end<A: Allocator + Copy, C: Command<A>, F: Files, R: Read, W: Write, E: Write>(
     alloc: A,
     command: &C,
-    files: &mut F,
-    streams: &mut Streams<R, W, E>,
+    world: &mut World<F, R, W, E>,
 ) -> RunEnd
-    requires { IsFalse streams.old.out.failed }
-    ensures runs { EndsCommand F.Files (C.plan command.now) (C.fairly command.now) files.old files.new
-        streams.old.out streams.new.out streams.old.err streams.new.err result }
-    ensures input { streams.new.input ≡ streams.old.input }
+    ensures { EndsCommand F.Files (C.plan command.now) (C.fairly command.now) world.old world.new result }
 {
-    let ready = settle(alloc, command, files);
-    release(files);
+    let ready = settle(alloc, command, &mut world.files);
+    release(&mut world.files);
     let file = command.file();
     let named = about(&ready, file);
-    let ending = show_ready(alloc, file, ready, &mut streams.out);
-    let details = details_of(&ending, files, &streams.out);
-    let status = report(ending, named.as_bytes(), None, details, &mut streams.err);
+    let ending = show_ready(alloc, file, ready, &mut world.out);
+    let details = details_of(&ending, &world.files, &world.out);
+    let status = report(ending, named.as_bytes(), None, details, &mut world.err);
     RunEnd { ending, status }
 }
 
@@ -256,13 +254,21 @@ pub fn run_to_end<A: Allocator + Copy, C: Command<A>, F: Files, R: Read, W: Writ
 pub fn run<A: Allocator + Copy, C: Command<A>, F: Files, R: Read, W: Write, E: Write>(
     alloc: A,
     command: &C,
-    files: &mut F,
-    streams: &mut Streams<R, W, E>,
+    world: &mut World<F, R, W, E>,
 ) -> u8
-    requires { IsFalse streams.old.out.failed }
-    ensures runs { RunsCommand F.Files (C.plan command.now) (C.fairly command.now) files.old files.new
-        streams.old.out streams.new.out streams.old.err streams.new.err result }
-    ensures input { streams.new.input ≡ streams.old.input }
+    ensures { Runs F.Files (C.plan command.now) (C.fairly command.now) world.old world.new result }
 {
-    run_to_end(alloc, command, files, streams).status
+    run_to_end(alloc, command, world).status
+}
+
+/// Ends a run, before it does anything, with an error that has that cause. Returns the exit status.
+pub fn end_before<F: Files, R: Read, W: Write, E: Write>(
+    error: RunError,
+    cause: Option<Cause>,
+    world: &mut World<F, R, W, E>,
+) -> u8
+    ensures { EndsBefore F.Files world.old world.new result error }
+{
+    let details = Details::unsaved(cause);
+    report(Err(error), b"", None, details, &mut world.err)
 }

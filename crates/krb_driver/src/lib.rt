@@ -11,10 +11,10 @@ mod input;
 mod loading;
 mod opening;
 mod reporting;
-mod streams;
 mod verdict;
+mod world;
 
-pub use command::{Command, FileError, Made, Output, RunEnd, Show, run, run_to_end};
+pub use command::{Command, FileError, Made, Output, RunEnd, Show, end_before, run, run_to_end};
 pub use command_line::matches::{
     Matches, first_value, spelled_name, spelled_names, spelled_seconds, times_given, typed,
     v1_order,
@@ -35,5 +35,5 @@ pub use reporting::details::{Details, details_of};
 pub use reporting::error_output::ErrorOutput;
 pub use reporting::reported::replied_verdict;
 pub use reporting::{report, report_word_fault, show};
-pub use streams::Streams;
 pub use verdict::{FileKind, Findings, Verdict};
+pub use world::World;

@@ -50,7 +50,6 @@ pub fn show<W: Write>(
     ending: Result<Verdict, RunError>,
     out: &mut Watched<W>,
 ) -> Result<Verdict, RunError>
-    requires { IsFalse out.old.failed }
     ensures { Shows (record { out = text.now; ending = ending }) out.old out.new result }
 {
     put(out, text)?;

@@ -6,8 +6,6 @@ use Rattle.krb_walk.specs.Events.{cut_store}
 use Rattle.krb_ccache.specs.Changes.{without}
 use Rattle.krb_ccache.specs.Rewrite.{rewrite_result}
 use Rattle.krb_ccache.specs.Store.{CacheState, PlacedCredential, image_of, placed_credentials}
-use Rattle.krb_files.specs.declared.files.Files.{Ghosts}
-use Rattle.krb_files.specs.Bytes.{Watch}
 use Rattle.krb_files.specs.Plan.{Ends}
 use Rattle.krb_audit.specs.Tickets.{selected_tickets, names_ticket, removed_ticket_line}
 use Rattle.krb_editors.specs.declared.ccremove.TicketOptions.{TicketOptions}
@@ -17,13 +15,10 @@ use Rattle.krb_driver.specs.declared.file_name.FileName.{FileName}
 use Rattle.krb_driver.specs.declared.verdict.FileKind.TheVariants.{Cache}
 use Rattle.krb_driver.specs.declared.verdict.Verdict.{Verdict}
 use Rattle.krb_driver.specs.declared.verdict.Verdict.TheVariants.{Well, NothingToRemove}
-use Rattle.krb_driver.specs.Commands.{RunsCommand, any}
 use Rattle.krb_driver.specs.Effects.{CommandPlan, Effect, Displays, holds, opens, saves_unless, text}
-use Rattle.krb_driver.specs.ErrorOutput.{ErrorWatch}
 use Rattle.krb_driver.specs.Matches.{AreSpelledNames, Matched, bad_names, typed}
 use Rattle.krb_driver.specs.Mistakes.{MistakeParts, NothingSelects, Twice}
 use Rattle.krb_driver.specs.Opening.{writable_in}
-use Rattle.krb_editors.specs.Scripted.{EndsBefore}
 
 -- the time at or before which the selected tickets end: that of the clock, if only expired ones are selected
 abbrev pub clock_time : Option ℕ → Result (Option ℕ) RunError
@@ -54,12 +49,6 @@ removes o file k xs =
 -- the file is held, unless it is a dry run, and opened; the selected tickets of its cache are removed
 abbrev pub ccremove_plan : {A : Type 0} → TicketOptions A → FileName → Option ℕ → CommandPlan
 ccremove_plan o file ended = holds (not o.dry_run) file (opens file writable_in (λ k. Ends (removes o file.name.now k (selected_tickets o.servers.items ended k))))
-
-module _ {F A : Type 0} (trait : Ghosts F) (file : FileName) (o : TicketOptions A) (old new : F) (out out' : Watch) (err err' : ErrorWatch) (status : ℕ) where
-  -- a run of ccremove, or the error if the clock was needed and not read
-  abbrev pub RunsCcremove : Result (Option ℕ) RunError → Type 0
-  RunsCcremove (Ok ended) = RunsCommand trait (λ mode. ccremove_plan o file ended) any old new out out' err err' status
-  RunsCcremove (Err why) = EndsBefore trait old new out out' err err' status why
 
 -- ---- what the words ask for
 

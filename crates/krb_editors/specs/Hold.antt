@@ -10,7 +10,6 @@ use Rattle.krb_files.specs.declared.files.LoadFault.{LoadFault}
 use Rattle.krb_files.specs.declared.files.LoadFault.TheVariants.{Missing}
 use Rattle.krb_files.specs.declared.files.SaveFault.{SaveFault}
 use Rattle.krb_files.specs.declared.files.SaveFault.TheVariants.{Failed}
-use Rattle.krb_files.specs.Bytes.{Watch}
 use Rattle.krb_files.specs.Files.{SameFiles, CountsFailure}
 use Rattle.krb_files.specs.Loading.{Answer, LoadsFile, SavesFile, TurnsHold, most_bytes}
 use Rattle.krb_files.specs.Plan.{HeldIf}
@@ -23,9 +22,9 @@ use Rattle.krb_driver.specs.declared.reporting.details.Details.{Details}
 use Rattle.krb_driver.specs.declared.verdict.FileKind.{FileKind}
 use Rattle.krb_driver.specs.declared.verdict.FileKind.TheVariants as kind
 use Rattle.krb_driver.specs.declared.verdict.Verdict.TheVariants.{Well}
+use Rattle.krb_driver.specs.declared.world.World.{World}
 use Rattle.krb_driver.specs.Commands.{GivesOf}
 use Rattle.krb_driver.specs.Effects.{can_hold}
-use Rattle.krb_driver.specs.ErrorOutput.{ErrorWatch}
 use Rattle.krb_driver.specs.Input.{GivesInput}
 use Rattle.krb_driver.specs.Loading.{not_cache, result_map, result_map_err}
 use Rattle.krb_driver.specs.Matches.{Matched, v1_order}
@@ -150,46 +149,48 @@ module _ {F : Type 0} (trait : Ghosts F) (file : List ℕ) (loaded : List ℕ) (
   SavesReceived (Ok (Some image)) = SavesOther image
   SavesReceived (Err why) = Leaves (Err (codes "input", why))
 
-module _ {F : Type 0} (trait : Ghosts F) (kind : HoldKind) (file : FileName) (reader reader' : Source) (out out' : Watch) (new : F) (end : HoldEnd) where
+module _ {F R W E : Type 0} (trait : Ghosts F) (kind : HoldKind) (file : FileName) (new : World F R W E) (end : HoldEnd) where
   -- nothing was printed, read or saved
-  abbrev pub EndsEarly : F → List ℕ × RunError → Type 0
-  EndsEarly old met = (new ≡ old) × (reader' ≡ reader) × (out' ≡ out) × (end ≡ Err met)
+  abbrev pub EndsEarly : World F R W E → List ℕ × RunError → Type 0
+  EndsEarly old met = (new ≡ old) × (end ≡ Err met)
 
-  abbrev pub AfterShown : F → List ℕ → Ending → Type 0
-  AfterShown old loaded (Ok verdict) = (given : Result (Option (List ℕ)) RunError) × (Receives kind reader reader' given × SavesReceived trait file.name.now loaded old new end given)
-  AfterShown old loaded (Err why) = (reader' ≡ reader) × Leaves trait file.name.now loaded old new end (Err (file.name.now, why))
+  abbrev pub AfterShown : World F R W E → List ℕ → Ending → Type 0
+  AfterShown old loaded (Ok verdict) = (given : Result (Option (List ℕ)) RunError) × (Receives kind old.input new.input given × SavesReceived trait file.name.now loaded old.files new.files end given)
+  AfterShown old loaded (Err why) = (new.input ≡ old.input) × Leaves trait file.name.now loaded old.files new.files end (Err (file.name.now, why))
 
   -- over the held file its image was printed, and then the input was read to its end and what it gave was saved; or the output failed
-  pub record Exchanges (old : F) (loaded : List ℕ) : Type 0 where
-    pub held : trait.held old ≡ Some file.name.now
+  pub record Exchanges (old : World F R W E) (loaded : List ℕ) : Type 0 where
+    pub held : trait.held old.files ≡ Some file.name.now
     pub shown : Ending
-    pub shows : Shows (record { out = frame loaded; ending = Ok Well }) out out' shown
+    pub shows : Shows (record { out = frame loaded; ending = Ok Well }) old.out new.out shown
     pub after : AfterShown old loaded shown
+    pub err : new.err ≡ old.err
 
-  abbrev pub AfterCheck : F → List ℕ → HoldEnd → Type 0
+  abbrev pub AfterCheck : World F R W E → List ℕ → HoldEnd → Type 0
   AfterCheck old loaded (Ok done) = Exchanges old loaded
   AfterCheck old loaded (Err met) = EndsEarly old met
 
   -- of an image that was loaded the hold was checked before it went out
-  abbrev pub AfterLoad : F → Result (List ℕ) (List ℕ × RunError) → Type 0
-  AfterLoad old (Ok loaded) = (checked : F) × ((met : HoldEnd) × (ChecksHold trait file.name.now old met checked × AfterCheck checked loaded met))
+  abbrev pub AfterLoad : World F R W E → Result (List ℕ) (List ℕ × RunError) → Type 0
+  AfterLoad old (Ok loaded) = (checked : F) × ((met : HoldEnd) × (ChecksHold trait file.name.now old.files met checked × AfterCheck (record old { files = checked }) loaded met))
   AfterLoad old (Err met) = EndsEarly old met
 
   -- the file was held, and then loaded
-  pub record EditsHeld (old : F) : Type 0 where
+  pub record EditsHeld (old : World F R W E) : Type 0 where
     pub held : F
-    pub holds : HeldIf trait (can_hold true file) file.name.now old held
+    pub holds : HeldIf trait (can_hold true file) file.name.now old.files held
     pub loaded : F
     pub given : Result (List ℕ) (List ℕ × RunError)
     pub gives : GivesOf trait held file (held_in kind file.in_place) given loaded
-    pub after : AfterLoad loaded given
+    pub after : AfterLoad (record old { files = loaded }) given
 
 -- a run of hold, which then released the file and reported how it ended
-pub record RunsHold {F : Type 0} (trait : Ghosts F) (old new : F) (out out' : Watch) (err err' : ErrorWatch) (status : ℕ) (kind : HoldKind) (file : FileName) (reader reader' : Source) : Type 0 where
-  pub done : F
+pub record RunsHold {F R W E : Type 0} (trait : Ghosts F) (old new : World F R W E) (status : ℕ) (kind : HoldKind) (file : FileName) : Type 0 where
+  pub done : World F R W E
   pub end : HoldEnd
-  pub edits : EditsHeld trait kind file reader reader' out out' done end old
-  pub left : TurnsHold trait None done new
+  pub edits : EditsHeld trait kind file done end old
+  pub left : TurnsHold trait None done.files new.files
+  pub same : new ≡ record done { files = new.files; err = new.err }
   pub details : Details
-  pub reported : Reports (about_end file.name.now end) None details (ending_of end) err err' status
-  pub told : details.aftermath ≡ trait.aftermath new
+  pub reported : Reports (about_end file.name.now end) None details (ending_of end) done.err new.err status
+  pub told : details.aftermath ≡ trait.aftermath new.files

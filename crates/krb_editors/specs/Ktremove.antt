@@ -6,8 +6,6 @@ use Rattle.std.specs.Str.{bytes_eq}
 use Rattle.krb_keytab.specs.Changes.{without}
 use Rattle.krb_keytab.specs.Find.{PlacedEntry, placed_entries}
 use Rattle.krb_keytab.specs.Store.{KeytabState, image_of}
-use Rattle.krb_files.specs.declared.files.Files.{Ghosts}
-use Rattle.krb_files.specs.Bytes.{Watch}
 use Rattle.krb_files.specs.Plan.{Ends}
 use Rattle.krb_text.specs.Etype.{etype_in}
 use Rattle.krb_text.specs.Found.{removed_line}
@@ -23,13 +21,10 @@ use Rattle.krb_driver.specs.declared.file_name.FileName.{FileName}
 use Rattle.krb_driver.specs.declared.verdict.FileKind.TheVariants.{Keytab}
 use Rattle.krb_driver.specs.declared.verdict.Verdict.{Verdict}
 use Rattle.krb_driver.specs.declared.verdict.Verdict.TheVariants.{Well, NothingToRemove}
-use Rattle.krb_driver.specs.Commands.{RunsCommand, any}
-use Rattle.krb_driver.specs.ErrorOutput.{ErrorWatch}
 use Rattle.krb_driver.specs.Effects.{CommandPlan, Effect, Displays, holds, opens, saves_unless, text}
 use Rattle.krb_driver.specs.Matches.{AreSpelledNames, Matched, bad_names, bad_seconds, typed, v1_order}
 use Rattle.krb_driver.specs.Mistakes.{MistakeParts, NothingSelects, OnlyWith, Twice}
 use Rattle.krb_driver.specs.Opening.{whole_in}
-use Rattle.krb_editors.specs.Scripted.{EndsBefore}
 use Rattle.krb_editors.specs.Selecting.{IsSpelledKvno, asks_for_any, bad_etype, bad_kvno}
 
 -- old entries are selected
@@ -53,20 +48,14 @@ removes o file k xs =
     else saves_unless o.dry_run file (image_of (without k (places xs))) (flat_map removed_line xs) Well
 
 -- the file is held, unless it is a dry run, and opened; the selected entries of its keytab are removed
-abbrev pub ktremove_plan : {A : Type 0} → RemoveOptions A → ℕ → FileName → CommandPlan
-ktremove_plan o now file = holds (not o.dry_run) file (opens file (whole_in o.v1_order) (λ k. Ends (removes o file.name.now k (selected_in o.selection now k))))
+abbrev pub ktremove_plan : {A : Type 0} → RemoveOptions A → FileName → ℕ → CommandPlan
+ktremove_plan o file now = holds (not o.dry_run) file (opens file (whole_in o.v1_order) (λ k. Ends (removes o file.name.now k (selected_in o.selection now k))))
 
 -- the time that the selection needs: that of the clock, if an age is given
 abbrev pub needed_time : SelectedKvno → Option ℕ → Result ℕ RunError
 needed_time (OldFor seconds) (Some now) = Ok now
 needed_time (OldFor seconds) None = Err ClockNotRead
 needed_time kvno now = Ok 0
-
-module _ {F A : Type 0} (trait : Ghosts F) (file : FileName) (o : RemoveOptions A) (old new : F) (out out' : Watch) (err err' : ErrorWatch) (status : ℕ) where
-  -- a run of ktremove, or the error if the clock was needed and not read
-  abbrev pub RunsKtremove : Result ℕ RunError → Type 0
-  RunsKtremove (Ok now) = RunsCommand trait (λ mode. ktremove_plan o now file) any old new out out' err err' status
-  RunsKtremove (Err why) = EndsBefore trait old new out out' err err' status why
 
 -- ---- what the words ask for
 

@@ -1,21 +1,18 @@
 -- A run whose lines come from a script.
-use Rattle.std.specs.Prelude.{◌≡◌, ◌⊎◌, ℕ, List, [], None, Result, Ok, Err}
+use Rattle.std.specs.Prelude.{◌≡◌, ◌⊎◌, ℕ, List, Result, Ok, Err}
 use Rattle.krb_files.specs.declared.files.Files.{Ghosts}
 use Rattle.krb_files.specs.declared.files.LoadFault.{LoadFault}
-use Rattle.krb_files.specs.Bytes.{Watch}
 use Rattle.krb_files.specs.Loading.{Answer, most_bytes}
 use Rattle.krb_files.specs.Reader.{Source}
 use Rattle.krb_text.specs.declared.line_fault.LineFault.{LineFault}
 use Rattle.krb_text.specs.Script.{script_by}
 use Rattle.krb_driver.specs.declared.error.RunError.{RunError}
-use Rattle.krb_driver.specs.declared.reporting.details.Details.{Details}
 use Rattle.krb_driver.specs.declared.error.RunError.TheVariants.{NoMemory}
-use Rattle.krb_driver.specs.Commands.{RunsCommand}
+use Rattle.krb_driver.specs.declared.world.World.{World}
+use Rattle.krb_driver.specs.Commands.{RunsWith}
 use Rattle.krb_driver.specs.Effects.{CommandPlan}
-use Rattle.krb_driver.specs.ErrorOutput.{ErrorWatch}
 use Rattle.krb_driver.specs.Input.{GivesInput}
 use Rattle.krb_driver.specs.Loading.{result_map_err}
-use Rattle.krb_driver.specs.Runs.{Reports}
 use Rattle.krb_driver.specs.RunErrors.{input_error, line_error}
 
 module _ {L : Type 0} (reads : List ℕ → Result L LineFault) where
@@ -30,19 +27,8 @@ module _ {L : Type 0} (reads : List ℕ → Result L LineFault) where
     pub read : GivesInput most_bytes reader reader' input
     pub given_is : (given ≡ Err NoMemory) ⊎ (given ≡ lines_in input)
 
-module _ {F : Type 0} (trait : Ghosts F) (old new : F) (out out' : Watch) (err err' : ErrorWatch) (status : ℕ) where
-  -- an error ends the run before it does anything; there is no save that left something behind
-  abbrev pub EndsBefore : RunError → Type 0
-  EndsBefore why = (new ≡ old) × ((out' ≡ out) × ((details : Details) × ((details.aftermath ≡ None) × Reports [] None details (Err why) err err' status)))
-
-  module _ {L : Type 0} (plan : List L → CommandPlan) (fairly : List L → List Answer → Type 0) where
-    -- the command is run with the lines, or the error that there are none ends the run
-    abbrev pub RunsLines : Result (List L) RunError → Type 0
-    RunsLines (Ok lines) = RunsCommand trait (λ mode. plan lines) (fairly lines) old new out out' err err' status
-    RunsLines (Err why) = EndsBefore why
-
-    -- a run whose lines come from a script
-    pub record RunsScript (reads : List ℕ → Result L LineFault) (reader reader' : Source) : Type 0 where
-      pub lines : Result (List L) RunError
-      pub given : GivesLines reads reader reader' lines
-      pub runs : RunsLines lines
+-- a run whose lines come from a script: the command is run with them
+pub record RunsScript {F R W E L : Type 0} (trait : Ghosts F) (old new : World F R W E) (status : ℕ) (plan : List L → CommandPlan) (fairly : List L → List Answer → Type 0) (reads : List ℕ → Result L LineFault) : Type 0 where
+  pub lines : Result (List L) RunError
+  pub given : GivesLines reads old.input new.input lines
+  pub runs : RunsWith trait (record old { input = new.input }) new status plan fairly lines

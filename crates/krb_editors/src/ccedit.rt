@@ -1,7 +1,7 @@
 //! ccedit: edits a credential cache by a script.
 
 ghost use Rattle.std.specs.List.{list_any};
-ghost use Rattle.std.specs.Prelude.{◌≡◌, ℕ, List, IfOk, IsFalse, Ok, OnOk, ◌∷◌, [], map};
+ghost use Rattle.std.specs.Prelude.{◌≡◌, ℕ, List, IfOk, Ok, OnOk, ◌∷◌, [], map};
 ghost use Rattle.krb_walk.specs.declared.event.Event.TheVariants.{Cut};
 ghost use Rattle.krb_walk.specs.Events.{reply_to};
 ghost use Rattle.krb_walk.specs.History.{state_after};
@@ -20,8 +20,8 @@ use crate::scripted::read_script;
 use krb_cache_text::{CacheLine, CcFormat, Request};
 use krb_ccache::{Ccache, Cred, Setting};
 use krb_driver::{
-    Command, CommandName, CommandWords, Details, FileError, FileKind, FileName, IN_PLACE, Made,
-    Output, Streams, Word, give_cache, hold_if, report, run,
+    Command, CommandName, CommandWords, FileError, FileKind, FileName, IN_PLACE, Made, Output,
+    Word, World, end_before, give_cache, hold_if, run,
 };
 use krb_files::Files;
 use krb_walk::{Event, Reply, Session};
@@ -220,18 +220,12 @@ impl<'f, A: Allocator + Copy> Command<A> for EditCache<'f, A> {
 pub fn run_ccedit<A: Allocator + Copy, F: Files, R: Read, W: Write, E: Write>(
     alloc: A,
     file: FileName<'_>,
-    files: &mut F,
-    streams: &mut Streams<R, W, E>,
+    world: &mut World<F, R, W, E>,
 ) -> u8
-    requires { IsFalse streams.old.out.failed }
-    ensures { RunsScript F.Files files.old files.new streams.old.out streams.new.out streams.old.err streams.new.err result
-        (ccedit_plan file.entry) ccedit_fairly cache_line_in streams.old.input streams.new.input }
+    ensures { RunsScript F.Files world.old world.new result (ccedit_plan file.entry) ccedit_fairly cache_line_in }
 {
-    match read_script(alloc, &mut streams.input) {
-        Ok(lines) => run(alloc, &EditCache { file, lines }, files, streams),
-        Err(error) => {
-            let details = Details::unsaved(streams.input.cause());
-            report(Err(error), b"", None, details, &mut streams.err)
-        }
+    match read_script(alloc, &mut world.input) {
+        Ok(lines) => run(alloc, &EditCache { file, lines }, world),
+        Err(error) => end_before(error, world.input.cause(), world),
     }
 }

@@ -1,19 +1,19 @@
 //! ccremove: removes tickets from a credential cache.
 
-ghost use Rattle.std.specs.Prelude.{◌≡◌, IfOk, IsFalse, option_map};
+ghost use Rattle.std.specs.Prelude.{◌≡◌, IfOk, option_map};
 ghost use Rattle.krb_ccache.specs.Store.{image_of};
 ghost use Rattle.krb_audit.specs.Tickets.{SelectsTickets, selected_tickets};
-ghost use Rattle.krb_editors.specs.Ccremove.{RunsCcremove, SpellsTickets, cache_after, ended_by, none_verdict, odd_tickets, removes, ticket_mistake};
-ghost use Rattle.krb_driver.specs.Commands.{text_effect};
+ghost use Rattle.krb_editors.specs.Ccremove.{SpellsTickets, cache_after, ccremove_plan, ended_by, none_verdict, odd_tickets, removes, ticket_mistake};
+ghost use Rattle.krb_driver.specs.Commands.{RunsWith, any, text_effect};
 ghost use Rattle.krb_driver.specs.Effects.{IsMade};
 ghost use Rattle.krb_driver.specs.Mistakes.{Reads, mistake_parts};
 
 use krb_audit::{SelectedTickets, select_tickets};
 use krb_ccache::Ccache;
 use krb_driver::{
-    Command, CommandName, CommandWords, DRY_RUN, Details, FileError, FileKind, FileName, IN_PLACE,
-    Made, Matches, Mistake, Output, RunError, Streams, Verdict, Word, WordFault, hold_if,
-    open_writable, report, run, spelled_names, times_given, typed,
+    Command, CommandName, CommandWords, DRY_RUN, FileError, FileKind, FileName, IN_PLACE, Made,
+    Matches, Mistake, Output, RunError, Verdict, Word, WordFault, World, end_before, hold_if,
+    open_writable, run, spelled_names, times_given, typed,
 };
 use krb_files::Files;
 use krb_walk::Refusal;
@@ -210,13 +210,10 @@ pub fn run_ccremove<A: Allocator + Copy, B: Allocator, F: Files, R: Read, W: Wri
     options: &TicketOptions<B>,
     now: Option<u32>,
     file: FileName<'_>,
-    files: &mut F,
-    streams: &mut Streams<R, W, E>,
+    world: &mut World<F, R, W, E>,
 ) -> u8
-    requires { IsFalse streams.old.out.failed }
-    ensures runs { RunsCcremove F.Files file.entry options.now files.old files.new
-        streams.old.out streams.new.out streams.old.err streams.new.err result (ended_by options.now now) }
-    ensures input { streams.new.input ≡ streams.old.input }
+    ensures { RunsWith F.Files world.old world.new result (ccremove_plan options.now file.entry) (λ ended. any)
+        (ended_by options.now now) }
 {
     match ended_by(options, now) {
         Ok(ended_by) => {
@@ -225,14 +222,8 @@ pub fn run_ccremove<A: Allocator + Copy, B: Allocator, F: Files, R: Read, W: Wri
                 ended_by,
                 file,
             };
-            run(alloc, &command, files, streams)
+            run(alloc, &command, world)
         }
-        Err(error) => report(
-            Err(error),
-            b"",
-            None,
-            Details::unsaved(None),
-            &mut streams.err,
-        ),
+        Err(error) => end_before(error, None, world),
     }
 }

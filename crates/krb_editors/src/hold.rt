@@ -1,6 +1,6 @@
 //! hold: prints the image of a file to another program, and saves the one that this gives back.
 
-ghost use Rattle.std.specs.Prelude.{◌≡◌, ◌∷◌, [], IsFalse, MatchResult, Some, option_map};
+ghost use Rattle.std.specs.Prelude.{◌≡◌, ◌∷◌, [], MatchResult, Some, option_map};
 ghost use Rattle.krb_driver.specs.declared.error.RunError.TheVariants.{NoMemory};
 ghost use Rattle.krb_driver.specs.Commands.{GivesOf};
 ghost use Rattle.krb_driver.specs.Loading.{result_map};
@@ -14,10 +14,10 @@ use crate::hold::frame::{MOST_FRAME, print_frame};
 use crate::hold::images::{given_by, whole};
 use crate::hold::words::HoldKind;
 use krb_driver::{
-    Details, FileError, FileName, RunError, Streams, Verdict, details_of, hold_if, other_type,
+    Details, FileError, FileName, RunError, Verdict, World, details_of, hold_if, other_type,
     read_input, release, report,
 };
-use krb_files::{Files, LoadFault, WatchedReader};
+use krb_files::{Cause, Files, LoadFault, Watched, WatchedReader};
 use krb_wire::USUAL_LIMIT;
 use std::alloc::Allocator;
 use std::io::{Read, Write};
@@ -128,23 +128,20 @@ fn exchange<'a, A: Allocator, F: Files, R: Read, W: Write, E: Write>(
     kind: HoldKind,
     loaded: &[u8],
     file: FileName<'a>,
-    files: &mut F,
-    streams: &mut Streams<R, W, E>,
+    world: &mut World<F, R, W, E>,
 ) -> Result<(), FileError<'a>>
-    requires shown { IsFalse streams.old.out.failed }
-    requires held { F.Files.held files.old ≡ Some file.name.now }
-    ensures runs { Exchanges F.Files kind file.entry streams.old.input streams.new.input streams.old.out streams.new.out files.new (end_of result) files.old loaded.now }
-    ensures err { streams.new.err ≡ streams.old.err }
+    requires { F.Files.held world.old.files ≡ Some file.name.now }
+    ensures { Exchanges F.Files kind file.entry world.new (end_of result) world.old loaded.now }
 {
-    if let Err(error) = print_frame(loaded, &mut streams.out) {
+    if let Err(error) = print_frame(loaded, &mut world.out) {
         return Err(FileError {
             file: file.name,
             error,
         });
     }
-    match receive(alloc, kind, &mut streams.input) {
+    match receive(alloc, kind, &mut world.input) {
         Ok(None) => Ok(()),
-        Ok(Some(image)) => save_other(files, file, loaded, &image),
+        Ok(Some(image)) => save_other(&mut world.files, file, loaded, &image),
         Err(error) => Err(FileError {
             file: "input",
             error,
@@ -157,36 +154,35 @@ fn edit_held<'a, A: Allocator + Copy, F: Files, R: Read, W: Write, E: Write>(
     alloc: A,
     kind: HoldKind,
     file: FileName<'a>,
-    files: &mut F,
-    streams: &mut Streams<R, W, E>,
+    world: &mut World<F, R, W, E>,
 ) -> Result<(), FileError<'a>>
-    requires { IsFalse streams.old.out.failed }
-    ensures runs { EditsHeld F.Files kind file.entry streams.old.input streams.new.input streams.old.out streams.new.out files.new (end_of result) files.old }
-    ensures err { streams.new.err ≡ streams.old.err }
+    ensures { EditsHeld F.Files kind file.entry world.new (end_of result) world.old }
 {
+    let files = &mut world.files;
     hold_if(true, files, file);
     let loaded = match give_whole(alloc, kind, files, file) {
         Ok(loaded) => loaded,
         Err(met) => return Err(met),
     };
     match check_hold(files, file) {
-        Ok(()) => exchange(alloc, kind, &loaded, file, files, streams),
+        Ok(()) => exchange(alloc, kind, &loaded, file, world),
         Err(met) => Err(met),
     }
 }
 
-// Returns the details of a run that ended so.
-fn details_of_hold<'a, F: Files, R: Read, W: Write, E: Write>(
+// Returns the details of a run that ended so, with the cause of the input if that failed.
+fn details_of_hold<'a, F: Files, W: Write>(
     ending: &Result<Verdict, RunError>,
     files: &'a F,
-    streams: &Streams<R, W, E>,
+    out: &Watched<W>,
+    input: Option<Cause>,
 ) -> Details<'a>
     ensures { result.aftermath ≡ F.Files.aftermath files.now }
 {
-    let details = details_of(ending, files, &streams.out);
+    let details = details_of(ending, files, out);
     match ending {
         Err(RunError::InputNotRead) => Details {
-            cause: streams.input.cause(),
+            cause: input,
             ..details
         },
         _ => details,
@@ -200,19 +196,17 @@ pub fn run_hold<A: Allocator + Copy, F: Files, R: Read, W: Write, E: Write>(
     alloc: A,
     kind: HoldKind,
     file: FileName<'_>,
-    files: &mut F,
-    streams: &mut Streams<R, W, E>,
+    world: &mut World<F, R, W, E>,
 ) -> u8
-    requires { IsFalse streams.old.out.failed }
-    ensures { RunsHold F.Files files.old files.new streams.old.out streams.new.out streams.old.err streams.new.err result
-        kind file.entry streams.old.input streams.new.input }
+    ensures { RunsHold F.Files world.old world.new result kind file.entry }
 {
-    let done = edit_held(alloc, kind, file, files, streams);
-    release(files);
+    let done = edit_held(alloc, kind, file, world);
+    release(&mut world.files);
     let (ending, named) = match done {
         Ok(()) => (Ok(Verdict::Well), file.name),
         Err(met) => (Err(met.error), met.file),
     };
-    let details = details_of_hold(&ending, files, streams);
-    report(ending, named.as_bytes(), None, details, &mut streams.err)
+    let input = world.input.cause();
+    let details = details_of_hold(&ending, &world.files, &world.out, input);
+    report(ending, named.as_bytes(), None, details, &mut world.err)
 }

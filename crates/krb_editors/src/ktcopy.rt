@@ -1,11 +1,11 @@
 //! ktcopy: copies entries from one keytab into another.
 
-ghost use Rattle.std.specs.Prelude.{◌≡◌, IsFalse, None, Ok, if◌then◌else◌, option_map};
+ghost use Rattle.std.specs.Prelude.{◌≡◌, None, Ok, if◌then◌else◌, option_map};
 ghost use Rattle.krb_copy.specs.Copying.{Run, copy_run};
 ghost use Rattle.krb_copy.specs.Made.{IsMade as IsRunOf};
 ghost use Rattle.krb_audit.specs.Findings.{hides_added};
 ghost use Rattle.krb_audit.specs.Selection.{selected_in};
-ghost use Rattle.krb_driver.specs.Commands.{Makes, RunsCommand, always, any, text_effect};
+ghost use Rattle.krb_driver.specs.Commands.{Makes, Runs, always, any, text_effect};
 ghost use Rattle.krb_driver.specs.Effects.{IsMade};
 ghost use Rattle.krb_driver.specs.Mistakes.{Reads, mistake_parts};
 ghost use Rattle.krb_driver.specs.Verdicts.{hiding};
@@ -17,7 +17,7 @@ use krb_audit::{SelectedKvno, Selection, hides_added, selected_entries};
 use krb_copy::{Copied, copy_into};
 use krb_driver::{
     Command, CommandName, CommandWords, FileError, FileName, IN_PLACE, Made, Matches, Mistake,
-    Output, RunError, Streams, V1_BIG, Verdict, Word, WordFault, first_value, hold_if, open_whole,
+    Output, RunError, V1_BIG, Verdict, Word, WordFault, World, first_value, hold_if, open_whole,
     open_whole_or_empty, run, spelled_names, times_given, typed, v1_order,
 };
 use krb_files::Files;
@@ -281,13 +281,9 @@ pub fn run_ktcopy<A: Allocator + Copy, B: Allocator, F: Files, R: Read, W: Write
     options: &CopyOptions<B>,
     from: FileName<'_>,
     to: FileName<'_>,
-    files: &mut F,
-    streams: &mut Streams<R, W, E>,
+    world: &mut World<F, R, W, E>,
 ) -> u8
-    requires { IsFalse streams.old.out.failed }
-    ensures runs { RunsCommand F.Files (always (ktcopy_plan options.now from.entry to.entry)) any files.old files.new
-        streams.old.out streams.new.out streams.old.err streams.new.err result }
-    ensures input { streams.new.input ≡ streams.old.input }
+    ensures { Runs F.Files (always (ktcopy_plan options.now from.entry to.entry)) any world.old world.new result }
 {
-    run(alloc, &CopyEntries { options, from, to }, files, streams)
+    run(alloc, &CopyEntries { options, from, to }, world)
 }

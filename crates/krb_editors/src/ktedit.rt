@@ -1,6 +1,6 @@
 //! ktedit: edits a keytab by a script.
 
-ghost use Rattle.std.specs.Prelude.{◌≡◌, ℕ, List, IfOk, IsFalse, Ok};
+ghost use Rattle.std.specs.Prelude.{◌≡◌, ℕ, List, IfOk, Ok};
 ghost use Rattle.krb_text.specs.Script.{event_in};
 ghost use Rattle.krb_audit.specs.Findings.{hides_added};
 ghost use Rattle.krb_driver.specs.Commands.{text_effect};
@@ -12,8 +12,8 @@ use crate::edited::{may_any_change, replied};
 use crate::scripted::read_script;
 use krb_audit::hides_added;
 use krb_driver::{
-    Command, CommandName, CommandWords, Details, FileError, FileKind, FileName, IN_PLACE, Made,
-    Output, Streams, V1_BIG, Word, give_or_empty, hold_if, report, run,
+    Command, CommandName, CommandWords, FileError, FileKind, FileName, IN_PLACE, Made, Output,
+    V1_BIG, Word, World, end_before, give_or_empty, hold_if, run,
 };
 use krb_files::Files;
 use krb_keytab::{Indexed, Keytab, NewEntry};
@@ -132,25 +132,20 @@ pub fn run_ktedit<A: Allocator + Copy, F: Files, R: Read, W: Write, E: Write>(
     alloc: A,
     v1_order: Order,
     file: FileName<'_>,
-    files: &mut F,
-    streams: &mut Streams<R, W, E>,
+    world: &mut World<F, R, W, E>,
 ) -> u8
-    requires { IsFalse streams.old.out.failed }
-    ensures { RunsScript F.Files files.old files.new streams.old.out streams.new.out streams.old.err streams.new.err result
-        (ktedit_plan v1_order file.entry) (ktedit_fairly v1_order file.entry) event_in streams.old.input streams.new.input }
+    ensures { RunsScript F.Files world.old world.new result
+        (ktedit_plan v1_order file.entry) (ktedit_fairly v1_order file.entry) event_in }
 {
-    match read_script(alloc, &mut streams.input) {
+    match read_script(alloc, &mut world.input) {
         Ok(events) => {
             let command = EditKeytab {
                 v1_order,
                 file,
                 events,
             };
-            run(alloc, &command, files, streams)
+            run(alloc, &command, world)
         }
-        Err(error) => {
-            let details = Details::unsaved(streams.input.cause());
-            report(Err(error), b"", None, details, &mut streams.err)
-        }
+        Err(error) => end_before(error, world.input.cause(), world),
     }
 }

@@ -1,19 +1,19 @@
 //! ktremove: removes entries from a keytab.
 
-ghost use Rattle.std.specs.Prelude.{◌≡◌, IfErr, IfOk, IsFalse, None, OnOk, Some, option_map};
+ghost use Rattle.std.specs.Prelude.{◌≡◌, IfErr, IfOk, None, OnOk, Some, option_map};
 ghost use Rattle.krb_audit.specs.Selection.{selected_in};
-ghost use Rattle.krb_driver.specs.Commands.{text_effect};
+ghost use Rattle.krb_driver.specs.Commands.{RunsWith, any, text_effect};
 ghost use Rattle.krb_driver.specs.Effects.{IsMade};
-ghost use Rattle.krb_editors.specs.Ktremove.{RunsKtremove, SpellsKvno, SpellsRemoval, kvno_mistake, needed_time, none_verdict, odd_selection, remove_mistake, removes, with_age};
+ghost use Rattle.krb_editors.specs.Ktremove.{SpellsKvno, SpellsRemoval, kvno_mistake, ktremove_plan, needed_time, none_verdict, odd_selection, remove_mistake, removes, with_age};
 ghost use Rattle.krb_driver.specs.Mistakes.{Reads, mistake_parts};
 
 use crate::selecting::{OF_ENCTYPE, OF_PRINCIPAL, bad_etype, etypes_of, kvno_by_word};
 use krb_audit::{SelectedKvno, Selection, select};
 use krb_driver::{
-    Command, CommandName, CommandWords, DRY_RUN, Details, FileError, FileKind, FileName, IN_PLACE,
-    Made, Matches, Mistake, Output, RunError, Streams, V1_BIG, Verdict, Word, WordFault,
-    first_value, hold_if, open_whole, report, run, spelled_names, spelled_seconds, times_given,
-    typed, v1_order,
+    Command, CommandName, CommandWords, DRY_RUN, FileError, FileKind, FileName, IN_PLACE, Made,
+    Matches, Mistake, Output, RunError, V1_BIG, Verdict, Word, WordFault, World, end_before,
+    first_value, hold_if, open_whole, run, spelled_names, spelled_seconds, times_given, typed,
+    v1_order,
 };
 use krb_files::Files;
 use krb_keytab::Keytab;
@@ -211,7 +211,7 @@ impl<'f, A: Allocator + Copy, B: Allocator> Command<A> for RemoveEntries<'f, B> 
 
     ghost file = { λ c. c.file.name.now };
 
-    ghost plan = { λ c mode. ktremove_plan c.options.now c.time c.file };
+    ghost plan = { λ c mode. ktremove_plan c.options.now c.file c.time };
 
     fn file(&self) -> &str {
         self.file.name
@@ -235,13 +235,10 @@ pub fn run_ktremove<A: Allocator + Copy, B: Allocator, F: Files, R: Read, W: Wri
     options: &RemoveOptions<B>,
     now: Option<u32>,
     file: FileName<'_>,
-    files: &mut F,
-    streams: &mut Streams<R, W, E>,
+    world: &mut World<F, R, W, E>,
 ) -> u8
-    requires { IsFalse streams.old.out.failed }
-    ensures runs { RunsKtremove F.Files file.entry options.now files.old files.new
-        streams.old.out streams.new.out streams.old.err streams.new.err result (needed_time options.now.selection.kvno now) }
-    ensures input { streams.new.input ≡ streams.old.input }
+    ensures { RunsWith F.Files world.old world.new result (ktremove_plan options.now file.entry) (λ time. any)
+        (needed_time options.now.selection.kvno now) }
 {
     match needed_time(options.selection.kvno, now) {
         Ok(time) => {
@@ -250,14 +247,8 @@ pub fn run_ktremove<A: Allocator + Copy, B: Allocator, F: Files, R: Read, W: Wri
                 time,
                 file,
             };
-            run(alloc, &command, files, streams)
+            run(alloc, &command, world)
         }
-        Err(error) => report(
-            Err(error),
-            b"",
-            None,
-            Details::unsaved(None),
-            &mut streams.err,
-        ),
+        Err(error) => end_before(error, None, world),
     }
 }

@@ -1,6 +1,6 @@
 -- The lines of ktutil, one after the other.
 use Rattle.std.proofs.Common.{◌≡◌, ◌≢◌, inl, inr, ℕ, ◌⊎◌, ◌+◌, ◌-◌, ◌<◌, ◌≤◌, Bool, true, false, List, [], ◌∷◌, ◌++◌, length, length-append, take, take-add, drop, refl, sym, ap, subst, ◌∙◌, append_assoc, append-nil, arith}
-use Rattle.std.specs.Prelude.{IsFalse, max, not, slice_range, ◌||◌, ◌&&◌, Option, None, Some, IfSome, Err}
+use Rattle.std.specs.Prelude.{max, not, slice_range, ◌||◌, ◌&&◌, Option, None, Some, IfSome, Err}
 use Rattle.std.proofs.lemmas.List.{drop_all, take-append-le}
 use Rattle.std.proofs.lemmas.Grind.{flat_map-append}
 use Rattle.std.specs.Io.KnownBytes.{Consumes}
@@ -8,8 +8,8 @@ use Rattle.krb_wire.specs.declared.format.Order.{Order}
 use Rattle.krb_files.specs.declared.files.Files.{Ghosts}
 use Rattle.krb_files.specs.declared.files.LoadFault.{LoadFault}
 use Rattle.krb_files.specs.declared.files.LoadFault.TheVariants.{Missing, TooLarge}
-use Rattle.krb_files.specs.Bytes.{Watch}
 use Rattle.krb_ktutil.specs.declared.ktutil.line_end.LineEnd.{LineEnd}
+use Rattle.krb_driver.specs.declared.world.World.{World}
 use Rattle.krb_driver.specs.ErrorOutput.{ErrorWatch}
 use Rattle.krb_driver.specs.RunErrors.{input_error, error_status}
 use Rattle.krb_ktutil.specs.InputLines.{InputParts, lines_of, with_newlines, HasLines, KeepsLines, TakesLine, EndsInNewline, IsSpent, HasNoMore, HasNone, CutsOff, Grows, IsWithin}
@@ -118,7 +118,6 @@ pub record Underway {F : Type 0} (trait : Ghosts F) (prompts : Bool) (now : ℕ)
   pub within : IsWithin input
   pub below : number ≤ input.next
   pub ended : AreEnded lines input ⊎ IfSome given (λ bytes. lines_of bytes ≡ lines)
-  pub well : IsFalse talk.out.failed
 
 -- nothing was read
 abbrev nothing : InputParts
@@ -133,8 +132,8 @@ none_consumed None = tt
 none_consumed (Some bytes) = refl
 
 module _ {F : Type 0} (trait : Ghosts F) (prompts : Bool) (now : ℕ) (given : Option (List ℕ)) where
-  pub Underway-first : (first : Talk F) → IsFalse first.out.failed → (input : InputParts) → input ≡ nothing → Underway trait prompts now given first input given 0 first
-  Underway-first first well input is =
+  pub Underway-first : (first : Talk F) → (input : InputParts) → input ≡ nothing → Underway trait prompts now given first input given 0 first
+  Underway-first first input is =
       subst (λ (i : InputParts). Underway trait prompts now given first i given 0 first) (sym is) (record {
         lines = [];
         talked = refl;
@@ -144,7 +143,6 @@ module _ {F : Type 0} (trait : Ghosts F) (prompts : Bool) (now : ℕ) (given : O
         within = record { next = omega arith; most = omega arith };
         below = omega arith;
         ended = inl (record { within = omega arith; read = refl });
-        well = well;
       })
 
   pub Underway-line : (first : Talk F) (old new : InputParts) (left left' : Option (List ℕ)) (number : ℕ) (talk talk' : Talk F) (asked : ErrorWatch) → Underway trait prompts now given first old left number talk
@@ -173,7 +171,6 @@ module _ {F : Type 0} (trait : Ghosts F) (prompts : Bool) (now : ℕ) (given : O
           ]
           | inr spent ↦ inr (u.to_come (new.line ∷ []) (takes.first [] (spent_has new left' spent)))
         ];
-        well = continues.well;
       }
 
 -- what a run has taken of its input
@@ -197,33 +194,33 @@ due_of lines old new left left' within grows no_more ended =
           ∙ ap (λ (bs : List ℕ). bs ++ slice_range new.read old.next most_bytes) (front ∙ ended.read);
     }
 
-module _ {F : Type 0} (trait : Ghosts F) (prompts : Bool) (now : ℕ) (order : Order) (files : F) (out : Watch) (err : ErrorWatch) (first last : Source) (old new : InputParts) (left : Option (List ℕ)) (number : ℕ) (talk : Talk F)
-    (u : Underway trait prompts now first.left (first_talk order files out err) old left number talk) (grows : Grows old.read new.read left last.left) (within : IsWithin new) where
-  runs : (end : Talk F) → EndsTalk trait now prompts first last u.lines talk end → (trait.is_honest files → TalksHonestly trait prompts now first.left (first_talk order files out err) end) → RunsKtutil trait order prompts now first last files end.files out end.out err end.err end.status
-  runs end ends honest = record { lines = u.lines; last = talk; state = end.state; talked = u.talked; ends = ends; honest = honest; taken = taken first.left left last.left old new u.consumes grows within }
+module _ {F R W E : Type 0} (trait : Ghosts F) (prompts : Bool) (now : ℕ) (order : Order) (world : World F R W E) (last : Source) (old new : InputParts) (left : Option (List ℕ)) (number : ℕ) (talk : Talk F)
+    (u : Underway trait prompts now world.input.left (first_talk order world.files world.out world.err) old left number talk) (grows : Grows old.read new.read left last.left) (within : IsWithin new) where
+  runs : (end : Talk F) → EndsTalk trait now prompts world.input last u.lines talk end → (trait.is_honest world.files → TalksHonestly trait prompts now world.input.left (first_talk order world.files world.out world.err) end) → RunsKtutil trait order prompts now world (record { files = end.files; input = last; out = end.out; err = end.err }) end.status
+  runs end ends honest = record { lines = u.lines; last = talk; state = end.state; talked = u.talked; ends = ends; honest = honest; taken = taken world.input.left left last.left old new u.consumes grows within }
 
   -- the input has ended
-  pub RunsKtutil-after : (err' : ErrorWatch) → Prompts prompts (last_prompt talk.state.awaiting) talk.err err' → HasLines old left [] → last.failed ≡ first.failed → RunsKtutil trait order prompts now first last files talk.files out talk.out err err' talk.status
+  pub RunsKtutil-after : (err' : ErrorWatch) → Prompts prompts (last_prompt talk.state.awaiting) talk.err err' → HasLines old left [] → last.failed ≡ world.input.failed → RunsKtutil trait order prompts now world (record { files = talk.files; input = last; out = talk.out; err = err' }) talk.status
   RunsKtutil-after err' prompted has well =
-      runs (record talk { err = err' }) (inl (record { all = none_more first.left u.lines (u.to_come [] has); well = well; prompted = prompted; same = refl }))
-      (honest_after trait prompts now first.left u.lines (first_talk order files out err) talk u.talked err' prompted (u.to_come [] has))
+      runs (record talk { err = err' }) (inl (record { all = none_more world.input.left u.lines (u.to_come [] has); well = well; prompted = prompted; same = refl }))
+      (honest_after trait prompts now world.input.left u.lines (first_talk order world.files world.out world.err) talk u.talked err' prompted (u.to_come [] has))
 
   -- a line was the last
-  pub RunsKtutil-in_line : (talk' : Talk F) (asked : ErrorWatch) → Prompts prompts (prompt_of talk.state.awaiting) talk.err asked → TakesLine old new left last.left → last.failed ≡ first.failed → Stops trait now (number + 1) new.line (record talk { err = asked }) talk'
-      → RunsKtutil trait order prompts now first last files talk'.files out talk'.out err talk'.err talk'.status
+  pub RunsKtutil-in_line : (talk' : Talk F) (asked : ErrorWatch) → Prompts prompts (prompt_of talk.state.awaiting) talk.err asked → TakesLine old new left last.left → last.failed ≡ world.input.failed → Stops trait now (number + 1) new.line (record talk { err = asked }) talk'
+      → RunsKtutil trait order prompts now world (record { files = talk'.files; input = last; out = talk'.out; err = talk'.err }) talk'.status
   RunsKtutil-in_line talk' asked prompted takes well stops =
-      let are_first = ToCome-first first.left (u.lines ++ new.line ∷ []) new last.left (ToCome-line first.left u.lines old new left last.left u.to_come takes) in
+      let are_first = ToCome-first world.input.left (u.lines ++ new.line ∷ []) new last.left (ToCome-line world.input.left u.lines old new left last.left u.to_come takes) in
       let stopped = subst (λ (n : ℕ). Stops trait now (n + 1) new.line (record talk { err = asked }) talk') u.counted stops in
       runs talk' (inr (inl (record { line = new.line; well = well; first = are_first; asked = asked; prompted = prompted; stops = stopped })))
-      (honest_in_line trait prompts now first.left u.lines (first_talk order files out err) talk u.talked new.line talk' asked prompted are_first stopped)
+      (honest_in_line trait prompts now world.input.left u.lines (first_talk order world.files world.out world.err) talk u.talked new.line talk' asked prompted are_first stopped)
 
   -- the input was not read further
   pub RunsKtutil-unread : (fault : LoadFault) (details : Details) (asked err' : ErrorWatch) (status : ℕ) → Prompts prompts (prompt_of talk.state.awaiting) talk.err asked
-      → KeepsLines old new left last.left → IsWithin old → HasNoMore old new → last.failed ≡ (is_failed fault || first.failed) → fault ≢ Missing → (fault ≡ TooLarge → most_bytes < length new.read)
-      → Reports [] None details (Err (input_error fault)) asked err' (error_status (input_error fault)) → details.aftermath ≡ None → status ≡ max talk.status (error_status (input_error fault)) → RunsKtutil trait order prompts now first last files talk.files out talk.out err err' status
+      → KeepsLines old new left last.left → IsWithin old → HasNoMore old new → last.failed ≡ (is_failed fault || world.input.failed) → fault ≢ Missing → (fault ≡ TooLarge → most_bytes < length new.read)
+      → Reports [] None details (Err (input_error fault)) asked err' (error_status (input_error fault)) → details.aftermath ≡ None → status ≡ max talk.status (error_status (input_error fault)) → RunsKtutil trait order prompts now world (record { files = talk.files; input = last; out = talk.out; err = err' }) status
   RunsKtutil-unread fault details asked err' status prompted keeps was no_more failed never too_large reported untold worst =
-      let are_first = ToCome-first first.left u.lines new last.left (λ more has. u.to_come more (keeps more has)) in
-      let consumes = grown first.left left last.left old.read new.read u.consumes grows in
+      let are_first = ToCome-first world.input.left u.lines new last.left (λ more has. u.to_come more (keeps more has)) in
+      let consumes = grown world.input.left left last.left old.read new.read u.consumes grows in
       runs (record { files = talk.files; state = talk.state; out = talk.out; err = err'; status = status }) (inr (inr (record {
         fault = fault;
         failed = failed;
@@ -232,7 +229,7 @@ module _ {F : Type 0} (trait : Ghosts F) (prompts : Bool) (now : ℕ) (order : O
         due = elim u.ended [ inl ended ↦ inl (due_of u.lines old new left last.left was grows no_more ended) | inr all ↦ inr all ];
         first = are_first;
         never = never;
-        too_large = λ e. too_long first.left last.left new.read consumes (too_large e);
+        too_large = λ e. too_long world.input.left last.left new.read consumes (too_large e);
         asked = asked;
         prompted = prompted;
         details = details;
@@ -241,4 +238,4 @@ module _ {F : Type 0} (trait : Ghosts F) (prompts : Bool) (now : ℕ) (order : O
         worst = worst;
         files = refl;
         out = refl;
-      }))) (honest_unread trait prompts now first.left u.lines (first_talk order files out err) talk u.talked fault are_first details asked err' status prompted reported untold worst)
+      }))) (honest_unread trait prompts now world.input.left u.lines (first_talk order world.files world.out world.err) talk u.talked fault are_first details asked err' status prompted reported untold worst)

@@ -2,23 +2,22 @@
 use Rattle.std.specs.Prelude.{ℕ, ◌+◌, Bool, true, false, List}
 use Rattle.krb_wire.specs.declared.format.Order.{Order}
 use Rattle.krb_files.specs.declared.files.Files.{Ghosts}
-use Rattle.krb_files.specs.Bytes.{Watch}
-use Rattle.krb_driver.specs.ErrorOutput.{ErrorWatch}
+use Rattle.krb_driver.specs.declared.world.World.{World}
 use Rattle.krb_ktutil.specs.KtutilPlan.{KtutilState}
 use Rattle.krb_files.specs.Loading.{most_bytes}
 use Rattle.krb_ktutil.specs.KtutilTalk.{Talk, first_talk, Continues, Stops, TalksOver, EndsTalk}
 use Rattle.krb_ktutil.specs.KtutilDue.{TalksHonestly}
-use Rattle.krb_files.specs.Reader.{Source, ConsumesAtMost}
+use Rattle.krb_files.specs.Reader.{ConsumesAtMost}
 
 -- a run of ktutil: the lines of the input are run in order, each after its prompt if there are prompts, up to one that is the last or to the end
-pub record RunsKtutil {F : Type 0} (trait : Ghosts F) (order : Order) (prompts : Bool) (now : ℕ) (input input' : Source) (old new : F) (out out' : Watch) (err err' : ErrorWatch) (status : ℕ) : Type 0 where
+pub record RunsKtutil {F R W E : Type 0} (trait : Ghosts F) (order : Order) (prompts : Bool) (now : ℕ) (old new : World F R W E) (status : ℕ) : Type 0 where
   pub lines : List (List ℕ)
   pub last : Talk F
   pub state : KtutilState
-  pub talked : TalksOver trait now prompts 1 lines (first_talk order old out err) last
-  pub ends : EndsTalk trait now prompts input input' lines last (record { files = new; state = state; out = out'; err = err'; status = status })
-  pub taken : ConsumesAtMost input.left input'.left (most_bytes + 1)
-  pub honest : trait.is_honest old → TalksHonestly trait prompts now input.left (first_talk order old out err) (record { files = new; state = state; out = out'; err = err'; status = status })
+  pub talked : TalksOver trait now prompts 1 lines (first_talk order old.files old.out old.err) last
+  pub ends : EndsTalk trait now prompts old.input new.input lines last (record { files = new.files; state = state; out = new.out; err = new.err; status = status })
+  pub taken : ConsumesAtMost old.input.left new.input.left (most_bytes + 1)
+  pub honest : trait.is_honest old.files → TalksHonestly trait prompts now old.input.left (first_talk order old.files old.out old.err) (record { files = new.files; state = state; out = new.out; err = new.err; status = status })
 
 -- ---- for private contracts
 

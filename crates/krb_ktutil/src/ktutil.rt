@@ -1,6 +1,6 @@
 //! ktutil: runs the lines of the input.
 
-ghost use Rattle.std.specs.Prelude.{◌≡◌, ◌&&◌, [], IsFalse, not};
+ghost use Rattle.std.specs.Prelude.{◌≡◌, ◌&&◌, [], not};
 ghost use Rattle.krb_ktutil.specs.Ktutil.{HandlesNext, RunsKtutil};
 ghost use Rattle.krb_ktutil.specs.KtutilTalk.{ending_of, goes_on, saved_verdict};
 ghost use Rattle.krb_ktutil.specs.declared.ktutil.awaiting.Awaiting.TheVariants.{Nothing};
@@ -24,8 +24,8 @@ use crate::input_lines::InputLines;
 use crate::ktutil::faulty_lines::fault_error;
 use crate::ktutil::prompts::show_prompt;
 use krb_driver::{
-    CommandName, CommandWords, Details, ErrorOutput, IN_PLACE, NameSource, RunError, Streams,
-    V1_BIG, Verdict, details_of, report, show,
+    CommandName, CommandWords, Details, ErrorOutput, IN_PLACE, NameSource, RunError, V1_BIG,
+    Verdict, World, details_of, report, show,
 };
 use krb_files::{Files, Watched};
 use krb_wire::Order;
@@ -137,7 +137,6 @@ impl<A: Allocator + Copy> Talk<A> {
         out: &mut Watched<W>,
         err: &mut ErrorOutput<E>,
     ) -> bool
-        requires { IsFalse out.old.failed }
         ensures next { HandlesNext F.Files self.old.now number line.now
             (record { files = files.old; state = self.old.ktutil; out = out.old; err = err.old; status = self.old.status })
             (record { files = files.new; state = self.new.ktutil; out = out.new; err = err.new; status = self.new.status })
@@ -163,14 +162,16 @@ pub fn run_ktutil<A: Allocator + Copy, F: Files, R: Read, W: Write, E: Write>(
     v1_order: Order,
     prompts: bool,
     now: u32,
-    files: &mut F,
-    streams: &mut Streams<R, W, E>,
+    world: &mut World<F, R, W, E>,
 ) -> u8
-    requires { IsFalse streams.old.out.failed }
-    ensures { RunsKtutil F.Files v1_order prompts now streams.old.input streams.new.input
-        files.old files.new streams.old.out streams.new.out streams.old.err streams.new.err result }
+    ensures { RunsKtutil F.Files v1_order prompts now world.old world.new result }
 {
-    let Streams { input, out, err } = streams;
+    let World {
+        files,
+        input,
+        out,
+        err,
+    } = world;
     let mut lines = InputLines::new(alloc);
     let mut talk = Talk::new(alloc, v1_order, now);
     let mut number = 0u64;

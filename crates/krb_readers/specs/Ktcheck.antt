@@ -4,7 +4,6 @@ use Rattle.krb_walk.specs.Store.{fault_of}
 use Rattle.krb_keytab.specs.Find.{placed_entries}
 use Rattle.krb_keytab.specs.Store.{KeytabState, store_of}
 use Rattle.krb_files.specs.declared.files.Files.{Ghosts}
-use Rattle.krb_files.specs.Bytes.{Watch}
 use Rattle.krb_files.specs.Plan.{Ends}
 use Rattle.krb_audit.specs.declared.finding_words.FindingWords.{FindingWords}
 use Rattle.krb_audit.specs.Findings.{weak_among}
@@ -13,11 +12,11 @@ use Rattle.krb_driver.specs.declared.command.RunEnd.{RunEnd}
 use Rattle.krb_driver.specs.declared.error.RunError.TheVariants as error
 use Rattle.krb_driver.specs.declared.file_name.FileName.{FileName}
 use Rattle.krb_driver.specs.declared.verdict.Findings.{Findings}
+use Rattle.krb_driver.specs.declared.world.World.{World}
 use Rattle.krb_driver.specs.declared.verdict.Verdict.{Verdict}
 use Rattle.krb_driver.specs.declared.verdict.Verdict.TheVariants.{Well, Found}
 use Rattle.krb_driver.specs.Commands.{EndsCommand, any}
 use Rattle.krb_driver.specs.Effects.{CommandPlan, Displays, Page, opens, text}
-use Rattle.krb_driver.specs.ErrorOutput.{ErrorWatch}
 use Rattle.krb_driver.specs.Opening.{keytab_in}
 use Rattle.krb_driver.specs.FileNames.{shown_name}
 use Rattle.krb_driver.specs.RunErrors.{Ending}
@@ -62,11 +61,9 @@ plan_of o is_named explained file mode =
 
 -- ---- several files
 
--- a run between two files: the files, the outputs, the findings that were explained, and the greatest status so far
-pub record Round (F : Type 0) : Type 0 where
-  pub files : F
-  pub out : Watch
-  pub err : ErrorWatch
+-- a run between two files: the world, the findings that were explained, and the greatest status so far
+pub record Round (F R W E : Type 0) : Type 0 where
+  pub world : World F R W E
   pub explained : FindingWords
   pub status : ℕ
 
@@ -80,29 +77,29 @@ abbrev pub is_spent : Ending → Bool
 is_spent (Err error.NoMemory) = true
 is_spent ending = false
 
-module _ {F : Type 0} (trait : Ghosts F) (o : CheckOptions) (is_named : Bool) where
+module _ {F R W E : Type 0} (trait : Ghosts F) (o : CheckOptions) (is_named : Bool) where
   -- a file was checked, and this is how that ended
-  pub record ChecksFile (file : FileName) (old new : Round F) (end : RunEnd) : Type 0 where
-    pub runs : EndsCommand trait (plan_of o is_named old.explained file) any old.files new.files old.out new.out old.err new.err end
+  pub record ChecksFile (file : FileName) (old new : Round F R W E) (end : RunEnd) : Type 0 where
+    pub runs : EndsCommand trait (plan_of o is_named old.explained file) any old.world new.world end
     pub explained : new.explained ≡ joined old.explained (explained_by end.ending)
     pub worst : new.status ≡ max old.status end.status
 
   -- no file comes after one if memory ran out, or the output failed
-  abbrev pub is_last : Ending → Round F → Bool
-  is_last ending round = is_spent ending || round.out.failed
+  abbrev pub is_last : Ending → Round F R W E → Bool
+  is_last ending round = is_spent ending || round.world.out.failed
 
   -- files were checked one after the other, up to the last
-  abbrev pub ChecksOver : List FileName → Round F → Round F → Type 0
+  abbrev pub ChecksOver : List FileName → Round F R W E → Round F R W E → Type 0
   ChecksOver [] old new = new ≡ old
   ChecksOver (file ∷ files) old new =
-      (between : Round F) × (end : RunEnd) × ChecksFile file old between end
+      (between : Round F R W E) × (end : RunEnd) × ChecksFile file old between end
       × ((IsTrue (is_last end.ending between) × (new ≡ between)) ⊎ (IsFalse (is_last end.ending between) × ChecksOver files between new))
 
 -- a run before its first file
-abbrev pub first_round : {F : Type 0} → F → Watch → ErrorWatch → Round F
-first_round files out err = record { files = files; out = out; err = err; explained = words_of []; status = 0 }
+abbrev pub first_round : {F R W E : Type 0} → World F R W E → Round F R W E
+first_round world = record { world = world; explained = words_of []; status = 0 }
 
 -- a run over files: it ends with the greatest status
-pub record ChecksAll {F : Type 0} (trait : Ghosts F) (o : CheckOptions) (names : List FileName) (old new : F) (out out' : Watch) (err err' : ErrorWatch) (status : ℕ) : Type 0 where
+pub record ChecksAll {F R W E : Type 0} (trait : Ghosts F) (o : CheckOptions) (names : List FileName) (old new : World F R W E) (status : ℕ) : Type 0 where
   pub explained : FindingWords
-  pub over : ChecksOver trait o (nat_lt 1 (length names)) names (first_round old out err) (record { files = new; out = out'; err = err'; explained = explained; status = status })
+  pub over : ChecksOver trait o (nat_lt 1 (length names)) names (first_round old) (record { world = new; explained = explained; status = status })

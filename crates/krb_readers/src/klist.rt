@@ -6,7 +6,7 @@ pub(crate) mod words;
 
 ghost use Rattle.std.specs.Prelude.{◌≡◌, IsFalse};
 ghost use Rattle.krb_text.specs.Gathered.{Prints};
-ghost use Rattle.krb_driver.specs.Commands.{RunsCommand, always, any, made_effect};
+ghost use Rattle.krb_driver.specs.Commands.{Runs, always, any, made_effect};
 ghost use Rattle.krb_driver.specs.Effects.{Displays, IsMade};
 ghost use Rattle.krb_readers.specs.Klist.{cache_shown, keytab_shown, klist_plan, listing_page};
 ghost use Rattle.krb_driver.specs.Verdicts.{listing_verdict};
@@ -15,7 +15,7 @@ use crate::klist::words::{KlistOptions, ListKind};
 use krb_cache_text::{CcColumns, list_cache};
 use krb_ccache::Ccache;
 use krb_driver::{
-    Command, FileError, FileName, Made, RunError, Show, Streams, Verdict, open_cache, open_listed,
+    Command, FileError, FileName, Made, RunError, Show, Verdict, World, open_cache, open_listed,
     run,
 };
 use krb_files::{Files, OutFault, Watched};
@@ -180,13 +180,9 @@ pub fn run_klist<A: Allocator + Copy, F: Files, R: Read, W: Write, E: Write>(
     alloc: A,
     options: &KlistOptions,
     file: FileName<'_>,
-    files: &mut F,
-    streams: &mut Streams<R, W, E>,
+    world: &mut World<F, R, W, E>,
 ) -> u8
-    requires { IsFalse streams.old.out.failed }
-    ensures runs { RunsCommand F.Files (always (klist_plan options.now file.entry)) any files.old files.new
-        streams.old.out streams.new.out streams.old.err streams.new.err result }
-    ensures input { streams.new.input ≡ streams.old.input }
+    ensures { Runs F.Files (always (klist_plan options.now file.entry)) any world.old world.new result }
 {
-    run(alloc, &ListFile { options, file }, files, streams)
+    run(alloc, &ListFile { options, file }, world)
 }

@@ -2,7 +2,7 @@
 
 pub(crate) mod words;
 
-ghost use Rattle.std.specs.Prelude.{◌≡◌, ◌||◌, ℕ, Option, List, max, is_some, IfOk, IsFalse};
+ghost use Rattle.std.specs.Prelude.{◌≡◌, ◌||◌, ℕ, Option, List, max, is_some, IfOk};
 ghost use Rattle.krb_walk.specs.Store.{fault_of};
 ghost use Rattle.krb_keytab.specs.Find.{placed_entries};
 ghost use Rattle.krb_keytab.specs.Store.{KeytabState, store_of};
@@ -15,7 +15,7 @@ ghost use Rattle.krb_readers.specs.Ktcheck.{ChecksAll, explained_by, found_verdi
 use crate::ktcheck::words::CheckOptions;
 use krb_audit::{CheckUp, FindingWords, check_up};
 use krb_driver::{
-    Command, FileError, FileName, Findings, Made, Output, RunEnd, RunError, Streams, Verdict,
+    Command, FileError, FileName, Findings, Made, Output, RunEnd, RunError, Verdict, World,
     append_name, open_keytab, run_to_end,
 };
 use krb_files::Files;
@@ -181,13 +181,9 @@ pub fn run_ktcheck<A: Allocator + Copy, F: Files, R: Read, W: Write, E: Write>(
     alloc: A,
     options: &CheckOptions,
     names: &[FileName<'_>],
-    files: &mut F,
-    streams: &mut Streams<R, W, E>,
+    world: &mut World<F, R, W, E>,
 ) -> u8
-    requires { IsFalse streams.old.out.failed }
-    ensures checks { ChecksAll F.Files options.now names.now files.old files.new
-        streams.old.out streams.new.out streams.old.err streams.new.err result }
-    ensures input { streams.new.input ≡ streams.old.input }
+    ensures { ChecksAll F.Files options.now names.now world.old world.new result }
 {
     let is_named = names.len() > 1;
     let mut so_far = SoFar {
@@ -201,9 +197,9 @@ pub fn run_ktcheck<A: Allocator + Copy, F: Files, R: Read, W: Write, E: Write>(
             is_named,
             explained: so_far.explained,
         };
-        let end = run_to_end(alloc, &command, files, streams);
+        let end = run_to_end(alloc, &command, world);
         so_far = so_far.after(end);
-        if is_last(end.ending, streams.out.has_failed()) {
+        if is_last(end.ending, world.out.has_failed()) {
             return so_far.status;
         }
     }

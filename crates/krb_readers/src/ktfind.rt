@@ -1,14 +1,14 @@
 //! ktfind: looks up an entry in a keytab.
 
-ghost use Rattle.std.specs.Prelude.{◌≡◌, IsFalse};
-ghost use Rattle.krb_driver.specs.Commands.{RunsCommand, always, any, text_effect};
+ghost use Rattle.std.specs.Prelude.{◌≡◌};
+ghost use Rattle.krb_driver.specs.Commands.{Runs, always, any, text_effect};
 ghost use Rattle.krb_driver.specs.Effects.{IsMade};
 ghost use Rattle.krb_readers.specs.Ktfind.{SpellsEntry, find_mistake, finds, ktfind_plan};
 ghost use Rattle.krb_driver.specs.Mistakes.{Reads};
 
 use krb_driver::{
     Command, CommandName, CommandWords, FileError, FileName, Made, Matches, Mistake, Output,
-    RunError, Streams, V1_BIG, Verdict, Word, WordFault, open_keytab, run, spelled_name, v1_order,
+    RunError, V1_BIG, Verdict, Word, WordFault, World, open_keytab, run, spelled_name, v1_order,
 };
 use krb_files::Files;
 use krb_keytab::Keytab;
@@ -136,13 +136,9 @@ pub fn run_ktfind<A: Allocator + Copy, B: Allocator, F: Files, R: Read, W: Write
     alloc: A,
     options: &FindOptions<B>,
     file: FileName<'_>,
-    files: &mut F,
-    streams: &mut Streams<R, W, E>,
+    world: &mut World<F, R, W, E>,
 ) -> u8
-    requires { IsFalse streams.old.out.failed }
-    ensures runs { RunsCommand F.Files (always (ktfind_plan options.now file.entry)) any files.old files.new
-        streams.old.out streams.new.out streams.old.err streams.new.err result }
-    ensures input { streams.new.input ≡ streams.old.input }
+    ensures { Runs F.Files (always (ktfind_plan options.now file.entry)) any world.old world.new result }
 {
-    run(alloc, &FindEntry { options, file }, files, streams)
+    run(alloc, &FindEntry { options, file }, world)
 }

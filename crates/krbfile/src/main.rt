@@ -11,13 +11,12 @@ mod run;
 mod silent;
 mod words;
 
-use krb_commands::{ErrorOutput, Streams};
+use krb_commands::{ErrorOutput, World, at_terminal, needs_of};
 use krb_disk::DiskFiles;
 use krb_files::{Watched, WatchedReader};
 use krb_terminal::Screen;
 use run::{
-    announce_script, asks_to_explain, for_input, for_output, is_out_of_memory, is_told_to_explain,
-    parsed, prints_json, run, saves_in_place, wants_plain, words_of,
+    announce_script, asks_to_explain, is_out_of_memory, is_told_to_explain, parsed, run, words_of,
 };
 use silent::asks_for_silence;
 use std::io::IsTerminal;
@@ -36,18 +35,20 @@ fn main(rt: HostRuntime) -> ExitCode {
     let input = rt.stdin();
     let on_terminal = err.is_terminal();
     let is_typed = input.is_terminal() && on_terminal;
-    let parsed = for_input(for_output(parsed, out.is_terminal()), is_typed);
+    let parsed = at_terminal(parsed, out.is_terminal(), is_typed);
+    let needs = needs_of(&parsed);
     let mut files = DiskFiles::new(&rt);
-    if wants_plain(&parsed) {
+    if needs.plain {
         files.only_plain();
     }
-    if saves_in_place(&parsed) {
+    if needs.in_place {
         files.save_in_place();
     }
-    let mut screen = Screen::new(out, out.is_terminal() && !prints_json(&parsed));
+    let mut screen = Screen::new(out, out.is_terminal() && !needs.json);
     let mut error_screen = Screen::new(err, on_terminal);
     let status = {
-        let mut streams = Streams {
+        let mut world = World {
+            files,
             input: WatchedReader::new(input),
             out: Watched::new(&mut screen),
             err: ErrorOutput {
@@ -55,8 +56,10 @@ fn main(rt: HostRuntime) -> ExitCode {
                 explains: is_told || asks_to_explain(&rt) || on_terminal,
             },
         };
-        announce_script(&parsed, is_typed, &mut streams.err.to);
-        run(&rt, &parsed, &mut files, &mut streams)
+        if is_typed && needs.script {
+            announce_script(&mut world.err.to);
+        }
+        run(&rt, &parsed, needs, &mut world)
     };
     let _ = screen.finish();
     let _ = error_screen.finish();

@@ -1,12 +1,12 @@
 //! The command line, and its run.
 
-ghost use Rattle.std.specs.Prelude.{ℕ, Option, IsFalse};
+ghost use Rattle.std.specs.Prelude.{ℕ, Option};
 ghost use Rattle.krb_commands.specs.Actions.{DefaultName, EndsParsed};
 
 use crate::clock::seconds_now;
 use crate::default_name::{FoundName, found_name};
 use crate::words::parse_words;
-use krb_commands::{Action, Mistake, Streams, WordFault, respond};
+use krb_commands::{Action, Mistake, Needs, WordFault, World, respond, words_of as command_words};
 use krb_files::{Files, Watched, put};
 use std::alloc::Global;
 use std::env::FillError;
@@ -51,80 +51,14 @@ pub fn parsed<'a>(
     }
 }
 
-/// Returns the action for an output that may be a terminal.
-pub fn for_output<'a>(
-    parsed: Result<Action<'a>, WordFault<'a>>,
-    is_terminal: bool,
-) -> Result<Action<'a>, WordFault<'a>> {
-    match parsed {
-        Ok(action) if is_terminal => Ok(action.on_terminal()),
-        parsed => parsed,
-    }
-}
-
-/// Returns the action for an input that may be typed, while the error output is a terminal too.
-pub fn for_input<'a>(
-    parsed: Result<Action<'a>, WordFault<'a>>,
-    is_typed: bool,
-) -> Result<Action<'a>, WordFault<'a>> {
-    match parsed {
-        Ok(action) if is_typed => Ok(action.with_prompts()),
-        parsed => parsed,
-    }
-}
-
-/// Says how a script that is typed ends, if the run reads one. Ignores a failure.
-pub fn announce_script<E: Write>(
-    parsed: &Result<Action<'_>, WordFault<'_>>,
-    is_typed: bool,
-    err: &mut Watched<E>,
-) {
-    if is_typed && matches!(parsed, Ok(action) if action.reads_script()) {
-        let _ = put(err, b"krbfile: reading a script; end it with Ctrl-D\n");
-    }
+/// Says how a script that is typed ends. Ignores a failure.
+pub fn announce_script<E: Write>(err: &mut Watched<E>) {
+    let _ = put(err, b"krbfile: reading a script; end it with Ctrl-D\n");
 }
 
 /// Returns whether memory ran out for the words of the command line.
 pub fn is_out_of_memory(parsed: &Result<Action<'_>, WordFault<'_>>) -> bool {
     matches!(parsed, Err(WordFault::NoMemory))
-}
-
-/// Returns whether the files are to be told to refuse what is not a plain file.
-pub fn wants_plain(parsed: &Result<Action<'_>, WordFault<'_>>) -> bool {
-    match parsed {
-        Ok(action) => action.wants_plain(),
-        Err(_) => false,
-    }
-}
-
-/// Returns whether the files are to be told to save in place.
-pub fn saves_in_place(parsed: &Result<Action<'_>, WordFault<'_>>) -> bool {
-    match parsed {
-        Ok(action) => action.saves_in_place(),
-        Err(_) => false,
-    }
-}
-
-/// Returns whether the run prints JSON.
-pub fn prints_json(parsed: &Result<Action<'_>, WordFault<'_>>) -> bool {
-    match parsed {
-        Ok(Action::Klist(options, _)) => options.json,
-        _ => false,
-    }
-}
-
-// Returns the name of the file if the line leaves it out.
-fn name_left_out<H: rt::Env + rt::Files + AllocGlobal>(
-    rt: &H,
-    parsed: &Result<Action<'_>, WordFault<'_>>,
-) -> FoundName {
-    match parsed {
-        Ok(action) => match action.left_out() {
-            Some((kind, command)) => found_name(rt, kind, command),
-            None => FoundName::none(),
-        },
-        Err(_) => FoundName::none(),
-    }
 }
 
 /// Runs an action, or reports why the command line was not read, and returns the exit status. The clock is read at
@@ -133,20 +67,17 @@ fn name_left_out<H: rt::Env + rt::Files + AllocGlobal>(
 pub fn run<H: rt::Clock + rt::Env + rt::Files + AllocGlobal, F: Files, R: Read, W: Write, E: Write>(
     rt: &H,
     parsed: &Result<Action<'_>, WordFault<'_>>,
-    files: &mut F,
-    streams: &mut Streams<R, W, E>,
+    needs: Needs,
+    world: &mut World<F, R, W, E>,
 ) -> u8
-    requires { IsFalse streams.old.out.failed }
-
     // The action, or the mistake in the line, the clock and the default name decide the run.
-    ensures { (now : Option ℕ) × (name : DefaultName) × EndsParsed F.Files now name streams.old.input streams.new.input files.old files.new
-        streams.old.out streams.new.out streams.old.err streams.new.err result parsed.now }
+    ensures { (now : Option ℕ) × (name : DefaultName) × EndsParsed F.Files world.old world.new result now name parsed.now }
 {
     let alloc = Wiping::new(rt.alloc());
-    let now = match parsed {
-        Ok(action) if action.needs_clock() => seconds_now(rt),
-        _ => None,
+    let now = if needs.clock { seconds_now(rt) } else { None };
+    let name = match needs.left_out {
+        Some((kind, command)) => found_name(rt, kind, command_words(command).name),
+        None => FoundName::none(),
     };
-    let name = name_left_out(rt, parsed);
-    respond(alloc, parsed, files, now, name.file(), streams)
+    respond(alloc, parsed, now, name.file(), world)
 }

@@ -218,7 +218,7 @@ ktremove explains now files ws = follows explains files (ktremove_plan (record {
   selection = selection (with_age (option_and_then seconds_in (slice_get (ws.values (codes "age")) 0)) (kvno_of (codes "old") Old ws)) ws;
   dry_run = ws.flag (codes "dry-run");
   v1_order = v1_order ws;
-}) now (operand ws Keytab (codes "FILE")))
+}) (operand ws Keytab (codes "FILE")) now)
 
 -- at a second, which is asked for with `--expired` alone
 abbrev pub ccremove : Bool → ℕ → FileMap → Matched → Seen

@@ -1,6 +1,6 @@
 //! An image as programs hand it to each other: its length, a newline, and its bytes.
 
-ghost use Rattle.std.specs.Prelude.{◌≡◌, ◌==◌, ◌<◌, ◌≤◌, IfErr, IfSome, IsFalse, Ok, OnErr, OnOk, is_err, length, option_map};
+ghost use Rattle.std.specs.Prelude.{◌≡◌, ◌==◌, ◌<◌, ◌≤◌, IfErr, IfSome, Ok, OnErr, OnOk, is_err, length, option_map};
 ghost use Rattle.std.specs.List.{position_from};
 ghost use Rattle.std.specs.Io.KnownBytes.{Appends};
 ghost use Rattle.krb_files.specs.Bytes.{AppendsPrefix};
@@ -32,9 +32,11 @@ fn put_frame<W: Write>(image: &[u8], out: &mut Watched<W>) -> Result<(), OutFaul
 
 /// Prints the frame of an image.
 pub fn print_frame<W: Write>(image: &[u8], out: &mut Watched<W>) -> Result<Verdict, RunError>
-    requires { IsFalse out.old.failed }
     ensures { Shows (record { out = frame image.now; ending = Ok Well }) out.old out.new result }
 {
+    if out.has_failed() {
+        return Err(RunError::OutputNotWritten);
+    }
     put_frame(image, out)?;
     Ok(Verdict::Well)
 }

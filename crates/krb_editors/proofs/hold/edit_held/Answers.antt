@@ -3,19 +3,19 @@ use Rattle.std.specs.Prelude.{Ok, Err}
 use Rattle.krb_editors.proofs.hold.edit_held.Goals as goal
 
 -- the hold is good: the image went out
-pub returns-in-Ok-check_hold-clause-runs : goal.returns-in-Ok-check_hold-clause-runs
-returns-in-Ok-check_hold-clause-runs g c = record {
+pub returns-in-Ok-check_hold : goal.returns-in-Ok-check_hold
+returns-in-Ok-check_hold g c = record {
   held = c.hold_if.new.files;
   holds = c.hold_if.ensures.held;
   loaded = c.give_whole.new.files;
   given = Ok c.in-Ok.loaded.items;
   gives = c.in-Ok.ensures;
-  after = (c.check_hold.new.files, (Ok tt, (c.in-Ok-check_hold.ensures, rw c.deref.ensures.value at c.exchange.ensures.runs)));
+  after = (c.check_hold.new.files, (Ok tt, (c.in-Ok-check_hold.ensures, rw c.deref.ensures.value at c.exchange.ensures)));
 }
 
 -- it is not
-pub returns-clause-runs : goal.returns-clause-runs
-returns-clause-runs g c =
+pub returns : goal.returns
+returns g c =
     let met = c.in-Err-check_hold.met in
     record {
       held = c.hold_if.new.files;
@@ -23,5 +23,5 @@ returns-clause-runs g c =
       loaded = c.give_whole.new.files;
       given = Ok c.in-Ok.loaded.items;
       gives = c.in-Ok.ensures;
-      after = (c.check_hold.new.files, (Err (met.file.now, met.error), (c.in-Err-check_hold.ensures, (refl, refl, refl, refl))));
+      after = (c.check_hold.new.files, (Err (met.file.now, met.error), (c.in-Err-check_hold.ensures, (refl, refl))));
     }

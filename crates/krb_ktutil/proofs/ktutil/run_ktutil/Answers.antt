@@ -13,7 +13,7 @@ lines-init g c = (
   c.new-talk.ensures.now,
   refl,
   rw (c.new-talk.ensures.state, c.new-talk.ensures.status)
-      (Underway-first g.F.Files c.args.prompts c.args.now c.args.streams.now.input.left (first_talk c.args.v1_order c.args.files.now c.args.streams.now.out c.args.streams.now.err) c.requires c.new-lines.result c.new-lines.ensures),
+      (Underway-first g.F.Files c.args.prompts c.args.now c.args.world.now.input.left (first_talk c.args.v1_order c.args.world.now.files c.args.world.now.out c.args.world.now.err) c.new-lines.result c.new-lines.ensures),
 )
 
 -- the input has ended
@@ -21,7 +21,7 @@ pub returns-in-Ok-false : goal.returns-in-Ok-false
 returns-in-Ok-false g c =
     let prompted = Prompts-first c.args.prompts _ c.lines.err c.show_prompt.new.err (rw c.prompt.ensures at c.show_prompt.ensures) in
     let line = rw c.in-Ok-false.field-0-test at c.in-Ok-false.ensures.line in
-    RunsKtutil-after g.F.Files c.args.prompts c.args.now c.args.v1_order c.args.files.now c.args.streams.now.out c.args.streams.now.err c.args.streams.now.input c.read_line.new.reader c.lines.lines c.read_line.new.self c.lines.input.left c.lines.number _ c.lines.invariant.2
+    RunsKtutil-after g.F.Files c.args.prompts c.args.now c.args.v1_order c.args.world.now c.read_line.new.reader c.lines.lines c.read_line.new.self c.lines.input.left c.lines.number _ c.lines.invariant.2
     c.in-Ok-false.ensures.grows c.in-Ok-false.ensures.within c.show_prompt-in-Ok-false.new.err (c.show_prompt-in-Ok-false.ensures c.lines.err _ prompted) line (c.in-Ok-false.ensures.failed ∙ c.lines.invariant.1)
 
 -- it could not be read
@@ -32,7 +32,7 @@ returns-in-Err g c =
     let why = input_error c.in-Err.fault in
     let reported = rw c.of_input.ensures at c.report-status.ensures in
     let is : error_status why ≡ end_status (Err why) details.aftermath = end_status-none (Err why) details.aftermath c.unsaved.ensures.aftermath in
-    RunsKtutil-unread g.F.Files c.args.prompts c.args.now c.args.v1_order c.args.files.now c.args.streams.now.out c.args.streams.now.err c.args.streams.now.input c.read_line.new.reader c.lines.lines c.read_line.new.self c.lines.input.left c.lines.number _ c.lines.invariant.2
+    RunsKtutil-unread g.F.Files c.args.prompts c.args.now c.args.v1_order c.args.world.now c.read_line.new.reader c.lines.lines c.read_line.new.self c.lines.input.left c.lines.number _ c.lines.invariant.2
     c.in-Err.ensures.grows c.in-Err.ensures.within c.in-Err.fault details c.show_prompt.new.err c.report-status.new.err c.max.result prompted c.in-Err.ensures.err c.lines.invariant.2.within c.in-Err.ensures.no_more (c.in-Err.ensures.failed ∙ ap (λ (b : Bool). is_failed c.in-Err.fault || b) c.lines.invariant.1) c.in-Err.ensures.never (λ e. c.in-Err.ensures.too_large (ap Err e))
     (record { reports = reported.reports; status_is = is }) c.unsaved.ensures.aftermath (c.max.ensures ∙ ap (max c.lines.talk.status) (reported.status_is ∙ sym is))
 
@@ -42,7 +42,7 @@ returns-then-not-handle g c =
     let prompted = Prompts-first c.args.prompts _ c.lines.err c.show_prompt.new.err (rw c.prompt.ensures at c.show_prompt.ensures) in
     let line = rw c.in-Ok-true.field-0-test at c.in-Ok-true.ensures.line in
     let stops = rw (c.line.ensures, c.lines.invariant.0) at c.if-not-handle.ensures.next in
-    RunsKtutil-in_line g.F.Files c.args.prompts c.args.now c.args.v1_order c.args.files.now c.args.streams.now.out c.args.streams.now.err c.args.streams.now.input c.read_line.new.reader c.lines.lines c.read_line.new.self c.lines.input.left c.lines.number _ c.lines.invariant.2
+    RunsKtutil-in_line g.F.Files c.args.prompts c.args.now c.args.v1_order c.args.world.now c.read_line.new.reader c.lines.lines c.read_line.new.self c.lines.input.left c.lines.number _ c.lines.invariant.2
     c.in-Ok-true.ensures.grows c.in-Ok-true.ensures.within _ c.show_prompt.new.err prompted line (c.in-Ok-true.ensures.failed ∙ c.lines.invariant.1) stops
 
 pub lines-preserved : goal.lines-preserved

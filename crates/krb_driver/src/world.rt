@@ -1,12 +1,13 @@
-//! The streams of a run.
+//! What a run works on.
 
 use crate::reporting::error_output::ErrorOutput;
-use krb_files::{Watched, WatchedReader};
+use krb_files::{Files, Watched, WatchedReader};
 use std::io::{Read, Write};
 
-/// The streams of a run.
+/// The files and the streams of a run.
 #[derive(Drop)]
-pub struct Streams<R: Read, W: Write, E: Write> {
+pub struct World<F: Files, R: Read, W: Write, E: Write> {
+    pub files: F,
     /// The input of scripts, and of the lines of ktutil.
     pub input: WatchedReader<R>,
     pub out: Watched<W>,
