@@ -1,10 +1,17 @@
 //! The name of a file that a command line leaves out.
 
+ghost use Rattle.std.specs.Prelude.{◌≡◌, ◌<◌, ◌==◌, IfSome, length, string_bytes};
+ghost use Rattle.std.specs.List.{position_from};
+ghost use Rattle.std.specs.Result.{result_map_both};
+ghost use Rattle.krb_driver.specs.Mistakes.{in_command};
+ghost use Rattle.krbfile.specs.DefaultNames.{GivesName, IsCacheName, IsCacheOf, IsFile, first_number, parts_of, user_in, variable_of};
+
 use krb_commands::{DefaultName, FileKind, FileName, Mistake, NameSource, WordFault};
+use krb_text::{Lines, parse_u32};
 use std::alloc::Global;
 use std::env::VarError;
 use std::io::ErrorKind;
-use std::{env, fs, rt};
+use std::{env, fs, io, rt};
 
 /// The keytab of a host.
 const KEYTAB: &str = "/etc/krb5.keytab";
@@ -31,7 +38,9 @@ impl FoundName {
     }
 
     /// Returns the file of that name, or why there is none.
-    pub fn file(&self) -> DefaultName<'_> {
+    pub fn file(&self) -> DefaultName<'_>
+        ensures { IsFile self.now result }
+    {
         match &self.text {
             Ok(text) => Ok(FileName::of(self.kind, text.as_str(), self.source)),
             Err(fault) => Err(*fault),
@@ -39,31 +48,54 @@ impl FoundName {
     }
 }
 
+// Returns where the first tab is.
+fn first_tab(text: &[u8]) -> Option<usize>
+    ensures is { result ≡ position_from (λ b. b == 9) 0 text.now }
+    ensures within { IfSome result (λ at. at < length text.now) }
+{
+    text.iter().position(|byte| *byte == b'\t')
+}
+
+// Returns the number before a first tab.
+fn first_number(numbers: &[u8]) -> Option<u32>
+    ensures { result ≡ first_number numbers.now }
+{
+    match first_tab(numbers) {
+        Some(end) => parse_u32(&numbers[..end]),
+        None => parse_u32(numbers),
+    }
+}
+
 // Returns the number of the real user, by what the system tells of a process.
-fn user_in(status: &[u8]) -> Option<u32> {
-    for line in status.split(|byte| *byte == b'\n') {
-        if let Some(numbers) = line.strip_prefix(b"Uid:".as_slice()) {
-            let numbers = str::from_utf8(numbers).ok()?;
-            return numbers.split_whitespace().next()?.parse().ok();
+fn user_in(status: &[u8]) -> Option<u32>
+    ensures { result ≡ user_in status.now }
+{
+    'lines: for line in Lines::of(status) {
+        if line.starts_with(b"Uid:\t") {
+            return first_number(&line[5..]);
         }
     }
     None
 }
 
-// Returns the number of the real user, or `None` if it cannot be had.
-fn real_user<R: rt::Files + AllocGlobal>(rt: &R) -> Result<Option<u32>, WordFault<'static>> {
-    match fs::read(rt, STATUS) {
-        Ok(status) => Ok(user_in(&status)),
-        Err(error) if error.kind() == ErrorKind::OutOfMemory => Err(WordFault::NoMemory),
-        Err(_) => Ok(None),
+// Returns the default name of the cache of a user, if one is known.
+fn cache_of(alloc: Global, user: Option<u32>) -> Result<String, WordFault<'static>>
+    ensures { IsCacheOf user (result_map_both string_bytes (λ fault. fault) result) }
+{
+    match user {
+        Some(user) => Ok(format!(in alloc; "/tmp/krb5cc_{user}")?),
+        None => Err(WordFault::of(Mistake::Missing("FILE"))),
     }
 }
 
-// Returns the default name of a user's cache.
-fn cache_name<R: rt::Files + AllocGlobal>(rt: &R) -> Result<String, WordFault<'static>> {
-    match real_user(rt)? {
-        Some(user) => Ok(format!(in rt.alloc(); "/tmp/krb5cc_{user}")?),
-        None => Err(WordFault::of(Mistake::Missing("FILE"))),
+// Returns the default name of a user's cache, by what was read of the process.
+fn cache_name(alloc: Global, status: io::Result<Vec<u8>>) -> Result<String, WordFault<'static>>
+    ensures { IsCacheName (result_map_both (λ bytes. bytes.items) (λ error. error) status) (result_map_both string_bytes (λ fault. fault) result) }
+{
+    match status {
+        Ok(status) => cache_of(alloc, user_in(&status)),
+        Err(error) if matches!(error.kind(), ErrorKind::OutOfMemory) => Err(WordFault::NoMemory),
+        Err(_) => cache_of(alloc, None),
     }
 }
 
@@ -74,41 +106,58 @@ fn default_text<R: rt::Files + AllocGlobal>(
 ) -> Result<String, WordFault<'static>> {
     match kind {
         FileKind::Keytab => Ok(String::from_str(rt.alloc(), KEYTAB)?),
-        FileKind::Cache => cache_name(rt),
+        FileKind::Cache => cache_name(rt.alloc(), fs::read(rt, STATUS)),
     }
 }
 
-// Returns the text, unless it is empty.
-fn unless_empty(text: String) -> Option<String> {
-    if text.as_str() == "" {
-        None
-    } else {
-        Some(text)
-    }
-}
-
-// Returns the name in a variable of the environment. An empty one counts as none.
-fn name_in<R: rt::Env + AllocGlobal>(
-    rt: &R,
-    variable: &'static str,
-) -> Result<Option<String>, WordFault<'static>> {
-    match env::var(rt, variable) {
-        Ok(text) => Ok(unless_empty(text)),
-        Err(VarError::NotPresent) => Ok(None),
-        Err(VarError::NotUnicode) => Err(WordFault::of(Mistake::VariableNotText(variable))),
-        Err(VarError::OutOfMemory) => Err(WordFault::NoMemory),
-    }
-}
-
-// Adds the command to the reason for which there is no name.
-fn for_command(
+// Returns the default name as one that is found, with the command in the reason for which there is none.
+fn default_name(
+    kind: FileKind,
     command: &'static str,
     text: Result<String, WordFault<'static>>,
-) -> Result<String, WordFault<'static>> {
-    match text {
-        Ok(text) => Ok(text),
-        Err(fault) => Err(fault.in_command(command)),
+) -> FoundName
+    ensures { parts_of result ≡ (kind, NameSource.Default, result_map_both string_bytes (in_command command.entry) text.entry) }
+{
+    FoundName {
+        kind,
+        source: NameSource::Default,
+        text: match text {
+            Ok(text) => Ok(text),
+            Err(fault) => Err(fault.in_command(command)),
+        },
     }
+}
+
+// Returns the variable that names a file of that kind, and what a name in it comes from.
+fn variable_of(kind: FileKind) -> (&'static str, NameSource)
+    ensures { (result.0.now, result.1) ≡ variable_of kind }
+{
+    match kind {
+        FileKind::Keytab => ("KRB5_KTNAME", NameSource::KeytabVariable),
+        FileKind::Cache => ("KRB5CCNAME", NameSource::CacheVariable),
+    }
+}
+
+// Returns the name that the environment's answer gives, or why it gives none. A variable that is not set or is empty
+// leaves it to the default.
+fn given_name(
+    kind: FileKind,
+    command: &'static str,
+    answer: Result<String, VarError>,
+) -> Option<FoundName>
+    ensures { GivesName kind command.now (result_map_both string_bytes (λ error. error) answer) result }
+{
+    let (variable, source) = variable_of(kind);
+    let text = match answer {
+        Ok(text) if text.as_str() == "" => return None,
+        Err(VarError::NotPresent) => return None,
+        Ok(text) => Ok(text),
+        Err(VarError::NotUnicode) => {
+            Err(WordFault::of(Mistake::VariableNotText(variable)).in_command(command))
+        }
+        Err(VarError::OutOfMemory) => Err(WordFault::NoMemory),
+    };
+    Some(FoundName { kind, source, text })
 }
 
 /// Returns the name of a file that the line of that command leaves out: the one in the environment, or else the default.
@@ -117,25 +166,8 @@ pub fn found_name<R: rt::Env + rt::Files + AllocGlobal>(
     kind: FileKind,
     command: &'static str,
 ) -> FoundName {
-    let (variable, source) = match kind {
-        FileKind::Keytab => ("KRB5_KTNAME", NameSource::KeytabVariable),
-        FileKind::Cache => ("KRB5CCNAME", NameSource::CacheVariable),
-    };
-    match name_in(rt, variable) {
-        Ok(Some(text)) => FoundName {
-            kind,
-            source,
-            text: Ok(text),
-        },
-        Ok(None) => FoundName {
-            kind,
-            source: NameSource::Default,
-            text: for_command(command, default_text(rt, kind)),
-        },
-        Err(fault) => FoundName {
-            kind,
-            source,
-            text: Err(fault.in_command(command)),
-        },
+    match given_name(kind, command, env::var(rt, variable_of(kind).0)) {
+        Some(found) => found,
+        None => default_name(kind, command, default_text(rt, kind)),
     }
 }

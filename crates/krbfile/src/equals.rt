@@ -1,6 +1,7 @@
 //! Values of short options that begin with `=`.
 
-use crate::bad_line::{has_letter, takes_value, words_behind};
+use crate::bad_line::words_behind;
+use crate::options::{has_letter, takes_value};
 use clap::{Arg, Command};
 use std::alloc::{AllocError, Global};
 

@@ -1,5 +1,8 @@
 //! What was meant by an unknown word.
 
+ghost use Rattle.std.specs.Prelude.{◌≡◌, IfOk};
+ghost use Rattle.krbfile.specs.Nearest.{nearest};
+
 use clap::Command;
 use krb_commands::{COMMANDS, More, words_of};
 use std::alloc::{AllocError, Global};
@@ -9,11 +12,9 @@ use strsim::osa_distance;
 const FAR: usize = 3;
 
 // Returns the name that is nearer to a word than every other, and not far from it.
-fn nearest<'a>(
-    alloc: Global,
-    word: &str,
-    names: &[&'a str],
-) -> Result<Option<&'a str>, AllocError> {
+fn nearest<'a>(alloc: Global, word: &str, names: &[&'a str]) -> Result<Option<&'a str>, AllocError>
+    ensures { IfOk result (λ found. found ≡ nearest word.now names.now) }
+{
     let mut found = None;
     let mut least = FAR;
     for name in names {

@@ -1,0 +1,8 @@
+use Rattle.std.proofs.Common.{◌≡◌}
+use Rattle.krb_text.specs.Pieces.{pieces}
+use Rattle.krbfile.specs.DefaultNames.{user_of}
+use Rattle.krbfile.proofs.default_name.user_in.Given as goal
+
+-- the lines to come tell what all lines tell
+abbrev pub invariant-lines : goal.invariant-lines
+invariant-lines l = user_of l.line-iterator ≡ user_of (pieces 10 l.status)

@@ -1,0 +1,4 @@
+-- What the contracts of the program say.
+pub mod DefaultNames
+pub mod Nearest
+pub mod Words
