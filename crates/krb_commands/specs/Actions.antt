@@ -4,7 +4,7 @@ use Rattle.krb_files.specs.declared.files.Files.{Ghosts}
 use Rattle.krb_audit.specs.declared.selection.SelectedKvno.{SelectedKvno}
 use Rattle.krb_audit.specs.declared.selection.SelectedKvno.TheVariants.{OldFor}
 use Rattle.krb_commands.specs.declared.action.Action.{Action}
-use Rattle.krb_commands.specs.declared.action.Needs.{Needs}
+use Rattle.krb_commands.specs.declared.needs.Needs.{Needs}
 use Rattle.krb_commands.specs.declared.action.Action.TheVariants.{CheckTicket, Ccedit, Ccremove, Klist, Ktcheck, Ktcopy, Ktedit, Ktfind, Ktremove, Ktutil, Hold, HoldOnTerminal, Help}
 use Rattle.krb_driver.specs.declared.command_line.mistake.WordFault.{WordFault}
 use Rattle.krb_driver.specs.declared.command_line.mistake.WordFault.TheVariants as word

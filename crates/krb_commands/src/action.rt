@@ -1,14 +1,13 @@
 //! The commands, and the actions of their command lines.
 
 ghost use Rattle.std.specs.Prelude.{◌≡◌, codes, map, slice_get, IfErr, IfOk, None, OnOk};
-ghost use Rattle.krb_commands.specs.Actions.{AreNamed, Asks, AsksHold, AsksKlist, AsksKtcheck, IsEdited, NamesFile, at_terminal, edits, klist_mistake, left_out, line_mistake, needs, needs_of, nothing};
+ghost use Rattle.krb_commands.specs.Actions.{AreNamed, Asks, AsksHold, AsksKlist, AsksKtcheck, IsEdited, NamesFile, at_terminal, klist_mistake, line_mistake};
 ghost use Rattle.krb_driver.specs.FileNames.{IsNamed};
 ghost use Rattle.krb_driver.specs.declared.file_name.NameSource.TheVariants.{Word};
 ghost use Rattle.krb_readers.specs.CheckWords.{bad_findings};
 ghost use Rattle.krb_editors.specs.Hold.{hold_mistake};
 ghost use Rattle.krb_driver.specs.Mistakes.{IsRefusal, Reads};
 
-use krb_audit::SelectedKvno;
 use krb_driver::{
     CommandName, CommandWords, FileKind, FileName, Matches, NameSource, WordFault, first_value,
     v1_order,
@@ -86,101 +85,6 @@ pub enum Action<'a> {
     Help(String),
 }
 
-/// What the run of a command line needs of the system, beside its files.
-#[derive(Clone, Copy)]
-pub struct Needs {
-    /// The time: for entries that ktutil adds, entries that have been old for some time, or tickets that have expired
-    /// or will.
-    pub clock: bool,
-    /// Only plain files are loaded: any other is refused before it is opened.
-    pub plain: bool,
-    /// Files are saved in place.
-    pub in_place: bool,
-    /// A script is read.
-    pub script: bool,
-    /// JSON is printed, which a terminal shows as it is.
-    pub json: bool,
-    /// The kind of the file that the line leaves out, and its command.
-    pub left_out: Option<(FileKind, CommandName)>,
-}
-
-impl Needs {
-    // Returns those of a line that needs nothing more.
-    fn nothing() -> Needs
-        ensures { result ≡ nothing }
-    {
-        Needs {
-            clock: false,
-            plain: false,
-            in_place: false,
-            script: false,
-            json: false,
-            left_out: None,
-        }
-    }
-
-    // Returns those of a line that edits a file, by a script or not.
-    fn edits(file: &FileName<'_>, script: bool, clock: bool) -> Needs
-        ensures { result ≡ edits file.now script clock }
-    {
-        Needs {
-            clock,
-            script,
-            in_place: file.in_place,
-            ..Needs::nothing()
-        }
-    }
-}
-
-// Returns what is left out if a line does not name its file.
-fn left_out(is_named: bool, kind: FileKind, command: CommandName) -> Option<(FileKind, CommandName)>
-    ensures { result ≡ left_out is_named kind command }
-{
-    if is_named {
-        None
-    } else {
-        Some((kind, command))
-    }
-}
-
-impl Action<'_> {
-    // Returns what it needs.
-    fn needs(&self) -> Needs
-        ensures { result ≡ needs self.now }
-    {
-        match self {
-            Action::Klist(options, file) => Needs {
-                json: options.json,
-                left_out: left_out(file.is_some(), options.kind.file_kind(), CommandName::Klist),
-                ..Needs::nothing()
-            },
-            Action::CheckTicket(_, file) => Needs {
-                clock: true,
-                plain: true,
-                left_out: left_out(file.is_some(), FileKind::Cache, CommandName::Klist),
-                ..Needs::nothing()
-            },
-            Action::Ktcheck(_, names) => Needs {
-                left_out: left_out(!names.is_empty(), FileKind::Keytab, CommandName::Ktcheck),
-                ..Needs::nothing()
-            },
-            Action::Ktedit(_, file) | Action::Ccedit(file) => Needs::edits(file, true, false),
-            Action::Ktremove(options, file) => {
-                let is_timed = matches!(options.selection.kvno, SelectedKvno::OldFor(_));
-                Needs::edits(file, false, is_timed)
-            }
-            Action::Ccremove(options, file) => Needs::edits(file, false, options.expired),
-            Action::Ktcopy(_, _, file) | Action::Hold(_, file) => Needs::edits(file, false, false),
-            Action::Ktutil(options) => Needs {
-                clock: true,
-                in_place: options.in_place,
-                ..Needs::nothing()
-            },
-            Action::Ktfind(..) | Action::HoldOnTerminal | Action::Help(_) => Needs::nothing(),
-        }
-    }
-}
-
 /// Returns the action of a line for a terminal as the output, and for one that is typed on and has the error output
 /// too: no image is printed to a terminal, and ktutil prompts for lines that are typed.
 pub fn at_terminal<'a>(
@@ -197,16 +101,6 @@ pub fn at_terminal<'a>(
             ..options
         })),
         parsed => parsed,
-    }
-}
-
-/// Returns what the run of a line needs.
-pub fn needs_of(parsed: &Result<Action<'_>, WordFault<'_>>) -> Needs
-    ensures { result ≡ needs_of parsed.now }
-{
-    match parsed {
-        Ok(action) => action.needs(),
-        Err(_) => Needs::nothing(),
     }
 }
 

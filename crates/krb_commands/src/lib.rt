@@ -2,11 +2,10 @@
 #![tactic(auto)]
 
 mod action;
+mod needs;
 mod response;
 
-pub use action::{
-    Action, COMMANDS, KtutilOptions, Needs, action_of, at_terminal, needs_of, words_of,
-};
+pub use action::{Action, COMMANDS, KtutilOptions, action_of, at_terminal, words_of};
 pub use krb_driver::{
     BadLine, CommandName, CommandWords, ErrorOutput, FileKind, FileName, Matches, Mistake, More,
     NameSource, NotKeytab, Word, WordFault, World,
@@ -15,9 +14,10 @@ pub use krb_editors::{
     CopyOptions, HoldKind, RemoveOptions, TicketOptions, run_ccedit, run_ccremove, run_hold,
     run_ktcopy, run_ktedit, run_ktremove,
 };
-pub use krb_ktutil::{Ktutil, LineEnd, file_word, run_ktutil};
+pub use krb_ktutil::{Ktutil, Line, run_ktutil};
 pub use krb_readers::{
     CheckOptions, FindOptions, KlistOptions, ListKind, TicketCheck, run_klist, run_ktcheck,
     run_ktfind, run_ticket_check,
 };
+pub use needs::{Needs, needs_of};
 pub use response::{DefaultName, respond};

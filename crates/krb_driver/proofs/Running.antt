@@ -10,19 +10,15 @@ use Rattle.krb_files.specs.Files.{SameFiles, CountsFailure}
 use Rattle.krb_driver.specs.declared.error.RunError.TheVariants as error
 use Rattle.krb_files.specs.Loading.{Answer, SavesFile, TurnsHold}
 use Rattle.krb_driver.specs.declared.world.World.{World}
-use Rattle.krb_driver.specs.Runs.{Run, Shows, Reports, ends_by}
-use Rattle.krb_driver.specs.RunErrors.{Ending}
-use Rattle.krb_driver.specs.declared.reporting.details.Details.{Details}
+use Rattle.krb_driver.specs.ErrorOutput.{ErrorWatch}
+use Rattle.krb_driver.specs.Runs.{Run, Shows, ends_by}
+use Rattle.krb_driver.specs.RunErrors.{Ending, is_spent}
+use Rattle.krb_driver.specs.declared.command.RunEnd.{RunEnd}
 use Rattle.krb_driver.specs.declared.verdict.Verdict.{Verdict}
-use Rattle.krb_files.specs.Plan.{follow}
-use Rattle.krb_driver.specs.Commands.{Does, EndsCommand, Keeps, Settles, ShowsEnd, ShowsPage, Takes}
-use Rattle.krb_driver.specs.Effects.{CommandPlan, Displays, Effect, Fails, Page, Saves, about, faults, files_after, saved_end, settled, text}
-use Rattle.krb_files.proofs.PlanLaws.{comes, count-more, count-trans, loaded-lasts, same-trans, with_bytes-set}
-
--- memory ran out
-abbrev is_spent : Ending → Bool
-is_spent (Err error.NoMemory) = true
-is_spent ending = false
+use Rattle.krb_files.specs.Plan.{Faults, follow}
+use Rattle.krb_driver.specs.Commands.{EndsCommand, Finishes, Keeps, MakesFairly, Settles, ShowsEnd, ShowsPage, Takes}
+use Rattle.krb_driver.specs.Effects.{CommandPlan, Displays, Effect, Fails, IsSpent, Page, Saves, faults, files_after, saved_end, settled, text}
+use Rattle.krb_files.proofs.PlanLaws.{Lasts, comes, count-more, count-trans, loaded-lasts, same-trans, with_bytes-set}
 
 module _ (out out' : Watch) (ending : Ending) (spent : ending ≡ Err error.NoMemory) where
   -- the output did not fail, so the run was to end out of memory
@@ -56,90 +52,97 @@ module _ (out out' : Watch) (ending : Ending) (spent : ending ≡ Err error.NoMe
     settles-spared (Displays file page) end s shows = subst (λ (x : F). SameFiles (trait.file old) (trait.file x)) (sym s.0) (λ name. refl)
     settles-spared (Saves file bytes text verdict) end s shows = saved-spared file bytes text verdict s.0 end s.1.0 s.1.1 shows
 
-module _ {F : Type 0} (trait : Ghosts F) (plan : CommandPlan) (old between new : F) (h : trait.is_honest old) (same : SameFiles (trait.file old) (trait.file between)) (h' : trait.is_honest between)
-    (le : trait.failure_count old ≤ trait.failure_count between) where
+module _ {F O : Type 0} (trait : Ghosts F) (outcomes : Faults O) (due : Effect) (old between new : F) (h : trait.is_honest old) (lasts : Lasts trait outcomes old between) where
   same-then : new ≡ between → SameFiles (trait.file old) (trait.file new)
-  same-then is = subst (λ (x : F). SameFiles (trait.file old) (trait.file x)) (sym is) same
+  same-then is = subst (λ (x : F). SameFiles (trait.file old) (trait.file x)) (sym is) (lasts.same h)
 
-  count-then : new ≡ between → CountsFailure (trait.failure_count old) (trait.failure_count between) → CountsFailure (trait.failure_count old) (trait.failure_count new)
-  count-then is counted = subst (λ (x : F). CountsFailure (trait.failure_count old) (trait.failure_count x)) (sym is) counted
+  keeps-spent : (file : List ℕ) (left : Effect) → Settles trait between (Fails file error.NoMemory) new left → Keeps trait due old new left
+  keeps-spent file left s = inr (inr (same-then s.0, (file, s.1)))
 
-  keeps-spent : (file : List ℕ) (end : Effect) → Settles trait between (Fails file error.NoMemory) new end → Keeps trait plan old new end
-  keeps-spent file end s = inr (inr (same-then s.0, (file, s.1)))
+  keeps-unread : (file : List ℕ) (left : Effect) → CountsFailure (trait.failure_count old) (trait.failure_count between) → Settles trait between (Fails file error.FileNotRead) new left → Keeps trait due old new left
+  keeps-unread file left counted s = inr (inl (subst (λ (x : F). CountsFailure (trait.failure_count old) (trait.failure_count x)) (sym s.0) counted, (same-then s.0, (file, inl s.1))))
 
-  keeps-unread : (file : List ℕ) (end : Effect) → CountsFailure (trait.failure_count old) (trait.failure_count between) → Settles trait between (Fails file error.FileNotRead) new end → Keeps trait plan old new end
-  keeps-unread file end counted s = inr (inl (count-then s.0 counted, (same-then s.0, (file, inl s.1))))
-
-  keeps-saved : (file bytes text : List ℕ) (verdict : Verdict) (answer : Result (Unit {0}) SaveFault) (end : Effect) → Saves file bytes text verdict ≡ follow (trait.file old) plan → SavesFile trait between file bytes answer new
-      → end ≡ saved_end file text verdict answer → Keeps trait plan old new end
-  keeps-saved file bytes text verdict (Ok done) end due saves is = inl (
-    is ∙ ap settled due,
-    subst (λ (d : Effect). SameFiles (files_after (trait.file old) d) (trait.file new)) due (with_bytes-set (trait.file old) (trait.file between) (trait.file new) file bytes same (saves.sets h')),
+  keeps-saved : (file bytes text : List ℕ) (verdict : Verdict) (answer : Result (Unit {0}) SaveFault) (left : Effect) → Saves file bytes text verdict ≡ due → SavesFile trait between file bytes answer new
+      → left ≡ saved_end file text verdict answer → Keeps trait due old new left
+  keeps-saved file bytes text verdict (Ok done) left is_due saves is = inl (
+    is ∙ ap settled is_due,
+    subst (λ (d : Effect). SameFiles (files_after (trait.file old) d) (trait.file new)) is_due (with_bytes-set (trait.file old) (trait.file between) (trait.file new) file bytes (lasts.same h) (saves.sets (lasts.honest h))),
   )
-  keeps-saved file bytes text verdict (Err save.Failed) end due saves is = inr (inl (
-    count-trans (trait.failure_count old) (trait.failure_count between) (trait.failure_count new) le saves.count (saves.failed refl),
-    (same-trans (trait.file old) (trait.file between) (trait.file new) same (saves.same h'), (file, inr is)),
+  keeps-saved file bytes text verdict (Err save.Failed) left is_due saves is = inr (inl (
+    count-trans (trait.failure_count old) (trait.failure_count between) (trait.failure_count new) lasts.count saves.count (saves.failed refl),
+    (same-trans (trait.file old) (trait.file between) (trait.file new) (lasts.same h) (saves.same (lasts.honest h)), (file, inr is)),
   ))
-  keeps-saved file bytes text verdict (Err save.NoMemory) end due saves is = inr (inr (same-trans (trait.file old) (trait.file between) (trait.file new) same (saves.same h'), (file, is)))
+  keeps-saved file bytes text verdict (Err save.NoMemory) left is_due saves is = inr (inr (same-trans (trait.file old) (trait.file between) (trait.file new) (lasts.same h) (saves.same (lasts.honest h)), (file, is)))
 
-  keeps-due : (effect end : Effect) → effect ≡ follow (trait.file old) plan → Settles trait between effect new end → Keeps trait plan old new end
-  keeps-due (Fails file why) end due s = inl (s.1 ∙ ap settled due, subst (λ (d : Effect). SameFiles (files_after (trait.file old) d) (trait.file new)) due (same-then s.0))
-  keeps-due (Displays file page) end due s = inl (s.1 ∙ ap settled due, subst (λ (d : Effect). SameFiles (files_after (trait.file old) d) (trait.file new)) due (same-then s.0))
-  keeps-due (Saves file bytes text verdict) end due s = keeps-saved file bytes text verdict s.0 end due s.1.0 s.1.1
+  keeps-due : (effect left : Effect) → effect ≡ due → Settles trait between effect new left → Keeps trait due old new left
+  keeps-due (Fails file why) left is_due s = inl (s.1 ∙ ap settled is_due, subst (λ (d : Effect). SameFiles (files_after (trait.file old) d) (trait.file new)) is_due (same-then s.0))
+  keeps-due (Displays file page) left is_due s = inl (s.1 ∙ ap settled is_due, subst (λ (d : Effect). SameFiles (files_after (trait.file old) d) (trait.file new)) is_due (same-then s.0))
+  keeps-due (Saves file bytes text verdict) left is_due s = keeps-saved file bytes text verdict s.0 left is_due s.1.0 s.1.1
 
-module _ {F : Type 0} (trait : Ghosts F) (plan : Option ℕ → CommandPlan) (Fairly : List Answer → Type 0) (old new : F) (end : Effect) (d : Does trait plan Fairly old new end) (h : trait.is_honest old) where
-  -- over honest files a command does what is due, or a call failed, or memory ran out
-  pub does-keeps : Keeps trait (plan (trait.mode d.between)) old new end
-  does-keeps =
-      let p = plan (trait.mode d.between) in
-      let lasts = loaded-lasts trait faults p old d.makes.makes.answers d.between d.makes.makes.loads in
-      let settle = λ (effect : Effect) (is : d.effect ≡ effect). subst (λ (x : Effect). Settles trait d.between x new end) is d.settles in
-      elim d.makes.makes.made [
-        | inl spent ↦ keeps-spent trait p old d.between new h (lasts.same h) (lasts.honest h) lasts.count spent.0 end (settle (Fails spent.0 error.NoMemory) spent.1)
-        | inr is ↦ elim (comes trait faults p (trait.file old) old d.makes.makes.answers d.between h (λ name. refl) d.makes.makes.loads) [
-          | inl due ↦ keeps-due trait p old d.between new h (lasts.same h) (lasts.honest h) lasts.count d.effect end (is ∙ due) d.settles
-          | inr other ↦ elim other [
-            | inl failed ↦ keeps-unread trait p old d.between new h (lasts.same h) (lasts.honest h) lasts.count failed.1.0 end failed.0 (settle (Fails failed.1.0 error.FileNotRead) (is ∙ failed.1.1))
-            | inr spent ↦ keeps-spent trait p old d.between new h (lasts.same h) (lasts.honest h) lasts.count spent.0 end (settle (Fails spent.0 error.NoMemory) (is ∙ spent.1))
-          ]
-        ]
-      ]
+  -- an effect is what is due; or a call failed, counted; or memory ran out
+  abbrev pub IsDue : Effect → Type 0
+  IsDue effect = (effect ≡ due) ⊎ ((CountsFailure (trait.failure_count old) (trait.failure_count between) × ((file : List ℕ) × (effect ≡ Fails file error.FileNotRead))) ⊎ IsSpent effect)
 
-  -- if memory runs out, the files are the same
-  pub does-spared : (out out' : Watch) (ending : Ending) → ending ≡ Err error.NoMemory → ShowsEnd out out' ending end → SameFiles (trait.file old) (trait.file new)
-  does-spared out out' ending spent shows =
-      let p = plan (trait.mode d.between) in
-      let lasts = loaded-lasts trait faults p old d.makes.makes.answers d.between d.makes.makes.loads in
-      same-trans (trait.file old) (trait.file d.between) (trait.file new) (lasts.same h) (settles-spared out out' ending spent trait d.between new (lasts.honest h) d.effect end d.settles shows)
+  keeps-by : (effect left : Effect) → Settles trait between effect new left → IsDue effect → Keeps trait due old new left
+  keeps-by effect left s (inl is) = keeps-due effect left is s
+  keeps-by effect left s (inr (inl failed)) = keeps-unread failed.1.0 left failed.0 (subst (λ (e : Effect). Settles trait between e new left) failed.1.1 s)
+  keeps-by effect left s (inr (inr spent)) = keeps-spent spent.0 left (subst (λ (e : Effect). Settles trait between e new left) spent.1 s)
 
 -- the release of the files keeps what was done
-keeps-left : {F : Type 0} (trait : Ghosts F) (plan : CommandPlan) (old done new : F) (end : Effect) → TurnsHold trait None done new → Keeps trait plan old done end → Keeps trait plan old new end
-keeps-left trait plan old done new end left (inl due) = inl (due.0, same-trans (files_after (trait.file old) (follow (trait.file old) plan)) (trait.file done) (trait.file new) due.1 left.same)
-keeps-left trait plan old done new end left (inr (inl failed)) =
-    let is = left.count in
+keeps-left : {F : Type 0} (trait : Ghosts F) (due : Effect) (old done new : F) (left : Effect) → TurnsHold trait None done new → Keeps trait due old done left → Keeps trait due old new left
+keeps-left trait due old done new left turns (inl is) = inl (is.0, same-trans (files_after (trait.file old) due) (trait.file done) (trait.file new) is.1 turns.same)
+keeps-left trait due old done new left turns (inr (inl failed)) =
+    let is = turns.count in
     let counted = count-more (trait.failure_count old) (trait.failure_count done) (trait.failure_count new) (omega (arith, is)) failed.0 in
-    inr (inl (counted, (same-trans (trait.file old) (trait.file done) (trait.file new) failed.1.0 left.same, failed.1.1)))
-keeps-left trait plan old done new end left (inr (inr spent)) = inr (inr (same-trans (trait.file old) (trait.file done) (trait.file new) spent.0 left.same, spent.1))
+    inr (inl (counted, (same-trans (trait.file old) (trait.file done) (trait.file new) failed.1.0 turns.same, failed.1.1)))
+keeps-left trait due old done new left turns (inr (inr spent)) = inr (inr (same-trans (trait.file old) (trait.file done) (trait.file new) spent.0 turns.same, spent.1))
 
--- a command did its work, released what it held, showed what is left to show, and its end was reported
-pub ends-shown : {F R W E : Type 0} (trait : Ghosts F) (plan : Option ℕ → CommandPlan) (Fairly : List Answer → Type 0) (old new : World F R W E) (done : F) (status : ℕ) (end : Effect) (ending : Ending) (details : Details)
-    → Does trait plan Fairly old.files done end → TurnsHold trait None done new.files → ShowsEnd old.out new.out ending end → Reports (about end) None details ending old.err new.err status → details.aftermath ≡ trait.aftermath new.files
-    → new.input ≡ old.input → EndsCommand trait plan Fairly old new (record { ending = ending; status = status })
-ends-shown trait plan Fairly old new done status end ending details d left shows reported told input = record {
-  runs = record {
-    end = end;
-    ending = ending;
-    done = done;
-    does = d;
-    left = left;
-    shown = shows;
-    details = details;
-    reported = reported;
-    told = told;
+module _ {F O : Type 0} (trait : Ghosts F) (outcomes : Faults O) (line : Option ℕ) (due effect : Effect) (old mid new : F) (out out' : Watch) (err err' : ErrorWatch) (end : RunEnd) (f : Finishes trait line effect mid new out out' err err' end) where
+  -- what was made of honest files was done with them
+  pub finishes-keeps : (h : trait.is_honest old) (lasts : Lasts trait outcomes old mid) → IsDue trait outcomes due old mid f.done h lasts effect → Keeps trait due old new f.left
+  finishes-keeps h lasts is = keeps-left trait due old f.done new f.left f.released (keeps-by trait outcomes due old mid f.done h lasts effect f.left f.settles is)
+
+  settles-lasts : (effect : Effect) → Settles trait mid effect f.done f.left → (trait.is_honest mid → trait.is_honest f.done) × (trait.failure_count mid ≤ trait.failure_count f.done)
+  settles-lasts (Fails file why) s = subst (λ (x : F). (trait.is_honest mid → trait.is_honest x) × (trait.failure_count mid ≤ trait.failure_count x)) (sym s.0) (λ h. h, omega arith)
+  settles-lasts (Displays file page) s = subst (λ (x : F). (trait.is_honest mid → trait.is_honest x) × (trait.failure_count mid ≤ trait.failure_count x)) (sym s.0) (λ h. h, omega arith)
+  settles-lasts (Saves file bytes text verdict) s = (s.1.0.honest, s.1.0.count)
+
+  -- honest files stay honest, and the count of failures never falls
+  pub finishes-lasts : (trait.is_honest mid → trait.is_honest new) × (trait.failure_count mid ≤ trait.failure_count new)
+  finishes-lasts =
+      let first = settles-lasts effect f.settles in
+      let le = first.1 in
+      let is = f.released.count in
+      (λ h. f.released.honest (first.0 h), omega (arith, le, is))
+
+-- a command was made, and then finished
+module _ {F R W E : Type 0} (trait : Ghosts F) (plan : Option ℕ → CommandPlan) (Fairly : List Answer → Type 0) (old new : World F R W E) (made : F) (effect : Effect) (end : RunEnd)
+    (makes : MakesFairly trait old.files (plan (trait.mode made)) Fairly effect made) (f : Finishes trait None effect made new.files old.out new.out old.err new.err end) (input : new.input ≡ old.input) where
+  lasts : Lasts trait faults old.files made
+  lasts = loaded-lasts trait faults (plan (trait.mode made)) old.files makes.makes.answers made makes.makes.loads
+
+  -- over honest files a command makes what is due, or a call failed, or memory ran out
+  is-due : (h : trait.is_honest old.files) → IsDue trait faults (follow (trait.file old.files) (plan (trait.mode made))) old.files made f.done h lasts effect
+  is-due h = elim makes.makes.made [
+    | inl spent ↦ inr (inr spent)
+    | inr is ↦ elim (comes trait faults (plan (trait.mode made)) (trait.file old.files) old.files makes.makes.answers made h (λ name. refl) makes.makes.loads) [
+      | inl due ↦ inl (is ∙ due)
+      | inr other ↦ elim other [
+        | inl failed ↦ inr (inl (failed.0, (failed.1.0, is ∙ failed.1.1)))
+        | inr spent ↦ inr (inr (spent.0, is ∙ spent.1))
+      ]
+    ]
+  ]
+
+  pub ends-finished : EndsCommand trait plan Fairly old new end
+  ends-finished = record {
+    effect = effect;
+    made = made;
+    makes = makes;
+    finishes = f;
     input = input;
-    honest = λ h. keeps-left trait (plan (trait.mode d.between)) old.files done new.files end left (does-keeps trait plan Fairly old.files done end d h);
-    spared = λ spent h. same-trans (trait.file old.files) (trait.file done) (trait.file new.files) (does-spared trait plan Fairly old.files done end d h old.out new.out ending spent shows) left.same;
-    quiet = λ spent. quiet-end old.out new.out ending spent end shows;
-  };
-  ending_is = refl;
-}
+    honest = λ h. finishes-keeps trait faults None (follow (trait.file old.files) (plan (trait.mode made))) effect old.files made new.files old.out new.out old.err new.err end f h lasts (is-due h);
+    spared = λ spent h. same-trans (trait.file old.files) (trait.file f.done) (trait.file new.files)
+        (same-trans (trait.file old.files) (trait.file made) (trait.file f.done) (lasts.same h) (settles-spared old.out new.out end.ending spent trait made f.done (lasts.honest h) effect f.left f.settles f.shown)) f.released.same;
+    quiet = λ spent. quiet-end old.out new.out end.ending spent f.left f.shown;
+  }

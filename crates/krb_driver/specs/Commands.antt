@@ -1,6 +1,7 @@
 -- What a run of a command does.
-use Rattle.std.specs.Prelude.{◌≡◌, ◌⊎◌, ℕ, Bool, true, false, List, [], ◌∷◌, Option, None, IsTrue, Result, Ok, Err}
+use Rattle.std.specs.Prelude.{◌≡◌, ◌⊎◌, ℕ, Bool, true, false, List, [], ◌∷◌, Option, None, Some, IsTrue, not, ◌&&◌, if◌then◌else◌, Result, Ok, Err}
 use Rattle.krb_files.specs.declared.files.Files.{Ghosts}
+use Rattle.krb_files.specs.declared.aftermath.Aftermath.{Aftermath}
 use Rattle.krb_files.specs.declared.files.LoadFault.TheVariants as load
 use Rattle.krb_files.specs.declared.files.SaveFault.{SaveFault}
 use Rattle.krb_files.specs.Bytes.{Watch}
@@ -19,9 +20,10 @@ use Rattle.krb_driver.specs.declared.error.RunError.{RunError}
 use Rattle.krb_driver.specs.declared.file_name.FileName.{FileName}
 use Rattle.krb_driver.specs.declared.world.World.{World}
 use Rattle.krb_driver.specs.declared.error.RunError.TheVariants as error
-use Rattle.krb_driver.specs.Effects.{CommandPlan, Effect, Fails, Displays, Saves, IsFailure, IsSpent, Page, about, faults, files_after, opens, saved_end, settled, text}
+use Rattle.krb_driver.specs.Effects.{CommandPlan, Effect, Fails, Displays, Saves, IsFailure, IsSpent, Page, about, faults, files_after, is_save, opens, saved_end, settled, text}
+use Rattle.krb_driver.specs.ErrorOutput.{ErrorWatch}
 use Rattle.krb_driver.specs.Runs.{Run, Shows, BreaksOff, Reports, ends_by}
-use Rattle.krb_driver.specs.RunErrors.{Ending, error_of_name}
+use Rattle.krb_driver.specs.RunErrors.{Ending, error_of_name, is_spent}
 
 -- ---- what is made of the files
 
@@ -83,19 +85,12 @@ module _ {F : Type 0} (trait : Ghosts F) (old : F) where
       (answer : Result (Unit {0}) SaveFault) × (SavesFile trait old file bytes answer new × (end ≡ saved_end file out verdict answer))
   Settles effect new end = (new ≡ old) × (end ≡ effect)
 
--- a command did all but show its end: its plan is that for the mode of the file that was loaded last
-pub record Does {F : Type 0} (trait : Ghosts F) (plan : Option ℕ → CommandPlan) (Fairly : List Answer → Type 0) (old new : F) (end : Effect) : Type 0 where
-  pub effect : Effect
-  pub between : F
-  pub makes : MakesFairly trait old (plan (trait.mode between)) Fairly effect between
-  pub settles : Settles trait between effect new end
-
--- over honest files a command did what is due; or the files are the same, as a call failed, counted, or memory ran out
-abbrev pub Keeps : {F : Type 0} → Ghosts F → CommandPlan → F → F → Effect → Type 0
-Keeps trait plan old new end =
-    ((end ≡ settled (follow (trait.file old) plan)) × SameFiles (files_after (trait.file old) (follow (trait.file old) plan)) (trait.file new))
-    ⊎ ((CountsFailure (trait.failure_count old) (trait.failure_count new) × (SameFiles (trait.file old) (trait.file new) × IsFailure end))
-    ⊎ (SameFiles (trait.file old) (trait.file new) × IsSpent end))
+-- over honest files what is due was done; or the files are the same, as a call failed, counted, or memory ran out
+abbrev pub Keeps : {F : Type 0} → Ghosts F → Effect → F → F → Effect → Type 0
+Keeps trait due old new left =
+    ((left ≡ settled due) × SameFiles (files_after (trait.file old) due) (trait.file new))
+    ⊎ ((CountsFailure (trait.failure_count old) (trait.failure_count new) × (SameFiles (trait.file old) (trait.file new) × IsFailure left))
+    ⊎ (SameFiles (trait.file old) (trait.file new) × IsSpent left))
 
 -- ---- what is shown
 
@@ -116,29 +111,39 @@ abbrev pub Takes : Effect → Type 0
 Takes (Displays file page) = IsTrue page.takes
 Takes effect = ⊥
 
+-- what is told of a save: what the last one left behind; of a line of ktutil, which others come before, only if it was its own, and memory did not run out
+abbrev pub told_of : Option ℕ → Effect → Ending → Option Aftermath → Option Aftermath
+told_of None effect ending left = left
+told_of (Some number) effect ending left = if is_save effect && not (is_spent ending) then left else None
+
+-- an effect was done, at the end of a run or of that line of ktutil: what was to be saved was saved or its save failed, what was held was released, what was left to show was shown, and the end was reported
+pub record Finishes {F : Type 0} (trait : Ghosts F) (line : Option ℕ) (effect : Effect) (old new : F) (out out' : Watch) (err err' : ErrorWatch) (end : RunEnd) : Type 0 where
+  pub left : Effect
+  pub done : F
+  pub settles : Settles trait old effect done left
+  pub released : TurnsHold trait None done new
+  pub shown : ShowsEnd out out' end.ending left
+  pub details : Details
+  pub reported : Reports (about left) line details end.ending err err' end.status
+  pub told : details.aftermath ≡ told_of line effect end.ending (trait.aftermath new)
+
 module _ {F R W E : Type 0} (trait : Ghosts F) (plan : Option ℕ → CommandPlan) (Fairly : List Answer → Type 0) (old new : World F R W E) where
-  -- a run of a command: what it saves and prints and how it ends is a function of its calls' results; it then holds nothing, and tells what its save left behind
-  pub record Runs (status : ℕ) : Type 0 where
-    pub end : Effect
-    pub ending : Ending
-    pub done : F
-    pub does : Does trait plan Fairly old.files done end
-    pub left : TurnsHold trait None done new.files
-    pub shown : ShowsEnd old.out new.out ending end
-    pub details : Details
-    pub reported : Reports (about end) None details ending old.err new.err status
-    pub told : details.aftermath ≡ trait.aftermath new.files
+  -- a run of a command that ended so: its plan is that for the mode of the file that was loaded last; what it saves and prints and how it ends is a function of its calls' results
+  pub record EndsCommand (end : RunEnd) : Type 0 where
+    pub effect : Effect
+    pub made : F
+    pub makes : MakesFairly trait old.files (plan (trait.mode made)) Fairly effect made
+    pub finishes : Finishes trait None effect made new.files old.out new.out old.err new.err end
     pub input : new.input ≡ old.input
     -- over honest files
-    pub honest : trait.is_honest old.files → Keeps trait (plan (trait.mode does.between)) old.files new.files end
+    pub honest : trait.is_honest old.files → Keeps trait (follow (trait.file old.files) (plan (trait.mode made))) old.files new.files finishes.left
     -- if memory runs out
-    pub spared : ending ≡ Err error.NoMemory → trait.is_honest old.files → SameFiles (trait.file old.files) (trait.file new.files)
-    pub quiet : ending ≡ Err error.NoMemory → Shows (ends_by error.NoMemory) old.out new.out ending ⊎ Takes end
+    pub spared : end.ending ≡ Err error.NoMemory → trait.is_honest old.files → SameFiles (trait.file old.files) (trait.file new.files)
+    pub quiet : end.ending ≡ Err error.NoMemory → Shows (ends_by error.NoMemory) old.out new.out end.ending ⊎ Takes finishes.left
 
-  -- the same for a run that ended so
-  pub record EndsCommand (end : RunEnd) : Type 0 where
-    pub runs : Runs end.status
-    pub ending_is : runs.ending ≡ end.ending
+  -- a run of a command with that exit status
+  abbrev pub Runs : ℕ → Type 0
+  Runs status = (ending : Ending) × EndsCommand (record { ending = ending; status = status })
 
 module _ {F R W E : Type 0} (trait : Ghosts F) (old new : World F R W E) (status : ℕ) where
   -- an error ends a run before it does anything; there is no save that left something behind

@@ -32,6 +32,11 @@ about (Fails file why) = file
 about (Displays file page) = file
 about (Saves file bytes out verdict) = file
 
+-- it saves
+abbrev pub is_save : Effect → Bool
+is_save (Saves file bytes out verdict) = true
+is_save effect = false
+
 abbrev pub faults : Faults Effect
 faults = record { unread = λ file. Fails file error.FileNotRead; spent = λ file. Fails file error.NoMemory }
 

@@ -1,5 +1,5 @@
 -- The errors that end a run: where they come from, their messages, and the exit status.
-use Rattle.std.specs.Prelude.{ℕ, max, List, [], Option, None, Some, Result, Ok, Err, codes}
+use Rattle.std.specs.Prelude.{ℕ, max, Bool, true, false, List, [], Option, None, Some, Result, Ok, Err, codes}
 use Rattle.krb_walk.specs.declared.refusal.Code.TheVariants.{Damaged, NotFound}
 use Rattle.krb_walk.specs.Numbers.{code_number}
 use Rattle.krb_keytab.specs.Open.{open_fault_number}
@@ -131,6 +131,11 @@ error_status other = 1
 -- a run did its work, or an error ends it
 abbrev pub Ending : Type 0
 Ending = Result Verdict RunError
+
+-- memory ran out
+abbrev pub is_spent : Ending → Bool
+is_spent (Err error.NoMemory) = true
+is_spent ending = false
 
 -- the message for the end of a run
 abbrev pub ending_message : List ℕ → Ending → List ℕ

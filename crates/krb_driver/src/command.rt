@@ -1,9 +1,9 @@
 //! What a command is, and the driver that runs one.
 
 ghost use Rattle.std.specs.Prelude.{◌≡◌, ℕ, List};
-ghost use Rattle.krb_driver.specs.Commands.{Does, EndsBefore, EndsCommand, Runs, ShowsEnd, output_page, made_effect, ready_end};
-ghost use Rattle.krb_driver.specs.Effects.{Page, about};
-ghost use Rattle.krb_driver.specs.RunErrors.{aftermath_status, end_status, ending_status};
+ghost use Rattle.krb_driver.specs.Commands.{EndsBefore, EndsCommand, Finishes, Runs, Settles, ShowsEnd, made_effect, ready_end, told_of};
+ghost use Rattle.krb_driver.specs.Effects.{Effect, Page, about, is_save};
+ghost use Rattle.krb_driver.specs.RunErrors.{aftermath_status, end_status, ending_status, is_spent};
 
 use crate::error::RunError;
 use crate::file_name::FileName;
@@ -146,28 +146,57 @@ pub trait Command<A: Allocator + Copy> {
             (made_effect Self.Shown.page (file self.now) result) files.new };
 }
 
-// Runs a command up to what it shows: makes it, and saves what it is to save.
-fn settle<'a, A: Allocator + Copy, C: Command<A>, F: Files>(
-    alloc: A,
-    command: &'a C,
+// Saves what was made, if it is to be saved, and returns what is left to show.
+fn settle<'a, A: Allocator, S: Drop, F: Files>(
+    file: &'a str,
+    made: Result<Made<A, S>, FileError<'a>>,
     files: &mut F,
-) -> Result<Ready<A, C::Shown>, FileError<'a>>
-    ensures { Does F.Files (C.plan command.now) (C.fairly command.now) files.old files.new
-        (ready_end C.Shown.page (C.file command.now) result) }
+) -> Result<Ready<A, S>, FileError<'a>>
+    ensures { (page : S → List ℕ → Page) → Settles F.Files files.old (made_effect page file.now made.entry) files.new
+        (ready_end page file.now result) }
 {
-    match command.make(alloc, files) {
+    match made {
         Ok(Made::Shows(shown)) => Ok(Ready::Shows(shown)),
-        Ok(Made::Saves(image, text)) => {
-            let file = command.file();
-            match files.save(file, &image) {
-                Ok(()) => Ok(Ready::Prints(text)),
-                Err(fault) => Err(FileError {
-                    file,
-                    error: RunError::from(fault),
-                }),
-            }
-        }
+        Ok(Made::Saves(image, text)) => match files.save(file, &image) {
+            Ok(()) => Ok(Ready::Prints(text)),
+            Err(fault) => Err(FileError {
+                file,
+                error: RunError::from(fault),
+            }),
+        },
         Err(met) => Err(met),
+    }
+}
+
+// Returns whether what was made is to be saved.
+fn is_save<A: Allocator, S: Drop>(made: &Result<Made<A, S>, FileError<'_>>) -> bool
+    ensures { (page : S → List ℕ → Page) (file : List ℕ) → result ≡ is_save (made_effect page file made.now) }
+{
+    matches!(made, Ok(Made::Saves(_, _)))
+}
+
+/// Returns whether a run ended because memory ran out.
+pub fn is_spent(ending: &Result<Verdict, RunError>) -> bool
+    ensures { result ≡ is_spent ending.now }
+{
+    matches!(ending, Err(RunError::NoMemory))
+}
+
+// Returns what to tell of a run, or of that line of ktutil, which tells only what its own save left behind.
+fn details_to_tell<'a>(
+    line: Option<u64>,
+    saves: bool,
+    ending: &Result<Verdict, RunError>,
+    details: Details<'a>,
+) -> Details<'a>
+    ensures { (effect : Effect) → saves ≡ is_save effect → result.aftermath ≡ told_of line effect ending.now details.entry.aftermath }
+{
+    if line.is_none() || saves && !is_spent(ending) {
+        return details;
+    }
+    Details {
+        aftermath: None,
+        ..details
     }
 }
 
@@ -230,9 +259,32 @@ pub fn end_status(ending: Result<Verdict, RunError>, aftermath: Option<Aftermath
     ending_status(ending).max(aftermath_status(aftermath))
 }
 
-/// Runs a command, and returns how it ended and its exit status. Releases the files before it prints anything, as the
-/// reader of the output may be slow. Reports errors, and what the save left behind, on the error output; a failure to
-/// write there changes nothing else.
+/// Does what was made for `file`, at the end of a run or of that line of ktutil: saves it if it is to be saved,
+/// releases the files, shows what is left, reports errors and what the save left behind on the error output, and returns
+/// how that ended. Prints nothing before the release, as the reader of the output may be slow. A failure to report changes nothing else.
+pub fn finish<A: Allocator + Copy, S: Show<A>, F: Files, R: Read, W: Write, E: Write>(
+    alloc: A,
+    file: &str,
+    line: Option<u64>,
+    made: Result<Made<A, S>, FileError<'_>>,
+    world: &mut World<F, R, W, E>,
+) -> RunEnd
+    ensures finishes { Finishes F.Files line (made_effect S.page file.now made.entry) world.old.files world.new.files
+        world.old.out world.new.out world.old.err world.new.err result }
+    ensures input { world.new.input ≡ world.old.input }
+{
+    let saves = is_save(&made);
+    let ready = settle(file, made, &mut world.files);
+    release(&mut world.files);
+    let named = about(&ready, file);
+    let ending = show_ready(alloc, file, ready, &mut world.out);
+    let details = details_of(&ending, &world.files, &world.out);
+    let details = details_to_tell(line, saves, &ending, details);
+    let status = report(ending, named.as_bytes(), line, details, &mut world.err);
+    RunEnd { ending, status }
+}
+
+/// Runs a command, and returns how it ended and its exit status.
 pub fn run_to_end<A: Allocator + Copy, C: Command<A>, F: Files, R: Read, W: Write, E: Write>(
     alloc: A,
     command: &C,
@@ -240,14 +292,8 @@ pub fn run_to_end<A: Allocator + Copy, C: Command<A>, F: Files, R: Read, W: Writ
 ) -> RunEnd
     ensures { EndsCommand F.Files (C.plan command.now) (C.fairly command.now) world.old world.new result }
 {
-    let ready = settle(alloc, command, &mut world.files);
-    release(&mut world.files);
-    let file = command.file();
-    let named = about(&ready, file);
-    let ending = show_ready(alloc, file, ready, &mut world.out);
-    let details = details_of(&ending, &world.files, &world.out);
-    let status = report(ending, named.as_bytes(), None, details, &mut world.err);
-    RunEnd { ending, status }
+    let made = command.make(alloc, &mut world.files);
+    finish(alloc, command.file(), None, made, world)
 }
 
 /// Runs a command like `run_to_end`, and returns its exit status.

@@ -14,7 +14,9 @@ mod reporting;
 mod verdict;
 mod world;
 
-pub use command::{Command, FileError, Made, Output, RunEnd, Show, end_before, run, run_to_end};
+pub use command::{
+    Command, FileError, Made, Output, RunEnd, Show, end_before, finish, is_spent, run, run_to_end,
+};
 pub use command_line::matches::{
     Matches, first_value, spelled_name, spelled_names, spelled_seconds, times_given, typed,
     v1_order,

@@ -29,6 +29,7 @@ module _ {L : Type 0} (reads : List ℕ → Result L LineFault) where
 
 -- a run whose lines come from a script: the command is run with them
 pub record RunsScript {F R W E L : Type 0} (trait : Ghosts F) (old new : World F R W E) (status : ℕ) (plan : List L → CommandPlan) (fairly : List L → List Answer → Type 0) (reads : List ℕ → Result L LineFault) : Type 0 where
+  pub input : Source
   pub lines : Result (List L) RunError
-  pub given : GivesLines reads old.input new.input lines
-  pub runs : RunsWith trait (record old { input = new.input }) new status plan fairly lines
+  pub given : GivesLines reads old.input input lines
+  pub runs : RunsWith trait (record old { input = input }) new status plan fairly lines

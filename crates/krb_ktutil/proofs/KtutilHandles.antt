@@ -1,38 +1,33 @@
--- A line was run by its plan, from its steps.
-use Rattle.std.proofs.Common.{◌≡◌, inl, inr, ℕ, Bool, true, false, List, [], ◌∷◌, ◌++◌, refl, sym, ap, subst, ◌∙◌}
-use Rattle.std.specs.Prelude.{None, Some, Result, Ok, Err, IsOk}
-use Rattle.std.proofs.lemmas.Bool.{false≢true}
-use Rattle.std.proofs.lemmas.List.{append-nil}
+-- A line was made by its plan, from its steps.
+use Rattle.krb_ktutil.proofs.Cited.{◌≡◌, inl, inr, ℕ, Bool, true, false, List, [], ◌∷◌, length, refl, sym, ap, subst, ◌∙◌, Option, Result, Ok, Err, false≢true, EntryParts, KeytabState, Ghosts, Ends, LineFault, words, Effect, Fails, Code, Awaited, Awaiting, Nothing, KtutilState, Came, Added, plan_of, fails, line_faults, none_added, with_added, EndsAt, IsCame, line_effect}
 use Rattle.krb_wire.specs.declared.format.Order.{Order}
-use Rattle.krb_keytab.specs.Entry.{EntryParts}
-use Rattle.krb_keytab.specs.Store.{KeytabState, image_of}
 use Rattle.krb_files.specs.declared.files.LoadFault.TheVariants as load
-use Rattle.krb_files.specs.declared.files.SaveFault.{SaveFault}
-use Rattle.krb_files.specs.declared.files.Files.{Ghosts}
-use Rattle.krb_files.specs.Loading.{Answer, LoadsFile, SavesFile, TurnsHold}
-use Rattle.krb_files.specs.Plan.{Ends, Holds, Loads, by}
-use Rattle.krb_text.specs.declared.line_fault.LineFault.{LineFault}
-use Rattle.krb_ktutil.specs.declared.ktutil.line_end.LineEnd.{LineEnd}
-use Rattle.krb_ktutil.specs.declared.ktutil.line_end.LineEnd.TheVariants as end
+use Rattle.krb_files.specs.Loading.{Answer, LoadsFile}
+use Rattle.krb_files.specs.Plan.{Holds, Loads, by}
+use Rattle.krb_text.specs.declared.line_fault.LineRefusal.{LineRefusal}
+use Rattle.krb_text.specs.declared.line_fault.LineRefusal.TheVariants as refusal
+use Rattle.krb_text.specs.LineFault.{Reads}
+use Rattle.krb_driver.specs.declared.error.RunError.TheVariants as error
 use Rattle.krb_driver.specs.declared.loading.NoKeytab.{NoKeytab}
+use Rattle.krb_ktutil.specs.declared.ktutil.verb.Verb.{Verb}
 use Rattle.krb_driver.specs.FileNames.{has_type}
-use Rattle.krb_walk.specs.declared.refusal.Code.{Code}
 use Rattle.krb_driver.specs.Loading.{keytab_of, keytab_or_new, Gives, GivesOrRunsOut}
-use Rattle.krb_ktutil.specs.KtutilCommand.{Awaited, AwaitKey, WriteFile, after}
-use Rattle.krb_ktutil.specs.KtutilPlan.{KtutilState, Outcome, LineEffect, ComesTo, Saves, LinePlan, Added, command_plan, kept, line_faults, none_added, note_of, reading_plan, save_end, saved_as, stays, with_added, with_entries, writing_plan, written_to}
-use Rattle.krb_ktutil.specs.KtutilFiles.{Shows, EndsAt, Finishes, Settles, GoesOn, Handles}
+use Rattle.krb_ktutil.specs.declared.ktutil.line.Line.{Line}
+use Rattle.krb_ktutil.specs.FaultyLines.{fault_error}
+use Rattle.krb_ktutil.specs.KtutilCommand.{AwaitKey, Command, WriteFile, after, asks_for_password, command_by, command_of, verb_of}
+use Rattle.krb_ktutil.specs.declared.ktutil.awaiting.Awaiting.TheVariants.{Password}
+use Rattle.krb_ktutil.specs.KtutilPlan.{LinePlan, after_fault, becomes, plan_by, command_plan, reading_plan, saved_as, with_entries, words_plan, writing_plan, written_to}
+use Rattle.krb_ktutil.specs.KtutilFiles.{Attempts, Comes, MakesLine, RunsOut, Tries}
 
--- memory ran out for an entry that would have awaited its key
-pub finishes_spent : (s : KtutilState) (asks : Bool) (given : Result Awaited LineFault) → IsOk given → Finishes (command_plan s asks (after (λ awaited. Ok (AwaitKey awaited)) given)) s s end.NoMemory
-finishes_spent s asks (Ok awaited) is = inr (refl, record { state_is = refl; same = refl; ending_is = refl })
-finishes_spent s asks (Err fault) is = absurd (false≢true is)
+-- the words after the command are refused
+pub attempts_refused : (A : Type 0) (s : KtutilState) (number : ℕ) (given : Result Awaited LineFault) (refused : LineRefusal) → Reads (λ (x : Awaited). x) given (Err refused) → Attempts {A = A} s number (after (λ awaited. Ok (AwaitKey awaited)) given) s (Err refused)
+attempts_refused A s number (Ok awaited) (refusal.Fault fault) reads = cc reads
+attempts_refused A s number (Ok awaited) refusal.NoMemory reads = inr (refl, record { state_is = refl; spent = ([], refl); goes_on = refl })
+attempts_refused A s number (Err fault) (refusal.Fault other) reads = (refl, (cc reads))
+attempts_refused A s number (Err fault) refusal.NoMemory reads = absurd (false≢true reads)
 
--- nothing was printed, after any text
-shows_quiet : {new : KtutilState} {ending : LineEnd} {due : Outcome} → Shows new [] [] ending due → (out : List ℕ) → Shows new out out ending due
-shows_quiet shows out = record { state_is = shows.state_is; appended = sym (append-nil out) ∙ ap (λ (text : List ℕ). out ++ text) shows.appended; ending_is = shows.ending_is }
-
--- the effect of a plan with one load is that of its result
-by-loads : (s : KtutilState) (name : List ℕ) (then_ : Answer → LineEffect) → then_ (Err load.Failed) ≡ stays s (end.Load load.Failed) → then_ (Err load.NoMemory) ≡ stays s end.NoMemory
+-- the outcome of a plan with one load is that of its result
+by-loads : (s : KtutilState) (name : List ℕ) (then_ : Answer → Came) → then_ (Err load.Failed) ≡ fails s name error.FileNotRead → then_ (Err load.NoMemory) ≡ fails s name error.NoMemory
     → (answer : Answer) → by (line_faults s) (Loads name (λ a. Ends (then_ a))) (answer ∷ []) ≡ then_ answer
 by-loads s name then_ failed spent (Ok bytes) = refl
 by-loads s name then_ failed spent (Err load.Missing) = refl
@@ -40,99 +35,100 @@ by-loads s name then_ failed spent (Err load.TooLarge) = refl
 by-loads s name then_ failed spent (Err load.Failed) = sym failed
 by-loads s name then_ failed spent (Err load.NoMemory) = sym spent
 
-module _ {F : Type 0} (trait : Ghosts F) where
-  -- a plan that calls no file
-  pub handles_end : (plan : LinePlan) (files : F) (old new : KtutilState) (out out' : List ℕ) (ending : LineEnd) → EndsAt plan old new out out' ending → Handles trait plan files files old new out out' ending
-  handles_end (Ends (ComesTo takes due)) files old new out out' ending (inl shows) = record { answers = []; between = files; loads = (refl, refl); effect = ComesTo takes due; made = inl refl; done = files; settles = (refl, shows); leaves = refl }
-  handles_end (Ends (ComesTo takes due)) files old new out out' ending (inr out_of) =
-      let spent : Shows new out out' ending (kept old end.NoMemory) = record { state_is = out_of.1.state_is; appended = out_of.1.same ∙ sym (append-nil out); ending_is = out_of.1.ending_is } in
-      record { answers = []; between = files; loads = (refl, refl); effect = stays old end.NoMemory; made = inr (out_of.0, refl); done = files; settles = (refl, spent); leaves = refl }
-  handles_end (Ends (Saves name bytes told)) files old new out out' ending e = absurd e
-  handles_end (Holds held name plan) files old new out out' ending e = absurd e
-  handles_end (Loads name then_) files old new out out' ending e = absurd e
+-- memory ran out
+ran_out : {s new : KtutilState} {effect : Effect} {quits : Bool} → (r : RunsOut s new effect quits) → IsCame (fails s r.spent.0 error.NoMemory) new effect quits
+ran_out r = record { state_is = r.state_is; effect_is = r.spent.1; quits_is = r.goes_on }
 
-  -- a line that ends so and leaves the state
-  pub handles_stays : {s : KtutilState} {ending : LineEnd} {files : F} {out : List ℕ} → Handles trait (Ends (stays s ending)) files files s s out out ending
-  handles_stays {s = s} {ending = ending} {files = files} {out = out} =
-      let shows : Shows s out out ending (kept s ending) = record { state_is = refl; appended = sym (append-nil out); ending_is = refl } in
-      record { answers = []; between = files; loads = (refl, refl); effect = stays s ending; made = inl refl; done = files; settles = (refl, shows); leaves = refl }
+module _ {F : Type 0} (trait : Ghosts F) where
+  -- a plan that loads no file
+  pub makes_end : (plan : LinePlan) (files : F) (old new : KtutilState) (effect : Effect) (quits : Bool) → EndsAt plan old new effect quits → MakesLine trait plan files files old new effect quits
+  makes_end (Ends came) files old new effect quits (inl is) = record { answers = []; loads = (refl, refl); came = came; made = inl refl; is = is }
+  makes_end (Ends came) files old new effect quits (inr out) = record { answers = []; loads = (refl, refl); came = fails old out.1.spent.0 error.NoMemory; made = inr (out.0, (out.1.spent.0, refl)); is = ran_out out.1 }
+  makes_end (Holds held name plan) files old new effect quits e = absurd e
+  makes_end (Loads name then_) files old new effect quits e = absurd e
 
   -- nothing is written under a name that begins with a type
-  pub handles_typed : (s : KtutilState) (word : List ℕ) (files : F) → has_type word ≡ true → Handles trait (command_plan s false (Ok (WriteFile word))) files files s s [] [] end.TypedName
-  handles_typed s word files typed = rw typed handles_stays
+  pub makes_typed : (s : KtutilState) (number : ℕ) (word : List ℕ) (files : F) (effect : Effect) (quits : Bool) → has_type word ≡ true → EndsAt (Ends (fails s word error.TypedName)) s s effect quits → MakesLine trait (command_plan s number (WriteFile word)) files files s s effect quits
+  makes_typed s number word files effect quits typed ends = rw typed (makes_end (Ends (fails s word error.TypedName)) files s s effect quits ends)
 
-  settles_quiet : (effect : LineEffect) (files files' : F) (old new : KtutilState) (ending : LineEnd) → Settles trait old new [] [] ending effect files files' → (out : List ℕ) → Settles trait old new out out ending effect files files'
-  settles_quiet (ComesTo takes due) files files' old new ending settles out = (settles.0, shows_quiet settles.1 out)
-  settles_quiet (Saves name bytes told) files files' old new ending settles out = (settles.0, (settles.1.0, shows_quiet settles.1.1 out))
-
-  -- a plan that prints nothing
-  pub handles_quiet : {plan : LinePlan} {files files' : F} {old new : KtutilState} {ending : LineEnd} → Handles trait plan files files' old new [] [] ending → (out : List ℕ) → Handles trait plan files files' old new out out ending
-  handles_quiet {old = old} {new = new} {ending = ending} handles out = record {
-    answers = handles.answers;
-    between = handles.between;
-    loads = handles.loads;
-    effect = handles.effect;
-    made = handles.made;
-    done = handles.done;
-    settles = settles_quiet handles.effect handles.between handles.done old new ending handles.settles out;
-    leaves = handles.leaves;
-  }
-
-  -- a load, and what was done by its result
-  handles_loaded : (s new : KtutilState) (name : List ℕ) (then_ : Answer → LineEffect) → then_ (Err load.Failed) ≡ stays s (end.Load load.Failed) → then_ (Err load.NoMemory) ≡ stays s end.NoMemory
-      → (answer : Answer) (files between files' : F) (ending : LineEnd) → LoadsFile trait files name answer between → GoesOn trait s new ending (then_ answer) between files'
-      → Handles trait (Loads name (λ a. Ends (then_ a))) files files' s new [] [] ending
-  handles_loaded s new name then_ failed spent answer files between files' ending loads (inl settles) =
-      record { answers = answer ∷ []; between = between; loads = (between, (loads, (refl, refl))); effect = then_ answer; made = inl (sym (by-loads s name then_ failed spent answer)); done = files'; settles = settles; leaves = refl }
-  handles_loaded s new name then_ failed spent answer files between files' ending loads (inr settles) =
-      record { answers = answer ∷ []; between = between; loads = (between, (loads, (refl, refl))); effect = stays s end.NoMemory; made = inr (refl, refl); done = files'; settles = settles; leaves = refl }
-
-  goes_finished : (effect : LineEffect) (files : F) (old new : KtutilState) (ending : LineEnd) → Finishes (Ends effect) old new ending → GoesOn trait old new ending effect files files
-  goes_finished (ComesTo takes due) files old new ending (inl shows) = inl (refl, shows)
-  goes_finished (ComesTo takes due) files old new ending (inr out_of) = inr (refl, record { state_is = out_of.1.state_is; appended = out_of.1.same; ending_is = out_of.1.ending_is })
-  goes_finished (Saves name bytes told) files old new ending e = absurd e
+  -- a load, and what was made by its result
+  makes_loaded : (s new : KtutilState) (name : List ℕ) (then_ : Answer → Came) → then_ (Err load.Failed) ≡ fails s name error.FileNotRead → then_ (Err load.NoMemory) ≡ fails s name error.NoMemory
+      → (answer : Answer) (files between : F) (effect : Effect) (quits : Bool) → LoadsFile trait files name answer between → Comes (then_ answer) s new effect quits → MakesLine trait (Loads name (λ a. Ends (then_ a))) files between s new effect quits
+  makes_loaded s new name then_ failed spent answer files between effect quits loads (inl is) =
+      record { answers = answer ∷ []; loads = (between, (loads, (refl, refl))); came = then_ answer; made = inl (sym (by-loads s name then_ failed spent answer)); is = is }
+  makes_loaded s new name then_ failed spent answer files between effect quits loads (inr out) =
+      record { answers = answer ∷ []; loads = (between, (loads, (refl, refl))); came = fails s out.spent.0 error.NoMemory; made = inr (refl, (out.spent.0, refl)); is = ran_out out }
 
   -- a load whose keytab was read
-  pub handles_read : (s new : KtutilState) (name : List ℕ) (files between : F) (given : Result KeytabState NoKeytab) (ending : LineEnd)
-      → (order : Order) → order ≡ s.order → Gives trait files name (keytab_of order) given between → Finishes (Ends (with_entries s given)) s new ending
-      → Handles trait (reading_plan s name) files between s new [] [] ending
-  handles_read s new name files between given ending order same_order gives finishes =
+  pub makes_read : (s new : KtutilState) (number : ℕ) (name : List ℕ) (files between : F) (given : Result KeytabState NoKeytab) (effect : Effect) (quits : Bool)
+      → (order : Order) → order ≡ s.order → Gives trait files name (keytab_of order) given between → Comes (with_entries s number name given) s new effect quits → MakesLine trait (reading_plan s number name) files between s new effect quits
+  makes_read s new number name files between given effect quits order same_order gives comes =
       let is = subst (λ (o : Order). keytab_of o gives.answer ≡ given) same_order gives.gives in
-      handles_loaded s new name (λ answer. with_entries s (keytab_of s.order answer)) refl refl gives.answer files between between ending gives.loads
-      (goes_finished (with_entries s (keytab_of s.order gives.answer)) between s new ending (subst (λ (r : Result KeytabState NoKeytab). Finishes (Ends (with_entries s r)) s new ending) (sym is) finishes))
+      makes_loaded s new name (λ answer. with_entries s number name (keytab_of s.order answer)) refl refl gives.answer files between effect quits gives.loads
+      (subst (λ (r : Result KeytabState NoKeytab). Comes (with_entries s number name r) s new effect quits) (sym is) comes)
 
-  -- the same for a file that was held, and then released
-  pub handles_held : {s : KtutilState} {name : List ℕ} {then_ : Answer → LinePlan} {ending : LineEnd} (files held done files' : F) → TurnsHold trait (Some name) files held → Handles trait (Loads name then_) held done s s [] [] ending → TurnsHold trait None done files'
-      → Handles trait (Holds true name (Loads name then_)) files files' s s [] [] ending
-  handles_held {s = s} {ending = ending} files held done files' holds handles leaves = record {
-    answers = handles.answers;
-    between = handles.between;
-    loads = inr (held, (holds, handles.loads));
-    effect = handles.effect;
-    made = handles.made;
-    done = done;
-    settles = subst (Settles trait s s [] [] ending handles.effect handles.between) (sym handles.leaves) handles.settles;
-    leaves = leaves;
-  }
-
-  -- a load whose keytab was written, or that gave none
-  pub handles_written : (s : KtutilState) (name : List ℕ) (files between files' : F) (given : Result KeytabState NoKeytab) (ending : LineEnd)
-      → (order : Order) → order ≡ s.order → GivesOrRunsOut trait files name (keytab_or_new order) given between → GoesOn trait s s ending (written_to s name given) between files'
-      → Handles trait (writing_plan s name) files files' s s [] [] ending
-  handles_written s name files between files' given ending order same_order gives goes =
-      let Goes : Result KeytabState NoKeytab → Type 0 = λ r. GoesOn trait s s ending (written_to s name r) between files' in
-      handles_loaded s s name (λ answer. written_to s name (keytab_or_new s.order answer)) refl refl gives.answer files between files' ending gives.loads (elim gives.gives [
-        | inl is ↦ subst Goes (sym (subst (λ (o : Order). keytab_or_new o gives.answer ≡ given) same_order is)) goes
-        | inr none ↦ elim (subst Goes none goes) [ inl settles ↦ inr settles | inr settles ↦ inr settles ]
+  -- a load whose keytab is to be written, or that gave none
+  pub makes_written : (s : KtutilState) (number : ℕ) (name : List ℕ) (files between : F) (given : Result KeytabState NoKeytab) (effect : Effect) (quits : Bool)
+      → (order : Order) → order ≡ s.order → GivesOrRunsOut trait files name (keytab_or_new order) given between → Comes (written_to s number name given) s s effect quits → MakesLine trait (writing_plan s number name) files between s s effect quits
+  makes_written s number name files between given effect quits order same_order gives comes =
+      let Due : Result KeytabState NoKeytab → Type 0 = λ r. Comes (written_to s number name r) s s effect quits in
+      makes_loaded s s name (λ answer. written_to s number name (keytab_or_new s.order answer)) refl refl gives.answer files between effect quits gives.loads (elim gives.gives [
+        | inl is ↦ subst Due (sym (subst (λ (o : Order). keytab_or_new o gives.answer ≡ given) same_order is)) comes
+        | inr none ↦ elim (subst Due none comes) [ inl is ↦ inr (record { state_is = is.state_is; spent = (name, is.effect_is); goes_on = is.quits_is }) | inr out ↦ inr out ]
       ])
 
-  -- a keytab to which entries were added was saved, or the save failed
-  pub goes_saved : (s : KtutilState) (name : List ℕ) (x : Added) (files files' : F) (answer : Result (Unit {0}) SaveFault) (ending : LineEnd)
-      → SavesFile trait files name (image_of x.keytab) answer files' → ending ≡ save_end (note_of x) answer → GoesOn trait s s ending (saved_as s name (Ok x)) files files'
-  goes_saved s name x files files' answer ending saves ends = inl (answer, (saves, record { state_is = refl; appended = refl; ending_is = ends }))
+  -- ---- commands
 
-  -- entries were added to a keytab, and what is due was done with it
-  pub goes_added : (s : KtutilState) (entries : List EntryParts) → s.entries ≡ entries → (name : List ℕ) (k : KeytabState) (added : Result Added Code) (files files' : F) (ending : LineEnd)
-      → with_added entries (Ok (none_added k)) ≡ added → GoesOn trait s s ending (saved_as s name added) files files' → GoesOn trait s s ending (written_to s name (Ok k)) files files'
-  goes_added s entries same name k added files files' ending is goes =
-      subst (λ (e : LineEffect). GoesOn trait s s ending e files files') (sym (ap (λ (es : List EntryParts). saved_as s name (with_added es (Ok (none_added k)))) same ∙ ap (saved_as s name) is)) goes
+  pub tries_end : {A : Type 0} (given : Result Command LineFault) (files : F) (old new : KtutilState) (number : ℕ) (made : Result (Line A) LineRefusal) → Attempts old number given new made → Tries trait files files old number given new made
+  tries_end (Ok command) files old new number (Ok made) a = makes_end (command_plan old number command) files old new (line_effect made) made.quits a
+  tries_end (Ok command) files old new number (Err refusal.NoMemory) a = makes_end (command_plan old number command) files old new (Fails [] error.NoMemory) false a
+  tries_end (Ok command) files old new number (Err (refusal.Fault fault)) a = absurd a
+  tries_end (Err fault) files old new number made a = (refl, a.0, a.1)
+
+  -- a line begins with the word of a command
+  pub tries_words : {A : Type 0} (line word rest : List ℕ) (count : ℕ) (verb : Option Verb) (files files' : F) (old new : KtutilState) (number : ℕ) (made : Result (Line A) LineRefusal) → words line ≡ word ∷ words rest → verb ≡ verb_of word → Tries trait files files' old number (command_by count verb (words rest)) new made → Tries trait files files' old number (command_of line count) new made
+  tries_words line word rest count verb files files' old new number made cut is tries = rw (cut, sym is) tries
+
+  -- a line that is not awaited, and a password
+  pub makes_words : (s new : KtutilState) (now number : ℕ) (line : List ℕ) (files files' : F) (effect : Effect) (quits : Bool) → s.awaiting ≡ Nothing → MakesLine trait (words_plan s number (words line) (command_of line (length s.entries))) files files' s new effect quits → MakesLine trait (plan_of s now number line) files files' s new effect quits
+  makes_words s new now number line files files' effect quits is makes = subst (λ (a : Awaiting Awaited). MakesLine trait (plan_by s now number line a) files files' s new effect quits) (sym is) makes
+
+  pub makes_passed : (s new : KtutilState) (now number : ℕ) (line : List ℕ) (files : F) (effect : Effect) (quits : Bool) → s.awaiting ≡ Password → EndsAt (Ends (becomes (record s { awaiting = Nothing }))) s new effect quits → MakesLine trait (plan_of s now number line) files files s new effect quits
+  makes_passed s new now number line files effect quits is ends =
+      subst (λ (a : Awaiting Awaited). MakesLine trait (plan_by s now number line a) files files s new effect quits) (sym is) (makes_end (Ends (becomes (record s { awaiting = Nothing }))) files s new effect quits ends)
+
+  module _ (A : Type 0) (files files' : F) (old new : KtutilState) (number : ℕ) (line : List (List ℕ)) where
+    -- a command was run
+    pub tried_line : (given : Result Command LineFault) (made : Line A) → Tries trait files files' old number given new (Ok made) → MakesLine trait (words_plan old number line given) files files' old new (line_effect made) made.quits
+    tried_line (Ok command) made t = t
+    tried_line (Err fault) made t = cc (t.2)
+
+    -- memory ran out of it
+    pub tried_spent : (given : Result Command LineFault) (effect : Effect) (quits : Bool) → Tries {A = A} trait files files' old number given new (Err refusal.NoMemory) → effect ≡ Fails [] error.NoMemory → quits ≡ false → MakesLine trait (words_plan old number line given) files files' old new effect quits
+    tried_spent (Ok command) effect quits t effect_is quits_is = rw (effect_is, quits_is) t
+    tried_spent (Err fault) effect quits t effect_is quits_is = cc (t.2)
+
+    -- its words have a fault
+    pub tried_fault : (given : Result Command LineFault) (fault : LineFault) (effect : Effect) (quits : Bool) (mid : KtutilState) → Tries {A = A} trait files files' old number given mid (Err (refusal.Fault fault)) → new ≡ after_fault (asks_for_password line) mid
+        → effect ≡ Fails [] (fault_error number line fault) → quits ≡ false → MakesLine trait (words_plan old number line given) files files' old new effect quits
+    tried_fault (Ok command) fault effect quits mid t after_is effect_is quits_is = absurd t
+    tried_fault (Err due) fault effect quits mid t after_is effect_is quits_is =
+        let same : fault ≡ due = cc (t.2) in
+        subst (λ (x : F). MakesLine trait (words_plan old number line (Err due)) files x old new effect quits) (sym t.0) (makes_end (words_plan old number line (Err due)) files old new effect quits (inl (record {
+          state_is = after_is ∙ ap (after_fault (asks_for_password line)) t.1;
+          effect_is = effect_is ∙ ap (λ (f : LineFault). Fails [] (fault_error number line f)) same;
+          quits_is = quits_is;
+        })))
+
+-- entries were added to a keytab, and what is due was made of it
+pub comes_added : (s : KtutilState) (entries : List EntryParts) → s.entries ≡ entries → (number : ℕ) (name : List ℕ) (k : KeytabState) (added : Result Added Code) (effect : Effect) (quits : Bool)
+    → with_added entries (Ok (none_added k)) ≡ added → Comes (saved_as s number name added) s s effect quits → Comes (written_to s number name (Ok k)) s s effect quits
+comes_added s entries same number name k added effect quits is comes =
+    subst (λ (came : Came). Comes came s s effect quits) (sym (ap (λ (es : List EntryParts). saved_as s number name (with_added es (Ok (none_added k)))) same ∙ ap (saved_as s number name) is)) comes
+
+-- how a command is tried, how its words come out, and how a line is run
+pub ruleset commands = (makes_end, tries_words)
+
+pub ruleset outcomes = (tried_line, tried_spent, tried_fault)
+
+pub ruleset lines = (makes_end, makes_words, makes_passed)

@@ -1,143 +1,210 @@
 -- The lines of ktutil leave what is due over honest files.
-use Rattle.std.proofs.Common.{◌≡◌, inl, inr, ℕ, ◌+◌, ◌≤◌, Bool, true, false, List, [], ◌∷◌, ◌++◌, length, refl, sym, ap, subst, ◌∙◌, append_assoc, append-nil, arith}
-use Rattle.std.specs.Prelude.{IsTrue, IsFalse, max, if◌then◌else◌, Option, None, Some, IfSome, Err}
+use Rattle.krb_ktutil.proofs.Cited.{◌≡◌, ◌⊎◌, inl, inr, ℕ, ◌+◌, ◌≤◌, Bool, true, false, List, [], ◌∷◌, ◌++◌, length, refl, sym, ap, subst, ◌∙◌, append_assoc, append-nil, arith, not, max, ◌&&◌, Option, None, Some, IfSome, Err, false≢true, Ghosts, Watch, Effect, Fails, ErrorWatch, input_error, error_status, lines_of, IsCame, Came, KtutilState, line_faults, plan_of, Prompts, Talk, goes_on, HandlesLine}
+use Rattle.std.specs.Prelude.{IsFalse, if◌then◌else◌}
 use Rattle.std.specs.Io.KnownBytes.{Appends}
-use Rattle.std.proofs.lemmas.Bool.{false≢true}
+use Rattle.std.proofs.Math.Bool.{and-false}
+use Rattle.std.proofs.lemmas.Bool.{true≢false}
 use mathlib.Core.Path.{fun_ext}
 use Rattle.krb_files.specs.declared.aftermath.Aftermath.{Aftermath}
-use Rattle.krb_files.specs.declared.files.Files.{Ghosts}
-use Rattle.krb_ktutil.specs.declared.ktutil.line_end.LineEnd.{LineEnd}
-use Rattle.krb_driver.specs.declared.reporting.details.Details.{Details}
-use Rattle.krb_driver.specs.ErrorOutput.{ErrorWatch}
-use Rattle.krb_files.specs.Files.{FileMap, SameFiles}
-use Rattle.krb_files.specs.Plan.{follow}
-use Rattle.krb_files.proofs.PlanLaws.{count-more, count-trans}
-use Rattle.krb_ktutil.specs.KtutilPlan.{KtutilState, Outcome, is_of_save, plan_of}
-use Rattle.krb_ktutil.specs.KtutilHonest.{ShowsDue, HandlesHonestly, line_files, line_outcome}
-use Rattle.krb_files.proofs.Prefixes.{Appends-nil, Appends-trans}
-use Rattle.krb_ktutil.proofs.KtutilDue.{Lasts, handles_honestly, handles_lasts}
 use Rattle.krb_files.specs.declared.files.LoadFault.TheVariants as load
 use Rattle.krb_files.specs.declared.files.LoadFault.{LoadFault}
+use Rattle.krb_files.specs.Files.{FileMap, SameFiles, CountsFailure}
+use Rattle.krb_files.specs.Plan.{follow}
+use Rattle.krb_files.proofs.PlanLaws.{count-more, count-trans, same-trans}
+use Rattle.krb_files.proofs.Prefixes.{Appends-nil, Appends-trans}
 use Rattle.krb_driver.specs.declared.error.RunError.TheVariants.{NoMemory}
-use Rattle.krb_ktutil.specs.InputLines.{lines_of}
-use Rattle.krb_files.specs.Bytes.{Watch}
-use Rattle.krb_ktutil.specs.declared.ktutil.awaiting.Awaiting.{Awaiting}
-use Rattle.krb_ktutil.specs.KtutilCommand.{Awaited, named_in}
-use Rattle.krb_ktutil.specs.KtutilPrompts.{Prompts, prompt_of, last_prompt}
-use Rattle.krb_ktutil.specs.KtutilTalk.{Talk, ending_of, line_run, goes_on, AreFirst, Continues, HandlesLine, Stops, TalksOver}
-use Rattle.krb_ktutil.specs.KtutilDue.{TalkDue, ReportsDue, quiet_run, report_of, final_report, line_report, last_due, due_after, talk_due, GivesLines, LeavesDueUnlessFailed, TalksHonestly}
-use Rattle.krb_driver.specs.Runs.{Run, Reports, EndsRun, Writes, ends_by}
-use Rattle.krb_driver.specs.Words.{aftermath_text, own_text}
-use Rattle.krb_driver.specs.RunErrors.{Ending, end_status, input_error, error_status}
+use Rattle.krb_driver.specs.declared.reporting.details.Details.{Details}
+use Rattle.krb_driver.specs.Commands.{Keeps, Settles, ShowsEnd}
+use Rattle.krb_driver.specs.Effects.{Displays, IsSpent, Saves, about, files_after, is_save, settled}
+use Rattle.krb_driver.specs.Runs.{Run, Reports, Shows, ends_by}
+use Rattle.krb_driver.specs.RunErrors.{Ending, is_spent}
+use Rattle.krb_driver.proofs.Running.{finishes-lasts}
 use Rattle.krb_driver.proofs.Shown.{ReportsEnd-nothing}
+use Rattle.krb_ktutil.specs.KtutilFiles.{Spares}
+use Rattle.krb_ktutil.specs.KtutilPrompts.{prompt_of, last_prompt}
+use Rattle.krb_ktutil.specs.KtutilTalk.{AreFirst, Continues, Stops, TalksOver}
+use Rattle.krb_ktutil.specs.KtutilDue.{TalkDue, DueReport, ReportsDue, quiet_run, final_report, line_report, last_due, due_after, run_of, talk_due, GivesLines, LeavesDue, LeavesDueUnlessFailed, TalksHonestly}
+use Rattle.krb_ktutil.proofs.KtutilDue.{Came-due, line_lasts, makes_due, makes_lasts}
 
--- the outcome of a line, by its parts
-outcome_is : (due : Outcome) (state : KtutilState) (text : List ℕ) (ending : LineEnd) → state ≡ due.state → text ≡ due.text → ending ≡ due.ending → due ≡ record { state = state; text = text; ending = ending }
-outcome_is due state text ending state_is text_is ending_is = rw (state_is, text_is, ending_is) refl
+-- ---- what is left
+
+-- a run was printed and reported after its prompt
+record Told {F : Type 0} (prompts : Bool) (out : List ℕ) (report : DueReport) (old new : Talk F) : Type 0 where
+  asked : ErrorWatch
+  status : ℕ
+  prompted : Prompts prompts report.prompt old.err asked
+  printed : Appends old.out.contents new.out.contents out
+  reported : ReportsDue report asked new.err status
+  worst : new.status ≡ max old.status status
+
+module _ {F : Type 0} (trait : Ghosts F) (prompts : Bool) where
+  module _ (out : List ℕ) (report : DueReport) (old mid : Talk F) (told : Told prompts out report old mid) where
+    -- what is due after the following lines was left
+    leaves_first : (due : TalkDue) (new : Talk F) → LeavesDue trait prompts due mid new → LeavesDue trait prompts (due_after out report due) old new
+    leaves_first due new leaves =
+        let worst = told.worst in
+        let after = leaves.status in
+        record {
+          files = leaves.files;
+          out = Appends-trans old.out.contents mid.out.contents new.out.contents out due.out told.printed leaves.out;
+          worst = max told.status leaves.worst;
+          err = (told.asked, mid.err, told.status, leaves.worst, (told.prompted, (told.reported, (leaves.err, refl))));
+          status = omega (arith, worst, after);
+        }
+
+    -- no line follows
+    leaves_last : (files : FileMap) → SameFiles files (trait.file mid.files) → LeavesDue trait prompts (last_due out report files) old mid
+    leaves_last files same =
+        let worst = told.worst in
+        record {
+          files = same;
+          out = told.printed;
+          worst = max told.status 0;
+          err = (told.asked, mid.err, told.status, 0, (told.prompted, (told.reported, ((refl, refl), refl))));
+          status = omega (arith, worst);
+        }
+
+  -- the output may have failed
+  unless_failed : (due : TalkDue) (old new : Talk F) (failed : Bool) → failed ≡ new.out.failed → (IsFalse new.out.failed → LeavesDue trait prompts due old new) → LeavesDueUnlessFailed trait prompts due old new
+  unless_failed due old new true is leaves = inr (inl (sym is))
+  unless_failed due old new false is leaves = inr (inr (leaves (sym is)))
+
+-- ---- a line
+
+-- what is left to show is about the same file
+about-settled : (effect : Effect) → about (settled effect) ≡ about effect
+about-settled (Fails file why) = refl
+about-settled (Displays file page) = refl
+about-settled (Saves file bytes out verdict) = refl
+
+-- what is left of an effect was shown, which takes no memory
+shows-run : (out out' : Watch) (ending : Ending) (old new : KtutilState) (effect : Effect) → Spares old new effect → ShowsEnd out out' ending (settled effect) → Shows (run_of effect) out out' ending
+shows-run out out' ending old new (Fails file why) spares shows = shows
+shows-run out out' ending old new (Displays file page) spares (inl shows) = shows
+shows-run out out' ending old new (Displays file page) spares (inr breaks) = absurd (true≢false (sym breaks.0 ∙ spares))
+shows-run out out' ending old new (Saves file bytes out_ verdict) spares (inl shows) = shows
+shows-run out out' ending old new (Saves file bytes out_ verdict) spares (inr breaks) = absurd (false≢true breaks.0)
+
+module _ {F : Type 0} (trait : Ghosts F) (prompts : Bool) (now number : ℕ) (line : List ℕ) (old new : Talk F) (asked : ErrorWatch) (prompted : Prompts prompts (prompt_of old.state.awaiting) old.err asked)
+    (handles : HandlesLine trait now number line (record old { err = asked }) new) where
+  -- what the plan of the line comes to
+  abbrev due : Came
+  due = follow (trait.file old.files) (plan_of old.state now number line)
+
+  -- over honest files the line did what is due
+  abbrev LineDue : Type 0
+  LineDue = IsCame due new.state handles.effect handles.quits × ((handles.finishes.left ≡ settled due.effect) × SameFiles (files_after (trait.file old.files) due.effect) (trait.file new.files))
+
+  -- memory ran out, and the files are the same
+  abbrev LineSpent : Type 0
+  LineSpent = SameFiles (trait.file old.files) (trait.file new.files) × IsSpent handles.finishes.left
+
+  -- honest files stay honest, and the count of failures never falls
+  handles_lasts : (trait.is_honest old.files → trait.is_honest new.files) × (trait.failure_count old.files ≤ trait.failure_count new.files)
+  handles_lasts = line_lasts trait old.state new.state old.files handles.made handles.effect handles.quits (plan_of old.state now number line) handles.makes (Some number) new.files old.out new.out asked new.err handles.end handles.finishes
+
+  -- if the effect is that memory ran out, the files are the same
+  spent_line : trait.is_honest old.files → IsSpent handles.effect → LineSpent
+  spent_line h spent =
+      let f = handles.finishes in
+      let s = subst (λ (e : Effect). Settles trait handles.made e f.done f.left) spent.1 f.settles in
+      let same = (makes_lasts trait old.state new.state old.files handles.made handles.effect handles.quits (plan_of old.state now number line) handles.makes).same h in
+      (same-trans (trait.file old.files) (trait.file f.done) (trait.file new.files) (subst (λ (x : F). SameFiles (trait.file old.files) (trait.file x)) (sym s.0) same) f.released.same, (spent.0, s.1))
+
+  -- the line did what is due; or a call failed, counted; or memory ran out
+  comes_by : trait.is_honest old.files → Came-due trait old.state new.state old.files handles.made handles.effect handles.quits (plan_of old.state now number line) handles.makes → Keeps trait due.effect old.files new.files handles.finishes.left
+      → LineDue ⊎ (CountsFailure (trait.failure_count old.files) (trait.failure_count new.files) ⊎ LineSpent)
+  comes_by h (inl is) (inl keeps) = inl (is, keeps)
+  comes_by h (inl is) (inr (inl failed)) = inr (inl failed.0)
+  comes_by h (inl is) (inr (inr spent)) = inr (inr spent)
+  comes_by h (inr (inl failed)) keeps =
+      let le = (finishes-lasts trait (line_faults old.state) (Some number) handles.effect handles.effect old.files handles.made new.files old.out new.out asked new.err handles.end handles.finishes).1 in
+      inr (inl (count-more (trait.failure_count old.files) (trait.failure_count handles.made) (trait.failure_count new.files) le failed.0))
+  comes_by h (inr (inr spent)) keeps = inr (inr (spent_line h spent))
+
+  line_comes : trait.is_honest old.files → LineDue ⊎ (CountsFailure (trait.failure_count old.files) (trait.failure_count new.files) ⊎ LineSpent)
+  line_comes h = comes_by h (makes_due trait old.state new.state old.files handles.made handles.effect handles.quits (plan_of old.state now number line) handles.makes h) (handles.honest h)
+
+  -- what is due was printed and reported
+  told_due : LineDue → IsFalse new.out.failed → (goes_on handles.quits handles.end.ending ≡ goes_on due.quits (run_of due.effect).ending) × Told prompts (run_of due.effect).out (line_report old.state.awaiting number due.effect) old new
+  told_due is well =
+      let f = handles.finishes in
+      let end = handles.end in
+      let spares = subst (Spares old.state new.state) is.0.effect_is handles.spares in
+      let done = (shows-run old.out new.out end.ending old.state new.state due.effect spares (subst (ShowsEnd old.out new.out end.ending) is.1.0 f.shown)).done well in
+      let reported = subst (λ (file : List ℕ). Reports file (Some number) f.details end.ending asked new.err end.status) (ap about is.1.0 ∙ about-settled due.effect) f.reported in (
+        ap (λ (quits : Bool). goes_on quits end.ending) is.0.quits_is ∙ ap (goes_on due.quits) done.1,
+        record {
+          asked = asked;
+          status = end.status;
+          prompted = prompted;
+          printed = done.0;
+          reported = record {
+            details = f.details;
+            reported = subst (λ (e : Ending). Reports (about due.effect) (Some number) f.details e asked new.err end.status) done.1 reported;
+            untold = λ other. f.told ∙ ap (λ (b : Bool). if b && not (is_spent end.ending) then trait.aftermath new.files else None) (ap is_save is.0.effect_is ∙ other);
+          };
+          worst = handles.worst;
+        },
+      )
+
+  -- that memory ran out was reported
+  told_spent : LineSpent → IsFalse new.out.failed → (handles.end.ending ≡ Err NoMemory) × Told prompts [] (final_report old.state.awaiting (ends_by NoMemory)) old new
+  told_spent spent well =
+      let f = handles.finishes in
+      let end = handles.end in
+      let done = (subst (ShowsEnd old.out new.out end.ending) spent.1.1 f.shown).done well in
+      let left = λ (b : Bool). if b then trait.aftermath new.files else None in
+      let untold = f.told ∙ ap (λ (e : Ending). left (is_save handles.effect && not (is_spent e))) done.1 ∙ ap left (and-false (is_save handles.effect)) in
+      let reported = subst (λ (e : Ending). Reports (about f.left) (Some number) f.details e asked new.err end.status) done.1 f.reported in
+      let bare = subst (λ (a : Option Aftermath). Reports (about f.left) (Some number) (record f.details { aftermath = a }) (Err NoMemory) asked new.err end.status) untold reported in (
+        done.1,
+        record {
+          asked = asked;
+          status = end.status;
+          prompted = prompted;
+          printed = done.0;
+          reported = record {
+            details = record f.details { aftermath = None };
+            reported = record { reports = record { writes = bare.reports.writes; still = bare.reports.still }; status_is = bare.status_is };
+            untold = λ other. refl;
+          };
+          worst = handles.worst;
+        },
+      )
+
+-- ---- lines
 
 -- lines leave honest files honest, and never lower the count of failures
-talk_lasts : {F : Type 0} (trait : Ghosts F) (prompts : Bool) (now number : ℕ) (lines : List (List ℕ)) (old new : Talk F) → TalksOver trait now prompts number lines old new → Lasts trait old.files new.files
-talk_lasts {F = F} trait prompts now number [] old new talked = subst (λ (t : Talk F). Lasts trait old.files t.files) (sym talked) (λ h. h, omega arith)
+talk_lasts : {F : Type 0} (trait : Ghosts F) (prompts : Bool) (now number : ℕ) (lines : List (List ℕ)) (old new : Talk F) → TalksOver trait now prompts number lines old new → (trait.is_honest old.files → trait.is_honest new.files) × (trait.failure_count old.files ≤ trait.failure_count new.files)
+talk_lasts {F = F} trait prompts now number [] old new talked = subst (λ (t : Talk F). (trait.is_honest old.files → trait.is_honest t.files) × (trait.failure_count old.files ≤ trait.failure_count t.files)) (sym talked) (λ h. h, omega arith)
 talk_lasts trait prompts now number (line ∷ lines) old new talked =
-    let first = handles_lasts trait talked.3.handles.handled in
+    let first = handles_lasts trait prompts now number line old talked.1 talked.0 talked.2 talked.3.handles in
     let others = talk_lasts trait prompts now (number + 1) lines talked.1 new talked.4 in
     let le = first.1 in
     let le' = others.1 in
     (λ h. others.0 (first.0 h), omega (arith, le, le'))
 
--- the worst status so far, after a last one
-worst_last : (a status new : ℕ) → new ≡ max a status → new ≡ max a (max status 0)
-worst_last a status new is = omega (arith, is)
-
--- only the line of a save tells what that left behind
-untold_by : {F : Type 0} (trait : Ghosts F) (now number : ℕ) (line : List ℕ) (old new : Talk F) (ending : LineEnd) (handles : HandlesLine trait now number line old new ending) → IsFalse (is_of_save ending) → handles.ends.details.aftermath ≡ None
-untold_by trait now number line old new ending handles other = handles.told ∙ ap (λ (b : Bool). if b then trait.aftermath new.files else None) other
-
--- all is well, which is not reported
-nothing_due : (awaiting : Awaiting Awaited) (err : ErrorWatch) → ReportsDue (final_report awaiting quiet_run) err err 0
-nothing_due awaiting err =
-    let details : Details = record { cause = None; in_the_way = None; aftermath = None } in
-    record { details = details; reported = record { reports = ReportsEnd-nothing [] None details err refl; status_is = refl }; untold = λ other. refl }
-
 module _ {F : Type 0} (trait : Ghosts F) (prompts : Bool) (now : ℕ) (final : Run) where
-  -- what is due after a line with that outcome, and after those that follow, if it goes on
-  abbrev NextDue : Awaiting Awaited → ℕ → List ℕ → List (List ℕ) → Bool → Outcome → FileMap → TalkDue
-  NextDue awaiting number line more goes due files =
-      let run = line_run number line due.ending due.text in
-      let report = line_report awaiting number line due.ending run in
-      if goes then due_after run.out report (talk_due final now (number + 1) more due.state files) else last_due run.out report files
-
-  due_by : (number : ℕ) (line : List ℕ) (more : List (List ℕ)) (old new : KtutilState) (files files' : F) (text : List ℕ) (ending : LineEnd)
-      → ShowsDue trait (follow (trait.file files) (plan_of old now line)) files files' old new [] text ending → (goes : Bool) → goes_on ending ≡ goes
-      → talk_due final now number (line ∷ more) old (trait.file files) ≡ NextDue old.awaiting number line more goes (record { state = new; text = text; ending = ending }) (trait.file files')
-  due_by number line more old new files files' text ending due goes is =
-      let effect = follow (trait.file files) (plan_of old now line) in
-      let came : Outcome = record { state = new; text = text; ending = ending } in
-      ap (λ (o : Outcome). NextDue old.awaiting number line more (goes_on o.ending) o (line_files (trait.file files) effect)) (outcome_is (line_outcome old effect) new text ending due.shows.state_is due.shows.appended due.shows.ending_is)
-      ∙ ap (NextDue old.awaiting number line more (goes_on ending) came) (sym (fun_ext due.files_are))
-      ∙ ap (λ (b : Bool). NextDue old.awaiting number line more b came (trait.file files')) is
-
-  worst_after : (a b status worst new : ℕ) → new ≡ max b worst → b ≡ max a status → new ≡ max a (max status worst)
-  worst_after a b status worst new new_is b_is = omega (arith, new_is, b_is)
-
-  -- the end of a line was reported
-  reported_by : (prompt file : List ℕ) (which : Option ℕ) (saves : Bool) (run : Run) (status : ℕ) (out out' : Watch) (asked new : ErrorWatch) (ends : EndsRun file which run out out' asked new status)
-      → (IsFalse saves → ends.details.aftermath ≡ None) → ends.ending ≡ run.ending → ReportsDue (report_of prompt file which saves run) asked new status
-  reported_by prompt file which saves run status out out' asked new ends untold is =
-      record { details = ends.details; reported = subst (λ (e : Ending). Reports file which ends.details e asked new status) is ends.reported; untold = untold }
-
-  module _ (prompt file : List ℕ) (which : Option ℕ) (saves : Bool) (run : Run) (status : ℕ) (old mid : Talk F) (asked : ErrorWatch) (prompted : Prompts prompts prompt old.err asked)
-      (ends : EndsRun file which run old.out mid.out asked mid.err status) (untold : IsFalse saves → ends.details.aftermath ≡ None) (worst : mid.status ≡ max old.status status) where
-    -- a line was run after its prompt, and what is due after the following lines was left
-    leaves_after : (new : Talk F) (due : TalkDue) → IsFalse mid.out.failed
-        → trait.failure_count old.files ≤ trait.failure_count mid.files → trait.failure_count mid.files ≤ trait.failure_count new.files
-        → LeavesDueUnlessFailed trait prompts due mid new → LeavesDueUnlessFailed trait prompts (due_after run.out (report_of prompt file which saves run) due) old new
-    leaves_after new due well le le' (inl counts) = inl (count-trans (trait.failure_count old.files) (trait.failure_count mid.files) (trait.failure_count new.files) le le' counts)
-    leaves_after new due well le le' (inr (inl failed)) = inr (inl failed)
-    leaves_after new due well le le' (inr (inr leaves)) =
-        let done = ends.shows.done well in
-        inr (inr (record {
-          files = leaves.files;
-          out = Appends-trans old.out.contents mid.out.contents new.out.contents run.out due.out done.0 leaves.out;
-          worst = max status leaves.worst;
-          err = (asked, mid.err, status, leaves.worst, (prompted, (reported_by prompt file which saves run status old.out mid.out asked mid.err ends untold done.1, (leaves.err, refl))));
-          status = worst_after old.status mid.status status leaves.worst new.status leaves.status worst;
-        }))
-
-    -- it was the last: it left what was due, or the output failed
-    close_by : (failed : Bool) → failed ≡ mid.out.failed → LeavesDueUnlessFailed trait prompts (last_due run.out (report_of prompt file which saves run) (trait.file mid.files)) old mid
-    close_by true is = inr (inl (sym is))
-    close_by false is =
-        let done = ends.shows.done (sym is) in
-        inr (inr (record {
-          files = λ name. refl;
-          out = done.0;
-          worst = max status 0;
-          err = (asked, mid.err, status, 0, (prompted, (reported_by prompt file which saves run status old.out mid.out asked mid.err ends untold done.1, ((refl, refl), refl))));
-          status = worst_last old.status status mid.status worst;
-        }))
-
   -- a line was run and goes on
-  line_honestly : (number : ℕ) (line : List ℕ) (more : List (List ℕ)) (old mid new : Talk F) (asked : ErrorWatch) → Prompts prompts (prompt_of old.state.awaiting) old.err asked
-      → (continues : Continues trait now number line (record old { err = asked }) mid)
-      → HandlesHonestly trait (plan_of old.state now line) old.files mid.files old.state mid.state [] continues.handles.text continues.ending
-      → trait.failure_count old.files ≤ trait.failure_count mid.files → trait.failure_count mid.files ≤ trait.failure_count new.files
+  line_honestly : (number : ℕ) (line : List ℕ) (more : List (List ℕ)) (old mid new : Talk F) (asked : ErrorWatch) (prompted : Prompts prompts (prompt_of old.state.awaiting) old.err asked)
+      (continues : Continues trait now number line (record old { err = asked }) mid) → trait.failure_count mid.files ≤ trait.failure_count new.files
+      → LineDue trait prompts now number line old mid asked prompted continues.handles ⊎ (CountsFailure (trait.failure_count old.files) (trait.failure_count mid.files) ⊎ LineSpent trait prompts now number line old mid asked prompted continues.handles)
       → LeavesDueUnlessFailed trait prompts (talk_due final now (number + 1) more mid.state (trait.file mid.files)) mid new
       → LeavesDueUnlessFailed trait prompts (talk_due final now number (line ∷ more) old.state (trait.file old.files)) old new
-  line_honestly number line more old mid new asked prompted continues honestly le le' rest =
-      let handles = continues.handles in
-      let run = line_run number line continues.ending handles.text in
-      let others = talk_due final now (number + 1) more mid.state (trait.file mid.files) in
-      elim honestly.comes [
-        | inl shows ↦ subst (λ (d : TalkDue). LeavesDueUnlessFailed trait prompts d old new)
-            (sym (due_by number line more old.state mid.state old.files mid.files handles.text continues.ending shows true continues.goes_on))
-            (leaves_after (prompt_of old.state.awaiting) (named_in line) (Some number) (is_of_save continues.ending) run handles.status old mid asked prompted handles.ends
-            (untold_by trait now number line (record old { err = asked }) mid continues.ending handles) handles.worst new others continues.well le le' rest)
-        | inr fails ↦ elim fails.why [
-          | inl call ↦ inl (count-more (trait.failure_count old.files) (trait.failure_count mid.files) (trait.failure_count new.files) le' call.0)
-          | inr spent ↦ absurd (false≢true (subst (λ (e : LineEnd). IsTrue (goes_on e)) spent continues.goes_on))
-        ]
-      ]
+  line_honestly number line more old mid new asked prompted continues le comes (inl counts) =
+      inl (count-trans (trait.failure_count old.files) (trait.failure_count mid.files) (trait.failure_count new.files) (handles_lasts trait prompts now number line old mid asked prompted continues.handles).1 le counts)
+  line_honestly number line more old mid new asked prompted continues le comes (inr (inl failed)) = inr (inl failed)
+  line_honestly number line more old mid new asked prompted continues le (inl is) (inr (inr leaves)) =
+      let told = told_due trait prompts now number line old mid asked prompted continues.handles is continues.well in
+      let came = due trait prompts now number line old mid asked prompted continues.handles in
+      let after = subst (λ (m : FileMap). LeavesDue trait prompts (talk_due final now (number + 1) more came.state m) mid new) (fun_ext is.1.1)
+      (subst (λ (s : KtutilState). LeavesDue trait prompts (talk_due final now (number + 1) more s (trait.file mid.files)) mid new) is.0.state_is leaves) in
+      inr (inr (rw (sym told.0 ∙ continues.goes_on) (leaves_first trait prompts (run_of came.effect).out (line_report old.state.awaiting number came.effect) old mid told.1 _ new after)))
+  line_honestly number line more old mid new asked prompted continues le (inr (inl counted)) (inr (inr leaves)) = inl (count-more (trait.failure_count old.files) (trait.failure_count mid.files) (trait.failure_count new.files) le counted)
+  line_honestly number line more old mid new asked prompted continues le (inr (inr spent)) (inr (inr leaves)) =
+      let ending_is = (told_spent trait prompts now number line old mid asked prompted continues.handles spent continues.well).0 in
+      absurd (false≢true (sym (and-false (not continues.handles.quits)) ∙ (rw ending_is at continues.goes_on)))
 
   -- lines were run, and what is due after the following lines was left
   talk_honestly : (lines : List (List ℕ)) (number : ℕ) (more : List (List ℕ)) (old last new : Talk F) → TalksOver trait now prompts number lines old last → trait.is_honest old.files
@@ -148,85 +215,69 @@ module _ {F : Type 0} (trait : Ghosts F) (prompts : Bool) (now : ℕ) (final : R
       subst (λ (t : Talk F). LeavesDueUnlessFailed trait prompts (talk_due final now number more t.state (trait.file t.files)) t new) talked (rest number (omega arith))
   talk_honestly (line ∷ lines) number more old last new talked honest le rest =
       let mid = talked.1 in
-      let honestly = handles_honestly trait talked.3.handles.handled honest in
-      let first = (handles_lasts trait talked.3.handles.handled).1 in
+      let handles = talked.3.handles in
       let others = (talk_lasts trait prompts now (number + 1) lines mid last talked.4).1 in
-      line_honestly number line (lines ++ more) old mid new talked.0 talked.2 talked.3 honestly first (omega (arith, others, le))
-      (talk_honestly lines (number + 1) more mid last new talked.4 honestly.honest le (λ next is. rest next (omega (arith, is))))
+      line_honestly number line (lines ++ more) old mid new talked.0 talked.2 talked.3 (omega (arith, others, le)) (line_comes trait prompts now number line old mid talked.0 talked.2 handles honest)
+      (talk_honestly lines (number + 1) more mid last new talked.4 ((handles_lasts trait prompts now number line old mid talked.0 talked.2 handles).0 honest) le (λ next is. rest next (omega (arith, is))))
 
-  stop_honestly : (number : ℕ) (line : List ℕ) (more : List (List ℕ)) (last new : Talk F) (asked : ErrorWatch) → Prompts prompts (prompt_of last.state.awaiting) last.err asked
-      → (stops : Stops trait now number line (record last { err = asked }) new)
-      → ShowsDue trait (follow (trait.file last.files) (plan_of last.state now line)) last.files new.files last.state new.state [] stops.handles.text stops.ending
+  -- a line was the last
+  stop_honestly : (number : ℕ) (line : List ℕ) (more : List (List ℕ)) (last new : Talk F) (asked : ErrorWatch) (prompted : Prompts prompts (prompt_of last.state.awaiting) last.err asked)
+      (stops : Stops trait now number line (record last { err = asked }) new) → LineDue trait prompts now number line last new asked prompted stops.handles
       → LeavesDueUnlessFailed trait prompts (talk_due final now number (line ∷ more) last.state (trait.file last.files)) last new
-  stop_honestly number line more last new asked prompted stops due =
-      let handles = stops.handles in
+  stop_honestly number line more last new asked prompted stops is =
+      let came = due trait prompts now number line last new asked prompted stops.handles in
       elim stops.why [
-        | inl not ↦ subst (λ (d : TalkDue). LeavesDueUnlessFailed trait prompts d last new)
-            (sym (due_by number line more last.state new.state last.files new.files handles.text stops.ending due false not))
-            (close_by (prompt_of last.state.awaiting) (named_in line) (Some number) (is_of_save stops.ending) (line_run number line stops.ending handles.text) handles.status last new asked prompted handles.ends
-            (untold_by trait now number line (record last { err = asked }) new stops.ending handles) handles.worst new.out.failed refl)
+        | inl ended ↦ unless_failed trait prompts _ last new new.out.failed refl (λ well.
+            let told = told_due trait prompts now number line last new asked prompted stops.handles is well in
+            rw (sym told.0 ∙ ended) (leaves_last trait prompts (run_of came.effect).out (line_report last.state.awaiting number came.effect) last new told.1 (files_after (trait.file last.files) came.effect) is.1.1))
         | inr failed ↦ inr (inl failed)
       ]
 
--- a line was the last because memory ran out: what was due after those before it was left, and that was reported
-spent_by : {F : Type 0} (trait : Ghosts F) (prompts : Bool) (prompt file : List ℕ) (which : Option ℕ) (run : Run) (status : ℕ) (last end : Talk F) (asked : ErrorWatch) → Prompts prompts prompt last.err asked
-    → (ends : EndsRun file which run last.out end.out asked end.err status)
-    → ends.details.aftermath ≡ None → end.status ≡ max last.status status → run.out ≡ [] → run.ending ≡ Err NoMemory
-    → SameFiles (trait.file last.files) (trait.file end.files) → (failed : Bool) → failed ≡ end.out.failed
-    → LeavesDueUnlessFailed trait prompts (last_due [] (report_of prompt [] None false (ends_by NoMemory)) (trait.file last.files)) last end
-spent_by trait prompts prompt file which run status last end asked prompted ends untold worst none memory same true is = inr (inl (sym is))
-spent_by trait prompts prompt file which run status last end asked prompted ends untold worst none memory same false is =
-    let done = ends.shows.done (sym is) in
-    let spent = done.1 ∙ memory in
-    let reports = ends.reported.reports in
-    let told = ends.details in
-    let details : Details = record { cause = told.cause; in_the_way = told.in_the_way; aftermath = None } in
-    let text = λ (e : Ending) (a : Option Aftermath). own_text asked.explains file which told e ++ aftermath_text asked.explains file which a in
-    let writes = subst (λ (a : Option Aftermath). Writes asked.to end.err.to (text (Err NoMemory) a)) untold (subst (λ (e : Ending). Writes asked.to end.err.to (text e told.aftermath)) spent reports.writes) in
-    let status_is = ends.reported.status_is ∙ ap (λ (e : Ending). end_status e told.aftermath) spent ∙ ap (end_status (Err NoMemory)) untold in
-    let due : ReportsDue (report_of prompt [] None false (ends_by NoMemory)) asked end.err status = record {
-      details = details;
-      reported = record { reports = record { writes = writes; still = reports.still }; status_is = status_is };
-      untold = λ other. refl;
-    } in
-    inr (inr (record {
-      files = same;
-      out = subst (λ (text : List ℕ). Appends last.out.contents end.out.contents text) none done.0;
-      worst = max status 0;
-      err = (asked, end.err, status, 0, (prompted, (due, ((refl, refl), refl))));
-      status = worst_last last.status status end.status worst;
-    }))
+-- ---- an input
 
--- the lines of an input after its first ones and a further one
-rest_of : (given : Option (List ℕ)) (lines : List (List ℕ)) (line : List ℕ) → AreFirst (lines ++ line ∷ []) given → (more : List (List ℕ)) × GivesLines given (lines ++ line ∷ more) quiet_run
-rest_of None lines line first = ([], record { gives = inl (tt, refl) })
-rest_of (Some bytes) lines line first = (first.0, record { gives = inl (first.1 ∙ append_assoc lines (line ∷ []) first.0, refl) })
+-- it has these lines and no more
+abbrev pub AreLines : Option (List ℕ) → List (List ℕ) → Type 0
+AreLines given lines = IfSome given (λ bytes. lines_of bytes ≡ lines)
 
--- the lines before it are the first too
-before_last : (given : Option (List ℕ)) (lines : List (List ℕ)) (line : List ℕ) → AreFirst (lines ++ line ∷ []) given → AreFirst lines given
-before_last None lines line first = tt
-before_last (Some bytes) lines line first = (line ∷ first.0, first.1 ∙ append_assoc lines (line ∷ []) first.0)
+-- the lines after its first ones
+lines_after : (given : Option (List ℕ)) (lines : List (List ℕ)) → AreFirst lines given → (more : List (List ℕ)) × AreLines given (lines ++ more)
+lines_after None lines first = ([], tt)
+lines_after (Some bytes) lines first = first
+
+-- without the lines that follow these
+pub are_first : (given : Option (List ℕ)) (lines more : List (List ℕ)) → AreLines given (lines ++ more) → AreFirst lines given
+are_first None lines more is = tt
+are_first (Some bytes) lines more is = (more, is)
 
 module _ {F : Type 0} (trait : Ghosts F) (prompts : Bool) (now : ℕ) (given : Option (List ℕ)) (lines : List (List ℕ)) (first last : Talk F) (talked : TalksOver trait now prompts 1 lines first last) where
   -- what was due after the lines was left
-  leaves_final : (final : Run) (end : Talk F) → GivesLines given (lines ++ []) final → trait.failure_count last.files ≤ trait.failure_count end.files
-      → LeavesDueUnlessFailed trait prompts (last_due final.out (final_report last.state.awaiting final) (trait.file last.files)) last end → trait.is_honest first.files → TalksHonestly trait prompts now given first end
-  leaves_final final end gives le leaves honest = record {
-    lines = lines ++ [];
+  leaves_after : (final : Run) (more : List (List ℕ)) (end : Talk F) → GivesLines given (lines ++ more) final → trait.failure_count last.files ≤ trait.failure_count end.files
+      → LeavesDueUnlessFailed trait prompts (talk_due final now (length lines + 1) more last.state (trait.file last.files)) last end → trait.is_honest first.files → TalksHonestly trait prompts now given first end
+  leaves_after final more end gives le leaves honest = record {
+    lines = lines ++ more;
     final = final;
     given_lines = gives;
-    leaves = talk_honestly trait prompts now final lines 1 [] first last end talked honest le (λ next is. leaves);
+    leaves = talk_honestly trait prompts now final lines 1 more first last end talked honest le (λ next is.
+        let at : length lines + 1 ≡ next = omega (arith, is) in
+        subst (λ (n : ℕ). LeavesDueUnlessFailed trait prompts (talk_due final now n more last.state (trait.file last.files)) last end) at leaves);
   }
 
-  pub honest_after : (err' : ErrorWatch) → Prompts prompts (last_prompt last.state.awaiting) last.err err' → IfSome given (λ bytes. lines_of bytes ≡ lines ++ []) → trait.is_honest first.files → TalksHonestly trait prompts now given first (record last { err = err' })
+  -- no line follows, and that is reported
+  leaves_final : (final : Run) (end : Talk F) → GivesLines given (lines ++ []) final → end.files ≡ last.files → Told prompts final.out (final_report last.state.awaiting final) last end → trait.is_honest first.files → TalksHonestly trait prompts now given first end
+  leaves_final final end gives same told honest =
+      leaves_after final [] end gives (rw same (omega arith)) (inr (inr (leaves_last trait prompts final.out (final_report last.state.awaiting final) last end told (trait.file last.files) (λ name. ap (λ (x : F). trait.file x name) same)))) honest
+
+  pub honest_after : (err' : ErrorWatch) → Prompts prompts (last_prompt last.state.awaiting) last.err err' → AreLines given (lines ++ []) → trait.is_honest first.files → TalksHonestly trait prompts now given first (record last { err = err' })
   honest_after err' prompted all =
-      leaves_final quiet_run (record last { err = err' }) (record { gives = inl (all, refl) }) (omega arith) (inr (inr (record {
-        files = λ name. refl;
-        out = Appends-nil last.out.contents;
-        worst = 0;
-        err = (err', err', 0, 0, (prompted, (nothing_due last.state.awaiting err', ((refl, refl), refl))));
-        status = omega arith;
-      })))
+      let details : Details = record { cause = None; in_the_way = None; aftermath = None } in
+      leaves_final quiet_run (record last { err = err' }) (record { gives = inl (all, refl) }) refl (record {
+        asked = err';
+        status = 0;
+        prompted = prompted;
+        printed = Appends-nil last.out.contents;
+        reported = record { details = details; reported = record { reports = ReportsEnd-nothing [] None details err' refl; status_is = refl }; untold = λ other. refl };
+        worst = omega arith;
+      })
 
   -- no line after these was read
   GivesLines-unread : (fault : LoadFault) → AreFirst lines given → GivesLines given (lines ++ []) (ends_by (input_error fault))
@@ -237,37 +288,29 @@ module _ {F : Type 0} (trait : Ghosts F) (prompts : Bool) (now : ℕ) (given : O
       → status ≡ max last.status (error_status (input_error fault)) → trait.is_honest first.files
       → TalksHonestly trait prompts now given first (record { files = last.files; state = last.state; out = last.out; err = err'; status = status })
   honest_unread fault are_first details asked err' status prompted reported untold worst =
-      let own = error_status (input_error fault) in
-      let due : ReportsDue (final_report last.state.awaiting (ends_by (input_error fault))) asked err' own = record { details = details; reported = reported; untold = λ other. untold } in
-      leaves_final (ends_by (input_error fault)) (record { files = last.files; state = last.state; out = last.out; err = err'; status = status })
-      (GivesLines-unread fault are_first) (omega arith) (inr (inr (record {
-        files = λ name. refl;
-        out = Appends-nil last.out.contents;
-        worst = max own 0;
-        err = (asked, err', own, 0, (prompted, (due, ((refl, refl), refl))));
-        status = worst_last last.status own status worst;
-      })))
+      leaves_final (ends_by (input_error fault)) (record { files = last.files; state = last.state; out = last.out; err = err'; status = status }) (GivesLines-unread fault are_first) refl (record {
+        asked = asked;
+        status = error_status (input_error fault);
+        prompted = prompted;
+        printed = Appends-nil last.out.contents;
+        reported = record { details = details; reported = reported; untold = λ other. untold };
+        worst = worst;
+      })
 
   -- a line was the last
   pub honest_in_line : (line : List ℕ) (end : Talk F) (asked : ErrorWatch) → Prompts prompts (prompt_of last.state.awaiting) last.err asked → AreFirst (lines ++ line ∷ []) given
       → Stops trait now (length lines + 1) line (record last { err = asked }) end → trait.is_honest first.files → TalksHonestly trait prompts now given first end
-  honest_in_line line end asked prompted are_first stops honest =
-      let rest = rest_of given lines line are_first in
+  honest_in_line line end asked prompted first_lines stops honest =
+      let number = length lines + 1 in
       let handles = stops.handles in
-      let le = (handles_lasts trait handles.handled).1 in
-      let run = line_run (length lines + 1) line stops.ending handles.text in
-      elim (handles_honestly trait handles.handled ((talk_lasts trait prompts now 1 lines first last talked).0 honest)).comes [
-        | inl due ↦ record {
-          lines = lines ++ line ∷ rest.0;
-          final = quiet_run;
-          given_lines = rest.1;
-          leaves = talk_honestly trait prompts now quiet_run lines 1 (line ∷ rest.0) first last end talked honest le
-              (λ next is. let at : length lines + 1 ≡ next = omega (arith, is) in
-              subst (λ (n : ℕ). LeavesDueUnlessFailed trait prompts (talk_due quiet_run now n (line ∷ rest.0) last.state (trait.file last.files)) last end) at (stop_honestly trait prompts now quiet_run (length lines + 1) line rest.0 last end asked prompted stops due));
-        }
-        | inr fails ↦ leaves_final (ends_by NoMemory) end (GivesLines-unread load.NoMemory (before_last given lines line are_first)) le (elim fails.why [
-          | inl call ↦ inl call.0
-          | inr spent ↦ spent_by trait prompts (prompt_of last.state.awaiting) (named_in line) (Some (length lines + 1)) run handles.status last end asked prompted handles.ends
-              (untold_by trait now (length lines + 1) line (record last { err = asked }) end stops.ending handles (ap is_of_save spent)) handles.worst fails.same (ap (ending_of (length lines + 1) line) spent) fails.same_files end.out.failed refl
+      let rest = lines_after given (lines ++ line ∷ []) first_lines in
+      let all = subst (AreLines given) (append_assoc lines (line ∷ []) rest.0) rest.1 in
+      let le = (handles_lasts trait prompts now number line last end asked prompted handles).1 in
+      elim (line_comes trait prompts now number line last end asked prompted handles ((talk_lasts trait prompts now 1 lines first last talked).0 honest)) [
+        | inl is ↦ leaves_after quiet_run (line ∷ rest.0) end (record { gives = inl (all, refl) }) le (stop_honestly trait prompts now quiet_run number line rest.0 last end asked prompted stops is) honest
+        | inr fails ↦ leaves_after (ends_by NoMemory) [] end (GivesLines-unread load.NoMemory (are_first given lines (line ∷ rest.0) all)) le (elim fails [
+          | inl counted ↦ inl counted
+          | inr spent ↦ unless_failed trait prompts _ last end end.out.failed refl (λ well. leaves_last trait prompts [] (final_report last.state.awaiting (ends_by NoMemory)) last end
+              (told_spent trait prompts now number line last end asked prompted handles spent well).1 (trait.file last.files) spent.0)
         ]) honest
       ]

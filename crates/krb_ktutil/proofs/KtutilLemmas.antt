@@ -1,58 +1,43 @@
 -- The lines of ktutil, one after the other.
-use Rattle.std.proofs.Common.{◌≡◌, ◌≢◌, inl, inr, ℕ, ◌⊎◌, ◌+◌, ◌-◌, ◌<◌, ◌≤◌, Bool, true, false, List, [], ◌∷◌, ◌++◌, length, length-append, take, take-add, drop, refl, sym, ap, subst, ◌∙◌, append_assoc, append-nil, arith}
-use Rattle.std.specs.Prelude.{max, not, slice_range, ◌||◌, ◌&&◌, Option, None, Some, IfSome, Err}
+use Rattle.krb_ktutil.proofs.Cited.{◌≡◌, inl, inr, ℕ, ◌⊎◌, ◌+◌, ◌-◌, ◌<◌, ◌≤◌, Bool, true, false, List, [], ◌∷◌, ◌++◌, length, length-append, take, take-add, drop, refl, sym, ap, subst, ◌∙◌, append_assoc, append-nil, arith, max, not, slice_range, ◌&&◌, Option, None, Some, IfSome, Err, Ghosts, ErrorWatch, input_error, error_status, lines_of, HasNone, Grows, Talk, first_talk, goes_on, HandlesLine, Prompts}
+use Rattle.std.proofs.Common.{◌≢◌}
+use Rattle.std.specs.Prelude.{◌||◌}
 use Rattle.std.proofs.lemmas.List.{drop_all, take-append-le}
 use Rattle.std.proofs.lemmas.Grind.{flat_map-append}
 use Rattle.std.specs.Io.KnownBytes.{Consumes}
 use Rattle.krb_wire.specs.declared.format.Order.{Order}
-use Rattle.krb_files.specs.declared.files.Files.{Ghosts}
 use Rattle.krb_files.specs.declared.files.LoadFault.{LoadFault}
 use Rattle.krb_files.specs.declared.files.LoadFault.TheVariants.{Missing, TooLarge}
-use Rattle.krb_ktutil.specs.declared.ktutil.line_end.LineEnd.{LineEnd}
 use Rattle.krb_driver.specs.declared.world.World.{World}
-use Rattle.krb_driver.specs.ErrorOutput.{ErrorWatch}
-use Rattle.krb_driver.specs.RunErrors.{input_error, error_status}
-use Rattle.krb_ktutil.specs.InputLines.{InputParts, lines_of, with_newlines, HasLines, KeepsLines, TakesLine, EndsInNewline, IsSpent, HasNoMore, HasNone, CutsOff, Grows, IsWithin}
+use Rattle.krb_ktutil.specs.InputLines.{InputParts, with_newlines, HasLines, KeepsLines, TakesLine, EndsInNewline, IsSpent, HasNoMore, CutsOff, IsWithin}
 use Rattle.krb_files.specs.Loading.{most_bytes}
-use Rattle.krb_ktutil.specs.KtutilTalk.{Talk, first_talk, goes_on, AreFirst, Continues, EndsTalk, HandlesLine, Stops, TalksOver}
+use Rattle.krb_ktutil.specs.KtutilTalk.{AreFirst, Continues, EndsTalk, Stops, TalksOver}
 use Rattle.krb_ktutil.specs.Ktutil.{HandlesNext, RunsKtutil}
-use Rattle.krb_ktutil.specs.KtutilPrompts.{Prompts, prompt_of, last_prompt}
+use Rattle.krb_ktutil.specs.KtutilPrompts.{prompt_of, last_prompt}
 use Rattle.krb_ktutil.specs.KtutilDue.{TalksHonestly}
-use Rattle.krb_ktutil.proofs.KtutilHonestly.{honest_after, honest_in_line, honest_unread}
-use Rattle.krb_files.specs.Reader.{Source, ConsumesAtMost, is_failed}
+use Rattle.krb_ktutil.proofs.KtutilHonestly.{AreLines, are_first, honest_after, honest_in_line, honest_unread}
+use Rattle.krb_files.specs.Reader.{Source, is_failed}
 use Rattle.krb_driver.specs.Runs.{Reports}
 use Rattle.krb_driver.specs.declared.reporting.details.Details.{Details}
 use Rattle.krb_files.proofs.Reading.{Consumes-trans}
 
 -- the input has these lines, which were run, and those that are to come
 abbrev ToCome : Option (List ℕ) → List (List ℕ) → InputParts → Option (List ℕ) → Type 0
-ToCome given lines input left = (more : List (List ℕ)) → HasLines input left more → IfSome given (λ bytes. lines_of bytes ≡ lines ++ more)
+ToCome given lines input left = (more : List (List ℕ)) → HasLines input left more → AreLines given (lines ++ more)
 
 -- there are some lines to come
 some_lines : (input : InputParts) (left : Option (List ℕ)) → (lines : List (List ℕ)) × HasLines input left lines
 some_lines input None = ([], tt)
 some_lines input (Some bytes) = (lines_of (drop input.next input.read ++ bytes), refl)
 
-are_first : (given : Option (List ℕ)) (lines more : List (List ℕ)) → IfSome given (λ bytes. lines_of bytes ≡ lines ++ more) → AreFirst lines given
-are_first None lines more is = tt
-are_first (Some bytes) lines more is = (more, is)
-
 ToCome-first : (given : Option (List ℕ)) (lines : List (List ℕ)) (input : InputParts) (left : Option (List ℕ)) → ToCome given lines input left → AreFirst lines given
 ToCome-first given lines input left to_come =
     let some = some_lines input left in
     are_first given lines some.0 (to_come some.0 some.1)
 
-line_more : (given : Option (List ℕ)) (lines : List (List ℕ)) (line : List ℕ) (more : List (List ℕ)) → IfSome given (λ bytes. lines_of bytes ≡ lines ++ line ∷ more) → IfSome given (λ bytes. lines_of bytes ≡ (lines ++ line ∷ []) ++ more)
-line_more None lines line more is = tt
-line_more (Some bytes) lines line more is = is ∙ sym (append_assoc lines (line ∷ []) more)
-
 -- one more line was read
 ToCome-line : (given : Option (List ℕ)) (lines : List (List ℕ)) (old new : InputParts) (left left' : Option (List ℕ)) → ToCome given lines old left → TakesLine old new left left' → ToCome given (lines ++ new.line ∷ []) new left'
-ToCome-line given lines old new left left' to_come takes = λ more has. line_more given lines new.line more (to_come (new.line ∷ more) (takes.first more has))
-
-none_more : (given : Option (List ℕ)) (lines : List (List ℕ)) → IfSome given (λ bytes. lines_of bytes ≡ lines ++ []) → IfSome given (λ bytes. lines_of bytes ≡ lines)
-none_more None lines is = tt
-none_more (Some bytes) lines is = is ∙ append-nil lines
+ToCome-line given lines old new left left' to_come takes = λ more has. subst (AreLines given) (sym (append_assoc lines (new.line ∷ []) more)) (to_come (new.line ∷ more) (takes.first more has))
 
 -- an input that is spent has no lines to come
 spent_has : (input : InputParts) (left : Option (List ℕ)) → IsSpent input left → HasLines input left []
@@ -63,7 +48,7 @@ spent_has input (Some ys) spent =
     ap lines_of both
 
 -- if these are all lines, there is no other
-no_further : (given : Option (List ℕ)) (lines : List (List ℕ)) (line : List ℕ) → IfSome given (λ bytes. lines_of bytes ≡ lines) → AreFirst (lines ++ line ∷ []) given → IfSome given (λ bytes. lines_of bytes ≡ lines ++ line ∷ [])
+no_further : (given : Option (List ℕ)) (lines : List (List ℕ)) (line : List ℕ) → AreLines given lines → AreFirst (lines ++ line ∷ []) given → AreLines given (lines ++ line ∷ [])
 no_further None lines line all first = tt
 no_further (Some bytes) lines line all first =
     let same : length lines ≡ length ((lines ++ line ∷ []) ++ first.0) = ap length (sym all ∙ first.1) in
@@ -102,11 +87,11 @@ module _ {F : Type 0} (trait : Ghosts F) (prompts : Bool) (now : ℕ) where
       (talked.0, talked.1, talked.2, talked.3, TalksOver-line (number + 1) lines next line talked.1 mid new asked talked.4 after_first prompted continues)
 
 -- the end of a line decides whether another may come, and the output
-pub HandlesNext-by : {F : Type 0} (trait : Ghosts F) (now number : ℕ) (line : List ℕ) (old new : Talk F) (ending : LineEnd) → HandlesLine trait now number line old new ending
-    → (goes failed : Bool) → goes ≡ goes_on ending → failed ≡ new.out.failed → HandlesNext trait now number line old new (goes && not failed)
-HandlesNext-by trait now number line old new ending handles true true goes is = record { ending = ending; handles = handles; why = inr (sym is) }
-HandlesNext-by trait now number line old new ending handles true false goes is = record { ending = ending; handles = handles; goes_on = sym goes; well = sym is }
-HandlesNext-by trait now number line old new ending handles false failed goes is = record { ending = ending; handles = handles; why = inl (sym goes) }
+pub HandlesNext-by : {F : Type 0} (trait : Ghosts F) (now number : ℕ) (line : List ℕ) (old new : Talk F) (handles : HandlesLine trait now number line old new)
+    → (goes failed : Bool) → goes ≡ goes_on handles.quits handles.end.ending → failed ≡ new.out.failed → HandlesNext trait now number line old new (goes && not failed)
+HandlesNext-by trait now number line old new handles true true goes is = record { handles = handles; why = inr (sym is) }
+HandlesNext-by trait now number line old new handles true false goes is = record { handles = handles; goes_on = sym goes; well = sym is }
+HandlesNext-by trait now number line old new handles false failed goes is = record { handles = handles; why = inl (sym goes) }
 
 -- lines were run, and the run goes on
 pub record Underway {F : Type 0} (trait : Ghosts F) (prompts : Bool) (now : ℕ) (given : Option (List ℕ)) (first : Talk F) (input : InputParts) (left : Option (List ℕ)) (number : ℕ) (talk : Talk F) : Type 0 where
@@ -117,7 +102,7 @@ pub record Underway {F : Type 0} (trait : Ghosts F) (prompts : Bool) (now : ℕ)
   pub consumes : Consumes given left input.read
   pub within : IsWithin input
   pub below : number ≤ input.next
-  pub ended : AreEnded lines input ⊎ IfSome given (λ bytes. lines_of bytes ≡ lines)
+  pub ended : AreEnded lines input ⊎ AreLines given lines
 
 -- nothing was read
 abbrev nothing : InputParts
@@ -173,14 +158,6 @@ module _ {F : Type 0} (trait : Ghosts F) (prompts : Bool) (now : ℕ) (given : O
         ];
       }
 
--- what a run has taken of its input
-taken : (given left left' : Option (List ℕ)) (old new : InputParts) → Consumes given left old.read → Grows old.read new.read left left' → IsWithin new → ConsumesAtMost given left' (most_bytes + 1)
-taken given left left' old new consumes grows within = record {
-  taken = new.read;
-  consumes = grown given left left' old.read new.read consumes grows;
-  bound = within.most;
-}
-
 -- of what was read each line that has its newline was run
 due_of : (lines : List (List ℕ)) (old new : InputParts) (left left' : Option (List ℕ)) → IsWithin old → Grows old.read new.read left left' → HasNoMore old new → AreEnded lines old → CutsOff lines (take most_bytes new.read)
 due_of lines old new left left' within grows no_more ended =
@@ -197,12 +174,12 @@ due_of lines old new left left' within grows no_more ended =
 module _ {F R W E : Type 0} (trait : Ghosts F) (prompts : Bool) (now : ℕ) (order : Order) (world : World F R W E) (last : Source) (old new : InputParts) (left : Option (List ℕ)) (number : ℕ) (talk : Talk F)
     (u : Underway trait prompts now world.input.left (first_talk order world.files world.out world.err) old left number talk) (grows : Grows old.read new.read left last.left) (within : IsWithin new) where
   runs : (end : Talk F) → EndsTalk trait now prompts world.input last u.lines talk end → (trait.is_honest world.files → TalksHonestly trait prompts now world.input.left (first_talk order world.files world.out world.err) end) → RunsKtutil trait order prompts now world (record { files = end.files; input = last; out = end.out; err = end.err }) end.status
-  runs end ends honest = record { lines = u.lines; last = talk; state = end.state; talked = u.talked; ends = ends; honest = honest; taken = taken world.input.left left last.left old new u.consumes grows within }
+  runs end ends honest = record { lines = u.lines; last = talk; state = end.state; talked = u.talked; ends = ends; honest = honest; taken = record { taken = new.read; consumes = grown world.input.left left last.left old.read new.read u.consumes grows; bound = within.most } }
 
   -- the input has ended
   pub RunsKtutil-after : (err' : ErrorWatch) → Prompts prompts (last_prompt talk.state.awaiting) talk.err err' → HasLines old left [] → last.failed ≡ world.input.failed → RunsKtutil trait order prompts now world (record { files = talk.files; input = last; out = talk.out; err = err' }) talk.status
   RunsKtutil-after err' prompted has well =
-      runs (record talk { err = err' }) (inl (record { all = none_more world.input.left u.lines (u.to_come [] has); well = well; prompted = prompted; same = refl }))
+      runs (record talk { err = err' }) (inl (record { all = subst (AreLines world.input.left) (append-nil u.lines) (u.to_come [] has); well = well; prompted = prompted; same = refl }))
       (honest_after trait prompts now world.input.left u.lines (first_talk order world.files world.out world.err) talk u.talked err' prompted (u.to_come [] has))
 
   -- a line was the last

@@ -1,3 +1,4 @@
+pub mod Cited
 pub mod NewlineLemmas
 pub mod InputLemmas
 pub mod WordLemmas

@@ -1,12 +1,12 @@
 -- Bytes that are split at newlines.
-use Rattle.std.proofs.Common.{◌≡◌, ℕ, ◌+◌, ◌-◌, ◌<◌, ◌≤◌, List, [], ◌∷◌, ◌++◌, length, take, drop, Option, Some, None, refl, sym, ap, subst, ◌∙◌, arith, length-append, append_assoc, append-nil, take-add, drop-drop}
-use Rattle.std.specs.Prelude.{slice_range}
+use Rattle.krb_ktutil.proofs.Cited.{◌≡◌, ℕ, ◌+◌, ◌-◌, ◌<◌, ◌≤◌, List, [], ◌∷◌, ◌++◌, length, take, drop, Option, Some, None, refl, sym, ap, subst, ◌∙◌, arith, length-append, append_assoc, append-nil, take-add, slice_range, lines_of, HasNone, Grows}
+use Rattle.std.proofs.Common.{drop-drop}
 use Rattle.std.specs.List.{slice_split}
 use Rattle.std.specs.Io.KnownBytes.{Keeps}
 use Rattle.std.proofs.lemmas.List.Splits.{length-slice_split}
 use Rattle.std.proofs.lemmas.List.{take-append-drop, take-take}
 use Rattle.std.proofs.lemmas.Grind.{common_steps}
-use Rattle.krb_ktutil.specs.InputLines.{is_newline, lines_of, last_line, without_empty_last, HasNone, IsFirst, Grows}
+use Rattle.krb_ktutil.specs.InputLines.{is_newline, last_line, without_empty_last, IsFirst}
 use Rattle.krb_files.proofs.Reading.{Consumes-trans}
 
 -- ---- bytes that grow
@@ -131,3 +131,6 @@ pub none-given : (old new given : List ℕ) → new ≡ old ++ given → length 
 none-given old new given e same =
     let none : length given ≡ 0 = (let sum = length-append old given in let whole = ap length e in omega (arith, same, sum, whole)) in
     e ∙ ap (λ (xs : List ℕ). old ++ xs) (length-zero given none) ∙ append-nil old
+
+-- what a read leaves of the search for a newline
+pub ruleset newlines = (IsFirst-earlier, HasNone-earlier, Grows-none, Grows-trans, none-given)

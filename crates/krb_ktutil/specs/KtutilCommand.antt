@@ -10,8 +10,6 @@ use Rattle.krb_text.specs.declared.line_fault.LineFault.TheVariants.{UnknownWord
 use Rattle.krb_ktutil.specs.declared.ktutil.verb.Verb.{Verb}
 use Rattle.krb_ktutil.specs.declared.ktutil.verb.Verb.TheVariants as verb
 use Rattle.krb_text.specs.Word.{number_word, etype_word, name_word}
-use Rattle.krb_driver.specs.declared.verdict.FileKind.TheVariants.{Keytab}
-use Rattle.krb_driver.specs.FileNames.{bare_name}
 use Rattle.krb_ktutil.specs.KtutilWords.{words}
 
 -- an entry whose key and time are still to come
@@ -202,20 +200,3 @@ command_in count (word ∷ words) = command_by count (verb_of word) words
 -- the command of a line, over `count` slots
 abbrev pub command_of : List ℕ → ℕ → Result Command LineFault
 command_of line count = command_in count (words line)
-
--- ---- the name that messages show
-
--- the file that a command names by a word: without the type of files that are read, unless it is to be written
-abbrev pub named_by : Option Verb → List ℕ → List ℕ
-named_by (Some verb.Write) word = word
-named_by verb word = bare_name Keytab word
-
--- the file that words may name: the second one
-abbrev pub named_among : List (List ℕ) → List ℕ
-named_among [] = []
-named_among (command ∷ []) = []
-named_among (command ∷ word ∷ others) = named_by (verb_of command) word
-
--- the file that a line may name
-abbrev pub named_in : List ℕ → List ℕ
-named_in line = named_among (words line)

@@ -7,14 +7,13 @@ use Rattle.krb_files.specs.Files.{FileMap, SameFiles, CountsFailure}
 use Rattle.krb_driver.specs.ErrorOutput.{ErrorWatch}
 use Rattle.krb_driver.specs.declared.reporting.details.Details.{Details}
 use Rattle.krb_ktutil.specs.declared.ktutil.awaiting.Awaiting.{Awaiting}
-use Rattle.krb_ktutil.specs.declared.ktutil.line_end.LineEnd.{LineEnd}
-use Rattle.krb_ktutil.specs.KtutilPlan.{KtutilState, is_of_save, plan_of}
+use Rattle.krb_driver.specs.Effects.{Effect, Fails, Displays, Saves, about, files_after, is_save}
+use Rattle.krb_ktutil.specs.KtutilPlan.{KtutilState, plan_of}
 use Rattle.krb_files.specs.Plan.{follow}
-use Rattle.krb_ktutil.specs.KtutilHonest.{line_outcome, line_files}
 use Rattle.krb_ktutil.specs.InputLines.{lines_of}
-use Rattle.krb_ktutil.specs.KtutilCommand.{Awaited, named_in}
+use Rattle.krb_ktutil.specs.KtutilCommand.{Awaited}
 use Rattle.krb_ktutil.specs.KtutilPrompts.{Prompts, prompt_of, last_prompt}
-use Rattle.krb_ktutil.specs.KtutilTalk.{Talk, line_run, goes_on, AreFirst}
+use Rattle.krb_ktutil.specs.KtutilTalk.{Talk, goes_on, AreFirst}
 use Rattle.krb_driver.specs.Runs.{Run, Reports, ends_by}
 use Rattle.krb_driver.specs.declared.verdict.Verdict.TheVariants.{Well}
 use Rattle.krb_driver.specs.RunErrors.{Ending, input_error}
@@ -54,21 +53,26 @@ final_prompt awaiting (Err error) = prompt_of awaiting
 abbrev pub final_report : Awaiting Awaited → Run → DueReport
 final_report awaiting run = report_of (final_prompt awaiting run.ending) [] None false run
 
--- the report of a line's run after its prompt
-abbrev pub line_report : Awaiting Awaited → ℕ → List ℕ → LineEnd → Run → DueReport
-line_report awaiting number line ending run = report_of (prompt_of awaiting) (named_in line) (Some number) (is_of_save ending) run
+-- what an effect prints, and how it ends, if no call fails
+abbrev pub run_of : Effect → Run
+run_of (Fails file why) = ends_by why
+run_of (Displays file page) = record { out = page.out; ending = Ok page.verdict }
+run_of (Saves file bytes out verdict) = record { out = out; ending = Ok verdict }
+
+-- the report of a line's effect after its prompt
+abbrev pub line_report : Awaiting Awaited → ℕ → Effect → DueReport
+line_report awaiting number effect = report_of (prompt_of awaiting) (about effect) (Some number) (is_save effect) (run_of effect)
 
 -- what is due after lines, run in order from that number up to one that is the last; `final` is due after all of them
 abbrev pub talk_due : Run → ℕ → ℕ → List (List ℕ) → KtutilState → FileMap → TalkDue
 talk_due final now number [] state files = last_due final.out (final_report state.awaiting final) files
 talk_due final now number (line ∷ lines) state files =
-    let effect = follow files (plan_of state now line) in
-    let due = line_outcome state effect in
-    let run = line_run number line due.ending due.text in
-    let report = line_report state.awaiting number line due.ending run in
-    if goes_on due.ending
-    then due_after run.out report (talk_due final now (number + 1) lines due.state (line_files files effect))
-    else last_due run.out report (line_files files effect)
+    let came = follow files (plan_of state now number line) in
+    let run = run_of came.effect in
+    let report = line_report state.awaiting number came.effect in
+    if goes_on came.quits run.ending
+    then due_after run.out report (talk_due final now (number + 1) lines came.state (files_after files came.effect))
+    else last_due run.out report (files_after files came.effect)
 
 -- an ending was reported, with that status, its message whole unless the writer has failed; only a line that ended with its save tells what that left behind
 pub record ReportsDue (due : DueReport) (old new : ErrorWatch) (status : ℕ) : Type 0 where

@@ -8,27 +8,26 @@ use Rattle.krb_keytab.specs.Entry.{EntryParts}
 use Rattle.krb_keytab.specs.Store.{KeytabState, image_of, store_of, entries}
 use Rattle.krb_keytab.specs.Find.{PlacedEntry, placed_entries}
 use Rattle.krb_keytab.specs.Changes.{put_result}
-use Rattle.krb_files.specs.declared.files.LoadFault.TheVariants as load
-use Rattle.krb_files.specs.declared.files.SaveFault.{SaveFault}
-use Rattle.krb_files.specs.declared.files.SaveFault.TheVariants as save
 use Rattle.krb_files.specs.Plan.{Plan, Ends, Holds, Loads, Faults}
 use Rattle.krb_text.specs.declared.line_fault.LineFault.{LineFault}
 use Rattle.krb_text.specs.declared.line_fault.LineFault.TheVariants.{BadKey}
 use Rattle.krb_ktutil.specs.declared.ktutil.awaiting.Awaiting.{Awaiting}
 use Rattle.krb_ktutil.specs.declared.ktutil.awaiting.Awaiting.TheVariants.{Nothing, Key, Password}
-use Rattle.krb_ktutil.specs.declared.ktutil.line_end.LineEnd.{LineEnd}
-use Rattle.krb_ktutil.specs.declared.ktutil.line_end.LineEnd.TheVariants as end
-use Rattle.krb_ktutil.specs.declared.ktutil.save_note.SaveNote.{SaveNote}
-use Rattle.krb_ktutil.specs.declared.ktutil.save_note.SaveNote.TheVariants as note
+use Rattle.krb_driver.specs.declared.error.RunError.{RunError}
+use Rattle.krb_driver.specs.declared.error.RunError.TheVariants as error
+use Rattle.krb_driver.specs.declared.file_name.NameSource.TheVariants.{Word}
 use Rattle.krb_driver.specs.declared.loading.NoKeytab.{NoKeytab}
-use Rattle.krb_driver.specs.declared.loading.NoKeytab.TheVariants.{Load, Open}
-use Rattle.krb_driver.specs.Loading.{keytab_of, keytab_or_new, result_map}
-use Rattle.krb_driver.specs.declared.reporting.details.Details.{Details}
 use Rattle.krb_driver.specs.declared.verdict.FileKind.TheVariants.{Keytab}
+use Rattle.krb_driver.specs.declared.verdict.Verdict.{Verdict}
+use Rattle.krb_driver.specs.declared.verdict.Verdict.TheVariants.{Well, HiddenFrom, NoEntry}
+use Rattle.krb_driver.specs.Effects.{Effect, Fails, Displays, Saves, text}
 use Rattle.krb_driver.specs.FileNames.{bare_name, has_type, is_other_type}
+use Rattle.krb_driver.specs.Loading.{keytab_of, keytab_or_new, result_map}
+use Rattle.krb_driver.specs.RunErrors.{no_keytab_error}
 use Rattle.krb_audit.specs.Findings.{hides_added}
 use Rattle.krb_text.specs.Slots.{slot_text}
 use Rattle.krb_text.specs.Word.{key_word}
+use Rattle.krb_ktutil.specs.FaultyLines.{fault_error}
 use Rattle.krb_ktutil.specs.KtutilWords.{is_word, trimmed, words}
 use Rattle.krb_ktutil.specs.KtutilCommand.{Awaited, Command, Skip, ListSlots, ReadFile, WriteFile, AwaitKey, DeleteSlot, ClearList, Quit, asks_for_password, command_of}
 
@@ -48,72 +47,44 @@ abbrev pub awaited_entry : {K : Type 0} → Awaiting K → Option K
 awaited_entry (Key x) = Some x
 awaited_entry awaiting = None
 
--- the outcome of a line: the state after it, the text that it prints, and how it ends
-pub record Outcome : Type 0 where
+-- what a line comes to: the list after it, its effect, whether no line comes after it, and whether it takes memory
+pub record Came : Type 0 where
   pub state : KtutilState
-  pub text : List ℕ
-  pub ending : LineEnd
-
--- the effect of a line: an outcome, and whether it takes memory; or bytes to save under a name, where the state stays, and what is told of their keytab
-pub data LineEffect : Type 0 where
-  ComesTo : Bool → Outcome → LineEffect
-  Saves : List ℕ → List ℕ → SaveNote → LineEffect
+  pub effect : Effect
+  pub quits : Bool
+  pub takes : Bool
 
 -- all that a line does
 abbrev pub LinePlan : Type 0
-LinePlan = Plan LineEffect
+LinePlan = Plan Came
 
--- the line ends so and prints nothing, and `s` is the state
-abbrev pub kept : KtutilState → LineEnd → Outcome
-kept s ending = record { state = s; text = []; ending = ending }
+-- the line prints a text, and `s` is the list
+abbrev pub prints : KtutilState → List ℕ → Came
+prints s out = record { state = s; effect = Displays [] (text out Well); quits = false; takes = false }
 
--- the line ends so, takes no memory, and `s` is the state
-abbrev pub stays : KtutilState → LineEnd → LineEffect
-stays s ending = ComesTo false (kept s ending)
-
--- the line is done, and `s` is the state
-abbrev pub becomes : KtutilState → LineEffect
-becomes s = stays s end.Done
+-- the line prints nothing
+abbrev pub becomes : KtutilState → Came
+becomes s = prints s []
 
 -- the same for a line that takes memory
-abbrev pub grows_to : KtutilState → LineEffect
-grows_to s = ComesTo true (kept s end.Done)
+abbrev pub grows_to : KtutilState → Came
+grows_to s = record (becomes s) { takes = true }
 
--- how a line ends if its file is not read, or if memory runs out
-abbrev pub line_faults : KtutilState → Faults LineEffect
-line_faults s = record { unread = λ name. stays s (end.Load load.Failed); spent = λ name. stays s end.NoMemory }
+-- the line ends with an error, and `s` is the list
+abbrev pub fails : KtutilState → List ℕ → RunError → Came
+fails s file why = record { state = s; effect = Fails file why; quits = false; takes = false }
+
+-- what a line comes to if its file is not read, or if memory runs out
+abbrev pub line_faults : KtutilState → Faults Came
+line_faults s = record { unread = λ name. fails s name error.FileNotRead; spent = λ name. fails s name error.NoMemory }
 
 -- ---- files
 
--- how a line ends if its file gave no keytab
-abbrev pub no_keytab_end : NoKeytab → LineEnd
-no_keytab_end (Load load.Missing) = end.Load load.Missing
-no_keytab_end (Load load.TooLarge) = end.Load load.TooLarge
-no_keytab_end (Load load.Failed) = end.Load load.Failed
-no_keytab_end (Load load.NoMemory) = end.NoMemory
-no_keytab_end (Open why) = end.NotAKeytab why
-
--- how a line ends after the save of its file: nothing is told of a keytab whose save failed
-abbrev pub save_end : SaveNote → Result (Unit {0}) SaveFault → LineEnd
-save_end told (Ok done) = end.Saved told
-save_end told (Err save.Failed) = end.Save save.Failed
-save_end told (Err save.NoMemory) = end.NoMemory
-
--- a line ends with its save, done or failed
-abbrev pub is_of_save : LineEnd → Bool
-is_of_save (end.Saved told) = true
-is_of_save (end.Save fault) = true
-is_of_save ending = false
-
--- what is told of a line that ended so: what a save left behind only if that was the line's own
-abbrev pub told_by : LineEnd → Details → Details
-told_by ending details = record details { aftermath = if is_of_save ending then details.aftermath else None }
-
 -- the entries of a keytab are appended to the list; a damaged one is refused
-abbrev pub with_entries : KtutilState → Result KeytabState NoKeytab → LineEffect
-with_entries s (Err why) = stays s (no_keytab_end why)
-with_entries s (Ok k) =
-    if is_some (fault_of (store_of k)) then stays s (end.Refused code.Damaged)
+abbrev pub with_entries : KtutilState → ℕ → List ℕ → Result KeytabState NoKeytab → Came
+with_entries s number name (Err why) = fails s name (no_keytab_error why)
+with_entries s number name (Ok k) =
+    if is_some (fault_of (store_of k)) then fails s name (error.LineRefused number code.Damaged)
     else grows_to (record s { entries = s.entries ++ entries k })
 
 -- a keytab, and the places at which entries were added to it
@@ -121,15 +92,15 @@ pub record Added : Type 0 where
   pub keytab : KeytabState
   pub places : List ℕ
 
--- what is told of a keytab with these entries, some of which MIT's programs do not see
-abbrev pub note_by : List PlacedEntry → Option ℕ → SaveNote
-note_by [] hidden = note.NoEntry
-note_by (entry ∷ others) None = note.Plain
-note_by (entry ∷ others) (Some place) = note.HiddenFrom place
+-- the verdict of the save of a keytab with these entries, some of which MIT's programs do not see
+abbrev pub verdict_by : List PlacedEntry → Option ℕ → Verdict
+verdict_by [] hidden = NoEntry
+verdict_by (entry ∷ others) None = Well
+verdict_by (entry ∷ others) (Some place) = HiddenFrom place
 
--- what is told of a keytab to which entries were added: that it has no entry, or from where on MIT's programs see none, if one that was added is among those
-abbrev pub note_of : Added → SaveNote
-note_of x = note_by (placed_entries x.keytab) (hides_added x.keytab x.places)
+-- that of a keytab to which entries were added: it has no entry, or from some place on MIT's programs see none, if one that was added is among those
+abbrev pub saved_verdict : Added → Verdict
+saved_verdict x = verdict_by (placed_entries x.keytab) (hides_added x.keytab x.places)
 
 -- a keytab before the first addition
 abbrev pub none_added : KeytabState → Added
@@ -146,14 +117,14 @@ with_added (e ∷ es) (Ok x) = with_added es (result_map (more_added x) (put_res
 with_added (e ∷ es) (Err refused) = Err refused
 
 -- the keytab is saved under the name, or the line ends with the refusal
-abbrev pub saved_as : KtutilState → List ℕ → Result Added Code → LineEffect
-saved_as s name (Ok x) = Saves name (image_of x.keytab) (note_of x)
-saved_as s name (Err refused) = stays s (end.Refused refused)
+abbrev pub saved_as : KtutilState → ℕ → List ℕ → Result Added Code → Came
+saved_as s number name (Ok x) = record { state = s; effect = Saves name (image_of x.keytab) [] (saved_verdict x); quits = false; takes = true }
+saved_as s number name (Err refused) = fails s name (error.LineRefused number refused)
 
 -- the entries of the list are added to a keytab, and the keytab is saved
-abbrev pub written_to : KtutilState → List ℕ → Result KeytabState NoKeytab → LineEffect
-written_to s name (Ok k) = saved_as s name (with_added s.entries (Ok (none_added k)))
-written_to s name (Err why) = stays s (no_keytab_end why)
+abbrev pub written_to : KtutilState → ℕ → List ℕ → Result KeytabState NoKeytab → Came
+written_to s number name (Ok k) = saved_as s number name (with_added s.entries (Ok (none_added k)))
+written_to s number name (Err why) = fails s name (no_keytab_error why)
 
 -- ---- a key
 
@@ -166,50 +137,54 @@ abbrev pub entry_of : Awaited → ℕ → List ℕ → EntryParts
 entry_of x now key = record { principal = x.principal; timestamp = now; version = x.version; enctype = x.enctype; key = key }
 
 -- the entry is appended to the list; after a faulty key it is dropped
-abbrev pub with_key : KtutilState → Awaited → ℕ → Result (List ℕ) LineFault → LineEffect
-with_key s x now (Ok key) = grows_to (record s { entries = s.entries ++ entry_of x now key ∷ []; awaiting = Nothing })
-with_key s x now (Err fault) = stays (record s { awaiting = Nothing }) (end.Fault fault)
+abbrev pub with_key : KtutilState → ℕ → List (List ℕ) → Awaited → ℕ → Result (List ℕ) LineFault → Came
+with_key s number line x now (Ok key) = grows_to (record s { entries = s.entries ++ entry_of x now key ∷ []; awaiting = Nothing })
+with_key s number line x now (Err fault) = fails (record s { awaiting = Nothing }) [] (fault_error number line fault)
 
 -- ---- a line
 
 -- the entries of a file are appended to the list
-abbrev pub reading_plan : KtutilState → List ℕ → LinePlan
-reading_plan s name = Loads name (λ answer. Ends (with_entries s (keytab_of s.order answer)))
+abbrev pub reading_plan : KtutilState → ℕ → List ℕ → LinePlan
+reading_plan s number name = Loads name (λ answer. Ends (with_entries s number name (keytab_of s.order answer)))
 
 -- the list is added to the keytab of a file
-abbrev pub writing_plan : KtutilState → List ℕ → LinePlan
-writing_plan s name = Loads name (λ answer. Ends (written_to s name (keytab_or_new s.order answer)))
+abbrev pub writing_plan : KtutilState → ℕ → List ℕ → LinePlan
+writing_plan s number name = Loads name (λ answer. Ends (written_to s number name (keytab_or_new s.order answer)))
 
 -- the state after a faulty line: a password is awaited if the line asks for one
 abbrev pub after_fault : Bool → KtutilState → KtutilState
 after_fault true s = record s { awaiting = Password }
 after_fault false s = s
 
--- the plan of a command, or of a faulty line, which may ask for a password: only a file is read, named with its type or without it, and nothing is written under a name that begins with a type
-abbrev pub command_plan : KtutilState → Bool → Result Command LineFault → LinePlan
-command_plan s asks (Err fault) = Ends (stays (after_fault asks s) (end.Fault fault))
-command_plan s asks (Ok Skip) = Ends (becomes s)
-command_plan s asks (Ok (ListSlots columns)) = Ends (ComesTo true (record { state = s; text = slot_text columns s.entries; ending = end.Done }))
-command_plan s asks (Ok (ReadFile word)) =
-    if is_other_type Keytab word then Ends (stays s end.OtherType) else reading_plan s (bare_name Keytab word)
-command_plan s asks (Ok (WriteFile word)) =
-    if has_type word then Ends (stays s end.TypedName) else Holds true word (writing_plan s word)
-command_plan s asks (Ok (AwaitKey awaited)) = Ends (grows_to (record s { awaiting = Key awaited }))
-command_plan s asks (Ok (DeleteSlot slot)) = Ends (becomes (record s { entries = remove s.entries (slot - 1) }))
-command_plan s asks (Ok ClearList) = Ends (becomes (record s { entries = [] }))
-command_plan s asks (Ok Quit) = Ends (stays s end.Quit)
+-- the plan of a command on a line of that number: only a file is read, named with its type or without it, and nothing is written under a name that begins with a type
+abbrev pub command_plan : KtutilState → ℕ → Command → LinePlan
+command_plan s number Skip = Ends (becomes s)
+command_plan s number (ListSlots columns) = Ends (record (prints s (slot_text columns s.entries)) { takes = true })
+command_plan s number (ReadFile word) =
+    if is_other_type Keytab word then Ends (fails s (bare_name Keytab word) (error.OtherType Word)) else reading_plan s number (bare_name Keytab word)
+command_plan s number (WriteFile word) =
+    if has_type word then Ends (fails s word error.TypedName) else Holds true word (writing_plan s number word)
+command_plan s number (AwaitKey awaited) = Ends (grows_to (record s { awaiting = Key awaited }))
+command_plan s number (DeleteSlot slot) = Ends (becomes (record s { entries = remove s.entries (slot - 1) }))
+command_plan s number ClearList = Ends (becomes (record s { entries = [] }))
+command_plan s number Quit = Ends (record (becomes s) { quits = true })
+
+-- the same of a line with these words, or what its fault comes to
+abbrev pub words_plan : KtutilState → ℕ → List (List ℕ) → Result Command LineFault → LinePlan
+words_plan s number line (Ok command) = command_plan s number command
+words_plan s number line (Err fault) = Ends (fails (after_fault (asks_for_password line) s) [] (fault_error number line fault))
 
 -- if a key or a password is awaited, the line is that, whatever it is; a password is passed over
-abbrev pub plan_by : KtutilState → ℕ → List ℕ → Awaiting Awaited → LinePlan
-plan_by s now line Nothing = command_plan s (asks_for_password (words line)) (command_of line (length s.entries))
-plan_by s now line (Key x) = Ends (with_key s x now (key_line x.enctype line))
-plan_by s now line Password = Ends (becomes (record s { awaiting = Nothing }))
+abbrev pub plan_by : KtutilState → ℕ → ℕ → List ℕ → Awaiting Awaited → LinePlan
+plan_by s now number line Nothing = words_plan s number (words line) (command_of line (length s.entries))
+plan_by s now number line (Key x) = Ends (with_key s number (words line) x now (key_line x.enctype line))
+plan_by s now number line Password = Ends (becomes (record s { awaiting = Nothing }))
 
--- the plan of a line
-abbrev pub plan_of : KtutilState → ℕ → List ℕ → LinePlan
-plan_of s now line = plan_by s now line s.awaiting
+-- the plan of a line of that number
+abbrev pub plan_of : KtutilState → ℕ → ℕ → List ℕ → LinePlan
+plan_of s now number line = plan_by s now number line s.awaiting
 
 -- a plan takes memory; a file call may take some
 abbrev pub takes_memory : LinePlan → Bool
-takes_memory (Ends (ComesTo takes due)) = takes
+takes_memory (Ends came) = came.takes
 takes_memory plan = true

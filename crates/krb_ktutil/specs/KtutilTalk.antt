@@ -1,63 +1,30 @@
 -- A run of ktutil, line by line.
-use Rattle.std.specs.Prelude.{◌≡◌, ◌≢◌, ◌⊎◌, ◌||◌, ℕ, ◌+◌, ◌<◌, max, take, Bool, true, false, IsTrue, IsFalse, List, [], ◌∷◌, ◌++◌, if◌then◌else◌, length, Option, None, Some, IfSome, Ok, Err}
+use Rattle.std.specs.Prelude.{◌≡◌, ◌≢◌, ◌⊎◌, ◌||◌, ◌&&◌, not, ℕ, ◌+◌, ◌<◌, max, take, Bool, IsTrue, IsFalse, List, [], ◌∷◌, ◌++◌, length, Option, Some, None, IfSome, Err}
 use Rattle.krb_wire.specs.declared.format.Order.{Order}
 use Rattle.krb_files.specs.declared.files.Files.{Ghosts}
 use Rattle.krb_files.specs.declared.files.LoadFault.{LoadFault}
 use Rattle.krb_files.specs.declared.files.LoadFault.TheVariants.{Missing, TooLarge}
 use Rattle.std.specs.Io.KnownBytes.{Consumes}
 use Rattle.krb_files.specs.Bytes.{Watch}
+use Rattle.krb_files.specs.Plan.{follow}
 use Rattle.krb_files.specs.Reader.{Source, is_failed}
 use Rattle.krb_ktutil.specs.declared.ktutil.awaiting.Awaiting.TheVariants.{Nothing}
-use Rattle.krb_ktutil.specs.declared.ktutil.save_note.SaveNote.{SaveNote}
-use Rattle.krb_ktutil.specs.declared.ktutil.save_note.SaveNote.TheVariants as note
-use Rattle.krb_ktutil.specs.declared.ktutil.line_end.LineEnd.{LineEnd}
-use Rattle.krb_ktutil.specs.declared.ktutil.line_end.LineEnd.TheVariants as end
-use Rattle.krb_driver.specs.declared.file_name.NameSource.TheVariants.{Word}
+use Rattle.krb_driver.specs.declared.command.RunEnd.{RunEnd}
 use Rattle.krb_driver.specs.declared.reporting.details.Details.{Details}
-use Rattle.krb_driver.specs.declared.verdict.Verdict.{Verdict}
-use Rattle.krb_driver.specs.declared.verdict.Verdict.TheVariants as verdict
-use Rattle.krb_driver.specs.declared.error.RunError.TheVariants as error
+use Rattle.krb_driver.specs.Commands.{Finishes, Keeps}
+use Rattle.krb_driver.specs.Effects.{Effect}
 use Rattle.krb_driver.specs.ErrorOutput.{ErrorWatch}
-use Rattle.krb_ktutil.specs.KtutilCommand.{named_in}
-use Rattle.krb_ktutil.specs.FaultyLines.{fault_error}
-use Rattle.krb_ktutil.specs.KtutilWords.{words}
-use Rattle.krb_ktutil.specs.KtutilPlan.{KtutilState, is_of_save, plan_of}
-use Rattle.krb_ktutil.specs.KtutilFiles.{Handles}
+use Rattle.krb_ktutil.specs.KtutilPlan.{KtutilState, plan_of}
+use Rattle.krb_ktutil.specs.KtutilFiles.{MakesLine, Spares}
 use Rattle.krb_ktutil.specs.KtutilPrompts.{Prompts, prompt_of, last_prompt}
 use Rattle.krb_ktutil.specs.InputLines.{CutsOff, lines_of}
 use Rattle.krb_files.specs.Loading.{most_bytes}
-use Rattle.krb_driver.specs.Runs.{Run, ReportsEnd, EndsRun}
-use Rattle.krb_driver.specs.RunErrors.{Ending, input_error, load_error, save_error, error_status}
+use Rattle.krb_driver.specs.Runs.{ReportsEnd}
+use Rattle.krb_driver.specs.RunErrors.{Ending, error_status, input_error, is_spent}
 
--- the verdict of a save of which that is told
-abbrev pub saved_verdict : SaveNote → Verdict
-saved_verdict note.Plain = verdict.Well
-saved_verdict (note.HiddenFrom place) = verdict.HiddenFrom place
-saved_verdict note.NoEntry = verdict.NoEntry
-
--- the ending of a line, which has that number
-abbrev pub ending_of : ℕ → List ℕ → LineEnd → Ending
-ending_of number line end.Done = Ok verdict.Well
-ending_of number line (end.Saved told) = Ok (saved_verdict told)
-ending_of number line end.Quit = Ok verdict.Well
-ending_of number line (end.Fault fault) = Err (fault_error number (words line) fault)
-ending_of number line (end.Refused code) = Err (error.LineRefused number code)
-ending_of number line (end.NotAKeytab why) = Err (error.NotAKeytab why)
-ending_of number line end.OtherType = Err (error.OtherType Word)
-ending_of number line end.TypedName = Err error.TypedName
-ending_of number line (end.Load fault) = Err (load_error fault)
-ending_of number line (end.Save fault) = Err (save_error fault)
-ending_of number line end.NoMemory = Err error.NoMemory
-
--- what a line prints, and its ending
-abbrev pub line_run : ℕ → List ℕ → LineEnd → List ℕ → Run
-line_run number line ending text = record { out = text; ending = ending_of number line ending }
-
--- another line may come after one that ended so
-abbrev pub goes_on : LineEnd → Bool
-goes_on end.Quit = false
-goes_on end.NoMemory = false
-goes_on ending = true
+-- another line may come after one that ended so: it does not quit, and memory did not run out
+abbrev pub goes_on : Bool → Ending → Bool
+goes_on quits ending = not quits && not (is_spent ending)
 
 -- a run between two lines: the files, the list of entries and what is awaited, the outputs, and the worst status so far
 pub record Talk (F : Type 0) : Type 0 where
@@ -82,27 +49,29 @@ abbrev pub AreFirst : List (List ℕ) → Option (List ℕ) → Type 0
 AreFirst lines given = IfSome given (λ bytes. (more : List (List ℕ)) × (lines_of bytes ≡ lines ++ more))
 
 module _ {F : Type 0} (trait : Ghosts F) (now : ℕ) where
-  -- a line was run by its plan: its text was printed, its end was reported, and the worst status was kept; only the line of a save tells what that left behind
-  pub record HandlesLine (number : ℕ) (line : List ℕ) (old new : Talk F) (ending : LineEnd) : Type 0 where
-    pub text : List ℕ
-    pub status : ℕ
-    pub handled : Handles trait (plan_of old.state now line) old.files new.files old.state new.state [] text ending
-    pub ends : EndsRun (named_in line) (Some number) (line_run number line ending text) old.out new.out old.err new.err status
-    pub told : ends.details.aftermath ≡ (if is_of_save ending then trait.aftermath new.files else None)
-    pub worst : new.status ≡ max old.status status
+  -- a line was made by its plan, what it came to was done and reported, and the worst status was kept
+  pub record HandlesLine (number : ℕ) (line : List ℕ) (old new : Talk F) : Type 0 where
+    pub effect : Effect
+    pub quits : Bool
+    pub made : F
+    pub makes : MakesLine trait (plan_of old.state now number line) old.files made old.state new.state effect quits
+    pub spares : Spares old.state new.state effect
+    pub end : RunEnd
+    pub finishes : Finishes trait (Some number) effect made new.files old.out new.out old.err new.err end
+    pub worst : new.status ≡ max old.status end.status
+    -- over honest files
+    pub honest : trait.is_honest old.files → Keeps trait (follow (trait.file old.files) (plan_of old.state now number line)).effect old.files new.files finishes.left
 
   -- a line was run, and the next one may come
   pub record Continues (number : ℕ) (line : List ℕ) (old new : Talk F) : Type 0 where
-    pub ending : LineEnd
-    pub handles : HandlesLine number line old new ending
-    pub goes_on : IsTrue (goes_on ending)
+    pub handles : HandlesLine number line old new
+    pub goes_on : IsTrue (goes_on handles.quits handles.end.ending)
     pub well : IsFalse new.out.failed
 
   -- a line was run, and none comes after it: it quits, or memory ran out, or the output failed
   pub record Stops (number : ℕ) (line : List ℕ) (old new : Talk F) : Type 0 where
-    pub ending : LineEnd
-    pub handles : HandlesLine number line old new ending
-    pub why : IsFalse (goes_on ending) ⊎ IsTrue new.out.failed
+    pub handles : HandlesLine number line old new
+    pub why : IsFalse (goes_on handles.quits handles.end.ending) ⊎ IsTrue new.out.failed
 
   module _ (prompts : Bool) where
     -- lines were run one after the other, each after its prompt, the first of them with that number

@@ -2,10 +2,9 @@
 pub mod InputLines
 pub mod KtutilWords
 pub mod KtutilCommand
+pub mod FaultyLines
 pub mod KtutilPlan
 pub mod KtutilFiles
-pub mod KtutilHonest
-pub mod FaultyLines
 pub mod KtutilPrompts
 pub mod KtutilTalk
 pub mod KtutilDue

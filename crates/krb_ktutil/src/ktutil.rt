@@ -2,7 +2,7 @@
 
 ghost use Rattle.std.specs.Prelude.{◌≡◌, ◌&&◌, [], not};
 ghost use Rattle.krb_ktutil.specs.Ktutil.{HandlesNext, RunsKtutil};
-ghost use Rattle.krb_ktutil.specs.KtutilTalk.{ending_of, goes_on, saved_verdict};
+ghost use Rattle.krb_ktutil.specs.KtutilTalk.{goes_on};
 ghost use Rattle.krb_ktutil.specs.declared.ktutil.awaiting.Awaiting.TheVariants.{Nothing};
 
 mod addition;
@@ -11,28 +11,22 @@ mod command;
 mod entries;
 mod faulty_lines;
 mod key;
-mod line_end;
-mod named;
+mod line;
 mod options;
 mod prompts;
-mod save_note;
 mod state;
 mod verb;
 mod words;
 
 use crate::input_lines::InputLines;
-use crate::ktutil::faulty_lines::fault_error;
 use crate::ktutil::prompts::show_prompt;
 use krb_driver::{
-    CommandName, CommandWords, Details, ErrorOutput, IN_PLACE, NameSource, RunError, V1_BIG,
-    Verdict, World, details_of, report, show,
+    CommandName, CommandWords, Details, IN_PLACE, RunError, V1_BIG, Verdict, World, finish,
+    is_spent, report,
 };
-use krb_files::{Files, Watched};
+use krb_files::Files;
 use krb_wire::Order;
-pub use line_end::LineEnd;
-use line_end::details_to_tell;
-pub use named::file_word;
-pub use save_note::SaveNote;
+pub use line::Line;
 pub use state::Ktutil;
 use std::alloc::Allocator;
 use std::io::{Read, Write};
@@ -69,49 +63,19 @@ Example: add the keys of one keytab to another
 /// The state of a run of ktutil between two lines.
 #[derive(Drop)]
 struct Talk<A: Allocator> {
+    alloc: A,
     ktutil: Ktutil<A>,
     /// The time of new entries.
     now: u32,
-    /// A buffer for the text that a line prints.
-    text: Vec<u8, A>,
     /// The worst status so far.
     status: u8,
 }
 
-// Returns whether another line may come after one that ended so: not after `Quit`, `NoMemory` or a failed output.
-fn goes_on(ending: LineEnd, has_out_failed: bool) -> bool
-    ensures { result ≡ (goes_on ending && not has_out_failed) }
+// Returns whether another line may come after one that ended so: not if it quits, memory ran out or the output failed.
+fn goes_on(quits: bool, ending: Result<Verdict, RunError>, has_out_failed: bool) -> bool
+    ensures { result ≡ (goes_on quits ending && not has_out_failed) }
 {
-    !matches!(ending, LineEnd::Quit | LineEnd::NoMemory) && !has_out_failed
-}
-
-// Returns the verdict of a save of which that is told.
-fn saved_verdict(note: SaveNote) -> Verdict
-    ensures { result ≡ saved_verdict note }
-{
-    match note {
-        SaveNote::Plain => Verdict::Well,
-        SaveNote::HiddenFrom(place) => Verdict::HiddenFrom(place),
-        SaveNote::NoEntry => Verdict::NoEntry,
-    }
-}
-
-// Returns the ending of a line, which has that number.
-fn ending_of(number: u64, line: &[u8], ending: LineEnd) -> Result<Verdict, RunError>
-    ensures { result ≡ ending_of number line.now ending }
-{
-    match ending {
-        LineEnd::Done | LineEnd::Quit => Ok(Verdict::Well),
-        LineEnd::Saved(note) => Ok(saved_verdict(note)),
-        LineEnd::Fault(fault) => Err(fault_error(number, line, fault)),
-        LineEnd::Refused(code) => Err(RunError::LineRefused { line: number, code }),
-        LineEnd::NotAKeytab(why) => Err(RunError::NotAKeytab(why)),
-        LineEnd::OtherType => Err(RunError::OtherType(NameSource::Word)),
-        LineEnd::TypedName => Err(RunError::TypedName),
-        LineEnd::Load(fault) => Err(RunError::from(fault)),
-        LineEnd::Save(fault) => Err(RunError::from(fault)),
-        LineEnd::NoMemory => Err(RunError::NoMemory),
-    }
+    !quits && !is_spent(&ending) && !has_out_failed
 }
 
 impl<A: Allocator + Copy> Talk<A> {
@@ -121,35 +85,31 @@ impl<A: Allocator + Copy> Talk<A> {
         ensures status { result.status ≡ 0 }
     {
         Talk {
+            alloc,
             ktutil: Ktutil::new(alloc, v1_order),
             now,
-            text: Vec::new(alloc),
             status: 0,
         }
     }
 
     // Runs a line, prints its text, reports its end, and returns whether another line may come.
-    fn handle<F: Files, W: Write, E: Write>(
+    fn handle<F: Files, R: Read, W: Write, E: Write>(
         &mut self,
         number: u64,
         line: &[u8],
-        files: &mut F,
-        out: &mut Watched<W>,
-        err: &mut ErrorOutput<E>,
+        world: &mut World<F, R, W, E>,
     ) -> bool
         ensures next { HandlesNext F.Files self.old.now number line.now
-            (record { files = files.old; state = self.old.ktutil; out = out.old; err = err.old; status = self.old.status })
-            (record { files = files.new; state = self.new.ktutil; out = out.new; err = err.new; status = self.new.status })
+            (record { files = world.old.files; state = self.old.ktutil; out = world.old.out; err = world.old.err; status = self.old.status })
+            (record { files = world.new.files; state = self.new.ktutil; out = world.new.out; err = world.new.err; status = self.new.status })
             result }
+        ensures input { world.new.input ≡ world.old.input }
         ensures now { self.new.now ≡ self.old.now }
     {
-        self.text.clear();
-        let ending = self.ktutil.line(files, line, self.now, &mut self.text);
-        let shown = show(&self.text, ending_of(number, line, ending), out);
-        let details = details_to_tell(ending, details_of(&shown, files, out));
-        let status = report(shown, file_word(line), Some(number), details, err);
-        self.status = self.status.max(status);
-        goes_on(ending, out.has_failed())
+        let Line { file, made, quits } = self.ktutil.line(&mut world.files, self.now, number, line);
+        let end = finish(self.alloc, file, Some(number), made, world);
+        self.status = self.status.max(end.status);
+        goes_on(quits, end.ending, world.out.has_failed())
     }
 }
 
@@ -166,36 +126,26 @@ pub fn run_ktutil<A: Allocator + Copy, F: Files, R: Read, W: Write, E: Write>(
 ) -> u8
     ensures { RunsKtutil F.Files v1_order prompts now world.old world.new result }
 {
-    let World {
-        files,
-        input,
-        out,
-        err,
-    } = world;
     let mut lines = InputLines::new(alloc);
     let mut talk = Talk::new(alloc, v1_order, now);
     let mut number = 0u64;
     'lines: loop {
-        show_prompt(prompts, talk.ktutil.prompt(), err);
-        match lines.read_line(input) {
+        show_prompt(prompts, talk.ktutil.prompt(), &mut world.err);
+        match lines.read_line(&mut world.input) {
             Ok(true) => {}
             Ok(false) => {
-                show_prompt(prompts, "\n", err);
+                show_prompt(prompts, "\n", &mut world.err);
                 return talk.status;
             }
             Err(fault) => {
-                let status = report(
-                    Err(RunError::of_input(fault)),
-                    b"",
-                    None,
-                    Details::unsaved(input.cause()),
-                    err,
-                );
+                let details = Details::unsaved(world.input.cause());
+                let error = RunError::of_input(fault);
+                let status = report(Err(error), b"", None, details, &mut world.err);
                 return talk.status.max(status);
             }
         }
         number += 1;
-        if !talk.handle(number, lines.line(), files, out, err) {
+        if !talk.handle(number, lines.line(), world) {
             return talk.status;
         }
     }

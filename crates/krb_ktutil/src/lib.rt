@@ -4,4 +4,4 @@
 mod input_lines;
 mod ktutil;
 
-pub use ktutil::{KTUTIL, Ktutil, LineEnd, SaveNote, file_word, run_ktutil};
+pub use ktutil::{KTUTIL, Ktutil, Line, run_ktutil};

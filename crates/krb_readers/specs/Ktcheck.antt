@@ -1,5 +1,5 @@
 -- What ktcheck does.
-use Rattle.std.specs.Prelude.{◌≡◌, ◌⊎◌, ℕ, max, List, [], ◌∷◌, ◌++◌, length, codes, Bool, true, false, not, ◌&&◌, ◌||◌, nat_lt, IsTrue, IsFalse, if◌then◌else◌, Option, is_some, Ok, Err}
+use Rattle.std.specs.Prelude.{◌≡◌, ◌⊎◌, ℕ, max, List, [], ◌∷◌, ◌++◌, length, codes, Bool, not, ◌&&◌, ◌||◌, nat_lt, IsTrue, IsFalse, if◌then◌else◌, Option, is_some, Ok}
 use Rattle.krb_walk.specs.Store.{fault_of}
 use Rattle.krb_keytab.specs.Find.{placed_entries}
 use Rattle.krb_keytab.specs.Store.{KeytabState, store_of}
@@ -9,7 +9,6 @@ use Rattle.krb_audit.specs.declared.finding_words.FindingWords.{FindingWords}
 use Rattle.krb_audit.specs.Findings.{weak_among}
 use Rattle.krb_audit.specs.Report.{has_words, joined, report, without, words_found, words_of, wrong_words}
 use Rattle.krb_driver.specs.declared.command.RunEnd.{RunEnd}
-use Rattle.krb_driver.specs.declared.error.RunError.TheVariants as error
 use Rattle.krb_driver.specs.declared.file_name.FileName.{FileName}
 use Rattle.krb_driver.specs.declared.verdict.Findings.{Findings}
 use Rattle.krb_driver.specs.declared.world.World.{World}
@@ -19,7 +18,7 @@ use Rattle.krb_driver.specs.Commands.{EndsCommand, any}
 use Rattle.krb_driver.specs.Effects.{CommandPlan, Displays, Page, opens, text}
 use Rattle.krb_driver.specs.Opening.{keytab_in}
 use Rattle.krb_driver.specs.FileNames.{shown_name}
-use Rattle.krb_driver.specs.RunErrors.{Ending}
+use Rattle.krb_driver.specs.RunErrors.{Ending, is_spent}
 use Rattle.krb_readers.specs.declared.ktcheck.words.CheckOptions.{CheckOptions}
 
 -- ---- a file
@@ -71,11 +70,6 @@ pub record Round (F R W E : Type 0) : Type 0 where
 abbrev pub explained_by : Ending → FindingWords
 explained_by (Ok (Found findings)) = findings.words
 explained_by ending = words_of []
-
--- memory ran out
-abbrev pub is_spent : Ending → Bool
-is_spent (Err error.NoMemory) = true
-is_spent ending = false
 
 module _ {F R W E : Type 0} (trait : Ghosts F) (o : CheckOptions) (is_named : Bool) where
   -- a file was checked, and this is how that ended

@@ -10,13 +10,14 @@ ghost use Rattle.krb_audit.specs.Findings.{weak_among};
 ghost use Rattle.krb_audit.specs.Report.{joined, report, words_found, wrong_words};
 ghost use Rattle.krb_driver.specs.Commands.{output_page, text_effect};
 ghost use Rattle.krb_driver.specs.Effects.{Displays, IsMade};
-ghost use Rattle.krb_readers.specs.Ktcheck.{ChecksAll, explained_by, found_verdict, is_spent, is_well, label_of, page_of};
+ghost use Rattle.krb_driver.specs.RunErrors.{is_spent};
+ghost use Rattle.krb_readers.specs.Ktcheck.{ChecksAll, explained_by, found_verdict, is_well, label_of, page_of};
 
 use crate::ktcheck::words::CheckOptions;
 use krb_audit::{CheckUp, FindingWords, check_up};
 use krb_driver::{
     Command, FileError, FileName, Findings, Made, Output, RunEnd, RunError, Verdict, World,
-    append_name, open_keytab, run_to_end,
+    append_name, is_spent, open_keytab, run_to_end,
 };
 use krb_files::Files;
 use krb_keytab::Keytab;
@@ -115,6 +116,7 @@ fn check<'a, A: Allocator + Copy, F: Files>(
 }
 
 impl<'f, A: Allocator + Copy> Command<A> for CheckFile<'f> {
+    ghost use Rattle.krb_driver.specs.RunErrors.{is_spent};
     ghost use Rattle.krb_readers.specs.Ktcheck.{plan_of};
 
     type Shown = Output<A>;
@@ -158,7 +160,7 @@ fn explained_by(ending: Result<Verdict, RunError>) -> FindingWords
 fn is_last(ending: Result<Verdict, RunError>, has_out_failed: bool) -> bool
     ensures { result ≡ (is_spent ending || has_out_failed) }
 {
-    matches!(ending, Err(RunError::NoMemory)) || has_out_failed
+    is_spent(&ending) || has_out_failed
 }
 
 impl SoFar {

@@ -7,6 +7,7 @@ mod command_lines;
 mod default_name;
 mod equals;
 mod nearest;
+mod options;
 mod run;
 mod silent;
 mod words;

@@ -17,8 +17,8 @@ fn is_addition(verb: Option<Verb>) -> bool
     matches!(verb, Some(Verb::Add))
 }
 
-// Returns whether a line adds an entry with a key from a password.
-fn asks_for_password(line: &[u8]) -> bool
+/// Returns whether a line adds an entry with a key from a password.
+pub fn asks_for_password(line: &[u8]) -> bool
     ensures { result ≡ asks_for_password (words line.now) }
 {
     match next_word(line) {

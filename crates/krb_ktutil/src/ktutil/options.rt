@@ -67,6 +67,7 @@ impl<'a> AddOptions<'a> {
     }
 
     // Returns the options with one more, and the rest of the line after it.
+    #[tactic(auto, using(crate::proofs::KtutilOptions::options_in_key))]
     fn take(self, option: &[u8], after: &'a [u8]) -> Option<(AddOptions<'a>, &'a [u8])>
         ensures more { MatchOption result (options_in self.entry (option.now ∷ words after.now) ≡ None)
             (λ x. options_in self.entry (option.now ∷ words after.now) ≡ options_in x.0 (words x.1.now)) }

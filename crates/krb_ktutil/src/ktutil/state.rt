@@ -3,23 +3,24 @@
 mod additions;
 mod transfer;
 
-ghost use Rattle.std.specs.Prelude.{Some, ◌≡◌, ◌≤◌, ◌&&◌, [], false, length};
+ghost use Rattle.std.specs.Prelude.{Some, ◌≡◌, [], ℕ, length};
 ghost use Rattle.krb_ktutil.specs.KtutilWords.{words};
-ghost use Rattle.krb_ktutil.specs.KtutilCommand.{ClearList, Quit, alone, asks_for_password, has_password, is_addition, listing, deletion, command_by, command_of};
-ghost use Rattle.krb_ktutil.specs.KtutilPlan.{KtutilState, is_pending, command_plan, plan_of};
+ghost use Rattle.krb_ktutil.specs.KtutilCommand.{ClearList, Quit, alone, asks_for_password, listing, deletion, command_by, command_of};
+ghost use Rattle.krb_ktutil.specs.KtutilPlan.{KtutilState, after_fault, is_pending, plan_of, words_plan};
 ghost use Rattle.krb_ktutil.specs.KtutilPrompts.{prompt_of};
-ghost use Rattle.krb_ktutil.specs.KtutilFiles.{EndsAt, Finishes, Handles, RunsOut};
-ghost use Rattle.krb_ktutil.specs.KtutilHonest.{HandlesHonestly, Spares, ReportsMemory};
+ghost use Rattle.krb_ktutil.specs.KtutilFiles.{Attempts, MakesLine, Spares, Tries, line_effect};
 
 use crate::ktutil::addition::Addition;
 use crate::ktutil::awaiting::Awaiting;
 use crate::ktutil::command::{columns, file_name, is_bare, slot};
-use crate::ktutil::line_end::LineEnd;
+use crate::ktutil::faulty_lines::{asks_for_password, fault_error};
+use crate::ktutil::line::Line;
 use crate::ktutil::verb::{Verb, verb_of};
 use crate::ktutil::words::next_word;
+use krb_driver::RunError;
 use krb_files::Files;
 use krb_keytab::NewEntry;
-use krb_text::{LineFault, list_slots};
+use krb_text::{LineFault, LineRefusal, list_slots};
 use krb_wire::Order;
 use std::alloc::Allocator;
 use std::marker::Model;
@@ -78,142 +79,160 @@ impl<A: Allocator + Copy> Ktutil<A> {
     }
 
     // Lists the slots.
-    fn list(&self, rest: &[u8], out: &mut Vec<u8, A>) -> LineEnd
-        ensures { EndsAt (command_plan self.now false (listing (words rest.now))) self.now self.now
-            out.old.items out.new.items result }
+    fn list<'l>(&self, rest: &[u8]) -> Result<Line<'l, A>, LineRefusal>
+        ensures { (number : ℕ) → Attempts self.now number (listing (words rest.now)) self.now result }
     {
         let Some(columns) = columns(rest) else {
-            return LineEnd::Fault(LineFault::WordCount);
+            return Err(LineRefusal::Fault(LineFault::WordCount));
         };
-        match list_slots(self.alloc, &self.entries, columns, out) {
-            Ok(()) => LineEnd::Done,
-            Err(_) => LineEnd::NoMemory,
+        let mut text = Vec::new(self.alloc);
+        match list_slots(self.alloc, &self.entries, columns, &mut text) {
+            Ok(()) => Ok(Line::prints(text)),
+            Err(_) => Err(LineRefusal::NoMemory),
         }
     }
 
     // Deletes a slot.
-    fn delete(&mut self, rest: &[u8]) -> LineEnd
-        ensures { Finishes (command_plan self.old false (deletion (length self.old.entries) (words rest.now)))
-            self.old self.new result }
+    fn delete<'l>(&mut self, rest: &[u8]) -> Result<Line<'l, A>, LineRefusal>
+        ensures { (number : ℕ) → Attempts self.old number (deletion (length self.old.entries) (words rest.now)) self.new result }
     {
         match slot(rest, self.entries.len()) {
             Ok(slot) => {
                 let _ = self.entries.remove(slot as usize - 1);
-                LineEnd::Done
+                Ok(Line::done(self.alloc))
             }
-            Err(fault) => LineEnd::Fault(fault),
+            Err(fault) => Err(LineRefusal::Fault(fault)),
         }
     }
 
     // Empties the list.
-    fn clear(&mut self, rest: &[u8]) -> LineEnd
-        ensures { Finishes (command_plan self.old false (alone ClearList (words rest.now)))
-            self.old self.new result }
+    fn clear<'l>(&mut self, rest: &[u8]) -> Result<Line<'l, A>, LineRefusal>
+        ensures { (number : ℕ) → Attempts self.old number (alone ClearList (words rest.now)) self.new result }
     {
         if !is_bare(rest) {
-            return LineEnd::Fault(LineFault::WordCount);
+            return Err(LineRefusal::Fault(LineFault::WordCount));
         }
         self.entries.clear();
-        LineEnd::Done
+        Ok(Line::done(self.alloc))
     }
-}
 
-// Ends the run.
-fn quit(rest: &[u8]) -> LineEnd
-    ensures { (s : KtutilState) → Finishes (command_plan s false (alone Quit (words rest.now))) s s result }
-{
-    if is_bare(rest) {
-        LineEnd::Quit
-    } else {
-        LineEnd::Fault(LineFault::WordCount)
+    // Ends the run.
+    fn quit<'l>(&self, rest: &[u8]) -> Result<Line<'l, A>, LineRefusal>
+        ensures { (number : ℕ) → Attempts self.now number (alone Quit (words rest.now)) self.now result }
+    {
+        if is_bare(rest) {
+            Ok(Line::quits(self.alloc))
+        } else {
+            Err(LineRefusal::Fault(LineFault::WordCount))
+        }
     }
-}
 
-impl<A: Allocator + Copy> Ktutil<A> {
     // Runs a command with the words after it.
-    fn run<F: Files>(
+    #[tactic(auto, using(crate::proofs::KtutilHandles::tries_end))]
+    fn run<'l, F: Files>(
         &mut self,
-        verb: Verb,
-        rest: &[u8],
         files: &mut F,
-        out: &mut Vec<u8, A>,
-    ) -> LineEnd
-        ensures { Handles F.Files
-            (command_plan self.old (is_addition (Some verb) && has_password (words rest.now))
-            (command_by (length self.old.entries) (Some verb) (words rest.now)))
-            files.old files.new self.old self.new out.old.items out.new.items result }
+        number: u64,
+        verb: Verb,
+        rest: &'l [u8],
+    ) -> Result<Line<'l, A>, LineRefusal>
+        ensures { Tries F.Files files.old files.new self.old number
+            (command_by (length self.old.entries) (Some verb) (words rest.now)) self.new result }
     {
         match verb {
-            Verb::List => self.list(rest, out),
+            Verb::List => self.list(rest),
             Verb::Read => match file_name(rest) {
-                Ok(word) => self.read(files, word),
-                Err(fault) => LineEnd::Fault(fault),
+                Ok(word) => Ok(self.read(files, number, word)),
+                Err(fault) => Err(LineRefusal::Fault(fault)),
             },
             Verb::Write => match file_name(rest) {
-                Ok(word) => self.write(files, word),
-                Err(fault) => LineEnd::Fault(fault),
+                Ok(word) => Ok(self.write(files, number, word)),
+                Err(fault) => Err(LineRefusal::Fault(fault)),
             },
             Verb::Add => self.add(rest),
             Verb::Delete => self.delete(rest),
             Verb::Clear => self.clear(rest),
-            Verb::Quit => quit(rest),
+            Verb::Quit => self.quit(rest),
+        }
+    }
+
+    // Runs the command of a line.
+    #[tactic(auto, using(crate::proofs::KtutilHandles::commands))]
+    fn command<'l, F: Files>(
+        &mut self,
+        files: &mut F,
+        number: u64,
+        line: &'l [u8],
+    ) -> Result<Line<'l, A>, LineRefusal>
+        ensures { Tries F.Files files.old files.new self.old number
+            (command_of line.now (length self.old.entries)) self.new result }
+    {
+        let Some((word, rest)) = next_word(line) else {
+            return Ok(Line::done(self.alloc));
+        };
+        match verb_of(word) {
+            Some(verb) => self.run(files, number, verb, rest),
+            None => Err(LineRefusal::Fault(LineFault::UnknownWord)),
+        }
+    }
+
+    // Awaits a password if a faulty line asks for one in place of a key.
+    fn await_password(&mut self, line: &[u8])
+        ensures { self.new ≡ after_fault (asks_for_password (words line.now)) self.old }
+    {
+        if asks_for_password(line) {
+            self.awaiting = Awaiting::Password;
         }
     }
 
     // Runs a line that is not awaited.
-    fn command<F: Files>(&mut self, files: &mut F, line: &[u8], out: &mut Vec<u8, A>) -> LineEnd
-        ensures { Handles F.Files
-            (command_plan self.old (asks_for_password (words line.now)) (command_of line.now (length self.old.entries)))
-            files.old files.new self.old self.new out.old.items out.new.items result }
+    #[tactic(auto, using(crate::proofs::KtutilHandles::outcomes))]
+    fn run_words<'l, F: Files>(&mut self, files: &mut F, number: u64, line: &'l [u8]) -> Line<'l, A>
+        ensures { MakesLine F.Files (words_plan self.old number (words line.now) (command_of line.now (length self.old.entries)))
+            files.old files.new self.old self.new (line_effect result) result.quits }
     {
-        let Some((word, rest)) = next_word(line) else {
-            return LineEnd::Done;
-        };
-        match verb_of(word) {
-            Some(verb) => self.run(verb, rest, files, out),
-            None => LineEnd::Fault(LineFault::UnknownWord),
+        match self.command(files, number, line) {
+            Ok(made) => made,
+            Err(LineRefusal::NoMemory) => Line::fails("", RunError::NoMemory),
+            Err(LineRefusal::Fault(fault)) => {
+                self.await_password(line);
+                Line::fails("", fault_error(number, line, fault))
+            }
         }
     }
 
     // Runs a line by its plan.
-    fn run_line<F: Files>(
+    #[tactic(auto, using(crate::proofs::KtutilHandles::lines))]
+    fn run_line<'l, F: Files>(
         &mut self,
         files: &mut F,
-        line: &[u8],
         now: u32,
-        out: &mut Vec<u8, A>,
-    ) -> LineEnd
-        ensures { Handles F.Files (plan_of self.old now line.now)
-            files.old files.new self.old self.new out.old.items out.new.items result }
+        number: u64,
+        line: &'l [u8],
+    ) -> Line<'l, A>
+        ensures { MakesLine F.Files (plan_of self.old now number line.now)
+            files.old files.new self.old self.new (line_effect result) result.quits }
     {
         match &self.awaiting {
-            Awaiting::Nothing => self.command(files, line, out),
-            Awaiting::Key(_) => self.take_key(line, now),
+            Awaiting::Nothing => self.run_words(files, number, line),
+            Awaiting::Key(_) => self.take_key(now, number, line),
             Awaiting::Password => self.pass_over(),
         }
     }
 
-    /// Runs a line, or reads it as the key if one is awaited, or passes over it if a password is. Appends what it prints
-    /// to `out`.
-    pub fn line<F: Files>(
+    /// Runs a line of that number up to what it is to show or save, or reads it as the key if one is awaited, with the
+    /// time `now`, or passes over it if a password is. A file that it is to save stays held.
+    pub fn line<'l, F: Files>(
         &mut self,
         files: &mut F,
-        line: &[u8],
         now: u32,
-        out: &mut Vec<u8, A>,
-    ) -> LineEnd
-        ensures handles { Handles F.Files (plan_of self.old now line.now)
-            files.old files.new self.old self.new out.old.items out.new.items result }
-        ensures honest { F.Files.is_honest files.old
-            → HandlesHonestly F.Files (plan_of self.old now line.now)
-            files.old files.new self.old self.new out.old.items out.new.items result }
-        ensures spared { Spares F.Files files.old files.new self.old self.new result }
-        // If memory runs out, also in a file call, the line ends with that, and state and output are unchanged.
-        ensures reported { ReportsMemory result }
-        ensures memory { result ≡ LineEnd.NoMemory
-            → RunsOut self.old self.new out.old.items out.new.items result }
-        ensures count { F.Files.failure_count files.old ≤ F.Files.failure_count files.new }
+        number: u64,
+        line: &'l [u8],
+    ) -> Line<'l, A>
+        ensures made { MakesLine F.Files (plan_of self.old now number line.now)
+            files.old files.new self.old self.new (line_effect result) result.quits }
+        ensures spared { Spares self.old self.new (line_effect result) }
     {
-        self.run_line(files, line, now, out)
+        self.run_line(files, now, number, line)
     }
 }

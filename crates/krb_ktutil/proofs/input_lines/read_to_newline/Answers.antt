@@ -1,13 +1,6 @@
-use Rattle.std.proofs.Common.{◌≡◌, ◌∙◌, ap, length, drop, arith}
-use Rattle.std.proofs.lemmas.Result.{err_from_is_err_and}
-use Rattle.krb_ktutil.specs.InputLines.{HasNone}
-use Rattle.krb_ktutil.proofs.NewlineLemmas.{Grows-none, Grows-trans, IsFirst-earlier, HasNone-earlier, HasNone-grown, HasNone-sooner, HasNone-up_to, none-given}
+use Rattle.krb_ktutil.proofs.Cited.{◌≡◌, ◌∙◌, length, drop, arith, err_from_is_err_and, HasNone}
+use Rattle.krb_ktutil.proofs.NewlineLemmas.{Grows-trans, IsFirst-earlier, HasNone-earlier, HasNone-grown, HasNone-sooner, HasNone-up_to}
 use Rattle.krb_ktutil.proofs.input_lines.read_to_newline.Goals as goal
-
--- the newline that was found is the first
-pub returns-then-end-most-clause-ok : goal.returns-then-end-most-clause-ok
-returns-then-end-most-clause-ok g c =
-    IsFirst-earlier c.reads.bytes.items c.args.next c.reads.seen c.in-Some.end c.reads.invariant.ahead.0 c.reads.invariant.none (rw (c.deref.ensures.value) at c.in-Some.ensures)
 
 -- the newline is beyond what an input may have
 pub returns-in-Some-clause-none : goal.returns-in-Some-clause-none
@@ -27,39 +20,6 @@ returns-in_err-last-clause-none g c =
     let bytes = c.reads.bytes.items in
     let p = err_from_is_err_and c.from_residual.result c.from_residual.ensures.1 in
     rw (p.1, c.in_err-last.ensures.same) (HasNone-up_to bytes c.args.next 16777216 (HasNone-earlier bytes c.args.next c.reads.seen c.reads.invariant.ahead.0 c.reads.invariant.none (rw (c.deref.ensures.value) at c.in_default.ensures)))
-
--- a read that failed has changed nothing
-pub returns-in_err-last-clause-grows : goal.returns-in_err-last-clause-grows
-returns-in_err-last-clause-grows g c =
-    Grows-trans c.args.bytes.now.items c.reads.bytes.items c.append_read.new.bytes.items c.args.reader.now.left c.reads.reader.left c.append_read.new.reader.left
-    c.reads.invariant.grows
-    (Grows-none c.reads.bytes.items c.append_read.new.bytes.items c.reads.reader.left c.append_read.new.reader.left c.in_err-last.ensures.same c.in_err-last.ensures.err)
-
-pub returns-in_err-last-clause-within : goal.returns-in_err-last-clause-within
-returns-in_err-last-clause-within g c =
-    let same = ap length c.in_err-last.ensures.same in
-    let old = c.reads.bytes.ok.0 in
-    let new = c.append_read.new.bytes.ok.0 in
-    let within = c.reads.invariant.within in
-    omega (arith, same, old, new, within)
-
-pub returns-then-last-eq0-clause-grows : goal.returns-then-last-eq0-clause-grows
-returns-then-last-eq0-clause-grows g c =
-    let given = c.in_ok-last.ensures.given in
-    Grows-trans c.args.bytes.now.items c.reads.bytes.items c.append_read.new.bytes.items c.args.reader.now.left c.reads.reader.left c.append_read.new.reader.left c.reads.invariant.grows (record { given = given.0; read = given.1; consumes = given.2 })
-
--- nothing was given, and no newline was there before
-pub returns-then-last-eq0-clause-ok : goal.returns-then-last-eq0-clause-ok
-returns-then-last-eq0-clause-ok g c =
-    let old = c.reads.bytes in
-    let given = c.in_ok-last.ensures.given in
-    let len = c.in_ok-last.ensures.len.0 in
-    let none : HasNone (drop c.args.next old.items) =
-    HasNone-earlier old.items c.args.next c.reads.seen c.reads.invariant.ahead.0 c.reads.invariant.none (rw (c.deref.ensures.value) at c.in_default.ensures) in
-    let as_long : length c.append_read.new.bytes.items ≡ length old.items =
-    (let was = old.ok.0 in let now = c.append_read.new.bytes.ok.0 in let is = c.if-last-eq0.true in omega (arith, was, now, is, len)) in
-    let same : c.append_read.new.bytes.items ≡ old.items = none-given old.items c.append_read.new.bytes.items given.0 given.1 as_long in
-    (rw same none, c.in_ok-last.ensures.end c.if-last-eq0.true)
 
 -- more was given
 pub reads-preserved : goal.reads-preserved

@@ -1,6 +1,5 @@
-use Rattle.std.proofs.Common.{◌≡◌, ◌≤◌, ◌-◌, vec_len}
-use Rattle.std.specs.Prelude.{slice_range}
-use Rattle.krb_ktutil.specs.InputLines.{Grows, HasNone}
+use Rattle.krb_ktutil.proofs.Cited.{◌≡◌, ◌≤◌, ◌-◌, slice_range, Grows, HasNone}
+use Rattle.std.proofs.Common.{vec_len}
 use Rattle.krb_ktutil.proofs.input_lines.read_to_newline.Given as goal
 
 abbrev pub invariant-reads : goal.invariant-reads

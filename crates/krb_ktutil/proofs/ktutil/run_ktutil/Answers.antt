@@ -1,11 +1,11 @@
-use Rattle.std.proofs.Common.{◌≡◌, Bool, ap, refl, sym, ◌∙◌}
-use Rattle.std.specs.Prelude.{◌||◌, max, Err}
-use Rattle.krb_files.specs.Reader.{is_failed}
-use Rattle.krb_ktutil.specs.KtutilTalk.{first_talk}
-use Rattle.krb_driver.specs.RunErrors.{end_status, error_status, input_error}
+use Rattle.krb_ktutil.proofs.Cited.{◌≡◌, ◌+◌, Bool, ap, refl, subst, sym, ◌∙◌, max, Err, first_talk, error_status, input_error}
+use Rattle.std.specs.Prelude.{◌||◌}
+use Rattle.krb_files.specs.Reader.{Source, is_failed}
+use Rattle.krb_ktutil.specs.Ktutil.{RunsKtutil}
+use Rattle.krb_driver.specs.RunErrors.{end_status}
 use Rattle.krb_driver.proofs.Shown.{end_status-none}
 use Rattle.krb_ktutil.proofs.PromptLemmas.{Prompts-first}
-use Rattle.krb_ktutil.proofs.KtutilLemmas.{Underway-first, Underway-line, RunsKtutil-after, RunsKtutil-in_line, RunsKtutil-unread}
+use Rattle.krb_ktutil.proofs.KtutilLemmas.{Underway, Underway-first, Underway-line, RunsKtutil-after, RunsKtutil-in_line, RunsKtutil-unread}
 use Rattle.krb_ktutil.proofs.ktutil.run_ktutil.Goals as goal
 
 pub lines-init : goal.lines-init
@@ -19,36 +19,46 @@ lines-init g c = (
 -- the input has ended
 pub returns-in-Ok-false : goal.returns-in-Ok-false
 returns-in-Ok-false g c =
-    let prompted = Prompts-first c.args.prompts _ c.lines.err c.show_prompt.new.err (rw c.prompt.ensures at c.show_prompt.ensures) in
+    let prompted = Prompts-first c.args.prompts _ c.lines.world.err c.show_prompt.new.err (rw c.prompt.ensures at c.show_prompt.ensures) in
     let line = rw c.in-Ok-false.field-0-test at c.in-Ok-false.ensures.line in
-    RunsKtutil-after g.F.Files c.args.prompts c.args.now c.args.v1_order c.args.world.now c.read_line.new.reader c.lines.lines c.read_line.new.self c.lines.input.left c.lines.number _ c.lines.invariant.2
-    c.in-Ok-false.ensures.grows c.in-Ok-false.ensures.within c.show_prompt-in-Ok-false.new.err (c.show_prompt-in-Ok-false.ensures c.lines.err _ prompted) line (c.in-Ok-false.ensures.failed ∙ c.lines.invariant.1)
+    RunsKtutil-after g.F.Files c.args.prompts c.args.now c.args.v1_order c.args.world.now c.read_line.new.reader c.lines.lines c.read_line.new.self c.lines.world.input.left c.lines.number _ c.lines.invariant.2
+    c.in-Ok-false.ensures.grows c.in-Ok-false.ensures.within c.show_prompt-in-Ok-false.new.err (c.show_prompt-in-Ok-false.ensures c.lines.world.err _ prompted) line (c.in-Ok-false.ensures.failed ∙ c.lines.invariant.1)
 
 -- it could not be read
 pub returns-in-Err : goal.returns-in-Err
 returns-in-Err g c =
-    let prompted = Prompts-first c.args.prompts _ c.lines.err c.show_prompt.new.err (rw c.prompt.ensures at c.show_prompt.ensures) in
-    let details = c.unsaved.result in
+    let prompted = Prompts-first c.args.prompts _ c.lines.world.err c.show_prompt.new.err (rw c.prompt.ensures at c.show_prompt.ensures) in
+    let details = c.unsaved-details.result in
     let why = input_error c.in-Err.fault in
-    let reported = rw c.of_input.ensures at c.report-status.ensures in
-    let is : error_status why ≡ end_status (Err why) details.aftermath = end_status-none (Err why) details.aftermath c.unsaved.ensures.aftermath in
-    RunsKtutil-unread g.F.Files c.args.prompts c.args.now c.args.v1_order c.args.world.now c.read_line.new.reader c.lines.lines c.read_line.new.self c.lines.input.left c.lines.number _ c.lines.invariant.2
+    let reported = rw c.of_input-error.ensures at c.report-status.ensures in
+    let is : error_status why ≡ end_status (Err why) details.aftermath = end_status-none (Err why) details.aftermath c.unsaved-details.ensures.aftermath in
+    RunsKtutil-unread g.F.Files c.args.prompts c.args.now c.args.v1_order c.args.world.now c.read_line.new.reader c.lines.lines c.read_line.new.self c.lines.world.input.left c.lines.number _ c.lines.invariant.2
     c.in-Err.ensures.grows c.in-Err.ensures.within c.in-Err.fault details c.show_prompt.new.err c.report-status.new.err c.max.result prompted c.in-Err.ensures.err c.lines.invariant.2.within c.in-Err.ensures.no_more (c.in-Err.ensures.failed ∙ ap (λ (b : Bool). is_failed c.in-Err.fault || b) c.lines.invariant.1) c.in-Err.ensures.never (λ e. c.in-Err.ensures.too_large (ap Err e))
-    (record { reports = reported.reports; status_is = is }) c.unsaved.ensures.aftermath (c.max.ensures ∙ ap (max c.lines.talk.status) (reported.status_is ∙ sym is))
+    (record { reports = reported.reports; status_is = is }) c.unsaved-details.ensures.aftermath (c.max.ensures ∙ ap (max c.lines.talk.status) (reported.status_is ∙ sym is))
 
 -- a line was the last
 pub returns-then-not-handle : goal.returns-then-not-handle
 returns-then-not-handle g c =
-    let prompted = Prompts-first c.args.prompts _ c.lines.err c.show_prompt.new.err (rw c.prompt.ensures at c.show_prompt.ensures) in
+    let prompted = Prompts-first c.args.prompts _ c.lines.world.err c.show_prompt.new.err (rw c.prompt.ensures at c.show_prompt.ensures) in
     let line = rw c.in-Ok-true.field-0-test at c.in-Ok-true.ensures.line in
     let stops = rw (c.line.ensures, c.lines.invariant.0) at c.if-not-handle.ensures.next in
-    RunsKtutil-in_line g.F.Files c.args.prompts c.args.now c.args.v1_order c.args.world.now c.read_line.new.reader c.lines.lines c.read_line.new.self c.lines.input.left c.lines.number _ c.lines.invariant.2
-    c.in-Ok-true.ensures.grows c.in-Ok-true.ensures.within _ c.show_prompt.new.err prompted line (c.in-Ok-true.ensures.failed ∙ c.lines.invariant.1) stops
+    let world = c.handle.new.world in
+    subst (λ (input : Source). RunsKtutil g.F.Files c.args.v1_order c.args.prompts c.args.now c.args.world.now (record world { input = input }) c.handle.new.self.status) (sym c.if-not-handle.ensures.input)
+    (RunsKtutil-in_line g.F.Files c.args.prompts c.args.now c.args.v1_order c.args.world.now c.read_line.new.reader c.lines.lines c.read_line.new.self c.lines.world.input.left c.lines.number _ c.lines.invariant.2
+    c.in-Ok-true.ensures.grows c.in-Ok-true.ensures.within _ c.show_prompt.new.err prompted line (c.in-Ok-true.ensures.failed ∙ c.lines.invariant.1) stops)
 
 pub lines-preserved : goal.lines-preserved
 lines-preserved g c =
-    let prompted = Prompts-first c.args.prompts _ c.lines.err c.show_prompt.new.err (rw c.prompt.ensures at c.show_prompt.ensures) in
+    let prompted = Prompts-first c.args.prompts _ c.lines.world.err c.show_prompt.new.err (rw c.prompt.ensures at c.show_prompt.ensures) in
     let line = rw c.in-Ok-true.field-0-test at c.in-Ok-true.ensures.line in
     let continues = rw (c.line.ensures, c.lines.invariant.0) at c.if-not-handle.ensures.next in
     let ended = (rw c.in-Ok-true.field-0-test at c.in-Ok-true.ensures.ended) refl in
-    (c.if-not-handle.ensures.now ∙ c.lines.invariant.0, c.in-Ok-true.ensures.failed ∙ c.lines.invariant.1, Underway-line g.F.Files c.args.prompts c.args.now _ _ c.lines.lines c.read_line.new.self _ _ c.lines.number _ _ c.show_prompt.new.err c.lines.invariant.2 line ended c.in-Ok-true.ensures.grows c.in-Ok-true.ensures.within prompted continues)
+    let input = c.if-not-handle.ensures.input in
+    let world = c.handle.new.world in
+    let first = c.args.world.now in (
+      c.if-not-handle.ensures.now ∙ c.lines.invariant.0,
+      ap (λ (i : Source). i.failed) input ∙ c.in-Ok-true.ensures.failed ∙ c.lines.invariant.1,
+      subst (λ (i : Source). Underway g.F.Files c.args.prompts c.args.now first.input.left (first_talk c.args.v1_order first.files first.out first.err) c.read_line.new.self i.left (c.lines.number + 1)
+          (record { files = world.files; state = c.handle.new.self.ktutil; out = world.out; err = world.err; status = c.handle.new.self.status })) (sym input)
+          (Underway-line g.F.Files c.args.prompts c.args.now _ _ c.lines.lines c.read_line.new.self _ _ c.lines.number _ _ c.show_prompt.new.err c.lines.invariant.2 line ended c.in-Ok-true.ensures.grows c.in-Ok-true.ensures.within prompted continues),
+    )

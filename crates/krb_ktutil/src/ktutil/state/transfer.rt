@@ -1,56 +1,80 @@
 //! Reads entries from a file into the list, and adds the list to a file.
 
-ghost use Rattle.std.specs.Prelude.{◌≡◌, [], true, false, Ok};
+ghost use Rattle.std.specs.Prelude.{◌≡◌, ℕ, true, Ok};
 ghost use Rattle.krb_driver.specs.FileNames.{has_type};
 ghost use Rattle.krb_ktutil.specs.KtutilCommand.{ReadFile, WriteFile};
-ghost use Rattle.krb_ktutil.specs.KtutilPlan.{KtutilState, with_entries, reading_plan, writing_plan, saved_as, written_to, command_plan};
-ghost use Rattle.krb_ktutil.specs.KtutilFiles.{Finishes, GoesOn, Handles};
-ghost use Rattle.krb_files.specs.Plan.{Ends, Holds};
+ghost use Rattle.krb_ktutil.specs.KtutilPlan.{KtutilState, with_entries, reading_plan, writing_plan, saved_as, saved_verdict, written_to, command_plan};
+ghost use Rattle.krb_ktutil.specs.KtutilFiles.{Comes, MakesLine, line_effect};
+ghost use Rattle.krb_files.specs.Plan.{Holds};
 
 use super::Ktutil;
 use crate::ktutil::entries::{add_all, copy_entries};
-use crate::ktutil::line_end::{LineEnd, save_end};
-use crate::ktutil::save_note::note_of;
+use crate::ktutil::line::Line;
+use krb_audit::hides_added;
 use krb_driver::{
-    FileKind, FileName, NameSource, hold, load_keytab, load_or_new, release, type_of,
+    FileKind, FileName, Made, NameSource, Output, RunError, Verdict, hold, load_keytab,
+    load_or_new, type_of,
 };
 use krb_files::Files;
 use krb_keytab::{Indexed, Keytab, NewEntry};
 use krb_walk::{Code, Refusal};
 use std::alloc::Allocator;
 
-// Saves a keytab under a name, after entries were added to it at these places.
-fn save<B: Allocator, F: Files>(
-    files: &mut F,
-    name: &str,
-    keytab: &Keytab<B>,
-    places: &[u32],
-) -> LineEnd
-    ensures { (s : KtutilState) → GoesOn F.Files s s result
-        (saved_as s name.now (Ok (record { keytab = keytab.now.state; places = places.now }))) files.old files.new }
+// Returns the verdict of the save of a keytab to which entries were added at these places.
+fn saved_verdict<B: Allocator>(keytab: &Keytab<B>, places: &[u32]) -> Verdict
+    ensures { result ≡ saved_verdict (record { keytab = keytab.now.state; places = places.now }) }
 {
-    let saved = files.save(name, keytab.image());
-    save_end(note_of(keytab, places), saved)
+    if keytab.entries().next().is_none() {
+        return Verdict::NoEntry;
+    }
+    match hides_added(keytab, places) {
+        Some(place) => Verdict::HiddenFrom(place),
+        None => Verdict::Well,
+    }
 }
 
-// Adds entries to a keytab, with a table of its cells, and saves it under a name.
-fn write_to<A: Allocator, B: Allocator + Copy, F: Files>(
-    alloc: B,
+// Returns the line that saves a keytab, after entries were added to it at these places.
+fn saving<'l, A: Allocator + Copy>(
+    alloc: A,
+    name: &'l str,
+    keytab: Keytab<A>,
+    places: &[u32],
+) -> Line<'l, A>
+    ensures { (s : KtutilState) (number : ℕ) → Comes (saved_as s number name.now (Ok (record { keytab = keytab.state; places = places.now }))) s s
+        (line_effect result) result.quits }
+{
+    let verdict = saved_verdict(&keytab, places);
+    let text = Output {
+        text: Vec::new(alloc),
+        verdict,
+    };
+    Line {
+        file: name,
+        made: Ok(Made::Saves(keytab.into_image(), text)),
+        quits: false,
+    }
+}
+
+// Adds entries to a keytab, with a table of its cells, which is then to be saved under a name.
+fn write_to<'l, A: Allocator + Copy>(
+    alloc: A,
     entries: &[NewEntry<A>],
-    files: &mut F,
-    name: &str,
-    keytab: Keytab<B>,
-) -> LineEnd
+    number: u64,
+    name: &'l str,
+    keytab: Keytab<A>,
+) -> Line<'l, A>
     ensures { (s : KtutilState) → s.entries ≡ entries.now →
-        GoesOn F.Files s s result (written_to s name.now (Ok keytab.state)) files.old files.new }
+        Comes (written_to s number name.now (Ok keytab.state)) s s (line_effect result) result.quits }
 {
     let Ok(mut keytab) = Indexed::of(alloc, keytab) else {
-        return LineEnd::NoMemory;
+        return Line::fails(name, RunError::NoMemory);
     };
     match add_all(alloc, &mut keytab, entries) {
-        Ok(places) => save(files, name, &keytab.into_keytab(), &places),
-        Err(Refusal::Code(code)) => LineEnd::Refused(code),
-        Err(Refusal::NoMemory) => LineEnd::NoMemory,
+        Ok(places) => saving(alloc, name, keytab.into_keytab(), &places),
+        Err(Refusal::Code(code)) => {
+            Line::fails(name, RunError::LineRefused { line: number, code })
+        }
+        Err(Refusal::NoMemory) => Line::fails(name, RunError::NoMemory),
     }
 }
 
@@ -62,77 +86,90 @@ fn has_type(word: &str) -> bool
 }
 
 impl<A: Allocator + Copy> Ktutil<A> {
-    // Appends copies of the entries of a keytab. Refuses a damaged one.
-    fn take_entries<B: Allocator>(&mut self, keytab: &Keytab<B>) -> LineEnd
-        ensures { Finishes (Ends (with_entries self.old (Ok keytab.now.state))) self.old self.new result }
+    // Appends copies of the entries of the keytab of that name. Refuses a damaged one.
+    fn take_entries<'l, B: Allocator>(
+        &mut self,
+        number: u64,
+        name: &'l str,
+        keytab: &Keytab<B>,
+    ) -> Line<'l, A>
+        ensures { Comes (with_entries self.old number name.now (Ok keytab.now.state)) self.old self.new (line_effect result) result.quits }
     {
         if keytab.fault().is_some() {
-            return LineEnd::Refused(Code::Damaged);
+            let code = Code::Damaged;
+            return Line::fails(name, RunError::LineRefused { line: number, code });
         }
         let Ok(mut copies) = copy_entries(self.alloc, keytab) else {
-            return LineEnd::NoMemory;
+            return Line::fails(name, RunError::NoMemory);
         };
         match self.entries.append(&mut copies) {
-            Ok(()) => LineEnd::Done,
-            Err(_) => LineEnd::NoMemory,
+            Ok(()) => Line::done(self.alloc),
+            Err(_) => Line::fails(name, RunError::NoMemory),
         }
     }
 
     // Appends the entries of a file.
-    fn read_file<F: Files>(&mut self, files: &mut F, name: &str) -> LineEnd
-        ensures { Handles F.Files (reading_plan self.old name.now)
-            files.old files.new self.old self.new [] [] result }
+    fn read_file<'l, F: Files>(&mut self, files: &mut F, number: u64, name: &'l str) -> Line<'l, A>
+        ensures { MakesLine F.Files (reading_plan self.old number name.now)
+            files.old files.new self.old self.new (line_effect result) result.quits }
     {
         match load_keytab(self.alloc, self.v1_order, files, name) {
-            Ok(keytab) => self.take_entries(&keytab),
-            Err(why) => LineEnd::from(why),
+            Ok(keytab) => self.take_entries(number, name, &keytab),
+            Err(why) => Line::fails(name, RunError::from(why)),
         }
     }
 
     // Appends the entries of the file that a word names, unless its type is not read.
-    pub(crate) fn read<F: Files>(&mut self, files: &mut F, word: &str) -> LineEnd
-        ensures { Handles F.Files (command_plan self.old false (Ok (ReadFile word.now)))
-            files.old files.new self.old self.new [] [] result }
+    pub(crate) fn read<'l, F: Files>(
+        &mut self,
+        files: &mut F,
+        number: u64,
+        word: &'l str,
+    ) -> Line<'l, A>
+        ensures { MakesLine F.Files (command_plan self.old number (ReadFile word.now))
+            files.old files.new self.old self.new (line_effect result) result.quits }
     {
         let file = FileName::of(FileKind::Keytab, word, NameSource::Word);
         if file.is_other_type {
-            return LineEnd::OtherType;
+            return Line::fails(file.name, RunError::OtherType(NameSource::Word));
         }
-        self.read_file(files, file.name)
+        self.read_file(files, number, file.name)
     }
 
     // Adds the list to a file that is held.
-    fn write_held<F: Files>(&self, files: &mut F, name: &str) -> LineEnd
-        ensures { Handles F.Files (writing_plan self.now name.now)
-            files.old files.new self.now self.now [] [] result }
+    fn write_held<'l, F: Files>(&self, files: &mut F, number: u64, name: &'l str) -> Line<'l, A>
+        ensures { MakesLine F.Files (writing_plan self.now number name.now)
+            files.old files.new self.now self.now (line_effect result) result.quits }
     {
         match load_or_new(self.alloc, self.v1_order, files, name) {
-            Ok(keytab) => write_to(self.alloc, &self.entries, files, name, keytab),
-            Err(why) => LineEnd::from(why),
+            Ok(keytab) => write_to(self.alloc, &self.entries, number, name, keytab),
+            Err(why) => Line::fails(name, RunError::from(why)),
         }
     }
 
-    // Adds the list to a file, and holds it meanwhile.
-    #[tactic(auto, using(crate::proofs::KtutilHandles::handles_held))]
-    fn write_file<F: Files>(&self, files: &mut F, name: &str) -> LineEnd
-        ensures { Handles F.Files (Holds true name.now (writing_plan self.now name.now))
-            files.old files.new self.now self.now [] [] result }
+    // Adds the list to a file, and holds it from then on.
+    fn write_file<'l, F: Files>(&self, files: &mut F, number: u64, name: &'l str) -> Line<'l, A>
+        ensures { MakesLine F.Files (Holds true name.now (writing_plan self.now number name.now))
+            files.old files.new self.now self.now (line_effect result) result.quits }
     {
         hold(files, name);
-        let ending = self.write_held(files, name);
-        release(files);
-        ending
+        self.write_held(files, number, name)
     }
 
     // Adds the list to the file that a word names, unless the word begins with a type.
-    #[tactic(auto, using(crate::proofs::KtutilHandles::handles_typed))]
-    pub(crate) fn write<F: Files>(&self, files: &mut F, word: &str) -> LineEnd
-        ensures { Handles F.Files (command_plan self.now false (Ok (WriteFile word.now)))
-            files.old files.new self.now self.now [] [] result }
+    #[tactic(auto, using(crate::proofs::KtutilHandles::makes_typed))]
+    pub(crate) fn write<'l, F: Files>(
+        &self,
+        files: &mut F,
+        number: u64,
+        word: &'l str,
+    ) -> Line<'l, A>
+        ensures { MakesLine F.Files (command_plan self.now number (WriteFile word.now))
+            files.old files.new self.now self.now (line_effect result) result.quits }
     {
         if has_type(word) {
-            return LineEnd::TypedName;
+            return Line::fails(word, RunError::TypedName);
         }
-        self.write_file(files, word)
+        self.write_file(files, number, word)
     }
 }

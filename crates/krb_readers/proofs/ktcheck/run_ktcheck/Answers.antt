@@ -2,7 +2,8 @@ use Rattle.std.proofs.Common.{◌||◌, List, [], ◌+◌, Bool, false, IsFalse,
 use Rattle.std.proofs.lemmas.List.{drop_all, drop_more}
 use Rattle.krb_driver.specs.declared.file_name.FileName.{FileName}
 use Rattle.krb_driver.specs.declared.file_name.NameSource.TheVariants.{Word}
-use Rattle.krb_readers.specs.Ktcheck.{Round, first_round, is_spent}
+use Rattle.krb_driver.specs.RunErrors.{is_spent}
+use Rattle.krb_readers.specs.Ktcheck.{Round, first_round}
 use Rattle.krb_readers.proofs.Checking.{Leads, last_one, one_more}
 use Rattle.krb_readers.proofs.ktcheck.run_ktcheck.Goals as goal
 

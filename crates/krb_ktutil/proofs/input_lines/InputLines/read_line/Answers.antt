@@ -1,4 +1,4 @@
-use Rattle.std.proofs.Common.{◌≡◌, refl, inl, inr, length, arith}
+use Rattle.krb_ktutil.proofs.Cited.{◌≡◌, refl, inl, inr, length, arith}
 use Rattle.krb_ktutil.proofs.InputLemmas.{EndsInNewline-first, TakesLine-first, ReadsLine-last}
 use Rattle.krb_ktutil.proofs.input_lines.InputLines.read_line.Goals as goal
 

@@ -1,5 +1,4 @@
-use Rattle.std.proofs.Common.{◌≡◌, length}
-use Rattle.krb_ktutil.specs.KtutilWords.{words}
+use Rattle.krb_ktutil.proofs.Cited.{◌≡◌, length, words}
 use Rattle.krb_ktutil.specs.KtutilCommand.{plain_columns, columns_in}
 use Rattle.krb_ktutil.proofs.ktutil.command.columns.Given as goal
 

@@ -1,4 +1,4 @@
-use Rattle.std.proofs.Common.{◌≡◌, ℕ, List, Bool, true, false, Ok, refl, ap}
+use Rattle.krb_ktutil.proofs.Cited.{◌≡◌, ℕ, List, Bool, true, false, Ok, refl, ap}
 use Rattle.std.specs.Str.{IsUtf8, is_utf8}
 use Rattle.std.proofs.lemmas.Str.{IsUtf8-from_is_utf8, is_utf8-from_IsUtf8}
 use Rattle.krb_ktutil.proofs.ktutil.command.utf8.Goals as goal

@@ -1,8 +1,6 @@
-use Rattle.std.proofs.Common.{sym, ap, ◌∙◌, Ok, List, suc, drop, ◌∷◌}
+use Rattle.krb_ktutil.proofs.Cited.{sym, ap, ◌∙◌, Ok, List, drop, ◌∷◌, err_from_is_err_and, EntryParts, Added, none_added, with_added}
+use Rattle.std.proofs.Common.{suc}
 use Rattle.std.proofs.Math.Seq.{drop-cons}
-use Rattle.std.proofs.lemmas.Result.{err_from_is_err_and}
-use Rattle.krb_keytab.specs.Entry.{EntryParts}
-use Rattle.krb_ktutil.specs.KtutilPlan.{Added, none_added, with_added}
 use Rattle.krb_ktutil.proofs.KtutilLists.{refuses_added}
 use Rattle.krb_ktutil.proofs.ktutil.entries.add_all.Goals as goal
 

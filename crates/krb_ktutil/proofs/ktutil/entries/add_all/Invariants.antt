@@ -1,5 +1,4 @@
-use Rattle.std.proofs.Common.{◌≡◌, Ok, drop}
-use Rattle.krb_ktutil.specs.KtutilPlan.{none_added, with_added}
+use Rattle.krb_ktutil.proofs.Cited.{◌≡◌, Ok, drop, none_added, with_added}
 use Rattle.krb_ktutil.proofs.ktutil.entries.add_all.Given as goal
 
 -- adding the entries that are left gives what adding all of them gives

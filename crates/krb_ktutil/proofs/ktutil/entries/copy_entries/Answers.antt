@@ -1,4 +1,4 @@
-use Rattle.std.proofs.Common.{ap, ◌∙◌}
+use Rattle.krb_ktutil.proofs.Cited.{ap, ◌∙◌}
 use Rattle.krb_ktutil.proofs.KtutilLists.{entries_of, all_entries}
 use Rattle.krb_ktutil.proofs.ktutil.entries.copy_entries.Goals as goal
 

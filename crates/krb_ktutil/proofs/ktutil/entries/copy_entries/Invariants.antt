@@ -1,4 +1,4 @@
-use Rattle.std.proofs.Common.{◌≡◌, ◌++◌}
+use Rattle.krb_ktutil.proofs.Cited.{◌≡◌, ◌++◌}
 use Rattle.krb_keytab.specs.Store.{entries}
 use Rattle.krb_ktutil.proofs.KtutilLists.{entries_of}
 use Rattle.krb_ktutil.proofs.ktutil.entries.copy_entries.Given as goal

@@ -1,5 +1,4 @@
-use Rattle.std.proofs.Common.{◌≡◌, length}
-use Rattle.krb_ktutil.specs.KtutilWords.{words}
+use Rattle.krb_ktutil.proofs.Cited.{◌≡◌, length, words}
 use Rattle.krb_ktutil.specs.KtutilCommand.{has_password}
 use Rattle.krb_ktutil.proofs.ktutil.options.has_password.Given as goal
 

@@ -1,6 +1,5 @@
-use Rattle.std.proofs.Common.{◌≡◌, length}
-use Rattle.krb_ktutil.specs.KtutilWords.{words}
-use Rattle.krb_ktutil.specs.KtutilCommand.{no_options, options_in}
+use Rattle.krb_ktutil.proofs.Cited.{◌≡◌, length, words, options_in}
+use Rattle.krb_ktutil.specs.KtutilCommand.{no_options}
 use Rattle.krb_ktutil.proofs.ktutil.options.options.Given as goal
 
 abbrev pub invariant-options : goal.invariant-options

@@ -1,4 +1,4 @@
-use Rattle.std.proofs.Common.{sym, ◌∙◌}
+use Rattle.krb_ktutil.proofs.Cited.{sym, ◌∙◌}
 use Rattle.krb_ktutil.proofs.PromptLemmas.{WritesOn-put}
 use Rattle.krb_ktutil.proofs.ktutil.prompts.write_text.Goals as goal
 

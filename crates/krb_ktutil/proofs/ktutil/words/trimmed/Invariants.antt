@@ -1,6 +1,6 @@
-use Rattle.std.proofs.Common.{◌≡◌, length}
+use Rattle.krb_ktutil.proofs.Cited.{◌≡◌, length, unindented}
 use Rattle.std.specs.Prelude.{reverse}
-use Rattle.krb_ktutil.specs.KtutilWords.{unindented, trimmed}
+use Rattle.krb_ktutil.specs.KtutilWords.{trimmed}
 use Rattle.krb_ktutil.proofs.ktutil.words.trimmed.Given as goal
 
 abbrev pub invariant-loop-rest : goal.invariant-loop-rest

@@ -1,5 +1,4 @@
-use Rattle.std.proofs.Common.{◌≡◌, ◌≤◌, length}
-use Rattle.krb_ktutil.specs.KtutilWords.{unindented}
+use Rattle.krb_ktutil.proofs.Cited.{◌≡◌, ◌≤◌, length, unindented}
 use Rattle.krb_ktutil.proofs.ktutil.words.unindented.Given as goal
 
 abbrev pub invariant-loop-rest : goal.invariant-loop-rest

@@ -1,4 +1,4 @@
-use Rattle.std.proofs.Common.{◌≡◌, ◌+◌, drop}
+use Rattle.krb_ktutil.proofs.Cited.{◌≡◌, ◌+◌, drop}
 use Rattle.krb_ktutil.specs.KtutilWords.{size_from, word_size}
 use Rattle.krb_ktutil.proofs.ktutil.words.word_size.Given as goal
 

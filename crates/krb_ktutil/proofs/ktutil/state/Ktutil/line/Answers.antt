@@ -1,9 +1,9 @@
-use Rattle.krb_ktutil.proofs.KtutilDue.{handles_honestly, handles_lasts, handles_memory, handles_spares}
+use Rattle.krb_ktutil.proofs.KtutilDue.{makes_spares}
 use Rattle.krb_ktutil.proofs.ktutil.state.Ktutil.line.Goals as goal
 
 -- what follows from the plan
 pub returns : goal.returns
-returns g c =
-    let handles = c.run_line.ensures in
-    let memory = handles_memory g.F.Files c.args.now c.args.line.now handles in
-    record { handles = handles; honest = handles_honestly g.F.Files handles; spared = handles_spares g.F.Files c.args.now c.args.line.now handles; reported = memory.0; memory = memory.1; count = (handles_lasts g.F.Files handles).1 }
+returns g c = record {
+  made = c.run_line.ensures;
+  spared = makes_spares g.F.Files c.args.self.now c.run_line.new.self c.args.files.now c.run_line.new.files _ _ c.args.now c.args.number c.args.line.now c.run_line.ensures;
+}

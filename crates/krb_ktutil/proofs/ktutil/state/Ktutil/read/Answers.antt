@@ -1,11 +1,16 @@
-use Rattle.std.proofs.Common.{◌≡◌, true, sym, ◌∙◌}
-use Rattle.krb_driver.specs.FileNames.{is_other_type}
+use Rattle.krb_ktutil.proofs.Cited.{◌≡◌, true, inl, refl, sym, ap, ◌∙◌, List, ℕ, Ends, Fails, fails}
+use Rattle.krb_driver.specs.declared.error.RunError.TheVariants.{OtherType}
+use Rattle.krb_driver.specs.declared.file_name.NameSource.TheVariants.{Word}
 use Rattle.krb_driver.specs.declared.verdict.FileKind.TheVariants.{Keytab}
-use Rattle.krb_ktutil.proofs.KtutilHandles.{handles_stays}
+use Rattle.krb_driver.specs.FileNames.{bare_name, is_other_type}
+use Rattle.krb_ktutil.proofs.KtutilHandles.{makes_end}
 use Rattle.krb_ktutil.proofs.ktutil.state.Ktutil.read.Goals as goal
 
 -- the word's type is not read
 pub returns-then-file : goal.returns-then-file
 returns-then-file g c =
-    let other : is_other_type Keytab c.args.word.now ≡ true = sym c.of-file.ensures.named.other ∙ c.if-file.true in
-    rw other (handles_stays g.F.Files)
+    let s = c.args.self.now in
+    let named = c.of-file.ensures.named in
+    let other : is_other_type Keytab c.args.word.now ≡ true = sym named.other ∙ c.if-file.true in
+    rw other (makes_end g.F.Files (Ends (fails s (bare_name Keytab c.args.word.now) (OtherType Word))) c.args.files.now s s _ _
+    (inl (record { state_is = refl; effect_is = c.fails.ensures.effect ∙ ap (λ (file : List ℕ). Fails file (OtherType Word)) named.name; quits_is = c.fails.ensures.quits })))
