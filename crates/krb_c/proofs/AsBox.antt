@@ -1,8 +1,6 @@
 -- The handle and its parts own what a box at the same types owns.
-use mir.Syntax.{impl, tnil, dnil}
+use Rattle.krb_c.proofs.Cited.{impl, tnil, dnil, Slot, plain, Bx}
 use mathlib.Core.List.{[]}
-use denote.Signature.{Slot, plain}
-use Rattle.std_alloc.proofs.BoxSteps.Form.{Bx}
 use Rattle.std_heap.specs.contracts.Global as Heap
 use Rattle.std_heap.specs.contracts.GlobalAllocator.TheImpl.{ghosts, dict}
 use Rattle.std_heap.proofs.Global.TheLaws as heap

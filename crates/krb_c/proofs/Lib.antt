@@ -1,3 +1,4 @@
+pub mod Cited
 mod AsBox
 pub mod StoreLemmas
 pub mod CacheCells

@@ -1,24 +1,6 @@
 -- The cache that an image holds is readable, and the image of a readable cache holds it.
-use Rattle.std.proofs.Common.{◌≡◌, ℕ, ◌+◌, ◌≤◌, List, [], ◌∷◌, ◌++◌, length, drop, map, Option, Some, None, refl, sym, ap, subst, ◌∙◌, length-append, arith}
-use Rattle.std.specs.List.{flat_map, AllByRecursion}
-use Rattle.std.proofs.lemmas.List.{append-nil, drop_at, drop-drop, length-drop}
-use Rattle.std.specs.Int.{w16}
-use Rattle.krb_wire.specs.declared.format.Order.TheVariants.{Big}
-use Rattle.krb_wire.specs.Spelling.{Parts, digits, data16, cc_principal, IsShort, FitsCc}
-use Rattle.krb_wire.specs.Reading.{data16_at, cc_principal_at}
-use Rattle.krb_wire.proofs.Fields.{IsBytes, IsBytes-drop, bind_some, some_is, Takes}
-use Rattle.krb_wire.proofs.Principals.{data16_field, cc_principal_field}
-use Rattle.krb_cells.specs.Contents.{Contents, More, contents, spelling, next_by, IsCell, IsEnd}
-use Rattle.krb_walk.specs.Store.{end_from, end_of}
-use Rattle.krb_cells.proofs.ContentsLemmas.{contents_again}
-use Rattle.krb_ccache.specs.declared.version.Version.{Version}
-use Rattle.krb_ccache.specs.declared.version.Version.TheVariants.{V3, V4}
-use Rattle.krb_ccache.specs.declared.open.Layout.{Layout}
+use Rattle.krb_ccache.proofs.Cited.{◌≡◌, ℕ, ◌+◌, ◌≤◌, List, [], ◌∷◌, ◌++◌, length, drop, map, Option, Some, None, refl, sym, ap, subst, ◌∙◌, length-append, arith, flat_map, AllByRecursion, append-nil, drop_at, drop-drop, length-drop, w16, Big, Parts, digits, data16, cc_principal, IsShort, FitsCc, data16_at, cc_principal_at, IsBytes, IsBytes-drop, bind_some, some_is, Takes, data16_field, cc_principal_field, Contents, More, contents, spelling, next_by, IsCell, IsEnd, end_from, end_of, contents_again, Version, V3, V4, Layout, CredParts, credential, credential_at, FitsCredential, Field, header, header_at, fields_in, CacheState, credentials_format, image_of, store_cell, store_of, first_place, header_in, principal_in, IsImage, cache_of, Holds}
 use Rattle.krb_ccache.specs.declared.open.Places.{Places}
-use Rattle.krb_ccache.specs.Credential.{CredParts, credential, credential_at, FitsCredential}
-use Rattle.krb_ccache.specs.Header.{Field, header, header_at, fields_in}
-use Rattle.krb_ccache.specs.Store.{CacheState, credentials_format, image_of, store_cell, store_of, first_place}
-use Rattle.krb_ccache.specs.Open.{header_in, principal_in, IsImage, cache_of, Holds}
 use Rattle.krb_ccache.proofs.CredentialField.{credential_field}
 use Rattle.krb_ccache.proofs.HeaderFields.{fields_spell, header_takes, IsBytes-front, IsBytes-back}
 use Rattle.krb_ccache.proofs.CellLemmas.{credentials_are, end_is, all_cells}

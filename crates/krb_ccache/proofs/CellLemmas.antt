@@ -1,20 +1,6 @@
 -- The credentials that bytes begin with, one after the other.
-use Rattle.std.proofs.Common.{◌++◌, take, drop, Option, ◌≡◌, ℕ, ◌+◌, List, [], ◌∷◌, length, map, ap, ◌∙◌, length-append, arith, ◌-◌, ◌^◌, ◌<◌, ◌≤◌, Some, None, refl, sym}
-use Rattle.std.specs.List.{flat_map, AllByRecursion}
-use Rattle.std.proofs.lemmas.List.{take_at, drop_at}
-use Rattle.std.proofs.lemmas.List.Concat.{flat_map-cons}
-use Rattle.krb_wire.specs.declared.format.Order.TheVariants.{Big}
-use Rattle.krb_wire.specs.Spelling.{data32, cc_principal}
-use Rattle.krb_wire.proofs.Fields.{IsBytes, wide32}
-use Rattle.krb_cells.specs.Contents.{contents, IsCell}
-use Rattle.krb_walk.specs.Store.{end_from}
-use Rattle.krb_cells.proofs.ContentsLemmas.{ReadsOne, reads_one, reads_none, IsFormat, unframed_cell, unframed_format}
-use Rattle.krb_cells.specs.CellFormat.{seen_in}
+use Rattle.krb_ccache.proofs.Cited.{◌++◌, take, drop, Option, ◌≡◌, ℕ, ◌+◌, List, [], ◌∷◌, length, map, ap, ◌∙◌, length-append, arith, ◌-◌, ◌^◌, ◌<◌, ◌≤◌, Some, None, refl, sym, flat_map, AllByRecursion, take_at, drop_at, flat_map-cons, Big, data32, cc_principal, IsBytes, wide32, contents, IsCell, end_from, ReadsOne, reads_one, reads_none, IsFormat, unframed_cell, unframed_format, seen_in, Version, CredParts, number32, credential, credential_at, is_marked, FitsCredential, credentials_format, store_cell, live_by, CredentialsFrom, BeginsWithCredential}
 use Rattle.krb_cells.proofs.Formats.{IsSeen}
-use Rattle.krb_ccache.specs.declared.version.Version.{Version}
-use Rattle.krb_ccache.specs.Credential.{CredParts, number32, credential, credential_at, is_marked, FitsCredential}
-use Rattle.krb_ccache.specs.Store.{credentials_format, store_cell, live_by}
-use Rattle.krb_ccache.specs.Credentials.{CredentialsFrom, BeginsWithCredential}
 use Rattle.krb_ccache.proofs.CredentialField.{credential_field}
 
 pub credentials_are : (v : Version) → IsFormat (credentials_format v)

@@ -1,23 +1,12 @@
 -- After a value is set, exactly one live entry matches.
-use Rattle.std.proofs.Common.{◌≡◌, ℕ, ◌+◌, ◌≤◌, Bool, true, false, List, [], ◌∷◌, ◌++◌, length, map, Option, Some, None, Result, Ok, refl, sym, ap, subst, ◌∙◌, arith}
+use Rattle.krb_ccache.proofs.Cited.{◌≡◌, ℕ, ◌+◌, ◌≤◌, Bool, true, false, List, [], ◌∷◌, ◌++◌, length, map, Option, Some, None, Result, Ok, refl, sym, ap, subst, ◌∙◌, arith, nat_tests, Parts, Code, end_from, end_of, live_bytes, Version, V4, CredParts, credential, is_marked, CacheState, PlacedCredential, store_of, store_cell, first_place, placed_from, is_live, live_of, placed_credentials, credential_at_place, QueryParts, is_match, query_of, add_mark, add_mark_at, with_mark, cut_result, put_result, with_last, without, is_read_only, config_entry, matches_of, HoldsConfig}
 use Rattle.std.specs.Prelude.{filter, find, option_map, not, ◌==◌, ◌&&◌}
 use Rattle.std.specs.Str.{bytes_eq}
-use Rattle.std.proofs.lemmas.Bool.Decides.{nat_tests}
 use Rattle.std.proofs.lemmas.List.Elements.{filter-append}
 use Rattle.std.proofs.lemmas.Slice.Eq.{bytes_eq-Decides}
-use Rattle.krb_wire.specs.Spelling.{Parts}
 use Rattle.krb_wire.specs.SameName.{have_same_name}
 use Rattle.krb_wire.proofs.NamesCompared.{same_name_is}
-use Rattle.krb_walk.specs.declared.refusal.Code.{Code}
 use Rattle.krb_walk.specs.Events.{cut_store}
-use Rattle.krb_walk.specs.Store.{end_from, end_of, live_bytes}
-use Rattle.krb_ccache.specs.declared.version.Version.{Version}
-use Rattle.krb_ccache.specs.declared.version.Version.TheVariants.{V4}
-use Rattle.krb_ccache.specs.Credential.{CredParts, credential, is_marked}
-use Rattle.krb_ccache.specs.Store.{CacheState, PlacedCredential, store_of, store_cell, first_place, placed_from, is_live, live_of, placed_credentials, credential_at_place}
-use Rattle.krb_ccache.specs.Config.{QueryParts, is_match, query_of}
-use Rattle.krb_ccache.specs.Changes.{add_mark, add_mark_at, with_mark, cut_result, put_result, with_last, without, is_read_only}
-use Rattle.krb_ccache.specs.SetConfig.{config_entry, matches_of, HoldsConfig}
 use Rattle.krb_ccache.proofs.CredentialField.{credential_field}
 use Rattle.krb_ccache.proofs.MarkLemmas.{marked_len, unmarked_by, unmarked_after}
 use Rattle.krb_ccache.proofs.Splits.{live_is}

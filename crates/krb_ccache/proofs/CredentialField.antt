@@ -1,12 +1,5 @@
 -- A credential is spelled by the bytes that it is read from, and is read back from its spelling.
-use Rattle.std.proofs.Common.{◌≡◌, ℕ, List, [], ◌∷◌, ◌++◌, Some, refl, sym, ap, subst, ◌∙◌, append_assoc}
-use Rattle.krb_wire.specs.declared.format.Order.TheVariants.{Big}
-use Rattle.krb_wire.specs.Spelling.{data32, cc_principal}
-use Rattle.krb_wire.proofs.Fields.{IsBytes, some_is, Takes, Takes-then}
-use Rattle.krb_wire.proofs.Places.{IsField}
-use Rattle.krb_wire.proofs.Principals.{data32_field, cc_principal_field}
-use Rattle.krb_ccache.specs.declared.version.Version.{Version}
-use Rattle.krb_ccache.specs.Credential.{CredParts, number32, typed_list, key, times, credential, FitsCredential, credential_at}
+use Rattle.krb_ccache.proofs.Cited.{◌≡◌, ℕ, List, [], ◌∷◌, ◌++◌, Some, refl, sym, ap, subst, ◌∙◌, append_assoc, Big, data32, cc_principal, IsBytes, some_is, Takes, Takes-then, IsField, data32_field, cc_principal_field, Version, CredParts, number32, typed_list, key, times, credential, FitsCredential, credential_at}
 use Rattle.krb_ccache.proofs.Fields.{field32, byte_field, step, some_more, typed_list_field, key_field, times_field}
 
 credential_takes : (v : Version) (bytes : List ℕ) (x : CredParts × List ℕ) → IsBytes bytes → credential_at v bytes ≡ Some x → Takes bytes (credential v x.0) x.1 × FitsCredential v x.0

@@ -1,18 +1,6 @@
 -- Each field of a credential is spelled by the bytes that it is read from, and is read back from its spelling.
-use Rattle.std.proofs.Common.{◌≡◌, ℕ, ◌^◌, ◌<◌, List, [], ◌∷◌, ◌++◌, length, Option, Some, refl, sym, ap, subst, ◌∙◌, append_assoc, length-append, arith}
-use Rattle.std.specs.List.{flat_map}
-use Rattle.std.specs.Int.{Width, w16, w32}
-use Rattle.krb_wire.specs.declared.format.Order.TheVariants.{Big}
-use Rattle.krb_wire.specs.Spelling.{digits, data32}
-use Rattle.krb_wire.specs.Reading.{◌>>=◌, byte_at, number_at, data32_at}
-use Rattle.krb_wire.proofs.Fields.{IsBytes, IsBytes-drop, IsWide, bind_some, some_is, Takes, Takes-then, wide16, wide32, number_takes, number_again}
-use Rattle.krb_wire.proofs.ReadLists.{length_list, list_takes, list_again}
-use Rattle.krb_wire.proofs.Places.{IsField}
-use Rattle.krb_wire.proofs.Principals.{data32_field}
-use Rattle.krb_ccache.specs.declared.version.Version.{Version}
-use Rattle.krb_ccache.specs.declared.version.Version.TheVariants.{V3, V4}
+use Rattle.krb_ccache.proofs.Cited.{◌≡◌, ℕ, ◌^◌, ◌<◌, List, [], ◌∷◌, ◌++◌, length, Option, Some, refl, sym, ap, subst, ◌∙◌, append_assoc, length-append, arith, flat_map, Width, w16, w32, Big, digits, data32, ◌>>=◌, byte_at, number_at, data32_at, IsBytes, IsBytes-drop, IsWide, bind_some, some_is, Takes, Takes-then, wide16, wide32, number_takes, number_again, length_list, list_takes, list_again, IsField, data32_field, Version, V3, V4, TypedData, Key, number32, typed_data, typed_list, second_enctype_field, key, times, FitsTypedData, FitsTypedList, FitsSecondEnctype, FitsKey, FitsTimes, typed_data_at, typed_list_at, second_enctype_at, key_at, times_at}
 use Rattle.krb_ccache.specs.declared.credential.times.Times.{Times}
-use Rattle.krb_ccache.specs.Credential.{TypedData, Key, number32, typed_data, typed_list, second_enctype_field, key, times, FitsTypedData, FitsTypedList, FitsSecondEnctype, FitsKey, FitsTimes, typed_data_at, typed_list_at, second_enctype_at, key_at, times_at}
 
 -- a number of a given width
 pub number_field : (w : Width) (limit : ℕ) → IsWide Big w limit → (0 < length (digits Big w 0)) → IsField (number_at Big w) (digits Big w) (λ n. n < limit)

@@ -1,22 +1,5 @@
 -- A header is spelled by the bytes that it is read from.
-use Rattle.std.proofs.Common.{◌≡◌, ℕ, zero, suc, ◌<◌, List, [], ◌∷◌, ◌++◌, length, Some, refl, ap, subst, ◌∙◌, append_assoc, arith, Option, None}
-use Rattle.std.specs.Prelude.{is_some, ◌==◌}
-use Rattle.std.specs.List.{flat_map, filter_map, cons_option}
-use Rattle.std.proofs.lemmas.Bool.Decides.{nat_tests}
-use Rattle.std.proofs.lemmas.List.{append-nil}
-use Rattle.std.specs.Int.{w16}
-use Rattle.krb_wire.specs.declared.format.Order.TheVariants.{Big}
-use Rattle.krb_wire.specs.Spelling.{digits, data16}
-use Rattle.krb_wire.specs.Reading.{number_at, data16_at}
-use Rattle.krb_wire.proofs.Fields.{IsBytes, bind_some, some_is, Takes, Takes-then}
-use Rattle.krb_wire.proofs.Places.{IsField}
-use Rattle.krb_wire.proofs.Principals.{data16_field}
-use Rattle.krb_cells.specs.Contents.{Contents, contents}
-use Rattle.krb_cells.proofs.ContentsLemmas.{IsFormat, contents_spelled, unframed_format, reads_one, reads_none}
-use Rattle.krb_ccache.specs.declared.version.Version.{Version}
-use Rattle.krb_ccache.specs.declared.version.Version.TheVariants.{V3, V4}
-use Rattle.krb_ccache.specs.declared.offset.Offset.{Offset}
-use Rattle.krb_ccache.specs.Header.{Field, field, FitsField, header, field_at, fields_format, only_cells, fields_in, header_at, offset_of, first_of}
+use Rattle.krb_ccache.proofs.Cited.{◌≡◌, ℕ, zero, suc, ◌<◌, List, [], ◌∷◌, ◌++◌, length, Some, refl, ap, subst, ◌∙◌, append_assoc, arith, Option, None, is_some, ◌==◌, flat_map, filter_map, cons_option, nat_tests, append-nil, w16, Big, digits, data16, number_at, data16_at, IsBytes, bind_some, some_is, Takes, Takes-then, IsField, data16_field, Contents, contents, IsFormat, contents_spelled, unframed_format, reads_one, reads_none, Version, V3, V4, Offset, Field, field, FitsField, header, field_at, fields_format, only_cells, fields_in, header_at, offset_of, first_of}
 use Rattle.krb_ccache.proofs.Fields.{field16, some_more}
 
 field_takes : (bytes : List ℕ) (x : Field × List ℕ) → IsBytes bytes → field_at bytes ≡ Some x → Takes bytes (field x.0) x.1 × FitsField x.0

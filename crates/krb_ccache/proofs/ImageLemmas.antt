@@ -1,28 +1,7 @@
 -- Facts about an image that is a cache.
-use Rattle.std.proofs.Common.{◌≡◌, ◌≢◌, ℕ, ◌+◌, ◌-◌, ◌≤◌, List, [], ◌∷◌, ◌++◌, length, get_or, take, drop, map, Some, None, refl, ap, subst, ◌∙◌, length-append, arith, Ok, false}
-use Rattle.std.specs.Prelude.{nat_lt}
-use Rattle.std.specs.List.{flat_map}
-use Rattle.std.proofs.lemmas.Bool.{le-ltb}
-use Rattle.std.proofs.lemmas.List.{length-drop, length-take}
-use Rattle.krb_wire.specs.Spelling.{cc_principal}
-use Rattle.krb_wire.specs.Reading.{data16_at}
-use Rattle.krb_wire.specs.declared.format.Order.TheVariants.{Big}
-use Rattle.krb_wire.proofs.Fields.{IsBytes, IsBytes-drop, Takes, bind_some, some_is}
-use Rattle.krb_wire.proofs.Principals.{cc_principal_field}
+use Rattle.krb_ccache.proofs.Cited.{◌≡◌, ◌≢◌, ℕ, ◌+◌, ◌-◌, ◌≤◌, List, [], ◌∷◌, ◌++◌, length, get_or, take, drop, map, Some, None, refl, ap, subst, ◌∙◌, length-append, arith, Ok, false, nat_lt, flat_map, le-ltb, length-drop, length-take, cc_principal, data16_at, Big, IsBytes, IsBytes-drop, Takes, bind_some, some_is, cc_principal_field, Contents, contents, IsSpelled, end_from, end_of, contents_spelled, AreCells, seen_in, Version, V3, V4, Layout, CredParts, credential, Field, header, header_at, fields_format, only_cells, fields_in, offset_in, header_offset, CacheState, credentials_format, store_cell, version_byte, version_in, open_result, image_of, fault_kind, first_place, store_of, header_in, principal_in, cache_of, IsImage, AreCredentials}
 use Rattle.krb_walk.specs.declared.fault.FaultKind.TheVariants.{BadCredential}
-use Rattle.krb_cells.specs.Contents.{Contents, contents, IsSpelled}
-use Rattle.krb_walk.specs.Store.{end_from, end_of}
-use Rattle.krb_cells.proofs.ContentsLemmas.{contents_spelled}
-use Rattle.krb_cells.specs.CellFormat.{AreCells, seen_in}
 use Rattle.krb_cells.proofs.Formats.{are_cells}
-use Rattle.krb_ccache.specs.declared.version.Version.{Version}
-use Rattle.krb_ccache.specs.declared.version.Version.TheVariants.{V3, V4}
-use Rattle.krb_ccache.specs.declared.open.Layout.{Layout}
-use Rattle.krb_ccache.specs.Credential.{CredParts, credential}
-use Rattle.krb_ccache.specs.Header.{Field, header, header_at, fields_format, only_cells, fields_in, offset_in, header_offset}
-use Rattle.krb_ccache.specs.Store.{CacheState, credentials_format, store_cell, version_byte, version_in, open_result, image_of, fault_kind, first_place, store_of}
-use Rattle.krb_ccache.specs.Open.{header_in, principal_in, cache_of, IsImage}
-use Rattle.krb_ccache.specs.Credentials.{AreCredentials}
 use Rattle.krb_ccache.proofs.HeaderFields.{header_takes}
 use Rattle.krb_ccache.proofs.CellLemmas.{credentials_are, credentials_seen, end_is}
 use Rattle.krb_ccache.proofs.PlaceLemmas.{opens}

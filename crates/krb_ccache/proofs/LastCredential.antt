@@ -1,25 +1,10 @@
 -- A cache with a credential appended.
-use Rattle.std.proofs.Common.{◌≡◌, ℕ, ◌+◌, ◌<◌, ◌≤◌, Bool, true, false, Result, Ok, Err, List, [], ◌∷◌, ◌++◌, length, replicate, refl, sym, ap, subst, ◌∙◌, append_assoc, length-append, arith, map, Some}
-use Rattle.std.specs.Prelude.{nat_lt, IfOk, ◌==◌, find}
-use Rattle.std.proofs.lemmas.Bool.{lt-ltb, le-ltb}
-use Rattle.std.specs.List.{flat_map, splice, AllByRecursion}
+use Rattle.krb_ccache.proofs.Cited.{◌≡◌, ℕ, ◌+◌, ◌<◌, ◌≤◌, Bool, true, false, Result, Ok, Err, List, [], ◌∷◌, ◌++◌, length, replicate, refl, sym, ap, subst, ◌∙◌, append_assoc, length-append, arith, map, Some, nat_lt, IfOk, ◌==◌, find, lt-ltb, le-ltb, flat_map, splice, AllByRecursion, append-nil, length-replicate, nat_tests, IsBytes, Code, end_of, end_from, Version, V4, Layout, CredParts, credential, FitsCredential, is_marked, CacheState, image_of, store_of, first_place, store_cell, placed_from, live_of, credential_at_place, with_last, append_result, IsImage, cache_of, Holds}
 use Rattle.std.proofs.lemmas.Grind.{flat_map-append}
-use Rattle.std.proofs.lemmas.List.{append-nil, length-replicate}
-use Rattle.std.proofs.lemmas.Bool.Decides.{nat_tests}
-use Rattle.krb_wire.proofs.Fields.{IsBytes}
-use Rattle.krb_walk.specs.declared.refusal.Code.{Code}
 use Rattle.krb_walk.specs.declared.refusal.Code.TheVariants.{Full}
 use Rattle.krb_walk.specs.declared.refusal.Refusal.{Refusal}
 use Rattle.krb_walk.specs.Rules.{PutGives}
 use Rattle.krb_walk.specs.Changes.{Puts}
-use Rattle.krb_walk.specs.Store.{end_of, end_from}
-use Rattle.krb_ccache.specs.declared.version.Version.{Version}
-use Rattle.krb_ccache.specs.declared.version.Version.TheVariants.{V4}
-use Rattle.krb_ccache.specs.declared.open.Layout.{Layout}
-use Rattle.krb_ccache.specs.Credential.{CredParts, credential, FitsCredential, is_marked}
-use Rattle.krb_ccache.specs.Store.{CacheState, image_of, store_of, first_place, store_cell, placed_from, live_of, credential_at_place}
-use Rattle.krb_ccache.specs.Changes.{with_last, append_result}
-use Rattle.krb_ccache.specs.Open.{IsImage, cache_of, Holds}
 use Rattle.krb_ccache.proofs.CellLemmas.{end_is}
 use Rattle.krb_ccache.proofs.CacheLemmas.{IsReadable, layout_of, image_readable, holds, layout_is}
 use Rattle.krb_ccache.proofs.MarkLemmas.{splice_part}

@@ -1,3 +1,4 @@
+pub mod Cited
 pub mod Fields
 pub mod CredentialField
 pub mod HeaderFields

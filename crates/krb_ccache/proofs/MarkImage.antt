@@ -1,19 +1,6 @@
 -- The image of a cache after a credential in it is marked, which keeps its length.
-use Rattle.std.proofs.Common.{◌≡◌, ℕ, ◌+◌, ◌≤◌, List, [], ◌∷◌, ◌++◌, length, drop, Some, refl, sym, ap, subst, ◌∙◌, append_assoc, length-append, arith}
-use Rattle.std.specs.List.{flat_map, splice, AllByRecursion}
+use Rattle.krb_ccache.proofs.Cited.{◌≡◌, ℕ, ◌+◌, ◌≤◌, List, [], ◌∷◌, ◌++◌, length, drop, Some, refl, sym, ap, subst, ◌∙◌, append_assoc, length-append, arith, flat_map, splice, AllByRecursion, drop_at, cc_principal, IsBytes, spelling, end_of, Version, Layout, CredParts, credential, credential_at, FitsCredential, header, CacheState, credentials_format, version_byte, image_of, store_of, first_place, credential_at_place, add_mark, add_mark_at, with_mark, IsImage, cache_of, Holds}
 use Rattle.std.proofs.lemmas.Grind.{flat_map-append}
-use Rattle.std.proofs.lemmas.List.{drop_at}
-use Rattle.krb_wire.specs.Spelling.{cc_principal}
-use Rattle.krb_wire.proofs.Fields.{IsBytes}
-use Rattle.krb_cells.specs.Contents.{spelling}
-use Rattle.krb_walk.specs.Store.{end_of}
-use Rattle.krb_ccache.specs.declared.version.Version.{Version}
-use Rattle.krb_ccache.specs.declared.open.Layout.{Layout}
-use Rattle.krb_ccache.specs.Credential.{CredParts, credential, credential_at, FitsCredential}
-use Rattle.krb_ccache.specs.Header.{header}
-use Rattle.krb_ccache.specs.Store.{CacheState, credentials_format, version_byte, image_of, store_of, first_place, credential_at_place}
-use Rattle.krb_ccache.specs.Changes.{add_mark, add_mark_at, with_mark}
-use Rattle.krb_ccache.specs.Open.{IsImage, cache_of, Holds}
 use Rattle.krb_ccache.proofs.CredentialField.{credential_field}
 use Rattle.krb_ccache.proofs.CellLemmas.{end_is}
 use Rattle.krb_ccache.proofs.ImageLemmas.{image_parts}

@@ -1,16 +1,5 @@
 -- The new texts of credentials in a rewrite.
-use Rattle.std.proofs.Common.{◌≡◌, ℕ, ◌+◌, ◌-◌, ◌<◌, ◌≤◌, Bool, true, false, List, [], ◌∷◌, ◌++◌, length, take, drop, Some, None, refl, sym, ap, ◌∙◌, append_assoc, length-append, arith}
-use Rattle.std.specs.List.{flat_map}
-use Rattle.std.specs.Int.{w16}
-use Rattle.std.proofs.lemmas.List.{append-nil, take_at, drop_at, drop-drop}
-use Rattle.krb_wire.specs.declared.format.Order.TheVariants.{Big}
-use Rattle.krb_wire.specs.Spelling.{digits, data32, cc_principal}
-use Rattle.krb_wire.proofs.Fields.{IsBytes, some_is, wide16}
-use Rattle.krb_wire.proofs.Principals.{cc_principal_field}
-use Rattle.krb_cells.specs.Contents.{Contents}
-use Rattle.krb_ccache.specs.declared.version.Version.{Version}
-use Rattle.krb_ccache.specs.declared.version.Version.TheVariants.{V3, V4}
-use Rattle.krb_ccache.specs.Credential.{CredParts, number32, typed_list, times, credential, credential_at, is_marked, FitsCredential, in_version_4}
+use Rattle.krb_ccache.proofs.Cited.{◌≡◌, ℕ, ◌+◌, ◌-◌, ◌<◌, ◌≤◌, Bool, true, false, List, [], ◌∷◌, ◌++◌, length, take, drop, Some, None, refl, sym, ap, ◌∙◌, append_assoc, length-append, arith, flat_map, w16, append-nil, take_at, drop_at, drop-drop, Big, digits, data32, cc_principal, IsBytes, some_is, wide16, cc_principal_field, Contents, Version, V3, V4, CredParts, number32, typed_list, times, credential, credential_at, is_marked, FitsCredential, in_version_4}
 use Rattle.krb_ccache.specs.Rewrite.{new_cells}
 use Rattle.krb_ccache.specs.NewImage.{new_text, new_texts, after_first_enctype, ReadsNewText}
 use Rattle.krb_ccache.proofs.CredentialField.{credential_field}

@@ -1,8 +1,6 @@
 -- What a proof unfolds to compute the definitions of this crate, and of those that it uses, on literals.
-use Rattle.std.specs.Prelude.{⊤}
+use Rattle.krb_ccache.proofs.Cited.{⊤, typed_data_at, typed_list_at, key_at, times_at, credential_at, field_at, header_at}
 use Rattle.krb_cells.proofs.OnLiterals.{krb_cells_on_literals}
-use Rattle.krb_ccache.specs.Credential.{typed_data_at, typed_list_at, key_at, times_at, credential_at}
-use Rattle.krb_ccache.specs.Header.{field_at, header_at}
 use Rattle.krb_ccache.specs.Mark.{times_from}
 use Rattle.krb_ccache.specs.NewImage.{after_first_enctype}
 

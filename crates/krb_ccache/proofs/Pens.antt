@@ -1,8 +1,7 @@
 -- Room for the parts of a text that a pen writes one after the other.
-use Rattle.std.proofs.Common.{◌≡◌, ℕ, ◌+◌, List, ◌++◌, length, ap, length-append, arith}
+use Rattle.krb_ccache.proofs.Cited.{◌≡◌, ℕ, ◌+◌, List, ◌++◌, length, ap, length-append, arith, IsAt, HasRoom, Puts}
 use Rattle.std.specs.Borrow.{MutBor}
 use Rattle.krb_wire.specs.declared.pen.Pen.{Pen}
-use Rattle.krb_wire.specs.Pen.{IsAt, HasRoom, Puts}
 
 -- there is room for the first part
 pub first_room : (pen : Pen) (text a rest : List ℕ) → text ≡ a ++ rest → HasRoom pen text → HasRoom pen a

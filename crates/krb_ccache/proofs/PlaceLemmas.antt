@@ -1,21 +1,7 @@
 -- Where the parts of an image are.
-use Rattle.std.proofs.Common.{◌≡◌, ℕ, ◌+◌, ◌-◌, ◌≤◌, List, [], ◌++◌, length, take, drop, Option, Some, None, Ok, Err, refl, sym, ap, subst, ◌∙◌, append_assoc, length-append, arith}
-use Rattle.std.specs.Prelude.{option_map, unwrap_or}
-use Rattle.std.specs.List.{flat_map}
-use Rattle.std.proofs.lemmas.List.{drop_at, take-append-drop}
-use Rattle.std.proofs.lemmas.List.Concat.{flat_map-cons}
-use Rattle.krb_wire.specs.Spelling.{Parts, cc_principal}
-use Rattle.krb_wire.specs.Reading.{cc_principal_at}
-use Rattle.krb_wire.proofs.Fields.{IsBytes, IsBytes-drop, Takes}
-use Rattle.krb_wire.proofs.Principals.{cc_principal_field}
-use Rattle.krb_cells.specs.Contents.{Contents, contents}
-use Rattle.krb_ccache.specs.declared.version.Version.{Version}
+use Rattle.krb_ccache.proofs.Cited.{◌≡◌, ℕ, ◌+◌, ◌-◌, ◌≤◌, List, [], ◌++◌, length, take, drop, Option, Some, None, Ok, Err, refl, sym, ap, subst, ◌∙◌, append_assoc, length-append, arith, option_map, unwrap_or, flat_map, drop_at, take-append-drop, flat_map-cons, Parts, cc_principal, cc_principal_at, IsBytes, IsBytes-drop, Takes, cc_principal_field, Contents, contents, Version, CredParts, credential, credential_at, Field, header, header_at, header_end, credentials_format, open_default, open_header, header_in, empty_name, principal_in, cache_of, credentials_len, ArePlaces}
 use Rattle.krb_ccache.specs.declared.open.CcOpenFault.TheVariants.{BadHeader, BadDefault}
 use Rattle.krb_ccache.specs.declared.open.Places.{Places}
-use Rattle.krb_ccache.specs.Credential.{CredParts, credential, credential_at}
-use Rattle.krb_ccache.specs.Header.{Field, header, header_at, header_end}
-use Rattle.krb_ccache.specs.Store.{credentials_format, open_default, open_header}
-use Rattle.krb_ccache.specs.Open.{header_in, empty_name, principal_in, cache_of, credentials_len, ArePlaces}
 use Rattle.krb_ccache.proofs.HeaderFields.{header_takes}
 use Rattle.krb_ccache.proofs.CellLemmas.{read_one, read_none, end_is}
 

@@ -1,20 +1,5 @@
 -- What is written before the credentials of a new cache.
-use Rattle.std.proofs.Common.{◌≡◌, ℕ, ◌+◌, ◌≤◌, false, Ok, List, [], ◌∷◌, ◌++◌, length, Some, Option, None, refl, sym, ap, subst, ◌∙◌, length-append, arith}
-use Rattle.std.specs.Prelude.{nat_lt}
-use Rattle.std.proofs.lemmas.Bool.{le-ltb}
-use Rattle.std.specs.Int.{w16, w32, cast_unsigned}
-use Rattle.std.proofs.lemmas.List.{append-nil}
-use Rattle.krb_wire.specs.declared.format.Order.TheVariants.{Big}
-use Rattle.krb_wire.specs.Spelling.{Parts, digits, cc_principal, FitsCc}
-use Rattle.krb_wire.proofs.Fields.{IsBytes}
-use Rattle.krb_cells.specs.Contents.{next_by}
-use Rattle.krb_ccache.specs.declared.version.Version.TheVariants.{V4}
-use Rattle.krb_ccache.specs.declared.offset.Offset.{Offset}
-use Rattle.krb_ccache.specs.Credential.{CredParts, number32}
-use Rattle.krb_ccache.specs.Header.{header, header_at, FitsHeader}
-use Rattle.krb_ccache.specs.Store.{image_of, first_place}
-use Rattle.krb_ccache.specs.Changes.{new_header, new_preamble, empty_cache, create_result}
-use Rattle.krb_ccache.specs.Open.{Holds}
+use Rattle.krb_ccache.proofs.Cited.{◌≡◌, ℕ, ◌+◌, ◌≤◌, false, Ok, List, [], ◌∷◌, ◌++◌, length, Some, Option, None, refl, sym, ap, subst, ◌∙◌, length-append, arith, nat_lt, le-ltb, w16, w32, cast_unsigned, append-nil, Big, Parts, digits, cc_principal, FitsCc, IsBytes, next_by, V4, Offset, CredParts, number32, header, header_at, FitsHeader, image_of, first_place, new_header, new_preamble, empty_cache, create_result, Holds}
 use Rattle.krb_ccache.proofs.Reopening.{header_again}
 use Rattle.krb_ccache.proofs.HeaderFields.{IsBytes-front, IsBytes-back}
 use Rattle.krb_ccache.proofs.CacheLemmas.{IsReadable, holds}

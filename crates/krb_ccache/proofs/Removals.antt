@@ -1,14 +1,9 @@
 -- Removals one after the other, as a session makes them.
-use Rattle.std.proofs.Common.{◌≡◌, ℕ, List, [], ◌∷◌, map, Result, Ok, Err, refl}
-use Rattle.std.specs.Prelude.{if◌then◌else◌}
+use Rattle.krb_ccache.proofs.Cited.{◌≡◌, ℕ, List, [], ◌∷◌, map, Result, Ok, Err, refl, if◌then◌else◌, Code, CacheState, cut_result, is_refused, without, SettingParts, match_places, then_without}
 use Rattle.krb_walk.specs.declared.event.Event.TheVariants.{Cut}
-use Rattle.krb_walk.specs.declared.refusal.Code.{Code}
 use Rattle.krb_walk.specs.Events.{put_store, cut_store}
 use Rattle.krb_walk.specs.History.{state_after}
-use Rattle.krb_ccache.specs.Store.{CacheState}
-use Rattle.krb_ccache.specs.Changes.{cut_result, is_refused, without}
 use Rattle.krb_ccache.specs.Placed.{cache_rules}
-use Rattle.krb_ccache.specs.SetConfig.{SettingParts, match_places, then_without}
 
 pub removals_leave : (k : CacheState) (cursors places : List ℕ) → (state_after cache_rules (record { store = k; cursors = cursors }) (map Cut places)).store ≡ without k places
 removals_leave k cursors [] = refl

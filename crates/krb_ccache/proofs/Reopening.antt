@@ -1,22 +1,5 @@
 -- Opening the image of a cache gives that cache again.
-use Rattle.std.proofs.Common.{◌≡◌, ℕ, false, List, [], ◌∷◌, ◌++◌, length, Some, None, Ok, refl, sym, ap, subst, ◌∙◌, arith}
-use Rattle.std.specs.Prelude.{nat_lt}
-use Rattle.std.specs.List.{flat_map, AllByRecursion}
-use Rattle.std.proofs.lemmas.Bool.{le-ltb}
-use Rattle.std.proofs.lemmas.List.{append-nil}
-use Rattle.std.specs.Int.{w16}
-use Rattle.krb_wire.specs.declared.format.Order.TheVariants.{Big}
-use Rattle.krb_wire.specs.Spelling.{digits, cc_principal}
-use Rattle.krb_wire.proofs.Fields.{IsBytes}
-use Rattle.krb_wire.proofs.Principals.{data16_field, cc_principal_field}
-use Rattle.krb_cells.specs.Contents.{Contents, NoMore, contents, spelling, next_by, IsCell}
-use Rattle.krb_cells.proofs.ContentsLemmas.{contents_again, unframed_cell}
-use Rattle.krb_ccache.specs.declared.version.Version.{Version}
-use Rattle.krb_ccache.specs.declared.version.Version.TheVariants.{V3, V4}
-use Rattle.krb_ccache.specs.Credential.{CredParts}
-use Rattle.krb_ccache.specs.Header.{Field, field, FitsField, header, FitsHeader, field_at, fields_format, only_cells, fields_in, header_at}
-use Rattle.krb_ccache.specs.Store.{CacheState, credentials_format, version_byte, version_in, image_of, open_default, open_header, open_result}
-use Rattle.krb_ccache.specs.Laws.{IsSoundCache}
+use Rattle.krb_ccache.proofs.Cited.{◌≡◌, ℕ, false, List, [], ◌∷◌, ◌++◌, length, Some, None, Ok, refl, sym, ap, subst, ◌∙◌, arith, nat_lt, flat_map, AllByRecursion, le-ltb, append-nil, w16, Big, digits, cc_principal, IsBytes, data16_field, cc_principal_field, Contents, NoMore, contents, spelling, next_by, IsCell, contents_again, unframed_cell, Version, V3, V4, CredParts, Field, field, FitsField, header, FitsHeader, field_at, fields_format, only_cells, fields_in, header_at, CacheState, credentials_format, version_byte, version_in, image_of, open_default, open_header, open_result, IsSoundCache}
 use Rattle.krb_ccache.proofs.HeaderFields.{field_field, fields_are, IsBytes-front, IsBytes-back}
 use Rattle.krb_ccache.proofs.CellLemmas.{credentials_are}
 

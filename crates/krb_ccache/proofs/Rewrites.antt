@@ -1,31 +1,11 @@
 -- A rewritten cache: its image, its store, and where cursors go.
-use Rattle.std.proofs.Common.{◌≡◌, ℕ, suc, ◌+◌, ◌≤◌, Bool, true, false, cond, Result, Ok, Err, Some, None, List, [], ◌∷◌, ◌++◌, length, map, refl, sym, ap, subst, ◌∙◌, append_assoc, length-append, arith, ◌-◌, take}
+use Rattle.krb_ccache.proofs.Cited.{◌≡◌, ℕ, suc, ◌+◌, ◌≤◌, Bool, true, false, cond, Result, Ok, Err, Some, None, List, [], ◌∷◌, ◌++◌, length, map, refl, sym, ap, subst, ◌∙◌, append_assoc, length-append, arith, ◌-◌, take, flat_map, AllByRecursion, le-ltb, append-nil, cc_principal, Parts, IsBytes, IsBytes-drop, IsBytes-take, next_by, spelling, Contents, Code, Cell, end_of, fault_of, AreCells, seen_in, Version, V4, CredParts, credential, is_marked, FitsCredential, in_version_4, header, offset_in, CacheState, PlacedCredential, credentials_format, image_of, store_cell, store_of, fault_kind, first_place, live_by, placed_from, is_live, new_header, new_preamble, live_credentials, Holds, IsImage, cache_of, new_text, new_texts, Layout, Offset}
 use Rattle.std.specs.Prelude.{nat_lt, is_some, not, filter, drop, Option, IfOk}
-use Rattle.std.specs.List.{flat_map, AllByRecursion}
-use Rattle.std.proofs.lemmas.Bool.{le-ltb}
-use Rattle.std.proofs.lemmas.List.{append-nil}
-use Rattle.krb_wire.specs.Spelling.{cc_principal, Parts}
-use Rattle.krb_wire.proofs.Fields.{IsBytes, IsBytes-drop, IsBytes-take}
-use Rattle.krb_cells.specs.Contents.{next_by, spelling, Contents}
-use Rattle.krb_walk.specs.declared.refusal.Code.{Code}
-use Rattle.krb_walk.specs.Store.{Cell, end_of, fault_of}
 use Rattle.krb_walk.specs.Ranks.{Rewrites}
 use Rattle.krb_walk.proofs.Lives.{lives}
 use Rattle.krb_walk.specs.declared.fault.FaultKind.{FaultKind}
 use Rattle.krb_cells.specs.Carry.{whole, store_in}
-use Rattle.krb_cells.specs.CellFormat.{AreCells, seen_in}
-use Rattle.krb_ccache.specs.declared.version.Version.{Version}
-use Rattle.krb_ccache.specs.declared.version.Version.TheVariants.{V4}
-use Rattle.krb_ccache.specs.Credential.{CredParts, credential, is_marked, FitsCredential, in_version_4}
-use Rattle.krb_ccache.specs.Header.{header, offset_in}
-use Rattle.krb_ccache.specs.Store.{CacheState, PlacedCredential, credentials_format, image_of, store_cell, store_of, fault_kind, first_place, live_by, placed_from, is_live}
-use Rattle.krb_ccache.specs.Changes.{new_header, new_preamble}
-use Rattle.krb_ccache.specs.Laws.{live_credentials}
-use Rattle.krb_ccache.specs.Open.{Holds, IsImage, cache_of}
 use Rattle.krb_ccache.specs.Rewrite.{new_cells, rewrite_of, rewrite_result}
-use Rattle.krb_ccache.specs.NewImage.{new_text, new_texts}
-use Rattle.krb_ccache.specs.declared.open.Layout.{Layout}
-use Rattle.krb_ccache.specs.declared.offset.Offset.{Offset}
 use Rattle.krb_ccache.proofs.HeaderFields.{IsBytes-front, IsBytes-back}
 use Rattle.krb_ccache.proofs.Splits.{no_credential}
 use Rattle.krb_ccache.proofs.CellLemmas.{end_is}

@@ -1,14 +1,6 @@
 -- What is written for a credential: whether it fits, and its parts.
-use Rattle.std.proofs.Common.{◌≡◌, ℕ, ◌+◌, ◌-◌, ◌^◌, ◌<◌, ◌≤◌, true, List, [], ◌∷◌, ◌++◌, length, sym, ap, subst, ◌∙◌, append_assoc, length-append, arith, sum, Option, None, IfNone, refl}
-use Rattle.std.specs.List.{flat_map, AllByRecursion}
-use Rattle.std.specs.Int.{w16, w32}
-use Rattle.std.proofs.lemmas.List.Concat.{flat_map-cons}
-use Rattle.krb_wire.specs.declared.format.Order.TheVariants.{Big}
-use Rattle.krb_wire.specs.Spelling.{Parts, digits, data32, cc_principal, cc_name_fits, IsLong, FitsCc}
-use Rattle.krb_wire.proofs.Fields.{wide16, wide32}
+use Rattle.krb_ccache.proofs.Cited.{◌≡◌, ℕ, ◌+◌, ◌-◌, ◌^◌, ◌<◌, ◌≤◌, true, List, [], ◌∷◌, ◌++◌, length, sym, ap, subst, ◌∙◌, append_assoc, length-append, arith, sum, Option, None, IfNone, refl, flat_map, AllByRecursion, w16, w32, flat_map-cons, Big, Parts, digits, data32, cc_principal, cc_name_fits, IsLong, FitsCc, wide16, wide32, V4, TypedData, Key, CredParts, number32, typed_data, typed_list, key, times, credential, FitsTypedData, FitsTypedList, FitsTimes, FitsCredential, plain_key, middle_text, lists_text}
 use Rattle.krb_wire.proofs.NamesCompared.{has_cc_len, and_both, long_lengths_of, long_lengths_fit}
-use Rattle.krb_ccache.specs.declared.version.Version.TheVariants.{V4}
-use Rattle.krb_ccache.specs.Credential.{TypedData, Key, CredParts, number32, typed_data, typed_list, key, times, credential, FitsTypedData, FitsTypedList, FitsTimes, FitsCredential, plain_key, middle_text, lists_text}
 use Rattle.krb_ccache.specs.declared.credential.times.Times.{Times}
 
 -- ---- what fits

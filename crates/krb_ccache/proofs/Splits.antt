@@ -1,19 +1,8 @@
 -- Credentials that are split at a place.
-use Rattle.std.proofs.Common.{◌≡◌, ℕ, ◌+◌, ◌-◌, Bool, true, false, List, [], ◌∷◌, ◌++◌, length, take, drop, map, Option, Some, None, refl, sym, ap, subst, ◌∙◌, arith}
+use Rattle.krb_ccache.proofs.Cited.{◌≡◌, ℕ, ◌+◌, ◌-◌, Bool, true, false, List, [], ◌∷◌, ◌++◌, length, take, drop, map, Option, Some, None, refl, sym, ap, subst, ◌∙◌, arith, flat_map, AllByRecursion, nat_tests, append-nil, take_at, IsBytes, IsBytes-drop, IsBytes-take, no_cc_principal, Contents, contents, IsCell, live_bytes, behind, contents_behind, Version, CredParts, credential, credential_at, is_marked, CacheState, PlacedCredential, credentials_format, store_cell, store_of, first_place, live_by, if_live, live_of, placed_from, credential_at_place}
 use Rattle.std.specs.Prelude.{◌==◌, option_map, find, IfSome, IfNone}
-use Rattle.std.specs.List.{flat_map, AllByRecursion}
-use Rattle.std.proofs.lemmas.Bool.Decides.{nat_tests}
-use Rattle.std.proofs.lemmas.List.{append-nil, take_at}
-use Rattle.krb_wire.proofs.Fields.{IsBytes, IsBytes-drop, IsBytes-take}
-use Rattle.krb_wire.proofs.Principals.{no_cc_principal}
-use Rattle.krb_cells.specs.Contents.{Contents, contents, IsCell}
-use Rattle.krb_walk.specs.Store.{live_bytes}
-use Rattle.krb_cells.proofs.ContentsLemmas.{behind, contents_behind}
 use Rattle.krb_walk.proofs.Splits.{bytes_here}
 use Rattle.krb_walk.proofs.Stops.{bytes_from}
-use Rattle.krb_ccache.specs.declared.version.Version.{Version}
-use Rattle.krb_ccache.specs.Credential.{CredParts, credential, credential_at, is_marked}
-use Rattle.krb_ccache.specs.Store.{CacheState, PlacedCredential, credentials_format, store_cell, store_of, first_place, live_by, if_live, live_of, placed_from, credential_at_place}
 use Rattle.krb_ccache.proofs.CellLemmas.{credentials_are, read_none}
 
 -- the empty list begins with no credential

@@ -1,19 +1,9 @@
 -- An addition to a cache, and a removal from it, change one cell of its store.
-use Rattle.std.proofs.Common.{◌≡◌, ℕ, ◌<◌, Bool, true, false, List, [], ◌∷◌, ◌++◌, length, map, Option, Some, None, inr, refl, sym, ap, ◌∙◌}
-use Rattle.std.specs.Prelude.{is_some, option_map, IsSome}
-use Rattle.std.specs.List.{AllByRecursion}
-use Rattle.std.proofs.lemmas.List.{map-append}
+use Rattle.krb_ccache.proofs.Cited.{◌≡◌, ℕ, ◌<◌, Bool, true, false, List, [], ◌∷◌, ◌++◌, length, map, Option, Some, None, inr, refl, sym, ap, ◌∙◌, is_some, option_map, IsSome, AllByRecursion, map-append, Cell, end_of, fault_from, fault_of, is_place_from, live_bytes, IsPlace, is_some_has, Version, V3, V4, CredParts, credential, is_marked, CacheState, live_by, store_cell, store_of, fault_kind, first_place, credential_at_place, add_mark, add_mark_at, with_mark, with_last, is_read_only}
 use Rattle.krb_walk.specs.declared.fault.FaultKind.{FaultKind}
-use Rattle.krb_walk.specs.Store.{Cell, end_of, fault_from, fault_of, is_place_from, live_bytes, IsPlace}
 use Rattle.krb_walk.specs.Changes.{Puts, Cuts}
 use Rattle.krb_walk.proofs.Stops.{bytes_from}
 use Rattle.krb_walk.proofs.Splits.{bytes_here, split_is_place}
-use Rattle.krb_wire.proofs.Fields.{is_some_has}
-use Rattle.krb_ccache.specs.declared.version.Version.{Version}
-use Rattle.krb_ccache.specs.declared.version.Version.TheVariants.{V3, V4}
-use Rattle.krb_ccache.specs.Credential.{CredParts, credential, is_marked}
-use Rattle.krb_ccache.specs.Store.{CacheState, live_by, store_cell, store_of, fault_kind, first_place, credential_at_place}
-use Rattle.krb_ccache.specs.Changes.{add_mark, add_mark_at, with_mark, with_last, is_read_only}
 use Rattle.krb_ccache.proofs.CredentialField.{credential_field}
 use Rattle.krb_ccache.proofs.MarkLemmas.{found_at, marked_one, marked_len}
 use Rattle.krb_ccache.proofs.Splits.{live_is}

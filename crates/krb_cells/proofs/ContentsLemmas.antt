@@ -1,9 +1,7 @@
 -- Unique reading: in any format, bytes have one list of cells and one end.
-use Rattle.std.proofs.Common.{◌≡◌, ℕ, zero, suc, ◌+◌, ◌<◌, List, [], ◌∷◌, ◌++◌, length, Option, Some, None, refl, sym, ap, subst, ◌∙◌, append_assoc, arith}
-use Rattle.std.specs.List.{flat_map, AllByRecursion}
+use Rattle.krb_cells.proofs.Cited.{◌≡◌, ℕ, zero, suc, ◌+◌, ◌<◌, List, [], ◌∷◌, ◌++◌, length, Option, Some, None, refl, sym, ap, subst, ◌∙◌, append_assoc, arith, flat_map, AllByRecursion, IsBytes, IsBytes-drop, Takes}
 use Rattle.std.proofs.lemmas.List.{append-nil, drop_at, length-append}
 use Rattle.std.proofs.lemmas.List.Concat.{flat_map-cons}
-use Rattle.krb_wire.proofs.Fields.{IsBytes, IsBytes-drop, Takes}
 use Rattle.krb_wire.proofs.Places.{IsField}
 use Rattle.krb_cells.specs.Contents.{NextCell, More, NoMore, Contents, Format, spelling, on_next, first_cells, contents, IsCell, IsEnd, IsSound, IsSpelled, next_by, unframed}
 

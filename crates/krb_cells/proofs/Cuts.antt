@@ -1,15 +1,8 @@
 -- The cells of bytes, split at a place.
-use Rattle.std.proofs.Common.{◌≡◌, ℕ, ◌+◌, ◌-◌, ◌<◌, ◌≤◌, Bool, true, false, List, [], ◌∷◌, ◌++◌, length, drop, Option, Some, None, refl, sym, ap, subst, ◌∙◌, arith}
-use Rattle.std.specs.Prelude.{◌==◌, IsSome}
-use Rattle.std.specs.List.{AllByRecursion}
-use Rattle.std.proofs.lemmas.Bool.Decides.{nat_tests}
-use Rattle.std.proofs.lemmas.List.{length-drop, drop-drop}
-use Rattle.krb_wire.proofs.Fields.{is_some_has}
+use Rattle.krb_cells.proofs.Cited.{◌≡◌, ℕ, ◌+◌, ◌-◌, ◌<◌, ◌≤◌, Bool, true, false, List, [], ◌∷◌, ◌++◌, length, drop, Option, Some, None, refl, sym, ap, subst, ◌∙◌, arith, ◌==◌, IsSome, AllByRecursion, nat_tests, length-drop, drop-drop, is_some_has, Cell, Store, Record, end_from, end_of, is_place, is_place_from, live_bytes, stop_of, end_stop, IsSound, IsPlace, HasCells, AreCells}
 use Rattle.krb_walk.specs.declared.fault.FaultKind.{FaultKind}
-use Rattle.krb_walk.specs.Store.{Cell, Store, Record, end_from, end_of, is_place, is_place_from, live_bytes, stop_of, end_stop, IsSound, IsPlace}
 use Rattle.krb_walk.proofs.Stops.{next_from, bytes_from, is_place_from-first}
 use Rattle.krb_walk.proofs.Splits.{end_from-append, next_ahead, bytes_ahead, live_splits, split_is_place}
-use Rattle.krb_cells.specs.CellFormat.{HasCells, AreCells}
 use Rattle.krb_cells.specs.Cells.{HoldsCells, IsFrom}
 
 -- each cell of bytes takes up a place

@@ -1,11 +1,7 @@
 -- Bytes with the contents of a format are exactly their cells.
-use Rattle.std.proofs.Common.{◌≡◌, ℕ, zero, suc, ◌<◌, ◌≤◌, List, [], length, map, drop, refl, sym, ap, subst, ◌∙◌, length-append, arith}
-use Rattle.std.proofs.lemmas.List.{drop_at}
-use Rattle.krb_wire.proofs.Fields.{IsBytes}
-use Rattle.krb_walk.specs.Store.{Cell}
+use Rattle.krb_cells.proofs.Cited.{◌≡◌, ℕ, zero, suc, ◌<◌, ◌≤◌, List, [], length, map, drop, refl, sym, ap, subst, ◌∙◌, length-append, arith, drop_at, IsBytes, Cell, HasCells, AreCells, seen_in}
 use Rattle.krb_cells.specs.Contents.{NextCell, More, NoMore, Contents, Format, on_next, contents}
 use Rattle.krb_cells.proofs.ContentsLemmas.{IsNext, IsFormat, contents_next}
-use Rattle.krb_cells.specs.CellFormat.{HasCells, AreCells, seen_in}
 
 -- a format whose cells a store sees as wide as they are, each at least 4 bytes, and whose end of no bytes is empty
 pub record IsSeen {C E : Type 0} (f : Format C E) (seen : C → Cell) : Type 0 where

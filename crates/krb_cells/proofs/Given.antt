@@ -1,20 +1,13 @@
 -- Each cell of an image holds in its first four bytes the place that it goes to.
-use Rattle.std.proofs.Common.{◌≡◌, ℕ, ◌+◌, ◌-◌, ◌<◌, ◌≤◌, true, false, eqb, List, [], ◌∷◌, ◌++◌, length, take, drop, Bool, Option, Some, None, inl, inr, refl, sym, ap, subst, ◌∙◌, append_assoc, arith}
-use Rattle.std.specs.Prelude.{nat_le, is_some, option_copied}
+use Rattle.krb_cells.proofs.Cited.{◌≡◌, ℕ, ◌+◌, ◌-◌, ◌<◌, ◌≤◌, true, false, eqb, List, [], ◌∷◌, ◌++◌, length, take, drop, Bool, Option, Some, None, inl, inr, refl, sym, ap, subst, ◌∙◌, append_assoc, arith, nat_le, is_some, option_copied, splice, eqb_tells, nat_tests, wide32, Cell, Store, end_from, is_place_from, HasCells, AreCells, between, new_width, new_after, Passes, new_place, AreGiven}
 use Rattle.std.specs.Borrow.{Bor}
 use Rattle.std.specs.Int.{w32}
-use Rattle.std.specs.List.{splice}
 use Rattle.std.proofs.lemmas.Bool.{ne_eqb, cases_lt}
-use Rattle.std.proofs.lemmas.Bool.Decides.{eqb_tells, nat_tests}
 use Rattle.std.proofs.lemmas.List.{take_at, drop_at, take-append-le, drop-append-le, drop-take, take-take, length-take, length-drop, length-append, drop-drop}
 use Rattle.krb_wire.specs.declared.format.Order.TheVariants.{Big}
 use Rattle.krb_wire.specs.Spelling.{digits}
-use Rattle.krb_wire.proofs.Fields.{wide32}
-use Rattle.krb_walk.specs.Store.{Cell, Store, end_from, is_place_from}
 use Rattle.krb_cells.specs.declared.cell_format.CellView.{CellView}
-use Rattle.krb_cells.specs.CellFormat.{HasCells, AreCells}
 use Rattle.krb_cells.specs.Cells.{GivesCell}
-use Rattle.krb_cells.specs.Carry.{between, new_width, new_after, Passes, new_place, AreGiven}
 
 -- ---- places of cells
 

@@ -1,3 +1,4 @@
+pub mod Cited
 pub mod ContentsLemmas
 pub mod Cuts
 pub mod CursorLemmas

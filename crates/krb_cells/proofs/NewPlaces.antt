@@ -1,12 +1,7 @@
 -- Where a place goes, computed cell by cell, is where a rewrite carries it.
-use Rattle.std.proofs.Common.{◌≡◌, ◌≢◌, ℕ, ◌+◌, ◌^◌, ◌<◌, ◌≤◌, Bool, true, false, cond, List, [], ◌∷◌, length, Option, Some, None, inl, inr, refl, sym, ap, subst, ◌∙◌, arith}
-use Rattle.std.specs.Prelude.{nat_le, is_some}
-use Rattle.std.specs.List.{AllByRecursion}
+use Rattle.krb_cells.proofs.Cited.{◌≡◌, ◌≢◌, ℕ, ◌+◌, ◌^◌, ◌<◌, ◌≤◌, Bool, true, false, cond, List, [], ◌∷◌, length, Option, Some, None, inl, inr, refl, sym, ap, subst, ◌∙◌, arith, nat_le, is_some, AllByRecursion, nat_tests, Cell, Store, end_from, end_of, is_place_from, IsPlace, whole, new_width, new_after, new_place, EncodesAt, AreGiven, HasGiven, GoesBy}
 use Rattle.std.proofs.lemmas.Bool.{cases_lt}
-use Rattle.std.proofs.lemmas.Bool.Decides.{nat_tests}
-use Rattle.krb_walk.specs.Store.{Cell, Store, end_from, end_of, is_place_from, IsPlace}
 use Rattle.krb_walk.specs.Ranks.{nth_or, carry, Rewrites}
-use Rattle.krb_cells.specs.Carry.{whole, new_width, new_after, new_place, EncodesAt, AreGiven, HasGiven, GoesBy}
 use Rattle.krb_walk.proofs.Stops.{end_from-ge}
 use Rattle.krb_walk.proofs.Lives.{lives}
 use Rattle.krb_walk.proofs.Places.{place_in}

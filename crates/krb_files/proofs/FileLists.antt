@@ -1,11 +1,8 @@
 -- Look-ups in a list of files, and changes to it.
-use Rattle.std.proofs.Common.{◌≡◌, ◌≢◌, ℕ, zero, suc, ◌+◌, ◌<◌, ◌≤◌, Bool, true, false, not, List, [], ◌∷◌, ◌++◌, length, Some, None, map, refl, sym, ap, subst, ◌∙◌, cond, arith}
-use Rattle.std.specs.Prelude.{find, position, option_map, nat_lt, slice_set, slice_index_or}
+use Rattle.krb_files.proofs.Cited.{◌≡◌, ◌≢◌, ℕ, zero, suc, ◌+◌, ◌<◌, ◌≤◌, Bool, true, false, not, List, [], ◌∷◌, ◌++◌, length, Some, None, map, refl, sym, ap, subst, ◌∙◌, cond, arith, find, position, option_map, nat_lt, slice_set, slice_index_or, bytes_eq, SetsFile}
 use Rattle.std.specs.List.{prefix_len}
-use Rattle.std.specs.Str.{bytes_eq}
 use Rattle.std.proofs.lemmas.Bool.{ltb-true, ltb-false}
 use Rattle.std.proofs.lemmas.Slice.Eq.{bytes_eq-Decides}
-use Rattle.krb_files.specs.Files.{SetsFile}
 use Rattle.krb_files.specs.MemFiles.{file_in, with_file}
 
 -- `find` in a mapped list is the image of `find` in the list

@@ -1,3 +1,4 @@
+pub mod Cited
 pub mod PlanLaws
 pub mod Prefixes
 pub mod FileLists

@@ -1,12 +1,9 @@
 -- The outcomes of plans over honest files.
-use Rattle.std.proofs.Common.{◌≡◌, ◌⊎◌, inl, inr, ◌∙◌, ℕ, ◌<◌, ◌≤◌, ◌^◌, ◌-◌, Bool, true, false, List, [], ◌∷◌, Option, None, Some, length, refl, sym, ap, subst, cond, arith}
-use Rattle.std.specs.Prelude.{Ok, Err, if◌then◌else◌, nat_lt}
-use Rattle.std.specs.Str.{bytes_eq}
+use Rattle.krb_files.proofs.Cited.{◌≡◌, ◌⊎◌, inl, inr, ◌∙◌, ℕ, ◌<◌, ◌≤◌, ◌^◌, ◌-◌, Bool, true, false, List, [], ◌∷◌, Option, None, Some, length, refl, sym, ap, subst, cond, arith, Ok, Err, if◌then◌else◌, nat_lt, bytes_eq, FileMap, SameFiles, SetsFile, CountsFailure, loaded}
 use Rattle.std.proofs.lemmas.Bool.{true≢false, cases_lt}
 use Rattle.std.proofs.lemmas.Slice.Eq.{bytes_eq-Decides}
 use Rattle.krb_files.specs.declared.files.LoadFault.TheVariants as load
 use Rattle.krb_files.specs.declared.files.Files.{Ghosts}
-use Rattle.krb_files.specs.Files.{FileMap, SameFiles, SetsFile, CountsFailure, loaded}
 use Rattle.krb_files.specs.Loading.{Answer, LoadsFile, TurnsHold, most_bytes}
 use Rattle.krb_files.specs.Plan.{Plan, Ends, Holds, Loads, Faults, HeldIf, Leaves, by, Loaded, follow, with_bytes}
 

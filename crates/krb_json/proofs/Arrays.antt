@@ -1,14 +1,9 @@
 -- The text of an object with arrays in it, in pieces.
-use Rattle.std.proofs.Common.{◌≡◌, ℕ, Bool, true, false, List, [], ◌∷◌, ◌++◌, fold, refl, sym, ap, ◌∙◌, append_assoc}
+use Rattle.krb_json.proofs.Cited.{◌≡◌, ℕ, Bool, true, false, List, [], ◌∷◌, ◌++◌, fold, refl, sym, ap, ◌∙◌, append_assoc, Token, begin_object, end_object, begin_array, end_array, key, json_tokens, items_tokens, members_tokens, escaped, text_of, Member, members_of, object_of, array_of, member_tokens, tokens_of, element_text, elements_text, head_tokens, between_tokens}
 use Rattle.std.proofs.lemmas.List.Sums.{fold-append}
 use Rattle.json.specs.Json.{Json, null, boolean, number, string, array, object, Items, no_items, item, Members, no_members, member}
 use Rattle.json.specs.Value.{items_of}
-use Rattle.json.specs.Token.{Token, begin_object, end_object, begin_array, end_array, key}
 use Rattle.json.specs.Print.{print_from, ends, ends_value}
-use Rattle.json.specs.Tree.{json_tokens, items_tokens, members_tokens}
-use Rattle.krb_json.specs.Escaped.{escaped, text_of}
-use Rattle.krb_json.specs.Members.{Member, members_of, object_of, array_of}
-use Rattle.krb_json.specs.Pieces.{member_tokens, tokens_of, element_text, elements_text, head_tokens, between_tokens}
 use Rattle.krb_json.proofs.EscapedLemmas.{escaped-plain, text_from, text_from-append}
 
 -- ---- a value alone

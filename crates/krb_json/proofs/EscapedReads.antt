@@ -1,16 +1,12 @@
 -- Tokens and values are read back from their escaped text.
-use Rattle.std.proofs.Common.{◌≡◌, ℕ, ◌≤◌, Bool, true, false, cond, List, [], ◌∷◌, ◌++◌, Some, option_and_then, refl, sym, ap, ap₂, ◌∙◌, subst, append_assoc}
+use Rattle.krb_json.proofs.Cited.{◌≡◌, ℕ, ◌≤◌, Bool, true, false, cond, List, [], ◌∷◌, ◌++◌, Some, option_and_then, refl, sym, ap, ap₂, ◌∙◌, subst, append_assoc, Token, begin_object, end_object, begin_array, end_array, key, string, number, boolean, null, bad, Json, document, if_last, max_depth, value, json_tokens, depth, HasNumbers, escaped, json_text}
 use Rattle.std.specs.Prelude.{◌&&◌}
-use Rattle.json.specs.Token.{Token, begin_object, end_object, begin_array, end_array, key, string, number, boolean, null, bad}
-use Rattle.json.specs.Json.{Json, document, if_last, max_depth, value}
 use Rattle.json.specs.Word.{ends_word, word}
 use Rattle.json.specs.Lex.{Lexeme, lex, between, token, comma, colon, string_token, punctuate, fresh}
 use Rattle.json.specs.Print.{print_from, escape as json_escape, quoted, token_text, begins, ends, IsPrintable, ArePrintable}
-use Rattle.json.specs.Tree.{json_tokens, depth, HasNumbers}
 use Rattle.json.proofs.Printed.Numbers.{in_word-ended, lex-number}
 use Rattle.json.proofs.Printed.Strings.{content-escape, lex-escape}
 use Rattle.json.proofs.Printed.Trees.{ArePrintable-json_tokens, document-print}
-use Rattle.krb_json.specs.Escaped.{escaped, json_text}
 use Rattle.krb_json.proofs.EscapedLemmas.{escaped-cut, escaped-none, escaped-plain, text_from, text_from-next}
 use Rattle.krb_json.proofs.EscapedNumbers.{number_has_none}
 use Rattle.krb_json.proofs.EscapedStrings.{is_read}

@@ -1,10 +1,7 @@
 -- A string is read back from its escaped text, and the lexer passes over it.
-use Rattle.std.proofs.Common.{◌≡◌, ℕ, zero, suc, ◌/◌, ◌%◌, ◌<◌, ◌≤◌, Bool, true, false, cond, List, [], ◌∷◌, ◌++◌, Option, Some, None, inl, inr, refl, sym, ap, ◌∙◌, subst, arith, append_assoc}
+use Rattle.krb_json.proofs.Cited.{◌≡◌, ℕ, zero, suc, ◌/◌, ◌%◌, ◌<◌, ◌≤◌, Bool, true, false, cond, List, [], ◌∷◌, ◌++◌, Option, Some, None, inl, inr, refl, sym, ap, ◌∙◌, subst, arith, append_assoc, list_any, bytes_eq, and_left, and_parts, cases_Bool, cases_eq, cases_lt, eqb-true, false≢true, le-ltb, leb-true, lt-leb, ltb-false, ltb-true, ne_eqb, not-true, or_parts, escape, escaped, is_pair, is_second, is_special}
 use Rattle.std.specs.Prelude.{◌==◌, ◌&&◌, not, nat_lt, nat_le, slice_index}
 use Rattle.std.specs.Char.{digit_char, encode_utf8}
-use Rattle.std.specs.List.{list_any}
-use Rattle.std.specs.Str.{bytes_eq}
-use Rattle.std.proofs.lemmas.Bool.{and_left, and_parts, cases_Bool, cases_eq, cases_lt, eqb-true, false≢true, le-ltb, leb-true, lt-leb, ltb-false, ltb-true, ne_eqb, not-true, or_parts}
 use Rattle.std.proofs.lemmas.Str.{encode_ascii}
 use Rattle.std.proofs.lemmas.Slice.Eq.{bytes_eq-Decides}
 use lib.Utf8.{encode}
@@ -14,7 +11,6 @@ use Rattle.json.specs.Word.{is_operator, is_space}
 use Rattle.json.specs.Lex.{Lexeme, Mode, lex, lex_byte, between, in_string, operator, space, other}
 use Rattle.json.specs.Print.{escape_byte, escape_letter, escape as json_escape}
 use Rattle.json.proofs.Printed.Strings.{escape_byte_plain}
-use Rattle.krb_json.specs.Escaped.{escape, escaped, is_pair, is_second, is_special}
 use Rattle.krb_json.proofs.EscapedLemmas.{escaped-first, escaped-pair, escaped-plain, escaped-single}
 
 -- ---- tests of small numbers, by computing each

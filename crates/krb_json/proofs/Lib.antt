@@ -1,3 +1,4 @@
+pub mod Cited
 pub mod Texts
 pub mod EscapedLemmas
 pub mod EscapedStrings

@@ -1,13 +1,10 @@
 -- What is written is read back.
-use Rattle.std.proofs.Common.{◌≡◌, ℕ, ◌<◌, ◌≤◌, ◌^◌, Bool, true, false, cond, List, [], ◌∷◌, ◌++◌, codes, Option, None, Some, lit<, refl, arith, length}
-use Rattle.std.specs.Str.{is_utf8}
+use Rattle.krb_json.proofs.Cited.{◌≡◌, ℕ, ◌<◌, ◌≤◌, ◌^◌, Bool, true, false, cond, List, [], ◌∷◌, ◌++◌, codes, Option, None, Some, lit<, refl, arith, length, is_utf8, depth, items_depth, members_depth, HasNumbers, ItemsHaveNumbers, MembersHaveNumbers, name_text, CacheState, PlacedCredential, placed_credentials, ConfigParts, json_text, Member, members_of, etype_members, file_members, text_member, text_or_null, fault_value, digits_of, owner_members, key_members, entry_value, entry_values, keytab_value, party_members, time_members, flag_members, size_members, about_member, ticket_value, config_value, ticket_values, config_values, cache_value, IsPlain, ArePlain}
 use Rattle.json.specs.Json.{Json, string, document}
-use Rattle.json.specs.Tree.{depth, items_depth, members_depth, HasNumbers, ItemsHaveNumbers, MembersHaveNumbers}
 use Rattle.json.specs.Value.{items_of}
 use Rattle.json.proofs.Printed.Decimals.{IsNumber-decimal}
 use Rattle.krb_wire.specs.declared.format.KtFormat.{KtFormat}
 use Rattle.krb_wire.specs.declared.format.KtFormat.TheVariants.{V1, V2}
-use Rattle.krb_wire.specs.Names.{name_text}
 use Rattle.krb_wire.specs.Spelling.{version_byte}
 use Rattle.krb_walk.specs.declared.fault.Fault.{Fault}
 use Rattle.krb_walk.specs.declared.fault.FaultKind.{FaultKind}
@@ -18,16 +15,9 @@ use Rattle.krb_keytab.specs.Find.{PlacedEntry}
 use Rattle.krb_keytab.specs.Store.{KeytabState, store_of}
 use Rattle.krb_ccache.specs.declared.version.Version.{Version}
 use Rattle.krb_ccache.specs.declared.version.Version.TheVariants.{V3, V4}
-use Rattle.krb_ccache.specs.Store.{CacheState, PlacedCredential, placed_credentials}
 use Rattle.krb_ccache.specs.Store as cache
 use Rattle.krb_ccache.specs.Credential.{FitsTimes}
-use Rattle.krb_ccache.specs.Config.{ConfigParts}
 use Rattle.krb_text.specs.Etype.{etype_name_of}
-use Rattle.krb_json.specs.Escaped.{json_text}
-use Rattle.krb_json.specs.Members.{Member, members_of, etype_members, file_members, text_member, text_or_null, fault_value, digits_of}
-use Rattle.krb_json.specs.Keytab.{owner_members, key_members, entry_value, entry_values, keytab_value}
-use Rattle.krb_json.specs.Cache.{party_members, time_members, flag_members, size_members, about_member, ticket_value, config_value, ticket_values, config_values, cache_value}
-use Rattle.krb_json.specs.Pieces.{IsPlain, ArePlain}
 use Rattle.krb_json.proofs.EscapedReads.{document-text}
 
 -- ---- texts

@@ -1,19 +1,9 @@
 -- Elements of an array, one after the other.
-use Rattle.std.proofs.Common.{◌≡◌, ℕ, Bool, ◌||◌, List, [], ◌++◌, Option, None, Some, is_some, Result, Ok, Err, refl, sym, ap, ◌∙◌, append_assoc, append-nil}
-use Rattle.std.specs.Prelude.{IsFalse}
-use Rattle.std.specs.List.{cons_option}
-use Rattle.std.proofs.lemmas.Result.{on_ok_weaker, on_err_weaker}
-use Rattle.json.specs.Json.{Json}
-use Rattle.json.specs.Token.{Token}
-use Rattle.json.specs.Tree.{json_tokens}
-use Rattle.krb_text.specs.Gathered.{Passed, Gathers, Prints}
-use Rattle.krb_text.proofs.Passing.{passed_gather, passed_last, passed_fail, gathers_memory}
+use Rattle.krb_json.proofs.Cited.{◌≡◌, ℕ, Bool, ◌||◌, List, [], ◌++◌, Option, None, Some, is_some, Result, Ok, Err, refl, sym, ap, ◌∙◌, append_assoc, append-nil, IsFalse, cons_option, on_ok_weaker, on_err_weaker, Json, Token, json_tokens, Passed, Gathers, Prints, passed_gather, passed_last, passed_fail, gathers_memory, text_of, comma_after, element_text, element_if, elements_text, IfPlain, ArePlain}
 use Rattle.krb_files.specs.declared.output.OutFault.{OutFault}
 use Rattle.krb_files.specs.declared.output.OutFault.TheVariants.{NoMemory}
 use Rattle.krb_files.specs.Bytes.{Watch}
 use Rattle.krb_files.proofs.Prefixes.{Appends-trans, AppendsPrefix-longer, AppendsPrefix-none}
-use Rattle.krb_json.specs.Escaped.{text_of}
-use Rattle.krb_json.specs.Pieces.{comma_after, element_text, element_if, elements_text, IfPlain, ArePlain}
 
 elements_step : (after : Bool) (x : Option Json) (vs : List Json) → elements_text after (cons_option x vs) ≡ element_if after x ++ elements_text (is_some x || after) vs
 elements_step after None vs = refl

@@ -1,8 +1,5 @@
 -- Texts that are UTF-8.
-use Rattle.std.proofs.Common.{map, cond, ◌≡◌, ℕ, Bool, true, false, List, [], ◌∷◌, IsUtf8, IsAscii, ◌&&◌, refl}
-use Rattle.std.specs.Prelude.{ltb, filter}
-use Rattle.std.specs.Str.{is_utf8}
-use Rattle.std.proofs.lemmas.Bool.{and_parts, and_from, ltb-true}
+use Rattle.krb_json.proofs.Cited.{map, cond, ◌≡◌, ℕ, Bool, true, false, List, [], ◌∷◌, IsUtf8, IsAscii, ◌&&◌, refl, ltb, filter, is_utf8, and_parts, and_from, ltb-true}
 use Rattle.std.proofs.lemmas.Str.{IsUtf8-from_is_utf8, is_utf8-from_IsUtf8, IsUtf8-from_ascii}
 use Rattle.std.proofs.lemmas.Str.Ascii.{IsAscii-nil, IsAscii-cons}
 use Rattle.krb_text.specs.Flags.{flag_table, is_set, flag_letters_of}

@@ -1,19 +1,9 @@
 -- The text of a file, in pieces.
-use Rattle.std.proofs.Common.{◌≡◌, ℕ, Bool, false, List, [], ◌∷◌, ◌++◌, codes, refl, sym, ap, ◌∙◌, append_assoc}
-use Rattle.json.specs.Json.{Json}
-use Rattle.json.specs.Token.{end_array}
-use Rattle.json.specs.Tree.{json_tokens, members_tokens}
-use Rattle.krb_wire.specs.Names.{name_text}
+use Rattle.krb_json.proofs.Cited.{◌≡◌, ℕ, Bool, false, List, [], ◌∷◌, ◌++◌, codes, refl, sym, ap, ◌∙◌, append_assoc, Json, end_array, json_tokens, members_tokens, name_text, CacheState, placed_credentials, text_of, Member, members_of, object_of, array_of, text_member, fault_value, file_members, entry_values, keytab_value, keytab_json_text, ticket_values, config_values, cache_value, cache_json_text, elements_text, head_tokens, between_tokens, tail_tokens, arrays_text}
 use Rattle.krb_wire.specs.Spelling.{version_byte}
 use Rattle.krb_walk.specs.Store.{fault_of}
 use Rattle.krb_keytab.specs.Store.{KeytabState, store_of}
-use Rattle.krb_ccache.specs.Store.{CacheState, placed_credentials}
 use Rattle.krb_ccache.specs.Store as cache
-use Rattle.krb_json.specs.Escaped.{text_of}
-use Rattle.krb_json.specs.Members.{Member, members_of, object_of, array_of, text_member, fault_value, file_members}
-use Rattle.krb_json.specs.Keytab.{entry_values, keytab_value, keytab_json_text}
-use Rattle.krb_json.specs.Cache.{ticket_values, config_values, cache_value, cache_json_text}
-use Rattle.krb_json.specs.Pieces.{elements_text, head_tokens, between_tokens, tail_tokens, arrays_text}
 use Rattle.krb_json.proofs.Arrays.{object_print, rest_print, members_end_object}
 
 tail_print : (ns : List Member) → text_of (end_array ∷ members_tokens (members_of ns)) ≡ text_of (tail_tokens ns)

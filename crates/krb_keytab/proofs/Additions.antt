@@ -1,18 +1,6 @@
 -- The result of an addition, by the image that is kept.
-use Rattle.std.proofs.Common.{◌≡◌, ℕ, ◌+◌, ◌<◌, ◌≤◌, Bool, true, false, cond, ltb, List, [], ◌∷◌, ◌++◌, length, drop, None, Ok, Err, sym, ap, ◌∙◌, length-append, arith}
-use Rattle.std.specs.Prelude.{is_some}
-use Rattle.std.specs.List.{flat_map}
-use Rattle.std.proofs.lemmas.Bool.{lt-ltb, le-ltb}
-use Rattle.std.proofs.lemmas.List.{length-replicate}
-use Rattle.krb_wire.specs.declared.format.KtFormat.{KtFormat}
-use Rattle.krb_wire.specs.Spelling.{order_of}
+use Rattle.krb_keytab.proofs.Cited.{◌≡◌, ℕ, ◌+◌, ◌<◌, ◌≤◌, Bool, true, false, cond, ltb, List, [], ◌∷◌, ◌++◌, length, drop, None, Ok, Err, sym, ap, ◌∙◌, length-append, arith, is_some, flat_map, lt-ltb, le-ltb, length-replicate, KtFormat, order_of, end_of, fault_of, CellsEnd, Live, Contents, cell, end_bytes, contents, image, kind_of, ends, IsKnownEnd, mark_len, len_with, KeytabState, image_of, store_of, end_place, with_last, end_after, append_result}
 use Rattle.krb_walk.specs.declared.refusal.Code.TheVariants as code
-use Rattle.krb_walk.specs.Store.{end_of, fault_of}
-use Rattle.krb_keytab.specs.declared.image.CellsEnd.{CellsEnd}
-use Rattle.krb_keytab.specs.Cells.{Live, Contents, cell, end_bytes, contents, image, kind_of}
-use Rattle.krb_keytab.specs.Image.{ends, IsKnownEnd, mark_len, len_with}
-use Rattle.krb_keytab.specs.Store.{KeytabState, image_of, store_of, end_place}
-use Rattle.krb_keytab.specs.Changes.{with_last, end_after, append_result}
 use Rattle.krb_keytab.proofs.Cuts.{end_place_is, end_place-append}
 use Rattle.krb_keytab.proofs.Stores.{keytab_of, end_held, whole_of}
 use Rattle.krb_keytab.proofs.AppendLemmas.{zeros_after}

@@ -1,17 +1,7 @@
 -- After an addition and a removal: what was added is read back, and what was removed is gone.
-use Rattle.std.proofs.Common.{◌≡◌, ℕ, ◌⊎◌, true, false, cond, ltb, List, [], ◌++◌, length, map, replicate, Option, Some, None, Result, Ok, Err, refl, sym, ap, subst, ◌∙◌, inl, inr}
-use Rattle.std.specs.Prelude.{is_some}
-use Rattle.std.proofs.lemmas.List.{append-nil}
-use Rattle.krb_wire.specs.Reading.{◌>>=◌}
-use Rattle.krb_wire.proofs.Fields.{is_some_has}
+use Rattle.krb_keytab.proofs.Cited.{◌≡◌, ℕ, ◌⊎◌, true, false, cond, ltb, List, [], ◌++◌, length, map, replicate, Option, Some, None, Result, Ok, Err, refl, sym, ap, subst, ◌∙◌, inl, inr, is_some, append-nil, ◌>>=◌, is_some_has, bytes_from, EntryParts, entry_at, Cell, Live, size, KeytabState, image_of, store_cell, store_of, entry_at_place, fits, written_form, read_back, IsEntry, PlacedCell, zero_hole, with_zeros, record_in, first_hole, with_hole, with_record_in, with_last, put_result_into, put_bytes_result, put_result, cut_result}
 use Rattle.krb_walk.specs.declared.refusal.Code.TheVariants as code
 use Rattle.krb_walk.specs.Store.{end_of, fault_of, live_bytes as store_bytes}
-use Rattle.krb_walk.proofs.Stops.{bytes_from}
-use Rattle.krb_keytab.specs.Entry.{EntryParts, entry_at}
-use Rattle.krb_keytab.specs.Cells.{Cell, Live, size}
-use Rattle.krb_keytab.specs.Store.{KeytabState, image_of, store_cell, store_of, entry_at_place}
-use Rattle.krb_keytab.specs.Form.{fits, written_form, read_back, IsEntry}
-use Rattle.krb_keytab.specs.Changes.{PlacedCell, zero_hole, with_zeros, record_in, first_hole, with_hole, with_record_in, with_last, put_result_into, put_bytes_result, put_result, cut_result}
 use Rattle.krb_keytab.proofs.CellLemmas.{chosen}
 use Rattle.krb_keytab.proofs.Cuts.{live_there}
 use Rattle.krb_keytab.proofs.EntryLemmas.{entry_again}

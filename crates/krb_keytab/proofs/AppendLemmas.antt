@@ -1,24 +1,7 @@
 -- An image after a record is added after its cells.
-use Rattle.std.proofs.Common.{◌≡◌, ℕ, ◌+◌, ◌-◌, ◌^◌, ◌<◌, ◌≤◌, List, [], ◌∷◌, ◌++◌, length, take, drop, replicate, None, refl, sym, ap, subst, ◌∙◌, append_assoc, length-append, arith}
-use Rattle.std.specs.Prelude.{IsSome}
-use Rattle.std.specs.List.{flat_map, splice}
+use Rattle.krb_keytab.proofs.Cited.{◌≡◌, ℕ, ◌+◌, ◌-◌, ◌^◌, ◌<◌, ◌≤◌, List, [], ◌∷◌, ◌++◌, length, take, drop, replicate, None, refl, sym, ap, subst, ◌∙◌, append_assoc, length-append, arith, IsSome, flat_map, splice, append-nil, take_at, drop_at, take-append-drop, length-take, drop_all, flat_map-cons, Order, Big, Little, KtFormat, order_of, IsBytes, IsBytes-drop, CellsEnd, Ending, entry_at, Live, End, Bare, Mark, Damaged, Contents, cell, end_bytes, spelling, contents, IsCell, IsEnd, IsSound, kind_of, ends, IsKnownEnd, IsChanged, mark_len, len_with, end_place, IsRecord, end_after}
 use Rattle.std.proofs.lemmas.Grind.{flat_map-append}
-use Rattle.std.proofs.lemmas.List.{append-nil, take_at, drop_at, take-append-drop, length-take, drop_all}
-use Rattle.std.proofs.lemmas.List.Concat.{flat_map-cons}
-use Rattle.krb_wire.specs.declared.format.Order.{Order}
-use Rattle.krb_wire.specs.declared.format.Order.TheVariants.{Big, Little}
-use Rattle.krb_wire.specs.declared.format.KtFormat.{KtFormat}
-use Rattle.krb_wire.specs.Spelling.{order_of}
-use Rattle.krb_wire.proofs.Fields.{IsBytes, IsBytes-drop}
-use Rattle.krb_keytab.specs.declared.image.CellsEnd.{CellsEnd}
-use Rattle.krb_keytab.specs.declared.image.Ending.{Ending}
 use Rattle.krb_keytab.specs.declared.image.Ending.TheVariants as ending
-use Rattle.krb_keytab.specs.Entry.{entry_at}
-use Rattle.krb_keytab.specs.Cells.{Live, End, Bare, Mark, Damaged, Contents, cell, end_bytes, spelling, contents, IsCell, IsEnd, IsSound, kind_of}
-use Rattle.krb_keytab.specs.Image.{ends, IsKnownEnd, IsChanged, mark_len, len_with}
-use Rattle.krb_keytab.specs.Store.{end_place}
-use Rattle.krb_keytab.specs.Form.{IsRecord}
-use Rattle.krb_keytab.specs.Changes.{end_after}
 use Rattle.krb_keytab.proofs.CellLemmas.{contents_spelled, contents_again}
 use Rattle.krb_keytab.proofs.Cuts.{cell_len, end_place_is, end_place-append}
 use Rattle.krb_keytab.proofs.Replacements.{all_join}

@@ -1,24 +1,9 @@
 -- A table and a tree when one cell is replaced by another of its size.
-use Rattle.std.proofs.Common.{◌≡◌, ℕ, ◌+◌, ◌-◌, ◌^◌, ◌<◌, ◌≤◌, true, List, ◌∷◌, ◌++◌, length, map, replicate, Option, Some, None, Result, Ok, refl, sym, ap, subst, ◌∙◌, arith, length-append}
-use Rattle.std.specs.Prelude.{option_map}
-use Rattle.std.specs.List.{flat_map}
-use Rattle.std.proofs.Math.ListN.{set}
-use Rattle.std.proofs.lemmas.Bool.{leb-true}
-use Rattle.std.proofs.lemmas.List.{map-set, length-map, length-set, set-append_left, length-replicate}
-use Rattle.krb_wire.specs.Spelling.{order_of}
-use Rattle.krb_wire.proofs.Fields.{some_is}
-use Rattle.krb_keytab.specs.Changes.{replaced_at, hole_of, PlacedCell, first_hole, is_hole, zero_hole, record_in, with_hole, with_record_in}
-use Rattle.krb_keytab.specs.Cells.{Cell, Live, Free, IsSound, cell, end_bytes}
+use Rattle.krb_keytab.proofs.Cited.{◌≡◌, ℕ, ◌+◌, ◌-◌, ◌^◌, ◌<◌, ◌≤◌, true, List, ◌∷◌, ◌++◌, length, map, replicate, Option, Some, None, Result, Ok, refl, sym, ap, subst, ◌∙◌, arith, length-append, option_map, flat_map, set, leb-true, map-set, length-map, length-set, set-append_left, length-replicate, order_of, some_is, replaced_at, hole_of, PlacedCell, first_hole, is_hole, zero_hole, record_in, with_hole, with_record_in, Cell, Live, Free, IsSound, cell, end_bytes, KeytabState, image_of, end_place, Hole, Slot, free_size, slots_from, slot_of, negated, hole_of_slot, SizeTree, IsIndex, HasSpare, slot_at, IsFit, IsLiveNumber}
 use Rattle.krb_keytab.specs.Cells as cells
-use Rattle.krb_keytab.specs.Store.{KeytabState, image_of, end_place}
 use Rattle.krb_keytab.proofs.Cuts.{end_place_is, end_place-append}
 use Rattle.krb_keytab.proofs.Replacements.{IsAt, is_at_sound, hole_is_at, replaced_cells}
 use Rattle.krb_keytab.proofs.ImageChanges.{padded_len}
-use Rattle.krb_keytab.specs.declared.cells.Hole.{Hole}
-use Rattle.krb_keytab.specs.declared.indexed.slot.Slot.{Slot}
-use Rattle.krb_keytab.specs.Slot.{free_size, slots_from, slot_of, negated, hole_of_slot}
-use Rattle.krb_keytab.specs.Tree.{SizeTree}
-use Rattle.krb_keytab.specs.Index.{IsIndex, HasSpare, slot_at, IsFit, IsLiveNumber}
 use Rattle.krb_keytab.proofs.PlaceLemmas.{slots_len}
 use Rattle.krb_keytab.proofs.LiveLemmas.{CellOf, cell_of, set_slot, live_at}
 

@@ -1,18 +1,7 @@
 -- Where cells end, and what a store has there.
-use Rattle.std.proofs.Common.{◌≡◌, ℕ, ◌+◌, ◌*◌, ◌<◌, ◌≤◌, false, eqb, List, [], ◌∷◌, ◌++◌, map, length, None, refl, sym, ap, ◌∙◌, length-append, arith}
-use Rattle.std.specs.Int.{w32}
-use Rattle.std.specs.List.{flat_map, AllByRecursion}
-use Rattle.std.proofs.lemmas.Bool.{ne_eqb}
-use Rattle.std.proofs.lemmas.List.{map-append}
-use Rattle.std.proofs.lemmas.List.Concat.{flat_map-cons}
-use Rattle.krb_wire.specs.declared.format.Order.{Order}
-use Rattle.krb_wire.specs.Spelling.{digits}
-use Rattle.krb_wire.proofs.Fields.{wide32}
+use Rattle.krb_keytab.proofs.Cited.{◌≡◌, ℕ, ◌+◌, ◌*◌, ◌<◌, ◌≤◌, false, eqb, List, [], ◌∷◌, ◌++◌, map, length, None, refl, sym, ap, ◌∙◌, length-append, arith, w32, flat_map, AllByRecursion, ne_eqb, map-append, flat_map-cons, Order, digits, wide32, bytes_from, Cell, bytes_of, length_field, cell, size, store_cell, live_of, end_place}
 use Rattle.krb_walk.specs.Store.{Cell as StoreCell, Store, live_bytes}
-use Rattle.krb_walk.proofs.Stops.{bytes_from}
 use Rattle.krb_walk.proofs.Splits.{bytes_here}
-use Rattle.krb_keytab.specs.Cells.{Cell, bytes_of, length_field, cell, size}
-use Rattle.krb_keytab.specs.Store.{store_cell, live_of, end_place}
 
 pub cell_len : (o : Order) (c : Cell) → length (cell o c) ≡ 4 + size c
 cell_len o c = omega (arith, length-append (digits o w32 (length_field c)) (bytes_of c), (wide32 o).len (length_field c))

@@ -1,16 +1,7 @@
 -- What is at a place, read whole.
-use Rattle.std.proofs.Common.{◌≡◌, ℕ, ◌+◌, ◌≤◌, List, ◌∷◌, length, take, drop, refl, ap, ◌∙◌, arith}
-use Rattle.std.proofs.lemmas.List.{length-take, length-drop, drop-drop}
-use Rattle.krb_wire.specs.declared.format.KtFormat.{KtFormat}
-use Rattle.krb_wire.proofs.Fields.{IsBytes, IsBytes-drop}
-use Rattle.krb_keytab.specs.declared.length.Length.{Length}
+use Rattle.krb_keytab.proofs.Cited.{◌≡◌, ℕ, ◌+◌, ◌≤◌, List, ◌∷◌, length, take, drop, refl, ap, ◌∙◌, arith, length-take, length-drop, drop-drop, KtFormat, IsBytes, IsBytes-drop, Length, Ending, size_of, Contents, cell_in, next, contents, size, ends, IsPassed, EndsThere, end_place}
 use Rattle.krb_keytab.specs.declared.length.Length.TheVariants as says
-use Rattle.krb_keytab.specs.declared.image.Ending.{Ending}
 use Rattle.krb_cells.specs.Contents.{NoMore, More}
-use Rattle.krb_keytab.specs.Length.{size_of}
-use Rattle.krb_keytab.specs.Cells.{Contents, cell_in, next, contents, size}
-use Rattle.krb_keytab.specs.Image.{ends, IsPassed, EndsThere}
-use Rattle.krb_keytab.specs.Store.{end_place}
 use Rattle.krb_keytab.proofs.CellLemmas.{contents_next}
 
 pub ends_there : (f : KtFormat) (image : List ℕ) (at : ℕ) (e : Ending) → IsBytes image → next f (drop at image) ≡ NoMore (ends (drop at image) e) → EndsThere f image at e

@@ -1,13 +1,6 @@
 -- An entry that is read is one that the bytes spell, and the only one.
-use Rattle.std.proofs.Common.{◌≡◌, ℕ, suc, ◌^◌, ◌<◌, List, [], ◌∷◌, ◌++◌, Option, Some, None, refl, sym, ap, subst, ◌∙◌, append_assoc}
-use Rattle.std.specs.Prelude.{IfSome}
-use Rattle.std.specs.Int.{w16, w32}
-use Rattle.krb_wire.specs.declared.format.KtFormat.{KtFormat}
-use Rattle.krb_wire.specs.Spelling.{order_of, digits, data16, kt_principal}
-use Rattle.krb_wire.specs.Reading.{byte_at, ◌>>=◌, Gives, number_at, data16_at, kt_principal_at}
-use Rattle.krb_wire.proofs.Fields.{IsBytes, bind_some, some_is, Takes, Takes-then, wide16, wide32, number_takes, number_again, data16_takes, data16_again}
+use Rattle.krb_keytab.proofs.Cited.{◌≡◌, ℕ, suc, ◌^◌, ◌<◌, List, [], ◌∷◌, ◌++◌, Option, Some, None, refl, sym, ap, subst, ◌∙◌, append_assoc, IfSome, w16, w32, KtFormat, order_of, digits, data16, kt_principal, byte_at, ◌>>=◌, Gives, number_at, data16_at, kt_principal_at, IsBytes, bind_some, some_is, Takes, Takes-then, wide16, wide32, number_takes, number_again, data16_takes, data16_again, EntryParts, Front, front, FitsFront, entry_of, Spells, front_at, entry_at}
 use Rattle.krb_wire.proofs.Principals.{kt_principal_takes, kt_principal_again}
-use Rattle.krb_keytab.specs.Entry.{EntryParts, Front, front, FitsFront, entry_of, Spells, front_at, entry_at}
 
 pub byte_takes : (bytes : List ℕ) (x : ℕ × List ℕ) → IsBytes bytes → byte_at bytes ≡ Some x → Takes bytes (x.0 ∷ []) x.1 × (x.0 < 256)
 byte_takes [] x fits e = absurd cc

@@ -1,17 +1,6 @@
 -- The entries listed cell by cell are those of the records.
-use Rattle.std.proofs.Common.{◌≡◌, ◌∷◌, ℕ, ◌+◌, [], List, length, map, refl, sym, ap, append_assoc, ◌∙◌}
+use Rattle.krb_keytab.proofs.Cited.{◌≡◌, ◌∷◌, ℕ, ◌+◌, [], List, length, map, refl, sym, ap, append_assoc, ◌∙◌, Parts, is_some_has, filter_map, cons_option, KtFormat, Record, standing, record_of, EntryParts, entry_at, Cell, Live, Free, KeytabState, store_cell, CellsFrom, BeginsWith, cells_of, IsFoundAmong, IsFoundUpTo, PlacedEntry, placed_entries}
 use Rattle.std.specs.Prelude.{Option, Some, None, Bool, false, ◌++◌, option_map}
-use Rattle.krb_wire.specs.Spelling.{Parts}
-use Rattle.krb_wire.proofs.Fields.{is_some_has}
-use Rattle.std.specs.List.{filter_map, cons_option}
-use Rattle.krb_wire.specs.declared.format.KtFormat.{KtFormat}
-use Rattle.krb_walk.specs.Store.{Record, standing, record_of}
-use Rattle.krb_keytab.specs.Entry.{EntryParts, entry_at}
-use Rattle.krb_keytab.specs.Cells.{Cell, Live, Free}
-use Rattle.krb_keytab.specs.Store.{KeytabState, store_cell}
-use Rattle.krb_keytab.specs.CellViews.{CellsFrom, BeginsWith, cells_of}
-use Rattle.krb_keytab.specs.LookUp.{IsFoundAmong, IsFoundUpTo}
-use Rattle.krb_keytab.specs.Find.{PlacedEntry, placed_entries}
 use Rattle.krb_keytab.specs.Entries.{entries_in}
 
 -- the entries of the records of a store's cells

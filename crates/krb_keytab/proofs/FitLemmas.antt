@@ -1,15 +1,7 @@
 -- The first hole, by the sizes of the leaves.
-use Rattle.std.proofs.Common.{◌≡◌, ℕ, zero, suc, ◌+◌, ◌-◌, ◌<◌, ◌≤◌, false, List, [], ◌∷◌, ◌++◌, length, map, get_or, replicate, Some, None, refl, sym, ap, subst, ◌∙◌, arith, inl, inr}
+use Rattle.krb_keytab.proofs.Cited.{◌≡◌, ℕ, zero, suc, ◌+◌, ◌-◌, ◌<◌, ◌≤◌, false, List, [], ◌∷◌, ◌++◌, length, map, get_or, replicate, Some, None, refl, sym, ap, subst, ◌∙◌, arith, inl, inr, AllByRecursion, position_from, lt-leb, cases_Bool, KtFormat, Cell, Live, Free, IsCell, hole_from, Slot, free_size, slots_from, slot_of, hole_of_slot, first_fit}
 use Rattle.std.specs.Prelude.{Option, nat_le}
-use Rattle.std.specs.List.{AllByRecursion, position_from}
-use Rattle.std.proofs.lemmas.Bool.{lt-leb, cases_Bool}
 use Rattle.std.proofs.lemmas.Iterator.Adapters.{position_from-zero}
-use Rattle.krb_wire.specs.declared.format.KtFormat.{KtFormat}
-use Rattle.krb_keytab.specs.Cells.{Cell, Live, Free, IsCell}
-use Rattle.krb_keytab.specs.Changes.{hole_from}
-use Rattle.krb_keytab.specs.declared.indexed.slot.Slot.{Slot}
-use Rattle.krb_keytab.specs.Slot.{free_size, slots_from, slot_of, hole_of_slot}
-use Rattle.krb_keytab.specs.Tree.{first_fit}
 use Rattle.krb_keytab.proofs.SlotLemmas.{live_room, hole_size, hole_room}
 
 -- the default if there is no slot

@@ -1,29 +1,8 @@
 -- A table and a tree when one more cell is added after the others.
-use Rattle.std.proofs.Common.{◌≡◌, ℕ, ◌+◌, ◌-◌, ◌*◌, ◌^◌, ◌<◌, ◌≤◌, true, false, List, [], ◌∷◌, ◌++◌, length, map, replicate, None, Ok, refl, sym, ap, subst, ◌∙◌, arith, inl, inr, append_assoc, length-append}
-use Rattle.std.specs.Prelude.{is_some, nat_le, nat_lt}
-use Rattle.std.specs.List.{AllByRecursion}
-use Rattle.std.proofs.Math.Nat.{pow-suc}
+use Rattle.krb_keytab.proofs.Cited.{◌≡◌, ℕ, ◌+◌, ◌-◌, ◌*◌, ◌^◌, ◌<◌, ◌≤◌, true, false, List, [], ◌∷◌, ◌++◌, length, map, replicate, None, Ok, refl, sym, ap, subst, ◌∙◌, arith, inl, inr, append_assoc, length-append, is_some, nat_le, nat_lt, AllByRecursion, pow-suc, cases_lt, lt-leb, lt-ltb, append-nil, map-append, replicate-append-replicate, KtFormat, w32, eqb_tells, length_of, Order, order_of, digits, wide32, end_of, fault_of, fits, hole_from, with_last, end_after, append_result, Cell, Live, Free, End, Bare, Mark, Damaged, IsCell, end_bytes, kind_of, KeytabState, image_of, store_of, end_place, Slot, free_size, room_of, slots_from, slot_of, SizeTree, IsHeightFor, HasRoomFor, IsGrown, IsIndex, HasSpare}
 use Rattle.std.proofs.Math.Pow.{pow_mono}
 use Rattle.std.proofs.lemmas.Nat.{pow_pos}
-use Rattle.std.proofs.lemmas.Bool.{cases_lt, lt-leb, lt-ltb}
-use Rattle.std.proofs.lemmas.List.{append-nil, map-append, replicate-append-replicate}
-use Rattle.krb_wire.specs.declared.format.KtFormat.{KtFormat}
-use Rattle.std.specs.Int.{w32}
-use Rattle.std.proofs.lemmas.Bool.Decides.{eqb_tells}
-use Rattle.krb_keytab.specs.Length.{length_of}
-use Rattle.krb_wire.specs.declared.format.Order.{Order}
-use Rattle.krb_wire.specs.Spelling.{order_of, digits}
-use Rattle.krb_wire.proofs.Fields.{wide32}
-use Rattle.krb_walk.specs.Store.{end_of, fault_of}
-use Rattle.krb_keytab.specs.Form.{fits}
-use Rattle.krb_keytab.specs.Changes.{hole_from, with_last, end_after, append_result}
-use Rattle.krb_keytab.specs.Cells.{Cell, Live, Free, End, Bare, Mark, Damaged, IsCell, end_bytes, kind_of}
 use Rattle.krb_keytab.specs.Cells as cells
-use Rattle.krb_keytab.specs.Store.{KeytabState, image_of, store_of, end_place}
-use Rattle.krb_keytab.specs.declared.indexed.slot.Slot.{Slot}
-use Rattle.krb_keytab.specs.Slot.{free_size, room_of, slots_from, slot_of}
-use Rattle.krb_keytab.specs.Tree.{SizeTree, IsHeightFor, HasRoomFor, IsGrown}
-use Rattle.krb_keytab.specs.Index.{IsIndex, HasSpare}
 use Rattle.krb_keytab.proofs.ChangeLemmas.{IsKept, image_len, ok_is}
 use Rattle.krb_keytab.proofs.Cuts.{end_place-append}
 use Rattle.krb_keytab.proofs.Stores.{whole_of}

@@ -1,17 +1,6 @@
 -- The name of an entry is the one that its bytes begin with.
-use Rattle.std.proofs.Common.{◌≡◌, ◌≢◌, ℕ, zero, suc, Bool, true, false, List, [], ◌∷◌, length, Some, None, refl, sym, ap, subst, ◌∙◌}
-use Rattle.std.specs.Prelude.{◌&&◌}
-use Rattle.std.specs.Int.{w16, w32}
-use Rattle.std.specs.Str.{bytes_eq}
+use Rattle.krb_keytab.proofs.Cited.{◌≡◌, ◌≢◌, ℕ, zero, suc, Bool, true, false, List, [], ◌∷◌, length, Some, None, refl, sym, ap, subst, ◌∙◌, ◌&&◌, w16, w32, bytes_eq, and_right, Order, KtFormat, Parts, order_of, ◌>>=◌, byte_at, number_at, data16_at, components_at, components_of_count, name_type_at, kt_principal_at, have_same_name, bind_some, some_is, EntryParts, Front, entry_of, front_at, entry_at}
 use Rattle.std.specs.Cmp.Lexicographic.{pointwise}
-use Rattle.std.proofs.lemmas.Bool.{and_right}
-use Rattle.krb_wire.specs.declared.format.Order.{Order}
-use Rattle.krb_wire.specs.declared.format.KtFormat.{KtFormat}
-use Rattle.krb_wire.specs.Spelling.{Parts, order_of}
-use Rattle.krb_wire.specs.Reading.{◌>>=◌, byte_at, number_at, data16_at, components_at, components_of_count, name_type_at, kt_principal_at}
-use Rattle.krb_wire.specs.SameName.{have_same_name}
-use Rattle.krb_wire.proofs.Fields.{bind_some, some_is}
-use Rattle.krb_keytab.specs.Entry.{EntryParts, Front, entry_of, front_at, entry_at}
 use Rattle.krb_keytab.specs.HasName.{same_first, begin_with}
 
 -- ---- components

@@ -1,22 +1,7 @@
 -- An image after changes to its cells.
-use Rattle.std.proofs.Common.{◌≡◌, ℕ, suc, ◌+◌, ◌-◌, ◌^◌, ◌<◌, ◌≤◌, true, List, [], ◌∷◌, ◌++◌, length, map, drop, replicate, Option, Some, None, refl, sym, ap, subst, ◌∙◌, arith}
-use Rattle.std.specs.Prelude.{option_map, IsSome, IfSome, ◌==◌, if◌then◌else◌}
-use Rattle.std.specs.List.{splice}
-use Rattle.std.proofs.lemmas.Bool.{leb-true}
+use Rattle.krb_keytab.proofs.Cited.{◌≡◌, ℕ, suc, ◌+◌, ◌-◌, ◌^◌, ◌<◌, ◌≤◌, true, List, [], ◌∷◌, ◌++◌, length, map, drop, replicate, Option, Some, None, refl, sym, ap, subst, ◌∙◌, arith, option_map, IsSome, IfSome, ◌==◌, if◌then◌else◌, splice, leb-true, KtFormat, order_of, IsBytes, IsBytes-drop, some_is, CellsEnd, Hole, Cell, Live, Free, End, Bare, Contents, cell, next, contents, IsCell, size, live_bytes, end_from-ge, store_cell, store_of_image, end_place, IsKnownEnd, IsChanged, PlacedCell, placed_cells, replaced_at, zero_hole, is_hole, first_hole, with_zeros, record_in, hole_of, hole_from, IsRecord}
 use Rattle.std.proofs.lemmas.List.{length-append, length-map, length-replicate}
-use Rattle.krb_wire.specs.declared.format.KtFormat.{KtFormat}
-use Rattle.krb_wire.specs.Spelling.{order_of}
-use Rattle.krb_wire.proofs.Fields.{IsBytes, IsBytes-drop, some_is}
-use Rattle.krb_keytab.specs.declared.image.CellsEnd.{CellsEnd}
-use Rattle.krb_keytab.specs.declared.cells.Hole.{Hole}
-use Rattle.krb_keytab.specs.Cells.{Cell, Live, Free, End, Bare, Contents, cell, next, contents, IsCell, size}
 use Rattle.krb_cells.specs.Contents.{contents as contents_of, first_cells}
-use Rattle.krb_walk.specs.Store.{live_bytes}
-use Rattle.krb_walk.proofs.Stops.{end_from-ge}
-use Rattle.krb_keytab.specs.Store.{store_cell, store_of_image, end_place}
-use Rattle.krb_keytab.specs.Image.{IsKnownEnd, IsChanged}
-use Rattle.krb_keytab.specs.Changes.{PlacedCell, placed_cells, replaced_at, zero_hole, is_hole, first_hole, with_zeros, record_in, hole_of, hole_from}
-use Rattle.krb_keytab.specs.Form.{IsRecord}
 use Rattle.krb_keytab.proofs.CellLemmas.{contents_spelled, sound_size}
 use Rattle.krb_keytab.proofs.Cuts.{end_place-append}
 use Rattle.krb_keytab.proofs.Replacements.{IsAt, live_is_at, is_at_sound, hole_is_at, replaced_cells, IsReplaced, replaced}

@@ -1,23 +1,13 @@
 -- The store of an image's cells, by their lengths.
-use Rattle.std.proofs.Common.{◌≡◌, ℕ, ◌+◌, ◌-◌, ◌^◌, ◌≤◌, true, List, [], ◌∷◌, ◌++◌, length, take, drop, map, Option, refl, sym, ap, subst, ◌∙◌, arith}
-use Rattle.std.specs.List.{flat_map}
-use Rattle.std.proofs.lemmas.List.{append-nil, take_at, length-take, drop-take, drop-drop}
-use Rattle.krb_wire.specs.declared.format.KtFormat.{KtFormat}
-use Rattle.krb_wire.specs.Spelling.{order_of}
-use Rattle.krb_wire.proofs.Fields.{IsBytes, IsBytes-drop, IsBytes-take}
+use Rattle.krb_keytab.proofs.Cited.{◌≡◌, ℕ, ◌+◌, ◌-◌, ◌^◌, ◌≤◌, true, List, [], ◌∷◌, ◌++◌, length, take, drop, map, Option, refl, sym, ap, subst, ◌∙◌, arith, flat_map, append-nil, take_at, length-take, drop-take, drop-drop, KtFormat, order_of, IsBytes, IsBytes-drop, IsBytes-take, bytes_from, end_from-ge, is_place_from-cons, CellsEnd, Cell, Bare, Contents, cell, end_bytes, keytab_format, contents, kind_of, ending_kind, IsKnownEnd, KeytabState, IsImage, store_cell, store_cells, store_of}
 use Rattle.krb_walk.specs.declared.fault.FaultKind.{FaultKind}
 use Rattle.krb_walk.specs.Store.{Cell as StoreCell, Store, IsPlace, end_from, is_place, is_place_from, live_bytes}
 use Rattle.krb_cells.proofs.ContentsLemmas.{behind}
-use Rattle.krb_walk.proofs.Stops.{bytes_from, end_from-ge, is_place_from-cons}
 use Rattle.krb_cells.specs.CellFormat.{AreCells}
 use Rattle.krb_cells.specs.Cells.{HoldsCells}
 use Rattle.krb_cells.specs.Carry.{between}
 use Rattle.krb_cells.proofs.Cuts.{cut_held, holds_from, is_from}
 use Rattle.krb_cells.proofs.Formats.{IsSeen, are_cells}
-use Rattle.krb_keytab.specs.declared.image.CellsEnd.{CellsEnd}
-use Rattle.krb_keytab.specs.Cells.{Cell, Bare, Contents, cell, end_bytes, keytab_format, contents, kind_of}
-use Rattle.krb_keytab.specs.Image.{ending_kind, IsKnownEnd}
-use Rattle.krb_keytab.specs.Store.{KeytabState, IsImage, store_cell, store_cells, store_of}
 use Rattle.krb_keytab.proofs.CellLemmas.{keytab_is, contents_spelled, contents_behind}
 use Rattle.krb_keytab.proofs.Cuts.{cell_len, end_place_is}
 use Rattle.krb_keytab.proofs.Stores.{keytab_of, kind_ends}

@@ -1,17 +1,5 @@
 -- What a keytab returns, by its table.
-use Rattle.std.proofs.Common.{◌≡◌, ℕ, ◌-◌, ◌^◌, ◌<◌, ◌≤◌, eqb, List, length, take, Option, Some, None, refl, sym, ap, subst, ◌∙◌, arith, inl, inr}
-use Rattle.std.specs.Prelude.{option_map, max}
-use Rattle.std.proofs.lemmas.Bool.{eqb-true, cases_lt}
-use Rattle.std.proofs.lemmas.List.{take_all}
-use Rattle.krb_walk.specs.Store.{end_of, is_place, IsPlace}
-use Rattle.krb_keytab.specs.Cells.{IsSound}
-use Rattle.krb_keytab.specs.Changes.{PlacedCell, first_hole, hole_from, hole_of}
-use Rattle.krb_keytab.specs.Store.{KeytabState, store_of, end_place}
-use Rattle.krb_keytab.specs.declared.cells.Hole.{Hole}
-use Rattle.krb_keytab.specs.declared.indexed.slot.Slot.{Slot}
-use Rattle.krb_keytab.specs.Slot.{places, slots_from, IsRank}
-use Rattle.krb_keytab.specs.Tree.{SizeTree, first_fit, looks_for, IsHeightFor}
-use Rattle.krb_keytab.specs.Index.{IsIndex, IsFit, fit_of, slot_at}
+use Rattle.krb_keytab.proofs.Cited.{◌≡◌, ℕ, ◌-◌, ◌^◌, ◌<◌, ◌≤◌, eqb, List, length, take, Option, Some, None, refl, sym, ap, subst, ◌∙◌, arith, inl, inr, option_map, max, eqb-true, cases_lt, take_all, end_of, is_place, IsPlace, IsSound, PlacedCell, first_hole, hole_from, hole_of, KeytabState, store_of, end_place, Hole, Slot, places, slots_from, IsRank, SizeTree, first_fit, looks_for, IsHeightFor, IsIndex, IsFit, fit_of, slot_at}
 use Rattle.krb_keytab.proofs.SlotLemmas.{place_at}
 use Rattle.krb_keytab.proofs.PlaceLemmas.{slots_len, place_is, place_by_rank}
 use Rattle.krb_keytab.proofs.FitLemmas.{Finds, found, leaves_of}

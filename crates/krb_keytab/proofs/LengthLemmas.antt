@@ -1,10 +1,6 @@
 -- A length and its field.
-use Rattle.std.proofs.Common.{◌≡◌, ℕ, ◌-◌, ◌^◌, ◌<◌, Bool, true, false, cond, eqb, ltb, List, take, refl, sym, ap, subst, ◌∙◌, arith}
-use Rattle.std.proofs.lemmas.Bool.{ltb-true, ltb-false, le-ltb, lt-ltb, eqb-true, eqb-false}
-use Rattle.krb_wire.specs.declared.format.KtFormat.{KtFormat}
-use Rattle.krb_keytab.specs.declared.length.Length.{Length}
+use Rattle.krb_keytab.proofs.Cited.{◌≡◌, ℕ, ◌-◌, ◌^◌, ◌<◌, Bool, true, false, cond, eqb, ltb, List, take, refl, sym, ap, subst, ◌∙◌, arith, ltb-true, ltb-false, le-ltb, lt-ltb, eqb-true, eqb-false, KtFormat, Length, length_of, field_of, size_of, HasField}
 use Rattle.krb_keytab.specs.declared.length.Length.TheVariants.{End, Live, Free}
-use Rattle.krb_keytab.specs.Length.{length_of, field_of, size_of, HasField}
 use Rattle.krb_keytab.specs.Cells.{Cell, IsCell, bytes_of, size, length_of_cell, cell_in, Live as LiveCell, Free as FreeCell}
 
 -- a field says this length, whose field it is

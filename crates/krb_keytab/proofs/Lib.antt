@@ -1,3 +1,4 @@
+pub mod Cited
 pub mod Splices
 pub mod EntryLemmas
 pub mod LengthLemmas

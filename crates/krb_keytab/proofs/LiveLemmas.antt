@@ -1,26 +1,13 @@
 -- The slot of one cell among others, and the live cell with a number.
-use Rattle.std.proofs.Common.{◌≡◌, ◌≢◌, ℕ, zero, suc, ◌+◌, ◌<◌, ◌≤◌, true, false, List, [], ◌∷◌, ◌++◌, length, map, take, drop, get_or, Option, Some, None, refl, sym, ap, subst, ◌∙◌, arith, inl, inr, length-append}
-use Rattle.std.specs.Prelude.{IsSome}
-use Rattle.std.specs.List.{AllByRecursion}
-use Rattle.std.proofs.Math.ListN.{set}
+use Rattle.krb_keytab.proofs.Cited.{◌≡◌, ◌≢◌, ℕ, zero, suc, ◌+◌, ◌<◌, ◌≤◌, true, false, List, [], ◌∷◌, ◌++◌, length, map, take, drop, get_or, Option, Some, None, refl, sym, ap, subst, ◌∙◌, arith, inl, inr, length-append, IsSome, AllByRecursion, set, cases_lt, take_at, take_all, append-nil, KtFormat, is_some_has, bytes_from, Cell, Live, Free, IsCell, IsSound, KeytabState, store_of, store_cell, end_place, Slot, is_free, slots_from, slot_of, places, IsRank, slot_at, IsLiveNumber}
 use Rattle.std.proofs.Math.Seq.{set-append_seam, get_or-append_seam, drop-cons}
-use Rattle.std.proofs.lemmas.Bool.{cases_lt}
-use Rattle.std.proofs.lemmas.List.{take_at, take_all, append-nil}
 use Rattle.std.proofs.lemmas.List.Elements.{All-from_recursion}
-use Rattle.krb_wire.specs.declared.format.KtFormat.{KtFormat}
-use Rattle.krb_wire.proofs.Fields.{is_some_has}
 use Rattle.krb_walk.specs.Store.{Cell as StoreCell, live_bytes}
-use Rattle.krb_walk.proofs.Stops.{bytes_from}
 use Rattle.krb_walk.proofs.Splits.{bytes_ahead}
 use Rattle.krb_cells.proofs.Cuts.{live_is_place}
-use Rattle.krb_keytab.specs.Cells.{Cell, Live, Free, IsCell, IsSound}
 use Rattle.krb_keytab.specs.Cells as cells
-use Rattle.krb_keytab.specs.Store.{KeytabState, store_of, store_cell, end_place}
 use Rattle.krb_keytab.proofs.Cuts.{live_there, store_sound}
 use Rattle.krb_keytab.proofs.Replacements.{IsAt, live_is_at, is_at_sound as sound_there}
-use Rattle.krb_keytab.specs.declared.indexed.slot.Slot.{Slot}
-use Rattle.krb_keytab.specs.Slot.{is_free, slots_from, slot_of, places, IsRank}
-use Rattle.krb_keytab.specs.Index.{slot_at, IsLiveNumber}
 use Rattle.krb_keytab.proofs.PlaceLemmas.{slots_len, cells_at_rank, end_rises}
 use Rattle.krb_keytab.proofs.SlotLemmas.{live_slot, free_slot}
 use Rattle.krb_keytab.proofs.IndexLemmas.{slot_place, at_rank}

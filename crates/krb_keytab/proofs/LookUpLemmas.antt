@@ -1,15 +1,7 @@
 -- Considering one entry after the other finds the result of the look-up.
-use Rattle.std.proofs.Common.{◌≡◌, ℕ, ◌<◌, ◌≤◌, Bool, true, false, cond, ltb, List, [], ◌∷◌, ◌++◌, Option, Some, None, Ok, refl, sym, ap, subst, ◌∙◌, arith, inl, inr}
-use Rattle.std.specs.Prelude.{◌&&◌, ◌||◌, ◌==◌, max, filter, find}
-use Rattle.std.proofs.lemmas.List.{append-nil}
+use Rattle.krb_keytab.proofs.Cited.{◌≡◌, ℕ, ◌<◌, ◌≤◌, Bool, true, false, cond, ltb, List, [], ◌∷◌, ◌++◌, Option, Some, None, Ok, refl, sym, ap, subst, ◌∙◌, arith, inl, inr, ◌&&◌, ◌||◌, ◌==◌, max, filter, find, append-nil, cases_lt, lt-ltb, le-ltb, eq-eqb, ne_eqb, eqb_tells, Parts, have_same_name, answer, IsFoundAmong, PlacedEntry, is_match, greatest, selected_version, first_or_missing, look_up_in}
 use Rattle.std.proofs.lemmas.List.Elements.{filter-append}
-use Rattle.std.proofs.lemmas.Bool.{cases_lt, lt-ltb, le-ltb, eq-eqb, ne_eqb}
-use Rattle.std.proofs.lemmas.Bool.Decides.{eqb_tells}
-use Rattle.krb_wire.specs.Spelling.{Parts}
-use Rattle.krb_wire.specs.SameName.{have_same_name}
-use Rattle.krb_keytab.specs.LookUp.{answer, IsFoundAmong}
 use Rattle.krb_keytab.proofs.HasNameLemmas.{and_true}
-use Rattle.krb_keytab.specs.Find.{PlacedEntry, is_match, greatest, selected_version, first_or_missing, look_up_in}
 
 -- ---- one entry after the other
 

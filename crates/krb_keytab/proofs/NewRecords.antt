@@ -1,25 +1,7 @@
 -- Entries that are rewritten.
-use Rattle.std.proofs.Common.{◌≡◌, ℕ, ◌+◌, ◌^◌, ◌<◌, List, [], ◌∷◌, ◌++◌, length, map, Option, Some, None, true, refl, sym, ap, ◌∙◌, arith}
-use Rattle.std.specs.Prelude.{◌&&◌, option_map}
-use Rattle.std.specs.List.{filter_map, flat_map, cons_option}
+use Rattle.krb_keytab.proofs.Cited.{◌≡◌, ℕ, ◌+◌, ◌^◌, ◌<◌, List, [], ◌∷◌, ◌++◌, length, map, Option, Some, None, true, refl, sym, ap, ◌∙◌, arith, ◌&&◌, option_map, filter_map, flat_map, cons_option, w16, w32, Order, Big, KtFormat, V2, Parts, count_field, name_fits, is_short, byte_at, number_at, data16_at, kt_principal_at, IsBytes, wide16, wide32, number_takes, data16_takes, lengths_of, lengths_fit, Record, records, EntryParts, entry_at, Spells, cell, KeytabState, store_of, entries, image_of, PlacedEntry, placed_entries, fits, new_record, rewrite_of}
 use Rattle.std.proofs.lemmas.List.{length-map, length-append}
-use Rattle.std.specs.Int.{w16, w32}
-use Rattle.krb_wire.specs.declared.format.Order.{Order}
-use Rattle.krb_wire.specs.declared.format.Order.TheVariants.{Big}
-use Rattle.krb_wire.specs.declared.format.KtFormat.{KtFormat}
-use Rattle.krb_wire.specs.declared.format.KtFormat.TheVariants.{V2}
-use Rattle.krb_wire.specs.Spelling.{Parts, count_field, name_fits, is_short}
-use Rattle.krb_wire.specs.Reading.{byte_at, number_at, data16_at, kt_principal_at}
-use Rattle.krb_wire.proofs.Fields.{IsBytes, wide16, wide32, number_takes, data16_takes}
 use Rattle.krb_wire.proofs.Principals.{kt_principal_takes}
-use Rattle.krb_wire.proofs.NamesCompared.{lengths_of, lengths_fit}
-use Rattle.krb_walk.specs.Store.{Record, records}
-use Rattle.krb_keytab.specs.Entry.{EntryParts, entry_at, Spells}
-use Rattle.krb_keytab.specs.Cells.{cell}
-use Rattle.krb_keytab.specs.Store.{KeytabState, store_of, entries, image_of}
-use Rattle.krb_keytab.specs.Find.{PlacedEntry, placed_entries}
-use Rattle.krb_keytab.specs.Form.{fits}
-use Rattle.krb_keytab.specs.Rewrite.{new_record, rewrite_of}
 use Rattle.krb_keytab.proofs.EntryLemmas.{byte_takes}
 use Rattle.krb_keytab.proofs.WrittenLemmas.{fits_yes}
 

@@ -1,15 +1,9 @@
 -- What holds of the nodes of a tree.
-use Rattle.std.proofs.Common.{◌≡◌, ℕ, zero, suc, ◌+◌, ◌-◌, ◌*◌, ◌^◌, ◌<◌, ◌≤◌, true, false, List, length, drop, get_or, refl, sym, ap, subst, ◌∙◌, arith, inl, inr}
+use Rattle.krb_keytab.proofs.Cited.{◌≡◌, ℕ, zero, suc, ◌+◌, ◌-◌, ◌*◌, ◌^◌, ◌<◌, ◌≤◌, true, false, List, length, drop, get_or, refl, sym, ap, subst, ◌∙◌, arith, inl, inr, cases_lt, lt-ltb, le-ltb, lt-leb, le-leb, leb_tells, get_or-drop, length-drop, pow-suc, pow-succ', mul-le-mul_left, AreNodes, IsTree, Descends, child_with, first_fit}
 use Rattle.std.specs.Prelude.{nat_le, slice_index, Some, None}
-use Rattle.std.proofs.lemmas.Bool.{cases_lt, lt-ltb, le-ltb, lt-leb, le-leb}
-use Rattle.std.proofs.lemmas.Bool.Decides.{leb_tells}
-use Rattle.std.proofs.lemmas.List.{get_or-drop, length-drop}
 use Rattle.std.proofs.lemmas.List.Sums.{position_or_len_is}
-use Rattle.std.proofs.Math.Nat.{pow-suc, pow-succ', mul-le-mul_left}
 use Rattle.std.proofs.lemmas.Nat.{pow_pos, pow-add}
 use Rattle.std.proofs.Math.Pow.{pow_mono}
-use Rattle.krb_keytab.specs.Nodes.{AreNodes, IsTree, Descends, child_with}
-use Rattle.krb_keytab.specs.Tree.{first_fit}
 
 -- ---- numbers of nodes
 

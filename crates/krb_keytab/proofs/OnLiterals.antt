@@ -1,8 +1,6 @@
 -- What a proof unfolds to compute the definitions of this crate, and of those that it uses, on literals.
-use Rattle.std.specs.Prelude.{⊤}
+use Rattle.krb_keytab.proofs.Cited.{⊤, front_at, entry_at, next, contents}
 use Rattle.krb_cells.proofs.OnLiterals.{krb_cells_on_literals}
-use Rattle.krb_keytab.specs.Entry.{front_at, entry_at}
-use Rattle.krb_keytab.specs.Cells.{next, contents}
 
 unfoldable pub krb_keytab_on_literals : ⊤
 unfolding krb_cells_on_literals front_at entry_at next contents

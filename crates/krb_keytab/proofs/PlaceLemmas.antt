@@ -1,16 +1,6 @@
 -- The places of cells in a table.
-use Rattle.std.proofs.Common.{◌≡◌, ℕ, zero, suc, ◌+◌, ◌<◌, ◌≤◌, true, false, eqb, List, [], ◌∷◌, ◌++◌, length, map, take, drop, refl, sym, ap, ◌∙◌, arith, inl, inr}
-use Rattle.std.specs.Prelude.{slice_index, ◌==◌}
-use Rattle.std.proofs.lemmas.Bool.{eqb-true, ne_eqb, cases_Bool}
-use Rattle.std.proofs.lemmas.Bool.Decides.{eqb_tells}
-use Rattle.std.proofs.lemmas.List.{length-map, take-append-drop}
-use Rattle.krb_keytab.specs.Cells.{Cell, size}
+use Rattle.krb_keytab.proofs.Cited.{◌≡◌, ℕ, zero, suc, ◌+◌, ◌<◌, ◌≤◌, true, false, eqb, List, [], ◌∷◌, ◌++◌, length, map, take, drop, refl, sym, ap, ◌∙◌, arith, inl, inr, slice_index, ◌==◌, eqb-true, ne_eqb, cases_Bool, eqb_tells, length-map, take-append-drop, Cell, size, end_from-ge, or_cases, store_cell, end_place, Slot, places, slots_from, IsRising, IsRank}
 use Rattle.krb_walk.specs.Store.{Cell as StoreCell, is_place_from}
-use Rattle.krb_walk.proofs.Stops.{end_from-ge}
-use Rattle.krb_walk.proofs.Places.{or_cases}
-use Rattle.krb_keytab.specs.Store.{store_cell, end_place}
-use Rattle.krb_keytab.specs.declared.indexed.slot.Slot.{Slot}
-use Rattle.krb_keytab.specs.Slot.{places, slots_from, IsRising, IsRank}
 
 pub slots_len : (at : ℕ) (cs : List Cell) → length (slots_from at cs) ≡ length cs
 slots_len at [] = refl

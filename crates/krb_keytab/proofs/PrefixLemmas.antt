@@ -1,22 +1,7 @@
 -- The spelling of a name up to its name type is a prefix of each entry of the name.
-use Rattle.std.proofs.Common.{◌≡◌, ℕ, ◌+◌, ◌-◌, Bool, true, false, List, [], ◌∷◌, ◌++◌, length, take, drop, Option, Some, refl, sym, ap, subst, ◌∙◌, append_assoc, length-append, arith}
-use Rattle.std.specs.Prelude.{nat_eq}
-use Rattle.std.specs.Int.{w16}
-use Rattle.std.specs.List.{flat_map, splice, starts_with}
-use Rattle.std.specs.Str.{bytes_eq}
+use Rattle.krb_keytab.proofs.Cited.{◌≡◌, ℕ, ◌+◌, ◌-◌, Bool, true, false, List, [], ◌∷◌, ◌++◌, length, take, drop, Option, Some, refl, sym, ap, subst, ◌∙◌, append_assoc, length-append, arith, nat_eq, w16, flat_map, splice, starts_with, bytes_eq, and_right, false_from_ne_true, true≢false, Decides-eqb, take_at, KtFormat, Parts, order_of, digits, data16, count_field, kt_principal, name_type_field, have_same_name, IsBytes, and_both, EntryParts, entry_at, PlacedEntry, IsFoundAmong}
 use Rattle.std.specs.Cmp.Lexicographic.{pointwise}
-use Rattle.std.proofs.lemmas.Bool.{and_right, false_from_ne_true, true≢false}
-use Rattle.std.proofs.lemmas.Bool.Decides.{Decides-eqb}
-use Rattle.std.proofs.lemmas.List.{take_at}
 use Rattle.std.proofs.lemmas.Slice.Eq.{bytes_eq-Decides, slice_eq-Decides, starts_is}
-use Rattle.krb_wire.specs.declared.format.KtFormat.{KtFormat}
-use Rattle.krb_wire.specs.Spelling.{Parts, order_of, digits, data16, count_field, kt_principal, name_type_field}
-use Rattle.krb_wire.specs.SameName.{have_same_name}
-use Rattle.krb_wire.proofs.Fields.{IsBytes}
-use Rattle.krb_wire.proofs.NamesCompared.{and_both}
-use Rattle.krb_keytab.specs.Entry.{EntryParts, entry_at}
-use Rattle.krb_keytab.specs.Find.{PlacedEntry}
-use Rattle.krb_keytab.specs.LookUp.{IsFoundAmong}
 use Rattle.krb_keytab.specs.Prefix.{IsPrefix}
 use Rattle.krb_keytab.proofs.EntryLemmas.{entry_spelled}
 use Rattle.krb_keytab.proofs.LookUpLemmas.{no_match}

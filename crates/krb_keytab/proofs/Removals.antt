@@ -1,17 +1,7 @@
 -- What a look-up finds is a record that can be removed.
-use Rattle.std.proofs.Common.{◌≡◌, ℕ, ◌+◌, Bool, true, false, cond, List, [], ◌∷◌, ◌++◌, map, Option, Some, None, Ok, Err, length, refl, sym, ap, subst, ◌∙◌, append_assoc, inl, inr}
-use Rattle.std.specs.Prelude.{◌==◌, is_some, option_map, filter, find, IfSome}
-use Rattle.std.specs.List.{filter_map, cons_option, AllByRecursion}
-use Rattle.krb_wire.specs.Spelling.{Parts}
-use Rattle.krb_wire.proofs.Fields.{some_is}
+use Rattle.krb_keytab.proofs.Cited.{◌≡◌, ℕ, ◌+◌, Bool, true, false, cond, List, [], ◌∷◌, ◌++◌, map, Option, Some, None, Ok, Err, length, refl, sym, ap, subst, ◌∙◌, append_assoc, inl, inr, ◌==◌, is_some, option_map, filter, find, IfSome, filter_map, cons_option, AllByRecursion, Parts, some_is, bytes_from, EntryParts, entry_at, Cell, Live, Free, size, KeytabState, store_cell, store_of, end_place, PlacedEntry, is_match, selected_version, first_or_missing, look_up_in, look_up, find_result, placed_entry, placed_entries, with_hole, cut_result}
 use Rattle.krb_walk.specs.declared.refusal.Code.TheVariants.{Damaged, NotLive}
 use Rattle.krb_walk.specs.Store.{fault_of, live_bytes as store_bytes, standing, record_of}
-use Rattle.krb_walk.proofs.Stops.{bytes_from}
-use Rattle.krb_keytab.specs.Entry.{EntryParts, entry_at}
-use Rattle.krb_keytab.specs.Cells.{Cell, Live, Free, size}
-use Rattle.krb_keytab.specs.Store.{KeytabState, store_cell, store_of, end_place}
-use Rattle.krb_keytab.specs.Find.{PlacedEntry, is_match, selected_version, first_or_missing, look_up_in, look_up, find_result, placed_entry, placed_entries}
-use Rattle.krb_keytab.specs.Changes.{with_hole, cut_result}
 use Rattle.krb_keytab.proofs.CellLemmas.{chosen}
 use Rattle.krb_keytab.proofs.Cuts.{end_place-append, live_there}
 

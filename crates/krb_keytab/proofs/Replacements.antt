@@ -1,22 +1,6 @@
 -- Replacing a cell by another of the same size.
-use Rattle.std.proofs.Common.{◌≡◌, ℕ, ◌+◌, ◌<◌, ◌≤◌, true, false, eqb, List, [], ◌∷◌, ◌++◌, length, map, take, drop, Some, refl, sym, ap, subst, ◌∙◌, append_assoc, length-append, arith, inl, inr}
-use Rattle.std.specs.List.{flat_map, splice, AllByRecursion}
-use Rattle.std.proofs.lemmas.Bool.{eq-eqb, ne_eqb}
-use Rattle.std.proofs.lemmas.Bool.Decides.{eqb_tells}
+use Rattle.krb_keytab.proofs.Cited.{◌≡◌, ℕ, ◌+◌, ◌<◌, ◌≤◌, true, false, eqb, List, [], ◌∷◌, ◌++◌, length, map, take, drop, Some, refl, sym, ap, subst, ◌∙◌, append_assoc, length-append, arith, inl, inr, flat_map, splice, AllByRecursion, eq-eqb, ne_eqb, eqb_tells, take_at, drop_at, take-append-drop, length-take, drop-drop, flat_map-cons, Order, KtFormat, order_of, IsBytes, IsBytes-drop, some_is, record_of_some, bytes_of_some, bytes_from, end_from-ge, CellsEnd, Cell, Live, Free, End, Contents, cell, end_bytes, spelling, contents, IsCell, IsSound, size, ends, IsKnownEnd, IsChanged, store_cell, end_place, PlacedCell, replaced_at, is_hole, first_hole}
 use Rattle.std.proofs.lemmas.Grind.{flat_map-append}
-use Rattle.std.proofs.lemmas.List.{take_at, drop_at, take-append-drop, length-take, drop-drop}
-use Rattle.std.proofs.lemmas.List.Concat.{flat_map-cons}
-use Rattle.krb_wire.specs.declared.format.Order.{Order}
-use Rattle.krb_wire.specs.declared.format.KtFormat.{KtFormat}
-use Rattle.krb_wire.specs.Spelling.{order_of}
-use Rattle.krb_wire.proofs.Fields.{IsBytes, IsBytes-drop, some_is}
-use Rattle.krb_walk.specs.Store.{record_of_some, bytes_of_some}
-use Rattle.krb_walk.proofs.Stops.{bytes_from, end_from-ge}
-use Rattle.krb_keytab.specs.declared.image.CellsEnd.{CellsEnd}
-use Rattle.krb_keytab.specs.Cells.{Cell, Live, Free, End, Contents, cell, end_bytes, spelling, contents, IsCell, IsSound, size}
-use Rattle.krb_keytab.specs.Image.{ends, IsKnownEnd, IsChanged}
-use Rattle.krb_keytab.specs.Store.{store_cell, end_place}
-use Rattle.krb_keytab.specs.Changes.{PlacedCell, replaced_at, is_hole, first_hole}
 use Rattle.krb_keytab.proofs.CellLemmas.{chosen, contents_spelled, contents_again}
 use Rattle.krb_keytab.proofs.Cuts.{cell_len, end_place_is, end_place-append, all_back}
 use Rattle.krb_keytab.proofs.Splices.{splice-len, splice-behind}

@@ -1,33 +1,12 @@
 -- A rewritten keytab, as a store.
-use Rattle.std.proofs.Common.{◌≡◌, ℕ, suc, ◌+◌, ◌^◌, ◌<◌, ◌≤◌, Bool, true, false, cond, List, [], ◌∷◌, ◌++◌, length, map, drop, Option, Some, None, Result, Ok, Err, refl, sym, ap, subst, ◌∙◌, append_assoc, length-append, arith}
-use Rattle.std.specs.Prelude.{is_some, nat_lt, ◌==◌}
-use Rattle.std.specs.Int.{w32}
-use Rattle.std.specs.List.{filter_map, flat_map, cons_option, AllByRecursion}
-use Rattle.std.proofs.lemmas.List.{append-nil, take_at}
-use Rattle.std.proofs.lemmas.List.Concat.{flat_map-cons}
-use Rattle.krb_wire.specs.declared.format.Order.{Order}
-use Rattle.krb_wire.specs.declared.format.Order.TheVariants.{Big}
-use Rattle.krb_wire.specs.declared.format.KtFormat.{KtFormat}
-use Rattle.krb_wire.specs.declared.format.KtFormat.TheVariants.{V1, V2}
-use Rattle.krb_wire.specs.Spelling.{order_of, digits, HasNameType}
-use Rattle.krb_wire.specs.Reading.{number_at}
-use Rattle.krb_wire.proofs.Fields.{IsBytes, IsBytes-drop, IsBytes-take, is_some_has, wide32, number_takes}
+use Rattle.krb_keytab.proofs.Cited.{◌≡◌, ℕ, suc, ◌+◌, ◌^◌, ◌<◌, ◌≤◌, Bool, true, false, cond, List, [], ◌∷◌, ◌++◌, length, map, drop, Option, Some, None, Result, Ok, Err, refl, sym, ap, subst, ◌∙◌, append_assoc, length-append, arith, is_some, nat_lt, ◌==◌, w32, filter_map, flat_map, cons_option, AllByRecursion, append-nil, take_at, flat_map-cons, Order, Big, KtFormat, V1, V2, order_of, digits, HasNameType, number_at, IsBytes, IsBytes-drop, IsBytes-take, is_some_has, wide32, number_takes, Rewrites, records_of, EntryParts, entry_at, front, entry_of, Spells, version_by, Cell, Live, Free, Bare, Contents, bytes_of, length_field, cell, end_bytes, contents, IsCell, IsSound, KeytabState, store_cell, store_of, end_place, image_of, entries, written_form, fits, IsEntry, new_record, rewrite_of, rewrite_result, IsKnownEnd, drop_of_length-le}
 use Rattle.krb_walk.specs.declared.refusal.Code.{Code}
 use Rattle.krb_walk.specs.declared.refusal.Code.TheVariants as code
 use Rattle.krb_walk.specs.Store.{Cell as StoreCell, fault_of}
-use Rattle.krb_walk.specs.Ranks.{Rewrites}
-use Rattle.krb_walk.proofs.Stops.{records_of}
 use Rattle.krb_walk.proofs.Lives.{lives}
-use Rattle.krb_keytab.specs.Entry.{EntryParts, entry_at, front, entry_of, Spells, version_by}
-use Rattle.krb_keytab.specs.Cells.{Cell, Live, Free, Bare, Contents, bytes_of, length_field, cell, end_bytes, contents, IsCell, IsSound}
-use Rattle.krb_keytab.specs.Store.{KeytabState, store_cell, store_of, end_place, image_of, entries}
-use Rattle.krb_keytab.specs.Form.{written_form, fits, IsEntry}
-use Rattle.krb_keytab.specs.Rewrite.{new_record, rewrite_of, rewrite_result}
 use Rattle.krb_keytab.specs.declared.image.Ending.TheVariants as ending
-use Rattle.krb_keytab.specs.Image.{IsKnownEnd}
 use Rattle.krb_keytab.proofs.CellLemmas.{IsBytes-back, contents_again}
 use Rattle.krb_keytab.proofs.ImageChanges.{contents_none}
-use Rattle.std.proofs.Math.ListN.{drop_of_length-le}
 use Rattle.krb_keytab.proofs.Cuts.{cell_len, end_place_is, store_sound}
 use Rattle.krb_keytab.proofs.EntryLemmas.{entry_spelled, entry_again}
 use Rattle.krb_keytab.proofs.WrittenLemmas.{written_spells, written_len}

@@ -1,13 +1,7 @@
 -- The table of cells.
-use Rattle.std.proofs.Common.{◌≡◌, ℕ, ◌<◌, ◌≤◌, true, false, List, length, get_or, ap, sym, subst, arith, inl, inr}
-use Rattle.std.specs.Prelude.{nat_lt, slice_index}
+use Rattle.krb_keytab.proofs.Cited.{◌≡◌, ℕ, ◌<◌, ◌≤◌, true, false, List, length, get_or, ap, sym, subst, arith, inl, inr, nat_lt, slice_index, cases_lt, lt-ltb, ltb-true, ltb-false, length-map, get_or-map, Live, Free, size_of, HasField, Slot}
 use Rattle.std.specs.List.Sorted.{IsPartitionedBy, IsPartitionPoint}
-use Rattle.std.proofs.lemmas.Bool.{cases_lt, lt-ltb, ltb-true, ltb-false}
-use Rattle.std.proofs.lemmas.List.{length-map, get_or-map}
-use Rattle.krb_keytab.specs.Cells.{Live, Free}
 use Rattle.krb_keytab.specs.declared.length.Length.TheVariants as says
-use Rattle.krb_keytab.specs.Length.{size_of, HasField}
-use Rattle.krb_keytab.specs.declared.indexed.slot.Slot.{Slot}
 use Rattle.krb_keytab.specs.Slot.{is_free, is_hole, room_of, size, free_size, slot_of, places, IsRising, IsRank}
 use Rattle.krb_keytab.proofs.LengthLemmas.{length_again}
 

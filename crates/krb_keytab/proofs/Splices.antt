@@ -1,8 +1,6 @@
 -- Bytes written over others.
-use Rattle.std.proofs.Common.{◌≡◌, ℕ, ◌+◌, ◌-◌, ◌≤◌, List, ◌++◌, length, take, drop, sym, ap, ◌∙◌, append_assoc, arith}
-use Rattle.std.specs.List.{splice}
+use Rattle.krb_keytab.proofs.Cited.{◌≡◌, ℕ, ◌+◌, ◌-◌, ◌≤◌, List, ◌++◌, length, take, drop, sym, ap, ◌∙◌, append_assoc, arith, splice, Puts}
 use Rattle.krb_wire.specs.declared.pen.Pen.{Pen}
-use Rattle.krb_wire.specs.Pen.{Puts}
 use Rattle.std.proofs.lemmas.List.{drop_at, length-append, length-take, length-drop, drop-drop}
 
 pub splice-len : (xs a : List ℕ) (i j : ℕ) → j ≤ length xs → j ≡ i + length a → length (splice xs i j a) ≡ length xs

@@ -1,8 +1,5 @@
 -- An addition to a keytab, and a removal from it, change one cell of its store.
-use Rattle.std.proofs.Common.{◌≡◌, ℕ, ◌+◌, true, List, [], ◌∷◌, map, length, Some, None, Result, Ok, Err, inl, inr, refl, sym, ap, subst, ◌∙◌, arith}
-use Rattle.std.specs.Prelude.{IfOk, OnOk}
-use Rattle.std.proofs.lemmas.List.{map-append, length-replicate}
-use Rattle.std.proofs.lemmas.Bool.{leb-true}
+use Rattle.krb_keytab.proofs.Cited.{◌≡◌, ℕ, ◌+◌, true, List, [], ◌∷◌, map, length, Some, None, Result, Ok, Err, inl, inr, refl, sym, ap, subst, ◌∙◌, arith, IfOk, OnOk, map-append, length-replicate, leb-true, cuts-extends, place_kept, EntryParts, Cell, Live, Free, End, Bare, Mark, Damaged, kind_of, KeytabState, store_cell, store_of, entry_at_place, written_form, read_back, IsEntry, replaced_at, zero_hole, is_hole, with_zeros, record_in, with_record_in, with_last, end_after, with_hole, put_result, cut_result, without}
 use Rattle.krb_walk.specs.declared.refusal.Code.{Code}
 use Rattle.krb_walk.specs.declared.refusal.Refusal.{Refusal}
 use Rattle.krb_walk.specs.declared.event.Event.TheVariants.{Cut}
@@ -10,13 +7,7 @@ use Rattle.krb_walk.specs.Store.{end_of, live_bytes as store_bytes, IsPlace}
 use Rattle.krb_walk.specs.Changes.{OneCell, Puts, Cuts, Changes}
 use Rattle.krb_walk.specs.Events.{SessionState, cut_reply, cut_store}
 use Rattle.krb_walk.specs.History.{IsReady, AllLawful, history, replies, state_after}
-use Rattle.krb_walk.proofs.Places.{cuts-extends, place_kept}
 use Rattle.krb_walk.proofs.Runs.{ran_of}
-use Rattle.krb_keytab.specs.Entry.{EntryParts}
-use Rattle.krb_keytab.specs.Cells.{Cell, Live, Free, End, Bare, Mark, Damaged, kind_of}
-use Rattle.krb_keytab.specs.Store.{KeytabState, store_cell, store_of, entry_at_place}
-use Rattle.krb_keytab.specs.Form.{written_form, read_back, IsEntry}
-use Rattle.krb_keytab.specs.Changes.{replaced_at, zero_hole, is_hole, with_zeros, record_in, with_record_in, with_last, end_after, with_hole, put_result, cut_result, without}
 use Rattle.krb_keytab.specs.Placed.{keytab_rules}
 use Rattle.krb_keytab.specs.Laws.{AreRuns}
 use Rattle.krb_walk.specs.Rules.{PutGives, CutGives}

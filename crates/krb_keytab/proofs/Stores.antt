@@ -1,19 +1,8 @@
 -- The store of a keytab, by the fields in which it is kept.
-use Rattle.std.proofs.Common.{◌≡◌, ℕ, ◌<◌, ◌^◌, List, length, drop, Option, Some, None, false, refl, sym, ap, subst, ◌∙◌, arith}
-use Rattle.std.specs.Prelude.{is_some, IsSome, IfNone}
-use Rattle.krb_wire.specs.declared.format.KtFormat.{KtFormat}
-use Rattle.krb_wire.specs.Reading.{Gives}
+use Rattle.krb_keytab.proofs.Cited.{◌≡◌, ℕ, ◌<◌, ◌^◌, List, length, drop, Option, Some, None, false, refl, sym, ap, subst, ◌∙◌, arith, is_some, IsSome, IfNone, KtFormat, Gives, place_first, CellsEnd, Ending, entry_at, Live, contents, IsSound, kind_of, ends, ending_kind, IsKnownEnd, CellsFrom, AreKnown, cells_of, KeytabState, InMemory, IsImage, store_of_image, store_of}
 use Rattle.krb_walk.specs.declared.fault.FaultKind.{FaultKind}
 use Rattle.krb_walk.specs.Store.{end_of, fault_from, live_bytes as store_bytes, IsPlace}
-use Rattle.krb_walk.proofs.Places.{place_first}
-use Rattle.krb_keytab.specs.declared.image.CellsEnd.{CellsEnd}
-use Rattle.krb_keytab.specs.declared.image.Ending.{Ending}
 use Rattle.krb_keytab.specs.declared.image.Ending.TheVariants as ending
-use Rattle.krb_keytab.specs.Entry.{entry_at}
-use Rattle.krb_keytab.specs.Cells.{Live, contents, IsSound, kind_of}
-use Rattle.krb_keytab.specs.Image.{ends, ending_kind, IsKnownEnd}
-use Rattle.krb_keytab.specs.CellViews.{CellsFrom, AreKnown, cells_of}
-use Rattle.krb_keytab.specs.Store.{KeytabState, InMemory, IsImage, store_of_image, store_of}
 use Rattle.krb_keytab.proofs.Cuts.{places_for}
 use Rattle.krb_keytab.proofs.Replacements.{live_is_at, is_at_sound}
 

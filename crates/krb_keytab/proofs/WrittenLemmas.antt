@@ -1,18 +1,6 @@
 -- What is written for an entry: whether it fits, how long it is, its parts, and that it is read back.
-use Rattle.std.proofs.Common.{◌≡◌, ℕ, ◌+◌, ◌%◌, ◌^◌, ◌<◌, ◌≤◌, Bool, true, false, List, ◌∷◌, ◌++◌, length, replicate, Some, refl, sym, ap, ◌∙◌, append_assoc, length-append, arith, inl, inr}
-use Rattle.std.specs.Prelude.{◌&&◌, is_some}
-use Rattle.std.specs.Int.{w16, w32}
-use Rattle.std.proofs.lemmas.Bool.{ltb-true, lt-ltb}
-use Rattle.std.proofs.lemmas.Bool.Decides.{eqb_tells}
-use Rattle.krb_wire.specs.declared.format.Order.{Order}
-use Rattle.krb_wire.specs.declared.format.KtFormat.{KtFormat}
-use Rattle.krb_wire.specs.declared.format.KtFormat.TheVariants.{V1, V2}
-use Rattle.krb_wire.specs.Spelling.{digits, data16, order_of, kt_principal, IsShort, is_short, name_fits, HasNameType}
-use Rattle.krb_wire.proofs.Fields.{some_is, wide16, wide32, number_again}
-use Rattle.krb_keytab.specs.Entry.{EntryParts, front, version_by, Spells}
-use Rattle.krb_keytab.specs.Form.{fits, front_of, written_form, kept_type, read_back, IsEntry, IsRecord}
+use Rattle.krb_keytab.proofs.Cited.{◌≡◌, ℕ, ◌+◌, ◌%◌, ◌^◌, ◌<◌, ◌≤◌, Bool, true, false, List, ◌∷◌, ◌++◌, length, replicate, Some, refl, sym, ap, ◌∙◌, append_assoc, length-append, arith, inl, inr, ◌&&◌, is_some, w16, w32, ltb-true, lt-ltb, eqb_tells, Order, KtFormat, V1, V2, digits, data16, order_of, kt_principal, IsShort, is_short, name_fits, HasNameType, some_is, wide16, wide32, number_again, EntryParts, front, version_by, Spells, fits, front_of, written_form, kept_type, read_back, IsEntry, IsRecord, and_both, both_and}
 use Rattle.krb_keytab.proofs.EntryLemmas.{entry_again}
-use Rattle.krb_wire.proofs.NamesCompared.{and_both, both_and}
 
 -- ---- what fits
 

@@ -1,12 +1,7 @@
 -- Lines that were read from an input.
-use Rattle.krb_ktutil.proofs.Cited.{◌≡◌, ℕ, ◌+◌, ◌-◌, ◌<◌, ◌≤◌, List, [], ◌∷◌, ◌++◌, length, length-append, take, take-add, drop, Option, Some, None, refl, sym, ap, ◌∙◌, arith, append_assoc, append-nil, inl, inr, slice_range, IfSome, lines_of, HasNone, Grows}
-use Rattle.std.proofs.Common.{length-drop, nat_lt}
-use Rattle.std.specs.Io.KnownBytes.{IsAtEnd}
-use Rattle.std.proofs.lemmas.List.{take_all, take-append-le, length-take-le, drop_all, drop-append-le}
+use Rattle.krb_ktutil.proofs.Cited.{◌≡◌, ℕ, ◌+◌, ◌-◌, ◌<◌, ◌≤◌, List, [], ◌∷◌, ◌++◌, length, length-append, take, take-add, drop, Option, Some, None, refl, sym, ap, ◌∙◌, arith, append_assoc, append-nil, inl, inr, slice_range, IfSome, lines_of, HasNone, Grows, length-drop, nat_lt, IsAtEnd, take_all, take-append-le, length-take-le, drop_all, drop-append-le, lt-ltb, le-ltb, InputParts, last_line, HasLines, IsFirst, ReadsLine, TakesLine, EndsInNewline}
 use Rattle.std.proofs.Math.Seq.{take-append_seam}
-use Rattle.std.proofs.lemmas.Bool.{lt-ltb, le-ltb}
 use Rattle.std.proofs.lemmas.Bool.Decides.{leb_tells}
-use Rattle.krb_ktutil.specs.InputLines.{InputParts, last_line, HasLines, IsFirst, ReadsLine, TakesLine, EndsInNewline}
 use Rattle.krb_ktutil.proofs.NewlineLemmas.{first-within, lines-first, lines-last, drop_parts}
 
 -- the bytes to come from a place on are the same after a read

@@ -1,23 +1,15 @@
 -- A line was made by its plan, from its steps.
-use Rattle.krb_ktutil.proofs.Cited.{◌≡◌, inl, inr, ℕ, Bool, true, false, List, [], ◌∷◌, length, refl, sym, ap, subst, ◌∙◌, Option, Result, Ok, Err, false≢true, EntryParts, KeytabState, Ghosts, Ends, LineFault, words, Effect, Fails, Code, Awaited, Awaiting, Nothing, KtutilState, Came, Added, plan_of, fails, line_faults, none_added, with_added, EndsAt, IsCame, line_effect}
+use Rattle.krb_ktutil.proofs.Cited.{◌≡◌, inl, inr, ℕ, Bool, true, false, List, [], ◌∷◌, length, refl, sym, ap, subst, ◌∙◌, Option, Result, Ok, Err, false≢true, EntryParts, KeytabState, Ghosts, Ends, LineFault, words, Effect, Fails, Code, Awaited, Awaiting, Nothing, KtutilState, Came, Added, plan_of, fails, line_faults, none_added, with_added, EndsAt, IsCame, line_effect, Answer, LoadsFile, Holds, Loads, by, has_type, keytab_of, keytab_or_new, Gives, GivesOrRunsOut, AwaitKey, Command, WriteFile, after, asks_for_password, command_by, command_of, verb_of, Password, LinePlan, after_fault, becomes, plan_by, command_plan, reading_plan, saved_as, with_entries, words_plan, writing_plan, written_to, Attempts, Comes, MakesLine, RunsOut, Tries}
 use Rattle.krb_wire.specs.declared.format.Order.{Order}
 use Rattle.krb_files.specs.declared.files.LoadFault.TheVariants as load
-use Rattle.krb_files.specs.Loading.{Answer, LoadsFile}
-use Rattle.krb_files.specs.Plan.{Holds, Loads, by}
 use Rattle.krb_text.specs.declared.line_fault.LineRefusal.{LineRefusal}
 use Rattle.krb_text.specs.declared.line_fault.LineRefusal.TheVariants as refusal
 use Rattle.krb_text.specs.LineFault.{Reads}
 use Rattle.krb_driver.specs.declared.error.RunError.TheVariants as error
 use Rattle.krb_driver.specs.declared.loading.NoKeytab.{NoKeytab}
 use Rattle.krb_ktutil.specs.declared.ktutil.verb.Verb.{Verb}
-use Rattle.krb_driver.specs.FileNames.{has_type}
-use Rattle.krb_driver.specs.Loading.{keytab_of, keytab_or_new, Gives, GivesOrRunsOut}
 use Rattle.krb_ktutil.specs.declared.ktutil.line.Line.{Line}
 use Rattle.krb_ktutil.specs.FaultyLines.{fault_error}
-use Rattle.krb_ktutil.specs.KtutilCommand.{AwaitKey, Command, WriteFile, after, asks_for_password, command_by, command_of, verb_of}
-use Rattle.krb_ktutil.specs.declared.ktutil.awaiting.Awaiting.TheVariants.{Password}
-use Rattle.krb_ktutil.specs.KtutilPlan.{LinePlan, after_fault, becomes, plan_by, command_plan, reading_plan, saved_as, with_entries, words_plan, writing_plan, written_to}
-use Rattle.krb_ktutil.specs.KtutilFiles.{Attempts, Comes, MakesLine, RunsOut, Tries}
 
 -- the words after the command are refused
 pub attempts_refused : (A : Type 0) (s : KtutilState) (number : ℕ) (given : Result Awaited LineFault) (refused : LineRefusal) → Reads (λ (x : Awaited). x) given (Err refused) → Attempts {A = A} s number (after (λ awaited. Ok (AwaitKey awaited)) given) s (Err refused)

@@ -1,6 +1,5 @@
 -- One more option of an addition.
-use Rattle.krb_ktutil.proofs.Cited.{◌≡◌, ℕ, true, false, List, [], ◌∷◌, Some, refl, options_in}
-use Rattle.krb_ktutil.specs.KtutilCommand.{AddOptions, is_new_key, with_option}
+use Rattle.krb_ktutil.proofs.Cited.{◌≡◌, ℕ, true, false, List, [], ◌∷◌, Some, refl, options_in, AddOptions, is_new_key, with_option}
 
 -- `-key`
 pub options_in_key : (given : AddOptions) (option : List ℕ) (words : List (List ℕ)) → is_new_key given option ≡ true → options_in given (option ∷ words) ≡ options_in (record given { key = true }) words

@@ -1,12 +1,7 @@
 -- Bytes that are split at newlines.
-use Rattle.krb_ktutil.proofs.Cited.{◌≡◌, ℕ, ◌+◌, ◌-◌, ◌<◌, ◌≤◌, List, [], ◌∷◌, ◌++◌, length, take, drop, Option, Some, None, refl, sym, ap, subst, ◌∙◌, arith, length-append, append_assoc, append-nil, take-add, slice_range, lines_of, HasNone, Grows}
-use Rattle.std.proofs.Common.{drop-drop}
-use Rattle.std.specs.List.{slice_split}
-use Rattle.std.specs.Io.KnownBytes.{Keeps}
+use Rattle.krb_ktutil.proofs.Cited.{◌≡◌, ℕ, ◌+◌, ◌-◌, ◌<◌, ◌≤◌, List, [], ◌∷◌, ◌++◌, length, take, drop, Option, Some, None, refl, sym, ap, subst, ◌∙◌, arith, length-append, append_assoc, append-nil, take-add, slice_range, lines_of, HasNone, Grows, drop-drop, slice_split, Keeps, take-append-drop, take-take, is_newline, last_line, without_empty_last, IsFirst}
 use Rattle.std.proofs.lemmas.List.Splits.{length-slice_split}
-use Rattle.std.proofs.lemmas.List.{take-append-drop, take-take}
 use Rattle.std.proofs.lemmas.Grind.{common_steps}
-use Rattle.krb_ktutil.specs.InputLines.{is_newline, last_line, without_empty_last, IsFirst}
 use Rattle.krb_files.proofs.Reading.{Consumes-trans}
 
 -- ---- bytes that grow

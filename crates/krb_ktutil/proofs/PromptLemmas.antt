@@ -1,12 +1,6 @@
 -- Prompts that were written.
-use Rattle.krb_ktutil.proofs.Cited.{◌≡◌, ℕ, Bool, true, false, List, [], ◌++◌, refl, sym, ◌∙◌, Result, Ok, Err, false≢true, Watch, ErrorWatch, Prompts}
-use Rattle.std.specs.Prelude.{OnOk, OnErr, is_err, IsFalse}
-use Rattle.std.specs.Io.KnownBytes.{Appends}
-use Rattle.krb_files.specs.Bytes.{AppendsPrefix}
+use Rattle.krb_ktutil.proofs.Cited.{◌≡◌, ℕ, Bool, true, false, List, [], ◌++◌, refl, sym, ◌∙◌, Result, Ok, Err, false≢true, Watch, ErrorWatch, Prompts, OnOk, OnErr, is_err, IsFalse, Appends, AppendsPrefix, WritesOn, Writes-nothing, PromptsOn}
 use Rattle.krb_files.proofs.Prefixes.{Appends-trans, AppendsPrefix-after, AppendsPrefix-all}
-use Rattle.krb_driver.specs.Runs.{WritesOn}
-use Rattle.krb_driver.proofs.Shown.{Writes-nothing}
-use Rattle.krb_ktutil.specs.KtutilPrompts.{PromptsOn}
 
 -- a text was put after what was written
 pub WritesOn-put : {T E : Type 0} (old new : Watch) (text : List ℕ) (put : Result T E) → IsFalse old.failed → OnOk put (Appends old.contents new.contents text) → OnErr put (AppendsPrefix old.contents new.contents text)

@@ -1,10 +1,5 @@
 -- The first word of a line, and the words after it.
-use Rattle.krb_ktutil.proofs.Cited.{◌≡◌, ℕ, ◌<◌, ◌≤◌, Bool, true, false, not, List, [], ◌∷◌, ◌++◌, length, take, drop, refl, sym, ap, subst, ◌∙◌, arith, ◌&&◌, words, unindented}
-use Rattle.std.proofs.Common.{zero, suc, get_or, map, cond}
-use Rattle.std.specs.Prelude.{filter, ◌==◌}
-use Rattle.std.specs.List.{concat, slice_split, onto_first}
-use Rattle.std.proofs.lemmas.Bool.{eqb-true}
-use Rattle.krb_ktutil.specs.KtutilWords.{is_blank, pieces, is_gap, parts, is_word, size_from, word_size}
+use Rattle.krb_ktutil.proofs.Cited.{◌≡◌, ℕ, ◌<◌, ◌≤◌, Bool, true, false, not, List, [], ◌∷◌, ◌++◌, length, take, drop, refl, sym, ap, subst, ◌∙◌, arith, ◌&&◌, words, unindented, zero, suc, get_or, map, cond, filter, ◌==◌, concat, slice_split, onto_first, eqb-true, is_blank, pieces, is_gap, parts, is_word, size_from, word_size}
 
 -- a backslash is not a blank
 backslash_is_no_blank : (b : ℕ) → (b == 92) ≡ true → is_blank b ≡ true → false ≡ true

@@ -1,16 +1,11 @@
 -- The words of an addition, read from left to right.
-use Rattle.std.proofs.Common.{◌≡◌, ℕ, List, true, false, Option, Some, None, Result, Ok, Err, refl, ap, subst}
-use Rattle.std.specs.Prelude.{is_some, ok_or}
+use Rattle.krb_text.proofs.Cited.{◌≡◌, ℕ, List, true, false, Option, Some, None, Result, Ok, Err, refl, ap, subst, is_some, ok_or, EntryParts, LineFault, Reads, ◌>>=◌, Addition, digits_of, entry_of}
 use Rattle.krb_wire.specs.Spelling.{Parts}
-use Rattle.krb_keytab.specs.Entry.{EntryParts}
-use Rattle.krb_text.specs.declared.line_fault.LineFault.{LineFault}
 use Rattle.krb_text.specs.declared.line_fault.LineFault.TheVariants.{BadKey}
 use Rattle.krb_text.specs.declared.line_fault.LineRefusal.{LineRefusal}
 use Rattle.krb_text.specs.declared.line_fault.LineRefusal.TheVariants.{Fault, NoMemory}
-use Rattle.krb_text.specs.LineFault.{Reads}
 use Rattle.krb_text.specs.Key.{key_in}
 use Rattle.krb_text.specs.Word.{number_word, etype_word, name_word}
-use Rattle.krb_text.specs.Script.{◌>>=◌, Addition, digits_of, entry_of}
 
 -- the entry made of what the words are read as
 abbrev entry_by : Result ℕ LineFault → Result ℕ LineFault → Result ℕ LineFault → List ℕ → Result Parts LineFault → Result EntryParts LineFault

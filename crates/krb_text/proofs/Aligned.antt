@@ -1,6 +1,5 @@
 -- A number right-aligned in four columns.
-use Rattle.std.proofs.Common.{◌≡◌, ℕ, ◌+◌, ◌-◌, ◌≤◌, List, [], ◌∷◌, ◌++◌, length, take, drop, replicate, sym, ap, ◌∙◌, append_assoc, length-append, take-append-drop, arith}
-use Rattle.std.specs.Prelude.{min}
+use Rattle.krb_text.proofs.Cited.{◌≡◌, ℕ, ◌+◌, ◌-◌, ◌≤◌, List, [], ◌∷◌, ◌++◌, length, take, drop, replicate, sym, ap, ◌∙◌, append_assoc, length-append, take-append-drop, arith, min}
 use Rattle.std.proofs.lemmas.List.{drop_at, take_all, take-replicate, length-replicate, replicate-append-replicate}
 
 -- of 21 spaces with digits written up to the last one, the slice from the digits or from 16, whichever is first

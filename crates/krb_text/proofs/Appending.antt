@@ -1,7 +1,5 @@
 -- Texts that are appended one after another.
-use Rattle.std.proofs.Common.{◌≡◌, ℕ, ◌≤◌, List, ◌++◌, length, Vec, Result, Ok, Err, ap, ◌∙◌, append_assoc, length-append, vec_capacity, arith}
-use Rattle.std.proofs.lemmas.Result.{on_ok_weaker, on_err_weaker}
-use Rattle.krb_wire.specs.Text.{Grew, HadNoRoom, AppendedPart}
+use Rattle.krb_text.proofs.Cited.{◌≡◌, ℕ, ◌≤◌, List, ◌++◌, length, Vec, Result, Ok, Err, ap, ◌∙◌, append_assoc, length-append, vec_capacity, arith, on_ok_weaker, on_err_weaker, Grew, HadNoRoom, AppendedPart}
 
 -- a text was appended, and then more: both together are what was appended
 grew_more : (old mid new x : List ℕ) → mid ≡ old ++ x → Grew mid new → Grew old new

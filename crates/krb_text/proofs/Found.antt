@@ -1,8 +1,6 @@
 -- Elements of a list that pass a test.
-use Rattle.std.proofs.Common.{◌≡◌, List, [], ◌∷◌, map, Bool, true, false, cond, Some, refl, ap}
+use Rattle.krb_text.proofs.Cited.{◌≡◌, List, [], ◌∷◌, map, Bool, true, false, cond, Some, refl, ap, find, list_any, AllByRecursion, MatchOption}
 use Rattle.std.specs.Prelude.{◌||◌}
-use Rattle.std.specs.List.{find, list_any, AllByRecursion}
-use Rattle.std.specs.Option.{MatchOption}
 
 -- a test of what a list was made of
 pub any_of_map : {X Y : Type 0} (p : Y → Bool) (f : X → Y) (xs : List X) → list_any p (map f xs) ≡ list_any (λ x. p (f x)) xs

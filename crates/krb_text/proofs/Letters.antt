@@ -1,8 +1,6 @@
 -- The letters of flags from an index of their table on.
-use Rattle.std.proofs.Common.{◌≡◌, ℕ, suc, ◌+◌, ◌<◌, Bool, true, List, [], ◌∷◌, ◌++◌, length, get_or, drop, map, sym, ap, ◌∙◌, add-one, drop-cons}
+use Rattle.krb_text.proofs.Cited.{◌≡◌, ℕ, suc, ◌+◌, ◌<◌, Bool, true, List, [], ◌∷◌, ◌++◌, length, get_or, drop, map, sym, ap, ◌∙◌, add-one, drop-cons, ne_eqb, not_from_false, is_set, letters_among}
 use Rattle.std.specs.Prelude.{◌==◌, filter, bit_and, if◌then◌else◌}
-use Rattle.std.proofs.lemmas.Bool.{ne_eqb, not_from_false}
-use Rattle.krb_text.specs.Flags.{is_set, letters_among}
 
 -- if the first flag of a table is set, its letter comes first
 letters_step : (flags : ℕ) (x : ℕ × ℕ) (others : List (ℕ × ℕ)) → is_set flags x ≡ true → letters_among flags (x ∷ others) ≡ x.1 ∷ letters_among flags others

@@ -1,3 +1,4 @@
+pub mod Cited
 pub mod Passing
 pub mod Lines
 pub mod Cuts

@@ -1,15 +1,10 @@
 -- The lines of entries that have places.
-use Rattle.std.proofs.Common.{◌≡◌, ℕ, List, [], ◌∷◌, ◌++◌, Option, Some, None, refl, ap}
-use Rattle.std.specs.Prelude.{option_map}
-use Rattle.std.specs.List.{flat_map, filter_map, cons_option}
+use Rattle.krb_text.proofs.Cited.{◌≡◌, ℕ, List, [], ◌∷◌, ◌++◌, Option, Some, None, refl, ap, option_map, flat_map, filter_map, cons_option, EntryParts, entry_at, entry_line, entry_lines}
 use Rattle.krb_wire.specs.declared.format.KtFormat.{KtFormat}
 use Rattle.krb_walk.specs.Store.{Record, records}
-use Rattle.krb_keytab.specs.Entry.{EntryParts, entry_at}
 use Rattle.krb_keytab.specs.Store.{KeytabState, store_of}
 use Rattle.krb_keytab.specs.Find.{PlacedEntry, placed_entries}
 use Rattle.krb_text.specs.declared.columns.KtColumns.{KtColumns}
-use Rattle.krb_text.specs.Line.{entry_line}
-use Rattle.krb_text.specs.Listing.{entry_lines}
 
 -- the lines of some entries
 abbrev pub lines_of : KtColumns → List PlacedEntry → List ℕ

@@ -1,8 +1,5 @@
 -- `NoMemory` is never the fault of a text.
-use Rattle.std.proofs.Common.{◌≡◌, ◌⊎◌, inl, inr, List, [], ◌∷◌, ◌++◌, Option, Some, None, Result, Ok, Err, ℕ, refl}
-use Rattle.std.specs.Prelude.{IsOk, ok_or, unwrap_or}
-use Rattle.std.specs.Result.{result_ok}
-use Rattle.std.specs.List.{filter_map}
+use Rattle.krb_text.proofs.Cited.{◌≡◌, ◌⊎◌, inl, inr, List, [], ◌∷◌, ◌++◌, Option, Some, None, Result, Ok, Err, ℕ, refl, IsOk, ok_or, unwrap_or, result_ok, filter_map}
 use Rattle.krb_wire.specs.declared.name_fault.NameFault.{NameFault}
 use Rattle.krb_wire.specs.declared.name_fault.NameFault.TheVariants.{NoMemory}
 use Rattle.krb_wire.specs.declared.atom.Atom.{Atom}

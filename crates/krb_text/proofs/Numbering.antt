@@ -1,8 +1,6 @@
 -- The day n days after 1970-01-01, counted day by day, has the day number n.
-use Rattle.std.proofs.Common.{◌≡◌, ℕ, zero, suc, ◌+◌, ◌<◌, ◌≤◌, pos, neg_ℤ, ◌+ℤ◌, ◌≤ℤ◌, ◌∙◌, sym, refl, arith, Bool, true, false, nat_lt}
+use Rattle.krb_text.proofs.Cited.{◌≡◌, ℕ, zero, suc, ◌+◌, ◌<◌, ◌≤◌, pos, neg_ℤ, ◌+ℤ◌, ◌≤ℤ◌, ◌∙◌, sym, refl, arith, Bool, true, false, nat_lt, ltb-true, ltb-false, if◌then◌else◌}
 use Rattle.std.proofs.lemmas.Int.{ints}
-use Rattle.std.proofs.lemmas.Bool.{ltb-true, ltb-false}
-use Rattle.std.specs.Prelude.{if◌then◌else◌}
 use Rattle.std.specs.Int.{IsInRange}
 use Rattle.jiff_core.specs.Calendar.{days_from_civil, days_in_month}
 use Rattle.jiff_core.proofs.DateLemmas.{days_from_civil-day, days_from_civil-next_month, days_from_civil-next_year}

@@ -1,12 +1,8 @@
 -- Decimal digits, and what `parse` returns for them.
-use Rattle.std.proofs.Common.{◌≡◌, ℕ, ◌^◌, ◌<◌, List, length, true, false, ◌&&◌, Result, Ok, Err, nat_lt, Bor, nat_le, refl, arith, rules}
+use Rattle.krb_text.proofs.Cited.{◌≡◌, ℕ, ◌^◌, ◌<◌, List, length, true, false, ◌&&◌, Result, Ok, Err, nat_lt, Bor, nat_le, refl, arith, rules, list_all, result_ok, MatchResult, OkIff, MatchOption, and_parts, ltb-true}
 use Rattle.std.specs.Char.{is_ascii_digit}
-use Rattle.std.specs.List.{list_all}
-use Rattle.std.specs.Result.{result_ok, MatchResult, OkIff}
-use Rattle.std.specs.Option.{MatchOption}
 use Rattle.std.specs.Str.{IsUtf8}
 use Rattle.std.specs.Str.Parse.{digits_value, ParsesUnsigned}
-use Rattle.std.proofs.lemmas.Bool.{and_parts, ltb-true}
 use Rattle.std.proofs.lemmas.Bool.Decides.{nat_tests}
 use Rattle.std.proofs.lemmas.Fmt.{IsAscii-from_digits}
 use Rattle.std.proofs.lemmas.Str.{IsUtf8-from_ascii}

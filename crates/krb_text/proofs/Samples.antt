@@ -1,8 +1,6 @@
 -- Worked samples of the definitions.
 use Rattle.std.specs.Prelude.{◌≡◌, codes}
-use Rattle.std.proofs.Common.{refl}
-use Rattle.krb_text.specs.Calendar.{day_number}
-use Rattle.krb_text.specs.Flags.{flag_letters_of}
+use Rattle.krb_text.proofs.Cited.{refl, day_number, flag_letters_of}
 use Rattle.krb_text.proofs.OnLiterals.{krb_text_on_literals}
 
 -- all flags that have a letter, in the order in which MIT's klist prints them

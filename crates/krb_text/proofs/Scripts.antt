@@ -1,10 +1,7 @@
 -- Scripts, line by line.
-use Rattle.std.proofs.Common.{◌≡◌, ℕ, ◌+◌, List, [], ◌∷◌, ◌++◌, true, Result, Ok, Err, refl, sym, append_assoc}
-use Rattle.std.specs.Prelude.{IsOk, IsOkAnd}
-use Rattle.krb_text.specs.declared.line_fault.LineFault.{LineFault}
+use Rattle.krb_text.proofs.Cited.{◌≡◌, ℕ, ◌+◌, List, [], ◌∷◌, ◌++◌, true, Result, Ok, Err, refl, sym, append_assoc, IsOk, IsOkAnd, LineFault, is_command, commands_from, faults_of, commands_read, read_or_fault, script_of, RefusesScript, TakesMemory}
 use Rattle.krb_text.specs.declared.script.ScriptRefusal.{ScriptRefusal}
 use Rattle.krb_text.specs.declared.script.ScriptRefusal.TheVariants.{Fault, NoMemory}
-use Rattle.krb_text.specs.Script.{is_command, commands_from, faults_of, commands_read, read_or_fault, script_of, RefusesScript, TakesMemory}
 
 -- a line was read: it has no fault, and what it is read as comes before what the lines after it are read as
 pub record GivesLine {L : Type 0} (line_in : List ℕ → Result L LineFault) (n : ℕ) (line : List ℕ) (rest : List (List ℕ)) (old new : List L) : Type 0 where

@@ -1,12 +1,6 @@
 -- What a rewrite does to ranks and cursors.
-use Rattle.std.proofs.Common.{◌≡◌, ℕ, zero, suc, ◌+◌, ◌<◌, ◌≤◌, Bool, true, false, List, [], ◌∷◌, length, Option, Some, None, inl, inr, refl, sym, ap, ◌∙◌, subst, arith}
+use Rattle.krb_walk.proofs.Cited.{◌≡◌, ℕ, zero, suc, ◌+◌, ◌<◌, ◌≤◌, Bool, true, false, List, [], ◌∷◌, length, Option, Some, None, inl, inr, refl, sym, ap, ◌∙◌, subst, arith, AllByRecursion, nat_tests, Cell, Store, end_from, end_of, IsSound, live_places, rank, nth_or, carry, Rewrites, RecordName, is_name, place_among}
 use Rattle.std.specs.Prelude.{◌⊎◌, nat_lt, cond, filter}
-use Rattle.std.specs.List.{AllByRecursion}
-use Rattle.std.proofs.lemmas.Bool.Decides.{nat_tests}
-use Rattle.krb_walk.specs.Store.{Cell, Store, end_from, end_of, IsSound}
-use Rattle.krb_walk.specs.Ranks.{live_places, rank, nth_or, carry, Rewrites}
-use Rattle.krb_walk.specs.Track.{RecordName}
-use Rattle.krb_walk.specs.Records.{is_name, place_among}
 use Rattle.krb_walk.proofs.Lives.{lives}
 
 -- strictly ascending numbers, at least lo, and below an end

@@ -1,17 +1,7 @@
 -- The cells of a store that a cursor passes.
-use Rattle.std.proofs.Common.{◌≡◌, ℕ, ◌+◌, ◌<◌, ◌≤◌, Bool, true, false, List, [], ◌∷◌, ◌++◌, map, Option, Some, None, refl, sym, ap, ◌∙◌, arith}
-use Rattle.std.specs.Prelude.{◌&&◌, ◌==◌, nat_le, is_some}
-use Rattle.std.specs.List.{find, filter_map, AllByRecursion}
-use Rattle.std.proofs.lemmas.Bool.Decides.{nat_tests}
-use Rattle.std.proofs.lemmas.Bool.{leb-true, leb-false}
+use Rattle.krb_walk.proofs.Cited.{◌≡◌, ℕ, ◌+◌, ◌<◌, ◌≤◌, Bool, true, false, List, [], ◌∷◌, ◌++◌, map, Option, Some, None, refl, sym, ap, ◌∙◌, arith, ◌&&◌, ◌==◌, nat_le, is_some, find, filter_map, AllByRecursion, nat_tests, leb-true, leb-false, Cell, Store, Record, standing, end_from, end_of, record_with, record_of_some, next_live, live_bytes, stop_of, stop_at, end_stop, IsSound, FaultKind, Row, row_of, stop_cursor, stop_reply, Gave}
 use Rattle.krb_walk.proofs.Stops.{next_from, next_skips, next_stops, stops_give_records}
-use Rattle.krb_walk.specs.Store.{Cell, Store, Record, standing, end_from, end_of, record_with, record_of_some, next_live, live_bytes, stop_of, stop_at, end_stop, IsSound}
-use Rattle.krb_walk.specs.declared.fault.FaultKind.{FaultKind}
 use Rattle.krb_walk.specs.declared.stop.Stop.TheVariants.{Live}
-use Rattle.krb_walk.specs.History.{Row}
-use Rattle.krb_walk.specs.Due.{row_of}
-use Rattle.krb_walk.specs.Events.{stop_cursor, stop_reply}
-use Rattle.krb_walk.specs.ReplyContent.{Gave}
 
 -- the places of cells of these widths, the first at a place
 abbrev pub spots : ℕ → List ℕ → List ℕ

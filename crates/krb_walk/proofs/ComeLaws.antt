@@ -1,18 +1,6 @@
 -- The laws of records, over rewrites too.
-use Rattle.std.proofs.Common.{◌≡◌, ℕ, suc, ◌+◌, ◌<◌, ◌≤◌, Bool, true, false, cond, List, [], ◌∷◌, ◌++◌, length, take, drop, Option, Some, None, inl, inr, refl, sym, ap, ◌∙◌, subst, arith}
-use Rattle.std.specs.Prelude.{◌&&◌, ◌||◌, ◌==◌, ◌⊎◌, nat_le, nat_lt, IsSome}
-use Rattle.std.specs.List.{AllByRecursion, list_any}
-use Rattle.std.proofs.lemmas.Bool.Decides.{nat_tests}
-use Rattle.std.proofs.lemmas.List.{length-append}
+use Rattle.krb_walk.proofs.Cited.{◌≡◌, ℕ, suc, ◌+◌, ◌<◌, ◌≤◌, Bool, true, false, cond, List, [], ◌∷◌, ◌++◌, length, take, drop, Option, Some, None, inl, inr, refl, sym, ap, ◌∙◌, subst, arith, ◌&&◌, ◌||◌, ◌==◌, ◌⊎◌, nat_le, nat_lt, IsSome, AllByRecursion, list_any, nat_tests, length-append, Store, end_of, IsSound, live_places, Puts, Cuts, Changes, ReplyContent, Placed, Gone, completes, is_step_reply, is_rewritten, Row, rows_of_reply, RecordName, WalkEvent, Track, first_names, names_after, IsWalkEvent, IsTrack, IsWalk, rows_at_event, rows_at, OneRow, begins, is_name, place_among, place_of, place_at_first, rows_at_some, rows_here, rows_of, passes_record, turn_of, HasTurn, IsAliveUntilDone, IsCutBefore, IsAddedAt, EachComesAsDue}
 use Rattle.std.proofs.lemmas.Grind.{flat_map-append}
-use Rattle.krb_walk.specs.Store.{Store, end_of, IsSound}
-use Rattle.krb_walk.specs.Ranks.{live_places}
-use Rattle.krb_walk.specs.Changes.{Puts, Cuts, Changes}
-use Rattle.krb_walk.specs.ReplyContent.{ReplyContent, Placed, Gone, completes, is_step_reply, is_rewritten}
-use Rattle.krb_walk.specs.History.{Row, rows_of_reply}
-use Rattle.krb_walk.specs.Track.{RecordName, WalkEvent, Track, first_names, names_after, IsWalkEvent, IsTrack, IsWalk}
-use Rattle.krb_walk.specs.Due.{rows_at_event}
-use Rattle.krb_walk.specs.Records.{rows_at, OneRow, begins, is_name, place_among, place_of, place_at_first, rows_at_some, rows_here, rows_of, passes_record, turn_of, HasTurn, IsAliveUntilDone, IsCutBefore, IsAddedAt, EachComesAsDue}
 use Rattle.krb_walk.proofs.Lives.{lives_lt, puts_insert, cuts_insert}
 use Rattle.krb_walk.proofs.Names.{any_lt, apart}
 use Rattle.krb_walk.proofs.WalkEvents.{end_of_step, effect_of, ends_of, completes_stepped, carry_by-same, carry_by-own}

@@ -1,15 +1,5 @@
 -- A record comes iff a step passes it at its place.
-use Rattle.std.proofs.Common.{◌≡◌, ℕ, suc, ◌<◌, ◌≤◌, Bool, true, false, cond, List, [], ◌∷◌, ◌++◌, length, Option, Some, None, inl, inr, refl, sym, ap, ◌∙◌, subst, arith}
-use Rattle.std.specs.Prelude.{◌&&◌, ◌==◌, ◌⊎◌, nat_le, nat_lt, IsSome}
-use Rattle.std.specs.List.{list_any}
-use Rattle.std.specs.Option.{option_to_list}
-use Rattle.std.proofs.lemmas.Bool.Decides.{nat_tests}
-use Rattle.krb_walk.specs.Store.{Store, Record, live_at}
-use Rattle.krb_walk.specs.Ranks.{live_places}
-use Rattle.krb_walk.specs.History.{Row}
-use Rattle.krb_walk.specs.Track.{RecordName, WalkEvent, Track, names_after, carry_by, IsWalkEvent, IsTrack}
-use Rattle.krb_walk.specs.Due.{row_of, rows_at_event}
-use Rattle.krb_walk.specs.Records.{rows_at, OneRow, is_name, place_among, place_of, rows_at_some, rows_here, rows_of, goes_past_some, passes_record, turn_of, HasTurn}
+use Rattle.krb_walk.proofs.Cited.{◌≡◌, ℕ, suc, ◌<◌, ◌≤◌, Bool, true, false, cond, List, [], ◌∷◌, ◌++◌, length, Option, Some, None, inl, inr, refl, sym, ap, ◌∙◌, subst, arith, ◌&&◌, ◌==◌, ◌⊎◌, nat_le, nat_lt, IsSome, list_any, option_to_list, nat_tests, Store, Record, live_at, live_places, Row, RecordName, WalkEvent, Track, names_after, carry_by, IsWalkEvent, IsTrack, row_of, rows_at_event, rows_at, OneRow, is_name, place_among, place_of, rows_at_some, rows_here, rows_of, goes_past_some, passes_record, turn_of, HasTurn}
 use Rattle.krb_walk.proofs.Places.{stop_forward, or_true}
 use Rattle.krb_walk.proofs.WalkEvents.{end_of_step, Advances, effect_of, carry_by-own}
 use Rattle.krb_walk.proofs.Names.{AreBorn, or_left, in_lives}

@@ -1,20 +1,6 @@
 -- How many steps give a record, and that each row is of a record that is alive.
-use Rattle.std.proofs.Common.{◌≡◌, ℕ, suc, ◌+◌, ◌<◌, ◌≤◌, Bool, true, false, cond, List, [], ◌∷◌, ◌++◌, length, map, Option, Some, None, inl, inr, refl, sym, ap, ◌∙◌, subst, arith}
-use Rattle.std.specs.Prelude.{◌==◌, nat_le, nat_lt, filter}
-use Rattle.std.specs.List.{AllByRecursion, list_any}
-use Rattle.std.proofs.lemmas.List.{length-append}
-use Rattle.std.proofs.lemmas.Bool.Decides.{nat_tests}
-use Rattle.krb_walk.specs.Store.{Store, Record, end_of, IsSound, records, next_live}
-use Rattle.krb_walk.specs.Changes.{Changes}
-use Rattle.krb_walk.specs.ReplyContent.{ReplyContent, Placed, Gone, Rewritten, is_placed}
-use Rattle.krb_walk.specs.Events.{stop_cursor}
-use Rattle.krb_walk.specs.History.{Row}
-use Rattle.krb_walk.specs.Ranks.{live_places, carry}
-use Rattle.krb_walk.specs.Track.{RecordName, WalkEvent, Track, carry_by, IsTrack}
-use Rattle.krb_walk.specs.Due.{rows_at_event, given_over}
-use Rattle.krb_walk.specs.Records.{is_name, place_among, IsNamed}
+use Rattle.krb_walk.proofs.Cited.{◌≡◌, ℕ, suc, ◌+◌, ◌<◌, ◌≤◌, Bool, true, false, cond, List, [], ◌∷◌, ◌++◌, length, map, Option, Some, None, inl, inr, refl, sym, ap, ◌∙◌, subst, arith, ◌==◌, nat_le, nat_lt, filter, AllByRecursion, list_any, length-append, nat_tests, Store, Record, end_of, IsSound, records, next_live, Changes, ReplyContent, Placed, Gone, Rewritten, is_placed, stop_cursor, Row, live_places, carry, RecordName, WalkEvent, Track, carry_by, IsTrack, rows_at_event, given_over, is_name, place_among, IsNamed, records_from}
 use Rattle.krb_walk.specs.Counts.{additions}
-use Rattle.krb_walk.specs.Stops.{records_from}
 use Rattle.krb_walk.proofs.Stops.{stops_give_records}
 use Rattle.krb_walk.proofs.Cells.{rows_of_next}
 use Rattle.krb_walk.proofs.Places.{or_cases, or_true}

@@ -1,15 +1,5 @@
 -- Stores with a fault refuse all changes.
-use Rattle.std.proofs.Common.{◌≡◌, ℕ, List, [], ◌∷◌, Some, Result, Ok, Err, refl, ap, ◌∙◌}
-use Rattle.std.specs.List.{AllByRecursion}
-use Rattle.krb_walk.specs.declared.event.Event.{Event}
-use Rattle.krb_walk.specs.declared.event.Event.TheVariants.{Start, Resume, Step, Put, Cut, Rewrite}
-use Rattle.krb_walk.specs.declared.refusal.Code.{Code}
-use Rattle.krb_walk.specs.declared.fault.FaultKind.{FaultKind}
-use Rattle.krb_walk.specs.Store.{Store}
-use Rattle.krb_walk.specs.Changes.{Changes}
-use Rattle.krb_walk.specs.Rules.{Rules}
-use Rattle.krb_walk.specs.Events.{SessionState, after, reply_to, store_after, put_reply, put_store, cut_reply, cut_store, rewrite_reply}
-use Rattle.krb_walk.specs.History.{IsLawful, AllLawful, moment, history, state_after}
+use Rattle.krb_walk.proofs.Cited.{◌≡◌, ℕ, List, [], ◌∷◌, Some, Result, Ok, Err, refl, ap, ◌∙◌, AllByRecursion, Event, Start, Resume, Step, Put, Cut, Rewrite, Code, FaultKind, Store, Changes, Rules, SessionState, after, reply_to, store_after, put_reply, put_store, cut_reply, cut_store, rewrite_reply, IsLawful, AllLawful, moment, history, state_after}
 use Rattle.krb_walk.specs.Damage.{RefusesChange, RefusesChanges}
 
 -- a store with a fault refuses all changes

@@ -1,19 +1,5 @@
 -- What each event does to a walk, and the law of histories.
-use Rattle.std.proofs.Common.{◌≡◌, ◌≢◌, ℕ, zero, suc, ◌+◌, Bool, true, false, cond, List, [], ◌∷◌, ◌++◌, length, map, Option, Some, None, Result, Ok, Err, inl, inr, refl, sym, ap, ◌∙◌, subst, arith}
-use Rattle.std.specs.Prelude.{◌&&◌, ◌==◌, ◌⊎◌, nat_lt, is_some, slice_get, slice_set}
-use Rattle.std.proofs.lemmas.Bool.Decides.{nat_tests}
-use Rattle.krb_walk.specs.declared.event.Event.{Event}
-use Rattle.krb_walk.specs.declared.event.Event.TheVariants.{Start, Resume, Step, Put, Cut, Rewrite}
-use Rattle.krb_walk.specs.declared.fault.FaultKind.{FaultKind}
-use Rattle.krb_walk.specs.declared.refusal.Code.{Code}
-use Rattle.krb_walk.specs.Store.{Cell, Store, Record, end_from, end_of, is_place_from, IsSound, fault_from, is_place, next_live}
-use Rattle.krb_walk.specs.Changes.{Changes}
-use Rattle.krb_walk.specs.ReplyContent.{ReplyContent, Placed, Gone, Rewritten, is_step_reply, is_rewritten}
-use Rattle.krb_walk.specs.Rules.{Rules}
-use Rattle.krb_walk.specs.Events.{SessionState, after, reply_to, store_after, cursors_after, stop_cursor, stop_reply, end_reply, put_reply, cut_reply, cut_store, rewrite_reply, rewrite_cursors, step_reply, step_cursors}
-use Rattle.krb_walk.specs.History.{IsReady, IsLawful, AllLawful, AllPlain, moment, history, state_after, steps_walk}
-use Rattle.krb_walk.specs.Ranks.{rank, nth_or, carry}
-use Rattle.krb_walk.specs.Track.{carry_by, AnswersStep}
+use Rattle.krb_walk.proofs.Cited.{◌≡◌, ◌≢◌, ℕ, zero, suc, ◌+◌, Bool, true, false, cond, List, [], ◌∷◌, ◌++◌, length, map, Option, Some, None, Result, Ok, Err, inl, inr, refl, sym, ap, ◌∙◌, subst, arith, ◌&&◌, ◌==◌, ◌⊎◌, nat_lt, is_some, slice_get, slice_set, nat_tests, Event, Start, Resume, Step, Put, Cut, Rewrite, FaultKind, Code, Cell, Store, Record, end_from, end_of, is_place_from, IsSound, fault_from, is_place, next_live, Changes, ReplyContent, Placed, Gone, Rewritten, is_step_reply, is_rewritten, Rules, SessionState, after, reply_to, store_after, cursors_after, stop_cursor, stop_reply, end_reply, put_reply, cut_reply, cut_store, rewrite_reply, rewrite_cursors, step_reply, step_cursors, IsReady, IsLawful, AllLawful, AllPlain, moment, history, state_after, steps_walk, rank, nth_or, carry, carry_by, AnswersStep}
 use Rattle.krb_walk.proofs.Lists.{get-push, get-append, get-set, get-set_other, get-set_same}
 use Rattle.krb_walk.proofs.Places.{Extends, extends_self, extends_on, puts-extends, cuts-extends, sound_kept, place_kept, place_first, stop_place, or_true}
 use Rattle.krb_walk.proofs.Stops.{is_place_from-first}

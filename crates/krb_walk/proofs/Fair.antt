@@ -1,19 +1,9 @@
 -- The laws of a walk, over one run and over joined runs.
-use Rattle.std.proofs.Common.{◌≡◌, ℕ, suc, ◌+◌, ◌≤◌, List, [], ◌∷◌, ◌++◌, length, Option, Some, None, refl, sym, ap, ◌∙◌, subst, arith}
-use Rattle.std.specs.List.{AllByRecursion}
+use Rattle.krb_walk.proofs.Cited.{◌≡◌, ℕ, suc, ◌+◌, ◌≤◌, List, [], ◌∷◌, ◌++◌, length, Option, Some, None, refl, sym, ap, ◌∙◌, subst, arith, AllByRecursion, Event, Store, Rules, SessionState, Moment, Row, IsReady, AllLawful, history, state_after, given, given_from, rows_of_reply, RecordName, WalkEvent, Track, PlacesStay, first_names, track_on, track, last_names, IsTrack, IsWalk, rows_at_event, given_over, due_over, due_by_steps, CursorIsSound, records_from}
 use Rattle.std.proofs.lemmas.Grind.{flat_map-append}
-use Rattle.krb_walk.specs.declared.event.Event.{Event}
-use Rattle.krb_walk.specs.Store.{Store}
-use Rattle.krb_walk.specs.Rules.{Rules}
-use Rattle.krb_walk.specs.Events.{SessionState}
-use Rattle.krb_walk.specs.History.{Moment, Row, IsReady, AllLawful, history, state_after, given, given_from, rows_of_reply}
-use Rattle.krb_walk.specs.Track.{RecordName, WalkEvent, Track, PlacesStay, first_names, track_on, track, last_names, IsTrack, IsWalk}
-use Rattle.krb_walk.specs.Due.{rows_at_event, given_over, due_over, due_by_steps}
 use Rattle.krb_walk.specs.Fair.{IsFair}
 use Rattle.krb_walk.specs.Joins.{Join, joined}
-use Rattle.krb_walk.specs.Cursors.{CursorIsSound}
 use Rattle.krb_walk.specs.Counts.{additions}
-use Rattle.krb_walk.specs.Stops.{records_from}
 use Rattle.krb_walk.proofs.WalkEvents.{cursor_is_sound}
 use Rattle.krb_walk.proofs.Tracks.{track_gives, track_gives_by_steps}
 use Rattle.krb_walk.proofs.Ranked.{first_keeps}

@@ -1,17 +1,7 @@
 -- Over a store with a fault, the steps of a walk give the records from its cursor on, and then the fault.
-use Rattle.std.proofs.Common.{◌≡◌, ℕ, zero, suc, ◌≤◌, Bool, true, false, cond, List, [], ◌∷◌, ◌++◌, length, map, take, replicate, Option, Some, None, inl, inr, refl, sym, ap, ◌∙◌, subst, arith}
-use Rattle.std.specs.Prelude.{filter}
-use Rattle.std.specs.List.{AllByRecursion}
-use Rattle.std.specs.Option.{option_to_list}
+use Rattle.krb_walk.proofs.Cited.{◌≡◌, ℕ, zero, suc, ◌≤◌, Bool, true, false, cond, List, [], ◌∷◌, ◌++◌, length, map, take, replicate, Option, Some, None, inl, inr, refl, sym, ap, ◌∙◌, subst, arith, filter, AllByRecursion, option_to_list, FaultKind, Store, Record, end_of, IsSound, next_live, fault_from, Changes, ReplyContent, Started, Gave, Ended, Faulted, Placed, Gone, Rewritten, Refused, is_step_reply, completes, is_gave, is_rewritten, stop_cursor, stop_reply, end_reply, RecordName, WalkEvent, Track, AnswersStep, IsTrack, records_from}
 use Rattle.krb_walk.specs.declared.fault.Fault.{Fault}
-use Rattle.krb_walk.specs.declared.fault.FaultKind.{FaultKind}
-use Rattle.krb_walk.specs.Store.{Store, Record, end_of, IsSound, next_live, fault_from}
-use Rattle.krb_walk.specs.Changes.{Changes}
-use Rattle.krb_walk.specs.ReplyContent.{ReplyContent, Started, Gave, Ended, Faulted, Placed, Gone, Rewritten, Refused, is_step_reply, completes, is_gave, is_rewritten}
-use Rattle.krb_walk.specs.Events.{stop_cursor, stop_reply, end_reply}
-use Rattle.krb_walk.specs.Track.{RecordName, WalkEvent, Track, AnswersStep, IsTrack}
 use Rattle.krb_walk.specs.Damage.{GiveToFault, as_walk, gave, step_replies}
-use Rattle.krb_walk.specs.Stops.{records_from}
 use Rattle.krb_walk.proofs.Stops.{stops_give_records, stops_end}
 use Rattle.krb_walk.proofs.WalkEvents.{end_of_step, effect_of, carry_by-same}
 use Rattle.krb_walk.proofs.Counts.{none_at_end}

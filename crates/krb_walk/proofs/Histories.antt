@@ -1,14 +1,5 @@
 -- The track of a walk over a history.
-use Rattle.std.proofs.Common.{◌≡◌, ℕ, suc, true, false, List, [], ◌∷◌, Option, Some, None, inl, inr, refl, ap, sym, ◌∙◌, subst}
-use Rattle.std.specs.Prelude.{slice_get, IsSomeAnd}
-use Rattle.std.specs.Option.{option_or}
-use Rattle.krb_walk.specs.declared.event.Event.{Event}
-use Rattle.krb_walk.specs.Store.{Store, is_place}
-use Rattle.krb_walk.specs.ReplyContent.{ReplyContent, is_rewritten}
-use Rattle.krb_walk.specs.Rules.{Rules}
-use Rattle.krb_walk.specs.Events.{SessionState, after, reply_to, store_after, cursors_after}
-use Rattle.krb_walk.specs.History.{IsReady, AllLawful, history, state_after}
-use Rattle.krb_walk.specs.Track.{RecordName, track_on, carry_by, AnswersStep, IsTrack}
+use Rattle.krb_walk.proofs.Cited.{◌≡◌, ℕ, suc, true, false, List, [], ◌∷◌, Option, Some, None, inl, inr, refl, ap, sym, ◌∙◌, subst, slice_get, IsSomeAnd, option_or, Event, Store, is_place, ReplyContent, is_rewritten, Rules, SessionState, after, reply_to, store_after, cursors_after, IsReady, AllLawful, history, state_after, RecordName, track_on, carry_by, AnswersStep, IsTrack}
 use Rattle.krb_walk.proofs.Places.{place_kept}
 use Rattle.krb_walk.proofs.Effects.{ready_after, effect, changes-extends}
 use Rattle.krb_walk.proofs.WalkEvents.{carry_by-same}

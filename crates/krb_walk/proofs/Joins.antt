@@ -1,18 +1,7 @@
 -- Joined runs.
-use Rattle.std.proofs.Common.{◌≡◌, ℕ, suc, ◌+◌, Bool, true, false, cond, List, [], ◌∷◌, ◌++◌, length, Option, Some, None, inl, inr, refl, sym, ap, ◌∙◌, subst, arith}
-use Rattle.std.specs.Prelude.{◌&&◌, nat_lt, slice_get}
-use Rattle.std.specs.List.{AllByRecursion}
-use Rattle.std.specs.Option.{option_or}
+use Rattle.krb_walk.proofs.Cited.{◌≡◌, ℕ, suc, ◌+◌, Bool, true, false, cond, List, [], ◌∷◌, ◌++◌, length, Option, Some, None, inl, inr, refl, sym, ap, ◌∙◌, subst, arith, ◌&&◌, nat_lt, slice_get, AllByRecursion, option_or, Event, Resume, Store, is_place, Started, Refused, is_rewritten, Rules, SessionState, after, reply_to, cursors_after, Moment, IsReady, AllLawful, history, state_after, RecordName, Track, first_names, track_on, track, last_names, last_cursor, IsTrack, IsWalk}
 use Rattle.std.proofs.lemmas.Option.{slice_get_within}
-use Rattle.krb_walk.specs.declared.event.Event.{Event}
-use Rattle.krb_walk.specs.declared.event.Event.TheVariants.{Resume}
 use Rattle.krb_walk.specs.declared.refusal.Code.TheVariants.{NotAPlace, TooManyWalks}
-use Rattle.krb_walk.specs.Store.{Store, is_place}
-use Rattle.krb_walk.specs.ReplyContent.{Started, Refused, is_rewritten}
-use Rattle.krb_walk.specs.Rules.{Rules}
-use Rattle.krb_walk.specs.Events.{SessionState, after, reply_to, cursors_after}
-use Rattle.krb_walk.specs.History.{Moment, IsReady, AllLawful, history, state_after}
-use Rattle.krb_walk.specs.Track.{RecordName, Track, first_names, track_on, track, last_names, last_cursor, IsTrack, IsWalk}
 use Rattle.krb_walk.specs.Joins.{IsThereOrResumes, Next, track_then, Join}
 use Rattle.krb_walk.proofs.Effects.{effect}
 use Rattle.krb_walk.proofs.Tracks.{tracks_join}

@@ -1,3 +1,4 @@
+pub mod Cited
 pub mod Stops
 pub mod Lists
 pub mod Cells

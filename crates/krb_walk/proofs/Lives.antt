@@ -1,12 +1,5 @@
 -- The places of live cells, and how a change affects them.
-use Rattle.std.proofs.Common.{◌≡◌, ℕ, ◌+◌, ◌<◌, ◌≤◌, true, false, List, [], ◌∷◌, ◌++◌, length, map, Option, Some, None, inl, inr, refl, sym, ap, ◌∙◌, subst, arith}
-use Rattle.std.specs.Prelude.{nat_lt, filter}
-use Rattle.std.specs.List.{AllByRecursion}
-use Rattle.std.proofs.lemmas.List.{append-nil}
-use Rattle.std.proofs.lemmas.Bool.Decides.{nat_tests}
-use Rattle.krb_walk.specs.Store.{Cell, Store, end_from, IsSound}
-use Rattle.krb_walk.specs.Changes.{Puts, Cuts}
-use Rattle.krb_walk.specs.Ranks.{live_places, rank}
+use Rattle.krb_walk.proofs.Cited.{◌≡◌, ℕ, ◌+◌, ◌<◌, ◌≤◌, true, false, List, [], ◌∷◌, ◌++◌, length, map, Option, Some, None, inl, inr, refl, sym, ap, ◌∙◌, subst, arith, nat_lt, filter, AllByRecursion, append-nil, nat_tests, Cell, Store, end_from, IsSound, Puts, Cuts, live_places, rank}
 use Rattle.krb_walk.proofs.Stops.{records_of, end_from-ge}
 use Rattle.krb_walk.proofs.Places.{sound_kept, puts-extends}
 

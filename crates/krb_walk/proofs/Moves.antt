@@ -1,10 +1,5 @@
 -- The state of a session after a step of a walk.
-use Rattle.std.specs.Prelude.{slice_get, slice_set}
-use Rattle.std.proofs.Common.{◌≡◌, ℕ, List, Option, Some, None, ap, ◌∙◌}
-use Rattle.krb_walk.specs.declared.event.Event.TheVariants.{Step}
-use Rattle.krb_walk.specs.Store.{end_of, next_live}
-use Rattle.krb_walk.specs.Rules.{Rules}
-use Rattle.krb_walk.specs.Events.{SessionState, session_of, after, stop_cursor, step_cursors}
+use Rattle.krb_walk.proofs.Cited.{slice_get, slice_set, ◌≡◌, ℕ, List, Option, Some, None, ap, ◌∙◌, Step, end_of, next_live, Rules, SessionState, session_of, after, stop_cursor, step_cursors}
 
 abbrev with : {S : Type 0} → S → List ℕ → SessionState S
 with store cursors = record { store = store; cursors = cursors }

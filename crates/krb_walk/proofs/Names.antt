@@ -1,15 +1,6 @@
 -- The names of records follow the live cells.
-use Rattle.std.proofs.Common.{◌≡◌, ℕ, zero, suc, ◌+◌, ◌<◌, ◌≤◌, Bool, true, false, List, [], ◌∷◌, ◌++◌, length, map, take, drop, Option, Some, None, inl, inr, refl, sym, ap, ◌∙◌, arith}
-use Rattle.std.specs.Prelude.{◌||◌, ◌==◌, insert, remove}
-use Rattle.std.specs.List.{AllByRecursion, list_any, take-map, drop-map}
-use Rattle.std.proofs.lemmas.List.{map-append}
+use Rattle.krb_walk.proofs.Cited.{◌≡◌, ℕ, zero, suc, ◌+◌, ◌<◌, ◌≤◌, Bool, true, false, List, [], ◌∷◌, ◌++◌, length, map, take, drop, Option, Some, None, inl, inr, refl, sym, ap, ◌∙◌, arith, ◌||◌, ◌==◌, insert, remove, AllByRecursion, list_any, take-map, drop-map, map-append, nat_tests, Cell, Store, Record, IsSound, Changes, ReplyContent, Placed, Gone, Rewritten, is_rewritten, live_places, rank, RecordName, first_names, names_after}
 use Rattle.std.proofs.Math.Seq.{take-append_seam, drop-append_seam, drop-append-add}
-use Rattle.std.proofs.lemmas.Bool.Decides.{nat_tests}
-use Rattle.krb_walk.specs.Store.{Cell, Store, Record, IsSound}
-use Rattle.krb_walk.specs.Changes.{Changes}
-use Rattle.krb_walk.specs.ReplyContent.{ReplyContent, Placed, Gone, Rewritten, is_rewritten}
-use Rattle.krb_walk.specs.Ranks.{live_places, rank}
-use Rattle.krb_walk.specs.Track.{RecordName, first_names, names_after}
 use Rattle.krb_walk.proofs.Cells.{live_from, find_head, find_tail}
 use Rattle.krb_walk.proofs.Places.{or_cases}
 use Rattle.krb_walk.proofs.Lives.{lives, lives_ge, puts_insert, cuts_insert}

@@ -1,13 +1,5 @@
 -- A walk gives records in file order, and events keep records on their side of its cursor.
-use Rattle.std.proofs.Common.{◌≡◌, ℕ, suc, ◌<◌, ◌≤◌, Bool, true, false, List, [], ◌∷◌, ◌++◌, Option, Some, None, inl, inr, refl, sym, ◌∙◌, subst, arith}
-use Rattle.std.specs.Prelude.{◌&&◌}
-use Rattle.std.specs.List.{AllByRecursion}
-use Rattle.std.proofs.lemmas.Bool.Decides.{nat_tests}
-use Rattle.krb_walk.specs.Store.{Store}
-use Rattle.krb_walk.specs.Ranks.{live_places}
-use Rattle.krb_walk.specs.Track.{RecordName, WalkEvent, Track, carry_by, IsWalkEvent, IsTrack}
-use Rattle.krb_walk.specs.Records.{place_of, goes_past_some, passes_record, HasTurn, ComeInTurn}
-use Rattle.krb_walk.specs.Cursors.{KeepsSide}
+use Rattle.krb_walk.proofs.Cited.{◌≡◌, ℕ, suc, ◌<◌, ◌≤◌, Bool, true, false, List, [], ◌∷◌, ◌++◌, Option, Some, None, inl, inr, refl, sym, ◌∙◌, subst, arith, ◌&&◌, AllByRecursion, nat_tests, Store, live_places, RecordName, WalkEvent, Track, carry_by, IsWalkEvent, IsTrack, place_of, goes_past_some, passes_record, HasTurn, ComeInTurn, KeepsSide}
 use Rattle.krb_walk.proofs.WalkEvents.{effect_of}
 use Rattle.krb_walk.proofs.Ranked.{Keeps, still_after}
 use Rattle.krb_walk.proofs.Comes.{among_born, keeps_here, keeps_next, place_here, turn_later, IsBehind, behind_event, passed, comes, turn_if_row}

@@ -1,7 +1,5 @@
 -- The parts of a track.
-use Rattle.std.proofs.Common.{◌≡◌, ℕ, suc, ◌+◌, List, [], ◌∷◌, ◌++◌, length, Option, refl, subst, arith, append_assoc}
-use Rattle.krb_walk.specs.Store.{Store}
-use Rattle.krb_walk.specs.Track.{RecordName, WalkEvent, Track, last_names, last_cursor, IsTrack}
+use Rattle.krb_walk.proofs.Cited.{◌≡◌, ℕ, suc, ◌+◌, List, [], ◌∷◌, ◌++◌, length, Option, refl, subst, arith, append_assoc, Store, RecordName, WalkEvent, Track, last_names, last_cursor, IsTrack}
 use Rattle.krb_walk.proofs.Ranked.{Keeps}
 use Rattle.krb_walk.proofs.Comes.{keeps_next}
 

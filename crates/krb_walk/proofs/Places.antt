@@ -1,13 +1,5 @@
 -- What an addition or a removal keeps: the places, and that cursors are at places.
-use Rattle.std.proofs.Common.{◌≡◌, ℕ, ◌+◌, ◌<◌, ◌≤◌, Bool, true, false, List, [], ◌∷◌, ◌++◌, map, Option, Some, None, inl, inr, refl, sym, ap, ◌∙◌, arith, append_assoc}
-use Rattle.std.specs.Prelude.{◌&&◌, ◌||◌, ◌==◌, ◌⊎◌, nat_le, is_some}
-use Rattle.std.specs.List.{AllByRecursion}
-use Rattle.std.proofs.lemmas.List.{map-append, append-nil}
-use Rattle.std.proofs.lemmas.Bool.Decides.{nat_tests}
-use Rattle.std.proofs.lemmas.Bool.{leb-true}
-use Rattle.krb_walk.specs.Store.{Cell, Store, end_from, end_of, is_place_from, is_place, next_live, IsSound}
-use Rattle.krb_walk.specs.Changes.{OneCell, Appends, Puts, Cuts}
-use Rattle.krb_walk.specs.Events.{stop_cursor}
+use Rattle.krb_walk.proofs.Cited.{◌≡◌, ℕ, ◌+◌, ◌<◌, ◌≤◌, Bool, true, false, List, [], ◌∷◌, ◌++◌, map, Option, Some, None, inl, inr, refl, sym, ap, ◌∙◌, arith, append_assoc, ◌&&◌, ◌||◌, ◌==◌, ◌⊎◌, nat_le, is_some, AllByRecursion, map-append, append-nil, nat_tests, leb-true, Cell, Store, end_from, end_of, is_place_from, is_place, next_live, IsSound, OneCell, Appends, Puts, Cuts, stop_cursor}
 use Rattle.krb_walk.proofs.Stops.{next_stops, end_from-ge, is_place_from-first}
 use Rattle.krb_walk.proofs.Cells.{stop_from, stop_skips}
 

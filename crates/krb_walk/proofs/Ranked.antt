@@ -1,14 +1,5 @@
 -- Each record comes as it is due, along a track on which the store may be rewritten.
-use Rattle.std.proofs.Common.{◌≡◌, ℕ, zero, suc, ◌<◌, ◌≤◌, Bool, true, false, cond, List, [], ◌∷◌, ◌++◌, length, map, take, drop, Option, Some, None, inl, inr, refl, sym, ap, ◌∙◌, subst, arith}
-use Rattle.std.specs.Prelude.{◌&&◌, ◌||◌, ◌==◌, ◌⊎◌}
-use Rattle.std.specs.List.{list_any}
-use Rattle.std.proofs.lemmas.Bool.Decides.{nat_tests}
-use Rattle.krb_walk.specs.Store.{Store, end_of, IsSound}
-use Rattle.krb_walk.specs.Ranks.{live_places, rank}
-use Rattle.krb_walk.specs.Changes.{Changes}
-use Rattle.krb_walk.specs.ReplyContent.{ReplyContent, Placed, Gone, Rewritten}
-use Rattle.krb_walk.specs.Track.{RecordName, first_names, names_after, carry_by}
-use Rattle.krb_walk.specs.Records.{is_name, place_among}
+use Rattle.krb_walk.proofs.Cited.{◌≡◌, ℕ, zero, suc, ◌<◌, ◌≤◌, Bool, true, false, cond, List, [], ◌∷◌, ◌++◌, length, map, take, drop, Option, Some, None, inl, inr, refl, sym, ap, ◌∙◌, subst, arith, ◌&&◌, ◌||◌, ◌==◌, ◌⊎◌, list_any, nat_tests, Store, end_of, IsSound, live_places, rank, Changes, ReplyContent, Placed, Gone, Rewritten, RecordName, first_names, names_after, carry_by, is_name, place_among}
 use Rattle.krb_walk.proofs.Lives.{puts_insert, cuts_insert}
 use Rattle.krb_walk.proofs.Names.{AreBorn, born_after, first_born}
 use Rattle.krb_walk.proofs.Carries.{Rises, places_rise, SameSide, carry_same_side, still_some}

@@ -1,12 +1,5 @@
 -- The rows at one place.
-use Rattle.std.proofs.Common.{◌≡◌, ◌≢◌, ℕ, ◌+◌, ◌<◌, Bool, true, false, List, [], ◌∷◌, Option, Some, None, refl, sym, ap, ◌∙◌, arith}
-use Rattle.std.specs.Prelude.{◌==◌}
-use Rattle.std.specs.List.{filter_map, cons_option, AllByRecursion}
-use Rattle.std.proofs.lemmas.Bool.Decides.{nat_tests}
-use Rattle.krb_walk.specs.Store.{Cell, Store, Standing, Record, end_from, record_with, is_place_from, live_at}
-use Rattle.krb_walk.specs.History.{Row}
-use Rattle.krb_walk.specs.Due.{row_of}
-use Rattle.krb_walk.specs.Records.{rows_at}
+use Rattle.krb_walk.proofs.Cited.{◌≡◌, ◌≢◌, ℕ, ◌+◌, ◌<◌, Bool, true, false, List, [], ◌∷◌, Option, Some, None, refl, sym, ap, ◌∙◌, arith, ◌==◌, filter_map, cons_option, AllByRecursion, nat_tests, Cell, Store, Standing, Record, end_from, record_with, is_place_from, live_at, Row, row_of, rows_at}
 use Rattle.krb_walk.proofs.Cells.{live_from, spots}
 use Rattle.krb_walk.proofs.Places.{widths}
 

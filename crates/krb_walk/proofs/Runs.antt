@@ -1,18 +1,7 @@
 -- Extending a run by one event.
-use Rattle.std.specs.Prelude.{IfOk, OnOk, OnErr}
-use Rattle.std.proofs.Common.{◌≡◌, ℕ, Result, Ok, Err, List, [], ◌∷◌, ◌++◌, refl, sym, ap, ◌∙◌, subst, append_assoc}
-use Rattle.std.proofs.lemmas.List.{append-nil}
-use Rattle.krb_walk.specs.declared.event.Event.{Event}
-use Rattle.krb_walk.specs.declared.event.Event.TheVariants.{Step}
+use Rattle.krb_walk.proofs.Cited.{IfOk, OnOk, OnErr, ◌≡◌, ℕ, Result, Ok, Err, List, [], ◌∷◌, ◌++◌, refl, sym, ap, ◌∙◌, subst, append_assoc, append-nil, Event, Step, ReplyContent, content_of, Rules, SessionState, after, reply_to, IsReady, IsLawful, AllLawful, moment, history, state_after, replies, track_of, due_over, Ran}
 use Rattle.krb_walk.specs.declared.event.Reply.{Reply}
-use Rattle.krb_walk.specs.ReplyContent.{ReplyContent, content_of}
-use Rattle.krb_walk.specs.Rules.{Rules}
-use Rattle.krb_walk.specs.Events.{SessionState, after, reply_to}
-use Rattle.krb_walk.specs.History.{IsReady, IsLawful, AllLawful, moment, history, state_after, replies}
-use Rattle.krb_walk.specs.Track.{track_of}
-use Rattle.krb_walk.specs.Due.{due_over}
 use Rattle.krb_walk.specs.Fair.{IsFair}
-use Rattle.krb_walk.specs.Ran.{Ran}
 use Rattle.krb_walk.proofs.Effects.{ready_to_last, lawful_step}
 use Rattle.krb_walk.proofs.Fair.{history_fair, gives_due, gives_due_at_places}
 use Rattle.krb_walk.proofs.Damaged.{damaged_refuses}

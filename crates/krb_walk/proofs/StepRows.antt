@@ -1,14 +1,5 @@
 -- The rows that a step gives at a place.
-use Rattle.std.proofs.Common.{◌≡◌, ◌≢◌, ℕ, ◌<◌, ◌≤◌, Bool, true, false, cond, List, [], ◌∷◌, Option, Some, None, refl, sym, ap, ◌∙◌, arith}
-use Rattle.std.specs.Prelude.{◌&&◌, ◌==◌, nat_le, nat_lt}
-use Rattle.std.specs.List.{filter_map}
-use Rattle.std.specs.Option.{option_to_list}
-use Rattle.std.proofs.lemmas.Bool.Decides.{nat_tests}
-use Rattle.krb_walk.specs.Store.{Store, Record, end_of, is_place, IsSound, live_at, next_live}
-use Rattle.krb_walk.specs.History.{Row}
-use Rattle.krb_walk.specs.Due.{row_of}
-use Rattle.krb_walk.specs.Events.{stop_cursor}
-use Rattle.krb_walk.specs.Records.{rows_at}
+use Rattle.krb_walk.proofs.Cited.{◌≡◌, ◌≢◌, ℕ, ◌<◌, ◌≤◌, Bool, true, false, cond, List, [], ◌∷◌, Option, Some, None, refl, sym, ap, ◌∙◌, arith, ◌&&◌, ◌==◌, nat_le, nat_lt, filter_map, option_to_list, nat_tests, Store, Record, end_of, is_place, IsSound, live_at, next_live, Row, row_of, stop_cursor, rows_at}
 use Rattle.krb_walk.proofs.Cells.{rows_of_next, places_spots, spots}
 use Rattle.krb_walk.proofs.Places.{stop_place, place_in, widths}
 use Rattle.krb_walk.proofs.RowsAt.{AtOwnPlace, skip_head, one_at, live_place, row_of_place}

@@ -1,18 +1,5 @@
 -- The replies to steps, how cursors move, and that places stay.
-use Rattle.std.proofs.Common.{◌≡◌, ◌≢◌, ℕ, ◌+◌, ◌<◌, ◌≤◌, Bool, true, false, cond, List, [], ◌∷◌, ◌++◌, length, Option, Some, None, Result, Ok, Err, inl, inr, refl, sym, ap, ◌∙◌, subst, arith}
-use Rattle.std.specs.Prelude.{◌&&◌, ◌==◌, ◌⊎◌, nat_lt, slice_get, IsSomeAnd}
-use Rattle.std.specs.List.{find}
-use Rattle.std.specs.Option.{option_map}
-use Rattle.krb_walk.specs.declared.event.Event.{Event}
-use Rattle.krb_walk.specs.declared.event.Event.TheVariants.{Start, Resume, Step, Put, Cut, Rewrite}
-use Rattle.krb_walk.specs.declared.refusal.Code.{Code}
-use Rattle.krb_walk.specs.Store.{Cell, Store, standing, end_from, end_of, is_place, next_live, size_at}
-use Rattle.krb_walk.specs.Changes.{Fills, Appends, Puts, Changes}
-use Rattle.krb_walk.specs.ReplyContent.{ReplyContent, Placed, is_rewritten}
-use Rattle.krb_walk.specs.Rules.{Rules}
-use Rattle.krb_walk.specs.Events.{SessionState, after, reply_to, stop_cursor, step_cursors, rewrite_reply, rewrite_cursors}
-use Rattle.krb_walk.specs.History.{IsReady, IsLawful, AllLawful, AllPlain, moment, history, state_after}
-use Rattle.krb_walk.specs.Track.{AnswersStep}
+use Rattle.krb_walk.proofs.Cited.{◌≡◌, ◌≢◌, ℕ, ◌+◌, ◌<◌, ◌≤◌, Bool, true, false, cond, List, [], ◌∷◌, ◌++◌, length, Option, Some, None, Result, Ok, Err, inl, inr, refl, sym, ap, ◌∙◌, subst, arith, ◌&&◌, ◌==◌, ◌⊎◌, nat_lt, slice_get, IsSomeAnd, find, option_map, Event, Start, Resume, Step, Put, Cut, Rewrite, Code, Cell, Store, standing, end_from, end_of, is_place, next_live, size_at, Fills, Appends, Puts, Changes, ReplyContent, Placed, is_rewritten, Rules, SessionState, after, reply_to, stop_cursor, step_cursors, rewrite_reply, rewrite_cursors, IsReady, IsLawful, AllLawful, AllPlain, moment, history, state_after, AnswersStep}
 use Rattle.krb_walk.proofs.Lists.{get-set_other}
 use Rattle.krb_walk.proofs.Splits.{end_from-append}
 use Rattle.krb_walk.proofs.Places.{Extends, place_kept, stop_forward, widths}

@@ -1,11 +1,5 @@
 -- Where a walk stops: at the first record left.
-use Rattle.std.proofs.Common.{◌≡◌, ℕ, ◌+◌, ◌<◌, ◌≤◌, Bool, true, false, List, [], ◌∷◌, Option, Some, None, refl, sym, ap, subst, ◌∙◌, arith}
-use Rattle.std.specs.Prelude.{◌&&◌, ◌||◌, ◌==◌, nat_le, is_some, filter}
-use Rattle.std.specs.List.{find, filter_map, AllByRecursion}
-use Rattle.std.proofs.lemmas.Bool.Decides.{nat_tests}
-use Rattle.std.proofs.lemmas.Bool.{leb-true, leb-false, le-leb, lt-leb}
-use Rattle.krb_walk.specs.Store.{Cell, Record, standing, end_from, is_place_from, record_of, record_of_some, bytes_of_some}
-use Rattle.krb_walk.specs.Stops.{StopsEnd, StopsGiveRecords, WalksBeginWithAll}
+use Rattle.krb_walk.proofs.Cited.{◌≡◌, ℕ, ◌+◌, ◌<◌, ◌≤◌, Bool, true, false, List, [], ◌∷◌, Option, Some, None, refl, sym, ap, subst, ◌∙◌, arith, ◌&&◌, ◌||◌, ◌==◌, nat_le, is_some, filter, find, filter_map, AllByRecursion, nat_tests, leb-true, leb-false, le-leb, lt-leb, Cell, Record, standing, end_from, is_place_from, record_of, record_of_some, bytes_of_some, StopsEnd, StopsGiveRecords, WalksBeginWithAll}
 
 -- the first record at or after p, the records, and the cell at p, of cells from a place on
 abbrev pub next_from : ℕ → List Cell → ℕ → Option Record

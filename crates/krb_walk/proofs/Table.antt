@@ -1,17 +1,8 @@
 -- How the events change a session's table of cursors.
-use Rattle.std.proofs.Common.{◌≡◌, ℕ, ◌<◌, ◌≤◌, true, List, ◌++◌, length, map, take, drop, set, Option, Some, None, Result, Ok, Err, refl, sym, ap, ◌∙◌, subst, arith}
-use Rattle.std.specs.Prelude.{IfOk, OnOk, OnErr, slice_get}
-use Rattle.std.proofs.lemmas.List.{length-take, length-append, length-map, take-append-drop}
+use Rattle.krb_walk.proofs.Cited.{◌≡◌, ℕ, ◌<◌, ◌≤◌, true, List, ◌++◌, length, map, take, drop, set, Option, Some, None, Result, Ok, Err, refl, sym, ap, ◌∙◌, subst, arith, IfOk, OnOk, OnErr, slice_get, length-take, length-append, length-map, take-append-drop, Code, FaultKind, Store, Record, end_of, end_stop, stop_of, stop_at, next_live, is_place, Puts, Cuts, carry, Rewrites, Rules, PutGives, CutGives, RewriteGives, SessionState, stop_cursor}
 use Rattle.std.proofs.Math.Seq.{take-set-lt, take-append_seam}
 use Rattle.krb_walk.specs.declared.refusal.Refusal.{Refusal}
 use Rattle.krb_walk.specs.declared.refusal.Refusal.TheVariants.{Code as ByCode, NoMemory}
-use Rattle.krb_walk.specs.declared.refusal.Code.{Code}
-use Rattle.krb_walk.specs.declared.fault.FaultKind.{FaultKind}
-use Rattle.krb_walk.specs.Store.{Store, Record, end_of, end_stop, stop_of, stop_at, next_live, is_place}
-use Rattle.krb_walk.specs.Changes.{Puts, Cuts}
-use Rattle.krb_walk.specs.Ranks.{carry, Rewrites}
-use Rattle.krb_walk.specs.Rules.{Rules, PutGives, CutGives, RewriteGives}
-use Rattle.krb_walk.specs.Events.{SessionState, stop_cursor}
 use Rattle.krb_walk.specs.Kept.{IsKept, place_after}
 use Rattle.krb_walk.proofs.Places.{Extends, puts-extends, cuts-extends, sound_kept, place_kept}
 use Rattle.krb_walk.proofs.Effects.{was_map, place_carried}

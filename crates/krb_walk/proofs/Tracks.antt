@@ -1,14 +1,5 @@
 -- What a walk is given over its track is what is due to it.
-use Rattle.std.proofs.Common.{◌≡◌, ℕ, suc, ◌+◌, ◌<◌, Bool, true, false, cond, List, [], ◌∷◌, ◌++◌, length, Option, Some, None, inl, inr, refl, sym, ap, ◌∙◌, subst, arith}
-use Rattle.std.specs.Prelude.{◌&&◌, nat_le, nat_lt}
-use Rattle.std.specs.List.{filter_map}
-use Rattle.std.proofs.lemmas.List.{append-nil}
-use Rattle.std.proofs.lemmas.Bool.Decides.{nat_tests}
-use Rattle.krb_walk.specs.Store.{Store, end_of, is_place, IsSound, next_live, live_at}
-use Rattle.krb_walk.specs.Events.{stop_cursor}
-use Rattle.krb_walk.specs.History.{Row}
-use Rattle.krb_walk.specs.Track.{RecordName, WalkEvent, Track, PlacesStay, goes_past, last_names, last_cursor, IsWalkEvent, IsTrack}
-use Rattle.krb_walk.specs.Due.{rows_at_event, given_over, turn, row_of, row_at_turn, due_over, rows_between, due_at_event, due_by_steps}
+use Rattle.krb_walk.proofs.Cited.{◌≡◌, ℕ, suc, ◌+◌, ◌<◌, Bool, true, false, cond, List, [], ◌∷◌, ◌++◌, length, Option, Some, None, inl, inr, refl, sym, ap, ◌∙◌, subst, arith, ◌&&◌, nat_le, nat_lt, filter_map, append-nil, nat_tests, Store, end_of, is_place, IsSound, next_live, live_at, stop_cursor, Row, RecordName, WalkEvent, Track, PlacesStay, goes_past, last_names, last_cursor, IsWalkEvent, IsTrack, rows_at_event, given_over, turn, row_of, row_at_turn, due_over, rows_between, due_at_event, due_by_steps}
 use Rattle.krb_walk.proofs.Cells.{rows_of_next, StepsRows, step_gives, spots, places_spots, same_from}
 use Rattle.krb_walk.proofs.Places.{Extends, extends_on, stop_forward, widths}
 use Rattle.krb_walk.proofs.Effects.{same_extends, changes-extends}

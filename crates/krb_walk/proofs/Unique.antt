@@ -1,12 +1,5 @@
 -- A walk passes a record at most once; if no event rewrites the store, also a place.
-use Rattle.std.proofs.Common.{◌≡◌, ℕ, suc, ◌<◌, ◌≤◌, Bool, true, false, cond, List, [], ◌∷◌, length, map, Option, Some, None, refl, sym, ap, ◌∙◌, subst, arith}
-use Rattle.std.specs.Prelude.{filter}
-use Rattle.std.specs.List.{AllByRecursion, find}
-use Rattle.std.proofs.lemmas.Bool.Decides.{nat_tests}
-use Rattle.krb_walk.specs.Store.{Store}
-use Rattle.krb_walk.specs.Ranks.{live_places}
-use Rattle.krb_walk.specs.Track.{RecordName, WalkEvent, Track, PlacesStay, goes_past, passes, IsTrack}
-use Rattle.krb_walk.specs.Records.{passes_record}
+use Rattle.krb_walk.proofs.Cited.{◌≡◌, ℕ, suc, ◌<◌, ◌≤◌, Bool, true, false, cond, List, [], ◌∷◌, length, map, Option, Some, None, refl, sym, ap, ◌∙◌, subst, arith, filter, AllByRecursion, find, nat_tests, Store, live_places, RecordName, WalkEvent, Track, PlacesStay, goes_past, passes, IsTrack, passes_record}
 use Rattle.krb_walk.proofs.Names.{AreNamed, names_stay}
 use Rattle.krb_walk.proofs.Tracks.{behind_none}
 use Rattle.krb_walk.proofs.Ranked.{Keeps}

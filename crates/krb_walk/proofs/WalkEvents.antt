@@ -1,14 +1,5 @@
 -- What one event does to a walk's cursor, and what it gives.
-use Rattle.std.proofs.Common.{◌≡◌, ℕ, true, false, List, [], Option, Some, None, inl, inr, refl, sym, ap, ◌∙◌, subst, arith}
-use Rattle.std.specs.Prelude.{◌==◌, ◌⊎◌, IsSomeAnd}
-use Rattle.std.proofs.lemmas.Bool.Decides.{nat_tests}
-use Rattle.krb_walk.specs.Store.{Store, end_of, next_live}
-use Rattle.krb_walk.specs.ReplyContent.{ReplyContent, Started, Gave, Ended, Faulted, Placed, Gone, Rewritten, Refused, is_step_reply, completes, is_rewritten}
-use Rattle.krb_walk.specs.Events.{stop_cursor}
-use Rattle.krb_walk.specs.History.{rows_of_reply}
-use Rattle.krb_walk.specs.Track.{RecordName, WalkEvent, carry_by, AnswersStep, Stays, MovesCursor, IsWalkEvent}
-use Rattle.krb_walk.specs.Due.{rows_at_event}
-use Rattle.krb_walk.specs.Cursors.{CursorIsSound, CursorMayGo}
+use Rattle.krb_walk.proofs.Cited.{◌≡◌, ℕ, true, false, List, [], Option, Some, None, inl, inr, refl, sym, ap, ◌∙◌, subst, arith, ◌==◌, ◌⊎◌, IsSomeAnd, nat_tests, Store, end_of, next_live, ReplyContent, Started, Gave, Ended, Faulted, Placed, Gone, Rewritten, Refused, is_step_reply, completes, is_rewritten, stop_cursor, rows_of_reply, RecordName, WalkEvent, carry_by, AnswersStep, Stays, MovesCursor, IsWalkEvent, rows_at_event, CursorIsSound, CursorMayGo}
 use Rattle.krb_walk.proofs.Cells.{rows_of_next}
 use Rattle.krb_walk.proofs.Places.{stop_forward}
 

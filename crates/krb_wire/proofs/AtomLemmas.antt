@@ -1,17 +1,9 @@
 -- The parts of a name's text, atom by atom.
-use Rattle.std.proofs.Common.{◌≡◌, ℕ, List, [], ◌∷◌, ◌++◌, map, Option, Some, None, refl, sym, ap, ◌∙◌, append_assoc}
-use Rattle.std.proofs.lemmas.List.{map-append}
+use Rattle.krb_wire.proofs.Cited.{◌≡◌, ℕ, List, [], ◌∷◌, ◌++◌, map, Option, Some, None, refl, sym, ap, ◌∙◌, append_assoc, map-append, filter_map, slice_split, onto_first, Atom, Byte, Slash, At, Lone, items_of, byte_of, is_slash, before_at, after_at, component_fault, realm_fault, faults_of, first_fault, components_of, realm_of, name_or_fault, first_component, after_first}
 use Rattle.std.specs.Prelude.{unwrap_or, option_map, IsOk, Ok, Vec}
 use Rattle.std.specs.Vec.{vec_items}
-use Rattle.std.specs.List.{filter_map, slice_split, onto_first}
 use Rattle.std.specs.Option.{option_or, option_map_or}
 use Rattle.krb_wire.specs.declared.name_fault.NameFault.{NameFault}
-use Rattle.krb_wire.specs.declared.atom.Atom.{Atom}
-use Rattle.krb_wire.specs.declared.atom.Atom.TheVariants.{Byte, Slash, At, Lone}
-use Rattle.krb_wire.specs.Reading.{items_of}
-use Rattle.krb_wire.specs.Atoms.{byte_of, is_slash, before_at, after_at}
-use Rattle.krb_wire.specs.NameOf.{component_fault, realm_fault, faults_of, first_fault, components_of, realm_of, name_or_fault}
-use Rattle.krb_wire.specs.FirstComponent.{first_component, after_first}
 
 -- prepending an atom to the first part, and taking the bytes of each part
 map-onto_first : (a : Atom) (ps : List (List Atom)) → map (map byte_of) (onto_first a ps) ≡ onto_first (byte_of a) (map (map byte_of) ps)

@@ -1,14 +1,7 @@
 -- What is read as a field is the encoding of that field, and an encoded field is read back.
-use Rattle.std.proofs.Common.{◌≡◌, ℕ, ◌+◌, ◌^◌, ◌<◌, ◌≤◌, Bool, true, false, cond, ltb, List, ◌++◌, length, get_or, take, drop, Option, Some, None, refl, sym, ap, subst, ◌∙◌, append_assoc, arith, inl, inr}
-use Rattle.std.specs.Prelude.{IsSome}
-use Rattle.std.specs.Int.{Width, w16, w32, byte_len}
-use Rattle.std.proofs.lemmas.Bool.{cases_lt, ltb-false, le-ltb}
+use Rattle.krb_wire.proofs.Cited.{◌≡◌, ℕ, ◌+◌, ◌^◌, ◌<◌, ◌≤◌, Bool, true, false, cond, ltb, List, ◌++◌, length, get_or, take, drop, Option, Some, None, refl, sym, ap, subst, ◌∙◌, append_assoc, arith, inl, inr, IsSome, Width, w16, w32, byte_len, cases_lt, ltb-false, le-ltb, Order, Big, Little, digits, number, counted, data16, data32, IsShort, IsLong, ◌>>=◌, number_at, counted_at, data16_at, data32_at}
 use Rattle.std.proofs.lemmas.List.{take_at, drop_at, take-append-drop, length-append, length-take, get_or-drop, get_or-take, get_or_past}
 use Rattle.std.proofs.lemmas.Nat.{be_bytes_2, be_bytes_4, le_bytes_2, le_bytes_4, from_be_bytes-to_be_bytes_2, from_be_bytes-to_be_bytes_4, from_le_bytes-to_le_bytes_2, from_le_bytes-to_le_bytes_4}
-use Rattle.krb_wire.specs.declared.format.Order.{Order}
-use Rattle.krb_wire.specs.declared.format.Order.TheVariants.{Big, Little}
-use Rattle.krb_wire.specs.Spelling.{digits, number, counted, data16, data32, IsShort, IsLong}
-use Rattle.krb_wire.specs.Reading.{◌>>=◌, number_at, counted_at, data16_at, data32_at}
 
 abbrev pub IsBytes : List ℕ → Type 0
 IsBytes bytes = (i : ℕ) → get_or bytes i 0 < 256

@@ -1,19 +1,11 @@
 -- Tests of names: whether a name can be encoded, and whether two names are the same.
-use Rattle.std.proofs.Common.{◌≡◌, ℕ, ◌^◌, ◌<◌, ◌≤◌, Bool, true, false, ltb, List, [], ◌∷◌, length, refl, sym, ap, arith}
-use Rattle.std.specs.Prelude.{◌&&◌}
-use Rattle.std.specs.List.{flat_map, list_all, AllByRecursion}
-use Rattle.std.specs.Int.{w32}
+use Rattle.krb_wire.proofs.Cited.{◌≡◌, ℕ, ◌^◌, ◌<◌, ◌≤◌, Bool, true, false, ltb, List, [], ◌∷◌, length, refl, sym, ap, arith, ◌&&◌, flat_map, list_all, AllByRecursion, w32, flat_map-cons, Order, Big, ltb-true, lt-ltb, Parts, digits, data32, count_field, IsShort, is_short, name_fits, IsLong, is_long, cc_name_fits, cc_principal}
 use Rattle.std.proofs.lemmas.List.{length-append}
-use Rattle.std.proofs.lemmas.List.Concat.{flat_map-cons}
-use Rattle.krb_wire.specs.declared.format.Order.{Order}
-use Rattle.krb_wire.specs.declared.format.Order.TheVariants.{Big}
 use Rattle.krb_wire.proofs.Fields.{wide32}
 use Rattle.std.specs.Cmp.Lexicographic.{pointwise}
 use Rattle.std.specs.Str.{bytes_eq}
-use Rattle.std.proofs.lemmas.Bool.{ltb-true, lt-ltb}
 use Rattle.std.proofs.lemmas.Slice.Eq.{bytes_eq-Decides, slice_eq-Decides}
 use Rattle.krb_wire.specs.declared.format.KtFormat.{KtFormat}
-use Rattle.krb_wire.specs.Spelling.{Parts, digits, data32, count_field, IsShort, is_short, name_fits, IsLong, is_long, cc_name_fits, cc_principal}
 use Rattle.krb_wire.specs.SameName.{have_same_name}
 
 -- ---- tests

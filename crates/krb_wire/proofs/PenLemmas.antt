@@ -1,7 +1,6 @@
 -- What a pen wrote, one part after the other.
-use Rattle.std.proofs.Common.{◌≡◌, ℕ, ◌+◌, ◌-◌, ◌≤◌, List, [], ◌++◌, length, take, drop, refl, sym, ap, subst, ◌∙◌, append_assoc, arith}
+use Rattle.krb_wire.proofs.Cited.{◌≡◌, ℕ, ◌+◌, ◌-◌, ◌≤◌, List, [], ◌++◌, length, take, drop, refl, sym, ap, subst, ◌∙◌, append_assoc, arith, splice}
 use Rattle.std.proofs.lemmas.List.{take_at, drop_at, take-append-drop, length-append, length-take, drop-drop}
-use Rattle.std.specs.List.{splice}
 use Rattle.krb_wire.specs.declared.pen.Pen.{Pen}
 use Rattle.krb_wire.specs.Pen.{HasRoom, Puts}
 

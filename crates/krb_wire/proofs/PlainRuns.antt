@@ -1,14 +1,5 @@
 -- The plain bytes that a text begins with.
-use Rattle.std.proofs.Common.{◌≡◌, ◌+◌, ◌≤◌, ◌<◌, ℕ, suc, Bool, true, false, not, ◌||◌, List, [], ◌∷◌, ◌++◌, length, map, take, drop, Some, None, refl, ap, subst, ◌∙◌, cond, arith}
-use Rattle.std.specs.Prelude.{nat_lt, ◌==◌}
-use Rattle.std.specs.List.{position, prefix_len, filter_map}
-use Rattle.std.proofs.lemmas.Bool.{ltb-true, ltb-false}
-use Rattle.std.proofs.lemmas.List.{take_all, drop_all}
-use Rattle.krb_wire.specs.declared.atom.Atom.{Atom}
-use Rattle.krb_wire.specs.declared.atom.Atom.TheVariants.{Byte, Slash, At}
-use Rattle.krb_wire.specs.Atoms.{atoms, atoms_after, is_special, before_at, after_at}
-use Rattle.krb_wire.specs.NameOf.{component_fault, realm_fault}
-use Rattle.krb_wire.specs.FirstComponent.{first_component, after_first, faults_from}
+use Rattle.krb_wire.proofs.Cited.{◌≡◌, ◌+◌, ◌≤◌, ◌<◌, ℕ, suc, Bool, true, false, not, ◌||◌, List, [], ◌∷◌, ◌++◌, length, map, take, drop, Some, None, refl, ap, subst, ◌∙◌, cond, arith, nat_lt, ◌==◌, position, prefix_len, filter_map, ltb-true, ltb-false, take_all, drop_all, Atom, Byte, Slash, At, atoms, atoms_after, is_special, before_at, after_at, component_fault, realm_fault, first_component, after_first, faults_from}
 
 -- how many plain bytes a text begins with
 abbrev plain_count : List ℕ → ℕ

@@ -1,17 +1,10 @@
 -- What is read as a name is the encoding of that name, and an encoded name is read back.
-use Rattle.std.proofs.Common.{◌≡◌, ℕ, ◌+◌, ◌-◌, ◌^◌, ◌<◌, Bool, true, false, cond, ltb, List, [], ◌++◌, length, Some, None, refl, sym, ap, subst, ◌∙◌, append_assoc, arith}
-use Rattle.std.specs.List.{flat_map}
-use Rattle.std.specs.Int.{w16, w32}
+use Rattle.krb_wire.proofs.Cited.{◌≡◌, ℕ, ◌+◌, ◌-◌, ◌^◌, ◌<◌, Bool, true, false, cond, ltb, List, [], ◌++◌, length, Some, None, refl, sym, ap, subst, ◌∙◌, append_assoc, arith, flat_map, w16, w32, le-ltb, ltb-false, Order, Big, Parts, digits, data16, data32, order_of, counted_realms, count_field, name_type_field, kt_principal, cc_principal, HasNameType, IsShort, IsLong, FitsKt, FitsCc, data_text, FitsLength, ◌>>=◌, number_at, data16_at, data32_at, data_at, list_at, components_at, components_of_count, name_type_at, kt_principal_at, cc_principal_at}
 use Rattle.std.proofs.lemmas.List.{length-append}
-use Rattle.std.proofs.lemmas.Bool.{le-ltb, ltb-false}
-use Rattle.krb_wire.specs.declared.format.Order.{Order}
-use Rattle.krb_wire.specs.declared.format.Order.TheVariants.{Big}
 use Rattle.krb_wire.specs.declared.format.Lengths.{Lengths}
 use Rattle.krb_wire.specs.declared.format.Lengths.TheVariants.{Bits16, Bits32}
 use Rattle.krb_wire.specs.declared.format.KtFormat.{KtFormat}
 use Rattle.krb_wire.specs.declared.format.KtFormat.TheVariants.{V1, V2}
-use Rattle.krb_wire.specs.Spelling.{Parts, digits, data16, data32, order_of, counted_realms, count_field, name_type_field, kt_principal, cc_principal, HasNameType, IsShort, IsLong, FitsKt, FitsCc, data_text, FitsLength}
-use Rattle.krb_wire.specs.Reading.{◌>>=◌, number_at, data16_at, data32_at, data_at, list_at, components_at, components_of_count, name_type_at, kt_principal_at, cc_principal_at}
 use Rattle.krb_wire.proofs.Fields.{IsBytes, bind_some, some_is, Takes, Takes-then, wide16, wide32, number_takes, number_again, data16_takes, data16_again, data32_takes, data32_again}
 use Rattle.krb_wire.proofs.NamesCompared.{lengths_of, lengths_fit}
 use Rattle.krb_wire.proofs.Places.{IsField}

@@ -1,14 +1,10 @@
 -- Quoting byte by byte, run by run and batch by batch.
-use Rattle.std.proofs.Common.{◌≡◌, ◌≢◌, ℕ, ◌+◌, ◌<◌, ◌≤◌, List, [], ◌∷◌, ◌++◌, cond, eqb, length, map, take, drop, set, get_or, refl, sym, ap, subst, ◌∙◌, append_assoc, append-nil, length-set, arith}
-use Rattle.std.specs.List.{All, flat_map, range_with_len}
+use Rattle.krb_wire.proofs.Cited.{◌≡◌, ◌≢◌, ℕ, ◌+◌, ◌<◌, ◌≤◌, List, [], ◌∷◌, ◌++◌, cond, eqb, length, map, take, drop, set, get_or, refl, sym, ap, subst, ◌∙◌, append_assoc, append-nil, length-set, arith, All, flat_map, range_with_len, ne_eqb, cond-false, take_more, take_more_set, take-append-drop, take-take, quoted_byte, IsPlain, quote}
 use Rattle.std.proofs.Math.Seq.{take-add}
-use Rattle.std.proofs.lemmas.Bool.{ne_eqb, cond-false}
 use Rattle.std.proofs.lemmas.Grind.{flat_map-append, take-set_at}
-use Rattle.std.proofs.lemmas.List.{take_more, take_more_set, take-append-drop, take-take}
 use Rattle.std.proofs.lemmas.List.Elements.{All-nil, All-cons, All-head, All-tail, All-append, All-take}
 use Rattle.std.proofs.lemmas.List.FromFn.{get_or-map-range_with_len}
 use Rattle.krb_wire.specs.declared.quote.TheConstants.{LETTERS}
-use Rattle.krb_wire.specs.Quote.{quoted_byte, IsPlain, quote}
 
 -- ---- plain bytes
 

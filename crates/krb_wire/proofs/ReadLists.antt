@@ -1,10 +1,6 @@
 -- Lists of items, each read in the same way.
-use Rattle.std.proofs.Common.{◌≡◌, ℕ, zero, suc, ◌+◌, ◌-◌, ◌<◌, ◌≤◌, List, [], ◌∷◌, ◌++◌, length, Option, Some, None, refl, sym, ap, subst, ◌∙◌, append_assoc, arith}
-use Rattle.std.specs.Prelude.{option_map, slice_get, IsSome}
-use Rattle.std.specs.List.{flat_map, AllByRecursion}
-use Rattle.std.proofs.lemmas.List.Concat.{flat_map-cons}
+use Rattle.krb_wire.proofs.Cited.{◌≡◌, ℕ, zero, suc, ◌+◌, ◌-◌, ◌<◌, ◌≤◌, List, [], ◌∷◌, ◌++◌, length, Option, Some, None, refl, sym, ap, subst, ◌∙◌, append_assoc, arith, option_map, slice_get, IsSome, flat_map, AllByRecursion, flat_map-cons, ◌>>=◌, list_at, list_in, list_end}
 use Rattle.std.proofs.lemmas.Option.{slice_get_past}
-use Rattle.krb_wire.specs.Reading.{◌>>=◌, list_at, list_in, list_end}
 use Rattle.krb_wire.proofs.Fields.{IsBytes, bind_some, some_is, is_some_has, Takes, Takes-then}
 use Rattle.krb_wire.proofs.Places.{IsField}
 

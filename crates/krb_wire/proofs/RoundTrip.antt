@@ -1,14 +1,7 @@
 -- The text of a name parses as that name.
-use Rattle.std.proofs.Common.{◌≡◌, ℕ, ◌<◌, false, List, [], ◌∷◌, ◌++◌, length, map, Option, None, Some, Ok, refl, sym, ap, ◌∙◌, arith, append_assoc, append-nil}
-use Rattle.std.specs.List.{filter_map, slice_split, onto_first}
+use Rattle.krb_wire.proofs.Cited.{◌≡◌, ℕ, ◌<◌, false, List, [], ◌∷◌, ◌++◌, length, map, Option, None, Some, Ok, refl, sym, ap, ◌∙◌, arith, append_assoc, append-nil, filter_map, slice_split, onto_first, Atom, Byte, Slash, At, Parts, quoted_byte, quote, atoms, byte_of, is_slash, before_at, after_at, realm_fault, faults_of, first_fault, components_of, realm_of, name_of}
 use Rattle.std.proofs.lemmas.Bool.Decides.{nat_tests}
-use Rattle.krb_wire.specs.declared.atom.Atom.{Atom}
-use Rattle.krb_wire.specs.declared.atom.Atom.TheVariants.{Byte, Slash, At}
-use Rattle.krb_wire.specs.Spelling.{Parts}
-use Rattle.krb_wire.specs.Quote.{quoted_byte, quote}
 use Rattle.krb_wire.specs.Names.{joined_components, name_text}
-use Rattle.krb_wire.specs.Atoms.{atoms, byte_of, is_slash, before_at, after_at}
-use Rattle.krb_wire.specs.NameOf.{realm_fault, faults_of, first_fault, components_of, realm_of, name_of}
 use Rattle.krb_wire.proofs.TextLemmas.{joined_from, joined_is}
 
 -- a quoted byte is one atom

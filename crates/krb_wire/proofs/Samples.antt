@@ -1,9 +1,7 @@
 -- Worked samples of the definitions.
 use Rattle.std.specs.Prelude.{◌≡◌, [], ◌∷◌, ◌++◌, codes, Some}
-use Rattle.std.proofs.Common.{refl}
-use Rattle.krb_wire.specs.declared.format.Order.TheVariants.{Big, Little}
+use Rattle.krb_wire.proofs.Cited.{refl, Big, Little, data16_at, kt_principal_at}
 use Rattle.krb_wire.specs.declared.format.KtFormat.TheVariants.{V1, V2}
-use Rattle.krb_wire.specs.Reading.{data16_at, kt_principal_at}
 use Rattle.krb_wire.proofs.OnLiterals.{krb_wire_on_literals}
 
 -- a length counts the bytes after it

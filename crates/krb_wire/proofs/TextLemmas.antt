@@ -1,8 +1,5 @@
 -- Appending a text piece by piece.
-use Rattle.std.proofs.Common.{◌≡◌, ℕ, ◌≤◌, List, [], ◌∷◌, ◌++◌, Bool, true, false, length, Vec, Result, Ok, Err, refl, sym, ap, ◌∙◌, append_assoc, append-nil, length-append, vec_capacity, arith}
-use Rattle.std.proofs.lemmas.Result.{on_err_weaker}
-use Rattle.krb_wire.specs.Quote.{quote}
-use Rattle.krb_wire.specs.Names.{joined_components}
+use Rattle.krb_wire.proofs.Cited.{◌≡◌, ℕ, ◌≤◌, List, [], ◌∷◌, ◌++◌, Bool, true, false, length, Vec, Result, Ok, Err, refl, sym, ap, ◌∙◌, append_assoc, append-nil, length-append, vec_capacity, arith, on_err_weaker, quote, joined_components}
 use Rattle.krb_wire.specs.Text.{separator, Grew, Appended, AppendedPart}
 
 -- nothing was appended

@@ -1,13 +1,10 @@
 -- Credential caches: what their bytes hold, and their listings. Hexadecimal digits are as `xxd -p` prints them.
-use Rattle.std.specs.Prelude.{◌≡◌, ◌++◌, codes, true, false, None, Some, Ok, Err, pos, negsuc, option_map}
-use Rattle.std.proofs.Common.{refl}
+use Rattle.samples.proofs.Cited.{◌≡◌, ◌++◌, codes, true, false, None, Some, Ok, Err, pos, negsuc, option_map, refl, credential_at, most_bytes}
 use Rattle.krb_ccache.specs.declared.open.CcOpenFault.TheVariants.{BadVersion, BadHeader, BadDefault}
 use Rattle.krb_ccache.specs.declared.version.Version.TheVariants.{V3}
 use Rattle.krb_ccache.specs.Config.{config_of}
-use Rattle.krb_ccache.specs.Credential.{credential_at}
 use Rattle.krb_ccache.specs.Header.{offset_in}
 use Rattle.krb_ccache.specs.Store.{open_result}
-use Rattle.krb_files.specs.Loading.{most_bytes}
 use Rattle.samples.proofs.Given.{hex, cache, cache_listed, details, tickets, front, pa_type, worked}
 use Rattle.samples.proofs.Times.{time-1700000000, time-1700036000}
 use Rattle.samples.proofs.Unfolded.{on_literals}

@@ -1,14 +1,8 @@
 -- Keytabs: what their bytes hold, and their listings. Hexadecimal digits are as `xxd -p` prints them.
-use Rattle.std.specs.Prelude.{◌≡◌, ◌++◌, codes, replicate, true, false, Some, option_map, Ok, Err}
-use Rattle.std.proofs.Common.{refl}
-use Rattle.krb_wire.specs.declared.format.KtFormat.TheVariants.{V2}
-use Rattle.krb_wire.specs.declared.format.Order.TheVariants.{Big, Little}
+use Rattle.samples.proofs.Cited.{◌≡◌, ◌++◌, codes, replicate, true, false, Some, option_map, Ok, Err, refl, V2, Big, Little, open_result, most_bytes, result_map}
 use Rattle.krb_keytab.specs.declared.open.KtOpenFault.TheVariants.{TooShort, BadVersion, TooLarge}
 use Rattle.krb_keytab.specs.Entry.{entry_at}
-use Rattle.krb_keytab.specs.Store.{open_result}
-use Rattle.krb_files.specs.Loading.{most_bytes}
 use Rattle.krb_text.specs.Listing.{list_text}
-use Rattle.krb_driver.specs.Loading.{result_map}
 use Rattle.samples.proofs.Given.{hex, host, b, two, listed, plain, all}
 use Rattle.samples.proofs.Times.{time-1700000000}
 use Rattle.samples.proofs.Unfolded.{on_literals}

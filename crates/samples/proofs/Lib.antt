@@ -1,3 +1,4 @@
+pub mod Cited
 pub mod Given
 pub mod Runs
 pub mod Times

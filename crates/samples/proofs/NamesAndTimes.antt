@@ -1,9 +1,6 @@
 -- Names, encryption types and times as text.
-use Rattle.std.specs.Prelude.{◌≡◌, [], ◌∷◌, codes, map, None, Some, Ok, Err, true, false}
-use Rattle.std.specs.List.{filter_map}
-use Rattle.std.proofs.Common.{refl}
+use Rattle.samples.proofs.Cited.{◌≡◌, [], ◌∷◌, codes, map, None, Some, Ok, Err, true, false, filter_map, refl, name_of}
 use Rattle.krb_wire.specs.declared.name_fault.NameFault.TheVariants.{NoRealm, LoneBackslash, SecondAt, SlashInRealm}
-use Rattle.krb_wire.specs.NameOf.{name_of}
 use Rattle.krb_wire.specs.Names.{name_text}
 use Rattle.krb_text.specs.Etype.{etype_in, etype_text_of, key_size_of, is_weak}
 use Rattle.krb_text.specs.Pieces.{pieces}

@@ -1,23 +1,17 @@
 -- What a run of a command comes to if no call fails: what it prints, how it ends, and its files afterwards.
-use Rattle.std.specs.Prelude.{◌≡◌, ℕ, ◌+◌, ◌<◌, ◌≤◌, ◌^◌, max, List, [], ◌∷◌, ◌++◌, codes, length, map, fold, Bool, true, false, nat_lt, Option, None, Some, option_and_then, unwrap_or, Result, Ok, Err, if◌then◌else◌, Vec, slice_get}
-use Rattle.std.specs.List.{filter_map, flat_map, list_any}
+use Rattle.samples.proofs.Cited.{◌≡◌, ℕ, ◌+◌, ◌<◌, ◌≤◌, ◌^◌, max, List, [], ◌∷◌, ◌++◌, codes, length, map, fold, Bool, true, false, nat_lt, Option, None, Some, option_and_then, unwrap_or, Result, Ok, Err, if◌then◌else◌, Vec, slice_get, filter_map, flat_map, list_any, arith, refl, name_of, most_bytes, event_in, Any, Newest, Old}
 use Rattle.std.specs.Str.{bytes_eq}
-use Rattle.std.proofs.Common.{arith, refl}
 use denote.RawPtr.{null_ptr}
 use lib.Dec.{lit<, lit≤}
-use Rattle.krb_wire.specs.NameOf.{name_of}
 use Rattle.krb_wire.specs.Spelling.{Parts}
 use Rattle.krb_wire.specs.declared.principal.Principal.{Principal}
 use Rattle.krb_files.specs.Files.{FileMap, loaded}
-use Rattle.krb_files.specs.Loading.{most_bytes}
 use Rattle.krb_files.specs.Plan.{Ends, follow, with_bytes}
 use Rattle.krb_text.specs.Etype.{etype_in}
 use Rattle.krb_text.specs.Numbers.{number_in, seconds_in}
-use Rattle.krb_text.specs.Script.{event_in}
 use Rattle.krb_cache_text.specs.Script.{cache_line_in}
 use Rattle.krb_audit.specs.declared.finding_words.FindingWords.{FindingWords}
 use Rattle.krb_audit.specs.declared.selection.SelectedKvno.{SelectedKvno}
-use Rattle.krb_audit.specs.declared.selection.SelectedKvno.TheVariants.{Any, Newest, Old}
 use Rattle.krb_audit.specs.declared.selection.Selection.{Selection}
 use Rattle.krb_audit.specs.Report.{joined, words_of}
 use Rattle.krb_driver.specs.declared.error.RunError.{RunError}

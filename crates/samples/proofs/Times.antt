@@ -1,6 +1,5 @@
 -- Seconds after 1970-01-01T00:00:00Z as text. A day is found by counting; each is counted once.
-use Rattle.std.specs.Prelude.{◌≡◌, codes}
-use Rattle.std.proofs.Common.{refl}
+use Rattle.samples.proofs.Cited.{◌≡◌, codes, refl}
 use Rattle.krb_text.specs.Calendar.{day_number, day_text, next_day, time_text_of}
 
 day-0 : day_number 0 ≡ record { year = 1970; month = 1; day = 1 }

@@ -1,7 +1,5 @@
-use Rattle.std.proofs.Common.{◌≡◌, List, ℕ, [], ◌∷◌, ◌++◌, codes, false, ap, ◌∙◌, append_assoc}
-use Rattle.std.specs.Prelude.{◌==◌}
+use Rattle.krb_cache_text.proofs.Cited.{◌≡◌, List, ℕ, [], ◌∷◌, ◌++◌, codes, false, ap, ◌∙◌, append_assoc, ◌==◌, on_ok_weaker}
 use Rattle.std.proofs.lemmas.Bool.{ne_eqb}
-use Rattle.std.proofs.lemmas.Result.{on_ok_weaker}
 use Rattle.krb_text.specs.Calendar.{time_text_of}
 use Rattle.krb_cache_text.specs.Credential.{renew_line}
 use Rattle.krb_cache_text.proofs.credential.append_renewal.Goals as goal

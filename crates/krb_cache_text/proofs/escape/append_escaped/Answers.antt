@@ -1,5 +1,4 @@
-use Rattle.std.proofs.Common.{◌∷◌, ℕ, drop, get_or, sym, ap, ◌∙◌, drop-cons, add-one}
-use Rattle.std.proofs.lemmas.Result.{err_from_is_err_and}
+use Rattle.krb_cache_text.proofs.Cited.{◌∷◌, ℕ, drop, get_or, sym, ap, ◌∙◌, drop-cons, add-one, err_from_is_err_and}
 use Rattle.krb_wire.proofs.TextLemmas.{left_fails}
 use Rattle.krb_cache_text.specs.Escape.{escaped_text}
 use Rattle.krb_cache_text.proofs.escape.append_escaped.Goals as goal

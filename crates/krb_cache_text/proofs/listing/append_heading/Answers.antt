@@ -1,6 +1,4 @@
-use Rattle.std.proofs.Common.{codes}
-use Rattle.std.proofs.lemmas.Result.{on_ok_weaker}
-use Rattle.krb_text.proofs.Passing.{gathered_three, gathered_then}
+use Rattle.krb_cache_text.proofs.Cited.{codes, on_ok_weaker, gathered_three, gathered_then}
 use Rattle.krb_cache_text.proofs.listing.append_heading.Goals as goal
 
 pub returns : goal.returns

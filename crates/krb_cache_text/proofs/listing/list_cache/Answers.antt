@@ -1,5 +1,4 @@
-use Rattle.std.proofs.lemmas.Result.{err_from_is_err_and}
-use Rattle.krb_text.proofs.Passing.{gathers_prints, gathers_fails}
+use Rattle.krb_cache_text.proofs.Cited.{err_from_is_err_and, gathers_prints, gathers_fails}
 use Rattle.krb_cache_text.proofs.listing.list_cache.Goals as goal
 
 pub returns-in_err-list_credentials : goal.returns-in_err-list_credentials

@@ -1,6 +1,4 @@
-use Rattle.std.proofs.Common.{◌++◌, List, ℕ, sym, ap, ◌∙◌}
-use Rattle.std.proofs.lemmas.Result.{err_from_is_err_and}
-use Rattle.krb_text.proofs.Passing.{passed_none, passed_gather, passed_send, gathers_memory, gathers_write}
+use Rattle.krb_cache_text.proofs.Cited.{◌++◌, List, ℕ, sym, ap, ◌∙◌, err_from_is_err_and, passed_none, passed_gather, passed_send, gathers_memory, gathers_write}
 use Rattle.krb_cache_text.specs.Credential.{credential_lines}
 use Rattle.krb_cache_text.specs.Listing.{lines_of_credentials}
 use Rattle.krb_cache_text.proofs.listing.list_credentials.Goals as goal

@@ -1,5 +1,4 @@
-use Rattle.std.proofs.Common.{◌++◌}
-use Rattle.std.specs.Prelude.{IsFalse}
+use Rattle.krb_cache_text.proofs.Cited.{◌++◌, IsFalse}
 use Rattle.krb_ccache.specs.Store.{placed_credentials}
 use Rattle.krb_text.specs.Gathered.{Passed}
 use Rattle.krb_cache_text.specs.Listing.{lines_of_credentials}

@@ -1,6 +1,4 @@
-use Rattle.std.proofs.Common.{Err, subst}
-use Rattle.std.specs.Prelude.{option_copied}
-use Rattle.std.proofs.lemmas.Result.{err_from_is_err_and}
+use Rattle.krb_cache_text.proofs.Cited.{Err, subst, option_copied, err_from_is_err_and}
 use Rattle.krb_ccache.specs.SetConfig.{SettingParts}
 use Rattle.krb_text.specs.LineFault.{Reads}
 use Rattle.krb_text.proofs.Made.{made_refused}

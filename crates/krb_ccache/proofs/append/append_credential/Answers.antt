@@ -1,9 +1,4 @@
-use Rattle.std.proofs.Common.{◌≡◌, ◌+◌, ◌≤◌, ◌++◌, ℕ, List, length, refl, sym, ap, ◌∙◌, arith}
-use Rattle.std.specs.List.{splice}
-use Rattle.krb_wire.proofs.Fields.{IsBytes}
-use Rattle.krb_ccache.specs.declared.version.Version.TheVariants.{V4}
-use Rattle.krb_ccache.specs.Credential.{credential}
-use Rattle.krb_ccache.specs.Open.{cache_of}
+use Rattle.krb_ccache.proofs.Cited.{◌≡◌, ◌+◌, ◌≤◌, ◌++◌, ℕ, List, length, refl, sym, ap, ◌∙◌, arith, splice, IsBytes, V4, credential, cache_of}
 use Rattle.krb_ccache.proofs.ImageLemmas.{image_parts}
 use Rattle.krb_ccache.proofs.LastCredential.{put_last, image_appendable, last_holds}
 use Rattle.krb_ccache.proofs.append.append_credential.Goals as goal

@@ -1,5 +1,4 @@
-use Rattle.std.proofs.Common.{◌≡◌, ◌++◌}
-use Rattle.krb_ccache.specs.Credential.{owned_list}
+use Rattle.krb_ccache.proofs.Cited.{◌≡◌, ◌++◌, owned_list}
 use Rattle.krb_ccache.proofs.credential.copy_items.Given as goal
 
 -- the items copied so far and those still to come are the list

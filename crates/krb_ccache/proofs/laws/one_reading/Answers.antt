@@ -1,5 +1,4 @@
-use Rattle.krb_cells.proofs.ContentsLemmas.{contents_spelled, contents_behind, contents_again}
-use Rattle.krb_ccache.specs.Store.{credentials_format}
+use Rattle.krb_ccache.proofs.Cited.{contents_spelled, contents_behind, contents_again, credentials_format}
 use Rattle.krb_ccache.proofs.CellLemmas.{credentials_are, all_cells}
 use Rattle.krb_ccache.proofs.laws.one_reading.Goals as goal
 

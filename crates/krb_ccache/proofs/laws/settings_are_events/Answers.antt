@@ -1,6 +1,5 @@
 use Rattle.krb_ccache.proofs.Removals.{setting_leaves}
-use Rattle.krb_ccache.specs.Changes.{put_result}
-use Rattle.krb_ccache.specs.SetConfig.{entry_of}
+use Rattle.krb_ccache.proofs.Cited.{put_result, entry_of}
 use Rattle.krb_ccache.proofs.laws.settings_are_events.Goals as goal
 
 pub returns : goal.returns

@@ -1,5 +1,4 @@
-use Rattle.std.proofs.Common.{refl, arith}
-use Rattle.krb_wire.proofs.Fields.{is_some_has}
+use Rattle.krb_ccache.proofs.Cited.{refl, arith, is_some_has}
 use Rattle.krb_ccache.proofs.MarkLemmas.{around, marked_is, times_left, times_there}
 use Rattle.krb_ccache.proofs.mark.mark.Goals as goal
 

@@ -1,6 +1,4 @@
-use Rattle.std.proofs.Common.{ap}
-use Rattle.std.specs.Prelude.{is_some}
-use Rattle.krb_wire.proofs.Fields.{is_some_has}
+use Rattle.krb_ccache.proofs.Cited.{ap, is_some, is_some_has}
 use Rattle.krb_ccache.proofs.MarkImage.{live_in, marked_held}
 use Rattle.krb_ccache.proofs.mark.mark_in_image.Goals as goal
 

@@ -1,8 +1,4 @@
-use Rattle.std.proofs.Common.{◌≡◌, ◌+◌, ◌++◌, ℕ, List, [], length, take, drop, sym, ap, ◌∙◌, arith}
-use Rattle.std.proofs.lemmas.List.{take-append-drop}
-use Rattle.krb_wire.proofs.Fields.{is_some_has}
-use Rattle.krb_ccache.specs.declared.version.Version.{Version}
-use Rattle.krb_ccache.specs.Credential.{credential_at}
+use Rattle.krb_ccache.proofs.Cited.{◌≡◌, ◌+◌, ◌++◌, ℕ, List, [], length, take, drop, sym, ap, ◌∙◌, arith, take-append-drop, is_some_has, Version, credential_at}
 use Rattle.krb_ccache.proofs.NewTexts.{around_second, whole_without, whole_same, second_there, second_left, before_second}
 use Rattle.krb_ccache.proofs.new_image.around_second_enctype.Goals as goal
 

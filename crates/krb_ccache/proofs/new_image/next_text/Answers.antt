@@ -1,6 +1,4 @@
-use Rattle.std.proofs.Common.{ℕ, List, ap, ◌∙◌, arith}
-use Rattle.std.specs.Prelude.{is_some}
-use Rattle.krb_ccache.specs.Credential.{credential_at}
+use Rattle.krb_ccache.proofs.Cited.{ℕ, List, ap, ◌∙◌, arith, is_some, credential_at}
 use Rattle.krb_ccache.proofs.NewTexts.{first_text, live_text}
 use Rattle.krb_ccache.proofs.new_image.next_text.Goals as goal
 

@@ -1,5 +1,4 @@
-use Rattle.std.proofs.Common.{length-append, arith}
-use Rattle.krb_wire.proofs.PenLemmas.{puts_then, left_next, left_none}
+use Rattle.krb_ccache.proofs.Cited.{length-append, arith, puts_then, left_next, left_none}
 use Rattle.krb_ccache.proofs.NewTexts.{new_texts_none, new_texts_step}
 use Rattle.krb_ccache.proofs.new_image.put_texts.Goals as goal
 

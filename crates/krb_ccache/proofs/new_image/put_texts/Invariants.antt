@@ -1,7 +1,4 @@
-use Rattle.std.proofs.Common.{length}
-use Rattle.krb_wire.proofs.PenLemmas.{Left}
-use Rattle.krb_ccache.specs.Laws.{AreBytes}
-use Rattle.krb_ccache.specs.NewImage.{new_texts}
+use Rattle.krb_ccache.proofs.Cited.{length, Left, AreBytes, new_texts}
 use Rattle.krb_ccache.proofs.new_image.put_texts.Given as goal
 
 -- what is written and the texts still to come are all the texts

@@ -1,6 +1,4 @@
-use Rattle.std.proofs.Common.{◌≡◌, ◌+◌, ◌≤◌, length}
-use Rattle.krb_ccache.specs.Laws.{AreBytes}
-use Rattle.krb_ccache.specs.NewImage.{new_texts}
+use Rattle.krb_ccache.proofs.Cited.{◌≡◌, ◌+◌, ◌≤◌, length, AreBytes, new_texts}
 use Rattle.krb_ccache.proofs.new_image.room_after_texts.Given as goal
 
 -- the room left by the texts so far, and the texts still to come

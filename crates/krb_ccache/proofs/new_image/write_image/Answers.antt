@@ -1,6 +1,4 @@
-use Rattle.std.proofs.Common.{◌++◌, refl}
-use Rattle.krb_ccache.specs.Changes.{new_preamble}
-use Rattle.krb_ccache.specs.NewImage.{new_texts}
+use Rattle.krb_ccache.proofs.Cited.{◌++◌, refl, new_preamble, new_texts}
 use Rattle.krb_ccache.proofs.Pens.{first_room, rest_room, whole_room}
 use Rattle.krb_ccache.proofs.new_image.write_image.Goals as goal
 

@@ -1,6 +1,4 @@
-use Rattle.std.proofs.Common.{◌≡◌, ◌+◌, ◌≤◌, length}
-use Rattle.krb_ccache.specs.Laws.{AreBytes}
-use Rattle.krb_ccache.specs.Open.{credentials_len}
+use Rattle.krb_ccache.proofs.Cited.{◌≡◌, ◌+◌, ◌≤◌, length, AreBytes, credentials_len}
 use Rattle.krb_ccache.proofs.open.credentials_len.Given as goal
 
 -- the bytes passed and the credentials of the rest are all the credentials

@@ -1,6 +1,4 @@
-use Rattle.std.proofs.Common.{List, ℕ, ap, sym, ◌∙◌}
-use Rattle.krb_ccache.specs.Header.{header_at}
-use Rattle.krb_ccache.specs.Store.{open_header}
+use Rattle.krb_ccache.proofs.Cited.{List, ℕ, ap, sym, ◌∙◌, header_at, open_header}
 use Rattle.krb_ccache.proofs.PlaceLemmas.{no_header, no_default, front_is, tail_is, places_are}
 use Rattle.krb_ccache.proofs.open.read_places.Goals as goal
 

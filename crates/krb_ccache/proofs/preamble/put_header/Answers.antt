@@ -1,8 +1,5 @@
-use Rattle.std.proofs.Common.{◌≡◌, subst, arith}
-use Rattle.std.specs.Int.{w32, cast_unsigned}
+use Rattle.krb_ccache.proofs.Cited.{◌≡◌, subst, arith, w32, cast_unsigned, Puts, puts_then}
 use Rattle.std.proofs.lemmas.Int.{to_z-of_z}
-use Rattle.krb_wire.specs.Pen.{Puts}
-use Rattle.krb_wire.proofs.PenLemmas.{puts_then}
 use Rattle.krb_ccache.proofs.PreambleLemmas.{offset_text}
 use Rattle.krb_ccache.proofs.preamble.put_header.Goals as goal
 

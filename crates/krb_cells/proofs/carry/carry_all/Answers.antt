@@ -1,6 +1,4 @@
-use Rattle.std.proofs.Common.{◌<◌, length, sym, subst, ◌∙◌, ap, arith}
-use Rattle.std.proofs.lemmas.List.{length-set}
-use Rattle.krb_cells.specs.Carry.{GoesBy}
+use Rattle.krb_cells.proofs.Cited.{◌<◌, length, sym, subst, ◌∙◌, ap, arith, length-set, GoesBy}
 use Rattle.krb_cells.proofs.CursorLemmas.{all_at, same_at, carried_more, behind_more}
 use Rattle.krb_cells.proofs.carry.carry_all.Goals as goal
 

@@ -1,6 +1,4 @@
-use Rattle.std.proofs.Common.{◌≡◌, ℕ, length, take, drop, map}
-use Rattle.std.specs.List.{AllByRecursion}
-use Rattle.krb_cells.specs.Carry.{GoesBy}
+use Rattle.krb_cells.proofs.Cited.{◌≡◌, ℕ, length, take, drop, map, AllByRecursion, GoesBy}
 use Rattle.krb_cells.proofs.carry.carry_all.Given as goal
 
 abbrev pub invariant-loop-cursor : goal.invariant-loop-cursor

@@ -1,5 +1,4 @@
-use Rattle.std.proofs.Common.{List, ℕ, arith}
-use Rattle.krb_cells.specs.Carry.{between}
+use Rattle.krb_cells.proofs.Cited.{List, ℕ, arith, between}
 use Rattle.krb_cells.proofs.Cuts.{sound_by}
 use Rattle.krb_cells.proofs.NewPlaces.{have_given, all_go}
 use Rattle.krb_cells.proofs.carry.carry_to.Goals as goal

@@ -1,5 +1,4 @@
-use Rattle.std.proofs.Common.{◌-◌}
-use Rattle.krb_cells.specs.Carry.{between}
+use Rattle.krb_cells.proofs.Cited.{◌-◌, between}
 use Rattle.krb_cells.proofs.Given.{IsGivenIn}
 use Rattle.krb_cells.proofs.carry.give_places.Given as goal
 

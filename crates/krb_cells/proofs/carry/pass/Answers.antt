@@ -1,5 +1,4 @@
-use Rattle.std.proofs.Common.{◌∙◌, sym, refl, arith}
-use Rattle.krb_cells.specs.CellFormat.{cell_of}
+use Rattle.krb_cells.proofs.Cited.{◌∙◌, sym, refl, arith, cell_of}
 use Rattle.krb_cells.proofs.Given.{next_passed, passes, copied_some}
 use Rattle.krb_cells.proofs.carry.pass.Goals as goal
 

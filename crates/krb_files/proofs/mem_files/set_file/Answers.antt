@@ -1,7 +1,5 @@
-use Rattle.std.proofs.Common.{ap, sym, subst, ◌∙◌}
-use Rattle.std.specs.Prelude.{string_bytes}
+use Rattle.krb_files.proofs.Cited.{ap, sym, subst, ◌∙◌, string_bytes, SetsFile}
 use Rattle.std.proofs.lemmas.List.{map-append}
-use Rattle.krb_files.specs.Files.{SetsFile}
 use Rattle.krb_files.specs.MemFiles.{pairs_of, file_in, with_file}
 use Rattle.krb_files.proofs.FileLists.{with_file-at, with_file-none, sets_file}
 use Rattle.krb_files.proofs.mem_files.set_file.Goals as goal

@@ -1,6 +1,4 @@
-use Rattle.std.proofs.Common.{length, ◌-◌, ◌≤◌, take}
-use Rattle.std.specs.Prelude.{IsFalse}
-use Rattle.std.specs.Io.KnownBytes.{Appends}
+use Rattle.krb_files.proofs.Cited.{length, ◌-◌, ◌≤◌, take, IsFalse, Appends}
 use Rattle.krb_files.proofs.output.put.Given as goal
 
 abbrev pub invariant-loop-done : goal.invariant-loop-done

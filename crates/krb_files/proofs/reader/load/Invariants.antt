@@ -1,5 +1,4 @@
-use Rattle.std.proofs.Common.{◌≡◌, ◌≤◌, ◌-◌, min, vec_capacity, vec_len}
-use Rattle.std.specs.Io.KnownBytes.{Consumes}
+use Rattle.krb_files.proofs.Cited.{◌≡◌, ◌≤◌, ◌-◌, min, vec_capacity, vec_len, Consumes}
 use Rattle.krb_files.proofs.reader.load.Given as goal
 
 abbrev pub invariant-loop-bytes : goal.invariant-loop-bytes

@@ -1,5 +1,4 @@
-use Rattle.std.proofs.Common.{length, ◌-◌, ◌≤◌, take}
-use Rattle.std.specs.Io.KnownBytes.{Appends}
+use Rattle.krb_files.proofs.Cited.{length, ◌-◌, ◌≤◌, take, Appends}
 use Rattle.krb_files.proofs.writer.save.Given as goal
 
 abbrev pub invariant-loop-count : goal.invariant-loop-count

@@ -1,9 +1,4 @@
-use Rattle.std.proofs.Common.{codes, ap, ◌∙◌, ◌++◌}
-use Rattle.std.proofs.lemmas.Result.{on_ok_weaker}
-use Rattle.krb_json.specs.Escaped.{text_of}
-use Rattle.krb_wire.specs.Names.{name_text}
-use Rattle.krb_ccache.specs.Store.{version_byte}
-use Rattle.krb_json.specs.Members.{file_members, text_member}
+use Rattle.krb_json.proofs.Cited.{codes, ap, ◌∙◌, ◌++◌, on_ok_weaker, text_of, name_text, version_byte, file_members, text_member}
 use Rattle.krb_json.proofs.Chains.{head_written_more}
 use Rattle.krb_json.proofs.cache.append_head.Goals as goal
 

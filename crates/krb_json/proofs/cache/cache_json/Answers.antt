@@ -1,5 +1,4 @@
-use Rattle.std.proofs.lemmas.Result.{err_from_is_err_and, on_ok_weaker}
-use Rattle.krb_text.proofs.Passing.{gathers_prints, gathers_fails}
+use Rattle.krb_json.proofs.Cited.{err_from_is_err_and, on_ok_weaker, gathers_prints, gathers_fails}
 use Rattle.krb_json.proofs.Sending.{prints_memory}
 use Rattle.krb_json.proofs.ReadBack.{cache_is_read}
 use Rattle.krb_json.proofs.Wholes.{cache_text}

@@ -1,10 +1,4 @@
-use Rattle.std.proofs.Common.{◌++◌, false, subst, sym, ap, ◌∙◌}
-use Rattle.std.proofs.lemmas.Result.{err_from_is_err_and}
-use Rattle.krb_ccache.specs.Config.{config_name}
-use Rattle.krb_ccache.specs.Store.{PlacedCredential}
-use Rattle.krb_text.proofs.Passing.{passed_none, passed_send, gathers_memory, gathers_write}
-use Rattle.krb_json.specs.Cache.{shown_by, shown_values}
-use Rattle.krb_json.specs.Pieces.{elements_text, ArePlain}
+use Rattle.krb_json.proofs.Cited.{◌++◌, false, subst, sym, ap, ◌∙◌, err_from_is_err_and, config_name, PlacedCredential, passed_none, passed_send, gathers_memory, gathers_write, shown_by, shown_values, elements_text, ArePlain}
 use Rattle.krb_json.proofs.Sending.{gathers_if, plain_if}
 use Rattle.krb_json.proofs.cache.send_shown.Goals as goal
 

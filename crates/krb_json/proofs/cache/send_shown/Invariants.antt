@@ -1,9 +1,4 @@
-use Rattle.std.proofs.Common.{◌≡◌, [], ◌++◌, false}
-use Rattle.std.specs.Prelude.{IsFalse}
-use Rattle.krb_ccache.specs.Store.{placed_credentials}
-use Rattle.krb_text.specs.Gathered.{Passed}
-use Rattle.krb_json.specs.Cache.{shown_values}
-use Rattle.krb_json.specs.Pieces.{elements_text, ArePlain}
+use Rattle.krb_json.proofs.Cited.{◌≡◌, [], ◌++◌, false, IsFalse, placed_credentials, Passed, shown_values, elements_text, ArePlain}
 use Rattle.krb_json.proofs.cache.send_shown.Given as goal
 
 abbrev pub invariant-credentials : goal.invariant-credentials

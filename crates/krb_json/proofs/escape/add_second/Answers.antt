@@ -1,5 +1,4 @@
-use Rattle.std.proofs.Common.{sym, ◌∙◌}
-use Rattle.std.proofs.lemmas.Result.{IfOk-weaker}
+use Rattle.krb_json.proofs.Cited.{sym, ◌∙◌, IfOk-weaker}
 use Rattle.krb_json.proofs.EscapedLemmas.{added-first, added-pair}
 use Rattle.krb_json.proofs.escape.add_second.Goals as goal
 

@@ -1,5 +1,4 @@
-use Rattle.std.proofs.Common.{◌≡◌, ℕ, List, ◌++◌, take}
-use Rattle.krb_json.specs.Escaped.{escaped, held}
+use Rattle.krb_json.proofs.Cited.{◌≡◌, ℕ, List, ◌++◌, take, escaped, held}
 use Rattle.krb_json.proofs.escape.append_slowly.Given as goal
 
 -- whatever comes after the bytes so far, what is out and what is held back make the text of them

@@ -1,8 +1,5 @@
-use Rattle.std.proofs.Common.{codes, ap, ◌∙◌, ◌++◌}
-use Rattle.std.proofs.lemmas.Result.{on_ok_weaker}
-use Rattle.krb_json.specs.Escaped.{text_of}
+use Rattle.krb_json.proofs.Cited.{codes, ap, ◌∙◌, ◌++◌, on_ok_weaker, text_of, file_members}
 use Rattle.krb_wire.specs.Spelling.{version_byte}
-use Rattle.krb_json.specs.Members.{file_members}
 use Rattle.krb_json.proofs.Chains.{head_written}
 use Rattle.krb_json.proofs.keytab.append_head.Goals as goal
 

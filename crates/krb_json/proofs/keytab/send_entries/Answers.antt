@@ -1,8 +1,4 @@
-use Rattle.std.proofs.Common.{◌++◌, Some, map, false, subst, sym, ap, ◌∙◌}
-use Rattle.std.proofs.lemmas.Result.{err_from_is_err_and}
-use Rattle.krb_text.proofs.Passing.{passed_none, passed_send, gathers_memory, gathers_write}
-use Rattle.krb_json.specs.Keytab.{entry_value}
-use Rattle.krb_json.specs.Pieces.{elements_text, ArePlain}
+use Rattle.krb_json.proofs.Cited.{◌++◌, Some, map, false, subst, sym, ap, ◌∙◌, err_from_is_err_and, passed_none, passed_send, gathers_memory, gathers_write, entry_value, elements_text, ArePlain}
 use Rattle.krb_json.proofs.Sending.{gathers_if, element_behind}
 use Rattle.krb_json.proofs.keytab.send_entries.Goals as goal
 

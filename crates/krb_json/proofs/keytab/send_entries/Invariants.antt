@@ -1,8 +1,4 @@
-use Rattle.std.proofs.Common.{◌≡◌, [], ◌++◌, map, false}
-use Rattle.std.specs.Prelude.{IsFalse}
-use Rattle.krb_text.specs.Gathered.{Passed}
-use Rattle.krb_json.specs.Keytab.{entry_value, entry_values}
-use Rattle.krb_json.specs.Pieces.{elements_text, ArePlain}
+use Rattle.krb_json.proofs.Cited.{◌≡◌, [], ◌++◌, map, false, IsFalse, Passed, entry_value, entry_values, elements_text, ArePlain}
 use Rattle.krb_json.proofs.keytab.send_entries.Given as goal
 
 abbrev pub invariant-entries : goal.invariant-entries

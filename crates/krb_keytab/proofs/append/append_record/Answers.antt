@@ -1,10 +1,4 @@
-use Rattle.std.proofs.Common.{◌≡◌, ◌<◌, ◌∙◌, ◌+◌, ◌++◌, ◌∷◌, [], ℕ, List, length, get_or, drop, ap, sym, subst, arith, inl, inr}
-use Rattle.std.proofs.lemmas.Bool.{cases_lt}
-use Rattle.std.proofs.lemmas.List.{get_or_past}
-use Rattle.krb_wire.proofs.Fields.{IsBytes}
-use Rattle.krb_keytab.specs.Cells.{Live, contents}
-use Rattle.krb_keytab.specs.Image.{IsChanged, len_with}
-use Rattle.krb_keytab.specs.Changes.{end_after}
+use Rattle.krb_keytab.proofs.Cited.{◌≡◌, ◌<◌, ◌∙◌, ◌+◌, ◌++◌, ◌∷◌, [], ℕ, List, length, get_or, drop, ap, sym, subst, arith, inl, inr, cases_lt, get_or_past, IsBytes, Live, contents, IsChanged, len_with, end_after}
 use Rattle.krb_keytab.proofs.AppendLemmas.{appended_is}
 use Rattle.krb_keytab.proofs.append.append_record.Goals as goal
 

@@ -1,9 +1,5 @@
-use Rattle.std.proofs.Common.{rules, ℕ, List, ◌+◌, ◌-◌, ◌++◌, length, replicate, arith}
+use Rattle.krb_keytab.proofs.Cited.{rules, ℕ, List, ◌+◌, ◌-◌, ◌++◌, length, replicate, arith, Puts, order_of, puts_then, Live, cell}
 use Rattle.std.proofs.lemmas.List.{length-append, length-replicate}
-use Rattle.krb_wire.specs.Pen.{Puts}
-use Rattle.krb_wire.specs.Spelling.{order_of}
-use Rattle.krb_wire.proofs.PenLemmas.{puts_then}
-use Rattle.krb_keytab.specs.Cells.{Live, cell}
 use Rattle.krb_keytab.proofs.Cuts.{cell_len}
 use Rattle.krb_keytab.proofs.Splices.{written_over}
 use Rattle.krb_keytab.proofs.append.put_last.Goals as goal

@@ -1,9 +1,4 @@
-use Rattle.std.proofs.Common.{◌∙◌, ℕ, take, ap, sym, subst}
-use Rattle.std.specs.Int.{w32}
-use Rattle.krb_wire.specs.declared.format.Order.{Order}
-use Rattle.krb_wire.specs.Reading.{number_at}
-use Rattle.krb_keytab.specs.Cells.{cell_in}
-use Rattle.krb_keytab.specs.CellViews.{IsFirst}
+use Rattle.krb_keytab.proofs.Cited.{◌∙◌, ℕ, take, ap, sym, subst, w32, Order, number_at, cell_in, IsFirst}
 use Rattle.krb_keytab.proofs.FirstLemmas.{first_read, none_read}
 use Rattle.krb_keytab.proofs.cells.first_cell.Goals as goal
 

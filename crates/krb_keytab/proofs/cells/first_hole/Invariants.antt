@@ -1,5 +1,4 @@
-use Rattle.std.proofs.Common.{◌≡◌}
-use Rattle.krb_keytab.specs.Changes.{hole_from}
+use Rattle.krb_keytab.proofs.Cited.{◌≡◌, hole_from}
 use Rattle.krb_keytab.proofs.cells.first_hole.Given as goal
 
 -- no hole that is large enough was skipped

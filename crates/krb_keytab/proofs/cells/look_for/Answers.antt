@@ -1,6 +1,4 @@
-use Rattle.std.proofs.Common.{arith, sym, ap, ◌∙◌}
-use Rattle.std.specs.Prelude.{is_some}
-use Rattle.std.proofs.lemmas.Bool.{ne_eqb}
+use Rattle.krb_keytab.proofs.Cited.{arith, sym, ap, ◌∙◌, is_some, ne_eqb}
 use Rattle.krb_cells.specs.CellFormat.{cell_of}
 use Rattle.krb_keytab.proofs.Cuts.{none_inside}
 use Rattle.krb_keytab.proofs.cells.look_for.Goals as goal

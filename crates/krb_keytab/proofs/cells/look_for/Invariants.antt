@@ -1,5 +1,4 @@
-use Rattle.std.proofs.Common.{◌≡◌, ℕ, true, length}
-use Rattle.krb_walk.specs.Store.{live_bytes, is_place}
+use Rattle.krb_keytab.proofs.Cited.{◌≡◌, ℕ, true, length, live_bytes, is_place}
 use Rattle.krb_keytab.proofs.cells.look_for.Given as goal
 
 -- the places of the rest are places of all cells, and its record at `place` is theirs

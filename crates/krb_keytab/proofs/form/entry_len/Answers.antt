@@ -1,6 +1,4 @@
-use Rattle.std.proofs.Common.{◌≤◌, ◌∙◌, length, sym, ap, subst, arith}
-use Rattle.krb_wire.specs.Spelling.{name_fits}
-use Rattle.krb_keytab.specs.Entry.{EntryParts}
+use Rattle.krb_keytab.proofs.Cited.{◌≤◌, ◌∙◌, length, sym, ap, subst, arith, name_fits, EntryParts}
 use Rattle.krb_keytab.proofs.WrittenLemmas.{fits_no, fits_yes}
 use Rattle.krb_keytab.proofs.form.entry_len.Goals as goal
 

@@ -1,9 +1,4 @@
-use Rattle.std.proofs.Common.{◌∙◌, ap, subst}
-use Rattle.krb_wire.specs.Pen.{Puts}
-use Rattle.krb_wire.specs.Spelling.{name_fits}
-use Rattle.krb_wire.proofs.PenLemmas.{puts_then}
-use Rattle.krb_keytab.specs.Entry.{EntryParts}
-use Rattle.krb_keytab.specs.Form.{written_form}
+use Rattle.krb_keytab.proofs.Cited.{◌∙◌, ap, subst, Puts, name_fits, puts_then, EntryParts, written_form}
 use Rattle.krb_keytab.proofs.WrittenLemmas.{name_of_entry_fits}
 use Rattle.krb_keytab.proofs.form.put_entry.Goals as goal
 

@@ -1,6 +1,4 @@
-use Rattle.std.proofs.Common.{◌≡◌, ◌<◌, ◌≤◌, ◌+◌, ◌-◌, length, drop}
-use Rattle.krb_keytab.specs.Cells.{contents}
-use Rattle.krb_keytab.specs.Store.{end_place}
+use Rattle.krb_keytab.proofs.Cited.{◌≡◌, ◌<◌, ◌≤◌, ◌+◌, ◌-◌, length, drop, contents, end_place}
 use Rattle.krb_keytab.proofs.image.end_of_cells_in.Given as goal
 
 abbrev pub invariant-cells : goal.invariant-cells

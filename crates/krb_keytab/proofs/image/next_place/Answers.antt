@@ -1,5 +1,4 @@
-use Rattle.std.proofs.Common.{ℕ, ◌+◌, sym, subst, arith}
-use Rattle.krb_keytab.specs.Image.{IsPassed}
+use Rattle.krb_keytab.proofs.Cited.{ℕ, ◌+◌, sym, subst, arith, IsPassed}
 use Rattle.krb_keytab.proofs.EndLemmas.{passed, ends_there}
 use Rattle.krb_keytab.proofs.image.next_place.Goals as goal
 

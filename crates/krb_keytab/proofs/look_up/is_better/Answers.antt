@@ -1,5 +1,4 @@
-use Rattle.std.proofs.Common.{rules, ◌≡◌, ltb}
-use Rattle.std.specs.Prelude.{◌==◌}
+use Rattle.krb_keytab.proofs.Cited.{rules, ◌≡◌, ltb, ◌==◌}
 use Rattle.krb_keytab.proofs.LookUpLemmas.{is_better, next_found}
 use Rattle.krb_keytab.proofs.look_up.is_better.Goals as goal
 

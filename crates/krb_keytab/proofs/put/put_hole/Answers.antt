@@ -1,9 +1,4 @@
-use Rattle.std.proofs.Common.{rules, ℕ, ◌+◌, replicate, arith}
-use Rattle.std.proofs.lemmas.List.{length-replicate}
-use Rattle.krb_wire.specs.Pen.{Puts}
-use Rattle.krb_wire.specs.Spelling.{order_of}
-use Rattle.krb_wire.proofs.PenLemmas.{puts_then}
-use Rattle.krb_keytab.specs.Cells.{Cell, Free, cell}
+use Rattle.krb_keytab.proofs.Cited.{rules, ℕ, ◌+◌, replicate, arith, length-replicate, Puts, order_of, puts_then, Cell, Free, cell}
 use Rattle.krb_keytab.proofs.Cuts.{cell_len}
 use Rattle.krb_keytab.proofs.Splices.{written_over}
 use Rattle.krb_keytab.proofs.put.put_hole.Goals as goal

@@ -1,9 +1,4 @@
-use Rattle.std.proofs.Common.{rules, ◌+◌, arith}
-use Rattle.krb_wire.specs.Pen.{Puts}
-use Rattle.krb_wire.specs.Spelling.{order_of}
-use Rattle.krb_wire.proofs.PenLemmas.{puts_then}
-use Rattle.krb_keytab.specs.Cells.{Cell, Live, cell}
-use Rattle.krb_keytab.specs.Changes.{with_zeros}
+use Rattle.krb_keytab.proofs.Cited.{rules, ◌+◌, arith, Puts, order_of, puts_then, Cell, Live, cell, with_zeros}
 use Rattle.krb_keytab.proofs.Cuts.{cell_len}
 use Rattle.krb_keytab.proofs.ImageChanges.{padded_len}
 use Rattle.krb_keytab.proofs.Splices.{written_over}

@@ -1,6 +1,5 @@
-use Rattle.std.proofs.Common.{length, rules, arith}
+use Rattle.krb_keytab.proofs.Cited.{length, rules, arith, record_in}
 use Rattle.krb_keytab.proofs.ImageChanges.{hole_in, filled_is, as_many}
-use Rattle.krb_keytab.specs.Changes.{record_in}
 use Rattle.krb_keytab.proofs.replace.fill_hole.Goals as goal
 
 pub put_record-requires : goal.put_record-requires

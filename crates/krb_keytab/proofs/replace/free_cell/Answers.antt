@@ -1,6 +1,5 @@
-use Rattle.std.proofs.Common.{rules, arith, sym}
+use Rattle.krb_keytab.proofs.Cited.{rules, arith, sym, zero_hole}
 use Rattle.krb_keytab.proofs.ImageChanges.{bytes_of_size, live_in, freed_is, as_many}
-use Rattle.krb_keytab.specs.Changes.{zero_hole}
 use Rattle.krb_keytab.proofs.replace.free_cell.Goals as goal
 
 pub put_hole-requires : goal.put_hole-requires

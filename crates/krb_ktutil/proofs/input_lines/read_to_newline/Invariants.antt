@@ -1,5 +1,4 @@
-use Rattle.krb_ktutil.proofs.Cited.{◌≡◌, ◌≤◌, ◌-◌, slice_range, Grows, HasNone}
-use Rattle.std.proofs.Common.{vec_len}
+use Rattle.krb_ktutil.proofs.Cited.{◌≡◌, ◌≤◌, ◌-◌, slice_range, Grows, HasNone, vec_len}
 use Rattle.krb_ktutil.proofs.input_lines.read_to_newline.Given as goal
 
 abbrev pub invariant-reads : goal.invariant-reads

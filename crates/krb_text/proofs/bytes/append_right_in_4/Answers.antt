@@ -1,7 +1,6 @@
-use Rattle.std.proofs.Common.{List, ℕ, subst, arith}
+use Rattle.krb_text.proofs.Cited.{List, ℕ, subst, arith, Appended}
 use Rattle.std.specs.Prelude.{decimal}
 use Rattle.std.proofs.lemmas.Fmt.{length-decimal-le}
-use Rattle.krb_wire.specs.Text.{Appended}
 use Rattle.krb_text.proofs.Aligned.{right_aligned}
 use Rattle.krb_text.proofs.bytes.append_right_in_4.Goals as goal
 

@@ -1,5 +1,4 @@
-use Rattle.std.proofs.lemmas.Result.{err_from_is_err_and}
-use Rattle.krb_wire.proofs.TextLemmas.{appended_part, left_fails}
+use Rattle.krb_text.proofs.Cited.{err_from_is_err_and, appended_part, left_fails}
 use Rattle.krb_text.proofs.Letters.{letters_next}
 use Rattle.krb_text.proofs.flags.append_letters.Goals as goal
 

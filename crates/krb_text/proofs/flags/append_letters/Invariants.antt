@@ -1,6 +1,4 @@
-use Rattle.std.proofs.Common.{drop}
-use Rattle.krb_wire.proofs.TextLemmas.{Left}
-use Rattle.krb_text.specs.Flags.{letters_among}
+use Rattle.krb_text.proofs.Cited.{drop, Left, letters_among}
 use Rattle.krb_text.proofs.flags.append_letters.Given as goal
 
 abbrev pub invariant-flags : goal.invariant-flags

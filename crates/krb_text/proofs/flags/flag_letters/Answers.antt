@@ -1,5 +1,4 @@
-use Rattle.std.proofs.Common.{rules}
-use Rattle.krb_text.specs.Flags.{flag_letters_of}
+use Rattle.krb_text.proofs.Cited.{rules, flag_letters_of}
 use Rattle.krb_text.proofs.flags.flag_letters.Goals as goal
 
 pub returns : goal.returns

@@ -1,5 +1,4 @@
-use Rattle.std.proofs.Common.{◌∙◌, sym, refl}
-use Rattle.hex.specs.Hex.{decode_of}
+use Rattle.krb_text.proofs.Cited.{◌∙◌, sym, refl, decode_of}
 use Rattle.krb_text.proofs.Digits.{key_of_size}
 use Rattle.krb_text.proofs.key.is_key.Goals as goal
 

@@ -1,6 +1,4 @@
-use Rattle.std.proofs.Common.{refl, arith, rules}
-use Rattle.std.proofs.lemmas.Result.{err_from_is_err_and}
-use Rattle.hex.specs.Hex.{lower_digits}
+use Rattle.krb_text.proofs.Cited.{refl, arith, rules, err_from_is_err_and, lower_digits}
 use Rattle.hex.proofs.HexLemmas.{length-encode_with}
 use Rattle.krb_text.proofs.key.key_text.Goals as goal
 

@@ -1,9 +1,4 @@
-use Rattle.std.proofs.Common.{List, ℕ, ◌++◌, Vec, Result, Ok, Err, subst}
-use Rattle.std.proofs.lemmas.Result.{err_from_is_err_and}
-use Rattle.krb_keytab.specs.Entry.{EntryParts}
-use Rattle.krb_wire.specs.Text.{Appended, AppendedPart}
-use Rattle.krb_wire.proofs.TextLemmas.{appended_part}
-use Rattle.krb_text.specs.Line.{entry_line}
+use Rattle.krb_text.proofs.Cited.{List, ℕ, ◌++◌, Vec, Result, Ok, Err, subst, err_from_is_err_and, EntryParts, Appended, AppendedPart, appended_part, entry_line}
 use Rattle.krb_text.proofs.Appending.{part_then, part_fails}
 use Rattle.krb_text.proofs.line.append_entry.Goals as goal
 

@@ -1,6 +1,4 @@
-use Rattle.std.proofs.Common.{◌≡◌, true}
-use Rattle.std.proofs.lemmas.Result.{err_from_is_err_and}
-use Rattle.krb_wire.proofs.TextLemmas.{appended_part}
+use Rattle.krb_text.proofs.Cited.{◌≡◌, true, err_from_is_err_and, appended_part}
 use Rattle.krb_text.proofs.Appending.{part_fails}
 use Rattle.krb_text.proofs.line.append_time.Goals as goal
 

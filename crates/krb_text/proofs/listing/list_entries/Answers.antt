@@ -1,8 +1,6 @@
-use Rattle.std.proofs.Common.{◌++◌, List, ℕ, sym, ap, ◌∙◌}
-use Rattle.std.proofs.lemmas.Result.{err_from_is_err_and}
+use Rattle.krb_text.proofs.Cited.{◌++◌, List, ℕ, sym, ap, ◌∙◌, err_from_is_err_and, entry_line}
 use Rattle.krb_text.proofs.Passing.{passed_none, passed_gather, passed_send, gathers_memory, gathers_write}
 use Rattle.krb_text.proofs.Lines.{lines_of, all_lines}
-use Rattle.krb_text.specs.Line.{entry_line}
 use Rattle.krb_text.proofs.listing.list_entries.Goals as goal
 
 pub entries-init : goal.entries-init

@@ -1,7 +1,5 @@
-use Rattle.std.proofs.Common.{◌++◌}
-use Rattle.std.specs.Prelude.{IsFalse}
+use Rattle.krb_text.proofs.Cited.{◌++◌, IsFalse, entry_lines}
 use Rattle.krb_text.specs.Gathered.{Passed}
-use Rattle.krb_text.specs.Listing.{entry_lines}
 use Rattle.krb_text.proofs.Lines.{lines_of}
 use Rattle.krb_text.proofs.listing.list_entries.Given as goal
 

@@ -1,5 +1,4 @@
-use Rattle.std.proofs.Common.{◌++◌, codes, decimal}
-use Rattle.std.proofs.lemmas.Result.{err_from_is_err_and}
+use Rattle.krb_text.proofs.Cited.{◌++◌, codes, decimal, err_from_is_err_and}
 use Rattle.krb_text.proofs.Appending.{part_then, part_fails}
 use Rattle.krb_text.proofs.reply.append_gave.Goals as goal
 

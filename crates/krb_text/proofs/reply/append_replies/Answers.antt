@@ -1,6 +1,4 @@
-use Rattle.std.proofs.Common.{map, ap}
-use Rattle.std.proofs.lemmas.Result.{err_from_is_err_and}
-use Rattle.krb_wire.proofs.TextLemmas.{left_next, left_fails}
+use Rattle.krb_text.proofs.Cited.{map, ap, err_from_is_err_and, left_next, left_fails}
 use Rattle.krb_walk.specs.ReplyContent.{content_of}
 use Rattle.krb_text.specs.Reply.{reply_texts_by}
 use Rattle.krb_text.proofs.Items.{drop_item}

@@ -1,5 +1,4 @@
-use Rattle.std.proofs.Common.{drop, map}
-use Rattle.krb_wire.proofs.TextLemmas.{Left}
+use Rattle.krb_text.proofs.Cited.{drop, map, Left}
 use Rattle.krb_walk.specs.ReplyContent.{content_of}
 use Rattle.krb_text.specs.Reply.{reply_texts_by}
 use Rattle.krb_text.proofs.reply.append_replies.Given as goal

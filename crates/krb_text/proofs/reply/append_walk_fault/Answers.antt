@@ -1,7 +1,4 @@
-use Rattle.std.proofs.Common.{◌++◌, codes, decimal}
-use Rattle.std.proofs.lemmas.Result.{err_from_is_err_and}
-use Rattle.krb_wire.proofs.TextLemmas.{appended_part}
-use Rattle.krb_text.specs.Line.{fault_text}
+use Rattle.krb_text.proofs.Cited.{◌++◌, codes, decimal, err_from_is_err_and, appended_part, fault_text}
 use Rattle.krb_text.proofs.Appending.{part_then, part_fails}
 use Rattle.krb_text.proofs.reply.append_walk_fault.Goals as goal
 

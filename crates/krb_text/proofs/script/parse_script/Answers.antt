@@ -1,7 +1,4 @@
-use Rattle.std.proofs.Common.{◌≡◌, ◌+◌, ◌++◌, List, ℕ, true, length, sym, ap, ◌∙◌, arith}
-use Rattle.std.proofs.lemmas.Result.{err_from_is_err_and}
-use Rattle.krb_text.specs.Pieces.{pieces}
-use Rattle.krb_text.specs.Script.{is_command, commands_from, faults_of, commands_read}
+use Rattle.krb_text.proofs.Cited.{◌≡◌, ◌+◌, ◌++◌, List, ℕ, true, length, sym, ap, ◌∙◌, arith, err_from_is_err_and, pieces, is_command, commands_from, faults_of, commands_read}
 use Rattle.krb_text.proofs.Cuts.{length-pieces}
 use Rattle.krb_text.proofs.Scripts.{gives_line, refuses_script, takes_memory, ok_of_and}
 use Rattle.krb_text.proofs.script.parse_script.Goals as goal

@@ -1,6 +1,4 @@
-use Rattle.std.proofs.Common.{◌≡◌, ◌+◌, ◌++◌, length}
-use Rattle.krb_text.specs.Pieces.{pieces}
-use Rattle.krb_text.specs.Script.{commands_from, faults_of, commands_read, TakesMemory}
+use Rattle.krb_text.proofs.Cited.{◌≡◌, ◌+◌, ◌++◌, length, pieces, commands_from, faults_of, commands_read, TakesMemory}
 use Rattle.krb_text.proofs.script.parse_script.Given as goal
 
 -- no line so far is faulty, and what the lines are read as has been appended

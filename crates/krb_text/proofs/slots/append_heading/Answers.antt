@@ -1,7 +1,4 @@
-use Rattle.std.proofs.Common.{◌++◌, codes}
-use Rattle.std.proofs.lemmas.Result.{err_from_is_err_and}
-use Rattle.krb_wire.proofs.TextLemmas.{appended_part}
-use Rattle.krb_text.specs.Listing.{titles, underlines}
+use Rattle.krb_text.proofs.Cited.{◌++◌, codes, err_from_is_err_and, appended_part, titles, underlines}
 use Rattle.krb_text.proofs.Appending.{part_then, part_fails}
 use Rattle.krb_text.proofs.slots.append_heading.Goals as goal
 

@@ -1,5 +1,4 @@
-use Rattle.std.proofs.lemmas.Result.{err_from_is_err_and}
-use Rattle.krb_wire.proofs.TextLemmas.{appended_part}
+use Rattle.krb_text.proofs.Cited.{err_from_is_err_and, appended_part}
 use Rattle.krb_text.proofs.Appending.{part_then, part_fails}
 use Rattle.krb_text.proofs.slots.append_slot.Goals as goal
 

@@ -1,5 +1,4 @@
-use Rattle.std.proofs.Common.{◌≡◌, ◌+◌, drop}
-use Rattle.krb_wire.proofs.TextLemmas.{Left}
+use Rattle.krb_text.proofs.Cited.{◌≡◌, ◌+◌, drop, Left}
 use Rattle.krb_text.specs.Slots.{slot_lines}
 use Rattle.krb_text.proofs.slots.append_slots.Given as goal
 

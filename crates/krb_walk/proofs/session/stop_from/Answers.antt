@@ -1,5 +1,4 @@
-use Rattle.std.proofs.Common.{ap, ◌∙◌}
-use Rattle.krb_walk.specs.Store.{is_place}
+use Rattle.krb_walk.proofs.Cited.{ap, ◌∙◌, is_place}
 use Rattle.krb_walk.specs.Kept.{place_after}
 use Rattle.krb_walk.proofs.Places.{stop_place}
 use Rattle.krb_walk.proofs.Table.{place_after-stop_at}

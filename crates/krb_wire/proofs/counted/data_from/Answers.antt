@@ -1,5 +1,4 @@
-use Rattle.std.proofs.Common.{arith}
-use Rattle.krb_wire.specs.Reading.{data_at}
+use Rattle.krb_wire.proofs.Cited.{arith, data_at}
 use Rattle.krb_wire.proofs.Places.{past, ends_at}
 use Rattle.krb_wire.proofs.Principals.{no_data, data_field}
 use Rattle.krb_wire.proofs.counted.data_from.Goals as goal

@@ -1,8 +1,4 @@
-use Rattle.std.proofs.Common.{sym, ap, ◌∙◌, List}
-use Rattle.krb_wire.specs.declared.atom.Atom.{Atom}
-use Rattle.krb_wire.specs.Atoms.{atoms, after_at}
-use Rattle.krb_wire.specs.FirstComponent.{faults_from}
-use Rattle.krb_wire.specs.NameOf.{first_fault}
+use Rattle.krb_wire.proofs.Cited.{sym, ap, ◌∙◌, List, Atom, atoms, after_at, faults_from, first_fault}
 use Rattle.krb_wire.proofs.PlainRuns.{faults_from-plain, after_at-plain}
 use Rattle.krb_wire.proofs.parse.from_special.Goals as goal
 

@@ -1,7 +1,4 @@
-use Rattle.std.proofs.Common.{◌≡◌, length}
-use Rattle.krb_wire.specs.Atoms.{atoms}
-use Rattle.krb_wire.specs.NameOf.{faults_of, first_fault}
-use Rattle.krb_wire.specs.FirstComponent.{faults_from}
+use Rattle.krb_wire.proofs.Cited.{◌≡◌, length, atoms, faults_of, first_fault, faults_from}
 use Rattle.krb_wire.proofs.parse.leftmost_fault.Given as goal
 
 abbrev pub invariant-loop-atom : goal.invariant-loop-atom

@@ -1,7 +1,4 @@
-use Rattle.std.proofs.Common.{◌∙◌, sym, ap, append-nil, List, ℕ, Some, None, Bor}
-use Rattle.std.specs.Prelude.{option_map}
-use Rattle.krb_wire.specs.Reading.{items_of}
-use Rattle.krb_wire.specs.Atoms.{atoms}
+use Rattle.krb_wire.proofs.Cited.{◌∙◌, sym, ap, append-nil, List, ℕ, Some, None, Bor, option_map, items_of, atoms}
 use Rattle.krb_wire.proofs.AtomLemmas.{components_step}
 use Rattle.krb_wire.proofs.parse.read_components.Goals as goal
 

@@ -1,7 +1,4 @@
-use Rattle.std.proofs.Common.{◌≡◌, ◌++◌, length}
-use Rattle.krb_wire.specs.Reading.{items_of}
-use Rattle.krb_wire.specs.Atoms.{atoms}
-use Rattle.krb_wire.specs.NameOf.{components_of}
+use Rattle.krb_wire.proofs.Cited.{◌≡◌, ◌++◌, length, items_of, atoms, components_of}
 use Rattle.krb_wire.proofs.parse.read_components.Given as goal
 
 abbrev pub invariant-loop-all : goal.invariant-loop-all

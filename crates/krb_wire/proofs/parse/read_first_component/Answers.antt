@@ -1,8 +1,4 @@
-use Rattle.std.proofs.Common.{◌≡◌, ℕ, List, [], ◌∷◌, ◌++◌, refl, sym, ap, ◌∙◌, append_assoc, arith}
-use Rattle.krb_wire.specs.declared.atom.Atom.{Atom}
-use Rattle.krb_wire.specs.declared.atom.Atom.TheVariants.{Byte, Lone}
-use Rattle.krb_wire.specs.Atoms.{atoms}
-use Rattle.krb_wire.specs.FirstComponent.{first_component, after_first}
+use Rattle.krb_wire.proofs.Cited.{◌≡◌, ℕ, List, [], ◌∷◌, ◌++◌, refl, sym, ap, ◌∙◌, append_assoc, arith, Atom, Byte, Lone, atoms, first_component, after_first}
 use Rattle.krb_wire.proofs.PlainRuns.{first_component-plain, after_first-plain}
 use Rattle.krb_wire.proofs.parse.read_first_component.Goals.{in-Byte, in-Lone}
 use Rattle.krb_wire.proofs.parse.read_first_component.Goals as goal

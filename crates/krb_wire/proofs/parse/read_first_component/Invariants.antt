@@ -1,6 +1,4 @@
-use Rattle.std.proofs.Common.{◌≡◌, ◌≤◌, ◌++◌, length}
-use Rattle.krb_wire.specs.Atoms.{atoms}
-use Rattle.krb_wire.specs.FirstComponent.{first_component, after_first}
+use Rattle.krb_wire.proofs.Cited.{◌≡◌, ◌≤◌, ◌++◌, length, atoms, first_component, after_first}
 use Rattle.krb_wire.proofs.parse.read_first_component.Given as goal
 
 abbrev pub invariant-loop-atom : goal.invariant-loop-atom

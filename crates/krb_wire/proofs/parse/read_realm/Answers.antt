@@ -1,7 +1,4 @@
-use Rattle.std.proofs.Common.{◌≡◌, ◌∙◌, sym, ap, List, ℕ, Some, None}
-use Rattle.std.specs.Prelude.{option_copied}
-use Rattle.krb_wire.specs.Atoms.{atoms}
-use Rattle.krb_wire.specs.NameOf.{realm_of}
+use Rattle.krb_wire.proofs.Cited.{◌≡◌, ◌∙◌, sym, ap, List, ℕ, Some, None, option_copied, atoms, realm_of}
 use Rattle.krb_wire.proofs.AtomLemmas.{named, realm_of-first, no_realm}
 use Rattle.krb_wire.proofs.parse.read_realm.Goals as goal
 

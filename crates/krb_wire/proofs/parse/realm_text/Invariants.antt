@@ -1,5 +1,4 @@
-use Rattle.std.proofs.Common.{◌≡◌, length}
-use Rattle.krb_wire.specs.Atoms.{atoms, after_at}
+use Rattle.krb_wire.proofs.Cited.{◌≡◌, length, atoms, after_at}
 use Rattle.krb_wire.proofs.parse.realm_text.Given as goal
 
 abbrev pub invariant-loop-atom : goal.invariant-loop-atom

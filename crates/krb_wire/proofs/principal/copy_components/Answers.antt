@@ -1,8 +1,6 @@
 use Rattle.std.specs.Prelude.{Vec}
 use Rattle.std.specs.Vec.{vec_items}
-use Rattle.std.proofs.Common.{◌≡◌, ℕ, List, [], ◌∷◌, ◌++◌, sym, ap, ◌∙◌, append_assoc}
-use Rattle.std.proofs.lemmas.List.{map-append}
-use Rattle.krb_wire.specs.Reading.{items_of}
+use Rattle.krb_wire.proofs.Cited.{◌≡◌, ℕ, List, [], ◌∷◌, ◌++◌, sym, ap, ◌∙◌, append_assoc, map-append, items_of}
 use Rattle.krb_wire.proofs.principal.copy_components.Goals as goal
 
 copied : {Z : Type 0} (old new : List (Vec ℕ Z)) (v : Vec ℕ Z) (first : List ℕ) (rest all whole : List (List ℕ)) → new ≡ old ++ v ∷ [] → v.items ≡ first → all ≡ first ∷ rest → items_of old ++ all ≡ whole → items_of new ++ rest ≡ whole

@@ -1,5 +1,4 @@
-use Rattle.std.proofs.Common.{◌≡◌, ◌++◌}
-use Rattle.krb_wire.specs.Reading.{items_of}
+use Rattle.krb_wire.proofs.Cited.{◌≡◌, ◌++◌, items_of}
 use Rattle.krb_wire.proofs.principal.copy_components.Given as goal
 
 abbrev pub invariant-loop-component : goal.invariant-loop-component

@@ -1,8 +1,4 @@
-use Rattle.std.proofs.Common.{◌+◌, ◌-◌, ◌≡◌, length, take, drop, subst, arith}
-use Rattle.std.specs.Prelude.{IsTrue}
-use Rattle.std.proofs.lemmas.List.{take_rest}
-use Rattle.std.specs.List.{All}
-use Rattle.krb_wire.specs.Quote.{IsPlain}
+use Rattle.krb_wire.proofs.Cited.{◌+◌, ◌-◌, ◌≡◌, length, take, drop, subst, arith, IsTrue, take_rest, All, IsPlain}
 use Rattle.krb_wire.proofs.QuoteLemmas.{plain_more, plain_whole}
 use Rattle.krb_wire.proofs.quote.is_plain_in_runs.Goals as goal
 

@@ -1,6 +1,4 @@
-use Rattle.std.proofs.Common.{◌-◌, length, take}
-use Rattle.std.specs.List.{All}
-use Rattle.krb_wire.specs.Quote.{IsPlain}
+use Rattle.krb_wire.proofs.Cited.{◌-◌, length, take, All, IsPlain}
 use Rattle.krb_wire.proofs.quote.is_plain_in_runs.Given as goal
 
 abbrev pub invariant-loop-at : goal.invariant-loop-at

@@ -1,8 +1,4 @@
-use Rattle.std.proofs.Common.{subst, arith}
-use Rattle.std.proofs.lemmas.Bool.{and_parts}
-use Rattle.std.proofs.lemmas.List.{take_all}
-use Rattle.std.specs.List.{All}
-use Rattle.krb_wire.specs.Quote.{IsPlain}
+use Rattle.krb_wire.proofs.Cited.{subst, arith, and_parts, take_all, All, IsPlain}
 use Rattle.krb_wire.proofs.QuoteLemmas.{plain_step}
 use Rattle.krb_wire.proofs.quote.is_plain_run.Goals as goal
 

@@ -1,7 +1,4 @@
-use Rattle.std.proofs.Common.{take}
-use Rattle.std.specs.Prelude.{IsTrue}
-use Rattle.std.specs.List.{All}
-use Rattle.krb_wire.specs.Quote.{IsPlain}
+use Rattle.krb_wire.proofs.Cited.{take, IsTrue, All, IsPlain}
 use Rattle.krb_wire.proofs.quote.is_plain_run.Given as goal
 
 abbrev pub invariant-loop-byte : goal.invariant-loop-byte

@@ -1,5 +1,4 @@
-use Rattle.std.proofs.Common.{List, ℕ, ◌++◌, ◌∙◌, get_or, refl, ap, arith}
-use Rattle.krb_wire.specs.Quote.{quoted_byte, quote}
+use Rattle.krb_wire.proofs.Cited.{List, ℕ, ◌++◌, ◌∙◌, get_or, refl, ap, arith, quoted_byte, quote}
 use Rattle.krb_wire.proofs.QuoteLemmas.{quote_step}
 use Rattle.krb_wire.proofs.quote.push_batch.Goals as goal
 

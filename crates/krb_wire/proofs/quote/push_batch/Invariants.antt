@@ -1,5 +1,4 @@
-use Rattle.std.proofs.Common.{◌≡◌, ◌≤◌, ◌+◌, take}
-use Rattle.krb_wire.specs.Quote.{quote}
+use Rattle.krb_wire.proofs.Cited.{◌≡◌, ◌≤◌, ◌+◌, take, quote}
 use Rattle.krb_wire.proofs.quote.push_batch.Given as goal
 
 abbrev pub invariant-loop-byte : goal.invariant-loop-byte

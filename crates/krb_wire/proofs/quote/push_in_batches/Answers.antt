@@ -1,6 +1,5 @@
-use Rattle.std.proofs.Common.{◌≡◌, length, arith}
+use Rattle.krb_wire.proofs.Cited.{◌≡◌, length, arith, err_from_is_err_and}
 use Rattle.std.proofs.lemmas.Bool.Decides.{nat_tests}
-use Rattle.std.proofs.lemmas.Result.{err_from_is_err_and}
 use Rattle.krb_wire.proofs.QuoteLemmas.{quote_batch, quote_none}
 use Rattle.krb_wire.proofs.TextLemmas.{appended_part, left_next, left_fails, left_none}
 use Rattle.krb_wire.proofs.quote.push_in_batches.Goals as goal

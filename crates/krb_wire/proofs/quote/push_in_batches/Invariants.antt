@@ -1,5 +1,4 @@
-use Rattle.std.proofs.Common.{length}
-use Rattle.krb_wire.specs.Quote.{quote}
+use Rattle.krb_wire.proofs.Cited.{length, quote}
 use Rattle.krb_wire.proofs.TextLemmas.{Left}
 use Rattle.krb_wire.proofs.quote.push_in_batches.Given as goal
 

@@ -1,5 +1,4 @@
-use Rattle.std.proofs.Common.{ap, sym, ◌∙◌}
-use Rattle.std.proofs.lemmas.Result.{err_from_is_err_and}
+use Rattle.krb_wire.proofs.Cited.{ap, sym, ◌∙◌, err_from_is_err_and}
 use Rattle.krb_wire.proofs.TextLemmas.{joined_from, joined_is, left_all, left_next, left_fails}
 use Rattle.krb_wire.proofs.text.push_components.Goals as goal
 

@@ -1,5 +1,4 @@
-use Rattle.std.proofs.Common.{arith}
-use Rattle.krb_wire.specs.Reading.{cc_principal_at}
+use Rattle.krb_wire.proofs.Cited.{arith, cc_principal_at}
 use Rattle.krb_wire.proofs.Places.{past, ends_at}
 use Rattle.krb_wire.proofs.Principals.{no_cc_principal, cc_principal_field}
 use Rattle.krb_wire.proofs.view.cc_principal_from.Goals as goal

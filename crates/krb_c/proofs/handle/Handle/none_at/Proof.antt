@@ -2,36 +2,10 @@
 use mathlib.Core.Path.{◌≡◌, refl, sym, subst}
 use mathlib.Core.Bool.{Bool, true, false, ◌&&◌}
 use mathlib.Core.List.{List, [], ◌∷◌, ◌++◌}
-use Rattle.std.specs.Prelude.{None}
-use lib.Dec.{T, lit<}
-use seplogic.Ra.Ura.{Ura}
-use mir.Syntax.{ty_ptr}
-use mir.Val.{Val, vstruct, vcons, vnil, has_ty, WT}
-use base.Logic.{SProp, ent, id⊢}
-use base.Fml.{ftrue}
-use prog.Memory.{Memory}
-use prog.Routine.{Routine}
-use prog.Wp.{WpFn, Tables}
-use types.Logic.{Logic}
-use contract.Monad.{Fun, fact}
-use contract.Running.{tables, tables_of}
-use sound.WpLaws.{WpFn-mono}
+use Rattle.krb_c.proofs.Cited.{None, T, lit<, Ura, ty_ptr, Val, vstruct, vcons, vnil, has_ty, WT, SProp, ent, id⊢, ftrue, Memory, Routine, WpFn, Tables, Logic, Fun, fact, tables, tables_of, WpFn-mono, agg, no_more, and_then, returns, enter, alloc_all, pass_all, free_all, look_at, get, sets, yes, Valss, owns, Ptr, RawPtr, block_ptr, null_ptr, ptr_val, type_at, plain, nothing, heard, layout, triple_of, entered, says, Stays, stay_dropped, walk_of, ends_at, Goes-dropped, walk_Meets, handle_tells}
 use types.Kit.{‵, raw, ◌⊛◌, ◌$◌, ◌∵◌, !, qed, move, drop, use1, join, split, fsplit, fjoin, fpack, feq_i, feq_l, suffices, done}
-use types.Part.{agg}
-use types.Run.{no_more, and_then, returns, enter}
-use types.ByLocal.{alloc_all, pass_all, free_all, look_at, get, sets}
-use denote.Exit.{yes}
-use denote.RattleType.{Valss, owns}
-use denote.RawPtr.{Ptr, RawPtr, block_ptr, null_ptr, ptr_val}
-use denote.Signature.{type_at, plain}
-use denote.Steps.{nothing, heard}
 use denote.Struct.Struct.{within}
 use denote.Struct.Owning.{shape, to}
-use denote.Param.{layout}
-use denote.Triple.Spec.{triple_of}
-use denote.Triple.Table.{entered}
-use denote.Triple.Walked.{says, Stays, stay_dropped, walk_of, ends_at, Goes-dropped, walk_Meets}
-use Rattle.std.proofs.alloc.Calls.{handle_tells}
 use Rattle.std_heap.specs.contracts.Global as Heap
 use Rattle.krb_c.proofs.AsBox.{E}
 use Rattle.krb_c.specs.contracts.handle.Handle as Handle

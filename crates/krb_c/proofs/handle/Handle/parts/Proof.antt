@@ -1,42 +1,15 @@
 -- `parts` tests the pointer: it is null if the handle is empty, else that of a block of the heap, which may be compared with null.
 use mathlib.Core.Path.{◌≡◌, refl, sym, subst}
 use mathlib.Core.List.{List, [], ◌∷◌, ◌++◌}
-use lib.Dec.{T, lit<}
-use Rattle.std.specs.Prelude.{Option, Some, None}
+use Rattle.krb_c.proofs.Cited.{T, lit<, Option, Some, None, Ura, Val, vnull, vstruct, vcons, vnil, of_list, has_ty, WT, SProp, ent, emp, id⊢, guard_i, ftrue, fsep, Memory, Routine, WpFn, Tables, Logic, sem, Fun, fact_use, tables, tables_of, WpFn-mono, whole, sub, agg, stop, fld, lit, bin, no_more, and_then, of_opd, first, branches, exec, returns, enter, alloc_all, pass_all, free_all, look_at, get, get_in, sets, sets_last, env, yes, RattleType, layout, type_at, Ptr, block_ptr, ptr_val, Testable, tests_null, nothing, triple_of, entered, says, Stays, stay_dropped, walk_of, ends_at, Goes-dropped, walk_Meets, token, handle_tells, D, B, τ, word, box_typed, box_out, box_in}
 use Rattle.std.specs.Global.{Global}
-use seplogic.Ra.Ura.{Ura}
 use mir.Raw.{raw as bare}
-use mir.Val.{Val, vnull, vstruct, vcons, vnil, of_list, has_ty, WT}
-use base.Logic.{SProp, ent, emp, id⊢, guard_i}
-use base.Fml.{ftrue, fsep}
-use prog.Memory.{Memory}
-use prog.Routine.{Routine}
-use prog.Wp.{WpFn, Tables}
-use types.Logic.{Logic, sem}
-use contract.Monad.{Fun, fact_use}
-use contract.Running.{tables, tables_of}
-use sound.WpLaws.{WpFn-mono}
 use types.Kit.{Item, ‵, raw, given, learn, at_ret, ◌⊛◌, ◌$◌, ◌∵◌, !, qed, by, move, drop, use0, use1, join, split, fsplit, fjoin, fpick, feq_l, suffices, done}
-use types.Part.{whole, sub, agg}
 use types.Match.{live}
-use types.Run.{stop, fld, lit, bin, no_more, and_then, of_opd, first, branches, exec, returns, enter}
-use types.ByLocal.{alloc_all, pass_all, free_all, look_at, get, get_in, sets, sets_last, env}
-use denote.Exit.{yes}
-use denote.RattleType.{RattleType}
-use denote.Param.{layout}
-use denote.Signature.{type_at}
-use denote.RawPtr.{Ptr, block_ptr, ptr_val, Testable, tests_null}
-use denote.Steps.{nothing}
-use denote.Triple.Spec.{triple_of}
-use denote.Triple.Table.{entered}
-use denote.Triple.Walked.{says, Stays, stay_dropped, walk_of, ends_at, Goes-dropped, walk_Meets}
 use Rattle.std.proofs.VecSteps.Shapes.{after}
 use Rattle.std.proofs.option.Made.{Some-of, none_of}
 use Rattle.std.proofs.GlobalToken.{dealloc_token-Testable}
-use Rattle.std.proofs.alloc.Calls.{token, handle_tells}
 use Rattle.std_alloc.proofs.ResultValues.{and_tt}
-use Rattle.std_alloc.proofs.BoxSteps.Form.{D, B, τ, word, box_typed}
-use Rattle.std_alloc.proofs.BoxSteps.Steps.{box_out, box_in}
 use Rattle.krb_c.proofs.AsBox.{E, FromParts, FromHandle as From}
 use Rattle.krb_c.specs.contracts.held.Held.{the_row}
 use Rattle.krb_c.specs.contracts.handle.Handle.parts as F

@@ -1,10 +1,4 @@
-use Rattle.std.proofs.Common.{◌≡◌, ◌+◌, ◌≤◌, ℕ, length, Ok, refl, sym, ap, ◌∙◌, arith}
-use Rattle.krb_wire.proofs.Fields.{IsBytes}
-use Rattle.krb_ccache.specs.declared.version.Version.TheVariants.{V4}
-use Rattle.krb_ccache.specs.Credential.{credential}
-use Rattle.krb_ccache.specs.Store.{CacheState, image_of}
-use Rattle.krb_ccache.specs.Changes.{with_last, is_refused}
-use Rattle.krb_ccache.specs.Open.{InMemory, cache_of}
+use Rattle.krb_ccache.proofs.Cited.{◌≡◌, ◌+◌, ◌≤◌, ℕ, length, Ok, refl, sym, ap, ◌∙◌, arith, IsBytes, V4, credential, CacheState, image_of, with_last, is_refused, InMemory, cache_of}
 use Rattle.krb_ccache.proofs.ImageLemmas.{image_parts, image_end}
 use Rattle.krb_ccache.proofs.LastCredential.{image_appendable, append_full, append_fits}
 use Rattle.krb_ccache.proofs.ccache.Ccache.append.Goals as goal

@@ -1,14 +1,4 @@
-use Rattle.std.proofs.Common.{◌≡◌, ◌+◌, ◌<◌, ◌≤◌, false, length, ap, arith}
-use Rattle.std.specs.Prelude.{is_some}
-use Rattle.krb_wire.specs.Spelling.{Parts}
-use Rattle.krb_wire.proofs.Fields.{IsBytes}
-use Rattle.krb_walk.specs.Store.{fault_of}
-use Rattle.krb_ccache.specs.declared.version.Version.TheVariants.{V4}
-use Rattle.krb_ccache.specs.Credential.{credential}
-use Rattle.krb_ccache.specs.Store.{store_of}
-use Rattle.krb_ccache.specs.Changes.{is_read_only}
-use Rattle.krb_ccache.specs.SetConfig.{entry_of}
-use Rattle.krb_ccache.specs.Open.{InMemory, cache_of}
+use Rattle.krb_ccache.proofs.Cited.{◌≡◌, ◌+◌, ◌<◌, ◌≤◌, false, length, ap, arith, is_some, Parts, IsBytes, fault_of, V4, credential, store_of, is_read_only, entry_of, InMemory, cache_of}
 use Rattle.krb_ccache.proofs.ImageLemmas.{image_end}
 use Rattle.krb_ccache.proofs.LastCredential.{image_appendable, append_full, append_fits}
 use Rattle.krb_ccache.proofs.StoreChanges.{end_by, version_by}

@@ -1,6 +1,4 @@
-use Rattle.std.proofs.Common.{◌≡◌}
-use Rattle.std.specs.Prelude.{option_copied}
-use Rattle.krb_ccache.specs.Config.{query_of, value_among, config_of}
+use Rattle.krb_ccache.proofs.Cited.{◌≡◌, option_copied, query_of, value_among, config_of}
 use Rattle.krb_ccache.proofs.ccache.Ccache.config.Given as goal
 
 -- a look-up in the rest gives what a look-up in all gives

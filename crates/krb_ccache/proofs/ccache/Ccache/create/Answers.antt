@@ -1,8 +1,4 @@
-use Rattle.std.proofs.Common.{ℕ, ◌+◌, ◌≤◌, Ok, sym, ap, ◌∙◌, arith, length}
-use Rattle.krb_wire.proofs.Fields.{IsBytes}
-use Rattle.krb_ccache.specs.Header.{offset_in}
-use Rattle.krb_ccache.specs.Store.{CacheState}
-use Rattle.krb_ccache.specs.Changes.{create_result, new_preamble}
+use Rattle.krb_ccache.proofs.Cited.{ℕ, ◌+◌, ◌≤◌, Ok, sym, ap, ◌∙◌, arith, length, IsBytes, offset_in, CacheState, create_result, new_preamble}
 use Rattle.krb_ccache.proofs.PreambleLemmas.{empty_held, create_fits}
 use Rattle.krb_ccache.proofs.ccache.Ccache.create.Goals as goal
 

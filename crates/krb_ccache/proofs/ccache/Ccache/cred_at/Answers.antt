@@ -1,5 +1,4 @@
-use Rattle.std.proofs.Common.{rules, ◌≡◌}
-use Rattle.krb_ccache.specs.Store.{credential_at_place}
+use Rattle.krb_ccache.proofs.Cited.{rules, ◌≡◌, credential_at_place}
 use Rattle.krb_ccache.proofs.Splits.{live_none, live_some}
 use Rattle.krb_ccache.proofs.ccache.Ccache.cred_at.Goals as goal
 

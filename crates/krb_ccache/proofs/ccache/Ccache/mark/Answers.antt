@@ -1,9 +1,4 @@
-use Rattle.std.proofs.Common.{◌≡◌, ℕ, List, ◌++◌, length, take, drop, ◌∙◌, sym, ap, subst}
-use Rattle.std.specs.Prelude.{IsSome}
-use Rattle.std.proofs.lemmas.List.{take_at}
-use Rattle.krb_walk.specs.Store.{IsPlace}
-use Rattle.krb_ccache.specs.Store.{CacheState, store_of, credential_at_place}
-use Rattle.krb_ccache.specs.Open.{InMemory, IsImage, cache_of}
+use Rattle.krb_ccache.proofs.Cited.{◌≡◌, ℕ, List, ◌++◌, length, take, drop, ◌∙◌, sym, ap, subst, IsSome, take_at, IsPlace, CacheState, store_of, credential_at_place, InMemory, IsImage, cache_of}
 use Rattle.krb_ccache.proofs.StoreChanges.{mark_place}
 use Rattle.krb_ccache.proofs.ccache.Ccache.mark.Goals as goal
 

@@ -1,12 +1,4 @@
-use Rattle.std.proofs.Common.{◌≡◌, length, false, ap, ◌∙◌, arith}
-use Rattle.std.specs.Prelude.{is_some}
-use Rattle.krb_wire.proofs.Fields.{IsBytes}
-use Rattle.krb_walk.specs.Store.{fault_of}
-use Rattle.krb_ccache.specs.declared.version.Version.TheVariants.{V4}
-use Rattle.krb_ccache.specs.Header.{header}
-use Rattle.krb_ccache.specs.Store.{store_of}
-use Rattle.krb_ccache.specs.Changes.{new_header}
-use Rattle.krb_ccache.specs.Open.{InMemory}
+use Rattle.krb_ccache.proofs.Cited.{◌≡◌, length, false, ap, ◌∙◌, arith, is_some, IsBytes, fault_of, V4, header, store_of, new_header, InMemory}
 use Rattle.krb_ccache.proofs.Rewrites.{rewrite_fits, rewrites_store, new_image_held}
 use Rattle.krb_ccache.proofs.ccache.Ccache.new_cache.Goals as goal
 

@@ -1,7 +1,4 @@
-use Rattle.std.proofs.Common.{sym, ap, subst, ◌∙◌}
-use Rattle.krb_wire.specs.Spelling.{FitsCc}
-use Rattle.krb_wire.proofs.Fields.{IsBytes}
-use Rattle.krb_ccache.specs.Open.{InMemory}
+use Rattle.krb_ccache.proofs.Cited.{sym, ap, subst, ◌∙◌, FitsCc, IsBytes, InMemory}
 use Rattle.krb_ccache.proofs.Rewrites.{readable_by, is_new_image, ok_same}
 use Rattle.krb_ccache.proofs.ccache.Ccache.new_image.Goals as goal
 

@@ -1,5 +1,4 @@
-use Rattle.std.proofs.Common.{ap, arith}
-use Rattle.krb_ccache.specs.Open.{InMemory}
+use Rattle.krb_ccache.proofs.Cited.{ap, arith, InMemory}
 use Rattle.krb_ccache.proofs.Rewrites.{is_new_image}
 use Rattle.krb_ccache.proofs.ccache.Ccache.new_lens.Goals as goal
 

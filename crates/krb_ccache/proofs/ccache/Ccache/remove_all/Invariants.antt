@@ -1,5 +1,4 @@
-use Rattle.std.proofs.Common.{◌≡◌, drop}
-use Rattle.krb_ccache.specs.Changes.{without}
+use Rattle.krb_ccache.proofs.Cited.{◌≡◌, drop, without}
 use Rattle.krb_ccache.proofs.ccache.Ccache.remove_all.Given as goal
 
 -- the removals still to come leave what all of them leave

@@ -1,8 +1,5 @@
-use Rattle.std.proofs.Common.{◌≡◌, false, sym, subst, ◌∙◌, ap}
-use Rattle.std.specs.Prelude.{is_some}
+use Rattle.krb_ccache.proofs.Cited.{◌≡◌, false, sym, subst, ◌∙◌, ap, is_some, live_bytes, fault_of, CacheState, store_of}
 use Rattle.krb_walk.specs.Changes.{Cuts}
-use Rattle.krb_walk.specs.Store.{live_bytes, fault_of}
-use Rattle.krb_ccache.specs.Store.{CacheState, store_of}
 use Rattle.krb_ccache.proofs.StoreChanges.{mark_cuts, mark_gone, live_there}
 use Rattle.krb_ccache.proofs.ccache.Ccache.remove_at.Goals as goal
 

@@ -1,10 +1,5 @@
-use Rattle.std.proofs.Common.{◌∙◌, map, sym, ap, subst}
-use Rattle.std.specs.List.{AllByRecursion}
-use Rattle.krb_wire.proofs.Fields.{IsBytes}
-use Rattle.krb_walk.specs.Store.{Store, IsPlace}
+use Rattle.krb_ccache.proofs.Cited.{◌∙◌, map, sym, ap, subst, AllByRecursion, IsBytes, Store, IsPlace, CacheState, store_of, InMemory}
 use Rattle.krb_walk.specs.Ranks.{carry, Rewrites}
-use Rattle.krb_ccache.specs.Store.{CacheState, store_of}
-use Rattle.krb_ccache.specs.Open.{InMemory}
 use Rattle.krb_ccache.proofs.Rewrites.{old_store}
 use Rattle.krb_ccache.proofs.ccache.Ccache.rewrite.Goals as goal
 

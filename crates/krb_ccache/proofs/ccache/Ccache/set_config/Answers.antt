@@ -1,8 +1,4 @@
-use Rattle.std.proofs.Common.{sym, ap, subst, ◌∙◌}
-use Rattle.std.specs.Prelude.{option_copied}
-use Rattle.krb_ccache.specs.Store.{CacheState, credential_at_place}
-use Rattle.krb_ccache.specs.Changes.{put_result, without}
-use Rattle.krb_ccache.specs.SetConfig.{HoldsConfig}
+use Rattle.krb_ccache.proofs.Cited.{sym, ap, subst, ◌∙◌, option_copied, CacheState, credential_at_place, put_result, without, HoldsConfig}
 use Rattle.krb_ccache.proofs.ConfigValues.{is_set}
 use Rattle.krb_ccache.proofs.ccache.Ccache.set_config.Goals as goal
 

@@ -1,6 +1,4 @@
-use Rattle.std.proofs.Common.{◌≡◌, ◌++◌, map, filter}
-use Rattle.krb_ccache.specs.Config.{is_match, query_of}
-use Rattle.krb_ccache.specs.SetConfig.{match_places}
+use Rattle.krb_ccache.proofs.Cited.{◌≡◌, ◌++◌, map, filter, is_match, query_of, match_places}
 use Rattle.krb_ccache.proofs.ccache.Ccache.setting_places.Given as goal
 
 -- the places so far, and those of the matches still to come

@@ -1,9 +1,4 @@
-use Rattle.std.proofs.Common.{◌≡◌, false, refl, sym, ap, ◌∙◌}
-use Rattle.std.specs.Prelude.{is_some}
-use Rattle.krb_walk.specs.Store.{fault_of}
-use Rattle.krb_ccache.specs.Store.{store_of}
-use Rattle.krb_ccache.specs.Credential.{is_marked}
-use Rattle.krb_ccache.specs.Changes.{is_read_only, is_refused, append_result, put_result}
+use Rattle.krb_ccache.proofs.Cited.{◌≡◌, false, refl, sym, ap, ◌∙◌, is_some, fault_of, store_of, is_marked, is_read_only, is_refused, append_result, put_result}
 use Rattle.krb_ccache.proofs.StoreChanges.{last_puts}
 use Rattle.krb_ccache.proofs.LastCredential.{append_puts, put_there}
 use Rattle.krb_ccache.proofs.ccache.Ccache.store.Goals as goal

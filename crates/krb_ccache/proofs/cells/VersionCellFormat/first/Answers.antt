@@ -1,7 +1,4 @@
-use Rattle.std.proofs.Common.{◌∙◌, List, ℕ, ap, map, arith}
-use Rattle.krb_cells.specs.Contents.{Contents}
-use Rattle.krb_ccache.specs.Credential.{CredParts}
-use Rattle.krb_ccache.specs.Store.{store_cell, live_by}
+use Rattle.krb_ccache.proofs.Cited.{◌∙◌, List, ℕ, ap, map, arith, Contents, CredParts, store_cell, live_by}
 use Rattle.krb_ccache.proofs.CellLemmas.{read_one, read_none, cell_first}
 use Rattle.krb_ccache.proofs.cells.VersionCellFormat.first.Goals as goal
 

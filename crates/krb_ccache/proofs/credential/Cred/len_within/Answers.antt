@@ -1,5 +1,4 @@
-use Rattle.std.proofs.Common.{refl, ap, ◌∙◌}
-use Rattle.krb_ccache.specs.Credential.{owned_list}
+use Rattle.krb_ccache.proofs.Cited.{refl, ap, ◌∙◌, owned_list}
 use Rattle.krb_ccache.proofs.SpellingLemmas.{none_if, client_too_long, server_too_long, lens_within, lens_too_long, LensWithin, addresses_too_long, authdata_too_long, room_within, parts_within, fits_by}
 use Rattle.krb_ccache.proofs.credential.Cred.len_within.Goals as goal
 

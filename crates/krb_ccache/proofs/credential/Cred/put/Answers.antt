@@ -1,10 +1,4 @@
-use Rattle.std.proofs.Common.{◌++◌, refl, sym, ap, subst, ◌∙◌}
-use Rattle.krb_wire.specs.Pen.{Puts}
-use Rattle.krb_wire.specs.Reading.{principal_parts}
-use Rattle.krb_wire.specs.Spelling.{cc_name_fits, cc_principal}
-use Rattle.krb_wire.proofs.PenLemmas.{puts_then}
-use Rattle.krb_ccache.specs.declared.version.Version.TheVariants.{V4}
-use Rattle.krb_ccache.specs.Credential.{CredParts, credential, middle_text, lists_text}
+use Rattle.krb_ccache.proofs.Cited.{◌++◌, refl, sym, ap, subst, ◌∙◌, Puts, principal_parts, cc_name_fits, cc_principal, puts_then, V4, CredParts, credential, middle_text, lists_text}
 use Rattle.krb_ccache.proofs.Pens.{first_room, rest_room}
 use Rattle.krb_ccache.proofs.SpellingLemmas.{four_is, fits_spelled}
 use Rattle.krb_ccache.proofs.credential.Cred.put.Goals as goal

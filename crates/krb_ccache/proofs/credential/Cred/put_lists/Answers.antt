@@ -1,9 +1,4 @@
-use Rattle.std.proofs.Common.{◌++◌, refl, sym, ap, subst, ◌∙◌}
-use Rattle.krb_wire.specs.declared.format.Order.TheVariants.{Big}
-use Rattle.krb_wire.specs.Spelling.{data32, IsLong}
-use Rattle.krb_wire.specs.Pen.{Puts}
-use Rattle.krb_wire.proofs.PenLemmas.{puts_then}
-use Rattle.krb_ccache.specs.Credential.{CredParts, FitsTypedList, typed_list, lists_text, owned_list}
+use Rattle.krb_ccache.proofs.Cited.{◌++◌, refl, sym, ap, subst, ◌∙◌, Big, data32, IsLong, Puts, puts_then, CredParts, FitsTypedList, typed_list, lists_text, owned_list}
 use Rattle.krb_ccache.proofs.Pens.{first_room, rest_room}
 use Rattle.krb_ccache.proofs.SpellingLemmas.{lists_is}
 use Rattle.krb_ccache.proofs.credential.Cred.put_lists.Goals as goal

@@ -1,6 +1,4 @@
-use Rattle.std.proofs.Common.{subst}
-use Rattle.krb_wire.specs.Pen.{Puts}
-use Rattle.krb_wire.proofs.PenLemmas.{puts_then}
+use Rattle.krb_ccache.proofs.Cited.{subst, Puts, puts_then}
 use Rattle.krb_ccache.proofs.SpellingLemmas.{middle_is}
 use Rattle.krb_ccache.proofs.credential.Cred.put_middle.Goals as goal
 

@@ -1,9 +1,4 @@
-use Rattle.std.proofs.Common.{refl}
-use Rattle.std.specs.Int.{w16}
-use Rattle.krb_wire.specs.declared.format.Order.TheVariants.{Big}
-use Rattle.krb_wire.specs.Spelling.{digits, data32}
-use Rattle.krb_wire.proofs.PenLemmas.{puts_then}
-use Rattle.krb_ccache.specs.Credential.{typed_data}
+use Rattle.krb_ccache.proofs.Cited.{refl, w16, Big, digits, data32, puts_then, typed_data}
 use Rattle.krb_ccache.proofs.Pens.{first_room, rest_room}
 use Rattle.krb_ccache.proofs.credential.spelling.put_item.Goals as goal
 

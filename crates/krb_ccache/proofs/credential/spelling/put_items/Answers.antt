@@ -1,10 +1,4 @@
-use Rattle.std.proofs.Common.{◌≡◌, ◌+◌, ℕ, List, ◌∷◌, drop, sym, ap, subst, ◌∙◌}
-use Rattle.std.specs.List.{flat_map, AllByRecursion}
-use Rattle.std.proofs.lemmas.List.{at_drop_more}
-use Rattle.std.proofs.lemmas.List.Concat.{flat_map-cons}
-use Rattle.krb_wire.specs.Pen.{HasRoom, Puts}
-use Rattle.krb_wire.proofs.PenLemmas.{left_next, left_room}
-use Rattle.krb_ccache.specs.Credential.{TypedData, typed_data, FitsTypedData, owned_typed, owned_list}
+use Rattle.krb_ccache.proofs.Cited.{◌≡◌, ◌+◌, ℕ, List, ◌∷◌, drop, sym, ap, subst, ◌∙◌, flat_map, AllByRecursion, at_drop_more, flat_map-cons, HasRoom, Puts, left_next, left_room, TypedData, typed_data, FitsTypedData, owned_typed, owned_list}
 use Rattle.krb_ccache.proofs.credential.spelling.put_items.Goals as goal
 
 pub put_item-requires-clause-room : goal.put_item-requires-clause-room

@@ -1,7 +1,4 @@
-use Rattle.std.proofs.Common.{drop}
-use Rattle.std.specs.List.{flat_map, AllByRecursion}
-use Rattle.krb_wire.proofs.PenLemmas.{Left}
-use Rattle.krb_ccache.specs.Credential.{typed_data, FitsTypedData, owned_list}
+use Rattle.krb_ccache.proofs.Cited.{drop, flat_map, AllByRecursion, Left, typed_data, FitsTypedData, owned_list}
 use Rattle.krb_ccache.proofs.credential.spelling.put_items.Given as goal
 
 -- what is written and the items still to come are all the items

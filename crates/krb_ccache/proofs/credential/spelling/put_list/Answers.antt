@@ -1,8 +1,4 @@
-use Rattle.std.proofs.Common.{ℕ, sym, subst}
-use Rattle.std.proofs.lemmas.List.{length-map}
-use Rattle.krb_wire.specs.Pen.{Puts}
-use Rattle.krb_wire.proofs.PenLemmas.{puts_then}
-use Rattle.krb_ccache.specs.Credential.{number32, owned_typed}
+use Rattle.krb_ccache.proofs.Cited.{ℕ, sym, subst, length-map, Puts, puts_then, number32, owned_typed}
 use Rattle.krb_ccache.proofs.credential.spelling.put_list.Goals as goal
 
 pub returns : goal.returns

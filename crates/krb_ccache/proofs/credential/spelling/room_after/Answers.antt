@@ -1,7 +1,4 @@
-use Rattle.std.proofs.Common.{◌≡◌, ◌+◌, ◌∷◌, drop, sym, ap, subst, ◌∙◌, arith}
-use Rattle.std.specs.List.{AllByRecursion}
-use Rattle.std.proofs.lemmas.List.{at_drop_more}
-use Rattle.krb_ccache.specs.Credential.{TypedData, FitsTypedData, owned_typed, owned_list}
+use Rattle.krb_ccache.proofs.Cited.{◌≡◌, ◌+◌, ◌∷◌, drop, sym, ap, subst, ◌∙◌, arith, AllByRecursion, at_drop_more, TypedData, FitsTypedData, owned_typed, owned_list}
 use Rattle.krb_ccache.proofs.SpellingLemmas.{none_if, items_len}
 use Rattle.krb_ccache.proofs.credential.spelling.room_after.Goals as goal
 

@@ -1,6 +1,4 @@
-use Rattle.std.proofs.Common.{◌≡◌, ◌+◌, ◌≤◌, length, drop}
-use Rattle.std.specs.List.{flat_map, AllByRecursion}
-use Rattle.krb_ccache.specs.Credential.{typed_data, FitsTypedData, owned_list}
+use Rattle.krb_ccache.proofs.Cited.{◌≡◌, ◌+◌, ◌≤◌, length, drop, flat_map, AllByRecursion, typed_data, FitsTypedData, owned_list}
 use Rattle.krb_ccache.proofs.credential.spelling.room_after.Given as goal
 
 -- the room left by the items so far, and the items still to come

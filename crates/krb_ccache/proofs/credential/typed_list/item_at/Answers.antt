@@ -1,5 +1,4 @@
-use Rattle.krb_wire.proofs.ReadLists.{past_held, held_has_end, held_has_one, held}
-use Rattle.krb_ccache.specs.Credential.{typed_data_at}
+use Rattle.krb_ccache.proofs.Cited.{past_held, held_has_end, held_has_one, held, typed_data_at}
 use Rattle.krb_ccache.proofs.credential.typed_list.item_at.Goals as goal
 
 pub returns-then-i-count : goal.returns-then-i-count

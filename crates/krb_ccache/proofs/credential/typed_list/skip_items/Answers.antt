@@ -1,6 +1,4 @@
-use Rattle.krb_wire.specs.Reading.{list_end}
-use Rattle.krb_wire.proofs.ReadLists.{goes_on, ends, is_done}
-use Rattle.krb_ccache.specs.Credential.{typed_data_at}
+use Rattle.krb_ccache.proofs.Cited.{list_end, goes_on, ends, is_done, typed_data_at}
 use Rattle.krb_ccache.proofs.credential.typed_list.skip_items.Goals as goal
 
 pub returns-in_err-after : goal.returns-in_err-after

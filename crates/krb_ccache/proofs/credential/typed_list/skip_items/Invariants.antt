@@ -1,6 +1,4 @@
-use Rattle.std.proofs.Common.{◌≡◌, ◌-◌}
-use Rattle.krb_wire.specs.Reading.{list_end}
-use Rattle.krb_ccache.specs.Credential.{typed_data_at}
+use Rattle.krb_ccache.proofs.Cited.{◌≡◌, ◌-◌, list_end, typed_data_at}
 use Rattle.krb_ccache.proofs.credential.typed_list.skip_items.Given as goal
 
 abbrev pub invariant-loop : goal.invariant-loop

@@ -1,6 +1,4 @@
-use Rattle.std.proofs.Common.{◌<◌, refl, arith}
-use Rattle.krb_wire.proofs.ReadLists.{first_held, none_held}
-use Rattle.krb_ccache.specs.Credential.{typed_data_at}
+use Rattle.krb_ccache.proofs.Cited.{◌<◌, refl, arith, first_held, none_held, typed_data_at}
 use Rattle.krb_ccache.proofs.credential.typed_list.split_first.Goals as goal
 
 pub returns-then-count-eq0-clause-first : goal.returns-then-count-eq0-clause-first

@@ -1,5 +1,4 @@
-use Rattle.std.proofs.Common.{◌≡◌}
-use Rattle.krb_ccache.specs.Credentials.{live_at}
+use Rattle.krb_ccache.proofs.Cited.{◌≡◌, live_at}
 use Rattle.krb_ccache.proofs.credentials.AllCredentials.find.Given as goal
 
 -- a look-up in the rest gives what a look-up in all gives

@@ -1,5 +1,4 @@
-use Rattle.std.proofs.Common.{◌≡◌, length}
-use Rattle.krb_ccache.specs.Credentials.{live_from}
+use Rattle.krb_ccache.proofs.Cited.{◌≡◌, length, live_from}
 use Rattle.krb_ccache.proofs.credentials.AllCredentials.next_live.Given as goal
 
 -- no live credential was passed

@@ -1,8 +1,4 @@
-use Rattle.std.proofs.Common.{List, refl, sym, ap, ◌∙◌, arith}
-use Rattle.krb_ccache.specs.Credential.{CredParts}
-use Rattle.krb_ccache.specs.Credentials.{CredentialsFrom}
-use Rattle.krb_cells.specs.Contents.{Contents}
-use Rattle.std.proofs.Common.{ℕ}
+use Rattle.krb_ccache.proofs.Cited.{List, refl, sym, ap, ◌∙◌, arith, CredParts, CredentialsFrom, Contents, ℕ}
 use Rattle.krb_ccache.proofs.CellLemmas.{read_one, read_none, begins, fewer_left}
 use Rattle.krb_ccache.proofs.credentials.AllCredentialsIterator.next.Goals as goal
 

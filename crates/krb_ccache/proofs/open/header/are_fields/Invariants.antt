@@ -1,7 +1,4 @@
-use Rattle.std.proofs.Common.{◌≡◌, length}
-use Rattle.std.specs.Prelude.{is_some}
-use Rattle.krb_ccache.specs.Header.{fields_in}
-use Rattle.krb_ccache.specs.Laws.{AreBytes}
+use Rattle.krb_ccache.proofs.Cited.{◌≡◌, length, is_some, fields_in, AreBytes}
 use Rattle.krb_ccache.proofs.open.header.are_fields.Given as goal
 
 -- fields fill the rest iff they fill all

@@ -1,5 +1,4 @@
-use Rattle.std.proofs.Common.{◌≡◌, length}
-use Rattle.krb_ccache.specs.Laws.{AreBytes}
+use Rattle.krb_ccache.proofs.Cited.{◌≡◌, length, AreBytes}
 use Rattle.krb_ccache.proofs.HeaderFields.{offset_among}
 use Rattle.krb_ccache.proofs.open.header.first_offset.Given as goal
 

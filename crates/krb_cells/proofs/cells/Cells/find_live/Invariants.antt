@@ -1,5 +1,4 @@
-use Rattle.std.proofs.Common.{◌≡◌}
-use Rattle.krb_walk.specs.Store.{live_bytes}
+use Rattle.krb_cells.proofs.Cited.{◌≡◌, live_bytes}
 use Rattle.krb_cells.proofs.cells.Cells.find_live.Given as goal
 
 -- the look-up in the rest gives the same as in all cells

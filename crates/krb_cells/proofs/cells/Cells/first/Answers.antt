@@ -1,5 +1,4 @@
-use Rattle.std.proofs.Common.{ap}
-use Rattle.krb_walk.specs.Store.{Store}
+use Rattle.krb_cells.proofs.Cited.{ap, Store}
 use Rattle.krb_cells.proofs.Cuts.{sound}
 use Rattle.krb_cells.proofs.cells.Cells.first.Goals as goal
 

@@ -1,5 +1,4 @@
-use Rattle.std.proofs.Common.{◌≡◌, length}
-use Rattle.krb_walk.specs.Store.{is_place}
+use Rattle.krb_cells.proofs.Cited.{◌≡◌, length, is_place}
 use Rattle.krb_cells.proofs.cells.Cells.is_place.Given as goal
 
 -- the test on the rest gives the same as on all cells

@@ -1,5 +1,4 @@
-use Rattle.std.proofs.Common.{◌≡◌, ◌≤◌, length}
-use Rattle.krb_walk.specs.Store.{stop_at}
+use Rattle.krb_cells.proofs.Cited.{◌≡◌, ◌≤◌, length, stop_at}
 use Rattle.krb_cells.proofs.cells.Cells.stop_at.Given as goal
 
 -- the stop of the rest is that of all cells, and the rest begins at or after the place

@@ -1,8 +1,4 @@
-use Rattle.std.proofs.Common.{codes, ◌∷◌, []}
-use Rattle.std.proofs.lemmas.Result.{on_ok_weaker}
-use Rattle.json.specs.Token.{begin_object, key, string}
-use Rattle.krb_json.specs.Members.{number_of, file_members}
-use Rattle.krb_json.specs.Pieces.{member_tokens}
+use Rattle.krb_json.proofs.Cited.{codes, ◌∷◌, [], on_ok_weaker, begin_object, key, string, number_of, file_members, member_tokens}
 use Rattle.krb_json.proofs.Chains.{chain}
 use Rattle.krb_json.proofs.piece.Piece.begin_file.Goals as goal
 

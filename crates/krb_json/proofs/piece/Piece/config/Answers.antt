@@ -1,6 +1,4 @@
-use Rattle.std.proofs.Common.{rules}
-use Rattle.std.proofs.lemmas.Result.{on_ok_weaker}
-use Rattle.krb_ccache.specs.Config.{config_parts}
+use Rattle.krb_json.proofs.Cited.{rules, on_ok_weaker, config_parts}
 use Rattle.krb_json.proofs.ReadBack.{config_is_plain}
 use Rattle.krb_json.proofs.piece.Piece.config.Goals as goal
 

@@ -1,7 +1,4 @@
-use Rattle.std.proofs.Common.{codes, ◌<◌, ◌^◌, sym, rules}
-use Rattle.std.proofs.lemmas.Result.{on_ok_weaker}
-use Rattle.krb_json.specs.Members.{etype_members, number_of}
-use Rattle.krb_json.specs.Keytab.{owner_members, key_members, entry_value}
+use Rattle.krb_json.proofs.Cited.{codes, ◌<◌, ◌^◌, sym, rules, on_ok_weaker, etype_members, number_of, owner_members, key_members, entry_value}
 use Rattle.krb_json.proofs.Chains.{written_by_four}
 use Rattle.krb_json.proofs.ReadBack.{entry_is_plain}
 use Rattle.krb_json.proofs.piece.Piece.entry.Goals as goal

@@ -1,7 +1,5 @@
-use Rattle.std.proofs.Common.{sym, ap, ◌∙◌, option_copied}
-use Rattle.std.proofs.lemmas.Result.{on_ok_weaker}
+use Rattle.krb_json.proofs.Cited.{sym, ap, ◌∙◌, option_copied, on_ok_weaker, etype_members}
 use Rattle.krb_text.specs.Etype.{etype_name_of}
-use Rattle.krb_json.specs.Members.{etype_members}
 use Rattle.krb_json.proofs.Chains.{named_etype, unnamed_etype}
 use Rattle.krb_json.proofs.piece.Piece.etype.Goals as goal
 

@@ -1,10 +1,5 @@
-use Rattle.std.proofs.Common.{codes, ◌∷◌, []}
-use Rattle.std.proofs.lemmas.Result.{on_ok_weaker}
-use Rattle.json.specs.Token.{key, string}
+use Rattle.krb_json.proofs.Cited.{codes, ◌∷◌, [], on_ok_weaker, key, string, number_of, flag_members, member_tokens}
 use Rattle.krb_text.specs.Flags.{flag_letters_of}
-use Rattle.krb_json.specs.Members.{number_of}
-use Rattle.krb_json.specs.Cache.{flag_members}
-use Rattle.krb_json.specs.Pieces.{member_tokens}
 use Rattle.krb_json.proofs.Chains.{chain}
 use Rattle.krb_json.proofs.piece.Piece.flags.Goals as goal
 

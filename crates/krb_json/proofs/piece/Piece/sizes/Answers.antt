@@ -1,9 +1,4 @@
-use Rattle.std.proofs.Common.{codes, ◌∷◌, [], ◌==◌, not, length}
-use Rattle.std.proofs.lemmas.Result.{on_ok_weaker}
-use Rattle.json.specs.Token.{key, boolean}
-use Rattle.krb_json.specs.Members.{number_of}
-use Rattle.krb_json.specs.Cache.{size_members}
-use Rattle.krb_json.specs.Pieces.{member_tokens}
+use Rattle.krb_json.proofs.Cited.{codes, ◌∷◌, [], ◌==◌, not, length, on_ok_weaker, key, boolean, number_of, size_members, member_tokens}
 use Rattle.krb_json.proofs.Chains.{chain}
 use Rattle.krb_json.proofs.piece.Piece.sizes.Goals as goal
 

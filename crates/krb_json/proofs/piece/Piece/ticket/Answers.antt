@@ -1,7 +1,4 @@
-use Rattle.std.proofs.Common.{◌<◌, ◌^◌, sym, rules}
-use Rattle.std.proofs.lemmas.Result.{on_ok_weaker}
-use Rattle.krb_json.specs.Members.{etype_members}
-use Rattle.krb_json.specs.Cache.{party_members, time_members, flag_members, size_members, ticket_value}
+use Rattle.krb_json.proofs.Cited.{◌<◌, ◌^◌, sym, rules, on_ok_weaker, etype_members, party_members, time_members, flag_members, size_members, ticket_value}
 use Rattle.krb_json.proofs.Chains.{written_by_five}
 use Rattle.krb_json.proofs.ReadBack.{ticket_is_plain}
 use Rattle.krb_json.proofs.piece.Piece.ticket.Goals as goal

@@ -1,8 +1,4 @@
-use Rattle.std.proofs.Common.{codes}
-use Rattle.std.proofs.lemmas.Result.{on_ok_weaker}
-use Rattle.krb_json.specs.Members.{number_of}
-use Rattle.krb_json.specs.Cache.{time_members}
-use Rattle.krb_json.specs.Pieces.{member_tokens}
+use Rattle.krb_json.proofs.Cited.{codes, on_ok_weaker, number_of, time_members, member_tokens}
 use Rattle.krb_json.proofs.Chains.{chain}
 use Rattle.krb_json.proofs.piece.Piece.times.Goals as goal
 

@@ -1,13 +1,8 @@
 -- Room is taken first; then the result of the keytab is returned, and the cell is added to table and tree.
-use Rattle.std.proofs.Common.{◌≡◌, ◌∙◌, ◌<◌, List, Ok, Err, length, ap, sym, subst, arith}
-use Rattle.std.proofs.lemmas.Bool.{OnTrue_at}
+use Rattle.krb_keytab.proofs.Cited.{◌≡◌, ◌∙◌, ◌<◌, List, Ok, Err, length, ap, sym, subst, arith, OnTrue_at, end_of, append_result, with_last, KeytabState, store_of, Slot}
 use Rattle.std.proofs.lemmas.Result.{err_from_is_err_and}
 use Rattle.std.specs.Prelude.{vec_len, vec_capacity}
-use Rattle.krb_walk.specs.Store.{end_of}
-use Rattle.krb_keytab.specs.Changes.{append_result, with_last}
-use Rattle.krb_keytab.specs.Store.{KeytabState, store_of}
 use Rattle.krb_keytab.proofs.Stores.{state_is}
-use Rattle.krb_keytab.specs.declared.indexed.slot.Slot.{Slot}
 use Rattle.krb_keytab.proofs.ChangeLemmas.{IsKept}
 use Rattle.krb_keytab.proofs.GrownLemmas.{longer_there, appended_kept}
 use Rattle.krb_keytab.proofs.PlaceLemmas.{slots_len}

@@ -1,13 +1,7 @@
 -- The keytab takes the record; its table and its tree are kept.
-use Rattle.std.proofs.Common.{◌≡◌, ◌∙◌, length, ap, sym, subst, arith}
+use Rattle.krb_keytab.proofs.Cited.{◌≡◌, ◌∙◌, length, ap, sym, subst, arith, set, with_record_in, KeytabState, Slot, negated, free_size, slot_at}
 use Rattle.std.specs.Prelude.{vec_len, vec_capacity}
-use Rattle.std.proofs.Math.ListN.{set}
-use Rattle.krb_keytab.specs.Changes.{with_record_in}
-use Rattle.krb_keytab.specs.Store.{KeytabState}
 use Rattle.krb_keytab.proofs.Stores.{state_is}
-use Rattle.krb_keytab.specs.declared.indexed.slot.Slot.{Slot}
-use Rattle.krb_keytab.specs.Slot.{negated, free_size}
-use Rattle.krb_keytab.specs.Index.{slot_at}
 use Rattle.krb_keytab.proofs.ChangeLemmas.{IsKept, hole_at, filled_kept}
 use Rattle.krb_keytab.proofs.LiveLemmas.{cell_field}
 use Rattle.krb_keytab.proofs.indexed.Indexed.fill.Goals as goal

@@ -1,9 +1,5 @@
-use Rattle.std.proofs.Common.{◌∙◌, ℕ, Some, None, ap, subst}
+use Rattle.krb_keytab.proofs.Cited.{◌∙◌, ℕ, Some, None, ap, subst, Slot, hole_of_slot, looks_for, IsFit, slot_at}
 use Rattle.std.specs.Prelude.{Option}
-use Rattle.krb_keytab.specs.declared.indexed.slot.Slot.{Slot}
-use Rattle.krb_keytab.specs.Slot.{hole_of_slot}
-use Rattle.krb_keytab.specs.Tree.{looks_for}
-use Rattle.krb_keytab.specs.Index.{IsFit, slot_at}
 use Rattle.krb_keytab.proofs.IndexLemmas.{fit_place}
 use Rattle.krb_keytab.proofs.indexed.Indexed.first_fit.Goals as goal
 

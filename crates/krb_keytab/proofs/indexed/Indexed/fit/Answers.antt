@@ -1,7 +1,5 @@
-use Rattle.std.proofs.Common.{subst}
-use Rattle.krb_keytab.specs.Store.{KeytabState}
+use Rattle.krb_keytab.proofs.Cited.{subst, KeytabState, IsIndex}
 use Rattle.krb_keytab.proofs.Stores.{state_is}
-use Rattle.krb_keytab.specs.Index.{IsIndex}
 use Rattle.krb_keytab.proofs.IndexLemmas.{fit_is, looks_are}
 use Rattle.krb_keytab.proofs.indexed.Indexed.fit.Goals as goal
 

@@ -1,7 +1,4 @@
-use Rattle.std.proofs.Common.{◌≡◌, Err, subst}
-use Rattle.std.specs.Prelude.{IfErr}
-use Rattle.krb_keytab.specs.Changes.{put_result}
-use Rattle.krb_keytab.specs.Store.{KeytabState}
+use Rattle.krb_keytab.proofs.Cited.{◌≡◌, Err, subst, IfErr, put_result, KeytabState}
 use Rattle.krb_keytab.proofs.Stores.{state_is}
 use Rattle.krb_keytab.proofs.indexed.Indexed.form_of.Goals as goal
 

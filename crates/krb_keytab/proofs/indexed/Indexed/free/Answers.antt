@@ -1,13 +1,6 @@
-use Rattle.std.proofs.Common.{◌≡◌, ◌∙◌, ap, sym, subst, arith}
+use Rattle.krb_keytab.proofs.Cited.{◌≡◌, ◌∙◌, ap, sym, subst, arith, set, with_hole, live_bytes, KeytabState, store_of, Slot, negated, free_size, slot_at}
 use Rattle.std.specs.Prelude.{IsSome, vec_len, vec_capacity}
-use Rattle.std.proofs.Math.ListN.{set}
-use Rattle.krb_keytab.specs.Changes.{with_hole}
-use Rattle.krb_walk.specs.Store.{live_bytes}
-use Rattle.krb_keytab.specs.Store.{KeytabState, store_of}
 use Rattle.krb_keytab.proofs.Stores.{state_is}
-use Rattle.krb_keytab.specs.declared.indexed.slot.Slot.{Slot}
-use Rattle.krb_keytab.specs.Slot.{negated, free_size}
-use Rattle.krb_keytab.specs.Index.{slot_at}
 use Rattle.krb_keytab.proofs.LiveLemmas.{cell_field, live_at}
 use Rattle.krb_keytab.proofs.ChangeLemmas.{IsKept, freed_kept}
 use Rattle.krb_keytab.proofs.indexed.Indexed.free.Goals as goal

@@ -1,6 +1,4 @@
-use Rattle.std.proofs.Common.{◌∙◌, ap, arith, sym}
-use Rattle.krb_keytab.specs.declared.indexed.slot.Slot.{Slot}
-use Rattle.krb_keytab.specs.Slot.{is_free}
+use Rattle.krb_keytab.proofs.Cited.{◌∙◌, ap, arith, sym, Slot, is_free}
 use Rattle.krb_keytab.proofs.LiveLemmas.{live_after_all, live_elsewhere, live_free, live_number}
 use Rattle.krb_keytab.proofs.indexed.Indexed.live_number.Goals as goal
 

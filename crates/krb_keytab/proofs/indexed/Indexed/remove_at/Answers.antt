@@ -1,5 +1,4 @@
-use Rattle.std.proofs.Common.{rules, ◌≡◌, Ok}
-use Rattle.krb_keytab.specs.Changes.{cut_result}
+use Rattle.krb_keytab.proofs.Cited.{rules, ◌≡◌, Ok, cut_result}
 use Rattle.krb_keytab.proofs.AfterChanges.{removed_none}
 use Rattle.krb_keytab.proofs.indexed.Indexed.remove_at.Goals as goal
 

@@ -1,7 +1,5 @@
-use Rattle.std.proofs.Common.{◌<◌, ◌∙◌, ap, arith, get_or, length, List, refl}
-use Rattle.std.proofs.lemmas.List.{get_or_default}
+use Rattle.krb_keytab.proofs.Cited.{◌<◌, ◌∙◌, ap, arith, get_or, length, List, refl, get_or_default, Slot}
 use Rattle.krb_keytab.proofs.Stores.{state_is}
-use Rattle.krb_keytab.specs.declared.indexed.slot.Slot.{Slot}
 use Rattle.krb_keytab.proofs.IndexLemmas.{table_held}
 use Rattle.krb_keytab.proofs.PlaceLemmas.{slots_len}
 use Rattle.krb_keytab.proofs.indexed.Indexed.slot.Goals as goal

@@ -1,5 +1,4 @@
-use Rattle.std.proofs.Common.{◌≡◌, ◌*◌, ◌+◌, ◌^◌, ℕ, arith, ap, ◌∙◌}
-use Rattle.std.proofs.Math.Nat.{pow-suc}
+use Rattle.krb_keytab.proofs.Cited.{◌≡◌, ◌*◌, ◌+◌, ◌^◌, ℕ, arith, ap, ◌∙◌, pow-suc}
 use Rattle.krb_keytab.proofs.GrownLemmas.{stays_grown, doubles_grown, grown_height, height_low}
 use Rattle.krb_keytab.proofs.indexed.index.add_leaf.Goals as goal
 

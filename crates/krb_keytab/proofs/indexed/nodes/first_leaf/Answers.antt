@@ -1,7 +1,6 @@
 -- The descent from the root ends at the first leaf that is large enough.
-use Rattle.std.proofs.Common.{◌≡◌, ℕ, ◌-◌, ◌/◌, ◌^◌, length, ap, arith, subst, sym, ◌∙◌}
+use Rattle.krb_keytab.proofs.Cited.{◌≡◌, ℕ, ◌-◌, ◌/◌, ◌^◌, length, ap, arith, subst, sym, ◌∙◌, Descends}
 use Rattle.std.specs.Prelude.{Some}
-use Rattle.krb_keytab.specs.Nodes.{Descends}
 use Rattle.krb_keytab.proofs.NodeLemmas.{has_children, descends_from_root, descends_on, descends_to, none_fits}
 use Rattle.krb_keytab.proofs.indexed.nodes.first_leaf.Goals as goal
 

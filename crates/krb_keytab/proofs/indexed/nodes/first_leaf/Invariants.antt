@@ -1,6 +1,5 @@
 -- A leaf under the node is large enough, and none before those under it is; each level took one look.
-use Rattle.std.proofs.Common.{◌≡◌, ◌+◌}
-use Rattle.krb_keytab.specs.Nodes.{Descends}
+use Rattle.krb_keytab.proofs.Cited.{◌≡◌, ◌+◌, Descends}
 use Rattle.krb_keytab.proofs.indexed.nodes.first_leaf.Given as goal
 
 abbrev pub invariant-levels : goal.invariant-levels

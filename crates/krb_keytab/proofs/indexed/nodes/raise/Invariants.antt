@@ -1,6 +1,5 @@
 -- Only the node over the last that was computed may be wrong; the leaves stay.
-use Rattle.std.proofs.Common.{◌≡◌, ◌<◌, ◌*◌, ◌/◌, length, drop}
-use Rattle.krb_keytab.specs.Nodes.{AreNodesBut}
+use Rattle.krb_keytab.proofs.Cited.{◌≡◌, ◌<◌, ◌*◌, ◌/◌, length, drop, AreNodesBut}
 use Rattle.krb_keytab.proofs.indexed.nodes.raise.Given as goal
 
 abbrev pub invariant-loop-at : goal.invariant-loop-at

@@ -1,6 +1,5 @@
 -- The nodes after those that are still to come are right; the leaves stay.
-use Rattle.std.proofs.Common.{◌≡◌, ◌+◌, ◌-◌, ◌*◌, length, drop}
-use Rattle.krb_keytab.specs.Nodes.{AreNodesFrom}
+use Rattle.krb_keytab.proofs.Cited.{◌≡◌, ◌+◌, ◌-◌, ◌*◌, length, drop, AreNodesFrom}
 use Rattle.krb_keytab.proofs.indexed.nodes.raise_all.Given as goal
 
 abbrev pub invariant-loop-done : goal.invariant-loop-done

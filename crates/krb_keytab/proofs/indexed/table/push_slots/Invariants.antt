@@ -1,6 +1,5 @@
 -- The table so far, and the slots of the cells still to come, are the whole table.
-use Rattle.std.proofs.Common.{◌≡◌, ◌+◌, ◌++◌, ◌^◌, ◌≤◌, length, vec_len, vec_capacity}
-use Rattle.krb_keytab.specs.Slot.{slots_from}
+use Rattle.krb_keytab.proofs.Cited.{◌≡◌, ◌+◌, ◌++◌, ◌^◌, ◌≤◌, length, vec_len, vec_capacity, slots_from}
 use Rattle.krb_keytab.proofs.indexed.table.push_slots.Given as goal
 
 abbrev pub invariant-loop-place : goal.invariant-loop-place

@@ -1,5 +1,4 @@
-use Rattle.std.proofs.Common.{rules, of_calls}
-use Rattle.std.specs.Prelude.{nat_lt}
+use Rattle.krb_keytab.proofs.Cited.{rules, of_calls, nat_lt}
 use Rattle.std.proofs.lemmas.Fn.{always_returns_same}
 use Rattle.krb_keytab.proofs.SlotLemmas.{is_rank, partitioned_by_place}
 use Rattle.krb_keytab.proofs.indexed.table.rank.Goals as goal

@@ -1,6 +1,5 @@
 -- The sizes before are written, those from there on are unchanged.
-use Rattle.std.proofs.Common.{◌≡◌, ◌++◌, map, take, drop}
-use Rattle.krb_keytab.specs.Slot.{free_size}
+use Rattle.krb_keytab.proofs.Cited.{◌≡◌, ◌++◌, map, take, drop, free_size}
 use Rattle.krb_keytab.proofs.indexed.tree.put_sizes.Given as goal
 
 abbrev pub invariant-loop-i : goal.invariant-loop-i

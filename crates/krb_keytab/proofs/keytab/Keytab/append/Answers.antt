@@ -1,8 +1,4 @@
-use Rattle.std.proofs.Common.{◌≡◌, ℕ, List, [], ◌∷◌, ◌++◌, Err, length, drop, refl, ap, sym, subst, ◌∙◌, arith}
-use Rattle.krb_wire.specs.declared.format.KtFormat.{KtFormat}
-use Rattle.krb_keytab.specs.Cells.{Live, contents}
-use Rattle.krb_keytab.specs.Changes.{end_after}
-use Rattle.krb_keytab.specs.Store.{KeytabState, InMemory}
+use Rattle.krb_keytab.proofs.Cited.{◌≡◌, ℕ, List, [], ◌∷◌, ◌++◌, Err, length, drop, refl, ap, sym, subst, ◌∙◌, arith, KtFormat, Live, contents, end_after, KeytabState, InMemory}
 use Rattle.krb_keytab.proofs.Stores.{state_is, keytab_of, few_cells}
 use Rattle.krb_keytab.proofs.Additions.{appends, append_full, append_fits, append_ok, append_longer, append_no_longer}
 use Rattle.std.proofs.lemmas.Result.{err_from_is_err_and}

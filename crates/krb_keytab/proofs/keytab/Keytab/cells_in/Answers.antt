@@ -1,8 +1,4 @@
-use Rattle.std.proofs.Common.{sym, ap, subst, drop, ◌∙◌}
-use Rattle.krb_wire.specs.declared.format.KtFormat.{KtFormat}
-use Rattle.krb_keytab.specs.Cells.{contents}
-use Rattle.krb_keytab.specs.CellViews.{CellsFrom, AreKnown}
-use Rattle.krb_keytab.specs.Store.{KeytabState}
+use Rattle.krb_keytab.proofs.Cited.{sym, ap, subst, drop, ◌∙◌, KtFormat, contents, CellsFrom, AreKnown, KeytabState}
 use Rattle.krb_keytab.proofs.Stores.{state_is, known_held, cells_held}
 use Rattle.krb_keytab.proofs.keytab.Keytab.cells_in.Goals as goal
 

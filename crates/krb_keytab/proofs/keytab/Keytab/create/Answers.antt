@@ -1,7 +1,4 @@
-use Rattle.std.proofs.Common.{◌≡◌, ℕ, List, [], ◌∷◌, drop, refl}
-use Rattle.krb_wire.specs.declared.format.KtFormat.{KtFormat}
-use Rattle.krb_keytab.specs.Cells.{contents}
-use Rattle.krb_keytab.specs.Store.{KeytabState, empty}
+use Rattle.krb_keytab.proofs.Cited.{◌≡◌, ℕ, List, [], ◌∷◌, drop, refl, KtFormat, contents, KeytabState, empty}
 use Rattle.krb_keytab.proofs.ImageChanges.{contents_none}
 use Rattle.krb_keytab.proofs.keytab.Keytab.create.Goals as goal
 

@@ -1,7 +1,4 @@
-use Rattle.std.proofs.Common.{sym, ap, ◌∙◌}
-use Rattle.krb_walk.specs.Store.{Store, live_bytes}
-use Rattle.krb_keytab.specs.Entry.{entry_at}
-use Rattle.krb_keytab.specs.Store.{store_of}
+use Rattle.krb_keytab.proofs.Cited.{sym, ap, ◌∙◌, Store, live_bytes, entry_at, store_of}
 use Rattle.krb_keytab.proofs.Stores.{entry_held, none_there}
 use Rattle.krb_keytab.proofs.keytab.Keytab.entry_at.Goals as goal
 

@@ -1,7 +1,4 @@
-use Rattle.std.proofs.Common.{sym, ap, subst, ◌∙◌}
-use Rattle.krb_wire.specs.declared.format.KtFormat.{KtFormat}
-use Rattle.krb_keytab.specs.CellViews.{AreKnown}
-use Rattle.krb_keytab.specs.Store.{KeytabState}
+use Rattle.krb_keytab.proofs.Cited.{sym, ap, subst, ◌∙◌, KtFormat, AreKnown, KeytabState}
 use Rattle.krb_keytab.proofs.Stores.{state_is, known_held}
 use Rattle.krb_keytab.proofs.keytab.Keytab.fill.Goals as goal
 

@@ -1,5 +1,4 @@
-use Rattle.std.proofs.Common.{subst}
-use Rattle.krb_wire.specs.declared.format.KtFormat.{KtFormat}
+use Rattle.krb_keytab.proofs.Cited.{subst, KtFormat}
 use Rattle.krb_keytab.specs.Prefix.{IsPrefix}
 use Rattle.krb_keytab.proofs.keytab.Keytab.find.Goals as goal
 

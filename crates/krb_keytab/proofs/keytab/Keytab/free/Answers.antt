@@ -1,5 +1,4 @@
-use Rattle.std.proofs.Common.{ℕ, List, Option, refl, sym, subst}
-use Rattle.std.specs.Prelude.{IsSome}
+use Rattle.krb_keytab.proofs.Cited.{ℕ, List, Option, refl, sym, subst, IsSome}
 use Rattle.krb_keytab.proofs.Stores.{state_is, live_held, known_held}
 use Rattle.krb_keytab.proofs.keytab.Keytab.free.Goals as goal
 

@@ -1,5 +1,4 @@
-use Rattle.std.proofs.Common.{◌≤◌, arith}
-use Rattle.std.proofs.lemmas.Bool.{OnTrue_from, OnFalse_from, leb-true, leb-false}
+use Rattle.krb_keytab.proofs.Cited.{◌≤◌, arith, OnTrue_from, OnFalse_from, leb-true, leb-false}
 use Rattle.krb_keytab.proofs.Stores.{state_is}
 use Rattle.krb_keytab.proofs.Additions.{appends, append_full, append_fits}
 use Rattle.krb_keytab.proofs.keytab.Keytab.has_room.Goals as goal

@@ -1,7 +1,4 @@
-use Rattle.std.proofs.Common.{◌≡◌, drop}
-use Rattle.krb_walk.specs.Store.{IsPlace}
-use Rattle.krb_keytab.specs.Store.{store_of}
-use Rattle.krb_keytab.specs.Changes.{without}
+use Rattle.krb_keytab.proofs.Cited.{◌≡◌, drop, IsPlace, store_of, without}
 use Rattle.krb_keytab.proofs.keytab.Keytab.remove_all.Given as goal
 
 -- removing at the places that are left gives what removing at all places gives

@@ -1,5 +1,4 @@
-use Rattle.std.proofs.Common.{rules, ◌≡◌, Ok}
-use Rattle.krb_keytab.specs.Changes.{cut_result}
+use Rattle.krb_keytab.proofs.Cited.{rules, ◌≡◌, Ok, cut_result}
 use Rattle.krb_keytab.proofs.StoreChanges.{place_stays}
 use Rattle.krb_keytab.proofs.keytab.Keytab.remove_from.Goals as goal
 

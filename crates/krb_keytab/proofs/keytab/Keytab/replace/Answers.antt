@@ -1,9 +1,4 @@
-use Rattle.std.proofs.Common.{◌∙◌, map, None, refl, sym, ap, subst}
-use Rattle.std.specs.List.{AllByRecursion}
-use Rattle.krb_wire.proofs.Fields.{IsBytes}
-use Rattle.krb_walk.specs.Store.{Store, IsPlace}
-use Rattle.krb_walk.specs.Ranks.{carry, Rewrites}
-use Rattle.krb_keytab.specs.Store.{InMemory, store_of}
+use Rattle.krb_keytab.proofs.Cited.{◌∙◌, map, None, refl, sym, ap, subst, AllByRecursion, IsBytes, Store, IsPlace, carry, Rewrites, InMemory, store_of}
 use Rattle.krb_keytab.proofs.Stores.{state_is, first_is_place}
 use Rattle.krb_keytab.proofs.ImageStores.{held_from}
 use Rattle.krb_keytab.proofs.keytab.Keytab.replace.Goals as goal

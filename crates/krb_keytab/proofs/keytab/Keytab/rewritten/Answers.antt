@@ -1,9 +1,4 @@
-use Rattle.std.proofs.Common.{◌≡◌, false, sym, subst}
-use Rattle.std.specs.Prelude.{is_some}
-use Rattle.krb_walk.specs.Store.{end_of, fault_of}
-use Rattle.krb_walk.specs.Ranks.{Rewrites}
-use Rattle.krb_keytab.specs.Cells.{kind_of}
-use Rattle.krb_keytab.specs.Store.{KeytabState, store_of}
+use Rattle.krb_keytab.proofs.Cited.{◌≡◌, false, sym, subst, is_some, end_of, fault_of, Rewrites, kind_of, KeytabState, store_of}
 use Rattle.krb_keytab.proofs.Stores.{state_is, whole_of}
 use Rattle.krb_keytab.proofs.Rewrites.{rewrite_held, rewrites_store}
 use Rattle.krb_keytab.proofs.keytab.Keytab.rewritten.Goals as goal

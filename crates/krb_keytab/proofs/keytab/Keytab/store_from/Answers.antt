@@ -1,5 +1,4 @@
-use Rattle.std.proofs.Common.{refl, subst, ◌∙◌}
-use Rattle.krb_wire.proofs.Fields.{IsBytes}
+use Rattle.krb_keytab.proofs.Cited.{refl, subst, ◌∙◌, IsBytes}
 use Rattle.krb_cells.specs.Carry.{between}
 use Rattle.krb_keytab.proofs.Stores.{state_is}
 use Rattle.krb_keytab.proofs.ImageStores.{held_from, kind_held}

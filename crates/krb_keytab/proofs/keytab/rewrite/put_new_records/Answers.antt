@@ -1,8 +1,4 @@
-use Rattle.std.proofs.Common.{ap, arith, ◌∙◌}
-use Rattle.krb_wire.specs.declared.format.Order.TheVariants.{Big}
-use Rattle.krb_wire.proofs.PenLemmas.{left_all, left_next, left_room, left_none}
-use Rattle.krb_keytab.specs.Cells.{cell}
-use Rattle.krb_keytab.specs.Rewrite.{new_record}
+use Rattle.krb_keytab.proofs.Cited.{ap, arith, ◌∙◌, Big, left_all, left_next, left_room, left_none, cell, new_record}
 use Rattle.krb_keytab.proofs.NewRecords.{new_records, new_records_all, new_records_next}
 use Rattle.krb_keytab.proofs.keytab.rewrite.put_new_records.Goals as goal
 

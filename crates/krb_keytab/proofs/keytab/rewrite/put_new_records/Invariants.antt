@@ -1,9 +1,4 @@
-use Rattle.std.proofs.Common.{◌≤◌, ◌^◌, length}
-use Rattle.std.specs.List.{flat_map}
-use Rattle.krb_wire.specs.declared.format.Order.TheVariants.{Big}
-use Rattle.krb_wire.proofs.PenLemmas.{Left}
-use Rattle.krb_keytab.specs.Cells.{cell}
-use Rattle.krb_keytab.specs.Rewrite.{rewrite_of}
+use Rattle.krb_keytab.proofs.Cited.{◌≤◌, ◌^◌, length, flat_map, Big, Left, cell, rewrite_of}
 use Rattle.krb_keytab.proofs.NewRecords.{new_records}
 use Rattle.krb_keytab.proofs.keytab.rewrite.put_new_records.Given as goal
 

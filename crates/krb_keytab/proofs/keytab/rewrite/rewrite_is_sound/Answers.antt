@@ -1,5 +1,4 @@
-use Rattle.std.proofs.Common.{subst}
-use Rattle.krb_wire.proofs.Fields.{IsBytes}
+use Rattle.krb_keytab.proofs.Cited.{subst, IsBytes}
 use Rattle.krb_keytab.proofs.Rewrites.{new_sound, entries_kept}
 use Rattle.krb_keytab.proofs.keytab.rewrite.rewrite_is_sound.Goals as goal
 

@@ -1,6 +1,4 @@
-use Rattle.std.proofs.Common.{◌≡◌, ◌≤◌, ◌<◌, ◌+◌, length}
-use Rattle.krb_keytab.specs.Store.{image_of}
-use Rattle.krb_keytab.specs.Rewrite.{rewrite_of}
+use Rattle.krb_keytab.proofs.Cited.{◌≡◌, ◌≤◌, ◌<◌, ◌+◌, length, image_of, rewrite_of}
 use Rattle.krb_keytab.proofs.NewRecords.{new_records}
 use Rattle.krb_keytab.proofs.keytab.rewrite.rewritten_len.Given as goal
 

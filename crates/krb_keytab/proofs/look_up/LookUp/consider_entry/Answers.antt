@@ -1,6 +1,4 @@
-use Rattle.std.proofs.Common.{true, false, sym}
-use Rattle.std.specs.Prelude.{filter}
-use Rattle.krb_keytab.specs.Find.{PlacedEntry, is_match}
+use Rattle.krb_keytab.proofs.Cited.{true, false, sym, filter, PlacedEntry, is_match}
 use Rattle.krb_keytab.proofs.LookUpLemmas.{no_match, one_match, match_by_enctype}
 use Rattle.krb_keytab.proofs.look_up.LookUp.consider_entry.Goals as goal
 

@@ -1,8 +1,5 @@
-use Rattle.std.proofs.Common.{ap, sym, subst, ◌∙◌}
-use Rattle.krb_wire.specs.declared.format.KtFormat.{KtFormat}
+use Rattle.krb_keytab.proofs.Cited.{ap, sym, subst, ◌∙◌, KtFormat, entry_at, CellsFrom, BeginsWith, cell_of}
 use Rattle.krb_keytab.specs.declared.cells.KtCell.{KtCell}
-use Rattle.krb_keytab.specs.Entry.{entry_at}
-use Rattle.krb_keytab.specs.CellViews.{CellsFrom, BeginsWith, cell_of}
 use Rattle.krb_keytab.proofs.EntryLists.{none_considered, live_considered}
 use Rattle.krb_keytab.proofs.PrefixLemmas.{passed_over}
 use Rattle.krb_keytab.proofs.look_up.find.consider_all_in.Goals as goal

@@ -1,5 +1,4 @@
-use Rattle.std.proofs.Common.{◌≡◌}
-use Rattle.krb_keytab.specs.LookUp.{IsFoundUpTo}
+use Rattle.krb_keytab.proofs.Cited.{◌≡◌, IsFoundUpTo}
 use Rattle.krb_keytab.proofs.look_up.find.consider_all_in.Given as goal
 
 -- the entries so far were considered

@@ -1,7 +1,4 @@
-use Rattle.std.proofs.Common.{◌≡◌, ℕ, List, Some, false, sym, ap, refl, ◌∙◌, length}
-use Rattle.std.specs.Prelude.{IsTrue}
-use Rattle.std.specs.Str.{bytes_eq}
-use Rattle.krb_wire.specs.Reading.{components_of_count}
+use Rattle.krb_keytab.proofs.Cited.{◌≡◌, ℕ, List, Some, false, sym, ap, refl, ◌∙◌, length, IsTrue, bytes_eq, components_of_count}
 use Rattle.krb_keytab.proofs.HasNameLemmas.{none_opens, no_realm, begins, other_count, by_components, same_by, other_components}
 use Rattle.krb_keytab.proofs.look_up.has_name.has_name.Goals as goal
 

@@ -1,7 +1,4 @@
-use Rattle.std.proofs.Common.{◌≡◌, ◌∙◌, ℕ, Bool, cond, [], length, sym, ap}
-use Rattle.std.specs.Int.{w32}
-use Rattle.krb_wire.specs.declared.format.Order.TheVariants.{Big}
-use Rattle.krb_wire.specs.Spelling.{digits, name_type_field}
+use Rattle.krb_keytab.proofs.Cited.{◌≡◌, ◌∙◌, ℕ, Bool, cond, [], length, sym, ap, w32, Big, digits, name_type_field}
 use Rattle.krb_keytab.proofs.PrefixLemmas.{cut_is_prefix}
 use Rattle.krb_keytab.proofs.look_up.prefix.prefix_of.Goals as goal
 use Rattle.krb_keytab.proofs.look_up.prefix.prefix_of.Goals.{then-has_name_type, else-has_name_type}

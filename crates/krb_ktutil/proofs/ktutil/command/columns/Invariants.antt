@@ -1,5 +1,4 @@
-use Rattle.krb_ktutil.proofs.Cited.{◌≡◌, length, words}
-use Rattle.krb_ktutil.specs.KtutilCommand.{plain_columns, columns_in}
+use Rattle.krb_ktutil.proofs.Cited.{◌≡◌, length, words, plain_columns, columns_in}
 use Rattle.krb_ktutil.proofs.ktutil.command.columns.Given as goal
 
 abbrev pub invariant-options : goal.invariant-options

@@ -1,5 +1,4 @@
-use Rattle.krb_ktutil.proofs.Cited.{◌≡◌, ◌++◌}
-use Rattle.krb_keytab.specs.Store.{entries}
+use Rattle.krb_ktutil.proofs.Cited.{◌≡◌, ◌++◌, entries}
 use Rattle.krb_ktutil.proofs.KtutilLists.{entries_of}
 use Rattle.krb_ktutil.proofs.ktutil.entries.copy_entries.Given as goal
 

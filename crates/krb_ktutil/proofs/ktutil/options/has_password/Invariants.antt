@@ -1,5 +1,4 @@
-use Rattle.krb_ktutil.proofs.Cited.{◌≡◌, length, words}
-use Rattle.krb_ktutil.specs.KtutilCommand.{has_password}
+use Rattle.krb_ktutil.proofs.Cited.{◌≡◌, length, words, has_password}
 use Rattle.krb_ktutil.proofs.ktutil.options.has_password.Given as goal
 
 abbrev pub invariant-words : goal.invariant-words

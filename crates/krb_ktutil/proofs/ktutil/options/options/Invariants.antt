@@ -1,5 +1,4 @@
-use Rattle.krb_ktutil.proofs.Cited.{◌≡◌, length, words, options_in}
-use Rattle.krb_ktutil.specs.KtutilCommand.{no_options}
+use Rattle.krb_ktutil.proofs.Cited.{◌≡◌, length, words, options_in, no_options}
 use Rattle.krb_ktutil.proofs.ktutil.options.options.Given as goal
 
 abbrev pub invariant-options : goal.invariant-options

@@ -1,6 +1,4 @@
-use Rattle.krb_ktutil.proofs.Cited.{◌≡◌, length, unindented}
-use Rattle.std.specs.Prelude.{reverse}
-use Rattle.krb_ktutil.specs.KtutilWords.{trimmed}
+use Rattle.krb_ktutil.proofs.Cited.{◌≡◌, length, unindented, reverse, trimmed}
 use Rattle.krb_ktutil.proofs.ktutil.words.trimmed.Given as goal
 
 abbrev pub invariant-loop-rest : goal.invariant-loop-rest

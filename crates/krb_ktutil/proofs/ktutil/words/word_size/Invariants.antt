@@ -1,5 +1,4 @@
-use Rattle.krb_ktutil.proofs.Cited.{◌≡◌, ◌+◌, drop}
-use Rattle.krb_ktutil.specs.KtutilWords.{size_from, word_size}
+use Rattle.krb_ktutil.proofs.Cited.{◌≡◌, ◌+◌, drop, size_from, word_size}
 use Rattle.krb_ktutil.proofs.ktutil.words.word_size.Given as goal
 
 abbrev pub invariant-loop-size : goal.invariant-loop-size

@@ -1,6 +1,4 @@
-use Rattle.std.proofs.Common.{◌∙◌, ap}
-use Rattle.std.specs.Prelude.{option_copied}
-use Rattle.krb_text.specs.Pieces.{joined}
+use Rattle.krb_text.proofs.Cited.{◌∙◌, ap, option_copied, joined}
 use Rattle.krb_text.proofs.Cuts.{joined_left}
 use Rattle.krb_text.proofs.pieces.Pieces.rest.Goals as goal
 

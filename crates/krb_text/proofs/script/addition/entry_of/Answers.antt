@@ -1,8 +1,4 @@
-use Rattle.std.proofs.Common.{Err, subst}
-use Rattle.std.proofs.lemmas.Result.{err_from_is_err_and}
-use Rattle.krb_keytab.specs.Entry.{EntryParts}
-use Rattle.krb_text.specs.LineFault.{Reads}
-use Rattle.krb_text.specs.Script.{Addition, entry_of}
+use Rattle.krb_text.proofs.Cited.{Err, subst, err_from_is_err_and, EntryParts, Reads, Addition, entry_of}
 use Rattle.krb_text.proofs.Additions.{name_refused}
 use Rattle.krb_text.proofs.script.addition.entry_of.Goals as goal
 

@@ -1,6 +1,5 @@
-use Rattle.std.proofs.lemmas.Result.{err_from_is_err_and}
+use Rattle.krb_text.proofs.Cited.{err_from_is_err_and, entry_in}
 use Rattle.krb_walk.specs.declared.event.Event.TheVariants.{Put}
-use Rattle.krb_text.specs.Script.{entry_in}
 use Rattle.krb_text.proofs.Made.{made_refused}
 use Rattle.krb_text.proofs.script.event_line.parse_put.Goals as goal
 

@@ -1,5 +1,4 @@
-use Rattle.std.proofs.Common.{refl}
-use Rattle.krb_text.specs.Calendar.{day_number}
+use Rattle.krb_text.proofs.Cited.{refl, day_number}
 use Rattle.krb_text.proofs.time.LastTime.new.Goals as goal
 
 pub invariant_of-result : goal.invariant_of-result

@@ -1,5 +1,4 @@
-use Rattle.std.proofs.Common.{◌/◌}
-use Rattle.krb_text.specs.Calendar.{day_number}
+use Rattle.krb_text.proofs.Cited.{◌/◌, day_number}
 use Rattle.krb_text.proofs.time.LastTime.turn_to.Goals as goal
 
 pub invariant_of-self : goal.invariant_of-self

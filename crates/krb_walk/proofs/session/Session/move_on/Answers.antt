@@ -1,5 +1,4 @@
-use Rattle.std.proofs.Common.{ap}
-use Rattle.krb_walk.specs.Events.{SessionState}
+use Rattle.krb_walk.proofs.Cited.{ap, SessionState}
 use Rattle.krb_walk.proofs.Moves.{stepped, not_stepped}
 use Rattle.krb_walk.proofs.session.Session.move_on.Goals as goal
 

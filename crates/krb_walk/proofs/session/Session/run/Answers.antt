@@ -1,10 +1,4 @@
-use Rattle.std.proofs.Common.{◌≡◌, ◌+◌, List, [], ◌∷◌, ◌++◌, map, take, sym, ap, ◌∙◌, subst}
-use Rattle.std.proofs.lemmas.List.{take_all, take_more, map-append}
-use Rattle.krb_walk.specs.declared.event.Event.{Event}
-use Rattle.krb_walk.specs.ReplyContent.{ReplyContent, content_of}
-use Rattle.krb_walk.specs.History.{IsReady}
-use Rattle.krb_walk.specs.Events.{SessionState, session_of, reply_to}
-use Rattle.krb_walk.specs.Ran.{Ran}
+use Rattle.krb_walk.proofs.Cited.{◌≡◌, ◌+◌, List, [], ◌∷◌, ◌++◌, map, take, sym, ap, ◌∙◌, subst, take_all, take_more, map-append, Event, ReplyContent, content_of, IsReady, SessionState, session_of, reply_to, Ran}
 use Rattle.krb_walk.proofs.Runs.{on_err, ran_none, ran_more}
 use Rattle.krb_walk.proofs.session.Session.run.Goals as goal
 

@@ -1,5 +1,4 @@
-use Rattle.std.proofs.Common.{ap, ◌∙◌}
-use Rattle.krb_walk.specs.Store.{is_place}
+use Rattle.krb_walk.proofs.Cited.{ap, ◌∙◌, is_place}
 use Rattle.krb_walk.proofs.Places.{place_first}
 use Rattle.krb_walk.proofs.session.Session.start.Goals as goal
 

@@ -1,7 +1,6 @@
-use Rattle.std.proofs.Common.{ap, ◌∙◌, sym}
+use Rattle.krb_walk.proofs.Cited.{ap, ◌∙◌, sym, Gave}
 use Rattle.krb_walk.proofs.Lists.{some_is}
 use Rattle.krb_walk.proofs.Cells.{stops_live, gave_reply}
-use Rattle.krb_walk.specs.ReplyContent.{Gave}
 use Rattle.krb_walk.proofs.session.events.reply_at.Goals as goal
 
 pub bytes_at-requires : goal.bytes_at-requires

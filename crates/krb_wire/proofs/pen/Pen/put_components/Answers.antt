@@ -1,7 +1,4 @@
-use Rattle.std.proofs.Common.{ap, subst, ◌∙◌}
-use Rattle.std.specs.List.{flat_map, AllByRecursion}
-use Rattle.std.proofs.lemmas.List.Concat.{flat_map-cons}
-use Rattle.krb_wire.specs.Spelling.{data_text, FitsLength}
+use Rattle.krb_wire.proofs.Cited.{ap, subst, ◌∙◌, flat_map, AllByRecursion, flat_map-cons, data_text, FitsLength}
 use Rattle.krb_wire.proofs.PenLemmas.{left_next}
 use Rattle.krb_wire.proofs.pen.Pen.put_components.Goals as goal
 

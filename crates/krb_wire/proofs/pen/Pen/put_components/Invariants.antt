@@ -1,5 +1,4 @@
-use Rattle.std.specs.List.{flat_map, AllByRecursion}
-use Rattle.krb_wire.specs.Spelling.{data_text, FitsLength}
+use Rattle.krb_wire.proofs.Cited.{flat_map, AllByRecursion, data_text, FitsLength}
 use Rattle.krb_wire.proofs.PenLemmas.{Left}
 use Rattle.krb_wire.proofs.pen.Pen.put_components.Given as goal
 

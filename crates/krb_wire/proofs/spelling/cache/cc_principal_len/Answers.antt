@@ -1,7 +1,4 @@
-use Rattle.std.proofs.Common.{ℕ, List, ◌<◌, ◌^◌, length, ap, sym, subst, arith}
-use Rattle.std.specs.List.{flat_map, AllByRecursion}
-use Rattle.krb_wire.specs.declared.format.Order.TheVariants.{Big}
-use Rattle.krb_wire.specs.Spelling.{data32, IsLong, cc_principal}
+use Rattle.krb_wire.proofs.Cited.{ℕ, List, ◌<◌, ◌^◌, length, ap, sym, subst, arith, flat_map, AllByRecursion, Big, data32, IsLong, cc_principal}
 use Rattle.krb_wire.proofs.NamesCompared.{no_cc_len, some_cc_len, many_long}
 use Rattle.krb_wire.proofs.spelling.cache.cc_principal_len.Goals as goal
 

@@ -1,7 +1,4 @@
-use Rattle.std.proofs.Common.{◌≡◌, ◌+◌, ◌^◌, ◌<◌, ◌↔◌, length}
-use Rattle.std.specs.List.{flat_map, AllByRecursion}
-use Rattle.krb_wire.specs.declared.format.Order.TheVariants.{Big}
-use Rattle.krb_wire.specs.Spelling.{data32, IsLong, cc_principal}
+use Rattle.krb_wire.proofs.Cited.{◌≡◌, ◌+◌, ◌^◌, ◌<◌, ◌↔◌, length, flat_map, AllByRecursion, Big, data32, IsLong, cc_principal}
 use Rattle.krb_wire.proofs.spelling.cache.cc_principal_len.Given as goal
 
 abbrev pub invariant-loop-component : goal.invariant-loop-component

@@ -1,8 +1,4 @@
-use Rattle.std.proofs.Common.{rules, ◌≡◌, ◌<◌, ◌^◌, ◌+◌, ◌++◌, ◌∙◌, ℕ, List, length, ap, sym, subst, length-append, arith}
-use Rattle.std.specs.Int.{w16}
-use Rattle.std.specs.List.{flat_map, AllByRecursion}
-use Rattle.std.proofs.lemmas.List.Concat.{flat_map-cons}
-use Rattle.krb_wire.specs.Spelling.{digits, data16, order_of, kt_principal, IsShort, count_field, name_type_field}
+use Rattle.krb_wire.proofs.Cited.{rules, ◌≡◌, ◌<◌, ◌^◌, ◌+◌, ◌++◌, ◌∙◌, ℕ, List, length, ap, sym, subst, length-append, arith, w16, flat_map, AllByRecursion, flat_map-cons, digits, data16, order_of, kt_principal, IsShort, count_field, name_type_field}
 use Rattle.krb_wire.proofs.Fields.{wide16}
 use Rattle.krb_wire.proofs.NamesCompared.{lengths_fit, fits_not}
 use Rattle.krb_wire.proofs.spelling.keytab.kt_principal_len.Goals as goal

@@ -1,6 +1,4 @@
-use Rattle.std.proofs.Common.{◌≡◌, ◌<◌, ◌+◌, ◌*◌, ◌^◌, ◌↔◌, length}
-use Rattle.std.specs.List.{flat_map, AllByRecursion}
-use Rattle.krb_wire.specs.Spelling.{data16, IsShort, order_of, kt_principal}
+use Rattle.krb_wire.proofs.Cited.{◌≡◌, ◌<◌, ◌+◌, ◌*◌, ◌^◌, ◌↔◌, length, flat_map, AllByRecursion, data16, IsShort, order_of, kt_principal}
 use Rattle.krb_wire.proofs.spelling.keytab.kt_principal_len.Given as goal
 
 abbrev pub invariant-loop-component : goal.invariant-loop-component

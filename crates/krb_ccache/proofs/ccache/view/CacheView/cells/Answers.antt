@@ -1,5 +1,4 @@
-use Rattle.std.proofs.Common.{ap}
-use Rattle.krb_ccache.specs.Store.{CacheState}
+use Rattle.krb_ccache.proofs.Cited.{ap, CacheState}
 use Rattle.krb_ccache.proofs.ImageLemmas.{image_cells}
 use Rattle.krb_ccache.proofs.ccache.view.CacheView.cells.Goals as goal
 

@@ -1,5 +1,4 @@
-use Rattle.std.proofs.Common.{ap, ◌∙◌}
-use Rattle.krb_ccache.specs.Store.{CacheState, fault_kind}
+use Rattle.krb_ccache.proofs.Cited.{ap, ◌∙◌, CacheState, fault_kind}
 use Rattle.krb_ccache.proofs.ImageLemmas.{image_parts, no_fault, some_fault}
 use Rattle.krb_ccache.proofs.ccache.view.CacheView.fault.Goals as goal
 

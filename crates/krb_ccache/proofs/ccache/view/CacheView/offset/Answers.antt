@@ -1,6 +1,4 @@
-use Rattle.std.proofs.Common.{◌∙◌, ap, drop}
-use Rattle.krb_ccache.specs.Header.{header_offset, offset_in}
-use Rattle.krb_ccache.specs.Store.{CacheState}
+use Rattle.krb_ccache.proofs.Cited.{◌∙◌, ap, drop, header_offset, offset_in, CacheState}
 use Rattle.krb_ccache.proofs.ImageLemmas.{offset_is}
 use Rattle.krb_ccache.proofs.ccache.view.CacheView.offset.Goals as goal
 

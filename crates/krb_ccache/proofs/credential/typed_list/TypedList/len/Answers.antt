@@ -1,6 +1,4 @@
-use Rattle.std.proofs.Common.{List, length, ap, ◌∙◌}
-use Rattle.krb_wire.proofs.ReadLists.{length_held}
-use Rattle.krb_ccache.specs.Credential.{TypedData, typed_data_at}
+use Rattle.krb_ccache.proofs.Cited.{List, length, ap, ◌∙◌, length_held, TypedData, typed_data_at}
 use Rattle.krb_ccache.proofs.credential.typed_list.TypedList.len.Goals as goal
 
 pub returns : goal.returns

@@ -1,6 +1,5 @@
 -- The old leaves are after the nodes over twice as many.
-use Rattle.std.proofs.Common.{◌≡◌, ◌*◌, ◌^◌, drop, length, ap, sym, ◌∙◌}
-use Rattle.krb_keytab.specs.Tree.{SizeTree}
+use Rattle.krb_keytab.proofs.Cited.{◌≡◌, ◌*◌, ◌^◌, drop, length, ap, sym, ◌∙◌, SizeTree}
 use Rattle.krb_keytab.proofs.SizeLemmas.{doubled}
 use Rattle.krb_keytab.proofs.indexed.tree.Tree.double.Goals as goal
 

@@ -1,6 +1,4 @@
-use Rattle.krb_ktutil.proofs.Cited.{◌≡◌, ◌∙◌, [], ap, inl, subst, sym, IfSome, Ok, Err, Ends, Awaiting, Nothing, Awaited, EndsAt, line_effect, KtutilState}
-use Rattle.krb_ktutil.specs.declared.ktutil.awaiting.Awaiting.TheVariants.{Key}
-use Rattle.krb_ktutil.specs.KtutilPlan.{awaited_entry, with_key}
+use Rattle.krb_ktutil.proofs.Cited.{◌≡◌, ◌∙◌, [], ap, inl, subst, sym, IfSome, Ok, Err, Ends, Awaiting, Nothing, Awaited, EndsAt, line_effect, KtutilState, Key, awaited_entry, with_key}
 use Rattle.krb_ktutil.proofs.KtutilDue.{key_ends}
 use Rattle.krb_ktutil.proofs.ktutil.state.Ktutil.take_key.Goals as goal
 

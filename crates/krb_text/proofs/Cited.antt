@@ -1,0 +1,20 @@
+-- The names that the proofs cite most, passed on from one place. Declares nothing.
+pub use Rattle.std.proofs.Common.{◌≡◌, ℕ, ap, List, ◌∙◌, refl, ◌++◌, sym, true, arith, ◌+◌, [], Err, ◌∷◌, Result, length, Ok, drop, false, Some, None, Option, Bool, ◌<◌, ◌≤◌, append_assoc, map, suc, subst, add-one, rules, cond, codes, ◌/◌, ◌&&◌, length-append, nat_lt, decimal, take, get_or, ◌%◌, drop-cons, ◌-◌, Vec, pos, IsSome, ◌⊎◌, nat_le, ◌*◌, zero, ◌≤ℤ◌, Bor, replicate, IfSome, ◌==◌, ◌^◌, inr, take-append-drop, vec_capacity, neg_ℤ, inl, append-nil, ◌||◌, ◌+ℤ◌}
+pub use Rattle.std.proofs.lemmas.Bool.{ltb-true, ltb-false, not_from_false, ne_eqb, and_parts, eqb-true}
+pub use Rattle.std.proofs.lemmas.Result.{err_from_is_err_and, on_ok_weaker, on_err_weaker}
+pub use Rattle.std.specs.List.{filter_map, AllByRecursion, list_all, list_any, slice_split, cons_option, flat_map, find, position_from, join_with_byte}
+pub use Rattle.std.specs.Option.{MatchOption}
+pub use Rattle.std.specs.Prelude.{IsFalse, IsOk, if◌then◌else◌, ok_or, is_some, slice_get, option_copied, min, IsOkAnd, option_map, is_ok, unwrap_or}
+pub use Rattle.std.specs.Result.{result_ok, OkIff, MatchResult}
+unfoldable pub use Rattle.krb_text.specs.Calendar.{day_number}
+pub use Rattle.krb_text.specs.Flags.{letters_among, flag_letters_of, is_set}
+pub use Rattle.krb_text.specs.Line.{entry_line, fault_text}
+pub use Rattle.krb_text.specs.LineFault.{Reads}
+pub use Rattle.krb_text.specs.Listing.{entry_lines, titles, underlines}
+pub use Rattle.krb_text.specs.Pieces.{pieces, joined, pieces_left}
+pub use Rattle.krb_text.specs.Script.{faults_of, commands_read, commands_from, entry_of, Addition, is_command, TakesMemory, entry_in, read_or_fault, ◌>>=◌, digits_of, RefusesScript, script_of, made}
+pub use Rattle.krb_text.specs.declared.line_fault.LineFault.{LineFault}
+pub use Rattle.hex.specs.Hex.{decode_of, lower_digits, is_hex_digit}
+pub use Rattle.krb_keytab.specs.Entry.{EntryParts, entry_at}
+pub use Rattle.krb_wire.proofs.TextLemmas.{appended_part, left_fails, Left, left_next}
+pub use Rattle.krb_wire.specs.Text.{AppendedPart, Appended, Grew, HadNoRoom}
