@@ -18,6 +18,6 @@ pub use Rattle.krb_keytab.specs.Cells.{size}
 pub use Rattle.krb_keytab.specs.Entry.{EntryParts}
 pub use Rattle.krb_keytab.specs.Find.{PlacedEntry, placed_entries}
 pub use Rattle.krb_wire.proofs.Fields.{some_is}
-pub use Rattle.krb_wire.specs.SameName.{have_same_name}
+pub use Rattle.krb_wire.specs.Names.{have_same_name}
 pub use Rattle.krb_wire.specs.Spelling.{Parts}
 pub use Rattle.krb_wire.specs.declared.format.KtFormat.{KtFormat}

@@ -4,7 +4,7 @@ use Rattle.std.specs.List.{flat_map, list_any}
 use Rattle.std.specs.Vec.Iter.{into_iter_items}
 use Rattle.krb_keytab.specs.Entry.{EntryParts}
 use Rattle.krb_keytab.specs.Find.{PlacedEntry}
-use Rattle.krb_text.specs.Found.{removed_line}
+use Rattle.krb_text.specs.Listing.{removed_line}
 use Rattle.krb_audit.specs.declared.selection.SelectedKvno.{SelectedKvno}
 use Rattle.krb_audit.specs.declared.selection.SelectedKvno.TheVariants.{Any, Exactly}
 use Rattle.krb_audit.specs.declared.selection.Selection.{Selection}

@@ -2,7 +2,7 @@
 use Rattle.std.specs.Prelude.{◌≡◌, ℕ, List, get_or, true, false, Some}
 use Rattle.std.specs.List.{Contains}
 use Rattle.krb_wire.specs.Spelling.{Parts}
-use Rattle.krb_wire.specs.SameName.{have_same_name}
+use Rattle.krb_wire.specs.Names.{have_same_name}
 use Rattle.krb_keytab.specs.Entry.{EntryParts}
 use Rattle.krb_keytab.specs.Find.{PlacedEntry}
 use Rattle.krb_audit.specs.Findings.{is_weak_among, weak_among}

@@ -6,8 +6,7 @@ use Rattle.krb_walk.specs.Store.{fault_of}
 use Rattle.krb_keytab.specs.Cells.{Cell, Live, Free, size}
 use Rattle.krb_keytab.specs.Find.{PlacedEntry, placed_entries}
 use Rattle.krb_keytab.specs.Store.{KeytabState, store_of}
-use Rattle.krb_text.specs.Found.{placed_line}
-use Rattle.krb_text.specs.Listing.{fault_line}
+use Rattle.krb_text.specs.Listing.{placed_line, fault_line}
 use Rattle.krb_audit.specs.declared.marks.Alike.{Alike}
 use Rattle.krb_audit.specs.declared.marks.Marks.{Marks}
 use Rattle.krb_audit.specs.declared.finding_words.FindingWords.{FindingWords}

@@ -8,7 +8,7 @@ use Rattle.std.specs.Ordering.{nat_cmp, ordering_then}
 use Rattle.std.specs.declared.cmp.Ordering.{Ordering}
 use denote.Ref.{Bor}
 use Rattle.krb_wire.specs.Spelling.{Parts, FitsKt}
-use Rattle.krb_wire.specs.SameName.{have_same_name}
+use Rattle.krb_wire.specs.Names.{have_same_name}
 use Rattle.krb_wire.specs.declared.format.KtFormat.{KtFormat}
 use Rattle.krb_keytab.specs.Entry.{EntryParts}
 use Rattle.krb_keytab.specs.Find.{PlacedEntry}

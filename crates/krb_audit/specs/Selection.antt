@@ -3,14 +3,13 @@ use Rattle.std.specs.Prelude.{◌≡◌, ℕ, ◌+◌, List, [], ◌∷◌, Bool
 use Rattle.std.specs.List.{flat_map, list_any}
 use Rattle.std.specs.Str.{bytes_eq}
 use Rattle.krb_wire.specs.declared.principal.Principal.{Principal}
-use Rattle.krb_wire.specs.Names.{name_text}
+use Rattle.krb_wire.specs.Names.{name_text, have_same_name}
 use Rattle.krb_wire.specs.Reading.{principal_parts}
-use Rattle.krb_wire.specs.SameName.{have_same_name}
 use Rattle.krb_wire.specs.Spelling.{Parts}
 use Rattle.krb_keytab.specs.Entry.{EntryParts}
 use Rattle.krb_keytab.specs.Find.{PlacedEntry, placed_entries}
 use Rattle.krb_keytab.specs.Store.{KeytabState}
-use Rattle.krb_text.specs.Found.{removed_line}
+use Rattle.krb_text.specs.Listing.{removed_line}
 use Rattle.krb_audit.specs.declared.selection.SelectedKvno.{SelectedKvno}
 use Rattle.krb_audit.specs.declared.selection.SelectedKvno.TheVariants.{Any, Exactly, Newest, Old, OldFor}
 use Rattle.krb_audit.specs.declared.selection.Selection.{Selection}

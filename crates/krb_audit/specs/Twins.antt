@@ -1,7 +1,7 @@
 -- Which entries are twins.
 use Rattle.std.specs.Prelude.{Bool, ◌&&◌, ◌==◌}
 use Rattle.std.specs.Str.{bytes_eq}
-use Rattle.krb_wire.specs.SameName.{have_same_name}
+use Rattle.krb_wire.specs.Names.{have_same_name}
 use Rattle.krb_keytab.specs.Entry.{EntryParts}
 
 -- two entries are twins: they have the same name, version and enctype

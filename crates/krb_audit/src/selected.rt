@@ -2,7 +2,7 @@
 
 ghost use Rattle.std.specs.Prelude.{◌≡◌, ◌++◌, ◌∷◌, [], if◌then◌else◌, Bool, List, IfOk, OnOk};
 ghost use Rattle.krb_keytab.specs.Find.{PlacedEntry, placed_entries};
-ghost use Rattle.krb_text.specs.Found.{removed_line};
+ghost use Rattle.krb_text.specs.Listing.{removed_line};
 ghost use Rattle.krb_audit.specs.EntryCriteria.{EntriesSoFar};
 ghost use Rattle.krb_audit.specs.Selection.{Selects, selected_in};
 

@@ -8,7 +8,7 @@ use Rattle.krb_ccache.specs.contracts.ccache.Ccache as Ccache
 use Rattle.krb_ccache.proofs.ccache.Ccache.TheSendSync as ccache
 use Rattle.krb_c.proofs.walked.Walked.TheSendSync as walked
 use Rattle.krb_c.specs.contracts.held.Held as Held
-use Rattle.krb_c.specs.Heap.{heap_row, heap_ghosts}
+use Rattle.krb_c.specs.Handle.{heap_row, heap_ghosts}
 
 sent : IsSend heap_row
 sent = search (sendable, heap.send) depth 20

@@ -12,10 +12,9 @@ use Rattle.krb_walk.specs.Store.{Store, IsPlace, IsSound, is_place, end_of, stop
 use Rattle.krb_walk.proofs.Cells.{stops_live}
 use Rattle.krb_walk.proofs.Lists.{some_is}
 use Rattle.krb_walk.proofs.Places.{Extends, puts-extends, cuts-extends, place_kept, stop_place}
-use Rattle.krb_c.specs.Walks.{AreKnown}
+use Rattle.krb_c.specs.Walks.{AreKnown, are_places}
 use Rattle.std.specs.List.{AllByRecursion}
 use Rattle.krb_wire.proofs.NamesCompared.{and_both}
-use Rattle.krb_c.specs.Cursors.{are_places}
 use Rattle.krb_c.specs.Status.{Adds, refusal_status}
 
 -- the cell that a walk stops at, and the place after it

@@ -1,5 +1,5 @@
 -- What the calls return that are given an empty handle.
-use Rattle.std.specs.Prelude.{◌≡◌, ◌⊎◌, ℕ, Option, Some, None, Result, Ok, Err}
+use Rattle.std.specs.Prelude.{◌≡◌, ◌⊎◌, ℕ, Option, Some, None, Result, Ok, Err, ◌&&◌, ◌==◌, nat_le, if◌then◌else◌}
 use Rattle.krb_c.specs.declared.handle.Handle.{Handle}
 
 -- a call returns this status, and the handle stays empty
@@ -14,3 +14,13 @@ OpensOr of (Err why) status held handle = OpensNone (of why) status handle
 -- the same, or it is out of memory
 abbrev pub Opens : {S E : Type 0} → (E → ℕ) → Result S E → ℕ → Option S → Handle → Type 0
 Opens of given status held handle = OpensOr of given status held handle ⊎ OpensNone 1 status handle
+
+-- ---- the limit on the length of an image
+
+-- a number, if it is between the least limit and the greatest
+abbrev pub if_limit : ℕ → Option ℕ
+if_limit n = if nat_le 2 n && nat_le n 1073741824 then Some n else None
+
+-- the limit that C passes, if it is one: 0 means the usual one
+abbrev pub limit_of : ℕ → Option ℕ
+limit_of n = if n == 0 then Some 16777216 else if_limit n

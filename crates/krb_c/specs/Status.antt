@@ -6,7 +6,7 @@ use Rattle.krb_walk.specs.declared.refusal.Code.{Code}
 use Rattle.krb_walk.specs.declared.refusal.Refusal.{Refusal}
 use Rattle.krb_walk.specs.declared.refusal.Refusal.TheVariants as refusal
 use Rattle.krb_walk.specs.declared.fault.Fault.{Fault}
-use Rattle.krb_walk.specs.Numbers.{code_number, fault_number}
+use Rattle.krb_walk.specs.Phrases.{code_number, fault_number}
 use Rattle.krb_keytab.specs.declared.open.KtOpenFault.{KtOpenFault}
 use Rattle.krb_keytab.specs.Open.{open_fault_number as kt_fault_number}
 use Rattle.krb_ccache.specs.declared.open.CcOpenFault.{CcOpenFault}

@@ -1,8 +1,10 @@
 -- Steps of walks, over keytabs and caches alike.
-use Rattle.std.specs.Prelude.{◌≡◌, ℕ, Bool, true, false, Option, IsSome, IfSome, IsSomeAnd}
+use Rattle.std.specs.Prelude.{◌≡◌, ℕ, Bool, true, false, Option, IsSome, IfSome, IsSomeAnd, List, [], ◌∷◌, ◌&&◌, Result, Err, if◌then◌else◌}
 use Rattle.krb_walk.specs.declared.stop.Stop.{Stop}
 use Rattle.krb_walk.specs.declared.stop.Stop.TheVariants.{Live, End, Fault}
 use Rattle.krb_walk.specs.Store.{Store, IsPlace, is_place, live_bytes, stop_at}
+use Rattle.krb_walk.specs.declared.refusal.Code.{Code}
+use Rattle.krb_walk.specs.declared.refusal.Code.TheVariants.{NotAPlace}
 
 -- what is remembered of a store: the place of a live cell, and a place
 pub record AreKnown (s : Store) (given next : Option ℕ) : Type 0 where
@@ -25,3 +27,14 @@ module _ {Record Shown : Type 0} (at_place : ℕ → Option Record) (Shows : Sho
   -- a step of a walk over a store from a cursor
   abbrev pub StepsOver : Store → ℕ → ℕ → ℕ → Shown → Shown → Type 0
   StepsOver s status cursor new_cursor seen new_seen = StepsFrom (is_place s cursor) (stop_at s cursor) status cursor new_cursor seen new_seen
+
+-- ---- the cursors of walks
+
+-- each is a place of the store
+abbrev pub are_places : Store → List ℕ → Bool
+are_places s [] = true
+are_places s (p ∷ ps) = is_place s p && are_places s ps
+
+-- the result of a rewrite with cursors: refused first if one of them is not a place
+abbrev pub with_cursors : {S : Type 0} → Store → List ℕ → Result S Code → Result S Code
+with_cursors s cursors given = if are_places s cursors then given else Err NotAPlace

@@ -1,7 +1,7 @@
 //! The cursors of walks.
 
 ghost use Rattle.std.specs.Prelude.{◌≡◌};
-ghost use Rattle.krb_c.specs.Cursors.{are_places};
+ghost use Rattle.krb_c.specs.Walks.{are_places};
 
 use krb_walk::Placed;
 

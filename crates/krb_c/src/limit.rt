@@ -1,7 +1,7 @@
 //! The limit on the length of an image.
 
 ghost use Rattle.std.specs.Prelude.{◌≡◌};
-ghost use Rattle.krb_c.specs.Limit.{limit_of};
+ghost use Rattle.krb_c.specs.Opens.{limit_of};
 
 use krb_wire::Limits;
 

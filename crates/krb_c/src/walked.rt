@@ -2,9 +2,8 @@
 
 ghost use Rattle.std.specs.Prelude.{◌≡◌, ◌⊎◌, Ok, map};
 ghost use Rattle.krb_walk.specs.Ranks.{carry};
-ghost use Rattle.krb_c.specs.Cursors.{with_cursors};
+ghost use Rattle.krb_c.specs.Walks.{with_cursors, StepsOver};
 ghost use Rattle.krb_c.specs.Status.{Adds, Changes, Rewrites};
-ghost use Rattle.krb_c.specs.Walks.{StepsOver};
 
 use crate::cursors::are_places;
 use crate::records::Records;

@@ -15,7 +15,7 @@ pub use Rattle.krb_ccache.specs.Credentials.{CredentialsFrom, AreCredentials, li
 pub use Rattle.krb_ccache.specs.Header.{header, Field, fields_in, offset_in, fields_format, only_cells, field, FitsHeader, FitsField, header_offset, offset_of, first_of, header_end}
 unfoldable pub use Rattle.krb_ccache.specs.Header.{header_at, field_at}
 pub use Rattle.krb_ccache.specs.Laws.{AreBytes, live_credentials, IsSoundCache}
-pub use Rattle.krb_ccache.specs.NewImage.{new_texts, new_text}
+pub use Rattle.krb_ccache.specs.Rewrite.{new_texts, new_text}
 pub use Rattle.krb_ccache.specs.Open.{cache_of, InMemory, IsImage, Holds, principal_in, header_in, credentials_len, empty_name, ArePlaces}
 pub use Rattle.krb_ccache.specs.SetConfig.{entry_of, match_places, HoldsConfig, then_without, config_entry, matches_of, SettingParts}
 pub use Rattle.krb_ccache.specs.Store.{CacheState, store_of, store_cell, first_place, credentials_format, image_of, credential_at_place, live_by, placed_from, fault_kind, live_of, open_header, version_byte, PlacedCredential, is_live, if_live, open_default, open_result, version_in, placed_credentials}
@@ -24,7 +24,7 @@ pub use Rattle.krb_ccache.specs.declared.open.Layout.{Layout}
 pub use Rattle.krb_ccache.specs.declared.version.Version.{Version}
 pub use Rattle.krb_ccache.specs.declared.version.Version.TheVariants.{V4, V3}
 pub use Rattle.krb_cells.proofs.ContentsLemmas.{contents_again, contents_spelled, unframed_format, reads_one, unframed_cell, IsFormat, contents_behind, reads_none, ReadsOne, behind}
-pub use Rattle.krb_cells.specs.CellFormat.{seen_in, AreCells}
+pub use Rattle.krb_cells.specs.Cells.{seen_in, AreCells}
 pub use Rattle.krb_cells.specs.Contents.{Contents, contents, next_by, spelling, IsCell, IsSpelled, NoMore, IsEnd, More}
 pub use Rattle.krb_walk.specs.Store.{end_of, fault_of, end_from, live_bytes, IsPlace, Cell, fault_from, is_place_from, Store}
 pub use Rattle.krb_walk.specs.declared.refusal.Code.{Code}
@@ -33,7 +33,7 @@ pub use Rattle.krb_wire.proofs.PenLemmas.{puts_then, left_next, Left, left_none,
 pub use Rattle.krb_wire.proofs.Places.{IsField}
 pub use Rattle.krb_wire.proofs.Principals.{cc_principal_field, data16_field, data32_field, no_cc_principal}
 pub use Rattle.krb_wire.proofs.ReadLists.{held_has_one, length_held, held_has_end, first_held, none_held, list_takes, held, ends, is_done, list_again, length_list, goes_on, past_held}
-pub use Rattle.krb_wire.specs.Pen.{Puts, HasRoom, IsAt}
+pub use Rattle.krb_wire.specs.Text.{Puts, HasRoom, IsAt}
 pub use Rattle.krb_wire.specs.Reading.{data16_at, cc_principal_at, number_at, list_end, ◌>>=◌, byte_at, data32_at, principal_parts}
 pub use Rattle.krb_wire.specs.Spelling.{cc_principal, digits, data32, Parts, FitsCc, data16, IsLong, cc_name_fits, IsShort}
 pub use Rattle.krb_wire.specs.declared.format.Order.TheVariants.{Big}

@@ -4,7 +4,7 @@ use Rattle.std.specs.Prelude.{filter, find, option_map, not, ◌==◌, ◌&&◌}
 use Rattle.std.specs.Str.{bytes_eq}
 use Rattle.std.proofs.lemmas.List.Elements.{filter-append}
 use Rattle.std.proofs.lemmas.Slice.Eq.{bytes_eq-Decides}
-use Rattle.krb_wire.specs.SameName.{have_same_name}
+use Rattle.krb_wire.specs.Names.{have_same_name}
 use Rattle.krb_wire.proofs.NamesCompared.{same_name_is}
 use Rattle.krb_walk.specs.Events.{cut_store}
 use Rattle.krb_ccache.proofs.CredentialField.{credential_field}

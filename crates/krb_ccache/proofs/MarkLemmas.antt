@@ -1,6 +1,6 @@
 -- A credential that is marked in place.
 use Rattle.krb_ccache.proofs.Cited.{◌≡◌, ℕ, ◌+◌, ◌<◌, ◌≤◌, Bool, true, false, List, [], ◌∷◌, ◌++◌, length, take, drop, map, Option, Some, None, refl, sym, ap, ◌∙◌, append_assoc, length-append, arith, ◌==◌, find, splice, nat_tests, take_at, drop_at, drop-drop, take-append-drop, length-take, length-drop, Big, cc_principal, data32, IsBytes, IsBytes-drop, some_is, cc_principal_field, end_from, Version, CredParts, number32, typed_list, key, times, credential, credential_at, is_marked, FitsCredential, placed_from, live_of, if_live, store_cell, add_mark, add_mark_at}
-use Rattle.krb_ccache.specs.Mark.{times_from}
+use Rattle.krb_ccache.specs.Credentials.{times_from}
 use Rattle.krb_ccache.proofs.CredentialField.{credential_field}
 use Rattle.krb_ccache.proofs.Fields.{key_field}
 use Rattle.krb_ccache.proofs.CellLemmas.{end_is}

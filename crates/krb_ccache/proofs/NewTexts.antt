@@ -1,7 +1,6 @@
 -- The new texts of credentials in a rewrite.
 use Rattle.krb_ccache.proofs.Cited.{◌≡◌, ℕ, ◌+◌, ◌-◌, ◌<◌, ◌≤◌, Bool, true, false, List, [], ◌∷◌, ◌++◌, length, take, drop, Some, None, refl, sym, ap, ◌∙◌, append_assoc, length-append, arith, flat_map, w16, append-nil, take_at, drop_at, drop-drop, Big, digits, data32, cc_principal, IsBytes, some_is, wide16, cc_principal_field, Contents, Version, V3, V4, CredParts, number32, typed_list, times, credential, credential_at, is_marked, FitsCredential, in_version_4}
-use Rattle.krb_ccache.specs.Rewrite.{new_cells}
-use Rattle.krb_ccache.specs.NewImage.{new_text, new_texts, after_first_enctype, ReadsNewText}
+use Rattle.krb_ccache.specs.Rewrite.{new_cells, new_text, new_texts, after_first_enctype, ReadsNewText}
 use Rattle.krb_ccache.proofs.CredentialField.{credential_field}
 use Rattle.krb_ccache.proofs.Fields.{field16}
 use Rattle.krb_ccache.proofs.CellLemmas.{read_one, read_left, read_none}

@@ -3,7 +3,7 @@ use Rattle.krb_ccache.proofs.Cited.{◌≡◌, ℕ, List, [], ◌∷◌, map, Re
 use Rattle.krb_walk.specs.declared.event.Event.TheVariants.{Cut}
 use Rattle.krb_walk.specs.Events.{put_store, cut_store}
 use Rattle.krb_walk.specs.History.{state_after}
-use Rattle.krb_ccache.specs.Placed.{cache_rules}
+use Rattle.krb_ccache.specs.Rewrite.{cache_rules}
 
 pub removals_leave : (k : CacheState) (cursors places : List ℕ) → (state_after cache_rules (record { store = k; cursors = cursors }) (map Cut places)).store ≡ without k places
 removals_leave k cursors [] = refl

@@ -2,7 +2,7 @@
 use Rattle.std.specs.Prelude.{ℕ, Bool, true, false, ◌&&◌, List, [], ◌∷◌, Option, Some, None, is_some, option_map, find, codes, option_copied, if◌then◌else◌}
 use Rattle.std.specs.Str.{bytes_eq}
 use Rattle.krb_wire.specs.Spelling.{Parts}
-use Rattle.krb_wire.specs.SameName.{have_same_name}
+use Rattle.krb_wire.specs.Names.{have_same_name}
 use Rattle.krb_ccache.specs.declared.config.ConfigName.{ConfigName}
 use Rattle.krb_ccache.specs.Credential.{CredParts}
 use Rattle.krb_ccache.specs.Store.{CacheState, PlacedCredential, placed_credentials}

@@ -2,8 +2,9 @@
 use Rattle.std.specs.Prelude.{◌≡◌, ℕ, ◌+◌, ◌≤◌, ◌^◌, List, [], ◌∷◌, length, filter, find, ◌==◌, Option, Some, None}
 use Rattle.krb_cells.specs.Contents.{contents}
 use Rattle.krb_ccache.specs.declared.version.Version.{Version}
-use Rattle.krb_ccache.specs.Credential.{CredParts, credential}
+use Rattle.krb_ccache.specs.Credential.{CredParts, credential, key_at}
 use Rattle.krb_ccache.specs.Store.{CacheState, PlacedCredential, credentials_format, placed_from, is_live, live_of, first_place}
+use Rattle.krb_wire.specs.Reading.{◌>>=◌, cc_principal_at}
 
 -- credentials of a version that begin at a place
 pub record CredentialsFrom : Type 0 where
@@ -41,3 +42,13 @@ pub record AreCredentials (k : CacheState) (first : ℕ) (bytes : List ℕ) : Ty
   pub place : first ≡ first_place k
   pub contents : contents (credentials_format k.version) bytes ≡ record { cells = k.contents.cells; end = [] }
   pub small : first + length bytes ≤ 2 ^ 30
+
+-- ---- for private contracts only: where the times of a credential are
+
+-- the bytes from the times on of the credential that the bytes begin with
+unfoldable pub times_from : Version → List ℕ → Option (List ℕ)
+times_from v bytes = do
+  client ← cc_principal_at bytes
+  server ← cc_principal_at client.1
+  key ← key_at v server.1
+  Some key.1

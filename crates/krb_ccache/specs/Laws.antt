@@ -11,8 +11,7 @@ use Rattle.krb_ccache.specs.Credential.{CredParts, credential, credential_at, Fi
 use Rattle.krb_ccache.specs.Header.{FitsHeader}
 use Rattle.krb_ccache.specs.Store.{CacheState, credentials_format, image_of, open_result, placed_credentials}
 use Rattle.krb_ccache.specs.Changes.{without}
-use Rattle.krb_ccache.specs.Placed.{cache_rules}
-use Rattle.krb_ccache.specs.Rewrite.{rewrite_result}
+use Rattle.krb_ccache.specs.Rewrite.{cache_rules, rewrite_result}
 use Rattle.krb_ccache.specs.SetConfig.{SettingParts, setting_events, set_config_result}
 
 -- each number is below 256

@@ -9,7 +9,4 @@ pub mod SetConfig
 pub mod Laws
 -- For private contracts only.
 pub mod Credentials
-pub mod Mark
 pub mod Rewrite
-pub mod NewImage
-pub mod Placed

@@ -25,7 +25,7 @@ fn live_text<'a>(credential: &CredView<'_>, text: &'a [u8]) -> Option<&'a [u8]>
 }
 
 impl CellFormat for Version {
-    ghost use Rattle.krb_cells.specs.CellFormat.{seen_in};
+    ghost use Rattle.krb_cells.specs.Cells.{seen_in};
     ghost use Rattle.krb_ccache.specs.Store.{credentials_format, store_cell};
 
     ghost cells = { λ v. seen_in (credentials_format v) (store_cell v) };

@@ -5,7 +5,7 @@ ghost use Rattle.std.specs.List.{splice};
 ghost use Rattle.krb_wire.specs.Reading.{Gives};
 ghost use Rattle.krb_ccache.specs.Credential.{CredParts, number32, credential, credential_at};
 ghost use Rattle.krb_ccache.specs.Changes.{add_mark, with_mark};
-ghost use Rattle.krb_ccache.specs.Mark.{times_from};
+ghost use Rattle.krb_ccache.specs.Credentials.{times_from};
 ghost use Rattle.krb_ccache.specs.Open.{cache_of, Holds, IsImage};
 ghost use Rattle.krb_ccache.specs.Store.{credential_at_place};
 
@@ -17,7 +17,7 @@ use crate::version::Version;
 use krb_wire::{Order, Pen, split_cc_principal, tail};
 
 // Returns the bytes from the times on of the credential that the bytes begin with, if any.
-#[tactic(auto, unfolding(crate::specs::Mark::times_from))]
+#[tactic(auto, unfolding(crate::specs::Credentials::times_from))]
 fn skip_to_times(version: Version, bytes: &[u8]) -> Option<&[u8]>
     ensures { Gives (λ x. x.now) result (times_from version bytes.now) }
 {

@@ -1,13 +1,13 @@
 //! The image of a rewrite: a preamble, and the live credentials in version 4.
 
 ghost use Rattle.std.specs.Prelude.{◌≡◌, ◌≤◌, ◌<◌, ◌^◌, ◌+◌, ◌++◌, [], length, IsSome, IfOk, IfSome, IfNone, Some, None};
-ghost use Rattle.krb_wire.specs.Pen.{HasRoom, Puts};
+ghost use Rattle.krb_wire.specs.Text.{HasRoom, Puts};
 ghost use Rattle.krb_wire.specs.Reading.{Gives};
 ghost use Rattle.krb_wire.specs.Spelling.{FitsCc};
 ghost use Rattle.krb_ccache.specs.declared.version.Version.TheVariants.{V4};
 ghost use Rattle.krb_ccache.specs.Credential.{CredParts, credential, credential_at, in_version_4};
 ghost use Rattle.krb_ccache.specs.Changes.{new_preamble};
-ghost use Rattle.krb_ccache.specs.NewImage.{new_texts, after_first_enctype, ReadsNewText};
+ghost use Rattle.krb_ccache.specs.Rewrite.{new_texts, after_first_enctype, ReadsNewText};
 
 use crate::cells::bytes_fit;
 use crate::credential::view::split_credential;
@@ -18,7 +18,7 @@ use krb_wire::{Name, NoMemory, Order, Pen, split_cc_principal, split_u16, tail};
 use std::alloc::Allocator;
 
 // Returns the bytes after the first enctype of the credential that the bytes begin with, if any.
-#[tactic(auto, unfolding(crate::specs::NewImage::after_first_enctype))]
+#[tactic(auto, unfolding(crate::specs::Rewrite::after_first_enctype))]
 fn skip_first_enctype(bytes: &[u8]) -> Option<&[u8]>
     ensures { Gives (λ x. x.now) result (after_first_enctype bytes.now) }
 {

@@ -7,7 +7,7 @@ use std::alloc::Allocator;
 
 impl<A: Allocator + Copy> Placed for Ccache<A> {
     ghost use Rattle.krb_ccache.specs.Store.{CacheState};
-    ghost use Rattle.krb_ccache.specs.Placed.{cache_rules};
+    ghost use Rattle.krb_ccache.specs.Rewrite.{cache_rules};
 
     type Item = Cred<A>;
 

@@ -2,7 +2,7 @@
 
 ghost use Rattle.std.specs.Prelude.{◌≡◌, ◌≤◌, ◌<◌, ◌^◌, ◌+◌, length, IfSome, IfNone, vec_len};
 ghost use Rattle.std.specs.List.{splice};
-ghost use Rattle.krb_wire.specs.Pen.{HasRoom, Puts};
+ghost use Rattle.krb_wire.specs.Text.{HasRoom, Puts};
 ghost use Rattle.krb_wire.specs.Spelling.{FitsCc};
 ghost use Rattle.krb_ccache.specs.declared.version.Version.TheVariants.{V4};
 ghost use Rattle.krb_ccache.specs.Header.{header, offset_in};

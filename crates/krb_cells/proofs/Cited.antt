@@ -5,6 +5,6 @@ pub use Rattle.std.proofs.lemmas.List.{drop-drop, drop_at, length-drop, length-s
 pub use Rattle.std.specs.List.{AllByRecursion, splice, flat_map}
 pub use Rattle.std.specs.Prelude.{nat_le, is_some, option_copied, ◌==◌, slice_set, IsSome}
 pub use Rattle.krb_cells.specs.Carry.{GoesBy, between, new_place, new_after, new_width, AreGiven, Passes, whole, HasGiven, EncodesAt}
-pub use Rattle.krb_cells.specs.CellFormat.{AreCells, HasCells, seen_in, cell_of}
+pub use Rattle.krb_cells.specs.Cells.{AreCells, HasCells, seen_in, cell_of}
 pub use Rattle.krb_walk.specs.Store.{Store, Cell, is_place_from, end_from, is_place, IsPlace, end_of, live_bytes, Record, stop_of, end_stop, stop_at, IsSound}
 pub use Rattle.krb_wire.proofs.Fields.{IsBytes, is_some_has, wide32, Takes, IsBytes-drop}

@@ -1,5 +1,4 @@
 -- The definitions that the contracts of this crate use.
 pub mod Contents
-pub mod CellFormat
 pub mod Cells
 pub mod Carry

@@ -10,7 +10,7 @@ ghost use Rattle.krb_wire.specs.declared.format.Order.TheVariants.{Big};
 ghost use Rattle.krb_wire.specs.Spelling.{digits};
 ghost use Rattle.krb_walk.specs.Store.{IsPlace, end_from};
 ghost use Rattle.krb_walk.specs.Ranks.{carry as carry_of, Rewrites};
-ghost use Rattle.krb_cells.specs.CellFormat.{AreCells};
+ghost use Rattle.krb_cells.specs.Cells.{AreCells};
 ghost use Rattle.krb_cells.specs.Carry.{between, store_in, new_place, Passes, AreGiven, HasGiven, GoesBy};
 
 use crate::cell_format::CellFormat;

@@ -2,7 +2,7 @@
 
 ghost use Rattle.std.specs.Prelude.{◌≡◌, ℕ, List, [], ◌∷◌, drop, IfSome, IfNone};
 ghost use Rattle.krb_walk.specs.Store.{Cell};
-ghost use Rattle.krb_cells.specs.CellFormat.{AreCells, cell_of};
+ghost use Rattle.krb_cells.specs.Cells.{AreCells, cell_of};
 
 /// A cell: its width in bytes and, if it is live, the bytes that a store returns of it.
 #[derive(Clone, Copy, Debug)]

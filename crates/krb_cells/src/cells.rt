@@ -3,8 +3,7 @@
 ghost use Rattle.std.specs.Prelude.{◌≡◌, ◌≤◌, ◌^◌, ◌+◌, length, IsSome, Some, option_copied};
 ghost use Rattle.std.specs.Iterator.{item_count};
 ghost use Rattle.krb_walk.specs.Store.{end_of, fault_of, is_place, live_bytes, stop_at, IsPlace, IsSound};
-ghost use Rattle.krb_cells.specs.CellFormat.{AreCells};
-ghost use Rattle.krb_cells.specs.Cells.{GivesCell, IsFrom};
+ghost use Rattle.krb_cells.specs.Cells.{AreCells, GivesCell, IsFrom};
 
 use crate::cell_format::{CellFormat, CellView};
 use krb_walk::{Fault, FaultKind, Stop};

@@ -14,7 +14,7 @@ pub use Rattle.krb_keytab.specs.Changes.{put_result, without}
 pub use Rattle.krb_keytab.specs.Entry.{EntryParts}
 pub use Rattle.krb_keytab.specs.Find.{PlacedEntry, placed_entries}
 pub use Rattle.krb_keytab.specs.Store.{KeytabState, entry_at_place}
-pub use Rattle.krb_text.specs.Found.{removed_line}
+pub use Rattle.krb_text.specs.Listing.{removed_line}
 pub use Rattle.krb_walk.specs.declared.refusal.Code.{Code}
 pub use Rattle.krb_wire.proofs.Fields.{some_is}
 pub use Rattle.krb_wire.specs.Names.{name_text}

@@ -10,10 +10,8 @@ use Rattle.std.specs.Cmp.Lexicographic.{slice_cmp}
 use Rattle.std.proofs.lemmas.Map.Text.{is_eq-slice_cmp}
 use Rattle.std.proofs.lemmas.Slice.Eq.{bytes_eq-Decides}
 use Rattle.krb_wire.specs.Spelling.{Parts}
-use Rattle.krb_wire.specs.Names.{joined_components}
+use Rattle.krb_wire.specs.Names.{joined_components, quote, have_same_name}
 use Rattle.krb_wire.specs.NameOf.{name_of}
-use Rattle.krb_wire.specs.Quote.{quote}
-use Rattle.krb_wire.specs.SameName.{have_same_name}
 use Rattle.krb_wire.proofs.NamesCompared.{same_name_is, and_both, both_and}
 use Rattle.krb_wire.proofs.RoundTrip.{name_of-name_text}
 use Rattle.krb_audit.specs.Hash.{hash_of}

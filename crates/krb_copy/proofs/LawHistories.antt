@@ -4,7 +4,7 @@ use Rattle.krb_walk.specs.declared.event.Event.{Event}
 use Rattle.krb_walk.specs.declared.event.Event.TheVariants.{Put, Cut}
 use Rattle.krb_walk.specs.Events.{SessionState, after, put_store}
 use Rattle.krb_walk.specs.History.{state_after}
-use Rattle.krb_keytab.specs.Placed.{keytab_rules}
+use Rattle.krb_keytab.specs.Rewrite.{keytab_rules}
 use Rattle.krb_keytab.proofs.StoreChanges.{cuts_ran}
 use Rattle.krb_copy.specs.Laws.{AllStay, AreHistories, changes_of, changes_on, changes_over}
 use Rattle.krb_copy.proofs.Elsewhere.{put_elsewhere}

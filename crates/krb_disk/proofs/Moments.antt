@@ -5,7 +5,7 @@ use Rattle.krb_disk.specs.declared.stage.Stage.{Stage}
 use Rattle.krb_disk.specs.declared.stage.Stage.TheVariants.{Written, Examined, Permitted, Synced, Ours, Same, Quiet}
 use Rattle.krb_disk.specs.Disk.{File, Names, Save, Call, Make, Lock, AtPath, Double, Write, Own, Stat, Permit, Sync, Remove, Fail, Compare, Watch, Rename, Intrude, Pass, Moment, Turns, Asks, Does, Happens, IsFirst, IsLeft, HasDueMode, IsSafe}
 use Rattle.krb_disk.specs.Stages.{IsDueMode, IsSame, IsQuiet, stood, watched, synced}
-use Rattle.krb_disk.specs.Target.{new_path}
+use Rattle.krb_disk.specs.NewFile.{new_path}
 
 -- the file exists and has the bytes of the save
 abbrev HasBytes : Save → Option File → Type 0

@@ -4,7 +4,7 @@ use Rattle.krb_disk.specs.declared.looks.Found.{Found}
 use Rattle.krb_disk.specs.declared.stage.Stage.{Stage}
 use Rattle.krb_disk.specs.declared.stage.Stage.TheVariants.{Made, Locked, Agreed, Held, Written, Examined, Permitted, Ours, Same, Lost}
 use Rattle.krb_disk.specs.Stages.{private_mode, IsDueMode, IsFound, IsSame, IsQuiet, stood, watched, synced}
-use Rattle.krb_disk.specs.Target.{new_path}
+use Rattle.krb_disk.specs.NewFile.{new_path}
 
 -- a file, and whether its bytes survive a crash
 pub record File : Type 0 where

@@ -4,7 +4,6 @@ pub mod Content
 pub mod Device
 pub mod Disk
 pub mod DiskFiles
-pub mod Faults
 pub mod Holding
 pub mod InPlace
 pub mod Looks
@@ -12,4 +11,3 @@ pub mod Mode
 pub mod NewFile
 pub mod PlaceStages
 pub mod Stages
-pub mod Target

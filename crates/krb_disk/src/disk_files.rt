@@ -1,9 +1,8 @@
 //! Files on a disk, by name.
 
 ghost use Rattle.std.specs.Prelude.{◌≡◌, ◌≤◌, ◌<◌, true, false, [], ◌∷◌, None, Some, is_ok, is_some, IfOk, OnOk, OnErr, IfErr, IsSome, IsTrue, vec_len};
-ghost use Rattle.krb_disk.specs.Aftermaths.{IsDone, IsRefused};
+ghost use Rattle.krb_disk.specs.Aftermaths.{IsDone, IsRefused, load_fault, save_fault};
 ghost use Rattle.krb_disk.specs.DiskFiles.{Disk, Fails, CountsLoad, CountsSave, AnswersFromDisk, SavesToDisk, is_in_place, left};
-ghost use Rattle.krb_disk.specs.Faults.{load_fault, save_fault};
 ghost use Rattle.krb_disk.specs.Holding.{IsHeldAs, name_of};
 
 mod holding;

@@ -1,8 +1,7 @@
 //! Why a call on the disk failed.
 
 ghost use Rattle.std.specs.Prelude.{◌≡◌, None};
-ghost use Rattle.krb_disk.specs.Aftermaths.{IsRefused, IsUndone};
-ghost use Rattle.krb_disk.specs.Faults.{load_fault, save_fault};
+ghost use Rattle.krb_disk.specs.Aftermaths.{IsRefused, IsUndone, load_fault, save_fault};
 ghost use Rattle.krb_disk.specs.declared.fault.DiskFault.TheVariants.{NoMemory};
 ghost use Rattle.krb_disk.specs.declared.fault.ReadFault.TheVariants.{Disk};
 

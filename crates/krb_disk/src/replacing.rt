@@ -3,9 +3,8 @@
 ghost use Rattle.std.specs.Prelude.{◌≡◌, ◌∷◌, IfOk, OnOk, OnErr, string_bytes};
 ghost use Rattle.std.specs.Path.{path_buf_bytes};
 ghost use Rattle.krb_disk.specs.Looks.{IsPlainOrNone};
-ghost use Rattle.krb_disk.specs.NewFile.{IsHeldAt};
+ghost use Rattle.krb_disk.specs.NewFile.{IsHeldAt, new_path};
 ghost use Rattle.krb_disk.specs.Stages.{snapshot_file, watched};
-ghost use Rattle.krb_disk.specs.Target.{new_path};
 ghost use Rattle.krb_disk.specs.declared.stage.Stage.TheVariants.{Synced, Same, Quiet};
 
 use crate::calls::{Calls, NewFile};

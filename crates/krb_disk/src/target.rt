@@ -2,7 +2,7 @@
 
 ghost use Rattle.std.specs.Prelude.{◌≡◌, ◌≢◌, [], string_bytes, IfOk, IfSome, OnOk, bit_and};
 ghost use Rattle.std.specs.Path.{path_buf_bytes, path_parent};
-ghost use Rattle.krb_disk.specs.Target.{folder, new_path};
+ghost use Rattle.krb_disk.specs.NewFile.{folder, new_path};
 
 use crate::fault::DiskFault;
 use crate::looks::same::is_same_file;

@@ -2,7 +2,7 @@
 use Rattle.std.specs.Prelude.{ℕ, ◌-◌, List, [], ◌++◌, length, replicate, take, slice_get, unwrap_or, Bool, not, ◌&&◌, nat_le, if◌then◌else◌, Option, None, Some}
 use Rattle.std.specs.Char.{is_ascii_hexdigit}
 use Rattle.std.specs.List.{list_any}
-use Rattle.krb_text.specs.Pieces.{pieces}
+use Rattle.krb_text.specs.Word.{pieces}
 use Rattle.krb_driver.specs.declared.first_word.FirstWord.{FirstWord}
 
 -- the line of a script with that number, counted from 1, or an empty one

@@ -2,7 +2,7 @@
 use Rattle.std.specs.Prelude.{◌≡◌, ◌≢◌, ◌||◌, ℕ, ◌+◌, ◌<◌, ◌≤◌, List, length, Result, IfOk, IfErr, IfSome, IsErrOf}
 use Rattle.krb_files.specs.declared.files.LoadFault.{LoadFault}
 use Rattle.krb_files.specs.declared.files.LoadFault.TheVariants.{Missing, TooLarge}
-use Rattle.krb_files.specs.Reader.{Source, ConsumesAtMost, is_read_fault}
+use Rattle.krb_files.specs.Bytes.{Source, ConsumesAtMost, is_read_fault}
 
 -- a reader gave all that it had left; or it had more left than `most` bytes, or it failed, or memory ran out
 pub record GivesInput (most : ℕ) (reader reader' : Source) (input : Result (List ℕ) LoadFault) : Type 0 where

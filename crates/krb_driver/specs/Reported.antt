@@ -5,7 +5,7 @@ use Rattle.krb_walk.specs.declared.fault.FaultKind.{FaultKind}
 use Rattle.krb_walk.specs.declared.fault.FaultKind.TheVariants.{CutLength, Overrun, BadEntry, BadCredential}
 use Rattle.krb_walk.specs.declared.refusal.Code.{Code}
 use Rattle.krb_walk.specs.declared.refusal.Code.TheVariants.{Damaged, TooLong, Full, NotAPlace, NotLive, NoSuchWalk, TooManyWalks, ReadOnly, NotFound, KvnoNotFound, Marked}
-use Rattle.krb_walk.specs.Numbers.{code_number, fault_number}
+use Rattle.krb_walk.specs.Phrases.{code_number, fault_number}
 use Rattle.krb_walk.specs.ReplyContent.{ReplyContent, Refused, Faulted}
 use Rattle.krb_driver.specs.declared.verdict.FileKind.{FileKind}
 use Rattle.krb_driver.specs.declared.verdict.Verdict.{Verdict}

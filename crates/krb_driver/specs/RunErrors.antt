@@ -1,7 +1,7 @@
 -- The errors that end a run: where they come from, their messages, and the exit status.
 use Rattle.std.specs.Prelude.{ℕ, max, Bool, true, false, List, [], Option, None, Some, Result, Ok, Err, codes}
 use Rattle.krb_walk.specs.declared.refusal.Code.TheVariants.{Damaged, NotFound}
-use Rattle.krb_walk.specs.Numbers.{code_number}
+use Rattle.krb_walk.specs.Phrases.{code_number}
 use Rattle.krb_keytab.specs.Open.{open_fault_number}
 use Rattle.krb_ccache.specs.Open.{open_fault_number as cache_fault_number}
 use Rattle.krb_files.specs.declared.aftermath.Aftermath.{Aftermath}

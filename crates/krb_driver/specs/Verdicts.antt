@@ -2,7 +2,7 @@
 use Rattle.std.specs.Prelude.{ℕ, List, [], if◌then◌else◌, Bool, true, false, Option, None, Some, codes}
 use Rattle.krb_walk.specs.declared.fault.Fault.{Fault}
 use Rattle.krb_walk.specs.declared.refusal.Code.TheVariants.{NotFound}
-use Rattle.krb_walk.specs.Numbers.{code_number}
+use Rattle.krb_walk.specs.Phrases.{code_number}
 use Rattle.krb_driver.specs.declared.verdict.Verdict.{Verdict}
 use Rattle.krb_driver.specs.declared.verdict.Verdict.TheVariants.{Well, HiddenFrom, NoEntry, Listed, Replied, Found, NothingToRemove}
 use Rattle.krb_driver.specs.Messages.{file_number_message}

@@ -5,8 +5,7 @@ use Rattle.krb_walk.specs.declared.refusal.Code.TheVariants.{Damaged, Full, NotA
 use Rattle.std.specs.List.{flat_map}
 use Rattle.krb_walk.specs.declared.fault.Fault.{Fault}
 use Rattle.krb_walk.specs.declared.fault.FaultKind.{FaultKind}
-use Rattle.krb_walk.specs.Numbers.{code_number, fault_number}
-use Rattle.krb_walk.specs.Phrases.{code_phrase, fault_phrase}
+use Rattle.krb_walk.specs.Phrases.{code_number, fault_number, code_phrase, fault_phrase}
 use Rattle.krb_keytab.specs.declared.open.KtOpenFault.{KtOpenFault}
 use Rattle.krb_keytab.specs.declared.open.KtOpenFault.TheVariants as kt
 use Rattle.krb_keytab.specs.Open.{open_fault_phrase as kt_phrase}

@@ -11,7 +11,7 @@ use Rattle.krb_walk.specs.History.{state_after}
 use Rattle.krb_walk.specs.Ran.{Ran}
 use Rattle.krb_ccache.specs.Changes.{is_refused, put_result}
 use Rattle.krb_ccache.specs.Credential.{CredParts}
-use Rattle.krb_ccache.specs.Placed.{cache_rules}
+use Rattle.krb_ccache.specs.Rewrite.{cache_rules}
 use Rattle.krb_ccache.specs.SetConfig.{SettingParts, entry_of, match_places, setting_events}
 use Rattle.krb_ccache.specs.Store.{CacheState}
 use Rattle.krb_cache_text.specs.Script.{CacheLineParts}

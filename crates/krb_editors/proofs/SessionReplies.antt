@@ -20,13 +20,13 @@ use Rattle.krb_keytab.specs.Changes as keytab
 use Rattle.krb_keytab.specs.Rewrite as keytab_rewrite
 use Rattle.krb_keytab.specs.Store as keytab_store
 use Rattle.krb_keytab.specs.Store.{KeytabState}
-use Rattle.krb_keytab.specs.Placed.{keytab_rules}
+use Rattle.krb_keytab.specs.Rewrite.{keytab_rules}
 use Rattle.krb_keytab.specs.Form.{fits, written_form}
 use Rattle.krb_ccache.specs.declared.version.Version.{Version}
 use Rattle.krb_ccache.specs.declared.version.Version.TheVariants.{V4}
 use Rattle.krb_ccache.specs.Changes as cache
 use Rattle.krb_ccache.specs.Credential.{is_marked}
-use Rattle.krb_ccache.specs.Placed.{cache_rules}
+use Rattle.krb_ccache.specs.Rewrite.{cache_rules}
 use Rattle.krb_ccache.specs.Rewrite as cache_rewrite
 use Rattle.krb_ccache.specs.Store as cache_store
 use Rattle.krb_ccache.specs.Store.{CacheState}

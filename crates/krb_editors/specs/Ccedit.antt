@@ -6,7 +6,7 @@ use Rattle.krb_walk.specs.ReplyContent.{ReplyContent, Refused}
 use Rattle.krb_walk.specs.Events.{SessionState, session_of}
 use Rattle.krb_walk.specs.History.{state_after}
 use Rattle.krb_ccache.specs.Credential.{CredParts}
-use Rattle.krb_ccache.specs.Placed.{cache_rules}
+use Rattle.krb_ccache.specs.Rewrite.{cache_rules}
 use Rattle.krb_ccache.specs.SetConfig.{setting_events}
 use Rattle.krb_ccache.specs.Open.{InMemory}
 use Rattle.krb_ccache.specs.Store.{CacheState, image_of}

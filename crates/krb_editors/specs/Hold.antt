@@ -13,7 +13,7 @@ use Rattle.krb_files.specs.declared.files.SaveFault.TheVariants.{Failed}
 use Rattle.krb_files.specs.Files.{SameFiles, CountsFailure}
 use Rattle.krb_files.specs.Loading.{Answer, LoadsFile, SavesFile, TurnsHold, most_bytes}
 use Rattle.krb_files.specs.Plan.{HeldIf}
-use Rattle.krb_files.specs.Reader.{Source}
+use Rattle.krb_files.specs.Bytes.{Source}
 use Rattle.krb_driver.specs.declared.error.RunError.{RunError}
 use Rattle.krb_driver.specs.declared.error.RunError.TheVariants as error
 use Rattle.krb_driver.specs.declared.command.FileError.{FileError}

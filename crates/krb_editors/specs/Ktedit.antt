@@ -4,7 +4,7 @@ use Rattle.std.specs.List.{list_any}
 use Rattle.krb_wire.specs.declared.format.Order.{Order}
 use Rattle.krb_walk.specs.declared.event.Event.{Event}
 use Rattle.krb_keytab.specs.Entry.{EntryParts}
-use Rattle.krb_keytab.specs.Placed.{keytab_rules}
+use Rattle.krb_keytab.specs.Rewrite.{keytab_rules}
 use Rattle.krb_keytab.specs.Store.{KeytabState, image_of}
 use Rattle.krb_files.specs.Loading.{Answer}
 use Rattle.krb_files.specs.Plan.{Ends}

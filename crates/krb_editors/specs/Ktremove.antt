@@ -8,7 +8,7 @@ use Rattle.krb_keytab.specs.Find.{PlacedEntry, placed_entries}
 use Rattle.krb_keytab.specs.Store.{KeytabState, image_of}
 use Rattle.krb_files.specs.Plan.{Ends}
 use Rattle.krb_text.specs.Etype.{etype_in}
-use Rattle.krb_text.specs.Found.{removed_line}
+use Rattle.krb_text.specs.Listing.{removed_line}
 use Rattle.krb_text.specs.Numbers.{seconds_in}
 use Rattle.krb_audit.specs.declared.selection.SelectedKvno.{SelectedKvno}
 use Rattle.krb_audit.specs.declared.selection.SelectedKvno.TheVariants.{Old, OldFor}

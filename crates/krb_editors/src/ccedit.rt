@@ -7,7 +7,7 @@ ghost use Rattle.krb_walk.specs.Events.{reply_to};
 ghost use Rattle.krb_walk.specs.History.{state_after};
 ghost use Rattle.krb_walk.specs.Ran.{Ran};
 ghost use Rattle.krb_walk.specs.ReplyContent.{content_of};
-ghost use Rattle.krb_ccache.specs.Placed.{cache_rules};
+ghost use Rattle.krb_ccache.specs.Rewrite.{cache_rules};
 ghost use Rattle.krb_ccache.specs.SetConfig.{setting_events};
 ghost use Rattle.krb_cache_text.specs.Script.{cache_line_in};
 ghost use Rattle.krb_editors.specs.Ccedit.{RunsFairly, cache_events, cache_session, ccedit_fairly, ccedit_plan, edits, is_refusal, line_events, line_may_change};

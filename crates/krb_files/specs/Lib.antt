@@ -3,7 +3,5 @@ pub mod Bytes
 pub mod Files
 pub mod Loading
 pub mod MemFiles
-pub mod Numbers
 pub mod Phrases
 pub mod Plan
-pub mod Reader

@@ -68,3 +68,17 @@ aftermath_phrase Restored = codes "the old bytes are back"
 aftermath_phrase Damaged = codes "the file may be damaged"
 aftermath_phrase LostChange = codes "a change of another program was lost"
 aftermath_phrase Mixed = codes "another program wrote at the same time; the file may be damaged"
+
+-- ---- the numbers of the errors of loads and saves
+
+-- the number of an error of a load
+abbrev pub load_number : LoadFault → ℕ
+load_number load.Missing = 1
+load_number load.TooLarge = 2
+load_number load.Failed = 3
+load_number load.NoMemory = 4
+
+-- the number of an error of a save
+abbrev pub save_number : SaveFault → ℕ
+save_number save.Failed = 1
+save_number save.NoMemory = 2

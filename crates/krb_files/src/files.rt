@@ -2,8 +2,7 @@
 
 ghost use Rattle.std.specs.Prelude.{◌≡◌, ◌≤◌, ◌⊎◌, ℕ, ◌-◌, ◌^◌, Bool, true, List, Option, None, Some, Result, Ok, Err, OnOk, OnErr, IfOk, IfErr, IsErrOf};
 ghost use Rattle.krb_files.specs.Files.{FileMap, SameFiles, SetsFile, CountsFailure, answer_of, loaded};
-ghost use Rattle.krb_files.specs.Numbers.{load_number, save_number};
-ghost use Rattle.krb_files.specs.Phrases.{load_phrase, save_phrase};
+ghost use Rattle.krb_files.specs.Phrases.{load_number, save_number, load_phrase, save_phrase};
 
 use crate::aftermath::Aftermath;
 use crate::cause::Cause;

@@ -2,7 +2,7 @@
 
 ghost use Rattle.std.specs.Prelude.{◌≢◌, ◌≡◌, ◌||◌, ◌+◌, ◌<◌, ◌≤◌, ◌*◌, ◌^◌, ◌++◌, ◌⊎◌, ℕ, List, length, max, min, take, drop, OnOk, OnErr, IfOk, IfErr, IfSome, IsErrOf, vec_capacity, vec_len};
 ghost use Rattle.std.specs.Io.KnownBytes.{Consumes, IsAtEnd, Keeps};
-ghost use Rattle.krb_files.specs.Reader.{ConsumesAtMost, is_read_fault};
+ghost use Rattle.krb_files.specs.Bytes.{ConsumesAtMost, is_read_fault};
 
 use crate::files::LoadFault;
 use crate::watched_reader::WatchedReader;

@@ -17,7 +17,7 @@ pub struct WatchedReader<R: Read> {
 }
 
 impl<R: Read> Model for WatchedReader<R> {
-    ghost use Rattle.krb_files.specs.Reader.{Source};
+    ghost use Rattle.krb_files.specs.Bytes.{Source};
 
     ghost Value = { Source };
 

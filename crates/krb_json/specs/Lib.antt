@@ -3,5 +3,4 @@ pub mod Members
 pub mod Escaped
 pub mod Keytab
 pub mod Cache
-pub mod Label
 pub mod Pieces

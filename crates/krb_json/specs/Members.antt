@@ -5,8 +5,10 @@ use Rattle.hex.specs.Hex.{encode_lower}
 use Rattle.json.specs.Json.{Json, null, number, string, array, object, Members, no_members, member}
 use Rattle.json.specs.Value.{items_of}
 use Rattle.krb_walk.specs.declared.fault.Fault.{Fault}
-use Rattle.krb_walk.specs.Numbers.{fault_number}
+use Rattle.krb_walk.specs.Phrases.{fault_number}
 use Rattle.krb_text.specs.Etype.{etype_name_of}
+use Rattle.krb_json.specs.declared.label.Label.{Label}
+use Rattle.krb_json.specs.declared.label.Label.TheVariants.{Principal, DefaultPrincipal, Client, Server, Key, Value}
 
 -- a member of an object: its name and its value
 abbrev pub Member : Type 0
@@ -54,3 +56,14 @@ fault_value (Some fault) = object_of ((codes "kind", number_of (fault_number fau
 -- the first members of each file: its name, its kind and its format version
 unfoldable pub file_members : List ℕ → List ℕ → ℕ → List Member
 file_members file kind version = (codes "file", string file) ∷ (codes "kind", string kind) ∷ (codes "version", number_of version) ∷ []
+
+-- ---- the names of the members that hold strings from a file
+
+-- the name of the member if the string is UTF-8
+abbrev pub label_text : Label → List ℕ
+label_text Principal = codes "principal"
+label_text DefaultPrincipal = codes "default_principal"
+label_text Client = codes "client"
+label_text Server = codes "server"
+label_text Key = codes "key"
+label_text Value = codes "value"

@@ -1,7 +1,7 @@
 //! The names of the members that hold strings from a file.
 
 ghost use Rattle.std.specs.Prelude.{◌≡◌, ◌++◌, codes};
-ghost use Rattle.krb_json.specs.Label.{label_text};
+ghost use Rattle.krb_json.specs.Members.{label_text};
 
 /// A member that holds a string from a file.
 #[derive(Clone, Copy)]

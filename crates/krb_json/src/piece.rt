@@ -5,8 +5,7 @@ ghost use Rattle.json.specs.Token.{begin_object, end_object, begin_array, end_ar
 ghost use Rattle.krb_wire.specs.Names.{name_text};
 ghost use Rattle.krb_text.specs.Flags.{flag_letters_of};
 ghost use Rattle.krb_json.specs.Escaped.{text_of};
-ghost use Rattle.krb_json.specs.Label.{label_text};
-ghost use Rattle.krb_json.specs.Members.{number_of, digits_of, text_member, etype_members};
+ghost use Rattle.krb_json.specs.Members.{label_text, number_of, digits_of, text_member, etype_members};
 ghost use Rattle.krb_json.specs.Pieces.{member_tokens, tokens_of, comma_after};
 
 use crate::escape::append_escaped;

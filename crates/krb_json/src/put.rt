@@ -4,8 +4,7 @@ ghost use Rattle.std.specs.Prelude.{◌≡◌, ◌++◌, [], ◌∷◌, OnOk, Ma
 ghost use Rattle.std.specs.Str.{is_utf8};
 ghost use Rattle.hex.specs.Hex.{encode_lower};
 ghost use Rattle.json.specs.Token.{key, string};
-ghost use Rattle.krb_json.specs.Label.{label_text};
-ghost use Rattle.krb_json.specs.Members.{text_member};
+ghost use Rattle.krb_json.specs.Members.{label_text, text_member};
 ghost use Rattle.krb_json.specs.Pieces.{member_tokens};
 
 use crate::label::Label;

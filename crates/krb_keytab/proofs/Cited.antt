@@ -39,10 +39,10 @@ pub use Rattle.krb_walk.specs.Store.{end_of, live_bytes, fault_of, IsPlace, is_p
 pub use Rattle.krb_wire.proofs.Fields.{IsBytes, wide32, some_is, IsBytes-drop, is_some_has, number_takes, wide16, number_again, bind_some, Takes-then, data16_takes, Takes, IsBytes-take, data16_again}
 pub use Rattle.krb_wire.proofs.NamesCompared.{and_both, both_and, lengths_fit, lengths_of}
 pub use Rattle.krb_wire.proofs.PenLemmas.{puts_then, left_next, Left, left_none, left_room, left_all}
-pub use Rattle.krb_wire.specs.Pen.{Puts}
+pub use Rattle.krb_wire.specs.Text.{Puts}
 pub use Rattle.krb_wire.specs.Reading.{number_at, data16_at, ◌>>=◌, byte_at, components_of_count, Gives, name_type_at}
 unfoldable pub use Rattle.krb_wire.specs.Reading.{kt_principal_at, components_at}
-pub use Rattle.krb_wire.specs.SameName.{have_same_name}
+pub use Rattle.krb_wire.specs.Names.{have_same_name}
 pub use Rattle.krb_wire.specs.Spelling.{order_of, digits, Parts, name_fits, data16, kt_principal, name_type_field, count_field, HasNameType, is_short, IsShort, version_byte}
 pub use Rattle.krb_wire.specs.declared.format.KtFormat.{KtFormat}
 pub use Rattle.krb_wire.specs.declared.format.KtFormat.TheVariants.{V2, V1}

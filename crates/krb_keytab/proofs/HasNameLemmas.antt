@@ -1,7 +1,7 @@
 -- The name of an entry is the one that its bytes begin with.
 use Rattle.krb_keytab.proofs.Cited.{◌≡◌, ◌≢◌, ℕ, zero, suc, Bool, true, false, List, [], ◌∷◌, length, Some, None, refl, sym, ap, subst, ◌∙◌, ◌&&◌, w16, w32, bytes_eq, and_right, Order, KtFormat, Parts, order_of, ◌>>=◌, byte_at, number_at, data16_at, components_at, components_of_count, name_type_at, kt_principal_at, have_same_name, bind_some, some_is, EntryParts, Front, entry_of, front_at, entry_at}
 use Rattle.std.specs.Cmp.Lexicographic.{pointwise}
-use Rattle.krb_keytab.specs.HasName.{same_first, begin_with}
+use Rattle.krb_keytab.specs.LookUp.{same_first, begin_with}
 
 -- ---- components
 

@@ -3,8 +3,7 @@ use Rattle.krb_keytab.proofs.Cited.{◌≡◌, ℕ, ◌+◌, ◌-◌, ◌^◌, �
 use Rattle.krb_walk.specs.declared.fault.FaultKind.{FaultKind}
 use Rattle.krb_walk.specs.Store.{Cell as StoreCell, Store, IsPlace, end_from, is_place, is_place_from, live_bytes}
 use Rattle.krb_cells.proofs.ContentsLemmas.{behind}
-use Rattle.krb_cells.specs.CellFormat.{AreCells}
-use Rattle.krb_cells.specs.Cells.{HoldsCells}
+use Rattle.krb_cells.specs.Cells.{AreCells, HoldsCells}
 use Rattle.krb_cells.specs.Carry.{between}
 use Rattle.krb_cells.proofs.Cuts.{cut_held, holds_from, is_from}
 use Rattle.krb_cells.proofs.Formats.{IsSeen, are_cells}

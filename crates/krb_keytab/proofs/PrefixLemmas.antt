@@ -2,7 +2,7 @@
 use Rattle.krb_keytab.proofs.Cited.{◌≡◌, ℕ, ◌+◌, ◌-◌, Bool, true, false, List, [], ◌∷◌, ◌++◌, length, take, drop, Option, Some, refl, sym, ap, subst, ◌∙◌, append_assoc, length-append, arith, nat_eq, w16, flat_map, splice, starts_with, bytes_eq, and_right, false_from_ne_true, true≢false, Decides-eqb, take_at, KtFormat, Parts, order_of, digits, data16, count_field, kt_principal, name_type_field, have_same_name, IsBytes, and_both, EntryParts, entry_at, PlacedEntry, IsFoundAmong}
 use Rattle.std.specs.Cmp.Lexicographic.{pointwise}
 use Rattle.std.proofs.lemmas.Slice.Eq.{bytes_eq-Decides, slice_eq-Decides, starts_is}
-use Rattle.krb_keytab.specs.Prefix.{IsPrefix}
+use Rattle.krb_keytab.specs.LookUp.{IsPrefix}
 use Rattle.krb_keytab.proofs.EntryLemmas.{entry_spelled}
 use Rattle.krb_keytab.proofs.LookUpLemmas.{no_match}
 

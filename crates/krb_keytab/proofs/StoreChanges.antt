@@ -8,7 +8,7 @@ use Rattle.krb_walk.specs.Changes.{OneCell, Puts, Cuts, Changes}
 use Rattle.krb_walk.specs.Events.{SessionState, cut_reply, cut_store}
 use Rattle.krb_walk.specs.History.{IsReady, AllLawful, history, replies, state_after}
 use Rattle.krb_walk.proofs.Runs.{ran_of}
-use Rattle.krb_keytab.specs.Placed.{keytab_rules}
+use Rattle.krb_keytab.specs.Rewrite.{keytab_rules}
 use Rattle.krb_keytab.specs.Laws.{AreRuns}
 use Rattle.krb_walk.specs.Rules.{PutGives, CutGives}
 use Rattle.krb_keytab.proofs.AfterChanges.{added_reads, put_gives, cut_gives, removed_none}

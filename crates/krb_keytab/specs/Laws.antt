@@ -11,8 +11,7 @@ use Rattle.krb_walk.specs.History.{history, replies}
 use Rattle.krb_walk.specs.Ran.{Ran}
 use Rattle.krb_keytab.specs.Store.{KeytabState, image_of, store_of, entries, entry_at_place}
 use Rattle.krb_keytab.specs.Changes.{put_result, cut_result, without}
-use Rattle.krb_keytab.specs.Placed.{keytab_rules}
-use Rattle.krb_keytab.specs.Rewrite.{rewrite_result}
+use Rattle.krb_keytab.specs.Rewrite.{keytab_rules, rewrite_result}
 use Rattle.krb_keytab.specs.Cells.{Cell, Contents, cell, spelling, contents, IsCell, IsSound, IsSpelled}
 
 -- numbers below 256

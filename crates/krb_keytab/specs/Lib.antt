@@ -8,7 +8,6 @@ pub mod Entries
 pub mod Form
 pub mod Changes
 pub mod Rewrite
-pub mod Placed
 pub mod Open
 pub mod Laws
 pub mod Tree
@@ -18,7 +17,5 @@ pub mod Index
 pub mod Image
 pub mod CellViews
 pub mod LookUp
-pub mod HasName
-pub mod Prefix
 pub mod Append
 pub mod Nodes

@@ -1,5 +1,5 @@
 -- What a look-up found among the first entries: whether one has the name and the enctype, and the entry selected.
-use Rattle.std.specs.Prelude.{◌≡◌, ℕ, List, ◌++◌, Bool, true, false, filter, Option, None, Some, Result, Ok, Err}
+use Rattle.std.specs.Prelude.{◌≡◌, ℕ, List, ◌++◌, Bool, true, false, filter, Option, None, Some, Result, Ok, Err, ◌&&◌, [], ◌∷◌, IsTrue, nat_eq}
 use Rattle.krb_wire.specs.Spelling.{Parts}
 use Rattle.krb_walk.specs.declared.refusal.Code.{Code}
 use Rattle.krb_walk.specs.declared.refusal.Code.TheVariants.{NotFound, KvnoNotFound}
@@ -7,6 +7,13 @@ use Rattle.krb_keytab.specs.Find.{PlacedEntry, placed_entries, is_match, look_up
 use Rattle.krb_keytab.specs.Store.{KeytabState}
 use Rattle.krb_keytab.specs.Entries.{entries_in}
 use Rattle.krb_keytab.specs.CellViews.{CellsFrom}
+use Rattle.std.specs.Str.{bytes_eq}
+use Rattle.krb_wire.specs.declared.format.Order.{Order}
+use Rattle.krb_wire.specs.Reading.{data16_at}
+use Rattle.std.specs.List.{starts_with}
+use Rattle.krb_wire.specs.declared.format.KtFormat.{KtFormat}
+use Rattle.krb_wire.specs.Names.{have_same_name}
+use Rattle.krb_keytab.specs.Entry.{EntryParts, Spells}
 
 -- what the look-up returns of that
 abbrev pub answer : Bool → Option PlacedEntry → Result PlacedEntry Code
@@ -23,3 +30,21 @@ pub record IsFoundUpTo (name : Parts) (kvno enctype : ℕ) (k : KeytabState) (ce
   pub before : List PlacedEntry
   pub found : IsFoundAmong name kvno enctype before named best
   pub all : before ++ entries_in cells.format cells.place cells.contents.cells ≡ placed_entries k
+
+-- ---- components compared with those that bytes begin with, one by one
+
+-- a component is the one that was read, and the others are those after it
+abbrev pub same_first : (List ℕ → Bool) → List ℕ → Option (List ℕ × List ℕ) → Bool
+same_first others c None = false
+same_first others c (Some x) = bytes_eq c x.0 && others x.1
+
+-- the bytes begin with these components
+abbrev pub begin_with : Order → List (List ℕ) → List ℕ → Bool
+begin_with o [] bytes = true
+begin_with o (c ∷ cs) bytes = same_first (begin_with o cs) c (data16_at o bytes)
+
+-- ---- the prefix of each entry of a name
+
+-- bytes that spell an entry of the name begin with the prefix
+abbrev pub IsPrefix : KtFormat → Parts → List ℕ → Type 0
+IsPrefix f name prefix = (e : EntryParts) (bytes : List ℕ) → Spells f e bytes → IsTrue (have_same_name name e.principal) → IsTrue (starts_with nat_eq bytes prefix)

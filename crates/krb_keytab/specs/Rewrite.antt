@@ -8,6 +8,8 @@ use Rattle.krb_keytab.specs.Entry.{EntryParts}
 use Rattle.krb_keytab.specs.Cells.{Cell, Live, Bare}
 use Rattle.krb_keytab.specs.Store.{KeytabState, image_of, store_of, entries}
 use Rattle.krb_keytab.specs.Form.{written_form}
+use Rattle.krb_walk.specs.Rules.{Rules}
+use Rattle.krb_keytab.specs.Changes.{cut_result, put_result, takes_none}
 
 -- a record that is an entry's written form in version 2, and no more
 abbrev pub new_record : EntryParts → Cell
@@ -22,3 +24,9 @@ abbrev pub rewrite_result : KeytabState → Result KeytabState Code
 rewrite_result k =
     if is_some (fault_of (store_of k)) then Err Damaged
     else (if nat_lt k.limit (length (image_of (rewrite_of k))) then Err Full else Ok (rewrite_of k))
+
+-- ---- a keytab as a store that is walked while it changes
+
+-- a keytab as a store, and the results of an addition, a removal and a rewrite
+abbrev pub keytab_rules : Rules KeytabState EntryParts
+keytab_rules = record { seen = store_of; put = put_result; cut = cut_result; rewrite = rewrite_result; takes_none = takes_none }

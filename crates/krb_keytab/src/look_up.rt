@@ -2,7 +2,7 @@
 
 ghost use Rattle.std.specs.Prelude.{◌≡◌, ◌==◌, ◌||◌, ◌∷◌, ◌++◌, [], true, false, Bool, List, Some, None, Ok, Err, if◌then◌else◌};
 ghost use Rattle.krb_wire.specs.Spelling.{Parts};
-ghost use Rattle.krb_wire.specs.SameName.{have_same_name};
+ghost use Rattle.krb_wire.specs.Names.{have_same_name};
 ghost use Rattle.krb_keytab.specs.Entry.{EntryParts, entry_at};
 ghost use Rattle.krb_keytab.specs.Find.{PlacedEntry, look_up_in};
 ghost use Rattle.krb_keytab.specs.LookUp.{answer, IsFoundAmong};

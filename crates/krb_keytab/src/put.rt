@@ -2,7 +2,7 @@
 
 ghost use Rattle.std.specs.Prelude.{◌≡◌, ◌≤◌, ◌<◌, ◌^◌, ◌+◌, length, replicate};
 ghost use Rattle.std.specs.List.{splice};
-ghost use Rattle.krb_wire.specs.Pen.{HasRoom, Puts};
+ghost use Rattle.krb_wire.specs.Text.{HasRoom, Puts};
 ghost use Rattle.krb_wire.specs.Spelling.{order_of};
 ghost use Rattle.krb_keytab.specs.Cells.{cell, Live, Free};
 ghost use Rattle.krb_keytab.specs.Changes.{with_zeros};

@@ -8,7 +8,7 @@ use Rattle.krb_driver.specs.declared.world.World.{World}
 use Rattle.krb_ktutil.specs.Ktutil.{HandlesNext, RunsKtutil}
 use Rattle.krb_ktutil.specs.KtutilDue.{TalksHonestly}
 use Rattle.krb_ktutil.proofs.KtutilHonestly.{AreLines, are_first, honest_after, honest_in_line, honest_unread}
-use Rattle.krb_files.specs.Reader.{Source, is_failed}
+use Rattle.krb_files.specs.Bytes.{Source, is_failed}
 use Rattle.krb_driver.specs.declared.reporting.details.Details.{Details}
 use Rattle.krb_files.proofs.Reading.{Consumes-trans}
 

@@ -7,7 +7,7 @@ use Rattle.krb_ktutil.specs.KtutilPlan.{KtutilState}
 use Rattle.krb_files.specs.Loading.{most_bytes}
 use Rattle.krb_ktutil.specs.KtutilTalk.{Talk, first_talk, Continues, Stops, TalksOver, EndsTalk}
 use Rattle.krb_ktutil.specs.KtutilDue.{TalksHonestly}
-use Rattle.krb_files.specs.Reader.{ConsumesAtMost}
+use Rattle.krb_files.specs.Bytes.{ConsumesAtMost}
 
 -- a run of ktutil: the lines of the input are run in order, each after its prompt if there are prompts, up to one that is the last or to the end
 pub record RunsKtutil {F R W E : Type 0} (trait : Ghosts F) (order : Order) (prompts : Bool) (now : ℕ) (old new : World F R W E) (status : ℕ) : Type 0 where

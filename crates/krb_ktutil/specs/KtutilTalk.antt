@@ -5,9 +5,8 @@ use Rattle.krb_files.specs.declared.files.Files.{Ghosts}
 use Rattle.krb_files.specs.declared.files.LoadFault.{LoadFault}
 use Rattle.krb_files.specs.declared.files.LoadFault.TheVariants.{Missing, TooLarge}
 use Rattle.std.specs.Io.KnownBytes.{Consumes}
-use Rattle.krb_files.specs.Bytes.{Watch}
+use Rattle.krb_files.specs.Bytes.{Watch, Source, is_failed}
 use Rattle.krb_files.specs.Plan.{follow}
-use Rattle.krb_files.specs.Reader.{Source, is_failed}
 use Rattle.krb_ktutil.specs.declared.ktutil.awaiting.Awaiting.TheVariants.{Nothing}
 use Rattle.krb_driver.specs.declared.command.RunEnd.{RunEnd}
 use Rattle.krb_driver.specs.declared.reporting.details.Details.{Details}

@@ -1,7 +1,7 @@
 //! Reads lines from a reader, each as soon as its end is read.
 
 ghost use Rattle.std.specs.Prelude.{◌≡◌, ◌≢◌, ◌⊎◌, ◌||◌, ◌<◌, ◌≤◌, ◌+◌, [], length, slice_range, IfOk, IfErr, IfSome, IsTrue, OnErr, IsErrOf, vec_len};
-ghost use Rattle.krb_files.specs.Reader.{is_read_fault};
+ghost use Rattle.krb_files.specs.Bytes.{is_read_fault};
 ghost use Rattle.krb_files.specs.Loading.{most_bytes};
 ghost use Rattle.krb_ktutil.specs.InputLines.{InputParts, ReadsLine, KeepsLines, Grows, IsWithin, FindsNewline, EndsLine, EndsInNewline, IsSpent, HasNoMore, HasNone};
 

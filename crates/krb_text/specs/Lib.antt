@@ -5,13 +5,9 @@ pub mod Etype
 pub mod LineFault
 pub mod Key
 pub mod Word
-pub mod Time
 pub mod Calendar
 pub mod Line
 pub mod Listing
 pub mod Flags
-pub mod Slots
-pub mod Found
 pub mod Reply
-pub mod Pieces
 pub mod Script

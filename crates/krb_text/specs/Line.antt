@@ -2,7 +2,7 @@
 use Rattle.std.specs.Prelude.{ℕ, ◌-◌, List, [], ◌∷◌, ◌++◌, length, replicate, decimal, codes, Bool, if◌then◌else◌}
 use Rattle.krb_wire.specs.Names.{name_text}
 use Rattle.krb_walk.specs.declared.fault.Fault.{Fault}
-use Rattle.krb_walk.specs.Numbers.{fault_number}
+use Rattle.krb_walk.specs.Phrases.{fault_number}
 use Rattle.krb_keytab.specs.Entry.{EntryParts}
 use Rattle.krb_text.specs.declared.columns.KtColumns.{KtColumns}
 use Rattle.krb_text.specs.Etype.{etype_text_of}

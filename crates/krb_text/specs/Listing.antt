@@ -1,11 +1,13 @@
 -- The listing of a keytab.
-use Rattle.std.specs.Prelude.{ℕ, List, [], ◌++◌, codes, Bool, if◌then◌else◌, Option, None, Some}
-use Rattle.std.specs.List.{flat_map}
+use Rattle.std.specs.Prelude.{ℕ, List, [], ◌++◌, codes, Bool, if◌then◌else◌, Option, None, Some, ◌∷◌, decimal}
+use Rattle.std.specs.List.{flat_map, enumerate_from}
 use Rattle.krb_walk.specs.declared.fault.Fault.{Fault}
 use Rattle.krb_walk.specs.Store.{fault_of}
 use Rattle.krb_keytab.specs.Store.{KeytabState, store_of, entries}
 use Rattle.krb_text.specs.declared.columns.KtColumns.{KtColumns}
-use Rattle.krb_text.specs.Line.{entry_line, fault_text}
+use Rattle.krb_text.specs.Line.{entry_line, fault_text, right_in_4, entry_tail}
+use Rattle.krb_keytab.specs.Entry.{EntryParts}
+use Rattle.krb_keytab.specs.Find.{PlacedEntry}
 
 -- the line of column titles
 abbrev pub titles : Bool → List ℕ
@@ -31,3 +33,35 @@ fault_line (Some fault) = fault_text fault
 -- the listing of a keytab whose file has the name
 abbrev pub list_text : KtColumns → List ℕ → KeytabState → List ℕ
 list_text columns name k = heading name columns.times ++ (entry_lines columns k ++ fault_line (fault_of (store_of k)))
+
+-- ---- the listing of ktutil's slots
+
+-- the heading, before the slots
+abbrev pub slot_heading : Bool → List ℕ
+slot_heading times = codes "slot " ++ (titles times ++ (codes "---- " ++ underlines times))
+
+-- the line of a slot: its number right-aligned in four columns, a space, and the line of its entry
+abbrev pub slot_line : KtColumns → ℕ × EntryParts → List ℕ
+slot_line columns slot = (right_in_4 slot.0 ++ 32 ∷ []) ++ entry_line columns slot.1
+
+-- the lines of entries in slots from n on
+abbrev pub slot_lines : KtColumns → ℕ → List EntryParts → List ℕ
+slot_lines columns n entries = flat_map (slot_line columns) (enumerate_from n entries)
+
+-- the listing of entries in slots, which are numbered from 1
+abbrev pub slot_text : KtColumns → List EntryParts → List ℕ
+slot_text columns entries = slot_heading columns.times ++ slot_lines columns 1 entries
+
+-- ---- lines of entries and their places
+
+-- a label, the place of an entry and the rest of its line
+abbrev pub placed_line : List ℕ → PlacedEntry → List ℕ
+placed_line label x = label ++ (decimal x.0 ++ entry_tail x.1)
+
+-- the line that reports an entry found
+abbrev pub found_line : PlacedEntry → List ℕ
+found_line x = placed_line (codes "found ") x
+
+-- the line that reports an entry removed
+abbrev pub removed_line : PlacedEntry → List ℕ
+removed_line x = placed_line (codes "removed ") x

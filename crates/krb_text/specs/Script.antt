@@ -12,8 +12,7 @@ use Rattle.krb_text.specs.declared.script.command.Command.TheVariants as command
 use Rattle.krb_text.specs.declared.script.ScriptRefusal.{ScriptRefusal}
 use Rattle.krb_text.specs.declared.script.ScriptRefusal.TheVariants.{Fault, NoMemory}
 use Rattle.krb_text.specs.LineFault.{line_phrase}
-use Rattle.krb_text.specs.Pieces.{pieces}
-use Rattle.krb_text.specs.Word.{number_word, etype_word, key_word, name_word}
+use Rattle.krb_text.specs.Word.{pieces, number_word, etype_word, key_word, name_word}
 
 infixl 10 ◌>>=◌
 -- the logic's `?`: the second step, if the first has a value

@@ -1,5 +1,5 @@
 -- The words of a line.
-use Rattle.std.specs.Prelude.{ℕ, List, None, ok_or, Result}
+use Rattle.std.specs.Prelude.{ℕ, List, None, ok_or, Result, [], ◌∷◌, ◌==◌, Option, Some}
 use Rattle.std.specs.Result.{result_ok}
 use Rattle.krb_wire.specs.Spelling.{Parts}
 use Rattle.krb_wire.specs.NameOf.{name_of}
@@ -8,6 +8,7 @@ use Rattle.krb_text.specs.declared.line_fault.LineFault.TheVariants.{BadNumber, 
 use Rattle.krb_text.specs.Numbers.{number_in}
 use Rattle.krb_text.specs.Etype.{etype_in}
 use Rattle.krb_text.specs.Key.{key_in}
+use Rattle.std.specs.List.{slice_split, join_with_byte}
 
 -- the 32-bit number that a word is
 abbrev pub number_word : List ℕ → Result ℕ LineFault
@@ -24,3 +25,19 @@ key_word etype word = ok_or (key_in etype word) BadKey
 -- the principal name that a word is, which must include its realm
 abbrev pub name_word : List ℕ → Result Parts LineFault
 name_word word = ok_or (result_ok (name_of word None)) BadName
+
+-- ---- splitting a text at each occurrence of a byte
+
+-- a text split at each such byte: one more piece than there are such bytes
+abbrev pub pieces : ℕ → List ℕ → List (List ℕ)
+pieces at text = slice_split (λ b. b == at) text
+
+-- the pieces of the rest of a text, if there is a rest
+abbrev pub pieces_left : ℕ → Option (List ℕ) → List (List ℕ)
+pieces_left at None = []
+pieces_left at (Some text) = pieces at text
+
+-- the pieces joined again, if there are any
+abbrev pub joined : ℕ → List (List ℕ) → Option (List ℕ)
+joined at [] = None
+joined at (piece ∷ others) = Some (join_with_byte at (piece ∷ others))

@@ -2,7 +2,7 @@
 
 ghost use Rattle.std.specs.Prelude.{◌≡◌, IfOk};
 ghost use Rattle.krb_wire.specs.Text.{AppendedPart};
-ghost use Rattle.krb_text.specs.Found.{found_line, placed_line};
+ghost use Rattle.krb_text.specs.Listing.{found_line, placed_line};
 
 use crate::bytes::append_labelled;
 use crate::line::append_tail;

@@ -3,7 +3,7 @@
 ghost use Rattle.std.specs.Prelude.{◌≡◌, ◌==◌, ◌<◌, ◌∷◌, List, ℕ, length, IfSome, option_copied};
 ghost use Rattle.std.specs.List.{position_from};
 ghost use Rattle.std.specs.Iterator.{YieldsFirstRef, item_count};
-ghost use Rattle.krb_text.specs.Pieces.{pieces, pieces_left, joined};
+ghost use Rattle.krb_text.specs.Word.{pieces, pieces_left, joined};
 
 use std::marker::Model;
 

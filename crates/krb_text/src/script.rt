@@ -2,7 +2,7 @@
 
 ghost use Rattle.std.specs.Prelude.{◌≡◌, ◌++◌, ◌∷◌, [], Ok, IfOk, IfErr, OnOk, IsOkAnd, IsErrOf};
 ghost use Rattle.krb_text.specs.declared.script.ScriptRefusal.TheVariants.{NoMemory as OutOfMemory};
-ghost use Rattle.krb_text.specs.Pieces.{pieces};
+ghost use Rattle.krb_text.specs.Word.{pieces};
 ghost use Rattle.krb_text.specs.Script.{is_command, commands_from, script_of, script_by, refusal_text, RefusesScript, TakesMemory};
 
 mod addition;

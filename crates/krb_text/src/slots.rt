@@ -2,7 +2,7 @@
 
 ghost use Rattle.std.specs.Prelude.{◌≡◌, ◌≤◌, ◌++◌, OnOk, OnErr, vec_capacity};
 ghost use Rattle.krb_wire.specs.Text.{AppendedPart};
-ghost use Rattle.krb_text.specs.Slots.{slot_heading, slot_line, slot_lines, slot_text};
+ghost use Rattle.krb_text.specs.Listing.{slot_heading, slot_line, slot_lines, slot_text};
 
 use crate::bytes::{append, append_right_in_4};
 use crate::columns::KtColumns;

@@ -2,8 +2,7 @@
 
 ghost use Rattle.std.specs.Prelude.{◌≡◌, ◌≤◌, ℕ, pos};
 ghost use Rattle.krb_wire.specs.Text.{Appended};
-ghost use Rattle.krb_text.specs.Calendar.{Day, day_number, day_text, time_text_of};
-ghost use Rattle.krb_text.specs.Time.{digit};
+ghost use Rattle.krb_text.specs.Calendar.{Day, day_number, day_text, time_text_of, digit};
 
 use crate::bytes::append;
 use jiff::civil::Date;

@@ -7,7 +7,7 @@ pub use Rattle.std.specs.List.{AllByRecursion, filter_map, list_any, find, drop-
 pub use Rattle.std.specs.Option.{option_to_list, option_or, option_map}
 pub use Rattle.std.specs.Prelude.{◌==◌, ◌&&◌, nat_lt, nat_le, ◌⊎◌, slice_get, filter, is_some, ◌||◌, IsSomeAnd, IsSome, IfOk, OnErr, slice_set, OnOk, insert, remove}
 pub use Rattle.krb_walk.specs.Changes.{Changes, Puts, Cuts, Appends, Fills, OneCell}
-pub use Rattle.krb_walk.specs.Cursors.{CursorIsSound, KeepsSide, CursorMayGo}
+pub use Rattle.krb_walk.specs.Fair.{CursorIsSound, KeepsSide, CursorMayGo}
 pub use Rattle.krb_walk.specs.Due.{rows_at_event, row_of, given_over, due_over, due_by_steps, turn, due_at_event, rows_between, row_at_turn}
 pub use Rattle.krb_walk.specs.Events.{stop_cursor, SessionState, after, reply_to, session_of, stop_reply, cursors_after, step_cursors, rewrite_reply, store_after, cut_reply, end_reply, cut_store, rewrite_cursors, put_reply, step_reply, put_store}
 pub use Rattle.krb_walk.specs.History.{IsReady, Row, state_after, history, AllLawful, IsLawful, moment, rows_of_reply, AllPlain, Moment, replies, given, given_from, steps_walk}

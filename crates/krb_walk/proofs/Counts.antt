@@ -1,6 +1,6 @@
 -- How many steps give a record, and that each row is of a record that is alive.
 use Rattle.krb_walk.proofs.Cited.{◌≡◌, ℕ, suc, ◌+◌, ◌<◌, ◌≤◌, Bool, true, false, cond, List, [], ◌∷◌, ◌++◌, length, map, Option, Some, None, inl, inr, refl, sym, ap, ◌∙◌, subst, arith, ◌==◌, nat_le, nat_lt, filter, AllByRecursion, list_any, length-append, nat_tests, Store, Record, end_of, IsSound, records, next_live, Changes, ReplyContent, Placed, Gone, Rewritten, is_placed, stop_cursor, Row, live_places, carry, RecordName, WalkEvent, Track, carry_by, IsTrack, rows_at_event, given_over, is_name, place_among, IsNamed, records_from}
-use Rattle.krb_walk.specs.Counts.{additions}
+use Rattle.krb_walk.specs.Fair.{additions}
 use Rattle.krb_walk.proofs.Stops.{stops_give_records}
 use Rattle.krb_walk.proofs.Cells.{rows_of_next}
 use Rattle.krb_walk.proofs.Places.{or_cases, or_true}

@@ -1,9 +1,8 @@
 -- The laws of a walk, over one run and over joined runs.
 use Rattle.krb_walk.proofs.Cited.{◌≡◌, ℕ, suc, ◌+◌, ◌≤◌, List, [], ◌∷◌, ◌++◌, length, Option, Some, None, refl, sym, ap, ◌∙◌, subst, arith, AllByRecursion, Event, Store, Rules, SessionState, Moment, Row, IsReady, AllLawful, history, state_after, given, given_from, rows_of_reply, RecordName, WalkEvent, Track, PlacesStay, first_names, track_on, track, last_names, IsTrack, IsWalk, rows_at_event, given_over, due_over, due_by_steps, CursorIsSound, records_from}
 use Rattle.std.proofs.lemmas.Grind.{flat_map-append}
-use Rattle.krb_walk.specs.Fair.{IsFair}
+use Rattle.krb_walk.specs.Fair.{IsFair, additions}
 use Rattle.krb_walk.specs.Joins.{Join, joined}
-use Rattle.krb_walk.specs.Counts.{additions}
 use Rattle.krb_walk.proofs.WalkEvents.{cursor_is_sound}
 use Rattle.krb_walk.proofs.Tracks.{track_gives, track_gives_by_steps}
 use Rattle.krb_walk.proofs.Ranked.{first_keeps}

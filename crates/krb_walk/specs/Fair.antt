@@ -1,15 +1,50 @@
 -- The properties of each walk.
-use Rattle.std.specs.Prelude.{◌≡◌, ℕ, ◌≤◌, true, false, length, filter, map, Some}
+use Rattle.std.specs.Prelude.{◌≡◌, ℕ, ◌≤◌, true, false, length, filter, map, Some, ◌+◌, ◌∷◌, ◌++◌, ◌↔◌, IsSomeAnd, Option}
 use Rattle.std.specs.List.{AllByRecursion}
-use Rattle.krb_walk.specs.Store.{Store}
+use Rattle.krb_walk.specs.Store.{Store, IsPlace}
 use Rattle.krb_walk.specs.Ranks.{live_places}
-use Rattle.krb_walk.specs.ReplyContent.{is_step_reply, completes, is_gave}
-use Rattle.krb_walk.specs.Track.{RecordName, Track, PlacesStay, passes}
+use Rattle.krb_walk.specs.ReplyContent.{is_step_reply, completes, is_gave, is_placed, is_rewritten}
+use Rattle.krb_walk.specs.Track.{RecordName, Track, PlacesStay, passes, WalkEvent, names_after, carry_by, AnswersStep}
 use Rattle.krb_walk.specs.Due.{rows_at_event, given_over, due_over, due_by_steps}
-use Rattle.krb_walk.specs.Records.{IsNamed, EachComesAsDue}
-use Rattle.krb_walk.specs.Counts.{FewStepsGive}
-use Rattle.krb_walk.specs.Cursors.{CursorIsSound, KeepsSide}
+use Rattle.krb_walk.specs.Records.{IsNamed, EachComesAsDue, place_among, place_of}
 use Rattle.krb_walk.specs.Damage.{GivesThenFaults}
+use Rattle.krb_walk.specs.Stops.{records_from}
+
+-- ---- how a walk's cursor moves
+
+-- how a cursor may move: forward unless at a rewrite; as a step of its walk replies; else only as a rewrite carries it
+pub record CursorMayGo (x : WalkEvent) (c d : ℕ) : Type 0 where
+  pub forward : is_rewritten x.reply ≡ false → c ≤ d
+  pub moves : x.stepped ≡ true → AnswersStep x.before x.walk c x.reply d
+  pub stays : x.stepped ≡ false → d ≡ carry_by x.reply x.before x.after c
+
+-- the cursor at an event: it is a place, and moves as it may
+pub record CursorIsSound (x : WalkEvent) (c : ℕ) : Type 0 where
+  pub place : IsPlace x.before c
+  pub to : IsSomeAnd x.to (CursorMayGo x c)
+
+-- the place of a record after an event, if it is alive then
+abbrev pub next_place_of : RecordName → WalkEvent → Option ℕ
+next_place_of r x = place_among r (names_after x.number x.reply x.before x.after x.names) (live_places x.after)
+
+-- at an event that is no step of the walk, a record that lives on is ahead of the cursor after it iff it was before
+abbrev pub KeepsSide : RecordName → WalkEvent → Type 0
+KeepsSide r x = (c d p q : ℕ) → x.stepped ≡ false → x.from ≡ Some c → x.to ≡ Some d → place_of r x ≡ Some p → next_place_of r x ≡ Some q → (c ≤ p) ↔ (d ≤ q)
+
+-- ---- the properties of each walk
+
+-- ---- how many steps of a walk give a record
+
+-- how many additions are accepted along a track
+abbrev pub additions : Track → ℕ
+additions t = length (filter (λ x. is_placed x.reply) t)
+
+-- from any event, with the cursor at c, to any later: no more rows than live cells at or after c plus additions since
+abbrev pub FewStepsGive : Track → Type 0
+FewStepsGive t = (earlier : Track) (x : WalkEvent) (steps later : Track) (c : ℕ) → t ≡ earlier ++ (x ∷ steps ++ later) → x.from ≡ Some c
+    → length (given_over (x ∷ steps)) ≤ length (records_from x.before c) + additions (x ∷ steps)
+
+-- ---- the properties of each walk
 
 -- over a track that ends with a store: the walk is given what is due to it, each record as it is due, and its cursor is
 -- sound. The quoted words above a field are those of the headline that it proves

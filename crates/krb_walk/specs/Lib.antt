@@ -9,7 +9,6 @@
 -- row: an event and the record that it gives
 -- due: the rows of the live cells that the cursor passes, step by step
 -- rewrite: only the live cells stay, in order, and each cursor is carried to the first that was at or after it
-pub mod Numbers
 pub mod Phrases
 pub mod Store
 pub mod Stops
@@ -23,8 +22,6 @@ pub mod History
 pub mod Track
 pub mod Due
 pub mod Records
-pub mod Counts
-pub mod Cursors
 pub mod Damage
 pub mod Fair
 pub mod Joins

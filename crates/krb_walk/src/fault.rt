@@ -1,8 +1,7 @@
 //! What is wrong with an image.
 
 ghost use Rattle.std.specs.Prelude.{◌≡◌};
-ghost use Rattle.krb_walk.specs.Numbers.{fault_number};
-ghost use Rattle.krb_walk.specs.Phrases.{fault_phrase, fault_text};
+ghost use Rattle.krb_walk.specs.Phrases.{fault_number, fault_phrase, fault_text};
 
 use std::fmt;
 use thiserror::Error;

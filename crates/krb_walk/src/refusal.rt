@@ -1,8 +1,7 @@
 //! Why a store or a session refuses.
 
 ghost use Rattle.std.specs.Prelude.{◌≡◌};
-ghost use Rattle.krb_walk.specs.Numbers.{code_number};
-ghost use Rattle.krb_walk.specs.Phrases.{code_phrase, refusal_phrase};
+ghost use Rattle.krb_walk.specs.Phrases.{code_number, code_phrase, refusal_phrase};
 ghost use Rattle.krb_walk.specs.declared.refusal.Refusal.TheVariants.{Code as ByCode, NoMemory};
 
 use krb_wire::NoMemory;

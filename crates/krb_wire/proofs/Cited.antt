@@ -8,11 +8,9 @@ pub use Rattle.std.specs.Int.{w16, w32, byte_len, Width}
 pub use Rattle.std.specs.List.{flat_map, AllByRecursion, All, filter_map, slice_split, onto_first, prefix_len, position, range_with_len, splice, list_all}
 pub use Rattle.std.specs.Prelude.{option_map, IsTrue, IsSome, slice_get, option_copied, nat_lt, IfSome, ◌==◌, ⊤, ◌&&◌}
 pub use Rattle.krb_wire.specs.Atoms.{atoms, after_at, before_at, is_slash, byte_of, is_special, atoms_after}
-pub use Rattle.krb_wire.specs.FirstComponent.{after_first, first_component, faults_from}
-pub use Rattle.krb_wire.specs.NameOf.{first_fault, realm_of, realm_fault, components_of, faults_of, component_fault, name_of, name_or_fault}
-unfoldable pub use Rattle.krb_wire.specs.Names.{joined_components}
-pub use Rattle.krb_wire.specs.Quote.{IsPlain, quoted_byte}
-unfoldable pub use Rattle.krb_wire.specs.Quote.{quote}
+pub use Rattle.krb_wire.specs.NameOf.{after_first, first_component, faults_from, first_fault, realm_of, realm_fault, components_of, faults_of, component_fault, name_of, name_or_fault}
+unfoldable pub use Rattle.krb_wire.specs.Names.{joined_components, quote}
+pub use Rattle.krb_wire.specs.Names.{IsPlain, quoted_byte}
 pub use Rattle.krb_wire.specs.Reading.{data_at, items_of, ◌>>=◌, list_end, list_at, number_at, list_in, ReadsAt, name_type_at, components_of_count, counted_at}
 unfoldable pub use Rattle.krb_wire.specs.Reading.{data16_at, kt_principal_at, cc_principal_at, data32_at, components_at}
 pub use Rattle.krb_wire.specs.Spelling.{IsLong, data32, IsShort, Parts, cc_principal, digits, data16, data_text, count_field, FitsLength, kt_principal, order_of, name_type_field, counted, name_fits, is_long, counted_realms, FitsCc, FitsKt, number, cc_name_fits, HasText, HasNameType, is_short}

@@ -6,7 +6,7 @@ use Rattle.std.specs.Cmp.Lexicographic.{pointwise}
 use Rattle.std.specs.Str.{bytes_eq}
 use Rattle.std.proofs.lemmas.Slice.Eq.{bytes_eq-Decides, slice_eq-Decides}
 use Rattle.krb_wire.specs.declared.format.KtFormat.{KtFormat}
-use Rattle.krb_wire.specs.SameName.{have_same_name}
+use Rattle.krb_wire.specs.Names.{have_same_name}
 
 -- ---- tests
 

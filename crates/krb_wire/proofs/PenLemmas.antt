@@ -2,7 +2,7 @@
 use Rattle.krb_wire.proofs.Cited.{◌≡◌, ℕ, ◌+◌, ◌-◌, ◌≤◌, List, [], ◌++◌, length, take, drop, refl, sym, ap, subst, ◌∙◌, append_assoc, arith, splice}
 use Rattle.std.proofs.lemmas.List.{take_at, drop_at, take-append-drop, length-append, length-take, drop-drop}
 use Rattle.krb_wire.specs.declared.pen.Pen.{Pen}
-use Rattle.krb_wire.specs.Pen.{HasRoom, Puts}
+use Rattle.krb_wire.specs.Text.{HasRoom, Puts}
 
 -- writing one part, then the next after it, is writing both
 splice-splice : (xs ys zs : List ℕ) (i j k : ℕ) → i ≤ length xs → j ≡ i + length ys → j ≤ k → splice (splice xs i j ys) j k zs ≡ splice xs i k (ys ++ zs)

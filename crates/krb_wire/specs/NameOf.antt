@@ -1,5 +1,5 @@
 -- The name that a text parses as, or the fault of the text.
-use Rattle.std.specs.Prelude.{ℕ, List, [], ◌∷◌, ◌++◌, map, Option, Some, None, option_map, unwrap_or, Result, Ok, Err, codes}
+use Rattle.std.specs.Prelude.{ℕ, List, [], ◌∷◌, ◌++◌, map, Option, Some, None, option_map, unwrap_or, Result, Ok, Err, codes, Bool, true, false}
 use Rattle.std.specs.List.{filter_map, slice_split}
 use Rattle.std.specs.Option.{option_or}
 use Rattle.krb_wire.specs.declared.name_fault.NameFault.{NameFault}
@@ -65,3 +65,26 @@ name_or_fault None (Some realm) components = Ok (record { name_type = 1; realm =
 -- the name that a text parses as, or its fault
 abbrev pub name_of : List ℕ → Option (List ℕ) → Result Parts NameFault
 name_of text default_realm = name_or_fault (first_fault (faults_of (atoms text))) (realm_of (atoms text) default_realm) (components_of (atoms text))
+
+-- ---- the first component of a text, and the faults in the rest of a text, for each step of the parser
+
+-- the bytes before the first `/` or `@`, or all of them if there is none
+abbrev pub first_component : List Atom → List ℕ
+first_component [] = []
+first_component (Byte b ∷ rest) = b ∷ first_component rest
+first_component (Slash ∷ rest) = []
+first_component (At ∷ rest) = []
+first_component (Lone ∷ rest) = 92 ∷ first_component rest
+
+-- the atoms after that separator, if it is a `/`
+abbrev pub after_first : List Atom → Option (List Atom)
+after_first [] = None
+after_first (Byte b ∷ rest) = after_first rest
+after_first (Slash ∷ rest) = Some rest
+after_first (At ∷ rest) = None
+after_first (Lone ∷ rest) = after_first rest
+
+-- the faults in the atoms that follow, after an `@` or before any
+abbrev pub faults_from : Bool → List Atom → List NameFault
+faults_from false text = faults_of text
+faults_from true text = filter_map realm_fault text

@@ -3,8 +3,7 @@
 ghost use Rattle.std.specs.Prelude.{◌≡◌, ◌<◌, ◌≤◌, Bool, ◌⊎◌, length, Ok, Err, Some, None, IsOk, IfOk, IfErr, IfSome, MatchOption, option_map, option_copied};
 ghost use Rattle.krb_wire.specs.Reading.{items_of, principal_parts};
 ghost use Rattle.krb_wire.specs.Atoms.{atoms, after_at};
-ghost use Rattle.krb_wire.specs.FirstComponent.{first_component, after_first, faults_from};
-ghost use Rattle.krb_wire.specs.NameOf.{faults_of, first_fault, components_of, realm_of, name_of};
+ghost use Rattle.krb_wire.specs.NameOf.{first_component, after_first, faults_from, faults_of, first_fault, components_of, realm_of, name_of};
 
 use crate::atom::{Atom, next_atom, split_plain};
 use crate::name_fault::NameFault;

@@ -15,7 +15,7 @@ pub struct Pen<'a> {
 }
 
 impl<'a> Pen<'a> {
-    ghost use Rattle.krb_wire.specs.Pen.{IsAt, HasRoom, Puts};
+    ghost use Rattle.krb_wire.specs.Text.{IsAt, HasRoom, Puts};
 
     /// Returns a pen that overwrites `out` from `at` on.
     #[inline]

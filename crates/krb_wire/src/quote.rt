@@ -2,7 +2,7 @@
 
 ghost use Rattle.std.specs.Prelude.{◌≡◌, ◌<◌, ◌≤◌, ◌+◌, ◌++◌, IsTrue, length, take};
 ghost use Rattle.std.specs.List.{All};
-ghost use Rattle.krb_wire.specs.Quote.{quoted_byte, IsPlain, quote};
+ghost use Rattle.krb_wire.specs.Names.{quoted_byte, IsPlain, quote};
 ghost use Rattle.krb_wire.specs.Text.{Appended, AppendedPart};
 
 use std::alloc::{AllocError, Allocator};

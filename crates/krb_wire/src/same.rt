@@ -1,7 +1,7 @@
 //! Equal names.
 
 ghost use Rattle.std.specs.Prelude.{◌≡◌, ◌↔◌, IsTrue};
-ghost use Rattle.krb_wire.specs.SameName.{have_same_name};
+ghost use Rattle.krb_wire.specs.Names.{have_same_name};
 
 use crate::components::Components;
 use crate::name::Name;

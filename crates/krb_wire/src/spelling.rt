@@ -1,7 +1,7 @@
 //! Names as files encode them.
 
 ghost use Rattle.std.specs.List.{flat_map, AllByRecursion};
-ghost use Rattle.krb_wire.specs.Pen.{HasRoom, Puts};
+ghost use Rattle.krb_wire.specs.Text.{HasRoom, Puts};
 ghost use Rattle.krb_wire.specs.Spelling.{data_text, FitsLength};
 
 pub mod cache;

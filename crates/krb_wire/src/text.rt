@@ -1,8 +1,7 @@
 //! Appending text, and names as text, like krb5_unparse_name.
 
 ghost use Rattle.std.specs.Prelude.{◌≡◌, ◌++◌, ℕ, List, Vec, vec_len};
-ghost use Rattle.krb_wire.specs.Quote.{quote};
-ghost use Rattle.krb_wire.specs.Names.{joined_components, name_text};
+ghost use Rattle.krb_wire.specs.Names.{quote, joined_components, name_text};
 ghost use Rattle.krb_wire.specs.Text.{separator, Appended, AppendedPart};
 
 use crate::memory::NoMemory;

@@ -17,7 +17,7 @@ use Rattle.krb_driver.specs.declared.verdict.FileKind.TheVariants.{Keytab, Cache
 use Rattle.krb_driver.specs.FileNames.{IsNamed}
 use Rattle.krb_driver.specs.Mistakes.{IsOf, IsRefusal, Missing, VariableNotText}
 use Rattle.krb_text.specs.Numbers.{number_in}
-use Rattle.krb_text.specs.Pieces.{pieces}
+use Rattle.krb_text.specs.Word.{pieces}
 use Rattle.krbfile.specs.declared.default_name.FoundName.{FoundName}
 
 -- the number before a first tab

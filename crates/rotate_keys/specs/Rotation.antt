@@ -1,7 +1,7 @@
 -- The rotation of a name's keys.
 use Rattle.std.specs.Prelude.{ℕ, List, [], ◌∷◌, Bool, ◌&&◌, nat_lt, map, filter, Result, Ok, Err}
 use Rattle.krb_wire.specs.Spelling.{Parts}
-use Rattle.krb_wire.specs.SameName.{have_same_name}
+use Rattle.krb_wire.specs.Names.{have_same_name}
 use Rattle.krb_walk.specs.declared.refusal.Code.{Code}
 use Rattle.krb_keytab.specs.Changes.{cut_result, put_result}
 use Rattle.krb_keytab.specs.Entry.{EntryParts}

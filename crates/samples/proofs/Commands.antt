@@ -5,7 +5,7 @@ use Rattle.krb_walk.specs.declared.refusal.Code.TheVariants.{Damaged, NotFound, 
 use Rattle.krb_keytab.specs.Find.{placed_entries}
 use Rattle.krb_ccache.specs.Store.{image_of as cache_image}
 use Rattle.krb_text.specs.declared.line_fault.LineFault.TheVariants.{BadNumber, BadKey}
-use Rattle.krb_text.specs.Found.{found_line, removed_line}
+use Rattle.krb_text.specs.Listing.{found_line, removed_line}
 use Rattle.krb_json.specs.Cache.{cache_json_text}
 use Rattle.krb_json.specs.Keytab.{keytab_json_text}
 use Rattle.krb_audit.specs.Findings.{is_out}

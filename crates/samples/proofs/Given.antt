@@ -11,10 +11,10 @@ use Rattle.krb_walk.specs.ReplyContent.{ReplyContent}
 use Rattle.krb_keytab.specs.declared.open.KtOpenFault.{KtOpenFault}
 use Rattle.krb_keytab.specs.Entry.{EntryParts}
 use Rattle.krb_keytab.specs.Find.{PlacedEntry, find_result, placed_entries}
-use Rattle.krb_keytab.specs.Placed.{keytab_rules}
+use Rattle.krb_keytab.specs.Rewrite.{keytab_rules}
 use Rattle.krb_ccache.specs.declared.open.CcOpenFault.{CcOpenFault}
 use Rattle.krb_ccache.specs.Changes.{empty_cache}
-use Rattle.krb_ccache.specs.Placed.{cache_rules}
+use Rattle.krb_ccache.specs.Rewrite.{cache_rules}
 use Rattle.krb_ccache.specs.Store.{CacheState, open_result as cache_result, image_of as cache_image}
 use Rattle.krb_text.specs.declared.columns.KtColumns.{KtColumns}
 use Rattle.krb_text.specs.Listing.{list_text}

@@ -12,12 +12,10 @@ ghost use Rattle.krb_ccache.specs.SetConfig.{set_config_result};
 ghost use Rattle.krb_ccache.specs.Rewrite.{rewrite_result};
 ghost use Rattle.krb_c.specs.Behind.{cache_of, Looks, Over};
 ghost use Rattle.krb_c.specs.Text.{CopiesText, CopiesTextAt};
-ghost use Rattle.krb_c.specs.CacheLooks.{Finds, text_or_none};
-ghost use Rattle.krb_c.specs.Walks.{StepsOver};
-ghost use Rattle.krb_c.specs.CacheTicket.{Shows};
+ghost use Rattle.krb_c.specs.CacheLooks.{Finds, text_or_none, Shows};
+ghost use Rattle.krb_c.specs.Walks.{StepsOver, with_cursors};
 ghost use Rattle.krb_c.specs.Shown.{AreShown, LooksAt, ShowsBytes};
 ghost use Rattle.krb_c.specs.Status.{kind_number, Adds, Changes, Rewrites};
-ghost use Rattle.krb_c.specs.Cursors.{with_cursors};
 ghost use Rattle.krb_c.specs.CacheStore.{Stores, new_credential_of};
 
 use crate::bytes::{KrbfBytes, bytes_of};

@@ -6,8 +6,7 @@ ghost use Rattle.krb_wire.specs.NameOf.{name_of};
 ghost use Rattle.krb_wire.specs.Names.{name_text};
 ghost use Rattle.krb_ccache.specs.Store.{credential_at_place};
 ghost use Rattle.krb_ccache.specs.Config.{config_of};
-ghost use Rattle.krb_c.specs.CacheLooks.{FindsOne, Finds, ticket_for, is_ticket_for, text_or_none};
-ghost use Rattle.krb_c.specs.CacheTicket.{Shows};
+ghost use Rattle.krb_c.specs.CacheLooks.{FindsOne, Finds, ticket_for, is_ticket_for, text_or_none, Shows};
 ghost use Rattle.krb_c.specs.Shown.{LooksAt, ShowsBytes};
 ghost use Rattle.krb_c.specs.Text.{CopiesTextAt};
 

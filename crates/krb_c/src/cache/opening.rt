@@ -4,7 +4,7 @@ ghost use Rattle.std.specs.Prelude.{◌≡◌, ◌≤◌, length, Err, None, IfO
 ghost use Rattle.krb_wire.specs.NameOf.{name_of};
 ghost use Rattle.krb_ccache.specs.Store.{open_result, version_in};
 ghost use Rattle.krb_c.specs.CacheOpens.{IsDeeper, OpensImage, Makes, opened_within};
-ghost use Rattle.krb_c.specs.Limit.{limit_of};
+ghost use Rattle.krb_c.specs.Opens.{limit_of};
 
 use crate::cache::HeldCache;
 use crate::handle::KrbfCcache;

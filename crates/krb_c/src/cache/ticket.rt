@@ -3,7 +3,7 @@
 ghost use Rattle.std.specs.Prelude.{◌≡◌, Some, IsSome};
 ghost use Rattle.krb_walk.specs.Store.{live_bytes};
 ghost use Rattle.krb_ccache.specs.Store.{credential_at_place, store_of};
-ghost use Rattle.krb_c.specs.CacheTicket.{Shows};
+ghost use Rattle.krb_c.specs.CacheLooks.{Shows};
 
 use crate::bytes::{KrbfBytes, bytes_of};
 use crate::heap::Heap;
@@ -63,7 +63,7 @@ pub fn read_at(cache: &Ccache<Heap>, place: u32) -> CredView<'_>
 impl Records for Ccache<Heap> {
     ghost use Rattle.krb_ccache.specs.Credential.{CredParts};
     ghost use Rattle.krb_ccache.specs.Store.{credential_at_place};
-    ghost use Rattle.krb_c.specs.CacheTicket.{Shows};
+    ghost use Rattle.krb_c.specs.CacheLooks.{Shows};
 
     type Shown = KrbfTicket;
 

@@ -9,14 +9,11 @@ ghost use Rattle.krb_keytab.specs.Store.{entry_at_place, image_of, store_of, ent
 ghost use Rattle.krb_keytab.specs.Changes.{cut_result};
 ghost use Rattle.krb_keytab.specs.Rewrite.{rewrite_result};
 ghost use Rattle.krb_c.specs.Behind.{keytab_of, Looks, Over};
-ghost use Rattle.krb_c.specs.KeytabEntry.{Shows};
-ghost use Rattle.krb_c.specs.KeytabLooks.{Finds, ShowsPart};
-ghost use Rattle.krb_c.specs.Walks.{StepsOver};
+ghost use Rattle.krb_c.specs.KeytabLooks.{Shows, Finds, ShowsPart, AddsNamed, ReadsBack, entry_with};
+ghost use Rattle.krb_c.specs.Walks.{StepsOver, with_cursors};
 ghost use Rattle.krb_c.specs.Shown.{AreShown, LooksAt};
 ghost use Rattle.krb_c.specs.Text.{CopiesTextAt};
 ghost use Rattle.krb_c.specs.Status.{kind_number, Changes, Rewrites};
-ghost use Rattle.krb_c.specs.Cursors.{with_cursors};
-ghost use Rattle.krb_c.specs.KeytabChanges.{AddsNamed, ReadsBack, entry_with};
 
 use crate::bytes::{KrbfBytes, bytes_of};
 use crate::handle::{KrbfKeytab, with_held};

@@ -2,7 +2,7 @@
 
 ghost use Rattle.std.specs.Prelude.{◌≡◌, None};
 ghost use Rattle.krb_wire.specs.NameOf.{name_of};
-ghost use Rattle.krb_c.specs.KeytabChanges.{AddsNamed, ReadsBack, entry_with};
+ghost use Rattle.krb_c.specs.KeytabLooks.{AddsNamed, ReadsBack, entry_with};
 
 use crate::heap::{Heap, heap};
 use crate::keytab::HeldKeytab;

@@ -1,6 +1,6 @@
 //! Entries as C sees them.
 
-ghost use Rattle.krb_c.specs.KeytabEntry.{Shows};
+ghost use Rattle.krb_c.specs.KeytabLooks.{Shows};
 
 use crate::bytes::{KrbfBytes, bytes_of};
 use crate::heap::Heap;
@@ -42,7 +42,7 @@ pub fn shown(place: u32, entry: &EntryView<'_>) -> KrbfEntry
 impl Records for Indexed<Heap> {
     ghost use Rattle.krb_keytab.specs.Entry.{EntryParts};
     ghost use Rattle.krb_keytab.specs.Store.{entry_at_place};
-    ghost use Rattle.krb_c.specs.KeytabEntry.{Shows};
+    ghost use Rattle.krb_c.specs.KeytabLooks.{Shows};
 
     type Shown = KrbfEntry;
 

@@ -4,8 +4,7 @@ ghost use Rattle.std.specs.Prelude.{None, option_map};
 ghost use Rattle.krb_wire.specs.NameOf.{name_of};
 ghost use Rattle.krb_wire.specs.Names.{name_text};
 ghost use Rattle.krb_keytab.specs.Store.{entry_at_place};
-ghost use Rattle.krb_c.specs.KeytabEntry.{Shows};
-ghost use Rattle.krb_c.specs.KeytabLooks.{Finds, ShowsPart};
+ghost use Rattle.krb_c.specs.KeytabLooks.{Shows, Finds, ShowsPart};
 ghost use Rattle.krb_c.specs.Shown.{LooksAt};
 ghost use Rattle.krb_c.specs.Text.{CopiesTextAt};
 

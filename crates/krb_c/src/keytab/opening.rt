@@ -4,8 +4,7 @@ ghost use Rattle.std.specs.Prelude.{◌≡◌, ◌≤◌, ◌⊎◌, length, Som
 ghost use Rattle.krb_keytab.specs.Store.{format_of, open_result};
 ghost use Rattle.krb_c.specs.Behind.{keytab_of};
 ghost use Rattle.krb_c.specs.KeytabOpens.{IsKeytab, Makes, OpensImage, order_of_flag};
-ghost use Rattle.krb_c.specs.Limit.{limit_of};
-ghost use Rattle.krb_c.specs.Opens.{OpensNone};
+ghost use Rattle.krb_c.specs.Opens.{limit_of, OpensNone};
 
 use crate::handle::KrbfKeytab;
 use crate::heap::{Heap, heap};

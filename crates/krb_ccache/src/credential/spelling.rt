@@ -2,7 +2,7 @@
 
 ghost use Rattle.std.specs.Prelude.{◌≡◌, ◌≤◌, ◌<◌, ◌^◌, ◌+◌, length, IfSome, IfNone};
 ghost use Rattle.std.specs.List.{flat_map, AllByRecursion};
-ghost use Rattle.krb_wire.specs.Pen.{HasRoom, Puts};
+ghost use Rattle.krb_wire.specs.Text.{HasRoom, Puts};
 ghost use Rattle.krb_wire.specs.Spelling.{IsLong};
 ghost use Rattle.krb_ccache.specs.declared.version.Version.TheVariants.{V4};
 ghost use Rattle.krb_ccache.specs.Credential.{typed_data, typed_list, key, times, credential, FitsTypedData, FitsTypedList, FitsKey, FitsTimes, FitsCredential, owned_list, plain_key, middle_text, lists_text};

@@ -3,9 +3,8 @@
 ghost use Rattle.std.specs.Prelude.{◌≡◌, ◌∷◌, IfOk, OnOk, OnErr, IsTrue, string_bytes};
 ghost use Rattle.std.specs.Path.{path_buf_bytes};
 ghost use Rattle.krb_disk.specs.Looks.{IsPlainOrNone};
-ghost use Rattle.krb_disk.specs.NewFile.{IsFilled};
+ghost use Rattle.krb_disk.specs.NewFile.{IsFilled, new_path};
 ghost use Rattle.krb_disk.specs.Stages.{IsQuiet, watched, snapshot_file};
-ghost use Rattle.krb_disk.specs.Target.{new_path};
 ghost use Rattle.krb_disk.specs.declared.stage.Stage.TheVariants.{Ours, Same};
 
 use super::log::Log;

@@ -2,7 +2,7 @@
 
 ghost use Rattle.std.specs.Prelude.{◌≡◌, ◌≤◌, ◌<◌, ◌^◌, ◌+◌, length, drop, map, Ok, Err, IfSome, IfNone, IfOk, IfErr, OnOk, OnErr, vec_len};
 ghost use Rattle.std.specs.List.{flat_map, AllByRecursion};
-ghost use Rattle.krb_wire.specs.Pen.{HasRoom, Puts};
+ghost use Rattle.krb_wire.specs.Text.{HasRoom, Puts};
 ghost use Rattle.krb_wire.specs.declared.format.Order.TheVariants.{Big};
 ghost use Rattle.krb_wire.specs.declared.format.KtFormat.TheVariants.{V2};
 ghost use Rattle.krb_walk.specs.Rules.{RewriteGives};

@@ -2,8 +2,7 @@
 
 ghost use Rattle.std.specs.Prelude.{◌≡◌};
 ghost use Rattle.krb_keytab.specs.Find.{placed_entries, find_result};
-ghost use Rattle.krb_keytab.specs.LookUp.{IsFoundAmong};
-ghost use Rattle.krb_keytab.specs.Prefix.{IsPrefix};
+ghost use Rattle.krb_keytab.specs.LookUp.{IsFoundAmong, IsPrefix};
 
 use crate::cells::KtCell;
 use crate::entry::EntryView;

@@ -1,10 +1,10 @@
 //! The name of an entry, compared in place.
 
 ghost use Rattle.std.specs.Prelude.{◌≡◌, ◌↔◌, IsTrue, Some};
-ghost use Rattle.krb_wire.specs.SameName.{have_same_name};
+ghost use Rattle.krb_wire.specs.Names.{have_same_name};
 ghost use Rattle.krb_wire.specs.Reading.{components_of_count};
 ghost use Rattle.krb_keytab.specs.Entry.{EntryParts, entry_at};
-ghost use Rattle.krb_keytab.specs.HasName.{begin_with};
+ghost use Rattle.krb_keytab.specs.LookUp.{begin_with};
 
 use krb_wire::{KtFormat, Name, Order, split_data16, split_u16};
 

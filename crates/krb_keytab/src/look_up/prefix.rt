@@ -1,6 +1,6 @@
 //! The prefix of all entries of a name.
 
-ghost use Rattle.krb_keytab.specs.Prefix.{IsPrefix};
+ghost use Rattle.krb_keytab.specs.LookUp.{IsPrefix};
 
 use krb_wire::{KtFormat, Name, kt_principal_len, put_kt_principal};
 

@@ -1,7 +1,7 @@
 //! Looks for a ticket to go on with.
 
 ghost use Rattle.std.specs.Prelude.{◌≡◌, ℕ, [], ◌∷◌, List};
-ghost use Rattle.krb_wire.specs.SameName.{have_same_name};
+ghost use Rattle.krb_wire.specs.Names.{have_same_name};
 ghost use Rattle.krb_ccache.specs.Store.{CacheState, PlacedCredential, placed_credentials};
 ghost use Rattle.krb_readers.specs.SeenTickets.{SeesSoFar};
 ghost use Rattle.krb_readers.specs.TicketCheck.{has_ticket, tgs_of};

@@ -2,7 +2,7 @@
 
 ghost use Rattle.std.specs.Prelude.{◌≡◌, ◌≤◌, ◌^◌, ◌+◌, ◌&&◌, length, is_some, nat_lt, IsTrue, IfSome, IfNone};
 ghost use Rattle.std.specs.List.{splice};
-ghost use Rattle.krb_wire.specs.Pen.{HasRoom, Puts};
+ghost use Rattle.krb_wire.specs.Text.{HasRoom, Puts};
 ghost use Rattle.krb_wire.specs.Spelling.{cc_name_fits, cc_principal};
 
 use crate::format::{Lengths, Order};

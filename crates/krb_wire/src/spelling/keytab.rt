@@ -2,7 +2,7 @@
 
 ghost use Rattle.std.specs.Prelude.{◌≡◌, ◌≤◌, ◌<◌, ◌^◌, ◌+◌, ℕ, length, is_some, IsTrue, IfSome};
 ghost use Rattle.std.specs.List.{splice};
-ghost use Rattle.krb_wire.specs.Pen.{HasRoom, Puts};
+ghost use Rattle.krb_wire.specs.Text.{HasRoom, Puts};
 ghost use Rattle.krb_wire.specs.Spelling.{name_fits, kt_principal, name_type_field};
 
 use crate::format::{KtFormat, Lengths, Order};

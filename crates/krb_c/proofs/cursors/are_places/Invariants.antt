@@ -1,5 +1,5 @@
 use Rattle.std.proofs.Common.{◌≡◌, drop}
-use Rattle.krb_c.specs.Cursors.{are_places}
+use Rattle.krb_c.specs.Walks.{are_places}
 use Rattle.krb_c.proofs.cursors.are_places.Given as goal
 
 abbrev pub invariant-loop-cursor : goal.invariant-loop-cursor

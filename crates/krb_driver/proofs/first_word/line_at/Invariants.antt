@@ -1,6 +1,6 @@
 use Rattle.std.proofs.Common.{◌≡◌, ◌-◌}
 use Rattle.std.specs.Prelude.{slice_get}
-use Rattle.krb_text.specs.Pieces.{pieces}
+use Rattle.krb_text.specs.Word.{pieces}
 use Rattle.krb_driver.proofs.first_word.line_at.Given as goal
 
 -- the line is at that place of the lines to come

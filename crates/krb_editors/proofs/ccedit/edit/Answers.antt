@@ -2,7 +2,7 @@ use Rattle.std.proofs.Common.{ℕ, List, map, ap, ◌∙◌}
 use Rattle.std.specs.Prelude.{None}
 use Rattle.krb_walk.specs.ReplyContent.{content_of}
 use Rattle.krb_ccache.specs.declared.version.Version.TheVariants.{V4}
-use Rattle.krb_ccache.specs.Placed.{cache_rules}
+use Rattle.krb_ccache.specs.Rewrite.{cache_rules}
 use Rattle.krb_ccache.specs.Store.{CacheState, image_of}
 use Rattle.krb_text.specs.Reply.{reply_texts_by}
 use Rattle.krb_cache_text.specs.Reply.{cache_record_tail}

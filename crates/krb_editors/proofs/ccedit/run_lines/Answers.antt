@@ -2,7 +2,7 @@ use Rattle.std.proofs.Common.{ap, arith, ◌<◌, ◌≤◌, length}
 use Rattle.std.proofs.lemmas.List.{take_all}
 use Rattle.krb_walk.specs.Events.{SessionState}
 use Rattle.krb_walk.proofs.Runs.{ran_none}
-use Rattle.krb_ccache.specs.Placed.{cache_rules}
+use Rattle.krb_ccache.specs.Rewrite.{cache_rules}
 use Rattle.krb_ccache.specs.Store.{CacheState}
 use Rattle.krb_editors.specs.Ccedit.{cache_session}
 use Rattle.krb_editors.specs.Sessions.{new_session}

@@ -3,7 +3,7 @@ use Rattle.krb_wire.specs.declared.format.KtFormat.TheVariants.{V2}
 use Rattle.krb_walk.specs.ReplyContent.{content_of}
 use Rattle.krb_walk.specs.Events.{SessionState, session_of}
 use Rattle.krb_walk.specs.History.{history}
-use Rattle.krb_keytab.specs.Placed.{keytab_rules}
+use Rattle.krb_keytab.specs.Rewrite.{keytab_rules}
 use Rattle.krb_keytab.specs.Store.{InMemory, KeytabState, image_of}
 use Rattle.krb_text.specs.Reply.{record_tail, reply_texts_by}
 use Rattle.krb_audit.specs.Findings.{hides_added}

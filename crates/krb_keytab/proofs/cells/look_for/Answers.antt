@@ -1,5 +1,5 @@
 use Rattle.krb_keytab.proofs.Cited.{arith, sym, ap, ◌∙◌, is_some, ne_eqb}
-use Rattle.krb_cells.specs.CellFormat.{cell_of}
+use Rattle.krb_cells.specs.Cells.{cell_of}
 use Rattle.krb_keytab.proofs.Cuts.{none_inside}
 use Rattle.krb_keytab.proofs.cells.look_for.Goals as goal
 

@@ -1,5 +1,5 @@
 use Rattle.krb_text.proofs.Cited.{◌≡◌, ◌+◌, drop, Left}
-use Rattle.krb_text.specs.Slots.{slot_lines}
+use Rattle.krb_text.specs.Listing.{slot_lines}
 use Rattle.krb_text.proofs.slots.append_slots.Given as goal
 
 abbrev pub invariant-slots : goal.invariant-slots

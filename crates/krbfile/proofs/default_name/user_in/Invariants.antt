@@ -1,5 +1,5 @@
 use Rattle.std.proofs.Common.{◌≡◌}
-use Rattle.krb_text.specs.Pieces.{pieces}
+use Rattle.krb_text.specs.Word.{pieces}
 use Rattle.krbfile.specs.DefaultNames.{user_of}
 use Rattle.krbfile.proofs.default_name.user_in.Given as goal
 

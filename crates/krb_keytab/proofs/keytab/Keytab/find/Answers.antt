@@ -1,5 +1,5 @@
 use Rattle.krb_keytab.proofs.Cited.{subst, KtFormat}
-use Rattle.krb_keytab.specs.Prefix.{IsPrefix}
+use Rattle.krb_keytab.specs.LookUp.{IsPrefix}
 use Rattle.krb_keytab.proofs.keytab.Keytab.find.Goals as goal
 
 pub consider_all-requires : goal.consider_all-requires

@@ -1,5 +1,5 @@
 use Rattle.std.proofs.Common.{◌≡◌}
-use Rattle.krb_keytab.specs.HasName.{begin_with}
+use Rattle.krb_keytab.specs.LookUp.{begin_with}
 use Rattle.krb_keytab.proofs.look_up.has_name.begin_with.Given as goal
 
 -- the bytes begin with all components iff the rest begins with those left
