@@ -3,6 +3,7 @@
 # make            proves the program and builds bin/krbfile
 # make static     builds bin/krbfile-static, which needs no C library where it runs and starts sooner
 # make lib        proves and builds the C library, lib/libkrbfile.a and lib/libkrbfile.so.1, which c/krbfile.h declares
+# make cards      writes a card of each command, which has what its contract says, to bin/cards/
 # make samples    makes the files that README works on, in samples/
 # make test       proves every crate from nothing, runs all tests, those of the program that this built too, and tries
 #                 the wrong bodies; afterwards the other targets prove nothing again
@@ -37,7 +38,7 @@ MODULE = $(wildcard python/krbfile/*.py) python/krbfile/py.typed
 PAGES = README.md docs/krbfile.1 docs/krbfile.3 completions/generate c/krbfile.h c/krbfile.pc.in python/pyproject.toml \
 	$(MODULE)
 
-.PHONY: all try check static lib samples test long-test install-program install dist
+.PHONY: all try check static lib cards samples test long-test install-program install dist
 
 all: $(PROGRAM)
 
@@ -88,6 +89,9 @@ check:
 static: $(STATIC)
 
 lib: $(LIBRARY) $(SHARED) $(LINKER_NAME)
+
+cards:
+	tests/definitions --cards bin/cards
 
 samples:
 	tests/samples samples

@@ -8,3 +8,4 @@ mod Caches
 mod NamesAndTimes
 mod Edits
 mod Commands
+mod Ends

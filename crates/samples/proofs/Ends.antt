@@ -1,0 +1,114 @@
+-- How runs end, when they read the clock, and what hold takes: worked by hand from krbfile(1).
+use Rattle.std.specs.Prelude.{◌≡◌, ◌+◌, ℕ, List, [], codes, true, false, Option, None, Some, Result, Ok, Err}
+use Rattle.std.proofs.Common.{refl}
+use Rattle.krb_wire.specs.declared.format.Order.{Order}
+use Rattle.krb_wire.specs.declared.format.Order.TheVariants.{Little}
+use Rattle.krb_walk.specs.declared.fault.FaultKind.TheVariants.{CutLength}
+use Rattle.krb_files.specs.declared.aftermath.Aftermath.TheVariants.{LostChange, Mixed, Restored}
+use Rattle.krb_files.specs.declared.files.LoadFault.TheVariants.{Missing}
+use Rattle.krb_files.specs.declared.files.SaveFault.TheVariants as save
+use Rattle.krb_files.specs.Bytes.{Watch}
+use Rattle.krb_files.specs.Loading.{most_bytes}
+use Rattle.krb_audit.specs.declared.selection.SelectedKvno.TheVariants.{Old, OldFor}
+use Rattle.krb_driver.specs.declared.error.RunError.{RunError}
+use Rattle.krb_driver.specs.declared.error.RunError.TheVariants as error
+use Rattle.krb_driver.specs.declared.file_name.FileName.{FileName}
+use Rattle.krb_driver.specs.declared.file_name.NameSource.TheVariants.{Word, Default}
+use Rattle.krb_driver.specs.declared.verdict.Verdict.TheVariants.{Well}
+use Rattle.krb_driver.specs.declared.world.World.{World}
+use Rattle.krb_driver.specs.Commands.{always, of_file}
+use Rattle.krb_driver.specs.Effects.{CommandPlan}
+use Rattle.krb_driver.specs.ErrorOutput.{ErrorWatch}
+use Rattle.krb_driver.specs.RunErrors.{end_status, error_status, save_error}
+use Rattle.krb_readers.specs.Ktcheck.{Round, first_round, is_last}
+use Rattle.krb_editors.specs.declared.ccremove.TicketOptions.{TicketOptions}
+use Rattle.krb_editors.specs.declared.hold.words.HoldKind.TheVariants.{Keytab, Cache}
+use Rattle.krb_editors.specs.Ccremove.{ended_by}
+use Rattle.krb_editors.specs.Frame.{frame, most_frame}
+use Rattle.krb_editors.specs.Hold.{about_end, ending_of, held_in, received}
+use Rattle.krb_editors.specs.Ktremove.{needed_time}
+use Rattle.krb_ktutil.specs.KtutilTalk.{first_talk}
+use Rattle.samples.proofs.Given.{hex, two}
+use Rattle.samples.proofs.Unfolded.{on_literals}
+
+-- ---- statuses
+
+-- a change of another program that was lost makes a status of 0 a 1
+lost-change : end_status (Ok Well) (Some LostChange) ≡ 1
+lost-change = refl
+
+-- of several the greatest status counts
+failed-beside-another : end_status (Err error.FileNotWritten) (Some Mixed) ≡ 3
+failed-beside-another = refl
+
+restored : end_status (Ok Well) (Some Restored) ≡ 0
+restored = refl
+
+save-without-memory : error_status (save_error save.NoMemory) ≡ 4
+save-without-memory = refl
+
+-- an error of a file names it, and where the name comes from
+missing-default : (file : FileName) → file.source ≡ Default → of_file {X = ℕ} file (Err (error.NoSuchFile Word)) ≡ Err (file.name.now, error.NoSuchFile Default)
+missing-default file is = rw is refl
+
+same-for-any-mode : (plan : CommandPlan) → always plan (Some 420) ≡ plan
+unfolding always
+same-for-any-mode plan = refl
+
+-- ktcheck goes on after a file with findings, but not without memory
+no-memory-ends : {F R W E : Type 0} (round : Round F R W E) → is_last (Err error.NoMemory) round ≡ true
+no-memory-ends round = refl
+
+first-status : {F R W E : Type 0} (world : World F R W E) → (first_round world).status ≡ 0
+first-status world = refl
+
+-- ktutil begins with an empty list
+first-list : {F : Type 0} (order : Order) (files : F) (out : Watch) (err : ErrorWatch) → (first_talk order files out err).state.entries ≡ []
+first-list order files out err = refl
+
+-- ---- the clock
+
+-- an age needs the clock
+age-without-clock : needed_time (OldFor 3600) None ≡ Err error.ClockNotRead
+age-without-clock = refl
+
+old-without-clock : needed_time Old None ≡ Ok 0
+old-without-clock = refl
+
+expired-without-clock : {A : Type 0} (o : TicketOptions A) → o.expired ≡ true → ended_by o None ≡ Err error.ClockNotRead
+expired-without-clock o is = rw is refl
+
+-- ---- hold
+
+-- a missing keytab begins as an empty one of version 2, unless it is to be saved in place
+missing-keytab : held_in (Keytab Little) false (Err Missing) ≡ Ok (hex (codes "0502"))
+missing-keytab = refl
+
+missing-in-place : held_in (Keytab Little) true (Err Missing) ≡ Err (error.NoSuchFile Word)
+missing-in-place = refl
+
+keytab-back : received (Keytab Little) (Ok (frame two)) ≡ Ok (Some two)
+unfolding on_literals
+keytab-back = refl
+
+nothing-back : received Cache (Ok []) ≡ Ok None
+nothing-back = refl
+
+short-back : received Cache (Ok (codes "5\nabc")) ≡ Err error.InputNotWhole
+unfolding on_literals
+short-back = refl
+
+-- the length of a record is cut off after two bytes
+damaged-back : received (Keytab Little) (Ok (frame (hex (codes "05020000")))) ≡ Err (error.DamagedInput (record { kind = CutLength; place = 2 }))
+unfolding on_literals
+damaged-back = refl
+
+-- the greatest length has ten digits at most, and a newline after them
+greatest-frame : most_frame ≡ most_bytes + 11
+greatest-frame = refl
+
+input-ends : about_end (codes "k") (Err (codes "input", error.InputNotWhole)) ≡ codes "input"
+input-ends = refl
+
+done-ends : ending_of (Ok tt) ≡ Ok Well
+done-ends = refl
