@@ -8,7 +8,7 @@ from itertools import product
 
 from keytabs.file_names import LIMIT, sized
 from keytabs.listings import B_LINE, HOST_LINE, listed
-from makers.images import B, BIG, HOST, TWO, keytab, old, record
+from makers.images import B, BIG, HOST, TWO, Entry, keytab, old, record
 from makers.usual_caches import USUAL, VERSION_3
 from runs.harness import SECONDS, Case, Outcome, Report, differences, folder_of, run
 from runs.terminal import EXPLAIN, all_of
@@ -20,7 +20,9 @@ from system.saving import as_another, check_over, stands, tree_faults
 from words.explaining import CUT_CACHE, Explained, case, failed, in_the_way, link, no_keytab, unchanged
 from words.phrases import (BAD_DEFAULT, BAD_HEADER, BEGINS_AS_CACHE, BEGINS_AS_NO_CACHE, BEGINS_AS_NO_KEYTAB, CAUSES,
                            GIVEN_DAMAGED, HELD_AS_KEYTAB, LARGE, NOT_WHOLE, SHORT, TO_A_PROGRAM, code)
-from words.unseen import HIDDEN
+
+# A keytab of which MIT's programs see no entry.
+UNSEEN = keytab(Entry((b"h",), timestamp=0, enctype=1, key=b""), B)
 
 # Lines that hold a keytab, in place too, and a cache; a keytab without an entry, and its frame.
 K, PLACED, C = "hold -k k", f"hold {IN_PLACE} -k k", "hold k"
@@ -74,7 +76,7 @@ CASES = [
     given("hold -k --v1-big k", old(HOST, order=BIG), frame(old(order=BIG)), after=old(order=BIG)),
     # A cache of version 3 is as any, and nothing is said of entries that MIT's programs do not see.
     given(C, VERSION_3, frame(USUAL), after=USUAL), given(C, USUAL, frame(VERSION_3), after=VERSION_3),
-    given(K, TWO, frame(keytab(HIDDEN, B)), after=keytab(HIDDEN, B)), given(C, USUAL, frame(USUAL)),
+    given(K, TWO, frame(UNSEEN), after=UNSEEN), given(C, USUAL, frame(USUAL)),
     # What is given is at fault.
     *(given(K, TWO, data, NOT_A_FRAME) for data in (*CUT, *LONGER, *ODD)),
     given(K, None, b"2\n\5", NOT_A_FRAME), given(C, USUAL, USUAL, NOT_A_FRAME),

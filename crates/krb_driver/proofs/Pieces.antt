@@ -10,7 +10,7 @@ use Rattle.std.specs.Io.KnownBytes.{Appends}
 use Rattle.std.proofs.lemmas.Bool.{false≢true}
 use Rattle.krb_files.specs.Bytes.{Watch, AppendsPrefix}
 use Rattle.krb_files.proofs.Prefixes.{Appends-nil, Appends-trans, AppendsPrefix-all, AppendsPrefix-after, AppendsPrefix-none}
-use Rattle.krb_driver.specs.Runs.{Writes, WritesOn}
+use Rattle.krb_driver.specs.Runs.{Writes}
 use Rattle.krb_driver.specs.Underway.{Adds, Sends, Underway}
 
 -- nothing is on its way
@@ -78,13 +78,6 @@ Sends-put err new g (Err e) well all prefix failed = λ start text u. record {
   prefix = sent-prefix start.contents err new g text well u prefix;
   whole = λ well'. absurd (false≢true (sym well' ∙ failed));
 }
-
--- a text was added after what was written, and sent
-pub WritesOn-sent : (a b new : Watch) (g text : List ℕ) → Adds a [] b g text → Sends b g new → WritesOn a new text
-WritesOn-sent a b new g text adds sends = λ start before writes. sends start (before ++ text) (adds start.contents before (record {
-  whole = λ well. record { sent = before; appends = writes.whole well; parts = sym (append-nil before) };
-  prefix = writes.prefix;
-}))
 
 -- two texts were added and sent
 pub Writes-two : (a b c new : Watch) (g h first second : List ℕ) → Adds a [] b g first → Adds b g c h second → Sends c h new → Writes a new (first ++ second)

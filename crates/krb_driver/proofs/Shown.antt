@@ -14,7 +14,7 @@ use Rattle.krb_driver.specs.Effects.{Page}
 use Rattle.krb_driver.specs.Runs.{Run, Shows, Writes, ReportsEnd, ends_by}
 use Rattle.krb_files.specs.declared.aftermath.Aftermath.{Aftermath}
 use Rattle.krb_driver.specs.declared.reporting.details.Details.{Details}
-use Rattle.krb_driver.specs.Words.{aftermath_text, ending_words, own_text, words_if}
+use Rattle.krb_driver.specs.Reports.{aftermath_text, words_if}
 use Rattle.krb_driver.specs.ErrorOutput.{ErrorWatch}
 use Rattle.krb_driver.specs.RunErrors.{Ending, aftermath_status, end_status, ending_message, ending_status}
 
@@ -51,8 +51,3 @@ end_status-none ending aftermath none =
     let n = ending_status ending in
     let same : n ≡ max n 0 = omega arith in
     subst (λ (a : Option Aftermath). n ≡ max n (aftermath_status a)) (sym none) same
-
--- a message was written, with the words that are shown
-pub Writes-words : (file : List ℕ) (line : Option ℕ) (details : Details) (ending : Ending) (err : ErrorWatch) (to : Watch) (words : List ℕ)
-    → Writes err.to to (ending_message file ending ++ words) → words ≡ words_if err.explains (ending_words file line details ending) → Writes err.to to (own_text err.explains file line details ending)
-Writes-words file line details ending err to words writes are = subst (λ (w : List ℕ). Writes err.to to (ending_message file ending ++ w)) are writes

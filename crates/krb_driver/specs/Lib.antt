@@ -7,7 +7,8 @@ pub mod Verdicts
 pub mod RunErrors
 pub mod Reported
 pub mod Hints
-pub mod Words
+pub mod EndingWords
+pub mod Reports
 pub mod ErrorOutput
 pub mod Runs
 pub mod Underway

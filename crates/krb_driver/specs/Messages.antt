@@ -18,6 +18,10 @@ file_number_message file before number after = codes "krbfile: " ++ (shown_name 
 abbrev pub line_message : ℕ → List ℕ → ℕ → List ℕ
 line_message line what number = codes "krbfile: line " ++ (decimal line ++ (codes ": " ++ (what ++ (decimal number ++ codes "\n"))))
 
+-- a number between a text and its phrase
+abbrev pub numbered_line : List ℕ → ℕ → List ℕ → List ℕ
+numbered_line head number phrase = head ++ (decimal number ++ (codes ": " ++ (phrase ++ codes "\n")))
+
 -- words that explain a message, after the line number if it is about a line of ktutil
 abbrev pub words_line : Option ℕ → List ℕ → List ℕ
 words_line None words = codes "krbfile: " ++ words

@@ -11,7 +11,7 @@ use Rattle.krb_driver.specs.declared.command_line.mistake.WordFault.{WordFault}
 use Rattle.krb_driver.specs.declared.command_line.mistake.WordFault.TheVariants as word
 use Rattle.krb_driver.specs.Messages.{message}
 use Rattle.krb_driver.specs.PieceTexts.{quoted_word, shown_word}
-use Rattle.krb_driver.specs.Words.{words_if}
+use Rattle.krb_driver.specs.Reports.{words_if}
 
 -- the text before each mistake
 abbrev pub mistake_head : List ℕ

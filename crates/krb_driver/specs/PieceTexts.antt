@@ -3,15 +3,23 @@ use Rattle.std.specs.Prelude.{ℕ, ◌+◌, ◌==◌, List, [], ◌∷◌, ◌++
 use Rattle.std.specs.Char.{is_ascii_hexdigit}
 use Rattle.std.specs.List.{flat_map, list_all}
 use Rattle.hex.specs.Hex.{encode_lower}
-use Rattle.krb_cache_text.specs.Escape.{is_printable, escaped_text}
-use Rattle.krb_driver.specs.FileNames.{shown_name}
+use Rattle.krb_cache_text.specs.Escape.{is_printable, escaped, escaped_text}
+use Rattle.krb_driver.specs.FileNames.{name_byte, shown_name}
 use Rattle.krb_driver.specs.FirstWords.{word_text}
+use Rattle.krb_driver.specs.declared.reporting.writing.Form.{Form}
+use Rattle.krb_driver.specs.declared.reporting.writing.Form.TheVariants as form
 use Rattle.krb_driver.specs.declared.reporting.piece.MessagePiece.{MessagePiece}
 use Rattle.krb_driver.specs.declared.reporting.piece.MessagePiece.TheVariants.{Text, Name, Operand, Number, Word, Quoted, Escaped}
 
 -- a printable byte as it is, and any other as `\x` and its two hexadecimal digits
 abbrev pub shown_byte : ℕ → List ℕ
 shown_byte b = if is_printable b then b ∷ [] else codes "\\x" ++ encode_lower (b ∷ [])
+
+-- how bytes are printed: of the name of a file, of a word of the command line, and of a word of a script
+abbrev pub byte_text : Form → ℕ → List ℕ
+byte_text form.Name = name_byte
+byte_text form.Word = shown_byte
+byte_text form.Script = escaped
 
 -- the bytes begin with sixteen hexadecimal digits, so they may be a key
 abbrev pub may_be_key : List ℕ → Bool

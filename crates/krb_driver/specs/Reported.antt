@@ -1,49 +1,36 @@
--- The refusals and faults that replies report, and the verdict of a run that printed them.
-use Rattle.std.specs.Prelude.{◌==◌, List, [], ◌∷◌, map, Bool, true, false, if◌then◌else◌, Option, None, Some}
+-- The failures that replies report, and the verdict of a run that printed them.
+use Rattle.std.specs.Prelude.{◌==◌, List, [], ◌∷◌, ◌++◌, map, Bool, false, if◌then◌else◌, Option, None, is_some}
+use Rattle.std.specs.Bool.{then_some}
 use Rattle.std.specs.List.{list_any}
-use Rattle.krb_walk.specs.declared.fault.FaultKind.{FaultKind}
 use Rattle.krb_walk.specs.declared.fault.FaultKind.TheVariants.{CutLength, Overrun, BadEntry, BadCredential}
-use Rattle.krb_walk.specs.declared.refusal.Code.{Code}
 use Rattle.krb_walk.specs.declared.refusal.Code.TheVariants.{Damaged, TooLong, Full, NotAPlace, NotLive, NoSuchWalk, TooManyWalks, ReadOnly, NotFound, KvnoNotFound, Marked}
 use Rattle.krb_walk.specs.Phrases.{code_number, fault_number}
 use Rattle.krb_walk.specs.ReplyContent.{ReplyContent, Refused, Faulted}
+use Rattle.krb_driver.specs.declared.reporting.reported.Failure.{Failure}
+use Rattle.krb_driver.specs.declared.reporting.reported.Failure.TheVariants as failure
 use Rattle.krb_driver.specs.declared.verdict.FileKind.{FileKind}
 use Rattle.krb_driver.specs.declared.verdict.Verdict.{Verdict}
 use Rattle.krb_driver.specs.declared.verdict.Verdict.TheVariants.{Well, Replied}
 
--- a reply is a refusal or a fault
-abbrev pub is_failure : ReplyContent → Bool
-is_failure (Refused code) = true
-is_failure (Faulted walk fault) = true
-is_failure other = false
+-- a reply reports that failure: it is a refusal with its code, or a fault of its kind
+abbrev pub reports : Failure → ReplyContent → Bool
+reports (failure.Refused code) (Refused reported) = code_number reported == code_number code
+reports (failure.Faulted kind) (Faulted walk fault) = fault_number fault.kind == fault_number kind
+reports expected other = false
 
--- a reply is a refusal with this code
-abbrev pub reports_code : Code → ReplyContent → Bool
-reports_code code (Refused reported) = code_number reported == code_number code
-reports_code code other = false
+-- a failure, if some reply reports it
+abbrev pub if_reported : List ReplyContent → Failure → Option Failure
+if_reported replies expected = then_some (list_any (reports expected) replies) expected
 
--- a reply is a fault of this kind
-abbrev pub reports_fault : FaultKind → ReplyContent → Bool
-reports_fault kind (Faulted walk fault) = fault_number fault.kind == fault_number kind
-reports_fault kind other = false
-
-module _ {R : Type 0} (content_of : R → ReplyContent) (replies : List R) where
-  -- the code, if some reply reports it
-  abbrev pub reported_code : Code → Option Code
-  reported_code code = if list_any (λ r. reports_code code (content_of r)) replies then Some code else None
-
-  -- the kind of fault, if some reply reports it
-  abbrev pub reported_fault : FaultKind → Option FaultKind
-  reported_fault kind = if list_any (λ r. reports_fault kind (content_of r)) replies then Some kind else None
-
-  -- each code that is reported, at its place in the order of the numbers
-  abbrev pub reported_codes : List (Option Code)
-  reported_codes = map reported_code (Damaged ∷ TooLong ∷ Full ∷ NotAPlace ∷ NotLive ∷ NoSuchWalk ∷ TooManyWalks ∷ ReadOnly ∷ NotFound ∷ KvnoNotFound ∷ Marked ∷ [])
-
-  -- each kind of fault that is reported, at its place in the order of the numbers
-  abbrev pub reported_faults : List (Option FaultKind)
-  reported_faults = map reported_fault (CutLength ∷ Overrun ∷ BadEntry ∷ BadCredential ∷ [])
+-- each failure that is reported, at its place: refusals and then faults, in the order of their numbers
+abbrev pub failures : List ReplyContent → List (Option Failure)
+failures replies =
+    map (if_reported replies)
+    (map failure.Refused (Damaged ∷ TooLong ∷ Full ∷ NotAPlace ∷ NotLive ∷ NoSuchWalk ∷ TooManyWalks ∷ ReadOnly ∷ NotFound ∷ KvnoNotFound ∷ Marked ∷ [])
+    ++ map failure.Faulted (CutLength ∷ Overrun ∷ BadEntry ∷ BadCredential ∷ []))
 
 -- the verdict of a run that printed these replies about a file of that kind
-abbrev pub replied_verdict : {R : Type 0} → FileKind → (R → ReplyContent) → List R → Verdict
-replied_verdict kind content_of replies = if list_any (λ r. is_failure (content_of r)) replies then Replied (record { kind = kind; codes = reported_codes content_of replies; faults = reported_faults content_of replies; hidden_from = None }) else Well
+abbrev pub replied_verdict : FileKind → List ReplyContent → Verdict
+replied_verdict kind replies =
+    let reported = failures replies in
+    if list_any is_some reported then Replied (record { kind = kind; failures = reported; hidden_from = None }) else Well

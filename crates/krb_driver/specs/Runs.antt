@@ -7,7 +7,7 @@ use Rattle.krb_driver.specs.declared.error.RunError.TheVariants.{OutputNotWritte
 use Rattle.krb_driver.specs.declared.reporting.details.Details.{Details}
 use Rattle.krb_driver.specs.ErrorOutput.{ErrorWatch}
 use Rattle.krb_driver.specs.RunErrors.{Ending, end_status}
-use Rattle.krb_driver.specs.Words.{ending_text}
+use Rattle.krb_driver.specs.Reports.{ending_text}
 
 -- what a run prints, and how it ends
 pub record Run : Type 0 where

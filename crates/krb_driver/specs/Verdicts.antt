@@ -1,5 +1,5 @@
 -- The verdict of a run that did its work: its message, and the exit status.
-use Rattle.std.specs.Prelude.{ℕ, List, [], if◌then◌else◌, Bool, true, false, Option, None, Some, codes}
+use Rattle.std.specs.Prelude.{ℕ, List, [], if◌then◌else◌, Option, None, Some, codes}
 use Rattle.krb_walk.specs.declared.fault.Fault.{Fault}
 use Rattle.krb_walk.specs.declared.refusal.Code.TheVariants.{NotFound}
 use Rattle.krb_walk.specs.Phrases.{code_number}
@@ -30,9 +30,3 @@ verdict_status (HiddenFrom place) = 0
 verdict_status NoEntry = 0
 verdict_status (Found findings) = if findings.is_wrong then 1 else 0
 verdict_status verdict = 1
-
--- replies or findings have words of their own
-abbrev pub is_itemized : Verdict → Bool
-is_itemized (Replied reported) = true
-is_itemized (Found findings) = true
-is_itemized verdict = false

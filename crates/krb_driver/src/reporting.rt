@@ -2,11 +2,12 @@
 
 mod aftermath_words;
 pub(crate) mod details;
+mod ending_words;
 pub(crate) mod error_output;
-mod explanation;
 mod found_words;
 mod hints;
 mod key_start;
+mod lines;
 mod mistake_words;
 mod name_words;
 mod operand;
@@ -19,25 +20,28 @@ mod writing;
 ghost use Rattle.std.specs.Prelude.{◌≡◌, IsFalse, codes};
 ghost use Rattle.krb_keytab.specs.Open.{open_fault_number};
 ghost use Rattle.krb_ccache.specs.Open.{open_fault_number as cache_fault_number};
-ghost use Rattle.krb_driver.specs.Messages.{file_message, file_number_message, line_message, message};
+ghost use Rattle.krb_driver.specs.Messages.{file_number_message};
 ghost use Rattle.krb_driver.specs.PieceTexts.{pieces_text};
-ghost use Rattle.krb_driver.specs.Runs.{Writes, WritesOn, Shows, Reports};
+ghost use Rattle.krb_driver.specs.Runs.{Writes, Shows, Reports};
 ghost use Rattle.krb_driver.specs.RunErrors.{ending_message, error_message};
 ghost use Rattle.krb_driver.specs.Verdicts.{verdict_message};
-ghost use Rattle.krb_driver.specs.Words.{aftermath_text, own_text};
+ghost use Rattle.krb_driver.specs.EndingWords.{ending_words};
+ghost use Rattle.krb_driver.specs.Reports.{aftermath_text, ending_text, words_if};
+ghost use Rattle.krb_driver.specs.Underway.{Adds};
 
 use crate::command::end_status;
 use crate::error::RunError;
 use crate::loading::{NotCache, NotKeytab};
 use crate::reporting::aftermath_words::{aftermath_line, is_message};
 use crate::reporting::details::Details;
+use crate::reporting::ending_words::add_ending_words;
 use crate::reporting::error_output::ErrorOutput;
-use crate::reporting::found_words::report_findings;
-use crate::reporting::piece::MessagePiece;
-use crate::reporting::reported_words::report_replies;
-use crate::reporting::words::ending_words;
-use crate::reporting::writing::{write_on, write_pieces};
+use crate::reporting::lines::{
+    Line, file_message, file_number_message, line_message, message, nothing,
+};
+use crate::reporting::writing::{Gathered, add_pieces, send};
 use crate::verdict::Verdict;
+use arrayvec::ArrayVec;
 use krb_files::{Aftermath, Watched, put};
 use krb_text::LineFault;
 use krb_walk::Code;
@@ -56,72 +60,8 @@ pub fn show<W: Write>(
     ending
 }
 
-/// The pieces of a message. Unused ones are empty.
-type Message<'a> = [MessagePiece<'a>; 7];
-
-const NONE: MessagePiece<'static> = MessagePiece::Text("");
-
-// Returns the message `krbfile: WHAT`.
-fn message<'a>(what: &'a str) -> Message<'a>
-    ensures { pieces_text result ≡ message what.now }
-{
-    let head = MessagePiece::Text("krbfile: ");
-    let end = MessagePiece::Text("\n");
-    [head, MessagePiece::Text(what), end, NONE, NONE, NONE, NONE]
-}
-
-// Returns the message `krbfile: FILE: WHAT`.
-fn file_message<'a>(file: &'a [u8], what: &'a str) -> Message<'a>
-    ensures { pieces_text result ≡ file_message file.now what.now }
-{
-    [
-        MessagePiece::Text("krbfile: "),
-        MessagePiece::Name(file),
-        MessagePiece::Text(": "),
-        MessagePiece::Text(what),
-        MessagePiece::Text("\n"),
-        NONE,
-        NONE,
-    ]
-}
-
-// Returns the message for a file with a number between two texts.
-fn file_number_message<'a>(
-    file: &'a [u8],
-    before: &'a str,
-    number: u32,
-    after: &'a str,
-) -> Message<'a>
-    ensures { pieces_text result ≡ file_number_message file.now before.now number after.now }
-{
-    [
-        MessagePiece::Text("krbfile: "),
-        MessagePiece::Name(file),
-        MessagePiece::Text(": "),
-        MessagePiece::Text(before),
-        MessagePiece::Number(u64::from(number)),
-        MessagePiece::Text(after),
-        MessagePiece::Text("\n"),
-    ]
-}
-
-// Returns the message for a line of the input, with a number at its end.
-fn line_message<'a>(line: u64, what: &'a str, number: u32) -> Message<'a>
-    ensures { pieces_text result ≡ line_message line what.now number }
-{
-    [
-        MessagePiece::Text("krbfile: line "),
-        MessagePiece::Number(line),
-        MessagePiece::Text(": "),
-        MessagePiece::Text(what),
-        MessagePiece::Number(u64::from(number)),
-        MessagePiece::Text("\n"),
-        NONE,
-    ]
-}
-
 // Returns the message for a file that is not a keytab.
-fn not_keytab_message(file: &[u8], why: NotKeytab) -> Message<'_>
+fn not_keytab_message(file: &[u8], why: NotKeytab) -> Line<'_>
     ensures { pieces_text result ≡ file_number_message file.now
         (codes "not a keytab (") (open_fault_number why.fault) (codes ")") }
 {
@@ -129,7 +69,7 @@ fn not_keytab_message(file: &[u8], why: NotKeytab) -> Message<'_>
 }
 
 // Returns the message for a file that is not a cache.
-fn not_cache_message(file: &[u8], why: NotCache) -> Message<'_>
+fn not_cache_message(file: &[u8], why: NotCache) -> Line<'_>
     ensures { pieces_text result ≡ file_number_message file.now
         (codes "not a cache (") (cache_fault_number why.fault) (codes ")") }
 {
@@ -137,7 +77,7 @@ fn not_cache_message(file: &[u8], why: NotCache) -> Message<'_>
 }
 
 // Returns the message for an error that ended a run.
-fn error_message(error: RunError, file: &[u8]) -> Message<'_>
+fn error_message(error: RunError, file: &[u8]) -> Line<'_>
     ensures { pieces_text result ≡ error_message file.now error }
 {
     match error {
@@ -174,19 +114,19 @@ fn error_message(error: RunError, file: &[u8]) -> Message<'_>
 }
 
 // Returns the message of a run that did its work.
-fn verdict_message(verdict: Verdict, file: &[u8]) -> Message<'_>
+fn verdict_message(verdict: Verdict, file: &[u8]) -> Line<'_>
     ensures { pieces_text result ≡ verdict_message file.now verdict }
 {
     match verdict {
         Verdict::NothingToRemove(_) => {
             file_number_message(file, "refused ", Code::NotFound.number(), "")
         }
-        _ => [NONE; 7],
+        _ => nothing(),
     }
 }
 
 // Returns the message for the end of a run.
-fn ending_message(ending: Result<Verdict, RunError>, file: &[u8]) -> Message<'_>
+fn ending_message(ending: Result<Verdict, RunError>, file: &[u8]) -> Line<'_>
     ensures { pieces_text result ≡ ending_message file.now ending }
 {
     match ending {
@@ -195,66 +135,58 @@ fn ending_message(ending: Result<Verdict, RunError>, file: &[u8]) -> Message<'_>
     }
 }
 
-// Reports how a run ended, with the words that explain it if `err` shows them.
-fn report_end<E: Write>(
+// Adds the words that explain the end of a run, if they are shown.
+fn add_words<E: Write>(
+    explains: bool,
     ending: Result<Verdict, RunError>,
     file: &[u8],
     line: Option<u64>,
     details: Details<'_>,
-    err: &mut ErrorOutput<E>,
+    gathered: &mut Gathered,
+    err: &mut Watched<E>,
 )
-    ensures text { Writes err.old.to err.new.to (own_text err.old.explains file.now line details.entry ending) }
-    ensures still { err.new.explains ≡ err.old.explains }
+    ensures { Adds err.old gathered.old.items err.new gathered.new.items (words_if explains (ending_words file.now line details.entry ending)) }
 {
-    let message = ending_message(ending, file);
-    if !err.explains {
-        write_pieces(&mut err.to, &message, &[]);
-        return;
-    }
-    match ending {
-        Ok(Verdict::Replied(reported)) => report_replies(&mut err.to, &reported, file),
-        Ok(Verdict::Found(findings)) => report_findings(&mut err.to, &findings, file),
-        _ => write_pieces(
-            &mut err.to,
-            &message,
-            &ending_words(ending, file, line, details),
-        ),
+    if explains {
+        add_ending_words(ending, file, line, details, gathered, err);
     }
 }
 
-// The same, but of a run that went well nothing is written.
-fn report_unless_well<E: Write>(
-    ending: Result<Verdict, RunError>,
-    file: &[u8],
-    line: Option<u64>,
-    details: Details<'_>,
-    err: &mut ErrorOutput<E>,
-)
-    ensures text { Writes err.old.to err.new.to (own_text err.old.explains file.now line details.entry ending) }
-    ensures still { err.new.explains ≡ err.old.explains }
-{
-    match ending {
-        Ok(Verdict::Well) => {}
-        _ => report_end(ending, file, line, details, err),
-    }
-}
-
-// Tells what a save left behind, if that is to be told and is a message, or `err` shows words.
-fn report_aftermath<E: Write>(
+// Adds what a save left behind, if that is to be told and is a message, or words are shown.
+fn add_aftermath<E: Write>(
+    explains: bool,
     aftermath: Option<Aftermath>,
     file: &[u8],
     line: Option<u64>,
-    err: &mut ErrorOutput<E>,
+    gathered: &mut Gathered,
+    err: &mut Watched<E>,
 )
-    ensures text { WritesOn err.old.to err.new.to (aftermath_text err.old.explains file.now line aftermath) }
-    ensures still { err.new.explains ≡ err.old.explains }
+    ensures { Adds err.old gathered.old.items err.new gathered.new.items (aftermath_text explains file.now line aftermath) }
 {
     let Some(aftermath) = aftermath else {
         return;
     };
-    if err.explains || is_message(aftermath) {
-        write_on(&mut err.to, &aftermath_line(aftermath, file, line));
+    if explains || is_message(aftermath) {
+        add_pieces(&aftermath_line(aftermath, file, line), gathered, err);
     }
+}
+
+// Writes how a run ended, and what its save left behind, in one write if that fits.
+fn write_ending<E: Write>(
+    explains: bool,
+    ending: Result<Verdict, RunError>,
+    file: &[u8],
+    line: Option<u64>,
+    details: Details<'_>,
+    err: &mut Watched<E>,
+)
+    ensures { Writes err.old err.new (ending_text explains file.now line details.entry ending) }
+{
+    let mut gathered = ArrayVec::new();
+    add_pieces(&ending_message(ending, file), &mut gathered, err);
+    add_words(explains, ending, file, line, details, &mut gathered, err);
+    add_aftermath(explains, details.aftermath, file, line, &mut gathered, err);
+    send(&gathered, err);
 }
 
 /// Reports on `err` how a run over `file`, or line `line` of ktutil, ended, and then what its save left behind, and
@@ -268,7 +200,6 @@ pub fn report<E: Write>(
 ) -> u8
     ensures { Reports file.now line details.entry ending err.old err.new result }
 {
-    report_unless_well(ending, file, line, details, err);
-    report_aftermath(details.aftermath, file, line, err);
+    write_ending(err.explains, ending, file, line, details, &mut err.to);
     end_status(ending, details.aftermath)
 }

@@ -1,5 +1,5 @@
 -- What a session leaves and replies: the format after each event, and the text of the replies.
-use Rattle.std.proofs.Common.{◌≡◌, ℕ, Bool, true, false, List, [], ◌∷◌, ◌++◌, map, refl, sym, ap, subst, ◌∙◌}
+use Rattle.std.proofs.Common.{◌≡◌, ℕ, Bool, true, false, List, [], ◌∷◌, ◌++◌, refl, sym, ap, subst, ◌∙◌}
 use Rattle.std.specs.Prelude.{if◌then◌else◌, cond, ◌||◌, is_some, nat_lt, length, slice_get, Option, None, Some, Result, Ok, Err, IfOk}
 use Rattle.std.specs.List.{flat_map, list_any}
 use Rattle.krb_wire.specs.declared.format.KtFormat.{KtFormat}
@@ -7,7 +7,6 @@ use Rattle.krb_wire.specs.declared.format.KtFormat.TheVariants.{V2}
 use Rattle.krb_walk.specs.declared.event.Event.{Event}
 use Rattle.krb_walk.specs.declared.event.Event.TheVariants.{Start, Resume, Step, Put, Cut, Rewrite}
 use Rattle.krb_walk.specs.declared.fault.FaultKind.{FaultKind}
-use Rattle.krb_walk.specs.declared.fault.FaultKind.TheVariants.{CutLength, Overrun, BadEntry, BadCredential}
 use Rattle.krb_walk.specs.declared.refusal.Code.{Code}
 use Rattle.krb_walk.specs.declared.refusal.Code.TheVariants as code
 use Rattle.krb_walk.specs.Store.{Store, Record, end_of, fault_of, is_place, live_bytes, next_live}
@@ -35,12 +34,11 @@ use Rattle.krb_driver.specs.declared.command.Made.{Made}
 use Rattle.krb_driver.specs.declared.command.Output.{Output}
 use Rattle.krb_driver.specs.declared.verdict.FileKind.{FileKind}
 use Rattle.krb_driver.specs.declared.verdict.Verdict.{Verdict}
-use Rattle.krb_driver.specs.declared.verdict.Verdict.TheVariants.{Well, Replied}
 use Rattle.krb_driver.specs.Commands.{text_effect}
 use Rattle.krb_driver.specs.Effects.{Effect, Displays, Saves, text}
 use Rattle.krb_editors.specs.Sessions.{is_change, new_session, moments, left, replied, session_effect, RunsFairly}
 use Rattle.krb_driver.specs.Verdicts.{hiding}
-use Rattle.krb_driver.specs.Reported.{is_failure, reports_code, reports_fault, reported_code, reported_fault, reported_codes, reported_faults, replied_verdict}
+use Rattle.krb_driver.specs.Reported.{replied_verdict}
 
 -- ---- the format after an event
 
@@ -178,24 +176,6 @@ cache_keeps =
 
 -- ---- what was made of a store
 
-pub any_content : {A B : Type 0} (f : A → B) (test : B → Bool) (xs : List A) → list_any (λ x. test (f x)) xs ≡ list_any test (map f xs)
-any_content f test [] = refl
-any_content f test (x ∷ xs) = ap (λ (b : Bool). test (f x) || b) (any_content f test xs)
-
-same_map : {A B : Type 0} (f g : A → B) → ((x : A) → f x ≡ g x) → (xs : List A) → map f xs ≡ map g xs
-same_map f g each [] = refl
-same_map f g each (x ∷ xs) = ap (λ y. y ∷ map f xs) (each x) ∙ ap (λ ys. g x ∷ ys) (same_map f g each xs)
-
--- the verdict of a run that printed replies depends only on what the replies say
-pub replied_contents : {A : Type 0} (kind : FileKind) (f : A → ReplyContent) (rs : List A) → replied_verdict kind f rs ≡ replied_verdict kind (λ reply. reply) (map f rs)
-replied_contents kind f rs =
-    let ends : Bool → List (Option Code) → List (Option FaultKind) → Verdict = λ b codes faults. if b then Replied (record { kind = kind; codes = codes; faults = faults; hidden_from = None }) else Well in
-    let code_is : (c : Code) → reported_code f rs c ≡ reported_code (λ reply. reply) (map f rs) c = λ c. ap (λ (b : Bool). if b then Some c else None) (any_content f (reports_code c) rs) in
-    let fault_is : (k : FaultKind) → reported_fault f rs k ≡ reported_fault (λ reply. reply) (map f rs) k = λ k. ap (λ (b : Bool). if b then Some k else None) (any_content f (reports_fault k) rs) in
-    ap (λ (b : Bool). ends b (reported_codes f rs) (reported_faults f rs)) (any_content f is_failure rs)
-    ∙ ap (λ (cs : List (Option Code)). ends (list_any is_failure (map f rs)) cs (reported_faults f rs)) (same_map (reported_code f rs) (reported_code (λ reply. reply) (map f rs)) code_is (code.Damaged ∷ code.TooLong ∷ code.Full ∷ code.NotAPlace ∷ code.NotLive ∷ code.NoSuchWalk ∷ code.TooManyWalks ∷ code.ReadOnly ∷ code.NotFound ∷ code.KvnoNotFound ∷ code.Marked ∷ []))
-    ∙ ap (λ (ks : List (Option FaultKind)). ends (list_any is_failure (map f rs)) (reported_codes (λ reply. reply) (map f rs)) ks) (same_map (reported_fault f rs) (reported_fault (λ reply. reply) (map f rs)) fault_is (CutLength ∷ Overrun ∷ BadEntry ∷ BadCredential ∷ []))
-
 -- a run of a session that began as a new one is a run of the new session over the store
 pub ran_begun : {S I : Type 0} (r : Rules S I) (store : S) (events : List (Event I)) (old new : SessionState S) (reported : List ReplyContent)
     → old ≡ new_session store → Ran r old new events [] reported → Ran r (new_session store) (state_after r (new_session store) events) events [] reported
@@ -221,16 +201,16 @@ left_begun {S} r store events old new reported begins ran =
 
 module _ (kind : FileKind) (hidden : Option ℕ) (reported : List ReplyContent) (image lines text_ : List ℕ) (verdict : Verdict) where
   -- replies that report a change save the image
-  pub replied_saves : list_any is_change reported ≡ true → text_ ≡ lines → verdict ≡ hiding hidden (replied_verdict kind (λ reply. reply) reported) → (file : List ℕ) → Saves file image text_ verdict ≡ replied kind file hidden reported image lines
+  pub replied_saves : list_any is_change reported ≡ true → text_ ≡ lines → verdict ≡ hiding hidden (replied_verdict kind reported) → (file : List ℕ) → Saves file image text_ verdict ≡ replied kind file hidden reported image lines
   replied_saves changed text_is verdict_is file =
-      let due = hiding hidden (replied_verdict kind (λ reply. reply) reported) in
+      let due = hiding hidden (replied_verdict kind reported) in
       ap (λ (t : List ℕ). Saves file image t verdict) text_is ∙ ap (Saves file image lines) verdict_is
       ∙ ap (λ (b : Bool). if b then Saves file image lines due else Displays file (text lines due)) (sym changed)
 
   -- others save nothing
-  pub replied_shows : list_any is_change reported ≡ false → text_ ≡ lines → verdict ≡ hiding hidden (replied_verdict kind (λ reply. reply) reported) → (file : List ℕ) → Displays file (text text_ verdict) ≡ replied kind file hidden reported image lines
+  pub replied_shows : list_any is_change reported ≡ false → text_ ≡ lines → verdict ≡ hiding hidden (replied_verdict kind reported) → (file : List ℕ) → Displays file (text text_ verdict) ≡ replied kind file hidden reported image lines
   replied_shows changed text_is verdict_is file =
-      let due = hiding hidden (replied_verdict kind (λ reply. reply) reported) in
+      let due = hiding hidden (replied_verdict kind reported) in
       ap (λ (t : List ℕ). Displays file (text t verdict)) text_is ∙ ap (λ (v : Verdict). Displays file (text lines v)) verdict_is
       ∙ ap (λ (b : Bool). if b then Saves file image lines due else Displays file (text lines due)) (sym changed)
 

@@ -31,7 +31,7 @@ is_change other = false
 -- the effect of replies over a file of that kind: the image is saved if they report a change, and the lines are printed; from `hidden` on MIT's programs see no entry, and miss one that was added
 abbrev pub replied : FileKind → List ℕ → Option ℕ → List ReplyContent → List ℕ → List ℕ → Effect
 replied kind file hidden reported image lines =
-    let verdict = hiding hidden (replied_verdict kind (λ reply. reply) reported) in
+    let verdict = hiding hidden (replied_verdict kind reported) in
     if list_any is_change reported then Saves file image lines verdict else Displays file (text lines verdict)
 
 -- a new session over a store

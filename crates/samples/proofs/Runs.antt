@@ -25,7 +25,7 @@ use Rattle.krb_driver.specs.Effects.{CommandPlan, Effect, Fails, Displays, Saves
 use Rattle.krb_driver.specs.FileNames.{bare_name, is_other_type}
 use Rattle.krb_driver.specs.Matches.{Matched, v1_order}
 use Rattle.krb_driver.specs.RunErrors.{Ending, ending_status}
-use Rattle.krb_driver.specs.Words.{ending_text}
+use Rattle.krb_driver.specs.Reports.{ending_text}
 use Rattle.krb_readers.specs.CheckWords.{check_options}
 use Rattle.krb_readers.specs.Klist.{file_kind, klist_plan, list_kind, list_options}
 use Rattle.krb_readers.specs.Ktcheck.{explained_by, plan_of as check_plan}

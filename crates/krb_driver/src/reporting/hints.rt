@@ -8,15 +8,14 @@ ghost use Rattle.krb_driver.specs.PieceTexts.{piece_text, pieces_text};
 ghost use Rattle.krb_driver.specs.Underway.{Adds};
 
 use crate::reporting::operand::{are_alike, operand_of};
-use crate::reporting::piece::MessagePiece;
+use crate::reporting::piece::MessagePiece::{self, Number, Text};
+use crate::reporting::piece::{END, NONE};
 use crate::reporting::writing::{Gathered, add_pieces};
 use crate::verdict::Findings;
 use krb_files::Watched;
 use krb_text::etype_name;
 use krb_wire::Order;
 use std::io::Write;
-
-const NONE: MessagePiece<'static> = MessagePiece::Text("");
 
 const TO_REMOVE: &str = "krbfile: to see what would go: krbfile ktremove";
 
@@ -30,8 +29,8 @@ fn etype_word(etype: u16) -> MessagePiece<'static>
     ensures { piece_text result ≡ etype_word etype }
 {
     match etype_name(etype) {
-        Some(name) => MessagePiece::Text(name),
-        None => MessagePiece::Number(u64::from(etype)),
+        Some(name) => Text(name),
+        None => Number(u64::from(etype)),
     }
 }
 
@@ -41,7 +40,7 @@ fn etype_option(found: &[bool; 27], etype: u16) -> [MessagePiece<'static>; 2]
     ensures { pieces_text result ≡ etype_option found.now etype }
 {
     if found[usize::from(etype)] {
-        [MessagePiece::Text(" -e "), etype_word(etype)]
+        [Text(" -e "), etype_word(etype)]
     } else {
         [NONE, NONE]
     }
@@ -76,11 +75,11 @@ fn hint<'a>(
     ensures { pieces_text result ≡ head.now ++ (order_flag order ++ (options.now ++ (operand.now ++ tail.now))) }
 {
     [
-        MessagePiece::Text(head),
-        MessagePiece::Text(order_flag(order)),
-        MessagePiece::Text(options),
+        Text(head),
+        Text(order_flag(order)),
+        Text(options),
         MessagePiece::Operand(operand),
-        MessagePiece::Text(tail),
+        Text(tail),
     ]
 }
 
@@ -95,22 +94,14 @@ fn hint_if<'a>(is_explained: bool, hint: Hint<'a>) -> Hint<'a>
 fn remove_command(order: Order) -> [MessagePiece<'static>; 3]
     ensures { pieces_text result ≡ remove_command order }
 {
-    [
-        MessagePiece::Text(TO_REMOVE),
-        MessagePiece::Text(order_flag(order)),
-        MessagePiece::Text(" -n"),
-    ]
+    [Text(TO_REMOVE), Text(order_flag(order)), Text(" -n")]
 }
 
 // Returns the end of a hint: its operand.
 fn last_of<'a>(operand: &'a [u8]) -> [MessagePiece<'a>; 3]
     ensures { pieces_text result ≡ codes " " ++ (operand.now ++ codes "\n") }
 {
-    [
-        MessagePiece::Text(" "),
-        MessagePiece::Operand(operand),
-        MessagePiece::Text("\n"),
-    ]
+    [Text(" "), MessagePiece::Operand(operand), END]
 }
 
 // Adds the hint for weak enctypes, if there is one.

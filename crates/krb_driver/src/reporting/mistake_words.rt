@@ -8,15 +8,14 @@ ghost use Rattle.krb_driver.specs.Runs.{Writes};
 
 use crate::command_line::mistake::{BadLine, Mistake, More, WordFault};
 use crate::reporting::error_output::ErrorOutput;
-use crate::reporting::piece::MessagePiece;
-use crate::reporting::writing::{add_pieces, send, write_pieces};
+use crate::reporting::piece::MessagePiece::{self, Quoted, Text, Word};
+use crate::reporting::piece::NONE;
+use crate::reporting::writing::{add, add_pieces, send};
 use arrayvec::ArrayVec;
 use krb_files::Watched;
 use std::io::Write;
 
-const NONE: MessagePiece<'static> = MessagePiece::Text("");
-
-const HEAD: MessagePiece<'static> = MessagePiece::Text("krbfile: bad command line\nkrbfile: ");
+const HEAD: MessagePiece<'static> = Text("krbfile: bad command line\nkrbfile: ");
 
 /// The pieces of the message for a bad command line. Unused ones are empty.
 type Line<'a> = [MessagePiece<'a>; 5];
@@ -25,7 +24,7 @@ type Line<'a> = [MessagePiece<'a>; 5];
 fn alone<'a>(text: &'static str) -> Line<'a>
     ensures { (rest : List ℕ) → pieces_before result rest ≡ mistake_head ++ (text.now ++ rest) }
 {
-    [HEAD, MessagePiece::Text(text), NONE, NONE, NONE]
+    [HEAD, Text(text), NONE, NONE, NONE]
 }
 
 // A text, and a word after it.
@@ -33,13 +32,7 @@ fn before<'a>(text: &'static str, word: &'a str) -> Line<'a>
     ensures { (rest : List ℕ) → pieces_before result rest
         ≡ mistake_head ++ (text.now ++ (shown_word word.now ++ rest)) }
 {
-    [
-        HEAD,
-        MessagePiece::Text(text),
-        MessagePiece::Word(word),
-        NONE,
-        NONE,
-    ]
+    [HEAD, Text(text), Word(word), NONE, NONE]
 }
 
 // A word, and a text after it.
@@ -47,13 +40,7 @@ fn after<'a>(word: &'a str, text: &'static str) -> Line<'a>
     ensures { (rest : List ℕ) → pieces_before result rest
         ≡ mistake_head ++ (shown_word word.now ++ (text.now ++ rest)) }
 {
-    [
-        HEAD,
-        MessagePiece::Word(word),
-        MessagePiece::Text(text),
-        NONE,
-        NONE,
-    ]
+    [HEAD, Word(word), Text(text), NONE, NONE]
 }
 
 // A word in quotes, and what is wrong with it, in two texts.
@@ -61,13 +48,7 @@ fn quoted<'a>(word: &'a str, verb: &'static str, what: &'static str) -> Line<'a>
     ensures { (rest : List ℕ) → pieces_before result rest
         ≡ mistake_head ++ (quoted_word word.now ++ (verb.now ++ (what.now ++ rest))) }
 {
-    [
-        HEAD,
-        MessagePiece::Quoted(word),
-        MessagePiece::Text(verb),
-        MessagePiece::Text(what),
-        NONE,
-    ]
+    [HEAD, Quoted(word), Text(verb), Text(what), NONE]
 }
 
 // Two options that do not go together.
@@ -77,9 +58,9 @@ fn apart<'a>(option: &'a str, other: &'a str) -> Line<'a>
 {
     [
         HEAD,
-        MessagePiece::Word(option),
-        MessagePiece::Text(" does not go with "),
-        MessagePiece::Word(other),
+        Word(option),
+        Text(" does not go with "),
+        Word(other),
         NONE,
     ]
 }
@@ -91,10 +72,10 @@ fn only_with<'a>(option: &'a str, other: &'a str) -> Line<'a>
 {
     [
         HEAD,
-        MessagePiece::Word(option),
-        MessagePiece::Text(" goes with "),
-        MessagePiece::Word(other),
-        MessagePiece::Text(" alone"),
+        Word(option),
+        Text(" goes with "),
+        Word(other),
+        Text(" alone"),
     ]
 }
 
@@ -131,14 +112,10 @@ fn mistake_pieces(mistake: Mistake<'_>) -> Line<'_>
 fn help_pieces(command: Option<&str>) -> [MessagePiece<'_>; 3]
     ensures { pieces_text result ≡ help_of (option_map (λ name. name.now) command.entry) }
 {
-    let end = MessagePiece::Text(" --help\n");
+    let end = Text(" --help\n");
     match command {
-        None => [MessagePiece::Text("; see krbfile"), NONE, end],
-        Some(command) => [
-            MessagePiece::Text("; see krbfile "),
-            MessagePiece::Text(command),
-            end,
-        ],
+        None => [Text("; see krbfile"), NONE, end],
+        Some(command) => [Text("; see krbfile "), Text(command), end],
     }
 }
 
@@ -146,20 +123,12 @@ fn help_pieces(command: Option<&str>) -> [MessagePiece<'_>; 3]
 fn more_pieces(more: More<'_>) -> [MessagePiece<'_>; 3]
     ensures { pieces_text result ≡ more_words more.entry }
 {
-    let end = MessagePiece::Text("?\n");
+    let end = Text("?\n");
     match more {
         More::Nothing => [NONE, NONE, NONE],
-        More::MeantCommand(name) => [
-            MessagePiece::Text("krbfile: did you mean "),
-            MessagePiece::Text(name),
-            end,
-        ],
-        More::MeantOption(name) => [
-            MessagePiece::Text("krbfile: did you mean --"),
-            MessagePiece::Text(name),
-            end,
-        ],
-        More::Help(text) => [MessagePiece::Text(text), NONE, NONE],
+        More::MeantCommand(name) => [Text("krbfile: did you mean "), Text(name), end],
+        More::MeantOption(name) => [Text("krbfile: did you mean --"), Text(name), end],
+        More::Help(text) => [Text(text), NONE, NONE],
     }
 }
 
@@ -176,10 +145,12 @@ fn report_mistake<E: Write>(line: BadLine<'_>, err: &mut Watched<E>)
 }
 
 // Writes a message without words.
-fn report_text<E: Write>(text: &'static str, err: &mut Watched<E>)
+fn report_text<E: Write>(text: &'static [u8], err: &mut Watched<E>)
     ensures { Writes err.old err.new (text.now ++ []) }
 {
-    write_pieces(err, &[MessagePiece::Text(text)], &[]);
+    let mut gathered = ArrayVec::new();
+    add(text, &mut gathered, err);
+    send(&gathered, err);
 }
 
 /// Reports on `err` why words were not read, and returns the exit status. Ignores a failure of `err`.
@@ -190,7 +161,7 @@ pub fn report_word_fault<E: Write>(fault: WordFault<'_>, err: &mut ErrorOutput<E
 {
     match fault {
         WordFault::NoMemory => {
-            report_text("krbfile: out of memory\n", &mut err.to);
+            report_text(b"krbfile: out of memory\n", &mut err.to);
             return 4;
         }
         WordFault::BadLine(line) => {
@@ -200,6 +171,6 @@ pub fn report_word_fault<E: Write>(fault: WordFault<'_>, err: &mut ErrorOutput<E
             }
         }
     }
-    report_text("krbfile: bad command line\n", &mut err.to);
+    report_text(b"krbfile: bad command line\n", &mut err.to);
     2
 }

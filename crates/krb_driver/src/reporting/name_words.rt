@@ -1,16 +1,15 @@
 //! The words about names of files, and about entries that MIT's programs do not see.
 
-ghost use Rattle.std.specs.Prelude.{◌≡◌, ◌++◌, codes, is_some};
+ghost use Rattle.std.specs.Prelude.{◌≡◌, ◌++◌, codes, decimal, is_some};
 ghost use Rattle.krb_driver.specs.FileNames.{shown_name, untyped};
 ghost use Rattle.krb_driver.specs.PieceTexts.{piece_text, pieces_text};
-ghost use Rattle.krb_driver.specs.Words.{hidden_words, missing_words, source_words, type_in, type_words, typed_words};
+ghost use Rattle.krb_driver.specs.EndingWords.{hidden_words, missing_words, source_words, type_in, type_words, typed_words};
 ghost use Rattle.krb_driver.specs.declared.verdict.FileKind.TheVariants.{Keytab};
 
 use crate::file_name::{NameSource, type_of};
-use crate::reporting::explanation::{Explanation, alone, phrase, words, words_before};
-use crate::reporting::piece::MessagePiece;
-
-const NONE: MessagePiece<'static> = MessagePiece::Text("");
+use crate::reporting::lines::{Line, alone, phrase, words, words_before};
+use crate::reporting::piece::MessagePiece::{self, Name, Number, Text};
+use crate::reporting::piece::{HEAD, LINE, NONE};
 
 // Returns the words that tell where a file's name comes from, if no word of a line gave it.
 fn source_line(source: NameSource) -> &'static str
@@ -20,13 +19,13 @@ fn source_line(source: NameSource) -> &'static str
         NameSource::Word => "",
         NameSource::CacheVariable => "krbfile: KRB5CCNAME names it\n",
         NameSource::KeytabVariable => "krbfile: KRB5_KTNAME names it\n",
-        NameSource::Default => { "krbfile: the default name (krb5.conf is not read); give FILE\n" }
+        NameSource::Default => "krbfile: the default name (krb5.conf is not read); give FILE\n",
     }
 }
 
 /// Returns the words for a missing file: ktutil says it once more, and a run tells where a name comes from that it was
 /// not given.
-pub fn missing_words<'a>(line: Option<u64>, source: NameSource) -> Explanation<'a>
+pub fn missing_words<'a>(line: Option<u64>, source: NameSource) -> Line<'a>
     ensures { pieces_text result ≡ missing_words line source }
 {
     match line {
@@ -40,16 +39,16 @@ fn type_in(name: &[u8]) -> MessagePiece<'_>
     ensures { piece_text result ≡ shown_name (type_in name.now) }
 {
     match type_of(name) {
-        Some(kind) => MessagePiece::Name(kind),
-        None => MessagePiece::Text(""),
+        Some(kind) => Name(kind),
+        None => Text(""),
     }
 }
 
 /// Returns the words for a name of a type that is not read.
-pub fn type_words(line: Option<u64>, name: &[u8], source: NameSource) -> Explanation<'_>
+pub fn type_words(line: Option<u64>, name: &[u8], source: NameSource) -> Line<'_>
     ensures { pieces_text result ≡ type_words line name.now ++ source_words source }
 {
-    let first = MessagePiece::Text("only files are read, and this is ");
+    let first = Text("only files are read, and this is ");
     words_before(line, first, type_in(name), source_line(source))
 }
 
@@ -61,45 +60,32 @@ fn is_untyped(name: &[u8]) -> bool
 }
 
 /// Returns the words for a name that begins with a type where a file is to be written.
-pub fn typed_words(line: Option<u64>, name: &[u8]) -> Explanation<'_>
+pub fn typed_words(line: Option<u64>, name: &[u8]) -> Line<'_>
     ensures { pieces_text result ≡ typed_words line name.now }
 {
     if is_untyped(name) {
-        words(line, MessagePiece::Text("leave out "), type_in(name))
+        words(line, Text("leave out "), type_in(name))
     } else {
         type_words(line, name, NameSource::Word)
     }
 }
 
 // Returns these words for a file, or for a line of ktutil, after a text.
-fn hidden_after<'a>(
-    head: &'static str,
-    subject: MessagePiece<'a>,
-    place: MessagePiece<'a>,
-) -> Explanation<'a>
-    ensures { pieces_text result ≡ head.now ++ (piece_text subject.entry
-        ++ (codes ": MIT's programs see no entry from " ++ (piece_text place.entry ++ codes " on\n"))) }
+fn hidden_after<'a>(head: MessagePiece<'a>, subject: MessagePiece<'a>, place: u32) -> Line<'a>
+    ensures { pieces_text result ≡ piece_text head.entry ++ (piece_text subject.entry
+        ++ (codes ": MIT's programs see no entry from " ++ (decimal place ++ codes " on\n"))) }
 {
-    [
-        MessagePiece::Text(head),
-        subject,
-        MessagePiece::Text(": MIT's programs see no entry from "),
-        place,
-        MessagePiece::Text(" on\n"),
-        NONE,
-        NONE,
-        NONE,
-        NONE,
-    ]
+    let from = Text(": MIT's programs see no entry from ");
+    let (place, on) = (Number(u64::from(place)), Text(" on\n"));
+    [head, subject, from, place, on, NONE, NONE, NONE, NONE]
 }
 
 /// Returns the words for an entry that was added and that MIT's programs do not see, as they see none from `place` on.
-pub fn hidden_words(file: &[u8], line: Option<u64>, place: u32) -> Explanation<'_>
+pub fn hidden_words(file: &[u8], line: Option<u64>, place: u32) -> Line<'_>
     ensures { pieces_text result ≡ hidden_words file.now line place }
 {
-    let number = MessagePiece::Number(u64::from(place));
     match line {
-        None => hidden_after("krbfile: ", MessagePiece::Name(file), number),
-        Some(line) => hidden_after("krbfile: line ", MessagePiece::Number(line), number),
+        None => hidden_after(HEAD, Name(file), place),
+        Some(line) => hidden_after(LINE, Number(line), place),
     }
 }

@@ -26,6 +26,18 @@ pub enum MessagePiece<'a> {
     Escaped(FirstWord),
 }
 
+pub const NONE: MessagePiece<'static> = MessagePiece::Text("");
+
+/// What each line begins with.
+pub const HEAD: MessagePiece<'static> = MessagePiece::Text("krbfile: ");
+
+/// What comes before the number of a line of the input.
+pub const LINE: MessagePiece<'static> = MessagePiece::Text("krbfile: line ");
+
+pub const COLON: MessagePiece<'static> = MessagePiece::Text(": ");
+
+pub const END: MessagePiece<'static> = MessagePiece::Text("\n");
+
 /// Returns a byte of a word as it is printed.
 pub fn shown_byte(byte: u8) -> ArrayVec<u8, 4>
     ensures { result.items ≡ shown_byte byte }

@@ -1,132 +1,94 @@
 //! The refusals and faults that replies report.
 
-ghost use Rattle.std.specs.Prelude.{◌≡◌};
+ghost use Rattle.std.specs.Prelude.{◌≡◌, is_some, map};
 ghost use Rattle.std.specs.List.{list_any};
 ghost use Rattle.krb_walk.specs.ReplyContent.{content_of};
-ghost use Rattle.krb_driver.specs.Reported.{reported_code, reported_codes, reported_fault, reported_faults, is_failure, replied_verdict, reports_code, reports_fault};
+ghost use Rattle.krb_driver.specs.Reported.{failures, if_reported, replied_verdict, reports};
 
 use crate::verdict::{FileKind, Verdict};
 use krb_walk::{Code, FaultKind, Reply};
 use std::alloc::Allocator;
 
-/// The codes and the faults that replies report, each at its place in the order of their numbers, the kind of file
-/// that they are about, and the place from which MIT's programs see none of its entries, if one of these was added.
+/// What a reply may report: a refusal with this code, or a fault of this kind.
+#[derive(Clone, Copy)]
+pub enum Failure {
+    Refused(Code),
+    Faulted(FaultKind),
+}
+
+/// The failures that replies report, each at its place: refusals and then faults, in the order of their numbers. Also
+/// the kind of file that they are about, and the place from which MIT's programs see none of its entries, if one of
+/// these was added.
 #[derive(Clone, Copy)]
 pub struct Reported {
     pub kind: FileKind,
-    pub codes: [Option<Code>; 11],
-    pub faults: [Option<FaultKind>; 4],
+    pub failures: [Option<Failure>; 15],
     pub hidden_from: Option<u32>,
 }
 
-// Returns whether a reply is a refusal or a fault.
-fn is_failure<A: Allocator>(reply: &Reply<A>) -> bool
-    ensures { result ≡ is_failure (content_of reply.now) }
+// Returns whether a reply reports that failure.
+fn reports<A: Allocator>(failure: Failure, reply: &Reply<A>) -> bool
+    ensures { result ≡ reports failure (content_of reply.now) }
 {
-    match reply {
-        Reply::Refused(_) | Reply::Faulted { .. } => true,
+    match (failure, reply) {
+        (Failure::Refused(code), Reply::Refused(reported)) => reported.number() == code.number(),
+        (Failure::Faulted(kind), Reply::Faulted { fault, .. }) => {
+            fault.kind.number() == kind.number()
+        }
         _ => false,
     }
 }
 
-// Returns whether a reply is a refusal with that code.
-fn reports_code<A: Allocator>(code: Code, reply: &Reply<A>) -> bool
-    ensures { result ≡ reports_code code (content_of reply.now) }
+fn is_reported<A: Allocator>(failure: Failure, replies: &[Reply<A>]) -> bool
+    ensures { result ≡ list_any (λ r. reports failure (content_of r)) replies.now }
 {
-    match reply {
-        Reply::Refused(reported) => reported.number() == code.number(),
-        _ => false,
-    }
+    replies.iter().any(|reply| reports(failure, reply))
 }
 
-// Returns whether a reply is a fault of that kind.
-fn reports_fault<A: Allocator>(kind: FaultKind, reply: &Reply<A>) -> bool
-    ensures { result ≡ reports_fault kind (content_of reply.now) }
+// Returns a failure if some reply reports it.
+fn if_reported<A: Allocator>(failure: Failure, replies: &[Reply<A>]) -> Option<Failure>
+    ensures { result ≡ if_reported (map content_of replies.now) failure }
 {
-    match reply {
-        Reply::Faulted { fault, .. } => fault.kind.number() == kind.number(),
-        _ => false,
-    }
+    is_reported(failure, replies).then_some(failure)
 }
 
-fn has_code<A: Allocator>(replies: &[Reply<A>], code: Code) -> bool
-    ensures { result ≡ list_any (λ r. reports_code code (content_of r)) replies.now }
-{
-    replies.iter().any(|reply| reports_code(code, reply))
-}
-
-fn has_fault<A: Allocator>(replies: &[Reply<A>], kind: FaultKind) -> bool
-    ensures { result ≡ list_any (λ r. reports_fault kind (content_of r)) replies.now }
-{
-    replies.iter().any(|reply| reports_fault(kind, reply))
-}
-
-// Returns the code if some reply reports it.
-fn reported_code<A: Allocator>(replies: &[Reply<A>], code: Code) -> Option<Code>
-    ensures { result ≡ reported_code content_of replies.now code }
-{
-    if has_code(replies, code) {
-        Some(code)
-    } else {
-        None
-    }
-}
-
-// Returns the kind of fault if some reply reports it.
-fn reported_fault<A: Allocator>(replies: &[Reply<A>], kind: FaultKind) -> Option<FaultKind>
-    ensures { result ≡ reported_fault content_of replies.now kind }
-{
-    if has_fault(replies, kind) {
-        Some(kind)
-    } else {
-        None
-    }
-}
-
-fn reported_codes<A: Allocator>(replies: &[Reply<A>]) -> [Option<Code>; 11]
-    ensures { result ≡ reported_codes content_of replies.now }
+fn failures<A: Allocator>(replies: &[Reply<A>]) -> [Option<Failure>; 15]
+    ensures { result ≡ failures (map content_of replies.now) }
 {
     [
-        reported_code(replies, Code::Damaged),
-        reported_code(replies, Code::TooLong),
-        reported_code(replies, Code::Full),
-        reported_code(replies, Code::NotAPlace),
-        reported_code(replies, Code::NotLive),
-        reported_code(replies, Code::NoSuchWalk),
-        reported_code(replies, Code::TooManyWalks),
-        reported_code(replies, Code::ReadOnly),
-        reported_code(replies, Code::NotFound),
-        reported_code(replies, Code::KvnoNotFound),
-        reported_code(replies, Code::Marked),
+        if_reported(Failure::Refused(Code::Damaged), replies),
+        if_reported(Failure::Refused(Code::TooLong), replies),
+        if_reported(Failure::Refused(Code::Full), replies),
+        if_reported(Failure::Refused(Code::NotAPlace), replies),
+        if_reported(Failure::Refused(Code::NotLive), replies),
+        if_reported(Failure::Refused(Code::NoSuchWalk), replies),
+        if_reported(Failure::Refused(Code::TooManyWalks), replies),
+        if_reported(Failure::Refused(Code::ReadOnly), replies),
+        if_reported(Failure::Refused(Code::NotFound), replies),
+        if_reported(Failure::Refused(Code::KvnoNotFound), replies),
+        if_reported(Failure::Refused(Code::Marked), replies),
+        if_reported(Failure::Faulted(FaultKind::CutLength), replies),
+        if_reported(Failure::Faulted(FaultKind::Overrun), replies),
+        if_reported(Failure::Faulted(FaultKind::BadEntry), replies),
+        if_reported(Failure::Faulted(FaultKind::BadCredential), replies),
     ]
 }
 
-fn reported_faults<A: Allocator>(replies: &[Reply<A>]) -> [Option<FaultKind>; 4]
-    ensures { result ≡ reported_faults content_of replies.now }
+fn has_some(failures: &[Option<Failure>]) -> bool
+    ensures { result ≡ list_any is_some failures.now }
 {
-    [
-        reported_fault(replies, FaultKind::CutLength),
-        reported_fault(replies, FaultKind::Overrun),
-        reported_fault(replies, FaultKind::BadEntry),
-        reported_fault(replies, FaultKind::BadCredential),
-    ]
-}
-
-fn are_failures<A: Allocator>(replies: &[Reply<A>]) -> bool
-    ensures { result ≡ list_any (λ r. is_failure (content_of r)) replies.now }
-{
-    replies.iter().any(is_failure)
+    failures.iter().any(|failure| failure.is_some())
 }
 
 /// Returns the verdict of a run that printed these replies about a file of that kind.
 pub fn replied_verdict<A: Allocator>(kind: FileKind, replies: &[Reply<A>]) -> Verdict
-    ensures { result ≡ replied_verdict kind content_of replies.now }
+    ensures { result ≡ replied_verdict kind (map content_of replies.now) }
 {
-    if are_failures(replies) {
+    let failures = failures(replies);
+    if has_some(&failures) {
         Verdict::Replied(Reported {
             kind,
-            codes: reported_codes(replies),
-            faults: reported_faults(replies),
+            failures,
             hidden_from: None,
         })
     } else {

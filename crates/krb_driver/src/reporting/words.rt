@@ -1,26 +1,24 @@
 //! The words that explain what ended a run.
 
-ghost use Rattle.std.specs.Prelude.{◌≡◌, [], ◌++◌, IfOk, IsFalse, codes, is_some, option_map};
+ghost use Rattle.std.specs.Prelude.{◌≡◌, option_map};
 ghost use Rattle.krb_driver.specs.Messages.{phrase_line, words_line};
 ghost use Rattle.krb_driver.specs.PieceTexts.{piece_text, pieces_text};
-ghost use Rattle.krb_driver.specs.Verdicts.{is_itemized};
-ghost use Rattle.krb_driver.specs.Words.{cache_phrase, cause_words, ending_words, error_words, fault_with, hold_phrase, keytab_phrase, line_fault_phrase, list_phrase, listed_words, no_cache_phrase, no_keytab_phrase, nothing_phrase, refusal_phrase, unknown_words, verdict_words, way_words};
+ghost use Rattle.krb_driver.specs.EndingWords.{cache_phrase, cause_words, error_words, fault_with, hold_phrase, keytab_phrase, line_fault_phrase, list_phrase, listed_words, no_cache_phrase, no_keytab_phrase, nothing_phrase, refusal_phrase, unknown_words, verdict_words, way_words};
 
 use crate::error::RunError;
 use crate::first_word::FirstWord;
 use crate::loading::{NotCache, NotKeytab};
 use crate::reporting::details::Details;
-use crate::reporting::explanation::{Explanation, no_words, phrase, words, words_before};
+use crate::reporting::lines::{Line, nothing, phrase, words, words_before};
 use crate::reporting::name_words::{hidden_words, missing_words, type_words, typed_words};
-use crate::reporting::piece::MessagePiece;
+use crate::reporting::piece::MessagePiece::{Escaped, Name, Number, Text};
+use crate::reporting::piece::{COLON, END, HEAD, NONE};
 use crate::verdict::{FileKind, Verdict};
 use krb_ccache::CcOpenFault;
 use krb_files::Cause;
 use krb_keytab::KtOpenFault;
 use krb_text::LineFault;
 use krb_walk::{Code, Fault};
-
-const NONE: MessagePiece<'static> = MessagePiece::Text("");
 
 const TOO_LARGE: &str = "it has more than 16,777,216 bytes";
 
@@ -126,87 +124,65 @@ fn line_fault_phrase(line: Option<u64>, fault: LineFault) -> &'static str
 }
 
 // Returns the words for what keeps a save of `file` from making its new file, by its path if that is known.
-fn way_words<'a>(file: &'a [u8], line: Option<u64>, path: Option<&'a str>) -> Explanation<'a>
+fn way_words<'a>(file: &'a [u8], line: Option<u64>, path: Option<&'a str>) -> Line<'a>
     ensures { pieces_text result ≡ way_words file.now line (option_map (λ path. path.now) path.entry) }
 {
     match path {
-        Some(path) => words(
-            line,
-            MessagePiece::Name(path.as_bytes()),
-            MessagePiece::Text(" is in the way"),
-        ),
-        None => words(
-            line,
-            MessagePiece::Name(file),
-            MessagePiece::Text(".krbfile is in the way"),
-        ),
+        Some(path) => words(line, Name(path.as_bytes()), Text(" is in the way")),
+        None => words(line, Name(file), Text(".krbfile is in the way")),
     }
 }
 
 // Returns the words for the cause of a failed call, if it is known.
-fn cause_words<'a>(file: &'a [u8], line: Option<u64>, details: Details<'a>) -> Explanation<'a>
+fn cause_words<'a>(file: &'a [u8], line: Option<u64>, details: Details<'a>) -> Line<'a>
     ensures { pieces_text result ≡ cause_words file.now line details.entry }
 {
     match details.cause {
-        None => no_words(),
+        None => nothing(),
         Some(Cause::InTheWay) => way_words(file, line, details.in_the_way),
         Some(Cause::System(number)) => words(
             line,
-            MessagePiece::Text("error "),
-            MessagePiece::Number(u64::from(number.unsigned_abs())),
+            Text("error "),
+            Number(u64::from(number.unsigned_abs())),
         ),
         Some(cause) => phrase(line, cause.phrase()),
     }
 }
 
 // Returns the words for a fault of that file, and a phrase.
-fn fault_with<'a>(file: &'a [u8], fault: Fault, what: &'static str) -> Explanation<'a>
+fn fault_with<'a>(file: &'a [u8], fault: Fault, what: &'static str) -> Line<'a>
     ensures { pieces_text result ≡ fault_with file.now fault what.now }
 {
-    [
-        MessagePiece::Text("krbfile: "),
-        MessagePiece::Name(file),
-        MessagePiece::Text(": fault "),
-        MessagePiece::Number(u64::from(fault.kind.number())),
-        MessagePiece::Text(" at "),
-        MessagePiece::Number(u64::from(fault.place)),
-        MessagePiece::Text("\nkrbfile: "),
-        MessagePiece::Text(what),
-        MessagePiece::Text("\n"),
-    ]
+    let (file, what) = (Name(file), Text(what));
+    let (before, at, after) = (Text(": fault "), Text(" at "), Text("\nkrbfile: "));
+    let number = Number(u64::from(fault.kind.number()));
+    let place = Number(u64::from(fault.place));
+    [HEAD, file, before, number, at, place, after, what, END]
 }
 
 /// Returns the words for the fault that a listing reports, with the file's name and the fault's phrase.
-pub fn listed_words(file: &[u8], fault: Fault) -> Explanation<'_>
+pub fn listed_words(file: &[u8], fault: Fault) -> Line<'_>
     ensures { pieces_text result ≡ listed_words file.now fault }
 {
     fault_with(file, fault, fault.kind.phrase())
 }
 
 // Returns the words for an unknown first word of a script's line.
-fn unknown_words<'a>(word: FirstWord) -> Explanation<'a>
+fn unknown_words<'a>(word: FirstWord) -> Line<'a>
     ensures { pieces_text result ≡ unknown_words word }
 {
-    [
-        MessagePiece::Text("krbfile: "),
-        MessagePiece::Text(LineFault::UnknownWord.phrase()),
-        MessagePiece::Text(": \""),
-        MessagePiece::Escaped(word),
-        MessagePiece::Text("\"\n"),
-        NONE,
-        NONE,
-        NONE,
-        NONE,
-    ]
+    let (phrase, word) = (Text(LineFault::UnknownWord.phrase()), Escaped(word));
+    let (before, after) = (Text(": \""), Text("\"\n"));
+    [HEAD, phrase, before, word, after, NONE, NONE, NONE, NONE]
 }
 
-// Returns the words that explain an error of a run over `file`, or of line `line` of ktutil.
-fn error_words<'a>(
+/// Returns the words that explain an error of a run over `file`, or of line `line` of ktutil.
+pub fn error_words<'a>(
     error: RunError,
     file: &'a [u8],
     line: Option<u64>,
     details: Details<'a>,
-) -> Explanation<'a>
+) -> Line<'a>
     ensures { pieces_text result ≡ error_words file.now line details.entry error }
 {
     match error {
@@ -233,48 +209,25 @@ fn error_words<'a>(
         RunError::NotACacheToHold(why) => phrase(line, hold_phrase(why)),
         RunError::OutputIsTerminal => phrase(line, "the image is for a program; give it a pipe"),
         RunError::ClockNotRead => phrase(line, "the clock is before 1970 or after 2106, or failed"),
-        RunError::NoMemory => no_words(),
+        RunError::NoMemory => nothing(),
     }
 }
 
-// Returns the words that explain a verdict other than replies and findings, which have more words than these.
-fn verdict_words(verdict: Verdict, file: &[u8], line: Option<u64>) -> Explanation<'_>
-    requires { IsFalse (is_itemized verdict) }
+/// Returns the words that explain a verdict, but for what replies or findings have.
+pub fn verdict_words(verdict: Verdict, file: &[u8], line: Option<u64>) -> Line<'_>
     ensures { pieces_text result ≡ verdict_words file.now line verdict }
 {
     match verdict {
-        Verdict::Well => no_words(),
         Verdict::HiddenFrom(place) => hidden_words(file, line, place),
         Verdict::NothingToRemove(kind) => phrase(line, nothing_phrase(kind)),
-        Verdict::NoEntry => words(
-            line,
-            MessagePiece::Name(file),
-            MessagePiece::Text(" has no entry"),
-        ),
+        Verdict::NoEntry => words(line, Name(file), Text(" has no entry")),
         Verdict::Clashed => words_before(
             line,
-            MessagePiece::Text("clash: TO has another key for this name, version and type"),
+            Text("clash: TO has another key for this name, version and type"),
             NONE,
             "krbfile: --replace takes FROM's key\n",
         ),
         Verdict::Listed(fault) => listed_words(file, fault),
-        Verdict::Replied(_) | Verdict::Found(_) => unreachable!(),
-    }
-}
-
-/// Returns the words that explain the end of a run over `file`, or of line `line` of ktutil. Not for replies and
-/// findings, which have more words than these.
-pub fn ending_words<'a>(
-    ending: Result<Verdict, RunError>,
-    file: &'a [u8],
-    line: Option<u64>,
-    details: Details<'a>,
-) -> Explanation<'a>
-    requires { IfOk ending (λ verdict. IsFalse (is_itemized verdict)) }
-    ensures { pieces_text result ≡ ending_words file.now line details.entry ending }
-{
-    match ending {
-        Ok(verdict) => verdict_words(verdict, file, line),
-        Err(error) => error_words(error, file, line, details),
+        Verdict::Well | Verdict::Replied(_) | Verdict::Found(_) => nothing(),
     }
 }

@@ -2,10 +2,7 @@
 
 ghost use Rattle.std.specs.Prelude.{◌≡◌, [], ◌++◌, if◌then◌else◌};
 ghost use Rattle.std.specs.List.{flat_map};
-ghost use Rattle.krb_cache_text.specs.Escape.{escaped_text};
-ghost use Rattle.krb_driver.specs.FileNames.{shown_name};
-ghost use Rattle.krb_driver.specs.PieceTexts.{hidden_word, piece_text, pieces_text, quoted_word, shown_byte, shown_word};
-ghost use Rattle.krb_driver.specs.Runs.{Writes, WritesOn};
+ghost use Rattle.krb_driver.specs.PieceTexts.{byte_text, hidden_word, piece_text, pieces_text, quoted_word, shown_word};
 ghost use Rattle.krb_driver.specs.Underway.{Adds, Sends};
 
 use crate::file_name::name_byte;
@@ -25,8 +22,8 @@ const HIDDEN: &[u8] = b"a word of hexadecimal digits";
 /// A buffer with the part of a message that is not yet written.
 pub type Gathered = ArrayVec<u8, ROOM>;
 
-// Adds a text to the buffer. If there is no room for it, writes out the buffer and then the text.
-fn add<E: Write>(text: &[u8], gathered: &mut Gathered, err: &mut Watched<E>)
+/// Adds a text to the buffer. If there is no room for it, writes out the buffer and then the text.
+pub fn add<E: Write>(text: &[u8], gathered: &mut Gathered, err: &mut Watched<E>)
     ensures { Adds err.old gathered.old.items err.new gathered.new.items text.now }
 {
     if err.has_failed() {
@@ -50,21 +47,32 @@ fn hidden_if(has_key: bool) -> &'static [u8]
     if has_key { HIDDEN } else { b"" }
 }
 
-// Adds the name of a file.
-fn add_name<E: Write>(name: &[u8], gathered: &mut Gathered, err: &mut Watched<E>)
-    ensures { Adds err.old gathered.old.items err.new gathered.new.items (shown_name name.now) }
+/// How bytes are printed.
+#[derive(Clone, Copy)]
+pub enum Form {
+    /// As those of the name of a file.
+    Name,
+    /// As those of a word of the command line.
+    Word,
+    /// As those of a word of a script.
+    Script,
+}
+
+fn add_byte<E: Write>(form: Form, byte: &u8, gathered: &mut Gathered, err: &mut Watched<E>)
+    ensures { Adds err.old gathered.old.items err.new gathered.new.items (byte_text form byte.now) }
 {
-    'bytes: for byte in name {
-        add(name_byte(byte), gathered, err);
+    match form {
+        Form::Name => add(name_byte(byte), gathered, err),
+        Form::Word => add(shown_byte(*byte).as_slice(), gathered, err),
+        Form::Script => add(escaped_byte(*byte).as_slice(), gathered, err),
     }
 }
 
-// Adds bytes of a word as they are printed.
-fn add_shown<E: Write>(word: &[u8], gathered: &mut Gathered, err: &mut Watched<E>)
-    ensures { Adds err.old gathered.old.items err.new gathered.new.items (flat_map shown_byte word.now) }
+fn add_bytes<E: Write>(form: Form, bytes: &[u8], gathered: &mut Gathered, err: &mut Watched<E>)
+    ensures { Adds err.old gathered.old.items err.new gathered.new.items (flat_map (byte_text form) bytes.now) }
 {
-    'bytes: for byte in word {
-        add(shown_byte(*byte).as_slice(), gathered, err);
+    'bytes: for byte in bytes {
+        add_byte(form, byte, gathered, err);
     }
 }
 
@@ -73,7 +81,7 @@ fn add_word<E: Write>(word: &[u8], gathered: &mut Gathered, err: &mut Watched<E>
     ensures { Adds err.old gathered.old.items err.new gathered.new.items (shown_word word.now) }
 {
     let end = key_start(word);
-    add_shown(&word[..end], gathered, err);
+    add_bytes(Form::Word, &word[..end], gathered, err);
     add(hidden_if(has_key(word)), gathered, err);
 }
 
@@ -86,17 +94,8 @@ fn add_quoted<E: Write>(word: &[u8], gathered: &mut Gathered, err: &mut Watched<
         return;
     }
     add(b"\"", gathered, err);
-    add_shown(word, gathered, err);
+    add_bytes(Form::Word, word, gathered, err);
     add(b"\"", gathered, err);
-}
-
-// Adds a word of a script as it is printed.
-fn add_escaped<E: Write>(word: &[u8], gathered: &mut Gathered, err: &mut Watched<E>)
-    ensures { Adds err.old gathered.old.items err.new gathered.new.items (escaped_text word.now) }
-{
-    'bytes: for byte in word {
-        add(escaped_byte(*byte).as_slice(), gathered, err);
-    }
 }
 
 fn add_piece<E: Write>(piece: MessagePiece<'_>, gathered: &mut Gathered, err: &mut Watched<E>)
@@ -104,12 +103,12 @@ fn add_piece<E: Write>(piece: MessagePiece<'_>, gathered: &mut Gathered, err: &m
 {
     match piece {
         MessagePiece::Text(text) => add(text.as_bytes(), gathered, err),
-        MessagePiece::Name(name) => add_name(name, gathered, err),
+        MessagePiece::Name(name) => add_bytes(Form::Name, name, gathered, err),
         MessagePiece::Operand(operand) => add(operand, gathered, err),
         MessagePiece::Number(number) => add(Buffer::new().format(number).as_bytes(), gathered, err),
         MessagePiece::Word(word) => add_word(word.as_bytes(), gathered, err),
         MessagePiece::Quoted(word) => add_quoted(word.as_bytes(), gathered, err),
-        MessagePiece::Escaped(word) => add_escaped(word.as_bytes(), gathered, err),
+        MessagePiece::Escaped(word) => add_bytes(Form::Script, word.as_bytes(), gathered, err),
     }
 }
 
@@ -134,27 +133,4 @@ pub fn send<E: Write>(gathered: &Gathered, err: &mut Watched<E>)
         return;
     }
     let _ = put(err, gathered.as_slice());
-}
-
-/// Writes a message and the words that explain it, in one write if they fit. Ignores a failure.
-pub fn write_pieces<E: Write>(
-    err: &mut Watched<E>,
-    message: &[MessagePiece<'_>],
-    words: &[MessagePiece<'_>],
-)
-    ensures { Writes err.old err.new (pieces_text message.now ++ pieces_text words.now) }
-{
-    let mut gathered = ArrayVec::new();
-    add_pieces(message, &mut gathered, err);
-    add_pieces(words, &mut gathered, err);
-    send(&gathered, err);
-}
-
-/// Writes words after what was written, in one write if they fit; nothing if a write failed. Ignores a failure.
-pub fn write_on<E: Write>(err: &mut Watched<E>, words: &[MessagePiece<'_>])
-    ensures { WritesOn err.old err.new (pieces_text words.now) }
-{
-    let mut gathered = ArrayVec::new();
-    add_pieces(words, &mut gathered, err);
-    send(&gathered, err);
 }

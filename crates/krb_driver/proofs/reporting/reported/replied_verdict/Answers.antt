@@ -1,11 +1,19 @@
-use Rattle.std.proofs.Common.{true, false, refl}
-use Rattle.krb_walk.specs.ReplyContent.{content_of}
-use Rattle.krb_driver.specs.Reported.{reported_codes, reported_faults}
-use Rattle.krb_driver.proofs.Words.{replied_verdict-by}
+use Rattle.std.proofs.Common.{Bool, List, ap, ◌∙◌}
+use Rattle.std.specs.List.{list_any}
+use Rattle.std.specs.Prelude.{if◌then◌else◌, Option, None, is_some}
+use Rattle.krb_driver.specs.declared.reporting.reported.Failure.{Failure}
+use Rattle.krb_driver.specs.declared.verdict.FileKind.{FileKind}
+use Rattle.krb_driver.specs.declared.verdict.Verdict.{Verdict}
+use Rattle.krb_driver.specs.declared.verdict.Verdict.TheVariants.{Well, Replied}
 use Rattle.krb_driver.proofs.reporting.reported.replied_verdict.Goals as goal
 
-pub returns-then-are_failures : goal.returns-then-are_failures
-returns-then-are_failures g c = replied_verdict-by c.args.kind content_of c.args.replies.now true c.reported_codes.result c.reported_faults.result c.if-are_failures.ensures c.reported_codes.ensures c.reported_faults.ensures
+abbrev ends : FileKind → Bool → List (Option Failure) → Verdict
+ends kind fails failures = if fails then Replied (record { kind = kind; failures = failures; hidden_from = None }) else Well
 
-pub returns-else-are_failures : goal.returns-else-are_failures
-returns-else-are_failures g c = replied_verdict-by c.args.kind content_of c.args.replies.now false (reported_codes content_of c.args.replies.now) (reported_faults content_of c.args.replies.now) c.if-are_failures.ensures refl refl
+pub returns-then-has_some : goal.returns-then-has_some
+returns-then-has_some g c =
+    ap (λ fails. ends c.args.kind fails c.failures-failures.result) c.if-has_some.ensures ∙ ap (λ all. ends c.args.kind (list_any is_some all) all) c.failures-failures.ensures
+
+pub returns-else-has_some : goal.returns-else-has_some
+returns-else-has_some g c =
+    ap (λ fails. ends c.args.kind fails c.failures-failures.result) c.if-has_some.ensures ∙ ap (λ all. ends c.args.kind (list_any is_some all) all) c.failures-failures.ensures

@@ -1,10 +1,9 @@
--- The words that explain what ended a run.
-use Rattle.std.specs.Prelude.{ℕ, List, [], ◌++◌, Bool, true, false, if◌then◌else◌, ◌||◌, Option, None, Some, is_some, option_map, unwrap_or, Ok, Err, codes, decimal, unsigned_abs}
+-- The words that explain how a run ended: what follows its message where words are shown.
+use Rattle.std.specs.Prelude.{ℕ, List, [], ◌∷◌, ◌++◌, zip, Bool, true, if◌then◌else◌, Option, None, Some, is_some, option_map, unwrap_or, Ok, Err, codes, decimal, unsigned_abs}
 use Rattle.krb_walk.specs.declared.refusal.Code.{Code}
 use Rattle.krb_walk.specs.declared.refusal.Code.TheVariants.{Damaged, Full, NotAPlace, NotLive}
 use Rattle.std.specs.List.{flat_map}
 use Rattle.krb_walk.specs.declared.fault.Fault.{Fault}
-use Rattle.krb_walk.specs.declared.fault.FaultKind.{FaultKind}
 use Rattle.krb_walk.specs.Phrases.{code_number, fault_number, code_phrase, fault_phrase}
 use Rattle.krb_keytab.specs.declared.open.KtOpenFault.{KtOpenFault}
 use Rattle.krb_keytab.specs.declared.open.KtOpenFault.TheVariants as kt
@@ -12,11 +11,9 @@ use Rattle.krb_keytab.specs.Open.{open_fault_phrase as kt_phrase}
 use Rattle.krb_ccache.specs.declared.open.CcOpenFault.{CcOpenFault}
 use Rattle.krb_ccache.specs.declared.open.CcOpenFault.TheVariants as cc
 use Rattle.krb_ccache.specs.Open.{open_fault_phrase as cc_phrase}
-use Rattle.krb_files.specs.declared.aftermath.Aftermath.{Aftermath}
-use Rattle.krb_files.specs.declared.aftermath.Aftermath.TheVariants.{Restored}
 use Rattle.krb_files.specs.declared.cause.Cause.{Cause}
 use Rattle.krb_files.specs.declared.cause.Cause.TheVariants.{InTheWay, System}
-use Rattle.krb_files.specs.Phrases.{aftermath_phrase, cause_phrase}
+use Rattle.krb_files.specs.Phrases.{cause_phrase}
 use Rattle.krb_cache_text.specs.Escape.{escaped_text}
 use Rattle.krb_text.specs.declared.line_fault.LineFault.{LineFault}
 use Rattle.krb_text.specs.declared.line_fault.LineFault.TheVariants.{UnknownWord}
@@ -29,6 +26,9 @@ use Rattle.krb_driver.specs.declared.error.RunError.TheVariants as error
 use Rattle.krb_driver.specs.declared.verdict.FileKind.{FileKind}
 use Rattle.krb_driver.specs.declared.verdict.FileKind.TheVariants.{Keytab, Cache}
 use Rattle.krb_driver.specs.declared.reporting.details.Details.{Details}
+use Rattle.krb_driver.specs.declared.reporting.found_words.TheConstants.{LINES}
+use Rattle.krb_driver.specs.declared.reporting.reported.Failure.{Failure}
+use Rattle.krb_driver.specs.declared.reporting.reported.Failure.TheVariants.{Refused, Faulted}
 use Rattle.krb_driver.specs.declared.reporting.reported.Reported.{Reported}
 use Rattle.krb_driver.specs.declared.verdict.Findings.{Findings}
 use Rattle.krb_driver.specs.declared.verdict.Verdict.{Verdict}
@@ -37,8 +37,8 @@ use Rattle.krb_driver.specs.declared.first_word.FirstWord.{FirstWord}
 use Rattle.krb_driver.specs.FileNames.{shown_name, type_of, untyped}
 use Rattle.krb_driver.specs.FirstWords.{word_text}
 use Rattle.krb_driver.specs.Hints.{hint_words}
-use Rattle.krb_driver.specs.Messages.{file_message, line_if, words_line, phrase_line}
-use Rattle.krb_driver.specs.RunErrors.{Ending, ending_message}
+use Rattle.krb_driver.specs.Messages.{line_if, numbered_line, words_line, phrase_line}
+use Rattle.krb_driver.specs.RunErrors.{Ending}
 
 -- ---- phrases
 
@@ -146,15 +146,11 @@ fault_with file fault what = codes "krbfile: " ++ (shown_name file ++ (codes ": 
 abbrev pub listed_words : List ℕ → Fault → List ℕ
 listed_words file fault = fault_with file fault (fault_phrase fault.kind)
 
--- the line for a refusal that replies report: its number and its phrase
-abbrev pub code_words : FileKind → Option Code → List ℕ
-code_words kind None = []
-code_words kind (Some code) = codes "krbfile: refused " ++ (decimal (code_number code) ++ (codes ": " ++ (refusal_phrase kind code ++ codes "\n")))
-
--- the line for a fault that replies report: its number and its phrase
-abbrev pub fault_words : Option FaultKind → List ℕ
-fault_words None = []
-fault_words (Some kind) = codes "krbfile: fault " ++ (decimal (fault_number kind) ++ (codes ": " ++ (fault_phrase kind ++ codes "\n")))
+-- the line for a failure that replies report: its number and its phrase
+abbrev pub failure_words : FileKind → Option Failure → List ℕ
+failure_words kind None = []
+failure_words kind (Some (Refused code)) = numbered_line (codes "krbfile: refused ") (code_number code) (refusal_phrase kind code)
+failure_words kind (Some (Faulted fault)) = numbered_line (codes "krbfile: fault ") (fault_number fault) (fault_phrase fault)
 
 -- the words for an entry that was added and that MIT's programs do not see, as they see none from a place on
 abbrev pub hidden_words : List ℕ → Option ℕ → ℕ → List ℕ
@@ -166,19 +162,13 @@ abbrev pub hidden_words_of : List ℕ → Option ℕ → List ℕ
 hidden_words_of file None = []
 hidden_words_of file (Some place) = hidden_words file None place
 
--- the lines for what replies report: refusals first, each once, and at the end what is hidden
+-- the lines for what replies report: each failure once, and at the end what is hidden
 abbrev pub reported_words : List ℕ → Reported → List ℕ
-reported_words file r = flat_map (code_words r.kind) r.codes ++ (flat_map fault_words r.faults ++ hidden_words_of file r.hidden_from)
+reported_words file r = flat_map (failure_words r.kind) r.failures ++ hidden_words_of file r.hidden_from
 
 -- the line for each word of findings that was printed, in this order
 abbrev pub word_lines : FindingWords → List ℕ
-word_lines t =
-    line_if t.weak (codes "krbfile: weak: an encryption type that MIT calls weak or deprecated\n")
-    ++ (line_if t.hidden (codes "krbfile: hidden: MIT's programs see no entry from this one on\n")
-    ++ (line_if t.same (codes "krbfile: same: this key stands there twice\n")
-    ++ (line_if t.clash (codes "krbfile: clash: two keys for one name, version and type\n")
-    ++ (line_if t.old (codes "krbfile: old: a newer version of this name stands there\n")
-    ++ (line_if t.mode (codes "krbfile: mode: users other than the owner may read or change this file\n") ++ [])))))
+word_lines t = flat_map (λ line. line_if line.0 line.1.now) (zip (t.weak ∷ t.hidden ∷ t.same ∷ t.clash ∷ t.old ∷ t.mode ∷ []) LINES)
 
 -- the words for the fault that was found, if one was
 abbrev pub found_fault_words : List ℕ → Option Fault → List ℕ
@@ -221,49 +211,22 @@ error_words file line details error.OutputIsTerminal = phrase_line line (codes "
 error_words file line details error.ClockNotRead = phrase_line line (codes "the clock is before 1970 or after 2106, or failed")
 error_words file line details error.NoMemory = []
 
--- the words that explain the verdict of a run over that file
+-- the words that explain the verdict of a run over that file, but for what replies or findings have
 abbrev pub verdict_words : List ℕ → Option ℕ → Verdict → List ℕ
-verdict_words file line Well = []
 verdict_words file line (HiddenFrom place) = hidden_words file line place
 verdict_words file line (NothingToRemove kind) = phrase_line line (nothing_phrase kind)
 verdict_words file line NoEntry = words_line line (shown_name file ++ codes " has no entry\n")
 verdict_words file line Clashed = phrase_line line (codes "clash: TO has another key for this name, version and type") ++ codes "krbfile: --replace takes FROM's key\n"
 verdict_words file line (Listed fault) = listed_words file fault
-verdict_words file line (Found findings) = found_words file findings
-verdict_words file line (Replied reported) = reported_words file reported
+verdict_words file line verdict = []
+
+-- the words for what replies report, or for findings
+abbrev pub itemized_words : List ℕ → Verdict → List ℕ
+itemized_words file (Replied reported) = reported_words file reported
+itemized_words file (Found findings) = found_words file findings
+itemized_words file verdict = []
 
 -- the words that explain the end of a run
 abbrev pub ending_words : List ℕ → Option ℕ → Details → Ending → List ℕ
-ending_words file line details (Ok verdict) = verdict_words file line verdict
+ending_words file line details (Ok verdict) = verdict_words file line verdict ++ itemized_words file verdict
 ending_words file line details (Err error) = error_words file line details error
-
--- words, if they are shown
-abbrev pub words_if : Bool → List ℕ → List ℕ
-words_if true words = words
-words_if false words = []
-
--- the message for the end of a run, and the words that explain it if they are shown
-abbrev pub own_text : Bool → List ℕ → Option ℕ → Details → Ending → List ℕ
-own_text explains file line details ending = ending_message file ending ++ words_if explains (ending_words file line details ending)
-
--- ---- what a save left behind
-
--- it is told where no words are shown too: all but that the old bytes are back
-abbrev pub is_message : Aftermath → Bool
-is_message Restored = false
-is_message aftermath = true
-
--- the line that tells it
-abbrev pub aftermath_line : List ℕ → Option ℕ → Aftermath → List ℕ
-aftermath_line file None Restored = phrase_line None (aftermath_phrase Restored)
-aftermath_line file None aftermath = file_message file (aftermath_phrase aftermath)
-aftermath_line file (Some line) aftermath = phrase_line (Some line) (aftermath_phrase aftermath)
-
--- the same, if it is to be told
-abbrev pub aftermath_text : Bool → List ℕ → Option ℕ → Option Aftermath → List ℕ
-aftermath_text explains file line None = []
-aftermath_text explains file line (Some aftermath) = words_if (explains || is_message aftermath) (aftermath_line file line aftermath)
-
--- the text that reports the end of a run: its message and its words, and then what its save left behind
-abbrev pub ending_text : Bool → List ℕ → Option ℕ → Details → Ending → List ℕ
-ending_text explains file line details ending = own_text explains file line details ending ++ aftermath_text explains file line details.aftermath

@@ -1,0 +1,8 @@
+use Rattle.std.proofs.Common.{take}
+use Rattle.std.specs.List.{flat_map}
+use Rattle.krb_driver.specs.EndingWords.{failure_words}
+use Rattle.krb_driver.specs.Underway.{Adds}
+use Rattle.krb_driver.proofs.reporting.reported_words.add_failures.Given as goal
+
+abbrev pub invariant-failures : goal.invariant-failures
+invariant-failures g l = Adds l.initial.err l.initial.gathered.items l.err l.gathered.items (flat_map (failure_words l.kind) (take l.failure-index l.failures))

@@ -1,0 +1,107 @@
+//! Lines for the error output, made of pieces.
+
+ghost use Rattle.std.specs.Prelude.{◌≡◌, [], ◌++◌, codes};
+ghost use Rattle.krb_driver.specs.Messages.{file_message, file_number_message, line_message, message, numbered_line, phrase_line, words_line};
+ghost use Rattle.krb_driver.specs.PieceTexts.{piece_text, pieces_text};
+
+use crate::reporting::piece::MessagePiece::{self, Name, Number, Text};
+use crate::reporting::piece::{COLON, END, HEAD, LINE, NONE};
+
+/// The pieces of a line, or of two. Unused ones are empty.
+pub type Line<'a> = [MessagePiece<'a>; 9];
+
+/// Returns no line.
+pub fn nothing<'a>() -> Line<'a>
+    ensures { pieces_text result ≡ [] }
+{
+    [NONE; 9]
+}
+
+/// Returns a text alone.
+pub fn alone<'a>(text: &'static str) -> Line<'a>
+    ensures { pieces_text result ≡ text.now }
+{
+    let text = Text(text);
+    [text, NONE, NONE, NONE, NONE, NONE, NONE, NONE, NONE]
+}
+
+/// Returns the message `krbfile: WHAT`.
+pub fn message<'a>(what: &'static str) -> Line<'a>
+    ensures { pieces_text result ≡ message what.now }
+{
+    let what = Text(what);
+    [HEAD, what, END, NONE, NONE, NONE, NONE, NONE, NONE]
+}
+
+/// Returns the message `krbfile: FILE: WHAT`.
+pub fn file_message<'a>(file: &'a [u8], what: &'static str) -> Line<'a>
+    ensures { pieces_text result ≡ file_message file.now what.now }
+{
+    let (file, what) = (Name(file), Text(what));
+    [HEAD, file, COLON, what, END, NONE, NONE, NONE, NONE]
+}
+
+/// Returns the message for a file with a number between two texts.
+pub fn file_number_message<'a>(
+    file: &'a [u8],
+    before: &'static str,
+    number: u32,
+    after: &'static str,
+) -> Line<'a>
+    ensures { pieces_text result ≡ file_number_message file.now before.now number after.now }
+{
+    let (file, number) = (Name(file), Number(u64::from(number)));
+    let (before, after) = (Text(before), Text(after));
+    [HEAD, file, COLON, before, number, after, END, NONE, NONE]
+}
+
+/// Returns the message for a line of the input, with a number at its end.
+pub fn line_message<'a>(line: u64, what: &'static str, number: u32) -> Line<'a>
+    ensures { pieces_text result ≡ line_message line what.now number }
+{
+    let (line, number) = (Number(line), Number(u64::from(number)));
+    [LINE, line, COLON, Text(what), number, END, NONE, NONE, NONE]
+}
+
+/// Returns a number between a text and its phrase.
+pub fn numbered_line<'a>(head: &'static str, number: u32, phrase: &'static str) -> Line<'a>
+    ensures { pieces_text result ≡ numbered_line head.now number phrase.now }
+{
+    let (head, number, phrase) = (Text(head), Number(u64::from(number)), Text(phrase));
+    [head, number, COLON, phrase, END, NONE, NONE, NONE, NONE]
+}
+
+/// Returns words of two pieces, after the line number if they are for a line of ktutil, and a line after them.
+pub fn words_before<'a>(
+    line: Option<u64>,
+    first: MessagePiece<'a>,
+    second: MessagePiece<'a>,
+    last: &'static str,
+) -> Line<'a>
+    ensures { pieces_text result ≡ words_line line
+        (piece_text first.entry ++ (piece_text second.entry ++ codes "\n")) ++ last.now }
+{
+    let last = Text(last);
+    match line {
+        None => [HEAD, first, second, END, last, NONE, NONE, NONE, NONE],
+        Some(line) => {
+            let number = Number(line);
+            [LINE, number, COLON, first, second, END, last, NONE, NONE]
+        }
+    }
+}
+
+/// Returns words of two pieces, after the line number if they are for a line of ktutil.
+pub fn words<'a>(line: Option<u64>, first: MessagePiece<'a>, second: MessagePiece<'a>) -> Line<'a>
+    ensures { pieces_text result ≡ words_line line
+        (piece_text first.entry ++ (piece_text second.entry ++ codes "\n")) }
+{
+    words_before(line, first, second, "")
+}
+
+/// Returns words that are one phrase.
+pub fn phrase<'a>(line: Option<u64>, text: &'static str) -> Line<'a>
+    ensures { pieces_text result ≡ phrase_line line text.now }
+{
+    words(line, Text(text), NONE)
+}
