@@ -51,7 +51,7 @@ CASES = [
 LINES = {
     "ktedit k": ("start", "resume 2", "step 0", f"add 3 17 0 {KEY} b@R", "cut 2", "rewrite"),
     "ccedit c": ("start", "resume 40", "step 0", "config k - v", "cut 40", "rewrite"),
-    "ktutil": ("list -t -k", "rkt k", "wkt k", f"addent -key -p host/a@R -k 3 -e 17\n{KEY}", "delent 1", "clear", "quit"),
+    "ktutil": ("list -t -k", "rkt k", "wkt k", f"addent -key -p b@R -k 3 -e 17\n{KEY}", "delent 1", "clear", "quit"),
 }
 
 # Words that may be keys.

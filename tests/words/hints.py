@@ -26,8 +26,11 @@ WORDS = ("k", "./k", "AZaz09_-.:@%+,=", "C:k", "./FILE:k", "a b", "it's", "'", "
 
 TOLD = (*(f"{word}: {FINDINGS[word]}" for word in ("weak", "same", "old")), *HINTS.values())
 
-CASES = [Explained("hints", ("ktcheck", "k"), tuple(
-    ("", told.replace("ETYPE..", "arcfour-hmac").replace("FILE", "k")) for told in TOLD), {"k": ALL}, setting=for_owner)]
+CASES = [
+    Explained("hints", ("ktcheck", "k"), tuple(
+        ("", told.replace("ETYPE..", "arcfour-hmac").replace("FILE", "k")) for told in TOLD), {"k": ALL},
+              setting=for_owner),
+]
 
 
 def check(report: Report, program: str) -> None:

@@ -80,20 +80,12 @@ MISTAKES: dict[str, str | list[Line]] = {
        for it in ("", "x", "Weak", "weak,old", " weak", "fault", "entries")},
 }
 
-# Lines with what may be a key, which is not shown, however it is given, and lines whose word is too short for that.
+# Lines with what may be a key, which is not shown, and lines whose word is too short for that.
 HIDDEN: dict[str, str] = {
-    f"unknown command {DIGITS}": f"{KEY}, {KEY} -k k, help {KEY}",
-    f"unknown option --nosuch={DIGITS}": f"klist --nosuch={KEY} k, ktremove --nosuch={KEY}@R k",
-    f"unknown option --version={DIGITS}": f"--version={KEY}", f"unknown option -n=p={DIGITS}": f"ktremove -n=p={KEY} k",
-    f"left over: {DIGITS}": f"ktedit k {KEY}, ktfind k 0 0 b@R {KEY.upper()}, ktutil {KEY}",
-    f"{DIGITS} is no version": f"ktfind k {KEY} 0 b@R, ktremove -k {KEY} k, ktremove -k{KEY} k, ktremove -k={KEY} k, "
-                               f"ktremove --kvno={KEY} k, ktremove --kvno {KEY}x k, ktcopy -nk{KEY} k t",
-    f"{DIGITS} is no encryption type": f"ktfind k 0 {KEY} b@R, ktremove -e{KEY} k, ktcopy --enctype={KEY} k t",
-    f"{DIGITS} has no realm": f"ktfind k 0 0 {KEY}, ktremove -p {KEY} k, ccremove --service={KEY}/x k",
-    f"{DIGITS} has a second @": f"ktremove -p {KEY}@R@S k",
-    f"{DIGITS} is no time (90, 15m, 10h, 7d)": f"klist -s --for {KEY} k, ktremove -k old --age={KEY} k",
-    f"{DIGITS} is no finding": f"ktcheck --allow={KEY} k, ktcheck --allow {KEY} k",
-    f"unknown command {SHORT}": SHORT, f"unknown option --x{KEY}": f"klist --x{KEY} k",
+    f"unknown command {DIGITS}": f"{KEY}, help {KEY}", f"unknown option --nosuch={DIGITS}": f"klist --nosuch={KEY} k",
+    f"left over: {DIGITS}": f"ktedit k {KEY.upper()}", f"unknown option -n=p={DIGITS}": f"ktremove -n=p={KEY} k",
+    f"{DIGITS} is no version": f"ktfind k {KEY} 0 b@R, ktremove --kvno={KEY}x k, ktcopy -nk{KEY} k t",
+    f"{DIGITS} has no realm": f"ccremove --service={KEY}/x k", f"unknown option --x{KEY}": f"klist --x{KEY} k",
     f'"{SHORT}" is no version': f"ktfind k {SHORT} 0 b@R, ktremove --kvno={SHORT} k",
 }
 

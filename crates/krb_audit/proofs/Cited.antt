@@ -2,15 +2,14 @@
 pub use Rattle.std.proofs.Common.{◌≡◌, ◌∙◌, sym, ap, List, length, ◌∷◌, arith, [], ℕ, Bool, false, refl, subst, Option, Some, cond, None, map, ◌++◌, true, ◌+◌, replicate, take, append_assoc, get_or, ◌<◌, suc, ◌≤◌}
 pub use Rattle.std.proofs.lemmas.Bool.{eq-eqb, eqb-true}
 pub use Rattle.std.proofs.lemmas.List.{take_all}
-pub use Rattle.std.specs.List.{fold, list_any, sum_by}
+pub use Rattle.std.specs.List.{All, fold, list_any, sum_by}
 pub use Rattle.std.specs.Prelude.{◌&&◌, ◌==◌, ◌||◌, not, option_map}
 pub use Rattle.std.specs.Str.{bytes_eq}
-pub use Rattle.krb_audit.specs.EntryCriteria.{AreVersions, entry_text}
-pub use Rattle.krb_audit.specs.KvnoMarks.{AreNewest, selects_row}
+pub use Rattle.krb_audit.specs.KvnoMarks.{AreNewest, AreVersions, selects_row}
 pub use Rattle.krb_audit.specs.Names.{kt_name}
 pub use Rattle.krb_audit.specs.Newest.{is_old}
 pub use Rattle.krb_audit.specs.Report.{holes}
-pub use Rattle.krb_audit.specs.Rows.{AreRows, first_number, AreNumbered, stamp_of}
+pub use Rattle.krb_audit.specs.Rows.{AreRows, HasPlace, first_number, AreNumbered, stamp_of}
 pub use Rattle.krb_audit.specs.Selection.{has_selected_kvno}
 pub use Rattle.krb_audit.specs.declared.rows.Row.{Row}
 pub use Rattle.krb_audit.specs.declared.stamp.Stamp.{Stamp}

@@ -1,5 +1,5 @@
 -- The number of the first entry of a name.
-use Rattle.krb_audit.proofs.Cited.{◌≡◌, ℕ, suc, ◌+◌, ◌<◌, ◌≤◌, Bool, true, false, cond, List, [], ◌∷◌, length, Option, Some, refl, sym, ap, ◌∙◌, arith, eq-eqb, eqb-true, Parts, have_same_name, some_is, PlacedEntry, first_number}
+use Rattle.krb_audit.proofs.Cited.{◌≡◌, ℕ, ◌+◌, ◌≤◌, Bool, true, false, cond, List, [], ◌∷◌, Option, Some, refl, sym, ap, ◌∙◌, arith, eq-eqb, eqb-true, Parts, have_same_name, some_is, PlacedEntry, first_number}
 use Rattle.std.proofs.Common.{◌==◌}
 use Rattle.std.specs.Cmp.{IsEquivalence}
 use Rattle.std.proofs.lemmas.Cmp.{on_equiv, and_equiv, nat_list_eq_equiv, lists_equiv}
@@ -15,14 +15,14 @@ first_alike n p q (x ∷ xs) e =
     ap (λ (b : Bool). cond b (Some n) (first_from (n + 1) p xs)) (same_equiv.congr p q x.1.principal e)
     ∙ ap (λ (o : Option ℕ). cond (have_same_name q x.1.principal) (Some n) o) (first_alike (n + 1) p q xs e)
 
-within_by : (b : Bool) (n i len : ℕ) (others : Option ℕ) → cond b (Some n) others ≡ Some i → (others ≡ Some i → (n + 1 ≤ i) × (i < n + 1 + len)) → (n ≤ i) × (i < n + suc len)
-within_by true n i len others e ih = let is : n ≡ i = some_is n i e in (omega arith, omega arith)
-within_by false n i len others e ih = let h = ih e in (omega (arith, h.0), omega (arith, h.1))
+ge_by : (b : Bool) (n i : ℕ) (others : Option ℕ) → cond b (Some n) others ≡ Some i → (others ≡ Some i → n + 1 ≤ i) → n ≤ i
+ge_by true n i others e ih = let is : n ≡ i = some_is n i e in omega arith
+ge_by false n i others e ih = let lt = ih e in omega (arith, lt)
 
--- its number is one of the entries' numbers
-pub first_within : (n : ℕ) (p : Parts) (xs : List PlacedEntry) (i : ℕ) → first_from n p xs ≡ Some i → (n ≤ i) × (i < n + length xs)
-first_within n p [] i e = absurd cc
-first_within n p (x ∷ xs) i e = within_by (have_same_name p x.1.principal) n i (length xs) (first_from (n + 1) p xs) e (λ h. first_within (n + 1) p xs i h)
+-- entries are numbered from n on
+first_ge : (n : ℕ) (p : Parts) (xs : List PlacedEntry) (i : ℕ) → first_from n p xs ≡ Some i → n ≤ i
+first_ge n p [] i e = absurd cc
+first_ge n p (x ∷ xs) i e = ge_by (have_same_name p x.1.principal) n i (first_from (n + 1) p xs) e (λ h. first_ge (n + 1) p xs i h)
 
 number_by : (a b : Bool) (n i : ℕ) (p q : Parts) (op oq : Option ℕ) → cond a (Some n) op ≡ Some i → cond b (Some n) oq ≡ Some i → (a ≡ true → b ≡ true → have_same_name p q ≡ true) → (op ≡ Some i → n + 1 ≤ i) → (oq ≡ Some i → n + 1 ≤ i) → (op ≡ Some i → oq ≡ Some i → have_same_name p q ≡ true) → have_same_name p q ≡ true
 number_by true true n i p q op oq ea eb both lp lq ih = both refl refl
@@ -35,8 +35,8 @@ first_number_is : (n : ℕ) (p q : Parts) (xs : List PlacedEntry) (i : ℕ) → 
 first_number_is n p q [] i ep eq = absurd cc
 first_number_is n p q (x ∷ xs) i ep eq = number_by (have_same_name p x.1.principal) (have_same_name q x.1.principal) n i p q (first_from (n + 1) p xs) (first_from (n + 1) q xs) ep eq
     (λ a b. same_equiv.congr p x.1.principal q a ∙ same_equiv.symm x.1.principal q ∙ b)
-    (λ h. (first_within (n + 1) p xs i h).0)
-    (λ h. (first_within (n + 1) q xs i h).0)
+    (λ h. first_ge (n + 1) p xs i h)
+    (λ h. first_ge (n + 1) q xs i h)
     (λ hp hq. first_number_is (n + 1) p q xs i hp hq)
 
 pub same_bool : (a b : Bool) → (a ≡ true → b ≡ true) → (b ≡ true → a ≡ true) → a ≡ b

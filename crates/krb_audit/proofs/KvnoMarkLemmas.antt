@@ -1,5 +1,5 @@
 -- Which entries have a selected kvno, from the rows.
-use Rattle.krb_audit.proofs.Cited.{◌≡◌, ℕ, Bool, true, false, cond, List, [], ◌∷◌, get_or, map, replicate, length, Option, refl, ap, sym, ◌∙◌, ◌&&◌, ◌||◌, ◌==◌, not, fold, list_any, Parts, have_same_name, PlacedEntry, Row, Stamp, is_old, AreRows, has_selected_kvno, AreNewest, selects_row}
+use Rattle.krb_audit.proofs.Cited.{◌≡◌, ℕ, Bool, true, false, cond, List, [], ◌∷◌, get_or, map, replicate, Option, refl, ap, sym, ◌∙◌, ◌&&◌, ◌||◌, ◌==◌, not, fold, list_any, All, Parts, have_same_name, PlacedEntry, Row, Stamp, is_old, AreRows, HasPlace, has_selected_kvno, AreNewest, selects_row}
 use Rattle.std.proofs.Math.Bool.{or_assoc, or-false}
 use Rattle.krb_audit.specs.declared.selection.SelectedKvno.{SelectedKvno}
 use Rattle.krb_audit.specs.declared.selection.SelectedKvno.TheVariants.{Any, Exactly, Newest, Old, OldFor}
@@ -26,9 +26,9 @@ any_folded young p (x ∷ xs) b =
     ∙ ap (λ (c : Bool). c || list_any (λ y. have_same_name p y.1.principal && young y) xs) (any_by same (young x) b)
     ∙ or_assoc b (same && young x) (list_any (λ y. have_same_name p y.1.principal && young y) xs)
 
-pub are_young : (now seconds : ℕ) (xs : List PlacedEntry) (rows : List Row) (newest : List (Option Stamp)) → AreRows xs xs rows → AreNewest xs newest → AreYoung (OldFor seconds) now xs (fold (marked now seconds newest) (replicate (length rows) false) rows)
-are_young now seconds xs rows newest are stamps p i first =
-    at_name (λ (b : Bool) (r : Row). b || is_young_row now seconds newest r) (λ (b : Bool) (x : PlacedEntry). b || (is_young now seconds x.1 && not (is_old xs x.1))) false xs rows p i are
+pub are_young : (now seconds : ℕ) (xs : List PlacedEntry) (rows : List Row) (len : ℕ) (newest : List (Option Stamp)) → AreRows xs xs rows → All (HasPlace len) rows → AreNewest xs newest → AreYoung (OldFor seconds) now xs (fold (marked now seconds newest) (replicate len false) rows)
+are_young now seconds xs rows len newest are places stamps p i first =
+    at_name (λ (b : Bool) (r : Row). b || is_young_row now seconds newest r) (λ (b : Bool) (x : PlacedEntry). b || (is_young now seconds x.1 && not (is_old xs x.1))) false xs rows len p i are places
     (λ b r x is. ap (λ (s : Stamp). b || (is_young now seconds (record { principal = x.1.principal; timestamp = s.timestamp; version = 0; enctype = 0; key = [] }) && not (is_old_row newest r))) is.stamp
     ∙ ap (λ (old : Bool). b || (is_young now seconds x.1 && not old)) (old_row xs newest r x stamps is)) first
     ∙ any_folded (λ x. is_young now seconds x.1 && not (is_old xs x.1)) p xs false

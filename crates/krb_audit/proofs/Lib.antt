@@ -5,6 +5,7 @@ pub mod Numbering
 pub mod RowLemmas
 pub mod NewestStamps
 pub mod KvnoMarkLemmas
+pub mod SelectedLemmas
 pub mod FirstsLemmas
 pub mod FindingsLemmas
 pub mod Octal

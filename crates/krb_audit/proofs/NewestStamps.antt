@@ -1,26 +1,31 @@
 -- The newest stamps at the numbers of names.
-use Rattle.krb_audit.proofs.Cited.{◌≡◌, ℕ, ◌<◌, Bool, true, false, cond, List, [], ◌∷◌, length, get_or, replicate, Option, Some, None, refl, ap, ◌∙◌, arith, option_map, fold, Parts, have_same_name, EntryParts, PlacedEntry, Row, Stamp, is_old, AreRows, first_number, stamp_of, AreNewest}
-use Rattle.std.proofs.Common.{◌==◌}
+use Rattle.krb_audit.proofs.Cited.{◌≡◌, ℕ, Bool, true, false, cond, List, [], ◌∷◌, get_or, replicate, Option, Some, None, refl, ap, sym, subst, ◌∙◌, arith, option_map, fold, All, Parts, have_same_name, EntryParts, PlacedEntry, Row, Stamp, is_old, AreRows, HasPlace, first_number, stamp_of, AreNewest}
+use Rattle.std.proofs.Common.{◌==◌, inl, inr}
 use Rattle.std.specs.Prelude.{filter}
-use Rattle.std.proofs.lemmas.List.{get_or-replicate, length-replicate}
+use Rattle.std.proofs.lemmas.Bool.{cases_lt}
+use Rattle.std.proofs.lemmas.List.{get_or-replicate, get_or_past, length-replicate}
 use Rattle.krb_audit.specs.Newest.{has_other_version, is_newer, newer, newest, newest_from}
 use Rattle.krb_audit.specs.Rows.{newer_stamp, stamped}
 use Rattle.krb_audit.specs.KvnoMarks.{is_old_row}
-use Rattle.krb_audit.proofs.FirstNumbers.{first_within, number_test, same_equiv}
-use Rattle.krb_audit.proofs.RowLemmas.{IsRow, at_number, fold_rows, row_count, stepped}
+use Rattle.krb_audit.proofs.FirstNumbers.{number_test, same_equiv}
+use Rattle.krb_audit.proofs.RowLemmas.{IsRow, at_number, fold_rows, stepped}
 
 -- the newest stamps with one more row
 abbrev pub renewed : List (Option Stamp) → Row → List (Option Stamp)
 renewed = stepped (λ (s : Option Stamp) (r : Row). newer_stamp s r.stamp) None
 
+get_or_none : {V : Type 0} (n i : ℕ) (none : V) → get_or (replicate n none) i none ≡ none
+get_or_none n i none = elim (cases_lt i n) [
+  | inl lt ↦ get_or-replicate n i none none lt
+  | inr le ↦ get_or_past (replicate n none) i none (omega (arith, le, length-replicate n none))
+]
+
 -- a value for a name, after the steps of the rows of its entries
-pub at_name : {V : Type 0} (step : V → Row → V) (g : V → PlacedEntry → V) (none : V) (xs : List PlacedEntry) (rows : List Row) (p : Parts) (i : ℕ) → AreRows xs xs rows → ((v : V) (r : Row) (x : PlacedEntry) → IsRow xs x r → step v r ≡ g v x) → first_number p xs ≡ Some i
-    → get_or (fold (stepped step none) (replicate (length rows) none) rows) i none ≡ fold (λ v x. cond (have_same_name p x.1.principal) (g v x) v) none xs
-at_name step g none xs rows p i are each first =
-    let within = (first_within 0 p xs i first).1 in
-    let lt : i < length rows = omega (arith, within, row_count xs xs rows are) in
-    at_number step none i rows (replicate (length rows) none) (omega (arith, lt, length-replicate (length rows) none))
-    ∙ ap (λ w. fold (λ v r. cond (r.first == i) (step v r) v) w rows) (get_or-replicate (length rows) i none none lt)
+pub at_name : {V : Type 0} (step : V → Row → V) (g : V → PlacedEntry → V) (none : V) (xs : List PlacedEntry) (rows : List Row) (len : ℕ) (p : Parts) (i : ℕ) → AreRows xs xs rows → All (HasPlace len) rows → ((v : V) (r : Row) (x : PlacedEntry) → IsRow xs x r → step v r ≡ g v x) → first_number p xs ≡ Some i
+    → get_or (fold (stepped step none) (replicate len none) rows) i none ≡ fold (λ v x. cond (have_same_name p x.1.principal) (g v x) v) none xs
+at_name step g none xs rows len p i are places each first =
+    at_number step none i rows (replicate len none) (subst (λ (n : ℕ). All (HasPlace n) rows) (sym (length-replicate len none)) places)
+    ∙ ap (λ w. fold (λ v r. cond (r.first == i) (step v r) v) w rows) (get_or_none len i none)
     ∙ fold_rows (λ v r. cond (r.first == i) (step v r) v) (λ v x. cond (have_same_name p x.1.principal) (g v x) v) xs
     (λ v r x is. ap (λ (b : Bool). cond b (step v r) v) (number_test x.1.principal p xs r.first i is.first first ∙ same_equiv.symm x.1.principal p) ∙ ap (λ w. cond (have_same_name p x.1.principal) w v) (each v r x is))
     none xs rows are
@@ -43,9 +48,9 @@ newest_folded p [] o = refl
 newest_folded p (x ∷ xs) o = newest_by (have_same_name p x.1.principal) o x (filter (λ y. have_same_name p y.1.principal) xs)
     (λ t. fold (λ (s : Option Stamp) (y : PlacedEntry). cond (have_same_name p y.1.principal) (newer_stamp s (stamp_of y.1)) s) t xs) (λ o'. newest_folded p xs o')
 
-pub are_newest : (xs : List PlacedEntry) (rows : List Row) → AreRows xs xs rows → AreNewest xs (fold renewed (replicate (length rows) None) rows)
-are_newest xs rows are p i first =
-    at_name (λ (s : Option Stamp) (r : Row). newer_stamp s r.stamp) (λ (s : Option Stamp) (x : PlacedEntry). newer_stamp s (stamp_of x.1)) None xs rows p i are (λ s r x is. ap (newer_stamp s) is.stamp) first
+pub are_newest : (xs : List PlacedEntry) (rows : List Row) (len : ℕ) → AreRows xs xs rows → All (HasPlace len) rows → AreNewest xs (fold renewed (replicate len None) rows)
+are_newest xs rows len are places p i first =
+    at_name (λ (s : Option Stamp) (r : Row). newer_stamp s r.stamp) (λ (s : Option Stamp) (x : PlacedEntry). newer_stamp s (stamp_of x.1)) None xs rows len p i are places (λ s r x is. ap (newer_stamp s) is.stamp) first
     ∙ newest_folded p xs None
 
 -- ---- old rows

@@ -1,7 +1,8 @@
 -- Rows, the entries that they are of, and lists with something at the number of each name.
-use Rattle.krb_audit.proofs.Cited.{◌≡◌, ℕ, ◌<◌, Bool, true, false, cond, List, [], ◌∷◌, length, map, get_or, Option, Some, refl, ap, sym, ◌∙◌, arith, fold, eqb-true, eq-eqb, PlacedEntry, Row, Stamp, AreRows, first_number, stamp_of}
+use Rattle.krb_audit.proofs.Cited.{◌≡◌, ℕ, Bool, true, false, cond, List, [], ◌∷◌, length, map, get_or, Option, Some, refl, ap, sym, ◌∙◌, arith, fold, subst, eqb-true, eq-eqb, All, PlacedEntry, Row, Stamp, AreRows, HasPlace, first_number, stamp_of}
 use Rattle.std.proofs.Common.{◌==◌, set, drop}
 use Rattle.std.proofs.lemmas.List.{get_or-set_same, get_or-set_other, length-set, length-map}
+use Rattle.std.proofs.lemmas.List.Elements.{All-head, All-tail}
 use Rattle.krb_audit.specs.Rows.{row_in, shown}
 
 -- a row is that of an entry among all
@@ -43,17 +44,17 @@ fold_rows f g all each v (x ∷ xs) (r ∷ rs) h =
 abbrev pub stepped : {V : Type 0} → (V → Row → V) → V → List V → Row → List V
 stepped step none t r = set t r.first (step (get_or t r.first none) r)
 
-at_step : {V : Type 0} (step : V → Row → V) (none : V) (i : ℕ) (r : Row) (t : List V) (b : Bool) → (r.first == i) ≡ b → i < length t → get_or (stepped step none t r) i none ≡ cond b (step (get_or t i none) r) (get_or t i none)
+at_step : {V : Type 0} (step : V → Row → V) (none : V) (i : ℕ) (r : Row) (t : List V) (b : Bool) → (r.first == i) ≡ b → HasPlace (length t) r → get_or (stepped step none t r) i none ≡ cond b (step (get_or t i none) r) (get_or t i none)
 at_step step none i r t true same lt =
     let is : r.first ≡ i = eqb-true r.first i same in
-    ap (λ (n : ℕ). get_or (set t n (step (get_or t n none) r)) i none) is ∙ get_or-set_same t i (step (get_or t i none) r) none lt
+    ap (λ (n : ℕ). get_or (set t n (step (get_or t n none) r)) i none) is ∙ get_or-set_same t i (step (get_or t i none) r) none (omega (arith, is, lt))
 at_step step none i r t false other lt =
     get_or-set_other t r.first i (step (get_or t r.first none) r) none (λ e. (let clash : true ≡ false = sym (eq-eqb r.first i (sym e)) ∙ other in absurd cc))
 
 -- after some rows, a number has the steps of the rows that have it
-pub at_number : {V : Type 0} (step : V → Row → V) (none : V) (i : ℕ) (rows : List Row) (t : List V) → i < length t → get_or (fold (stepped step none) t rows) i none ≡ fold (λ v r. cond (r.first == i) (step v r) v) (get_or t i none) rows
-at_number step none i [] t lt = refl
-at_number step none i (r ∷ rs) t lt =
+pub at_number : {V : Type 0} (step : V → Row → V) (none : V) (i : ℕ) (rows : List Row) (t : List V) → All (HasPlace (length t)) rows → get_or (fold (stepped step none) t rows) i none ≡ fold (λ v r. cond (r.first == i) (step v r) v) (get_or t i none) rows
+at_number step none i [] t places = refl
+at_number step none i (r ∷ rs) t places =
     let kept = length-set t r.first (step (get_or t r.first none) r) in
-    at_number step none i rs (stepped step none t r) (omega (arith, lt, kept))
-    ∙ ap (λ w. fold (λ v q. cond (q.first == i) (step v q) v) w rs) (at_step step none i r t (r.first == i) refl lt)
+    at_number step none i rs (stepped step none t r) (subst (λ (n : ℕ). All (HasPlace n) rs) (sym kept) (All-tail (HasPlace (length t)) r rs places))
+    ∙ ap (λ w. fold (λ v q. cond (q.first == i) (step v q) v) w rs) (at_step step none i r t (r.first == i) refl (All-head (HasPlace (length t)) r rs places))

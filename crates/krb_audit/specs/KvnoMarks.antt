@@ -1,10 +1,13 @@
 -- What is kept of the names of a keytab's entries, at the numbers of their first entries.
 use Rattle.std.specs.Prelude.{◌≡◌, ℕ, List, map, get_or, Bool, false, true, not, ◌&&◌, ◌==◌, Option, Some, None, option_map}
+use Rattle.std.specs.Vec.Iter.{into_iter_items}
 use Rattle.krb_wire.specs.Spelling.{Parts}
 use Rattle.krb_keytab.specs.Find.{PlacedEntry}
 use Rattle.krb_audit.specs.declared.rows.Row.{Row}
 use Rattle.krb_audit.specs.declared.selection.SelectedKvno.{SelectedKvno}
 use Rattle.krb_audit.specs.declared.selection.SelectedKvno.TheVariants.{Any, Exactly, Newest, Old, OldFor}
+use Rattle.krb_audit.specs.declared.selected_versions.SelectedVersions.{SelectedVersions}
+use Rattle.krb_audit.specs.declared.selected_versions.SelectedVersions.TheVariants.{Each, This, Marked}
 use Rattle.krb_audit.specs.declared.stamp.Stamp.{Stamp}
 use Rattle.krb_audit.specs.Newest.{has_other_version}
 use Rattle.krb_audit.specs.Rows.{first_number, newest_stamp, stamped}
@@ -38,3 +41,9 @@ selects_row (OldFor seconds) newest young r = is_old_row newest r && not (get_or
 -- for each of some entries, whether its kvno is selected
 abbrev pub AreMarks : SelectedKvno → ℕ → List PlacedEntry → List PlacedEntry → List Bool → Type 0
 AreMarks kvno now all xs marks = marks ≡ map (λ x. has_selected_kvno kvno now all x.1) xs
+
+-- the prepared kvnos are the selected ones, for a pass over the entries `rest` among all
+abbrev pub AreVersions : {A : Type 0} → SelectedKvno → ℕ → List PlacedEntry → List PlacedEntry → SelectedVersions A → Type 0
+AreVersions kvno now all rest Each = kvno ≡ Any
+AreVersions kvno now all rest (This version) = kvno ≡ Exactly version
+AreVersions kvno now all rest (Marked marks) = AreMarks kvno now all rest (into_iter_items marks)

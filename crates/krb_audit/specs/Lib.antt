@@ -10,9 +10,5 @@ pub mod Names
 pub mod Hash
 pub mod Rows
 pub mod KvnoMarks
-pub mod EntryText
-pub mod EntryCriteria
-pub mod TicketText
-pub mod TicketCriteria
 pub mod Firsts
 pub mod Before

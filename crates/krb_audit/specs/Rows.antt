@@ -1,5 +1,5 @@
 -- The entries of a keytab with their names numbered.
-use Rattle.std.specs.Prelude.{◌≡◌, ℕ, List, [], ◌++◌, length, map, Option, Some, option_map}
+use Rattle.std.specs.Prelude.{◌≡◌, ◌<◌, ℕ, List, [], ◌++◌, length, map, Option, Some, option_map}
 use Rattle.std.specs.BTreeMap.{get_by}
 use Rattle.std.specs.Cmp.Lexicographic.{slice_cmp}
 use Rattle.std.specs.List.{position_from}
@@ -54,6 +54,10 @@ row_in all x = (first_number x.1.principal all, stamp_of x.1)
 -- the rows are those of these entries
 abbrev pub AreRows : List PlacedEntry → List PlacedEntry → List Row → Type 0
 AreRows all xs rows = map shown rows ≡ map (row_in all) xs
+
+-- a list of that length has a place at the number of a row
+abbrev pub HasPlace : ℕ → Row → Type 0
+HasPlace len r = r.first < len
 
 -- ---- in a map
 

@@ -2,9 +2,8 @@
 use Rattle.std.specs.Prelude.{◌≡◌, ℕ, ◌+◌, List, [], ◌∷◌, Bool, true, not, ◌&&◌, ◌||◌, ◌==◌, nat_eq, nat_lt, filter, map}
 use Rattle.std.specs.List.{flat_map, list_any}
 use Rattle.std.specs.Str.{bytes_eq}
-use Rattle.krb_wire.specs.declared.principal.Principal.{Principal}
+use Rattle.std.specs.Vec.{vec_items}
 use Rattle.krb_wire.specs.Names.{name_text, have_same_name}
-use Rattle.krb_wire.specs.Reading.{principal_parts}
 use Rattle.krb_wire.specs.Spelling.{Parts}
 use Rattle.krb_keytab.specs.Entry.{EntryParts}
 use Rattle.krb_keytab.specs.Find.{PlacedEntry, placed_entries}
@@ -16,18 +15,10 @@ use Rattle.krb_audit.specs.declared.selection.Selection.{Selection}
 use Rattle.krb_audit.specs.declared.selected.Selected.{Selected}
 use Rattle.krb_audit.specs.Newest.{is_old}
 
--- names as they are printed
-abbrev pub texts_of : {A : Type 0} → List (Principal A) → List (List ℕ)
-texts_of names = map (λ name. name_text (principal_parts name)) names
-
 -- a name prints as one of those texts, if there are any
 abbrev pub has_text : List (List ℕ) → Parts → Bool
 has_text [] p = true
 has_text (text ∷ others) p = list_any (bytes_eq (name_text p)) (text ∷ others)
-
--- a name prints as a selected one, if any are given
-abbrev pub has_selected_name : {A : Type 0} → List (Principal A) → Parts → Bool
-has_selected_name names p = has_text (texts_of names) p
 
 -- an enctype is one of the selected ones, if any are given
 abbrev pub has_selected_enctype : List ℕ → ℕ → Bool
@@ -36,7 +27,7 @@ has_selected_enctype (first ∷ others) enctype = list_any (nat_eq enctype) (fir
 
 -- an entry has the selected name and a selected enctype
 abbrev pub is_named : {A : Type 0} → Selection A → EntryParts → Bool
-is_named s e = has_selected_name s.names.items e.principal && has_selected_enctype s.enctypes.items e.enctype
+is_named s e = has_text (map vec_items s.names.items) e.principal && has_selected_enctype s.enctypes.items e.enctype
 
 -- an entry may be less than so many seconds old: it is, or its time is 0, which says nothing of when
 abbrev pub is_young : ℕ → ℕ → EntryParts → Bool
@@ -71,3 +62,8 @@ pub record Selects {A B : Type 0} (s : Selection A) (now : ℕ) (k : KeytabState
   pub places : selected.places.items ≡ map (λ x. x.0) (selected_in s now k)
   pub text : selected.text.items ≡ flat_map removed_line (selected_in s now k)
   pub is_named : selected.is_named ≡ list_any (λ x. is_named s x.1) (placed_entries k)
+
+-- those entries were added: their places and their lines
+pub record AreAdded {A : Type 0} (selected : Selected A) (xs : List PlacedEntry) : Type 0 where
+  pub places : selected.places.items ≡ map (λ x. x.0) xs
+  pub text : selected.text.items ≡ flat_map removed_line xs

@@ -5,7 +5,7 @@ ghost use Rattle.krb_keytab.specs.Find.{PlacedEntry};
 ghost use Rattle.krb_audit.specs.Rows.{AreRows, newer_stamp};
 ghost use Rattle.krb_audit.specs.KvnoMarks.{AreNewest, is_old_row};
 
-use crate::rows::Row;
+use crate::rows::{Row, numbered_len};
 use crate::stamp::Stamp;
 use krb_wire::NoMemory;
 use std::alloc::Allocator;
@@ -40,8 +40,9 @@ pub fn newest_stamps<A: Allocator + Copy>(
 ) -> Result<Vec<Option<Stamp>, A>, NoMemory>
     ensures { (xs : List PlacedEntry) → AreRows xs xs rows.now → IfOk result (λ newest. AreNewest xs newest.items) }
 {
+    let len = numbered_len(rows);
     let mut newest = Vec::new(alloc);
-    newest.resize(rows.len(), None)?;
+    newest.resize(len, None)?;
     'rows: for row in rows {
         renew(&mut newest, *row);
     }

@@ -1,11 +1,12 @@
 //! The entries of a keytab with their names numbered.
 
 ghost use Rattle.std.specs.Prelude.{◌≡◌, ◌∷◌, List, IfOk, OnOk, Some, unwrap_or};
+ghost use Rattle.std.specs.List.{All};
 ghost use Rattle.std.specs.Vec.Iter.{into_iter_items};
 ghost use Rattle.std.specs.BTreeMap.{get, Updates};
 ghost use Rattle.krb_keytab.specs.Entry.{entry_at};
 ghost use Rattle.krb_keytab.specs.Find.{PlacedEntry, placed_entries};
-ghost use Rattle.krb_audit.specs.Rows.{name_cmp, AreNumbered, AreRows, first_number};
+ghost use Rattle.krb_audit.specs.Rows.{name_cmp, AreNumbered, AreRows, HasPlace, first_number};
 
 use crate::hash::hash_of;
 use crate::names::named_entry;
@@ -82,6 +83,17 @@ pub fn rows_of<A: Allocator + Copy, B: Allocator>(
         }
     }
     Ok(names.rows)
+}
+
+/// Returns the length of a list that has a place at the number of each row.
+pub fn numbered_len(rows: &[Row]) -> usize
+    ensures { All (HasPlace result) rows.now }
+{
+    let mut len = 0;
+    'rows: for row in rows {
+        len = len.max(row.first as usize + 1);
+    }
+    len
 }
 
 /// Returns the number of the name of the next row.

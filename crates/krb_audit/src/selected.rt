@@ -1,12 +1,11 @@
 //! Selects entries of a keytab.
 
-ghost use Rattle.std.specs.Prelude.{◌≡◌, ◌++◌, ◌∷◌, [], if◌then◌else◌, Bool, List, IfOk, OnOk};
+ghost use Rattle.std.specs.Prelude.{◌≡◌, ◌++◌, ◌∷◌, [], if◌then◌else◌, List, IfOk, OnOk};
+ghost use Rattle.std.specs.List.{list_any};
 ghost use Rattle.krb_keytab.specs.Find.{PlacedEntry, placed_entries};
-ghost use Rattle.krb_text.specs.Listing.{removed_line};
-ghost use Rattle.krb_audit.specs.EntryCriteria.{EntriesSoFar};
-ghost use Rattle.krb_audit.specs.Selection.{Selects, selected_in};
+ghost use Rattle.krb_audit.specs.Selection.{Selects, is_named, selected_in};
 
-use crate::entry_criteria::EntryCriteria;
+use crate::entry_criteria::is_named_if_it_matters;
 use crate::selected_versions::SelectedVersions;
 use crate::selection::Selection;
 use krb_keytab::{EntryView, Keytab};
@@ -25,43 +24,86 @@ pub struct Selected<A: Allocator> {
     pub is_named: bool,
 }
 
-impl<A: Allocator> Selected<A> {
-    // Adds an entry.
-    fn add(&mut self, place: u32, entry: &EntryView<'_>) -> Result<(), NoMemory>
-        ensures places { OnOk result (self.new.places.items ≡ self.old.places.items ++ place ∷ []) }
-        ensures text { OnOk result (self.new.text.items
-            ≡ self.old.text.items ++ removed_line (place, entry.now)) }
-        ensures named { self.new.is_named ≡ self.old.is_named }
-    {
-        self.places.push(place)?;
-        append_placed(b"removed ", place, entry, &mut self.text)
-    }
+// What takes the selected entries of a keytab, in file order.
+trait Taker<'k> {
+    ghost use Rattle.std.specs.Prelude.{List};
+    ghost use Rattle.krb_keytab.specs.Find.{PlacedEntry};
 
-    // Adds the next entry if it is selected; `has_kvno` says whether its kvno is.
-    fn consider<B: Allocator>(
-        &mut self,
-        criteria: &mut EntryCriteria<'_, B>,
-        has_kvno: bool,
-        place: u32,
-        entry: &EntryView<'_>,
-    ) -> Result<(), NoMemory>
-        ensures kept { criteria.new ≡ criteria.old }
-        ensures selects { (h : PlacedEntry → Bool) (rest all : List PlacedEntry) → h (place, entry.now) ≡ has_kvno
-            → EntriesSoFar criteria.old h ((place, entry.now) ∷ rest) all self.old
-            → OnOk result (EntriesSoFar criteria.old h rest all self.new) }
-    {
-        if self.is_named && !has_kvno {
-            return Ok(());
-        }
-        if !criteria.names(entry)? {
-            return Ok(());
-        }
-        self.is_named = true;
-        if !has_kvno {
-            return Ok(());
-        }
-        self.add(place, entry)
+    /// It has taken these entries.
+    ghost HasTaken: { Self → List PlacedEntry → Type 0 };
+
+    /// Takes one more.
+    fn take(&mut self, place: u32, entry: EntryView<'k>) -> Result<(), NoMemory>
+        ensures { (xs : List PlacedEntry) → HasTaken self.old xs → OnOk result (HasTaken self.new (xs ++ (place, entry.entry) ∷ [])) };
+}
+
+impl<'k, A: Allocator> Taker<'k> for Selected<A> {
+    ghost use Rattle.krb_audit.specs.Selection.{AreAdded};
+
+    ghost HasTaken = { λ selected xs. AreAdded selected xs };
+
+    fn take(&mut self, place: u32, entry: EntryView<'k>) -> Result<(), NoMemory> {
+        self.places.push(place)?;
+        append_placed(b"removed ", place, &entry, &mut self.text)
     }
+}
+
+impl<'k, A: Allocator> Taker<'k> for Vec<(u32, EntryView<'k>), A> {
+    ghost use Rattle.std.specs.Prelude.{◌≡◌};
+
+    ghost HasTaken = { λ entries xs. entries.items ≡ xs };
+
+    fn take(&mut self, place: u32, entry: EntryView<'k>) -> Result<(), NoMemory> {
+        self.push((place, entry))?;
+        Ok(())
+    }
+}
+
+// Hands an entry on if it is selected.
+fn take_if<'k, T: Taker<'k>>(
+    is_selected: bool,
+    place: u32,
+    entry: EntryView<'k>,
+    taker: &mut T,
+) -> Result<(), NoMemory>
+    ensures { (xs : List PlacedEntry) → T.HasTaken taker.old xs
+        → OnOk result (T.HasTaken taker.new (if is_selected then xs ++ (place, entry.entry) ∷ [] else xs)) }
+{
+    if is_selected {
+        return taker.take(place, entry);
+    }
+    Ok(())
+}
+
+// Hands on the entries of a keytab that are selected. Returns whether some entry has the selected name and enctype,
+// whatever its kvno. Takes time n log n in the bytes of the keytab.
+fn take_selected<'k, A: Allocator + Copy, B: Allocator, T: Taker<'k>>(
+    alloc: A,
+    keytab: &'k Keytab<A>,
+    selection: &Selection<B>,
+    now: u32,
+    taker: &mut T,
+) -> Result<bool, NoMemory>
+    requires { T.HasTaken taker.old [] }
+    ensures taken { OnOk result (T.HasTaken taker.new (selected_in selection.now now keytab.now.state)) }
+    ensures named { IfOk result (λ b. b ≡ list_any (λ x. is_named selection.now x.1) (placed_entries keytab.now.state)) }
+{
+    let mut printed = Vec::new(alloc);
+    let mut versions = SelectedVersions::of(alloc, keytab, selection.kvno, now)?;
+    let mut is_any_named = false;
+    'entries: for (place, entry) in keytab.entries() {
+        let has_kvno = versions.next(entry.kvno());
+        let is_named = is_named_if_it_matters(
+            is_any_named,
+            has_kvno,
+            selection,
+            &entry,
+            &mut printed,
+        )?;
+        is_any_named |= is_named;
+        take_if(is_named & has_kvno, place, entry, taker)?;
+    }
+    Ok(is_any_named)
 }
 
 /// Returns the entries of a keytab that `selection` selects at the time `now`, in seconds, which matters for `OldFor`
@@ -74,34 +116,13 @@ pub fn select<A: Allocator + Copy, B: Allocator>(
 ) -> Result<Selected<A>, NoMemory>
     ensures { IfOk result (Selects selection.now now keytab.now.state) }
 {
-    let mut criteria = EntryCriteria::of(alloc, selection)?;
-    let mut versions = SelectedVersions::of(alloc, keytab, selection.kvno, now)?;
     let mut selected = Selected {
         places: Vec::new(alloc),
         text: Vec::new(alloc),
         is_named: false,
     };
-    'entries: for (place, entry) in keytab.entries() {
-        let has_kvno = versions.next(entry.kvno());
-        selected.consider(&mut criteria, has_kvno, place, &entry)?;
-    }
+    selected.is_named = take_selected(alloc, keytab, selection, now, &mut selected)?;
     Ok(selected)
-}
-
-// Adds an entry if it is selected.
-fn add_if<'k, A: Allocator>(
-    is_selected: bool,
-    place: u32,
-    entry: EntryView<'k>,
-    entries: &mut Vec<(u32, EntryView<'k>), A>,
-) -> Result<(), NoMemory>
-    ensures { (rest : List PlacedEntry) → OnOk result (entries.new.items ++ rest
-        ≡ entries.old.items ++ (if is_selected then (place, entry.entry) ∷ rest else rest)) }
-{
-    if is_selected {
-        entries.push((place, entry))?;
-    }
-    Ok(())
 }
 
 /// Returns the entries of a keytab that `selection` selects, with the places of their records. Takes time n log n in
@@ -113,13 +134,7 @@ pub fn selected_entries<'k, A: Allocator + Copy, B: Allocator>(
 ) -> Result<Vec<(u32, EntryView<'k>), A>, NoMemory>
     ensures { IfOk result (λ entries. entries.items ≡ selected_in selection.now 0 keytab.now.state) }
 {
-    let mut criteria = EntryCriteria::of(alloc, selection)?;
-    let mut versions = SelectedVersions::of(alloc, keytab, selection.kvno, 0)?;
     let mut entries = Vec::new(alloc);
-    'entries: for (place, entry) in keytab.entries() {
-        let has_kvno = versions.next(entry.kvno());
-        let is_selected = criteria.selects(has_kvno, &entry)?;
-        add_if(is_selected, place, entry, &mut entries)?;
-    }
+    let _ = take_selected(alloc, keytab, selection, 0, &mut entries)?;
     Ok(entries)
 }

@@ -3,7 +3,7 @@
 ghost use Rattle.std.specs.Prelude.{◌≡◌, ◌∷◌, ℕ, List, IfOk};
 ghost use Rattle.krb_keytab.specs.Find.{PlacedEntry, placed_entries};
 ghost use Rattle.krb_audit.specs.declared.selection.SelectedKvno.{SelectedKvno};
-ghost use Rattle.krb_audit.specs.EntryCriteria.{AreVersions};
+ghost use Rattle.krb_audit.specs.KvnoMarks.{AreVersions};
 ghost use Rattle.krb_audit.specs.Selection.{has_selected_kvno};
 
 use crate::kvno_marks::{marks_of, next_mark};

@@ -1,6 +1,5 @@
 //! Selections of entries.
 
-use krb_wire::Principal;
 use std::alloc::Allocator;
 
 /// Which kvnos are selected.
@@ -19,8 +18,8 @@ pub enum SelectedKvno {
 /// Which entries are selected: those that meet all criteria given.
 #[derive(Drop)]
 pub struct Selection<A: Allocator> {
-    /// The names, compared as they are printed; an empty list selects any.
-    pub names: Vec<Principal<A>, A>,
+    /// The names as they are printed; an empty list selects any.
+    pub names: Vec<Vec<u8, A>, A>,
     pub kvno: SelectedKvno,
     /// The enctypes; an empty list selects any.
     pub enctypes: Vec<u16, A>,

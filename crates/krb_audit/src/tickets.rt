@@ -1,14 +1,14 @@
 //! Selects tickets of a cache.
 
-ghost use Rattle.std.specs.Prelude.{◌≡◌, ◌++◌, ◌∷◌, [], List, IfOk, OnOk};
+ghost use Rattle.std.specs.Prelude.{◌≡◌, ◌++◌, ◌∷◌, [], List, IfOk, OnOk, map};
+ghost use Rattle.std.specs.Vec.{vec_items};
 ghost use Rattle.krb_ccache.specs.Store.{PlacedCredential};
-ghost use Rattle.krb_audit.specs.TicketCriteria.{SelectsSoFar};
-ghost use Rattle.krb_audit.specs.Tickets.{SelectsTickets, removed_ticket_line};
+ghost use Rattle.krb_audit.specs.Tickets.{SelectsSoFar, SelectsTickets, removed_ticket_line};
 
-use crate::ticket_criteria::TicketCriteria;
+use crate::ticket_criteria::{has_ended_by, names_ticket};
 use krb_ccache::{Ccache, CredView};
 use krb_text::{append_byte, append_labelled};
-use krb_wire::{NoMemory, Principal, write_name};
+use krb_wire::{NoMemory, write_name};
 use std::alloc::Allocator;
 
 // Appends the line that reports the removal of the ticket at `place`.
@@ -51,20 +51,21 @@ impl<A: Allocator> SelectedTickets<A> {
     // Adds the next credential if it is a selected ticket.
     fn consider<B: Allocator>(
         &mut self,
-        criteria: &mut TicketCriteria<B>,
+        servers: &[Vec<u8, B>],
+        ended_by: Option<u32>,
+        printed: &mut Vec<u8, A>,
         place: u32,
         credential: &CredView<'_>,
     ) -> Result<(), NoMemory>
-        ensures kept { criteria.new ≡ criteria.old }
-        ensures selects { (rest all : List PlacedCredential)
-            → SelectsSoFar criteria.old ((place, credential.now) ∷ rest) all self.old
-            → OnOk result (SelectsSoFar criteria.old rest all self.new) }
+        ensures { (rest all : List PlacedCredential)
+            → SelectsSoFar (map vec_items servers.now) ended_by ((place, credential.now) ∷ rest) all self.old
+            → OnOk result (SelectsSoFar (map vec_items servers.now) ended_by rest all self.new) }
     {
-        if !criteria.names(credential)? {
+        if !names_ticket(servers, credential, printed)? {
             return Ok(());
         }
         self.is_named = true;
-        if !criteria.has_ended(credential) {
+        if !has_ended_by(ended_by, credential) {
             return Ok(());
         }
         self.add(place, credential)
@@ -76,19 +77,19 @@ impl<A: Allocator> SelectedTickets<A> {
 pub fn select_tickets<A: Allocator + Copy, B: Allocator>(
     alloc: A,
     cache: &Ccache<A>,
-    servers: &[Principal<B>],
+    servers: &[Vec<u8, B>],
     ended_by: Option<u32>,
 ) -> Result<SelectedTickets<A>, NoMemory>
-    ensures { IfOk result (SelectsTickets servers.now ended_by cache.now.state) }
+    ensures { IfOk result (SelectsTickets (map vec_items servers.now) ended_by cache.now.state) }
 {
-    let mut criteria = TicketCriteria::of(alloc, servers, ended_by)?;
+    let mut printed = Vec::new(alloc);
     let mut selected = SelectedTickets {
         places: Vec::new(alloc),
         text: Vec::new(alloc),
         is_named: false,
     };
     'credentials: for (place, credential) in cache.credentials() {
-        selected.consider(&mut criteria, place, &credential)?;
+        selected.consider(servers, ended_by, &mut printed, place, &credential)?;
     }
     Ok(selected)
 }

@@ -8,7 +8,7 @@ ghost use Rattle.krb_audit.specs.Selection.{is_young};
 ghost use Rattle.krb_audit.specs.KvnoMarks.{AreNewest, AreYoung, is_young_row};
 
 use crate::newest::is_old;
-use crate::rows::Row;
+use crate::rows::{Row, numbered_len};
 use crate::selection::SelectedKvno;
 use crate::stamp::Stamp;
 use krb_wire::NoMemory;
@@ -51,8 +51,9 @@ fn young_for<A: Allocator + Copy>(
     ensures { (xs : List PlacedEntry) → AreRows xs xs rows.now → AreNewest xs newest.now
         → IfOk result (λ young. AreYoung (OldFor seconds) now xs young.items) }
 {
+    let len = numbered_len(rows);
     let mut young = Vec::new(alloc);
-    young.resize(rows.len(), false)?;
+    young.resize(len, false)?;
     'rows: for row in rows {
         let is_young = is_young_newest(now, seconds, newest, *row);
         mark_if(is_young, &mut young, *row);

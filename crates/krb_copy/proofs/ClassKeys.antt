@@ -1,6 +1,6 @@
 -- Entries are twins iff their keys in a map compare equal.
 use Rattle.krb_copy.proofs.Cited.{◌≡◌, ℕ, ◌+◌, ◌<◌, Bool, true, false, cond, List, [], ◌∷◌, ◌++◌, length, None, Ok, refl, sym, ap, ◌∙◌, arith, ◌&&◌, ◌==◌, map, bytes_eq, name_text, EntryParts, are_twins, ClassKey}
-use Rattle.std.proofs.Common.{◌*◌}
+use Rattle.std.proofs.Common.{◌*◌, ◌/◌}
 use Rattle.std.specs.Prelude.{Result, nat_lt}
 use Rattle.std.specs.List.{join_with_byte}
 use Rattle.std.specs.declared.cmp.Ordering.{Ordering}
@@ -15,7 +15,8 @@ use Rattle.krb_wire.specs.NameOf.{name_of}
 use Rattle.krb_wire.proofs.NamesCompared.{same_name_is, and_both, both_and}
 use Rattle.krb_wire.proofs.RoundTrip.{name_of-name_text}
 use Rattle.krb_audit.specs.Hash.{hash_of}
-use Rattle.krb_copy.specs.Classes.{IsClassKey, class_cmp, emptiness}
+use Rattle.krb_audit.proofs.FirstNumbers.{same_bool}
+use Rattle.krb_copy.specs.Classes.{IsClassKey, class_cmp, emptiness, kind_of}
 
 -- ---- names as text
 
@@ -98,10 +99,11 @@ and_false : (b : Bool) → (b && false) ≡ false
 and_false true = refl
 and_false false = refl
 
--- equal texts have equal hashes
-drop_hash : (h k t : Bool) → (t ≡ true → h ≡ true) → ((h && k) && t) ≡ (k && t)
-drop_hash h k true same = ap (λ (b : Bool). (b && k) && true) (same refl)
-drop_hash h k false same = and_false (h && k) ∙ sym (and_false k)
+-- equal texts have equal hashes, which leave the kinds to be compared
+drop_hash : (h g a b : ℕ) (t : Bool) → (t ≡ true → h ≡ g) → ((h + a == g + b) && t) ≡ ((a == b) && t)
+drop_hash h g a b true same = let is = same refl in
+    ap (λ (e : Bool). e && true) (same_bool (h + a == g + b) (a == b) (λ e. let sums = same_number (h + a) (g + b) e in number_same a b (omega (arith, is, sums))) (λ e. let kinds = same_number a b e in number_same (h + a) (g + b) (omega (arith, is, kinds))))
+drop_hash h g a b false same = and_false (h + a == g + b) ∙ sym (and_false (a == b))
 
 both_by : (a b c : Bool) → (a ≡ true → (b ≡ true) × (c ≡ true)) → (b ≡ true → c ≡ true → a ≡ true) → a ≡ (b && c)
 both_by true b c down up = sym (both_and b c (down refl).0 (down refl).1)
@@ -127,14 +129,12 @@ classes_agree x y k l of_x of_y =
     let q = y.principal in
     let same_kind : Bool = x.version == y.version && x.enctype == y.enctype in
     let same_text : Bool = bytes_eq (name_text p) (name_text q) in
-    then_is _ (slice_cmp nat_cmp k.2.now l.2.now)
-    ∙ ap (λ (b : Bool). b && is_eq (slice_cmp nat_cmp k.2.now l.2.now)) (then_is (nat_cmp k.0 l.0) (nat_cmp k.1 l.1))
-    ∙ ap (λ (b : Bool). (is_eq (nat_cmp k.0 l.0) && is_eq (nat_cmp k.1 l.1)) && b) (is_eq-slice_cmp k.2.now l.2.now)
-    ∙ ap (λ (b : Bool). (b && is_eq (nat_cmp k.1 l.1)) && bytes_eq k.2.now l.2.now) (nat_is k.0 l.0)
-    ∙ ap (λ (b : Bool). ((k.0 == l.0) && b) && bytes_eq k.2.now l.2.now) (nat_is k.1 l.1)
-    ∙ rw (of_x.hash, of_x.kind, of_x.name, of_y.hash, of_y.kind, of_y.name)
-    (drop_hash (hash_of (name_text p) == hash_of (name_text q)) ((x.version * 65536 + x.enctype) * 2 + emptiness p == (y.version * 65536 + y.enctype) * 2 + emptiness q) same_text
-    (λ same. number_same _ _ (ap hash_of ((bytes_eq-Decides (name_text p) (name_text q)).0 same)))
+    then_is (nat_cmp k.0 l.0) (slice_cmp nat_cmp k.1.now l.1.now)
+    ∙ ap (λ (b : Bool). b && is_eq (slice_cmp nat_cmp k.1.now l.1.now)) (nat_is k.0 l.0)
+    ∙ ap (λ (b : Bool). (k.0 == l.0) && b) (is_eq-slice_cmp k.1.now l.1.now)
+    ∙ rw (of_x.number, of_x.name, of_y.number, of_y.name)
+    (drop_hash (hash_of (name_text p) / 32768) (hash_of (name_text q) / 32768) (kind_of x) (kind_of y) same_text
+    (λ same. ap (λ (t : List ℕ). hash_of t / 32768) ((bytes_eq-Decides (name_text p) (name_text q)).0 same))
     ∙ ap (λ (b : Bool). b && same_text) (kinds_agree x.version x.enctype y.version y.enctype (emptiness p) (emptiness q) of_x.small of_y.small (bit_small p.components) (bit_small q.components))
     ∙ regroup same_kind (emptiness p == emptiness q) same_text
     ∙ ap (λ (b : Bool). b && same_kind) (names_agree p q))

@@ -1,5 +1,5 @@
 -- What the keytab has of each class of twins during a run.
-use Rattle.std.specs.Prelude.{◌≡◌, ℕ, ◌+◌, ◌*◌, ◌<◌, List, [], ◌∷◌, length, map, Bool, true, false, ◌==◌, ◌&&◌, not, Option, Some, None, if◌then◌else◌}
+use Rattle.std.specs.Prelude.{◌≡◌, ℕ, ◌+◌, ◌*◌, ◌/◌, ◌<◌, List, [], ◌∷◌, length, map, Bool, true, false, ◌==◌, ◌&&◌, not, Option, Some, None, if◌then◌else◌}
 use Rattle.std.specs.List.{list_any}
 use Rattle.std.specs.Str.{bytes_eq}
 use Rattle.std.specs.declared.cmp.Ordering.{Ordering}
@@ -58,24 +58,27 @@ HaveClass before held (Some class) = IsClass before held class
 
 -- ---- all classes
 
--- what twins have in common: a hash of the name's text; a version, an enctype of 16 bits and whether the name has no components, as one number; and the text
+-- a number, and the text of a name
 abbrev pub ClassKey : Type 0
-ClassKey = ℕ × ℕ × Bor (List ℕ)
+ClassKey = ℕ × Bor (List ℕ)
 
 -- 1 if a name has no components
 abbrev pub emptiness : Parts → ℕ
 emptiness p = if length p.components == 0 then 1 else 0
 
--- that of an entry
+-- an entry's version, its enctype of 16 bits, and whether its name has no components, as one number
+abbrev pub kind_of : EntryParts → ℕ
+kind_of x = (x.version * 65536 + x.enctype) * 2 + emptiness x.principal
+
+-- it is that of an entry: the number is a hash of the text and the kind
 pub record IsClassKey (x : EntryParts) (k : ClassKey) : Type 0 where
-  pub hash : k.0 ≡ hash_of (name_text x.principal)
-  pub kind : k.1 ≡ (x.version * 65536 + x.enctype) * 2 + emptiness x.principal
+  pub number : k.0 ≡ hash_of (name_text x.principal) / 32768 + kind_of x
   pub small : x.enctype < 65536
-  pub name : k.2.now ≡ name_text x.principal
+  pub name : k.1.now ≡ name_text x.principal
 
 -- their order
 abbrev pub class_cmp : ClassKey → ClassKey → Ordering
-class_cmp k l = ordering_then (ordering_then (nat_cmp k.0 l.0) (nat_cmp k.1 l.1)) (slice_cmp nat_cmp k.2.now l.2.now)
+class_cmp k l = ordering_then (nat_cmp k.0 l.0) (slice_cmp nat_cmp k.1.now l.1.now)
 
 -- the twins of each entry have their class, after these were asked for
 abbrev pub AreClasses : {A : Type 0} → List EntryParts → List Held → BTreeMap ClassKey (Class A) → Type 0

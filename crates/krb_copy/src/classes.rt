@@ -16,9 +16,10 @@ use krb_wire::{Name, NoMemory};
 use std::alloc::Allocator;
 use std::collections::BTreeMap;
 
-/// What twins have in common: a hash of the name's text, which is cheap to compare; a version, an enctype and whether
-/// the name has no components, as one number; and the text. A name without components prints as one with an empty one.
-pub type ClassKey<'t> = (u64, u64, &'t [u8]);
+/// What twins have in common: a number, which is cheap to compare, and the text of their name. Of entries with one such
+/// text, those with the same number have the same version and enctype, and both or neither have a name without components,
+/// which prints as one with an empty component.
+pub type ClassKey<'t> = (u64, &'t [u8]);
 
 /// Returns that of an entry, by the text of its name.
 pub fn class_key<'t>(name: &'t [u8], entry: &EntryView<'_>) -> ClassKey<'t>
@@ -26,7 +27,9 @@ pub fn class_key<'t>(name: &'t [u8], entry: &EntryView<'_>) -> ClassKey<'t>
 {
     let kind = u64::from(entry.kvno()) * 65_536 + u64::from(entry.enctype());
     let is_empty = entry.principal().count() == 0;
-    (hash_of(name), kind * 2 + u64::from(is_empty), name)
+    // A kind has 49 bits, so the sum fits if the hash has no more.
+    let hash = hash_of(name) / 32_768;
+    (hash + (kind * 2 + u64::from(is_empty)), name)
 }
 
 /// The class of each entry that has twins in the keytab.

@@ -14,6 +14,9 @@ use krb_keytab::{EntryView, Indexed, Keytab};
 use krb_walk::Refusal;
 use std::alloc::Allocator;
 
+// How many bytes a line seldom exceeds.
+const USUAL_LINE: usize = 80;
+
 /// What copying came to.
 #[derive(Drop)]
 pub struct Copied<A: Allocator> {
@@ -98,9 +101,10 @@ fn copy_by<'t, A: Allocator + Copy>(
     let Ok(keytab) = Indexed::of(alloc, to) else {
         return Err(Refusal::NoMemory);
     };
+    let text = Vec::with_capacity(alloc, asked.len().saturating_mul(USUAL_LINE))?;
     let making = Making {
         keytab,
-        text: Vec::new(alloc),
+        text,
         clashes: Vec::new(alloc),
         places: Vec::new(alloc),
     };

@@ -13,27 +13,44 @@ use std::alloc::Allocator;
 // How many bytes a name's text seldom exceeds.
 const USUAL_LEN: usize = 40;
 
+// How many bytes an entry of a keytab takes at least, beside its key and the text of a name with nothing to quote.
+const REST_LEN: usize = 22;
+
 /// Texts, one after another, and their lengths.
 #[derive(Drop)]
 pub struct Texts<A: Allocator> {
     bytes: Vec<u8, A>,
-    lens: Vec<usize, A>,
+    lens: Vec<u32, A>,
 }
 
 /// The texts that are left.
 #[derive(Drop)]
 pub struct TextsLeft<'t> {
     bytes: &'t [u8],
-    lens: &'t [usize],
+    lens: &'t [u32],
 }
 
-// Returns a capacity that most names and keys of a keytab, and names of `count` entries, fit.
+// Returns a capacity that most names and keys of a keytab, and names of `count` entries, fit. It is seldom much more:
+// what is not used is cleared in the end.
 fn usual_capacity<B: Allocator>(keytab: &Keytab<B>, count: usize) -> usize {
-    let len = keytab.image().len();
-    (len - len / 4).saturating_add(count.saturating_mul(USUAL_LEN))
+    let rest = (keytab.cell_count() as usize).saturating_mul(REST_LEN);
+    let own = keytab.image().len().saturating_sub(rest);
+    own.saturating_add(count.saturating_mul(USUAL_LEN))
 }
 
 impl<A: Allocator + Copy> Texts<A> {
+    // Appends the length of a text. No name or key of a keytab has 2 ^ 32 bytes.
+    fn push_len(&mut self, len: usize) -> Result<(), NoMemory>
+        ensures bytes { self.new.bytes ≡ self.old.bytes }
+        ensures lens { OnOk result (self.new.lens.items ≡ self.old.lens.items ++ len ∷ []) }
+    {
+        let Ok(len) = u32::try_from(len) else {
+            return Err(NoMemory);
+        };
+        self.lens.push(len)?;
+        Ok(())
+    }
+
     // Appends the name of an entry.
     fn push_name(&mut self, entry: &EntryView<'_>) -> Result<(), NoMemory>
         ensures { (ts : List (List ℕ)) → AreTexts ts self.old.bytes.items self.old.lens.items
@@ -42,8 +59,7 @@ impl<A: Allocator + Copy> Texts<A> {
         let start = self.bytes.len();
         write_name(entry.principal(), &mut self.bytes)?;
         let end = self.bytes.len();
-        self.lens.push(end - start)?;
-        Ok(())
+        self.push_len(end - start)
     }
 
     // Appends the name and the key of an entry.
@@ -54,8 +70,7 @@ impl<A: Allocator + Copy> Texts<A> {
         self.push_name(entry)?;
         let key = entry.key();
         append(key, &mut self.bytes)?;
-        self.lens.push(key.len())?;
-        Ok(())
+        self.push_len(key.len())
     }
 
     // Appends the names of entries.
@@ -110,7 +125,7 @@ impl<'t> TextsLeft<'t> {
         let Some((len, lens)) = self.lens.split_first() else {
             return &[];
         };
-        let Some((text, bytes)) = self.bytes.split_at_checked(*len) else {
+        let Some((text, bytes)) = self.bytes.split_at_checked(*len as usize) else {
             return &[];
         };
         self.lens = lens;

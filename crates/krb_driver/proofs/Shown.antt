@@ -16,7 +16,7 @@ use Rattle.krb_files.specs.declared.aftermath.Aftermath.{Aftermath}
 use Rattle.krb_driver.specs.declared.reporting.details.Details.{Details}
 use Rattle.krb_driver.specs.Reports.{aftermath_text, words_if}
 use Rattle.krb_driver.specs.ErrorOutput.{ErrorWatch}
-use Rattle.krb_driver.specs.RunErrors.{Ending, aftermath_status, end_status, ending_message, ending_status}
+use Rattle.krb_driver.specs.RunErrors.{Ending, aftermath_status, end_status, ending_status}
 
 -- once an output has failed, nothing more is shown
 module _ (out : Watch) (failed : IsTrue out.failed) where

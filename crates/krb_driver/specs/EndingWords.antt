@@ -32,7 +32,7 @@ use Rattle.krb_driver.specs.declared.reporting.reported.Failure.TheVariants.{Ref
 use Rattle.krb_driver.specs.declared.reporting.reported.Reported.{Reported}
 use Rattle.krb_driver.specs.declared.verdict.Findings.{Findings}
 use Rattle.krb_driver.specs.declared.verdict.Verdict.{Verdict}
-use Rattle.krb_driver.specs.declared.verdict.Verdict.TheVariants.{Well, HiddenFrom, NoEntry, Listed, Replied, Found, NothingToRemove, Clashed}
+use Rattle.krb_driver.specs.declared.verdict.Verdict.TheVariants.{HiddenFrom, NoEntry, Listed, Replied, Found, NothingToRemove, Clashed}
 use Rattle.krb_driver.specs.declared.first_word.FirstWord.{FirstWord}
 use Rattle.krb_driver.specs.FileNames.{shown_name, type_of, untyped}
 use Rattle.krb_driver.specs.FirstWords.{word_text}

@@ -1,5 +1,5 @@
 -- The text that reports the end of a run.
-use Rattle.std.specs.Prelude.{ℕ, List, [], ◌++◌, Bool, true, false, ◌||◌, if◌then◌else◌, Option, None, Some}
+use Rattle.std.specs.Prelude.{ℕ, List, [], ◌++◌, Bool, true, false, ◌||◌, Option, None, Some}
 use Rattle.krb_files.specs.declared.aftermath.Aftermath.{Aftermath}
 use Rattle.krb_files.specs.declared.aftermath.Aftermath.TheVariants.{Restored}
 use Rattle.krb_files.specs.Phrases.{aftermath_phrase}

@@ -1,6 +1,6 @@
 -- What a session leaves and replies: the format after each event, and the text of the replies.
 use Rattle.std.proofs.Common.{◌≡◌, ℕ, Bool, true, false, List, [], ◌∷◌, ◌++◌, refl, sym, ap, subst, ◌∙◌}
-use Rattle.std.specs.Prelude.{if◌then◌else◌, cond, ◌||◌, is_some, nat_lt, length, slice_get, Option, None, Some, Result, Ok, Err, IfOk}
+use Rattle.std.specs.Prelude.{if◌then◌else◌, cond, is_some, nat_lt, length, slice_get, Option, None, Some, Result, Ok, Err, IfOk}
 use Rattle.std.specs.List.{flat_map, list_any}
 use Rattle.krb_wire.specs.declared.format.KtFormat.{KtFormat}
 use Rattle.krb_wire.specs.declared.format.KtFormat.TheVariants.{V2}

@@ -1,16 +1,16 @@
 -- How runs end, when they read the clock, and what hold takes: worked by hand from krbfile(1).
-use Rattle.std.specs.Prelude.{◌≡◌, ◌+◌, ℕ, List, [], codes, true, false, Option, None, Some, Result, Ok, Err}
+use Rattle.std.specs.Prelude.{◌≡◌, ◌+◌, ℕ, [], codes, true, false, None, Some, Ok, Err}
 use Rattle.std.proofs.Common.{refl}
 use Rattle.krb_wire.specs.declared.format.Order.{Order}
 use Rattle.krb_wire.specs.declared.format.Order.TheVariants.{Little}
 use Rattle.krb_walk.specs.declared.fault.FaultKind.TheVariants.{CutLength}
 use Rattle.krb_files.specs.declared.aftermath.Aftermath.TheVariants.{LostChange, Mixed, Restored}
+use Rattle.krb_files.specs.declared.files.Files.{Ghosts}
 use Rattle.krb_files.specs.declared.files.LoadFault.TheVariants.{Missing}
 use Rattle.krb_files.specs.declared.files.SaveFault.TheVariants as save
 use Rattle.krb_files.specs.Bytes.{Watch}
 use Rattle.krb_files.specs.Loading.{most_bytes}
 use Rattle.krb_audit.specs.declared.selection.SelectedKvno.TheVariants.{Old, OldFor}
-use Rattle.krb_driver.specs.declared.error.RunError.{RunError}
 use Rattle.krb_driver.specs.declared.error.RunError.TheVariants as error
 use Rattle.krb_driver.specs.declared.file_name.FileName.{FileName}
 use Rattle.krb_driver.specs.declared.file_name.NameSource.TheVariants.{Word, Default}
@@ -20,6 +20,7 @@ use Rattle.krb_driver.specs.Commands.{always, of_file}
 use Rattle.krb_driver.specs.Effects.{CommandPlan}
 use Rattle.krb_driver.specs.ErrorOutput.{ErrorWatch}
 use Rattle.krb_driver.specs.RunErrors.{end_status, error_status, save_error}
+use Rattle.krb_readers.specs.declared.ktcheck.words.CheckOptions.{CheckOptions}
 use Rattle.krb_readers.specs.Ktcheck.{Round, first_round, is_last}
 use Rattle.krb_editors.specs.declared.ccremove.TicketOptions.{TicketOptions}
 use Rattle.krb_editors.specs.declared.hold.words.HoldKind.TheVariants.{Keytab, Cache}
@@ -56,8 +57,8 @@ unfolding always
 same-for-any-mode plan = refl
 
 -- ktcheck goes on after a file with findings, but not without memory
-no-memory-ends : {F R W E : Type 0} (round : Round F R W E) → is_last (Err error.NoMemory) round ≡ true
-no-memory-ends round = refl
+no-memory-ends : {F R W E : Type 0} (trait : Ghosts F) (o : CheckOptions) (round : Round F R W E) → is_last trait o true (Err error.NoMemory) round ≡ true
+no-memory-ends trait o round = refl
 
 first-status : {F R W E : Type 0} (world : World F R W E) → (first_round world).status ≡ 0
 first-status world = refl

@@ -1,4 +1,4 @@
-use Rattle.krb_audit.proofs.Cited.{None, ap, sym, subst, ◌∙◌, length, replicate, arith, fold, take_all, AreNewest}
+use Rattle.krb_audit.proofs.Cited.{None, ap, sym, subst, ◌∙◌, replicate, arith, fold, take_all, AreNewest}
 use Rattle.krb_audit.proofs.NewestStamps.{are_newest, renewed}
 use Rattle.krb_audit.proofs.newest.newest_stamps.Goals as goal
 
@@ -6,4 +6,4 @@ pub returns : goal.returns
 returns g c = λ xs are.
     let rows = c.args.rows.now in
     let all = take_all c.rows.row-index rows (omega arith) in
-    subst (AreNewest xs) (sym (c.rows.invariant ∙ ap (fold renewed (replicate (length rows) None)) all)) (are_newest xs rows are)
+    subst (AreNewest xs) (sym (c.rows.invariant ∙ ap (fold renewed (replicate c.numbered_len-len.result None)) all)) (are_newest xs rows c.numbered_len-len.result are c.numbered_len-len.ensures)

@@ -1,6 +1,6 @@
-use Rattle.krb_audit.proofs.Cited.{◌≡◌, length, replicate, take, None, fold}
+use Rattle.krb_audit.proofs.Cited.{◌≡◌, replicate, take, None, fold}
 use Rattle.krb_audit.proofs.NewestStamps.{renewed}
 use Rattle.krb_audit.proofs.newest.newest_stamps.Given as goal
 
 abbrev pub invariant-rows : goal.invariant-rows
-invariant-rows g l = l.newest.items ≡ fold renewed (replicate (length l.rows) None) (take l.row-index l.rows)
+invariant-rows g l = l.newest.items ≡ fold renewed (replicate l.len None) (take l.row-index l.rows)

@@ -1,4 +1,4 @@
-use Rattle.krb_audit.proofs.Cited.{false, ap, sym, subst, ◌∙◌, length, replicate, arith, fold, take_all}
+use Rattle.krb_audit.proofs.Cited.{false, ap, sym, subst, ◌∙◌, replicate, arith, fold, take_all}
 use Rattle.krb_audit.specs.declared.selection.SelectedKvno.TheVariants.{OldFor}
 use Rattle.krb_audit.specs.KvnoMarks.{AreYoung}
 use Rattle.krb_audit.proofs.KvnoMarkLemmas.{are_young, marked}
@@ -9,4 +9,4 @@ returns g c = λ xs are newest.
     let rows = c.args.rows.now in
     let marks = marked c.args.now c.args.seconds c.args.newest.now in
     let all = take_all c.rows.row-index rows (omega arith) in
-    subst (AreYoung (OldFor c.args.seconds) c.args.now xs) (sym (c.rows.invariant ∙ ap (fold marks (replicate (length rows) false)) all)) (are_young c.args.now c.args.seconds xs rows c.args.newest.now are newest)
+    subst (AreYoung (OldFor c.args.seconds) c.args.now xs) (sym (c.rows.invariant ∙ ap (fold marks (replicate c.numbered_len-len.result false)) all)) (are_young c.args.now c.args.seconds xs rows c.numbered_len-len.result c.args.newest.now are c.numbered_len-len.ensures newest)

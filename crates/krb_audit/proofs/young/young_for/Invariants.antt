@@ -1,6 +1,6 @@
-use Rattle.krb_audit.proofs.Cited.{◌≡◌, length, replicate, take, false, fold}
+use Rattle.krb_audit.proofs.Cited.{◌≡◌, replicate, take, false, fold}
 use Rattle.krb_audit.proofs.KvnoMarkLemmas.{marked}
 use Rattle.krb_audit.proofs.young.young_for.Given as goal
 
 abbrev pub invariant-rows : goal.invariant-rows
-invariant-rows g l = l.young.items ≡ fold (marked l.fn.now l.fn.seconds l.newest) (replicate (length l.rows) false) (take l.row-index l.rows)
+invariant-rows g l = l.young.items ≡ fold (marked l.fn.now l.fn.seconds l.newest) (replicate l.len false) (take l.row-index l.rows)

@@ -1,0 +1,11 @@
+use Rattle.krb_audit.proofs.Cited.{placed_entries, AreVersions, has_selected_kvno}
+use Rattle.krb_audit.specs.Selection.{is_named}
+use Rattle.krb_audit.proofs.SelectedLemmas.{IsOnTheWay}
+use Rattle.krb_audit.proofs.selected.take_selected.Given as goal
+
+-- the selected ones of the entries so far were taken
+abbrev pub invariant-entries : goal.invariant-entries
+invariant-entries g l = record {
+  versions : AreVersions l.selection.kvno l.fn.now (placed_entries l.keytab.state) l.place-iterator l.versions;
+  taken : IsOnTheWay g.T.Taker.HasTaken (λ x. is_named l.selection x.1) (λ x. has_selected_kvno l.selection.kvno l.fn.now (placed_entries l.keytab.state) x.1) (placed_entries l.keytab.state) l.place-iterator l.is_any_named l.taker;
+}
