@@ -3,16 +3,16 @@
 ghost use Rattle.std.specs.Prelude.{◌≡◌, ℕ, List};
 ghost use Rattle.krb_driver.specs.Commands.{EndsBefore, EndsCommand, Finishes, Runs, Settles, ShowsEnd, made_effect, ready_end, told_of};
 ghost use Rattle.krb_driver.specs.Effects.{Effect, Page, about, is_save};
-ghost use Rattle.krb_driver.specs.RunErrors.{aftermath_status, end_status, ending_status, is_spent};
 
 use crate::error::RunError;
 use crate::file_name::FileName;
 use crate::holding::release;
 use crate::reporting::details::{Details, details_of};
 use crate::reporting::{report, show};
+use crate::status::is_spent;
 use crate::verdict::Verdict;
 use crate::world::World;
-use krb_files::{Aftermath, Cause, Files, Watched};
+use krb_files::{Cause, Files, Watched};
 use krb_wire::NoMemory;
 use std::alloc::Allocator;
 use std::io::{Read, Write};
@@ -175,13 +175,6 @@ fn is_save<A: Allocator, S: Drop>(made: &Result<Made<A, S>, FileError<'_>>) -> b
     matches!(made, Ok(Made::Saves(_, _)))
 }
 
-/// Returns whether a run ended because memory ran out.
-pub fn is_spent(ending: &Result<Verdict, RunError>) -> bool
-    ensures { result ≡ is_spent ending.now }
-{
-    matches!(ending, Err(RunError::NoMemory))
-}
-
 // Returns what to tell of a run, or of that line of ktutil, which tells only what its own save left behind.
 fn details_to_tell<'a>(
     line: Option<u64>,
@@ -230,33 +223,6 @@ fn show_ready<A: Allocator + Copy, S: Show<A>, W: Write>(
         Ok(Ready::Prints(text)) => text.show(alloc, file, out),
         Err(met) => Err(met.error),
     }
-}
-
-// Returns the exit status of a run that ended so, but for what its save left behind.
-fn ending_status(ending: Result<Verdict, RunError>) -> u8
-    ensures { result ≡ ending_status ending }
-{
-    match ending {
-        Ok(verdict) => verdict.status(),
-        Err(error) => error.status(),
-    }
-}
-
-// Returns the least exit status of a run whose save left that behind: not 0 if another program wrote beside it.
-fn aftermath_status(aftermath: Option<Aftermath>) -> u8
-    ensures { result ≡ aftermath_status aftermath }
-{
-    match aftermath {
-        Some(Aftermath::LostChange | Aftermath::Mixed) => 1,
-        _ => 0,
-    }
-}
-
-/// Returns the exit status of a run that ended so, and whose save left that behind.
-pub fn end_status(ending: Result<Verdict, RunError>, aftermath: Option<Aftermath>) -> u8
-    ensures { result ≡ end_status ending aftermath }
-{
-    ending_status(ending).max(aftermath_status(aftermath))
 }
 
 /// Does what was made for `file`, at the end of a run or of that line of ktutil: saves it if it is to be saved,

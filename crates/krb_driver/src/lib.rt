@@ -11,11 +11,12 @@ mod input;
 mod loading;
 mod opening;
 mod reporting;
+mod status;
 mod verdict;
 mod world;
 
 pub use command::{
-    Command, FileError, Made, Output, RunEnd, Show, end_before, finish, is_spent, run, run_to_end,
+    Command, FileError, Made, Output, RunEnd, Show, end_before, finish, run, run_to_end,
 };
 pub use command_line::matches::{
     Matches, first_value, spelled_name, spelled_names, spelled_seconds, times_given, typed,
@@ -37,5 +38,6 @@ pub use reporting::details::{Details, details_of};
 pub use reporting::error_output::ErrorOutput;
 pub use reporting::reported::replied_verdict;
 pub use reporting::{report, report_word_fault, show};
+pub use status::is_spent;
 pub use verdict::{FileKind, Findings, Verdict};
 pub use world::World;

@@ -29,7 +29,6 @@ ghost use Rattle.krb_driver.specs.EndingWords.{ending_words};
 ghost use Rattle.krb_driver.specs.Reports.{aftermath_text, ending_text, words_if};
 ghost use Rattle.krb_driver.specs.Underway.{Adds};
 
-use crate::command::end_status;
 use crate::error::RunError;
 use crate::loading::{NotCache, NotKeytab};
 use crate::reporting::aftermath_words::{aftermath_line, is_message};
@@ -40,6 +39,7 @@ use crate::reporting::lines::{
     Line, file_message, file_number_message, line_message, message, nothing,
 };
 use crate::reporting::writing::{Gathered, add_pieces, send};
+use crate::status::end_status;
 use crate::verdict::Verdict;
 use arrayvec::ArrayVec;
 use krb_files::{Aftermath, Watched, put};
