@@ -1,5 +1,5 @@
 -- The action of a command line, and what it does.
-use Rattle.std.specs.Prelude.{unwrap_or, ◌≡◌, ℕ, List, [], ◌∷◌, codes, map, slice_get, length, not, ◌==◌, is_some, Bool, true, false, IsTrue, IsFalse, if◌then◌else◌, Option, None, Some, Result, Ok, Err, string_bytes}
+use Rattle.std.specs.Prelude.{unwrap_or, ◌≡◌, ℕ, List, [], ◌∷◌, codes, map, length, not, ◌==◌, is_some, Bool, true, false, IsTrue, IsFalse, if◌then◌else◌, Option, None, Some, Result, Ok, Err, string_bytes}
 use Rattle.krb_files.specs.declared.files.Files.{Ghosts}
 use Rattle.krb_audit.specs.declared.selection.SelectedKvno.{SelectedKvno}
 use Rattle.krb_audit.specs.declared.selection.SelectedKvno.TheVariants.{OldFor}
@@ -27,7 +27,7 @@ use Rattle.krb_readers.specs.TicketCheck.{RunsTicketCheck, check_mistake, check_
 use Rattle.krb_readers.specs.declared.klist.ticket_check.TicketCheck.{TicketCheck}
 use Rattle.krb_readers.specs.declared.klist.words.KlistOptions.{KlistOptions}
 use Rattle.krb_readers.specs.declared.ktcheck.words.CheckOptions.{CheckOptions}
-use Rattle.krb_readers.specs.CheckWords.{bad_findings, check_options}
+use Rattle.krb_readers.specs.CheckWords.{bad_finding, check_options}
 use Rattle.krb_readers.specs.Ktcheck.{ChecksAll}
 use Rattle.krb_editors.specs.Hold.{RunsHold, file_kind as held_kind, hold_kind, hold_mistake}
 use Rattle.krb_editors.specs.Ktedit.{ktedit_fairly, ktedit_plan}
@@ -35,7 +35,7 @@ use Rattle.krb_readers.specs.Ktfind.{SpellsEntry, find_mistake, ktfind_plan}
 use Rattle.krb_editors.specs.Ktcopy.{SpellsCopy, copy_mistake, ktcopy_plan}
 use Rattle.krb_editors.specs.Ktremove.{SpellsRemoval, ktremove_plan, needed_time, remove_mistake}
 use Rattle.krb_ktutil.specs.Ktutil.{RunsKtutil}
-use Rattle.krb_driver.specs.Matches.{Matched, v1_order}
+use Rattle.krb_driver.specs.Matches.{Matched, first_mistake, first_value, v1_order}
 use Rattle.krb_driver.specs.Mistakes.{MistakeParts, word_status, word_text}
 use Rattle.krb_driver.specs.Runs.{Run, EndsRun, Writes, ends_by}
 use Rattle.krb_editors.specs.Scripted.{RunsScript}
@@ -59,14 +59,10 @@ keytab_parts word = (bare_name Keytab word, is_other_type Keytab word, Word)
 abbrev pub AreNamed : List (List ℕ) → List FileName → Type 0
 AreNamed words names = map parts_of names ≡ map keytab_parts words
 
--- the word of FILE, if it is given
-abbrev pub word_of_file : Matched → Option (List ℕ)
-word_of_file words = slice_get (words.values (codes "FILE")) 0
-
 -- the action is the one that the words of klist ask for: with `-s` a check, otherwise a listing
 abbrev pub AsksKlist : Matched → Action → Type 0
-AsksKlist words (CheckTicket check file) = IsTrue (words.flag (codes "silent")) × (check ≡ check_of words) × NamesFile Cache (word_of_file words) file
-AsksKlist words (Klist options file) = IsFalse (words.flag (codes "silent")) × (options ≡ list_options words) × NamesFile (file_kind options.kind) (word_of_file words) file
+AsksKlist words (CheckTicket check file) = IsTrue (words.flag (codes "silent")) × (check ≡ check_of words) × NamesFile Cache (first_value words (codes "FILE")) file
+AsksKlist words (Klist options file) = IsFalse (words.flag (codes "silent")) × (options ≡ list_options words) × NamesFile (file_kind options.kind) (first_value words (codes "FILE")) file
 AsksKlist words action = ⊥
 
 -- the action is the one that the words of ktcheck ask for
@@ -107,7 +103,7 @@ line_mistake name.Klist words = klist_mistake words
 line_mistake name.Ktfind words = find_mistake words
 line_mistake name.Ktremove words = remove_mistake words
 line_mistake name.Ktcopy words = copy_mistake words
-line_mistake name.Ktcheck words = bad_findings (words.values (codes "allow"))
+line_mistake name.Ktcheck words = first_mistake bad_finding (words.values (codes "allow"))
 line_mistake name.Ccremove words = ticket_mistake words
 line_mistake name.Hold words = hold_mistake words
 line_mistake command words = None

@@ -1,11 +1,12 @@
 //! The commands, and the actions of their command lines.
 
-ghost use Rattle.std.specs.Prelude.{◌≡◌, codes, map, slice_get, IfErr, IfOk, None, OnOk};
+ghost use Rattle.std.specs.Prelude.{◌≡◌, codes, map, IfErr, IfOk, None, OnOk};
 ghost use Rattle.krb_commands.specs.Actions.{AreNamed, Asks, AsksHold, AsksKlist, AsksKtcheck, IsEdited, NamesFile, at_terminal, klist_mistake, line_mistake};
 ghost use Rattle.krb_driver.specs.FileNames.{IsNamed};
 ghost use Rattle.krb_driver.specs.declared.file_name.NameSource.TheVariants.{Word};
-ghost use Rattle.krb_readers.specs.CheckWords.{bad_findings};
+ghost use Rattle.krb_readers.specs.CheckWords.{bad_finding};
 ghost use Rattle.krb_editors.specs.Hold.{hold_mistake};
+ghost use Rattle.krb_driver.specs.Matches.{first_mistake, first_value};
 ghost use Rattle.krb_driver.specs.Mistakes.{IsRefusal, Reads};
 
 use krb_driver::{
@@ -106,7 +107,7 @@ pub fn at_terminal<'a>(
 
 // Returns the file that a word names, if one does.
 fn file_named<'a, M: Matches<'a>>(matches: &M, kind: FileKind) -> Option<FileName<'a>>
-    ensures { NamesFile kind (slice_get ((M.matched matches.now).values (codes "FILE")) 0) result }
+    ensures { NamesFile kind (first_value (M.matched matches.now) (codes "FILE")) result }
 {
     match first_value(matches, "FILE") {
         Some(word) => Some(FileName::of(kind, word, NameSource::Word)),
@@ -158,7 +159,7 @@ fn parsed_ktcheck<'a, M: Matches<'a>>(
     alloc: Global,
     matches: &M,
 ) -> Result<Action<'a>, WordFault<'a>>
-    ensures { Reads (bad_findings ((M.matched matches.now).values (codes "allow"))) (AsksKtcheck (M.matched matches.now)) result }
+    ensures { Reads (first_mistake bad_finding ((M.matched matches.now).values (codes "allow"))) (AsksKtcheck (M.matched matches.now)) result }
 {
     let options = check_options(matches)?;
     let names = keytabs_of(alloc, matches.values("FILE"))?;

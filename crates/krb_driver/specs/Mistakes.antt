@@ -1,6 +1,7 @@
 -- The messages for a command line that was not read.
 use Rattle.std.specs.Borrow.{Bor}
-use Rattle.std.specs.Prelude.{◌≡◌, ℕ, List, [], ◌++◌, Bool, Option, None, Some, option_map, codes, Result, Ok, Err}
+use Rattle.std.specs.Prelude.{◌≡◌, ℕ, List, [], ◌++◌, Bool, Option, None, Some, option_map, codes, Result, Ok, Err, IfOk}
+use Rattle.krb_wire.specs.declared.memory.NoMemory.{NoMemory}
 use Rattle.krb_wire.specs.declared.name_fault.NameFault.{NameFault}
 use Rattle.krb_wire.specs.NameOf.{name_fault_phrase}
 use Rattle.krb_driver.specs.declared.command_line.mistake.Mistake.{Mistake}
@@ -132,6 +133,21 @@ IsOf found word.NoMemory = found ≡ None
 abbrev pub Reads : {X : Type 0} → Option MistakeParts → (X → Type 0) → Result X WordFault → Type 0
 Reads found Writes (Ok x) = (found ≡ None) × Writes x
 Reads found Writes (Err fault) = IsOf found fault
+
+-- the same of words that take no memory
+abbrev pub Spells : {X : Type 0} → Option MistakeParts → (X → Type 0) → Result X Mistake → Type 0
+Spells found Writes (Ok x) = (found ≡ None) × Writes x
+Spells found Writes (Err mistake) = found ≡ Some (mistake_parts mistake)
+
+-- words are refused for a mistake, if they have one
+abbrev pub Refuses : Option MistakeParts → Result (Unit {0}) Mistake → Type 0
+Refuses found (Ok done) = found ≡ None
+Refuses found (Err mistake) = found ≡ Some (mistake_parts mistake)
+
+-- the same of words that have no mistake even if memory runs out
+abbrev pub SpellsInMemory : {X : Type 0} → Option MistakeParts → (X → Type 0) → Result (Result X NoMemory) Mistake → Type 0
+SpellsInMemory found Writes (Ok x) = (found ≡ None) × IfOk x Writes
+SpellsInMemory found Writes (Err mistake) = found ≡ Some (mistake_parts mistake)
 
 -- like `IsOf`, and a bad line names that command
 abbrev pub IsRefusal : List ℕ → Option MistakeParts → WordFault → Type 0

@@ -2,4 +2,5 @@
 
 pub(crate) mod matches;
 pub(crate) mod mistake;
+pub(crate) mod spelled;
 pub(crate) mod words;

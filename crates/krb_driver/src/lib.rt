@@ -18,11 +18,11 @@ mod world;
 pub use command::{
     Command, FileError, Made, Output, RunEnd, Show, end_before, finish, run, run_to_end,
 };
-pub use command_line::matches::{
-    Matches, first_value, spelled_name, spelled_names, spelled_seconds, times_given, typed,
-    v1_order,
-};
+pub use command_line::matches::{Matches, first_value, refuse_twice, times_given, typed, v1_order};
 pub use command_line::mistake::{BadLine, Mistake, More, WordFault};
+pub use command_line::spelled::{
+    Spelled, spelled_etype, spelled_etypes, spelled_name, spelled_names, spelled_seconds,
+};
 pub use command_line::words::{CommandName, CommandWords, DRY_RUN, IN_PLACE, V1_BIG, Word};
 pub use error::RunError;
 pub use file_name::{FileName, NameSource, append_name, type_of};

@@ -1,7 +1,8 @@
 -- What ccremove does.
-use Rattle.std.specs.Prelude.{◌≡◌, ℕ, Bool, not, List, [], ◌&&◌, ◌||◌, ◌==◌, nat_lt, map, length, codes, if◌then◌else◌, Option, None, Some, Result, Ok, Err}
+use Rattle.std.specs.Prelude.{◌≡◌, ℕ, Bool, not, List, [], ◌&&◌, ◌||◌, ◌==◌, map, length, codes, if◌then◌else◌, Option, None, Some, Result, Ok, Err}
 use Rattle.std.specs.List.{flat_map, list_any}
 use Rattle.std.specs.Option.{option_or}
+use Rattle.std.specs.Vec.{vec_items}
 use Rattle.krb_walk.specs.Events.{cut_store}
 use Rattle.krb_ccache.specs.Changes.{without}
 use Rattle.krb_ccache.specs.Rewrite.{rewrite_result}
@@ -16,8 +17,8 @@ use Rattle.krb_driver.specs.declared.verdict.FileKind.TheVariants.{Cache}
 use Rattle.krb_driver.specs.declared.verdict.Verdict.{Verdict}
 use Rattle.krb_driver.specs.declared.verdict.Verdict.TheVariants.{Well, NothingToRemove}
 use Rattle.krb_driver.specs.Effects.{CommandPlan, Effect, Displays, holds, opens, saves_unless, text}
-use Rattle.krb_driver.specs.Matches.{AreSpelledNames, Matched, bad_names, typed}
-use Rattle.krb_driver.specs.Mistakes.{MistakeParts, NothingSelects, Twice}
+use Rattle.krb_driver.specs.Matches.{ArePrintedNames, Matched, bad_name, first_mistake, twice}
+use Rattle.krb_driver.specs.Mistakes.{MistakeParts, NothingSelects}
 use Rattle.krb_driver.specs.Opening.{writable_in}
 
 -- the time at or before which the selected tickets end: that of the clock, if only expired ones are selected
@@ -43,28 +44,24 @@ places xs = map (λ x. x.0) xs
 -- the tickets are removed, if there are any, and a line is printed for each
 abbrev pub removes : {A : Type 0} → TicketOptions A → List ℕ → CacheState → List PlacedCredential → Effect
 removes o file k xs =
-    if length (places xs) == 0 then Displays file (text [] (none_verdict o (list_any (λ x. names_ticket o.servers.items x.1) (placed_credentials k))))
+    if length (places xs) == 0 then Displays file (text [] (none_verdict o (list_any (λ x. names_ticket (map vec_items o.servers.items) x.1) (placed_credentials k))))
     else saves_unless o.dry_run file (image_of (cache_after k (places xs))) (flat_map removed_ticket_line xs) Well
 
 -- the file is held, unless it is a dry run, and opened; the selected tickets of its cache are removed
 abbrev pub ccremove_plan : {A : Type 0} → TicketOptions A → FileName → Option ℕ → CommandPlan
-ccremove_plan o file ended = holds (not o.dry_run) file (opens file writable_in (λ k. Ends (removes o file.name.now k (selected_tickets o.servers.items ended k))))
+ccremove_plan o file ended = holds (not o.dry_run) file (opens file writable_in (λ k. Ends (removes o file.name.now k (selected_tickets (map vec_items o.servers.items) ended k))))
 
 -- ---- what the words ask for
 
--- the mistake that shows before any value is read: an option is given twice, or nothing selects
-abbrev pub odd_tickets : Matched → Option MistakeParts
-odd_tickets words =
-    if nat_lt 1 (length (words.values (codes "service"))) then Some (Twice (typed words (codes "-p") (codes "--service")))
-    else (if (length (words.values (codes "service")) == 0) && not (words.flag (codes "expired")) then Some (NothingSelects (codes "-p or --expired"))
-    else None)
-
 -- the first mistake of the words
 abbrev pub ticket_mistake : Matched → Option MistakeParts
-ticket_mistake words = option_or (odd_tickets words) (bad_names (words.values (codes "service")))
+ticket_mistake words =
+    option_or (twice words (codes "service") (codes "-p") (codes "--service"))
+    (if (length (words.values (codes "service")) == 0) && not (words.flag (codes "expired")) then Some (NothingSelects (codes "-p or --expired"))
+    else first_mistake bad_name (words.values (codes "service")))
 
 -- each option is what its own word spells
 pub record SpellsTickets {A : Type 0} (words : Matched) (options : TicketOptions A) : Type 0 where
-  pub servers : AreSpelledNames (words.values (codes "service")) options.servers.items
+  pub servers : ArePrintedNames (words.values (codes "service")) options.servers
   pub expired : options.expired ≡ words.flag (codes "expired")
   pub dry_run : options.dry_run ≡ words.flag (codes "dry-run")

@@ -1,6 +1,5 @@
 -- What ktcopy does.
-use Rattle.std.specs.Prelude.{◌≡◌, ℕ, Bool, true, false, not, List, ◌&&◌, ◌||◌, nat_lt, length, ◌==◌, if◌then◌else◌, codes, Option, None, Some, slice_get, Result, Ok, Err}
-use Rattle.std.specs.List.{filter_map}
+use Rattle.std.specs.Prelude.{◌≡◌, ℕ, Bool, true, false, not, List, ◌&&◌, ◌||◌, length, ◌==◌, if◌then◌else◌, codes, Option, Result, Ok, Err}
 use Rattle.std.specs.Option.{option_or}
 use Rattle.krb_walk.specs.declared.refusal.Code.{Code}
 use Rattle.krb_keytab.specs.Find.{PlacedEntry}
@@ -19,12 +18,12 @@ use Rattle.krb_driver.specs.declared.file_name.FileName.{FileName}
 use Rattle.krb_driver.specs.declared.verdict.Verdict.{Verdict}
 use Rattle.krb_driver.specs.declared.verdict.Verdict.TheVariants.{Clashed, Well}
 use Rattle.krb_driver.specs.Effects.{CommandPlan, Effect, Displays, Fails, holds, opens, saves_unless, text}
-use Rattle.krb_driver.specs.Matches.{AreSpelledNames, Matched, bad_names, typed, v1_order}
-use Rattle.krb_driver.specs.Mistakes.{MistakeParts, Twice}
+use Rattle.krb_driver.specs.Matches.{ArePrintedNames, AreSpelled, Matched, first_value, twice, v1_order}
+use Rattle.krb_driver.specs.Mistakes.{MistakeParts}
 use Rattle.krb_driver.specs.Opening.{whole_in, whole_or_empty}
 use Rattle.krb_driver.specs.Verdicts.{hiding}
 use Rattle.krb_editors.specs.declared.ktcopy.CopyOptions.{CopyOptions}
-use Rattle.krb_editors.specs.Selecting.{IsSpelledKvno, asks_for_any, bad_etype, bad_kvno}
+use Rattle.krb_editors.specs.Selecting.{IsSpelledKvno, asks_for_any, bad_criteria, bad_kvno}
 
 -- any kvno is selected
 abbrev pub is_any_kvno : SelectedKvno → Bool
@@ -64,22 +63,17 @@ ktcopy_plan o from to = opens from (whole_in o.v1_order) (λ k. copies_from o fr
 
 -- ---- what the words ask for
 
--- the mistake that shows before any value is read: `-k` is given twice
-abbrev pub odd_copy : Matched → Option MistakeParts
-odd_copy words = if nat_lt 1 (length (words.values (codes "kvno"))) then Some (Twice (typed words (codes "-k") (codes "--kvno"))) else None
-
 -- the first mistake of the words
 abbrev pub copy_mistake : Matched → Option MistakeParts
 copy_mistake words =
-    option_or (odd_copy words)
-    (option_or (bad_kvno (codes "new") Newest (slice_get (words.values (codes "kvno")) 0))
-    (option_or (bad_etype (words.values (codes "enctype"))) (bad_names (words.values (codes "principal")))))
+    option_or (twice words (codes "kvno") (codes "-k") (codes "--kvno"))
+    (option_or (bad_kvno (codes "new") Newest (first_value words (codes "kvno"))) (bad_criteria words))
 
 -- each option is what its own word spells
 pub record SpellsCopy {A : Type 0} (words : Matched) (options : CopyOptions A) : Type 0 where
-  pub names : AreSpelledNames (words.values (codes "principal")) options.selection.names.items
-  pub kvno : IsSpelledKvno (codes "new") Newest (slice_get (words.values (codes "kvno")) 0) options.selection.kvno
-  pub enctypes : options.selection.enctypes.items ≡ filter_map etype_in (words.values (codes "enctype"))
+  pub kvno : IsSpelledKvno (codes "new") Newest (first_value words (codes "kvno")) options.selection.kvno
+  pub enctypes : AreSpelled etype_in (words.values (codes "enctype")) options.selection.enctypes
+  pub names : ArePrintedNames (words.values (codes "principal")) options.selection.names
   pub replace : options.replace ≡ words.flag (codes "replace")
   pub dry_run : options.dry_run ≡ words.flag (codes "dry-run")
   pub v1_order : options.v1_order ≡ v1_order words

@@ -1,6 +1,6 @@
 -- What ktremove does.
-use Rattle.std.specs.Prelude.{◌≡◌, ℕ, Bool, true, false, not, List, [], ◌&&◌, ◌||◌, map, nat_lt, length, ◌==◌, if◌then◌else◌, codes, Option, None, Some, option_and_then, slice_get, Result, Ok, Err}
-use Rattle.std.specs.List.{filter_map, flat_map, list_any}
+use Rattle.std.specs.Prelude.{◌≡◌, ℕ, Bool, true, false, not, List, [], ◌&&◌, ◌||◌, map, nat_lt, length, ◌==◌, if◌then◌else◌, codes, Option, None, Some, option_and_then, Result, Ok, Err}
+use Rattle.std.specs.List.{flat_map, list_any}
 use Rattle.std.specs.Option.{option_or}
 use Rattle.std.specs.Str.{bytes_eq}
 use Rattle.krb_keytab.specs.Changes.{without}
@@ -22,10 +22,10 @@ use Rattle.krb_driver.specs.declared.verdict.FileKind.TheVariants.{Keytab}
 use Rattle.krb_driver.specs.declared.verdict.Verdict.{Verdict}
 use Rattle.krb_driver.specs.declared.verdict.Verdict.TheVariants.{Well, NothingToRemove}
 use Rattle.krb_driver.specs.Effects.{CommandPlan, Effect, Displays, holds, opens, saves_unless, text}
-use Rattle.krb_driver.specs.Matches.{AreSpelledNames, Matched, bad_names, bad_seconds, typed, v1_order}
-use Rattle.krb_driver.specs.Mistakes.{MistakeParts, NothingSelects, OnlyWith, Twice}
+use Rattle.krb_driver.specs.Matches.{ArePrintedNames, AreSpelled, Matched, bad_seconds, first_value, twice, v1_order}
+use Rattle.krb_driver.specs.Mistakes.{MistakeParts, NothingSelects, OnlyWith}
 use Rattle.krb_driver.specs.Opening.{whole_in}
-use Rattle.krb_editors.specs.Selecting.{IsSpelledKvno, asks_for_any, bad_etype, bad_kvno}
+use Rattle.krb_editors.specs.Selecting.{IsSpelledKvno, asks_for_any, bad_criteria, bad_kvno}
 
 -- old entries are selected
 abbrev pub asks_for_old : SelectedKvno → Bool
@@ -64,25 +64,23 @@ abbrev pub is_old_word : Option (List ℕ) → Bool
 is_old_word None = false
 is_old_word (Some word) = bytes_eq word (codes "old")
 
--- the mistake that shows before any value is read: an option is given twice, an age goes with another selection, or nothing selects
+-- an age goes with another selection than old kvnos, or nothing selects
 abbrev pub odd_selection : Matched → Option MistakeParts
 odd_selection words =
-    if nat_lt 1 (length (words.values (codes "kvno"))) then Some (Twice (typed words (codes "-k") (codes "--kvno")))
-    else (if nat_lt 1 (length (words.values (codes "age"))) then Some (Twice (codes "--age"))
-    else (if (length (words.values (codes "age")) == 1) && not (is_old_word (slice_get (words.values (codes "kvno")) 0)) then Some (OnlyWith (codes "--age") (codes "-k old"))
+    if nat_lt 0 (length (words.values (codes "age"))) && not (is_old_word (first_value words (codes "kvno"))) then Some (OnlyWith (codes "--age") (codes "-k old"))
     else (if (length (words.values (codes "principal")) == 0) && ((length (words.values (codes "kvno")) == 0) && (length (words.values (codes "enctype")) == 0)) then Some (NothingSelects (codes "-p, -k or -e"))
-    else None)))
+    else None)
 
 -- the first mistake of `-k` and `--age`
 abbrev pub kvno_mistake : Matched → Option MistakeParts
-kvno_mistake words = option_or (bad_kvno (codes "old") Old (slice_get (words.values (codes "kvno")) 0)) (bad_seconds (slice_get (words.values (codes "age")) 0))
+kvno_mistake words = option_or (bad_kvno (codes "old") Old (first_value words (codes "kvno"))) (bad_seconds (first_value words (codes "age")))
 
 -- the first mistake of the words
 abbrev pub remove_mistake : Matched → Option MistakeParts
 remove_mistake words =
-    option_or (odd_selection words)
-    (option_or (kvno_mistake words)
-    (option_or (bad_etype (words.values (codes "enctype"))) (bad_names (words.values (codes "principal")))))
+    option_or (twice words (codes "kvno") (codes "-k") (codes "--kvno"))
+    (option_or (twice words (codes "age") (codes "--age") (codes "--age"))
+    (option_or (odd_selection words) (option_or (kvno_mistake words) (bad_criteria words))))
 
 -- the same kvnos, old ones only if they have been replaced for so many seconds
 abbrev pub with_age : Option ℕ → SelectedKvno → SelectedKvno
@@ -92,13 +90,13 @@ with_age age kvno = kvno
 -- the kvnos are those that `-k` selects, with the age that is given
 pub record SpellsKvno (words : Matched) (kvno : SelectedKvno) : Type 0 where
   pub plain : SelectedKvno
-  pub is_spelled : IsSpelledKvno (codes "old") Old (slice_get (words.values (codes "kvno")) 0) plain
-  pub aged : kvno ≡ with_age (option_and_then seconds_in (slice_get (words.values (codes "age")) 0)) plain
+  pub is_spelled : IsSpelledKvno (codes "old") Old (first_value words (codes "kvno")) plain
+  pub aged : kvno ≡ with_age (option_and_then seconds_in (first_value words (codes "age"))) plain
 
 -- each option is what its own word spells
 pub record SpellsRemoval {A : Type 0} (words : Matched) (options : RemoveOptions A) : Type 0 where
-  pub names : AreSpelledNames (words.values (codes "principal")) options.selection.names.items
   pub kvno : SpellsKvno words options.selection.kvno
-  pub enctypes : options.selection.enctypes.items ≡ filter_map etype_in (words.values (codes "enctype"))
+  pub enctypes : AreSpelled etype_in (words.values (codes "enctype")) options.selection.enctypes
+  pub names : ArePrintedNames (words.values (codes "principal")) options.selection.names
   pub dry_run : options.dry_run ≡ words.flag (codes "dry-run")
   pub v1_order : options.v1_order ≡ v1_order words

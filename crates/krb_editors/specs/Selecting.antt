@@ -1,12 +1,14 @@
 -- Which entries the words of a command select.
-use Rattle.std.specs.Prelude.{◌≡◌, ℕ, Bool, List, ◌&&◌, ◌==◌, find, length, if◌then◌else◌, Option, None, Some, option_map, is_none}
+use Rattle.std.specs.Prelude.{◌≡◌, ℕ, Bool, List, ◌&&◌, ◌==◌, codes, length, if◌then◌else◌, Option, None, Some, option_map, is_none}
+use Rattle.std.specs.Option.{option_or}
 use Rattle.std.specs.Str.{bytes_eq}
 use Rattle.krb_text.specs.Etype.{etype_in}
 use Rattle.krb_text.specs.Numbers.{number_in}
 use Rattle.krb_audit.specs.declared.selection.SelectedKvno.{SelectedKvno}
 use Rattle.krb_audit.specs.declared.selection.SelectedKvno.TheVariants.{Any, Exactly}
 use Rattle.krb_audit.specs.declared.selection.Selection.{Selection}
-use Rattle.krb_driver.specs.Mistakes.{MistakeParts, NoEtype, NoVersion}
+use Rattle.krb_driver.specs.Matches.{Matched, bad_etype, bad_name, first_mistake}
+use Rattle.krb_driver.specs.Mistakes.{MistakeParts, NoVersion}
 
 -- neither a name nor an enctype is given
 abbrev pub asks_for_any : {A : Type 0} → Selection A → Bool
@@ -21,11 +23,11 @@ abbrev pub bad_kvno : List ℕ → SelectedKvno → Option (List ℕ) → Option
 bad_kvno name named None = None
 bad_kvno name named (Some word) = if is_none (kvno_in name named word) then Some (NoVersion word) else None
 
--- the mistake of the first word that is not an enctype
-abbrev pub bad_etype : List (List ℕ) → Option MistakeParts
-bad_etype words = option_map NoEtype (find (λ word. is_none (etype_in word)) words)
-
 -- the kvnos are those that the word selects, or any without a word
 abbrev pub IsSpelledKvno : List ℕ → SelectedKvno → Option (List ℕ) → SelectedKvno → Type 0
 IsSpelledKvno name named None kvno = kvno ≡ Any
 IsSpelledKvno name named (Some word) kvno = kvno_in name named word ≡ Some kvno
+
+-- the first mistake in the enctypes and names
+abbrev pub bad_criteria : Matched → Option MistakeParts
+bad_criteria words = option_or (first_mistake bad_etype (words.values (codes "enctype"))) (first_mistake bad_name (words.values (codes "principal")))

@@ -1,23 +1,24 @@
 //! ccremove: removes tickets from a credential cache.
 
-ghost use Rattle.std.specs.Prelude.{◌≡◌, IfOk, option_map};
+ghost use Rattle.std.specs.Prelude.{◌≡◌, IfOk, map};
+ghost use Rattle.std.specs.Vec.{vec_items};
 ghost use Rattle.krb_ccache.specs.Store.{image_of};
 ghost use Rattle.krb_audit.specs.Tickets.{SelectsTickets, selected_tickets};
-ghost use Rattle.krb_editors.specs.Ccremove.{SpellsTickets, cache_after, ccremove_plan, ended_by, none_verdict, odd_tickets, removes, ticket_mistake};
+ghost use Rattle.krb_editors.specs.Ccremove.{SpellsTickets, cache_after, ccremove_plan, ended_by, none_verdict, removes, ticket_mistake};
 ghost use Rattle.krb_driver.specs.Commands.{RunsWith, any, text_effect};
 ghost use Rattle.krb_driver.specs.Effects.{IsMade};
-ghost use Rattle.krb_driver.specs.Mistakes.{Reads, mistake_parts};
+ghost use Rattle.krb_driver.specs.Mistakes.{Reads};
 
 use krb_audit::{SelectedTickets, select_tickets};
 use krb_ccache::Ccache;
 use krb_driver::{
     Command, CommandName, CommandWords, DRY_RUN, FileError, FileKind, FileName, IN_PLACE, Made,
     Matches, Mistake, Output, RunError, Verdict, Word, WordFault, World, end_before, hold_if,
-    open_writable, run, spelled_names, times_given, typed,
+    open_writable, refuse_twice, run, spelled_names, times_given,
 };
 use krb_files::Files;
 use krb_walk::Refusal;
-use krb_wire::{NoMemory, Principal};
+use krb_wire::NoMemory;
 use std::alloc::{Allocator, Global};
 use std::io::{Read, Write};
 
@@ -55,26 +56,12 @@ Example: remove the tickets that have ended
 /// Which tickets ccremove removes: those that meet every condition given.
 #[derive(Drop)]
 pub struct TicketOptions<A: Allocator> {
-    /// Only those for one of these servers, compared as they are printed, if there are any.
-    pub servers: Vec<Principal<A>, A>,
+    /// Only those for one of these servers, as they are printed, if there are any.
+    pub servers: Vec<Vec<u8, A>, A>,
     /// Only those that have ended.
     pub expired: bool,
     /// Print what would be removed, and save nothing.
     pub dry_run: bool,
-}
-
-// Returns the mistake that shows before any value is read: an option is given twice, or nothing selects.
-fn odd_tickets<'a, M: Matches<'a>>(matches: &M) -> Option<Mistake<'a>>
-    ensures { option_map mistake_parts result ≡ odd_tickets (M.matched matches.now) }
-{
-    let services = times_given(matches, "service");
-    if services > 1 {
-        Some(Mistake::Twice(typed(matches, "-p", "--service")))
-    } else if services == 0 && !matches.flag("expired") {
-        Some(Mistake::NothingSelects("-p or --expired"))
-    } else {
-        None
-    }
 }
 
 /// Returns the options of ccremove. Refuses a line that selects nothing, `-p` given twice, and a bad name.
@@ -84,11 +71,13 @@ pub fn ticket_options<'a, M: Matches<'a>>(
 ) -> Result<TicketOptions<Global>, WordFault<'a>>
     ensures { Reads (ticket_mistake (M.matched matches.now)) (SpellsTickets (M.matched matches.now)) result }
 {
-    if let Some(mistake) = odd_tickets(matches) {
-        return Err(WordFault::of(mistake));
+    refuse_twice(matches, "service", "-p", "--service")?;
+    if times_given(matches, "service") == 0 && !matches.flag("expired") {
+        return Err(WordFault::from(Mistake::NothingSelects("-p or --expired")));
     }
+    let servers = spelled_names(alloc, matches, "service")?;
     Ok(TicketOptions {
-        servers: spelled_names(alloc, matches.values("service"))?,
+        servers: servers?,
         expired: matches.flag("expired"),
         dry_run: matches.flag("dry-run"),
     })
@@ -145,7 +134,7 @@ fn select<A: Allocator + Copy, B: Allocator>(
     command: &RemoveTickets<'_, B>,
     cache: &Ccache<A>,
 ) -> Result<SelectedTickets<A>, NoMemory>
-    ensures { IfOk result (SelectsTickets command.now.options.now.servers.items command.now.ended_by cache.now.state) }
+    ensures { IfOk result (SelectsTickets (map vec_items command.now.options.now.servers.items) command.now.ended_by cache.now.state) }
 {
     select_tickets(alloc, cache, &command.options.servers, command.ended_by)
 }
@@ -157,7 +146,7 @@ fn remove<'a, A: Allocator + Copy, B: Allocator>(
     cache: Ccache<A>,
 ) -> Result<Made<A, Output<A>>, FileError<'a>>
     ensures { IsMade (removes command.now.options.now command.now.file.name.now cache.state
-        (selected_tickets command.now.options.now.servers.items command.now.ended_by cache.state))
+        (selected_tickets (map vec_items command.now.options.now.servers.items) command.now.ended_by cache.state))
         (text_effect command.now.file.name.now result) }
 {
     let options = command.options;

@@ -1,24 +1,24 @@
 //! ktcopy: copies entries from one keytab into another.
 
-ghost use Rattle.std.specs.Prelude.{◌≡◌, None, Ok, if◌then◌else◌, option_map};
+ghost use Rattle.std.specs.Prelude.{◌≡◌, Ok, if◌then◌else◌};
 ghost use Rattle.krb_copy.specs.Copying.{Run, copy_run};
 ghost use Rattle.krb_copy.specs.Made.{IsMade as IsRunOf};
 ghost use Rattle.krb_audit.specs.Findings.{hides_added};
 ghost use Rattle.krb_audit.specs.Selection.{selected_in};
 ghost use Rattle.krb_driver.specs.Commands.{Makes, Runs, always, any, text_effect};
 ghost use Rattle.krb_driver.specs.Effects.{IsMade};
-ghost use Rattle.krb_driver.specs.Mistakes.{Reads, mistake_parts};
+ghost use Rattle.krb_driver.specs.Mistakes.{Reads};
 ghost use Rattle.krb_driver.specs.Verdicts.{hiding};
 ghost use Rattle.krb_driver.specs.declared.verdict.Verdict.TheVariants.{Clashed, Well};
-ghost use Rattle.krb_editors.specs.Ktcopy.{SpellsCopy, asks_for_some, copied_effect, copies_from, copies_to, copy_mistake, finds_none, ktcopy_plan, odd_copy};
+ghost use Rattle.krb_editors.specs.Ktcopy.{SpellsCopy, asks_for_some, copied_effect, copies_from, copies_to, copy_mistake, finds_none, ktcopy_plan};
 
-use crate::selecting::{OF_ENCTYPE, OF_PRINCIPAL, bad_etype, etypes_of, kvno_by_word};
+use crate::selecting::{OF_ENCTYPE, OF_PRINCIPAL, spelled_kvno};
 use krb_audit::{SelectedKvno, Selection, hides_added, selected_entries};
 use krb_copy::{Copied, copy_into};
 use krb_driver::{
-    Command, CommandName, CommandWords, FileError, FileName, IN_PLACE, Made, Matches, Mistake,
-    Output, RunError, V1_BIG, Verdict, Word, WordFault, World, first_value, hold_if, open_whole,
-    open_whole_or_empty, run, spelled_names, times_given, typed, v1_order,
+    Command, CommandName, CommandWords, FileError, FileName, IN_PLACE, Made, Matches, Output,
+    RunError, V1_BIG, Verdict, Word, WordFault, World, hold_if, open_whole, open_whole_or_empty,
+    refuse_twice, run, spelled_etypes, spelled_names, v1_order,
 };
 use krb_files::Files;
 use krb_keytab::{EntryView, Keytab};
@@ -79,16 +79,6 @@ pub struct CopyOptions<A: Allocator> {
     pub v1_order: Order,
 }
 
-// Returns the mistake that shows before any value is read: `-k` is given twice.
-fn odd_copy<'a, M: Matches<'a>>(matches: &M) -> Option<Mistake<'a>>
-    ensures { option_map mistake_parts result ≡ odd_copy (M.matched matches.now) }
-{
-    if times_given(matches, "kvno") > 1 {
-        return Some(Mistake::Twice(typed(matches, "-k", "--kvno")));
-    }
-    None
-}
-
 /// Returns the options of ktcopy. Refuses `-k` given twice, and a bad value.
 pub fn copy_options<'a, M: Matches<'a>>(
     alloc: Global,
@@ -96,25 +86,15 @@ pub fn copy_options<'a, M: Matches<'a>>(
 ) -> Result<CopyOptions<Global>, WordFault<'a>>
     ensures { Reads (copy_mistake (M.matched matches.now)) (SpellsCopy (M.matched matches.now)) result }
 {
-    if let Some(mistake) = odd_copy(matches) {
-        return Err(WordFault::of(mistake));
-    }
-    let kvno = match kvno_by_word(first_value(matches, "kvno"), "new", SelectedKvno::Newest) {
-        Ok(kvno) => kvno,
-        Err(mistake) => return Err(WordFault::of(mistake)),
-    };
-    if let Some(mistake) = bad_etype(matches) {
-        return Err(WordFault::of(mistake));
-    }
-    let names = spelled_names(alloc, matches.values("principal"))?;
-    let Ok(enctypes) = etypes_of(alloc, matches.values("enctype")) else {
-        return Err(WordFault::NoMemory);
-    };
+    refuse_twice(matches, "kvno", "-k", "--kvno")?;
+    let kvno = spelled_kvno(matches, "new", SelectedKvno::Newest)?;
+    let enctypes = spelled_etypes(alloc, matches, "enctype")?;
+    let names = spelled_names(alloc, matches, "principal")?;
     Ok(CopyOptions {
         selection: Selection {
-            names,
+            names: names?,
             kvno,
-            enctypes,
+            enctypes: enctypes?,
         },
         replace: matches.flag("replace"),
         dry_run: matches.flag("dry-run"),

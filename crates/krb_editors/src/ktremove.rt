@@ -1,19 +1,19 @@
 //! ktremove: removes entries from a keytab.
 
-ghost use Rattle.std.specs.Prelude.{◌≡◌, IfErr, IfOk, None, OnOk, Some, option_map};
+ghost use Rattle.std.specs.Prelude.{◌≡◌};
 ghost use Rattle.krb_audit.specs.Selection.{selected_in};
 ghost use Rattle.krb_driver.specs.Commands.{RunsWith, any, text_effect};
 ghost use Rattle.krb_driver.specs.Effects.{IsMade};
 ghost use Rattle.krb_editors.specs.Ktremove.{SpellsKvno, SpellsRemoval, kvno_mistake, ktremove_plan, needed_time, none_verdict, odd_selection, remove_mistake, removes, with_age};
-ghost use Rattle.krb_driver.specs.Mistakes.{Reads, mistake_parts};
+ghost use Rattle.krb_driver.specs.Mistakes.{Reads, Refuses, Spells};
 
-use crate::selecting::{OF_ENCTYPE, OF_PRINCIPAL, bad_etype, etypes_of, kvno_by_word};
+use crate::selecting::{OF_ENCTYPE, OF_PRINCIPAL, spelled_kvno};
 use krb_audit::{SelectedKvno, Selection, select};
 use krb_driver::{
     Command, CommandName, CommandWords, DRY_RUN, FileError, FileKind, FileName, IN_PLACE, Made,
     Matches, Mistake, Output, RunError, V1_BIG, Verdict, Word, WordFault, World, end_before,
-    first_value, hold_if, open_whole, run, spelled_names, spelled_seconds, times_given, typed,
-    v1_order,
+    first_value, hold_if, open_whole, refuse_twice, run, spelled_etypes, spelled_names, spelled_seconds,
+    times_given, v1_order,
 };
 use krb_files::Files;
 use krb_keytab::Keytab;
@@ -70,23 +70,18 @@ pub struct RemoveOptions<A: Allocator> {
     pub v1_order: Order,
 }
 
-// Returns the mistake that shows before any value is read: an option is given twice, or nothing selects.
-fn odd_selection<'a, M: Matches<'a>>(matches: &M) -> Option<Mistake<'a>>
-    ensures { option_map mistake_parts result ≡ odd_selection (M.matched matches.now) }
+// Refuses `--age` without `-k old`, and a line that selects nothing.
+fn refuse_unselected<'a, M: Matches<'a>>(matches: &M) -> Result<(), Mistake<'a>>
+    ensures { Refuses (odd_selection (M.matched matches.now)) result }
 {
     let names = times_given(matches, "principal");
     let kvnos = times_given(matches, "kvno");
-    let ages = times_given(matches, "age");
-    if kvnos > 1 {
-        Some(Mistake::Twice(typed(matches, "-k", "--kvno")))
-    } else if ages > 1 {
-        Some(Mistake::Twice("--age"))
-    } else if ages == 1 && first_value(matches, "kvno") != Some("old") {
-        Some(Mistake::OnlyWith("--age", "-k old"))
+    if times_given(matches, "age") > 0 && first_value(matches, "kvno") != Some("old") {
+        Err(Mistake::OnlyWith("--age", "-k old"))
     } else if names == 0 && kvnos == 0 && times_given(matches, "enctype") == 0 {
-        Some(Mistake::NothingSelects("-p, -k or -e"))
+        Err(Mistake::NothingSelects("-p, -k or -e"))
     } else {
-        None
+        Ok(())
     }
 }
 
@@ -101,13 +96,11 @@ fn with_age(kvno: SelectedKvno, age: Option<u32>) -> SelectedKvno
 }
 
 // Returns the kvnos that `-k` and `--age` select.
-fn selected_kvno<'a, M: Matches<'a>>(matches: &M) -> Result<SelectedKvno, Mistake<'a>>
-    ensures ok { IfOk result (SpellsKvno (M.matched matches.now)) }
-    ensures readable { OnOk result (kvno_mistake (M.matched matches.now) ≡ None) }
-    ensures mistake { IfErr result (λ mistake. kvno_mistake (M.matched matches.now) ≡ Some (mistake_parts mistake)) }
+fn removed_kvno<'a, M: Matches<'a>>(matches: &M) -> Result<SelectedKvno, Mistake<'a>>
+    ensures { Spells (kvno_mistake (M.matched matches.now)) (SpellsKvno (M.matched matches.now)) result }
 {
-    let kvno = kvno_by_word(first_value(matches, "kvno"), "old", SelectedKvno::Old)?;
-    let age = spelled_seconds(first_value(matches, "age"))?;
+    let kvno = spelled_kvno(matches, "old", SelectedKvno::Old)?;
+    let age = spelled_seconds(matches, "age")?;
     Ok(with_age(kvno, age))
 }
 
@@ -119,25 +112,17 @@ pub fn remove_options<'a, M: Matches<'a>>(
 ) -> Result<RemoveOptions<Global>, WordFault<'a>>
     ensures { Reads (remove_mistake (M.matched matches.now)) (SpellsRemoval (M.matched matches.now)) result }
 {
-    if let Some(mistake) = odd_selection(matches) {
-        return Err(WordFault::of(mistake));
-    }
-    let kvno = match selected_kvno(matches) {
-        Ok(kvno) => kvno,
-        Err(mistake) => return Err(WordFault::of(mistake)),
-    };
-    if let Some(mistake) = bad_etype(matches) {
-        return Err(WordFault::of(mistake));
-    }
-    let names = spelled_names(alloc, matches.values("principal"))?;
-    let Ok(enctypes) = etypes_of(alloc, matches.values("enctype")) else {
-        return Err(WordFault::NoMemory);
-    };
+    refuse_twice(matches, "kvno", "-k", "--kvno")?;
+    refuse_twice(matches, "age", "--age", "--age")?;
+    refuse_unselected(matches)?;
+    let kvno = removed_kvno(matches)?;
+    let enctypes = spelled_etypes(alloc, matches, "enctype")?;
+    let names = spelled_names(alloc, matches, "principal")?;
     Ok(RemoveOptions {
         selection: Selection {
-            names,
+            names: names?,
             kvno,
-            enctypes,
+            enctypes: enctypes?,
         },
         dry_run: matches.flag("dry-run"),
         v1_order: v1_order(matches),

@@ -1,5 +1,5 @@
 -- What klist does.
-use Rattle.std.specs.Prelude.{ℕ, List, length, Bool, true, not, ◌&&◌, ◌==◌, nat_lt, if◌then◌else◌, codes, Option, None, Some}
+use Rattle.std.specs.Prelude.{ℕ, List, length, Bool, true, not, ◌&&◌, nat_lt, if◌then◌else◌, codes, Option, None, Some}
 use Rattle.std.specs.Option.{option_or}
 use Rattle.krb_wire.specs.declared.format.Order.{Order}
 use Rattle.krb_walk.specs.Store.{fault_of}
@@ -22,8 +22,8 @@ use Rattle.krb_driver.specs.declared.verdict.FileKind.{FileKind}
 use Rattle.krb_driver.specs.declared.verdict.FileKind.TheVariants as file
 use Rattle.krb_driver.specs.Effects.{CommandPlan, Displays, Page, opens}
 use Rattle.krb_driver.specs.Loading.{cache_of}
-use Rattle.krb_driver.specs.Matches.{Matched, typed, v1_order}
-use Rattle.krb_driver.specs.Mistakes.{MistakeParts, DoNotGoTogether, ForKeytabs, OnlyWith, Twice}
+use Rattle.krb_driver.specs.Matches.{Matched, twice, typed, v1_order}
+use Rattle.krb_driver.specs.Mistakes.{MistakeParts, DoNotGoTogether, ForKeytabs, OnlyWith}
 use Rattle.krb_driver.specs.Opening.{listed_in}
 use Rattle.krb_driver.specs.Verdicts.{listing_verdict}
 
@@ -62,14 +62,6 @@ klist_plan o file = listing_plan o.kind o.json o.v1_order file
 abbrev pub not_with_keytab : Matched → List ℕ → List ℕ → MistakeParts
 not_with_keytab words letter name = DoNotGoTogether (typed words letter name) (typed words (codes "-k") (codes "--keytab"))
 
--- the first option that does not go with `-k`
-abbrev pub odd_with_keytab : Matched → Option MistakeParts
-odd_with_keytab words =
-    if words.flag (codes "cache") then Some (not_with_keytab words (codes "-c") (codes "--cache"))
-    else (if words.flag (codes "flags") then Some (not_with_keytab words (codes "-f") (codes "--flags"))
-    else (if words.flag (codes "config") then Some (not_with_keytab words (codes "-C") (codes "--config"))
-    else None))
-
 -- the first option that goes only with `-k`
 abbrev pub odd_with_cache : Matched → Option MistakeParts
 odd_with_cache words =
@@ -80,14 +72,18 @@ odd_with_cache words =
 
 -- the first option that is for the other kind of file, if there is one
 abbrev pub odd_option : Matched → Option MistakeParts
-odd_option words = if words.flag (codes "keytab") then odd_with_keytab words else odd_with_cache words
+odd_option words =
+    if not (words.flag (codes "keytab")) then odd_with_cache words
+    else (if words.flag (codes "cache") then Some (not_with_keytab words (codes "-c") (codes "--cache"))
+    else (if words.flag (codes "flags") then Some (not_with_keytab words (codes "-f") (codes "--flags"))
+    else (if words.flag (codes "config") then Some (not_with_keytab words (codes "-C") (codes "--config"))
+    else None)))
 
 -- `--for` is given twice, or without `-s`
 abbrev pub odd_seconds : Matched → Option MistakeParts
 odd_seconds words =
-    if nat_lt 1 (length (words.values (codes "for"))) then Some (Twice (codes "--for"))
-    else (if (length (words.values (codes "for")) == 1) && not (words.flag (codes "silent")) then Some (OnlyWith (codes "--for") (codes "-s"))
-    else None)
+    option_or (twice words (codes "for") (codes "--for") (codes "--for"))
+    (if nat_lt 0 (length (words.values (codes "for"))) && not (words.flag (codes "silent")) then Some (OnlyWith (codes "--for") (codes "-s")) else None)
 
 -- the first mistake in the words of a listing
 abbrev pub list_mistake : Matched → Option MistakeParts

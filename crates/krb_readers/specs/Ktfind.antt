@@ -1,6 +1,6 @@
 -- What ktfind does.
-use Rattle.std.specs.Prelude.{◌≡◌, ℕ, List, if◌then◌else◌, codes, Option, None, Some, is_none, Result, Ok, Err}
-use Rattle.krb_wire.specs.NameOf.{name_of}
+use Rattle.std.specs.Prelude.{◌≡◌, ℕ, List, if◌then◌else◌, codes, Option, Some, is_none, Result, Ok, Err}
+use Rattle.std.specs.Option.{option_or}
 use Rattle.krb_wire.specs.Reading.{principal_parts}
 use Rattle.krb_walk.specs.declared.refusal.Code.{Code}
 use Rattle.krb_keytab.specs.Find.{PlacedEntry, find_result}
@@ -15,8 +15,8 @@ use Rattle.krb_driver.specs.declared.verdict.FileKind.TheVariants.{Keytab}
 use Rattle.krb_driver.specs.declared.verdict.Verdict.TheVariants.{Well}
 use Rattle.krb_driver.specs.declared.file_name.FileName.{FileName}
 use Rattle.krb_driver.specs.Effects.{CommandPlan, Effect, Fails, Displays, opens, text}
-use Rattle.krb_driver.specs.Matches.{Matched, bad_name, v1_order}
-use Rattle.krb_driver.specs.Mistakes.{MistakeParts, NoEtype, NoVersion}
+use Rattle.krb_driver.specs.Matches.{IsSpelledName, Matched, bad_etype, bad_name, v1_order}
+use Rattle.krb_driver.specs.Mistakes.{MistakeParts, NoVersion}
 use Rattle.krb_driver.specs.Opening.{keytab_in}
 
 -- the line of an entry that was found, or why none was
@@ -38,12 +38,11 @@ ktfind_plan o file = opens file (keytab_in o.v1_order) (λ k. Ends (finds o file
 abbrev pub find_mistake : Matched → Option MistakeParts
 find_mistake words =
     if is_none (number_in 32 (words.operand (codes "KVNO"))) then Some (NoVersion (words.operand (codes "KVNO")))
-    else (if is_none (etype_in (words.operand (codes "ETYPE"))) then Some (NoEtype (words.operand (codes "ETYPE")))
-    else bad_name (words.operand (codes "NAME")))
+    else option_or (bad_etype (words.operand (codes "ETYPE"))) (bad_name (words.operand (codes "NAME")))
 
 -- each option is what its own word spells
 pub record SpellsEntry {A : Type 0} (words : Matched) (options : FindOptions A) : Type 0 where
   pub kvno : number_in 32 (words.operand (codes "KVNO")) ≡ Some options.kvno
   pub enctype : etype_in (words.operand (codes "ETYPE")) ≡ Some options.enctype
-  pub name : name_of (words.operand (codes "NAME")) None ≡ Ok (principal_parts options.name)
+  pub name : IsSpelledName (words.operand (codes "NAME")) options.name
   pub v1_order : options.v1_order ≡ v1_order words

@@ -1,5 +1,5 @@
 -- What `klist -s` does: whether a cache has a ticket to go on with.
-use Rattle.std.specs.Prelude.{◌≡◌, ◌⊎◌, ℕ, ◌+◌, List, [], ◌∷◌, codes, slice_get, Bool, true, false, not, ◌&&◌, nat_lt, if◌then◌else◌, unwrap_or, Option, None, Some, option_and_then, Result, Ok, Err}
+use Rattle.std.specs.Prelude.{◌≡◌, ◌⊎◌, ℕ, ◌+◌, List, [], ◌∷◌, codes, Bool, true, false, not, ◌&&◌, nat_lt, if◌then◌else◌, unwrap_or, Option, None, Some, option_and_then, Result, Ok, Err}
 use Rattle.std.specs.List.{list_any}
 use Rattle.std.specs.Option.{option_or}
 use Rattle.krb_wire.specs.Names.{have_same_name}
@@ -13,7 +13,7 @@ use Rattle.krb_files.specs.Loading.{Answer, LoadsFile, most_bytes}
 use Rattle.krb_text.specs.Numbers.{seconds_in}
 use Rattle.krb_readers.specs.declared.klist.ticket_check.TicketCheck.{TicketCheck}
 use Rattle.krb_driver.specs.declared.file_name.FileName.{FileName}
-use Rattle.krb_driver.specs.Matches.{Matched, bad_seconds, typed}
+use Rattle.krb_driver.specs.Matches.{Matched, bad_seconds, first_value, typed}
 use Rattle.krb_driver.specs.Mistakes.{MistakeParts, DoNotGoTogether}
 use Rattle.krb_readers.specs.Klist.{odd_seconds, odd_with_cache}
 
@@ -80,20 +80,17 @@ not_with_silent words letter name = DoNotGoTogether (typed words (codes "-s") (c
 abbrev pub odd_with_silent : Matched → Option MistakeParts
 odd_with_silent words =
     if words.flag (codes "keytab") then Some (not_with_silent words (codes "-k") (codes "--keytab"))
-    else (if words.flag (codes "json") then Some (not_with_silent words (codes "--json") (codes "--json"))
+    else (if words.flag (codes "json") then Some (DoNotGoTogether (typed words (codes "-s") (codes "--silent")) (codes "--json"))
     else (if words.flag (codes "enctypes") then Some (not_with_silent words (codes "-e") (codes "--enctypes"))
     else (if words.flag (codes "flags") then Some (not_with_silent words (codes "-f") (codes "--flags"))
     else (if words.flag (codes "config") then Some (not_with_silent words (codes "-C") (codes "--config"))
     else None))))
 
--- the first mistake that shows before SECONDS are read
-abbrev pub odd_check : Matched → Option MistakeParts
-odd_check words = option_or (odd_seconds words) (option_or (odd_with_silent words) (odd_with_cache words))
-
 -- the first mistake of the words
 abbrev pub check_mistake : Matched → Option MistakeParts
-check_mistake words = option_or (odd_check words) (bad_seconds (slice_get (words.values (codes "for")) 0))
+check_mistake words =
+    option_or (odd_seconds words) (option_or (odd_with_silent words) (option_or (odd_with_cache words) (bad_seconds (first_value words (codes "for")))))
 
 -- the seconds are those that the word spells, or 0 if there is none
 abbrev pub check_of : Matched → TicketCheck
-check_of words = record { seconds = unwrap_or (option_and_then seconds_in (slice_get (words.values (codes "for")) 0)) 0 }
+check_of words = record { seconds = unwrap_or (option_and_then seconds_in (first_value words (codes "for"))) 0 }

@@ -8,11 +8,12 @@ ghost use Rattle.krb_driver.specs.Mistakes.{Reads};
 
 use krb_driver::{
     Command, CommandName, CommandWords, FileError, FileName, Made, Matches, Mistake, Output,
-    RunError, V1_BIG, Verdict, Word, WordFault, World, open_keytab, run, spelled_name, v1_order,
+    RunError, V1_BIG, Verdict, Word, WordFault, World, open_keytab, run, spelled_etype,
+    spelled_name, v1_order,
 };
 use krb_files::Files;
 use krb_keytab::Keytab;
-use krb_text::{etype_of, found_text, parse_u32};
+use krb_text::{found_text, parse_u32};
 use krb_wire::{Order, Principal};
 use std::alloc::{Allocator, Global};
 use std::io::{Read, Write};
@@ -64,14 +65,12 @@ pub fn find_options<'a, M: Matches<'a>>(
 {
     let version = matches.operand("KVNO");
     let Some(kvno) = parse_u32(version.as_bytes()) else {
-        return Err(WordFault::of(Mistake::NoVersion(version)));
+        return Err(WordFault::from(Mistake::NoVersion(version)));
     };
-    let etype = matches.operand("ETYPE");
-    let Some(enctype) = etype_of(etype.as_bytes()) else {
-        return Err(WordFault::of(Mistake::NoEtype(etype)));
-    };
+    let enctype = spelled_etype(matches.operand("ETYPE"))?;
+    let name = spelled_name(alloc, matches.operand("NAME"))?;
     Ok(FindOptions {
-        name: spelled_name(alloc, matches.operand("NAME"))?,
+        name: name?,
         kvno,
         enctype,
         v1_order: v1_order(matches),

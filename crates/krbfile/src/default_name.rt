@@ -33,7 +33,7 @@ impl FoundName {
         FoundName {
             kind: FileKind::Keytab,
             source: NameSource::Default,
-            text: Err(WordFault::of(Mistake::Missing("FILE"))),
+            text: Err(WordFault::from(Mistake::Missing("FILE"))),
         }
     }
 
@@ -84,7 +84,7 @@ fn cache_of(alloc: Global, user: Option<u32>) -> Result<String, WordFault<'stati
 {
     match user {
         Some(user) => Ok(format!(in alloc; "/tmp/krb5cc_{user}")?),
-        None => Err(WordFault::of(Mistake::Missing("FILE"))),
+        None => Err(WordFault::from(Mistake::Missing("FILE"))),
     }
 }
 
@@ -153,7 +153,7 @@ fn given_name(
         Err(VarError::NotPresent) => return None,
         Ok(text) => Ok(text),
         Err(VarError::NotUnicode) => {
-            Err(WordFault::of(Mistake::VariableNotText(variable)).in_command(command))
+            Err(WordFault::from(Mistake::VariableNotText(variable)).in_command(command))
         }
         Err(VarError::OutOfMemory) => Err(WordFault::NoMemory),
     };

@@ -35,7 +35,7 @@ pub fn words_of<R: rt::Env + AllocGlobal>(rt: &R) -> Result<Vec<String>, WordFau
     match env::args(rt) {
         Ok(words) => Ok(words.collect(rt.alloc())?),
         Err(error) if error.kind() == io::ErrorKind::OutOfMemory => Err(WordFault::NoMemory),
-        Err(_) => Err(WordFault::of(Mistake::NotText)),
+        Err(_) => Err(WordFault::from(Mistake::NotText)),
     }
 }
 

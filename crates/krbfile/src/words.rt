@@ -92,7 +92,7 @@ fn command_action<'a>(
             return action_of(alloc, line.command, line.name, &matched);
         }
     }
-    Err(WordFault::of(Mistake::NoCommand))
+    Err(WordFault::from(Mistake::NoCommand))
 }
 
 // Returns what follows the line of a mistake. The text of a help is kept in `help`.

@@ -255,7 +255,7 @@ unfolding on_literals
 remove-ticket = refl
 
 -- `--expired` selects the tickets that end at that second or before, and no configuration entry
-remove-expired : map (λ now. flat_map removed_ticket_line (selected_tickets {A = ℕ} [] (Some now) (cache worked))) (1700035999 ∷ 1700036000 ∷ [])
+remove-expired : map (λ now. flat_map removed_ticket_line (selected_tickets [] (Some now) (cache worked))) (1700035999 ∷ 1700036000 ∷ [])
     ≡ [] ∷ codes "removed 40 krbtgt/R@R\n" ∷ []
 unfolding on_literals
 remove-expired = refl

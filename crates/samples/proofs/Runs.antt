@@ -23,7 +23,7 @@ use Rattle.krb_driver.specs.declared.verdict.FileKind.TheVariants.{Keytab, Cache
 use Rattle.krb_driver.specs.declared.verdict.Verdict.TheVariants.{Well}
 use Rattle.krb_driver.specs.Effects.{CommandPlan, Effect, Fails, Displays, Saves, files_after}
 use Rattle.krb_driver.specs.FileNames.{bare_name, is_other_type}
-use Rattle.krb_driver.specs.Matches.{Matched, v1_order}
+use Rattle.krb_driver.specs.Matches.{Matched, first_value, printed_name, v1_order}
 use Rattle.krb_driver.specs.RunErrors.{Ending, ending_status}
 use Rattle.krb_driver.specs.Reports.{ending_text}
 use Rattle.krb_readers.specs.CheckWords.{check_options}
@@ -70,9 +70,9 @@ abbrev principal_of : {E : Type 0} → Result Parts E → Option (Principal (Uni
 principal_of (Ok p) = Some (principal p)
 principal_of (Err fault) = None
 
--- the names that words spell
-abbrev principals : List (List ℕ) → Vec (Principal (Unit {0})) (Unit {0})
-principals words = vec (filter_map (λ word. principal_of (name_of word None)) words)
+-- the texts that the names which words spell print as
+abbrev names_of : List (List ℕ) → Vec (Vec ℕ (Unit {0})) (Unit {0})
+names_of words = vec (map vec (filter_map printed_name words))
 
 -- the name of a file, as a word gives it
 abbrev named : Bool → FileKind → List ℕ → FileName
@@ -102,12 +102,12 @@ operand ws kind name = named (ws.flag (codes "in-place")) kind (ws.operand name)
 
 -- the kvnos that `-k` selects: a number, or the word for some of them
 abbrev kvno_of : List ℕ → SelectedKvno → Matched → SelectedKvno
-kvno_of word some ws = unwrap_or (option_and_then (kvno_in word some) (slice_get (ws.values (codes "kvno")) 0)) Any
+kvno_of word some ws = unwrap_or (option_and_then (kvno_in word some) (first_value ws (codes "kvno"))) Any
 
 -- the entries that options select, with those kvnos
 abbrev selection : SelectedKvno → Matched → Selection (Unit {0})
 selection kvno ws = record {
-  names = principals (ws.values (codes "principal"));
+  names = names_of (ws.values (codes "principal"));
   kvno = kvno;
   enctypes = vec (filter_map etype_in (ws.values (codes "enctype")));
 }
@@ -209,7 +209,7 @@ ccedit explains files script ws = follows_lines explains files (ccedit_plan (ope
 -- at a second, which is asked for with `--age` alone
 abbrev pub ktremove : Bool → ℕ → FileMap → Matched → Seen
 ktremove explains now files ws = follows explains files (ktremove_plan (record {
-  selection = selection (with_age (option_and_then seconds_in (slice_get (ws.values (codes "age")) 0)) (kvno_of (codes "old") Old ws)) ws;
+  selection = selection (with_age (option_and_then seconds_in (first_value ws (codes "age"))) (kvno_of (codes "old") Old ws)) ws;
   dry_run = ws.flag (codes "dry-run");
   v1_order = v1_order ws;
 }) (operand ws Keytab (codes "FILE")) now)
@@ -217,7 +217,7 @@ ktremove explains now files ws = follows explains files (ktremove_plan (record {
 -- at a second, which is asked for with `--expired` alone
 abbrev pub ccremove : Bool → ℕ → FileMap → Matched → Seen
 ccremove explains now files ws = follows explains files (ccremove_plan (record {
-  servers = principals (ws.values (codes "service"));
+  servers = names_of (ws.values (codes "service"));
   expired = ws.flag (codes "expired");
   dry_run = ws.flag (codes "dry-run");
 }) (operand ws Cache (codes "FILE")) (if ws.flag (codes "expired") then Some now else None))

@@ -1,15 +1,11 @@
 //! A command line after it was matched against its command's words.
 
-ghost use Rattle.std.specs.Prelude.{◌≡◌, IfErr, IfOk, None, Ok, OnOk, Some, length, map, option_map, slice_get};
-ghost use Rattle.krb_wire.specs.NameOf.{name_of};
-ghost use Rattle.krb_wire.specs.Reading.{principal_parts};
-ghost use Rattle.krb_driver.specs.Matches.{AreSpelledNames, AreSpelledSeconds, bad_name, bad_names, bad_seconds, typed, v1_order};
-ghost use Rattle.krb_driver.specs.Mistakes.{Reads, mistake_parts};
+ghost use Rattle.std.specs.Prelude.{◌≡◌, length, option_map};
+ghost use Rattle.krb_driver.specs.Matches.{first_value, twice, typed, v1_order};
+ghost use Rattle.krb_driver.specs.Mistakes.{Refuses};
 
-use crate::command_line::mistake::{Mistake, WordFault};
-use krb_text::parse_seconds;
-use krb_wire::{NameFault, NoMemory, Order, Principal, parse_name};
-use std::alloc::Global;
+use crate::command_line::mistake::Mistake;
+use krb_wire::Order;
 
 /// The flags, operands and option values of a command line, by the names of its command's words.
 pub trait Matches<'a> {
@@ -50,10 +46,25 @@ pub fn times_given<'a, M: Matches<'a>>(matches: &M, name: &str) -> usize
     matches.values(name).len()
 }
 
+/// Refuses an option that is given twice. One without a letter has its long name for it.
+pub fn refuse_twice<'a, M: Matches<'a>>(
+    matches: &M,
+    name: &str,
+    letter: &'a str,
+    long: &'a str,
+) -> Result<(), Mistake<'a>>
+    ensures { Refuses (twice (M.matched matches.now) name.now letter.now long.now) result }
+{
+    if times_given(matches, name) > 1 {
+        return Err(Mistake::Twice(typed(matches, letter, long)));
+    }
+    Ok(())
+}
+
 /// Returns the first value of an option or an operand.
 #[tactic(auto, using(crate::proofs::MatchLemmas::first_word))]
 pub fn first_value<'a, M: Matches<'a>>(matches: &M, name: &str) -> Option<&'a str>
-    ensures { option_map (λ word. word.now) result ≡ slice_get ((M.matched matches.now).values name.now) 0 }
+    ensures { option_map (λ word. word.now) result ≡ first_value (M.matched matches.now) name.now }
 {
     matches.values(name).first().copied()
 }
@@ -66,84 +77,5 @@ pub fn v1_order<'a, M: Matches<'a>>(matches: &M) -> Order
         Order::Big
     } else {
         Order::Little
-    }
-}
-
-/// Parses a word as a principal name with a realm.
-pub fn spelled_name<'a>(alloc: Global, word: &'a str) -> Result<Principal<Global>, WordFault<'a>>
-    ensures { Reads (bad_name word.now) (λ name. name_of word.now None ≡ Ok (principal_parts name)) result }
-{
-    match parse_name(alloc, word.as_bytes(), None) {
-        Ok(name) => Ok(name),
-        Err(NameFault::NoMemory) => Err(WordFault::NoMemory),
-        Err(fault) => Err(WordFault::of(Mistake::BadName(word, fault))),
-    }
-}
-
-// Returns the mistake in a word that is not a principal name.
-fn bad_name<'a>(alloc: Global, word: &'a str) -> Option<Mistake<'a>>
-    ensures { option_map mistake_parts result ≡ bad_name word.now }
-{
-    match spelled_name(alloc, word) {
-        Err(WordFault::BadLine(line)) => Some(line.mistake),
-        _ => None,
-    }
-}
-
-// Returns the mistake in the first word that is not a principal name.
-fn bad_names<'a>(alloc: Global, words: &[&'a str]) -> Option<Mistake<'a>>
-    ensures { option_map mistake_parts result ≡ bad_names (map (λ word. word.now) words.now) }
-{
-    'words: for word in words {
-        if let Some(mistake) = bad_name(alloc, *word) {
-            return Some(mistake);
-        }
-    }
-    None
-}
-
-// Parses words as principal names.
-fn names_of(alloc: Global, words: &[&str]) -> Result<Vec<Principal<Global>, Global>, NoMemory>
-    ensures { IfOk result (λ names. AreSpelledNames (map (λ word. word.now) words.now) names.items) }
-{
-    let mut names = Vec::new(alloc);
-    'words: for word in words {
-        let Ok(name) = spelled_name(alloc, *word) else {
-            return Err(NoMemory);
-        };
-        names.push(name)?;
-    }
-    Ok(names)
-}
-
-/// Parses words as principal names with a realm.
-pub fn spelled_names<'a>(
-    alloc: Global,
-    words: &[&'a str],
-) -> Result<Vec<Principal<Global>, Global>, WordFault<'a>>
-    ensures { Reads (bad_names (map (λ word. word.now) words.now))
-        (λ names. AreSpelledNames (map (λ word. word.now) words.now) names.items) result }
-{
-    if let Some(mistake) = bad_names(alloc, words) {
-        return Err(WordFault::of(mistake));
-    }
-    match names_of(alloc, words) {
-        Ok(names) => Ok(names),
-        Err(NoMemory) => Err(WordFault::NoMemory),
-    }
-}
-
-/// Parses a word, if there is one, as a time in seconds.
-pub fn spelled_seconds<'a>(word: Option<&'a str>) -> Result<Option<u32>, Mistake<'a>>
-    ensures ok { IfOk result (AreSpelledSeconds (option_map (λ word. word.now) word.entry)) }
-    ensures readable { OnOk result (bad_seconds (option_map (λ word. word.now) word.entry) ≡ None) }
-    ensures mistake { IfErr result (λ mistake. bad_seconds (option_map (λ word. word.now) word.entry) ≡ Some (mistake_parts mistake)) }
-{
-    let Some(word) = word else {
-        return Ok(None);
-    };
-    match parse_seconds(word.as_bytes()) {
-        Some(seconds) => Ok(Some(seconds)),
-        None => Err(Mistake::NoTime(word)),
     }
 }

@@ -2,9 +2,9 @@
 
 ghost use Rattle.std.specs.Prelude.{◌≡◌, None};
 ghost use Rattle.krb_driver.specs.declared.command_line.mistake.More.TheVariants.{Nothing};
-ghost use Rattle.krb_driver.specs.declared.command_line.mistake.WordFault.TheVariants.{NoMemory};
+ghost use Rattle.krb_driver.specs.declared.command_line.mistake.WordFault.TheVariants.{BadLine, NoMemory};
 
-use krb_wire::NameFault;
+use krb_wire::{NameFault, NoMemory};
 use std::alloc::AllocError;
 
 /// What is wrong with a command line. Words are given as they are on the line, and a missing operand by its name in
@@ -67,17 +67,6 @@ pub enum WordFault<'a> {
 impl<'a> WordFault<'a> {
     ghost use Rattle.krb_driver.specs.Mistakes.{in_command, word_number};
 
-    /// Returns the fault for that mistake, with no command, and nothing after it.
-    pub fn of(mistake: Mistake<'a>) -> WordFault<'a>
-        ensures { result ≡ WordFault.BadLine (record { mistake = mistake.entry; command = None; more = Nothing }) }
-    {
-        WordFault::BadLine(BadLine {
-            mistake,
-            command: None,
-            more: More::Nothing,
-        })
-    }
-
     /// Returns the same fault, for words of that command.
     pub fn in_command(self, command: &'a str) -> WordFault<'a>
         ensures { result ≡ in_command command.entry self.entry }
@@ -107,5 +96,26 @@ impl From<AllocError> for WordFault<'_> {
 
     fn from(_error: AllocError) -> Self {
         WordFault::NoMemory
+    }
+}
+
+impl From<NoMemory> for WordFault<'_> {
+    ghost from_gives = { λ _ fault. fault ≡ NoMemory };
+
+    fn from(_error: NoMemory) -> Self {
+        WordFault::NoMemory
+    }
+}
+
+/// A bad line with no command, and nothing after it.
+impl<'a> From<Mistake<'a>> for WordFault<'a> {
+    ghost from_gives = { λ mistake fault. fault ≡ BadLine (record { mistake = mistake; command = None; more = Nothing }) };
+
+    fn from(mistake: Mistake<'a>) -> Self {
+        WordFault::BadLine(BadLine {
+            mistake,
+            command: None,
+            more: More::Nothing,
+        })
     }
 }

@@ -1,12 +1,11 @@
 //! The words of hold, and the kind of file that they ask for.
 
 ghost use Rattle.std.specs.Prelude.{◌≡◌};
-ghost use Rattle.krb_driver.specs.Mistakes.{Reads};
+ghost use Rattle.krb_driver.specs.Mistakes.{Spells};
 ghost use Rattle.krb_editors.specs.Hold.{hold_kind, hold_mistake};
 
 use krb_driver::{
-    CommandName, CommandWords, FileKind, IN_PLACE, Matches, Mistake, V1_BIG, Word, WordFault,
-    v1_order,
+    CommandName, CommandWords, FileKind, IN_PLACE, Matches, Mistake, V1_BIG, Word, v1_order,
 };
 use krb_wire::Order;
 
@@ -60,13 +59,13 @@ impl HoldKind {
 }
 
 /// Returns the kind of file that the words of hold ask for.
-pub fn hold_kind<'a, M: Matches<'a>>(matches: &M) -> Result<HoldKind, WordFault<'a>>
-    ensures { Reads (hold_mistake (M.matched matches.now)) (λ kind. kind ≡ hold_kind (M.matched matches.now)) result }
+pub fn hold_kind<'a, M: Matches<'a>>(matches: &M) -> Result<HoldKind, Mistake<'a>>
+    ensures { Spells (hold_mistake (M.matched matches.now)) (λ kind. kind ≡ hold_kind (M.matched matches.now)) result }
 {
     if matches.flag("keytab") {
         Ok(HoldKind::Keytab(v1_order(matches)))
     } else if matches.flag("v1-big") {
-        Err(WordFault::of(Mistake::ForKeytabs("--v1-big")))
+        Err(Mistake::ForKeytabs("--v1-big"))
     } else {
         Ok(HoldKind::Cache)
     }

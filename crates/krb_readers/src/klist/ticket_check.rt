@@ -1,15 +1,15 @@
 //! klist -s: checks that a cache has a ticket to go on with, and prints nothing.
 
-ghost use Rattle.std.specs.Prelude.{◌≡◌, option_map};
+ghost use Rattle.std.specs.Prelude.{◌≡◌};
 ghost use Rattle.krb_ccache.specs.Store.{open_result};
 ghost use Rattle.krb_files.specs.Loading.{most_bytes};
-ghost use Rattle.krb_readers.specs.TicketCheck.{RunsTicketCheck, check_mistake, check_of, not_with_silent, odd_check, odd_with_silent, opened_status};
-ghost use Rattle.krb_driver.specs.Mistakes.{Reads, mistake_parts};
+ghost use Rattle.krb_readers.specs.TicketCheck.{RunsTicketCheck, check_mistake, check_of, odd_with_silent, opened_status};
+ghost use Rattle.krb_driver.specs.Mistakes.{Refuses, Spells};
 
 use crate::klist::seen_tickets::has_ticket;
-use crate::klist::words::{odd_seconds, odd_with_cache};
+use crate::klist::words::{refuse_odd_seconds, refuse_with_cache};
 use krb_ccache::Ccache;
-use krb_driver::{FileName, Matches, Mistake, WordFault, first_value, spelled_seconds, typed};
+use krb_driver::{FileName, Matches, Mistake, spelled_seconds, typed};
 use krb_files::{Files, LoadFault};
 use krb_wire::{Limits, USUAL_LIMIT};
 use std::alloc::Allocator;
@@ -21,59 +21,37 @@ pub struct TicketCheck {
     pub seconds: u32,
 }
 
-// Returns the mistake that an option does not go with `-s`, both as they were typed.
-fn not_with_silent<'a, M: Matches<'a>>(matches: &M, letter: &'a str, name: &'a str) -> Mistake<'a>
-    ensures { mistake_parts result ≡ not_with_silent (M.matched matches.now) letter.now name.now }
+// Refuses an option that does not go with `-s`.
+fn refuse_with_silent<'a, M: Matches<'a>>(matches: &M) -> Result<(), Mistake<'a>>
+    ensures { Refuses (odd_with_silent (M.matched matches.now)) result }
 {
-    let option = typed(matches, letter, name);
-    Mistake::DoNotGoTogether(typed(matches, "-s", "--silent"), option)
-}
-
-// Returns the mistake of an option that does not go with `-s`, if one is given.
-fn odd_with_silent<'a, M: Matches<'a>>(matches: &M) -> Option<Mistake<'a>>
-    ensures { option_map mistake_parts result ≡ odd_with_silent (M.matched matches.now) }
-{
+    let silent = typed(matches, "-s", "--silent");
     if matches.flag("keytab") {
-        Some(not_with_silent(matches, "-k", "--keytab"))
+        Err(Mistake::DoNotGoTogether(silent, typed(matches, "-k", "--keytab")))
     } else if matches.flag("json") {
-        Some(not_with_silent(matches, "--json", "--json"))
+        Err(Mistake::DoNotGoTogether(silent, "--json"))
     } else if matches.flag("enctypes") {
-        Some(not_with_silent(matches, "-e", "--enctypes"))
+        Err(Mistake::DoNotGoTogether(silent, typed(matches, "-e", "--enctypes")))
     } else if matches.flag("flags") {
-        Some(not_with_silent(matches, "-f", "--flags"))
+        Err(Mistake::DoNotGoTogether(silent, typed(matches, "-f", "--flags")))
     } else if matches.flag("config") {
-        Some(not_with_silent(matches, "-C", "--config"))
+        Err(Mistake::DoNotGoTogether(silent, typed(matches, "-C", "--config")))
     } else {
-        None
+        Ok(())
     }
-}
-
-// Returns the first mistake that shows before SECONDS are read.
-fn odd_check<'a, M: Matches<'a>>(matches: &M) -> Option<Mistake<'a>>
-    ensures { option_map mistake_parts result ≡ odd_check (M.matched matches.now) }
-{
-    if let Some(mistake) = odd_seconds(matches) {
-        return Some(mistake);
-    }
-    if let Some(mistake) = odd_with_silent(matches) {
-        return Some(mistake);
-    }
-    odd_with_cache(matches)
 }
 
 /// Returns what `klist -s` asks for. Refuses options that do not go together, and a time that cannot be read.
-pub fn ticket_check<'a, M: Matches<'a>>(matches: &M) -> Result<TicketCheck, WordFault<'a>>
-    ensures { Reads (check_mistake (M.matched matches.now)) (λ check. check ≡ check_of (M.matched matches.now)) result }
+pub fn ticket_check<'a, M: Matches<'a>>(matches: &M) -> Result<TicketCheck, Mistake<'a>>
+    ensures { Spells (check_mistake (M.matched matches.now)) (λ check. check ≡ check_of (M.matched matches.now)) result }
 {
-    if let Some(mistake) = odd_check(matches) {
-        return Err(WordFault::of(mistake));
-    }
-    match spelled_seconds(first_value(matches, "for")) {
-        Ok(seconds) => Ok(TicketCheck {
-            seconds: seconds.unwrap_or(0),
-        }),
-        Err(mistake) => Err(WordFault::of(mistake)),
-    }
+    refuse_odd_seconds(matches)?;
+    refuse_with_silent(matches)?;
+    refuse_with_cache(matches)?;
+    let seconds = spelled_seconds(matches, "for")?;
+    Ok(TicketCheck {
+        seconds: seconds.unwrap_or(0),
+    })
 }
 
 // Returns the status for an image: 0 if it is a cache with a ticket that ends after that second, and otherwise 1.

@@ -1,12 +1,12 @@
 //! The words of klist, and its options.
 
-ghost use Rattle.std.specs.Prelude.{◌≡◌, option_map};
-ghost use Rattle.krb_readers.specs.Klist.{list_kind, list_mistake, list_options, not_with_keytab, odd_option, odd_seconds, odd_with_cache, odd_with_keytab};
-ghost use Rattle.krb_driver.specs.Mistakes.{Reads, mistake_parts};
+ghost use Rattle.std.specs.Prelude.{◌≡◌};
+ghost use Rattle.krb_readers.specs.Klist.{list_kind, list_mistake, list_options, odd_option, odd_seconds, odd_with_cache};
+ghost use Rattle.krb_driver.specs.Mistakes.{Refuses, Spells};
 
 use krb_cache_text::CcColumns;
 use krb_driver::{
-    CommandName, CommandWords, FileKind, Matches, Mistake, V1_BIG, Word, WordFault, times_given,
+    CommandName, CommandWords, FileKind, Matches, Mistake, V1_BIG, Word, refuse_twice, times_given,
     typed, v1_order,
 };
 use krb_text::KtColumns;
@@ -89,66 +89,48 @@ pub struct KlistOptions {
     pub json: bool,
 }
 
-// Returns the mistake that an option does not go with `-k`, both as they were typed.
-fn not_with_keytab<'a, M: Matches<'a>>(matches: &M, letter: &'a str, name: &'a str) -> Mistake<'a>
-    ensures { mistake_parts result ≡ not_with_keytab (M.matched matches.now) letter.now name.now }
+/// Refuses `--for` if it is given twice, or without `-s`.
+pub fn refuse_odd_seconds<'a, M: Matches<'a>>(matches: &M) -> Result<(), Mistake<'a>>
+    ensures { Refuses (odd_seconds (M.matched matches.now)) result }
 {
-    let option = typed(matches, letter, name);
-    Mistake::DoNotGoTogether(option, typed(matches, "-k", "--keytab"))
-}
-
-// Returns the mistake of an option that does not go with `-k`, if one is given.
-fn odd_with_keytab<'a, M: Matches<'a>>(matches: &M) -> Option<Mistake<'a>>
-    ensures { option_map mistake_parts result ≡ odd_with_keytab (M.matched matches.now) }
-{
-    if matches.flag("cache") {
-        Some(not_with_keytab(matches, "-c", "--cache"))
-    } else if matches.flag("flags") {
-        Some(not_with_keytab(matches, "-f", "--flags"))
-    } else if matches.flag("config") {
-        Some(not_with_keytab(matches, "-C", "--config"))
-    } else {
-        None
+    refuse_twice(matches, "for", "--for", "--for")?;
+    if times_given(matches, "for") > 0 && !matches.flag("silent") {
+        return Err(Mistake::OnlyWith("--for", "-s"));
     }
+    Ok(())
 }
 
-/// Returns the mistake of an option that goes only with `-k`, if one is given.
-pub fn odd_with_cache<'a, M: Matches<'a>>(matches: &M) -> Option<Mistake<'a>>
-    ensures { option_map mistake_parts result ≡ odd_with_cache (M.matched matches.now) }
+/// Refuses an option that goes only with `-k`.
+pub fn refuse_with_cache<'a, M: Matches<'a>>(matches: &M) -> Result<(), Mistake<'a>>
+    ensures { Refuses (odd_with_cache (M.matched matches.now)) result }
 {
     if matches.flag("times") {
-        Some(Mistake::ForKeytabs(typed(matches, "-t", "--times")))
+        Err(Mistake::ForKeytabs(typed(matches, "-t", "--times")))
     } else if matches.flag("keys") {
-        Some(Mistake::ForKeytabs(typed(matches, "-K", "--keys")))
+        Err(Mistake::ForKeytabs(typed(matches, "-K", "--keys")))
     } else if matches.flag("v1-big") {
-        Some(Mistake::ForKeytabs("--v1-big"))
+        Err(Mistake::ForKeytabs("--v1-big"))
     } else {
-        None
+        Ok(())
     }
 }
 
-/// Returns the mistake of `--for` if it is given twice, or without `-s`.
-pub fn odd_seconds<'a, M: Matches<'a>>(matches: &M) -> Option<Mistake<'a>>
-    ensures { option_map mistake_parts result ≡ odd_seconds (M.matched matches.now) }
+// Refuses an option that is for the other kind of file.
+fn refuse_odd_option<'a, M: Matches<'a>>(matches: &M) -> Result<(), Mistake<'a>>
+    ensures { Refuses (odd_option (M.matched matches.now)) result }
 {
-    let times = times_given(matches, "for");
-    if times > 1 {
-        Some(Mistake::Twice("--for"))
-    } else if times == 1 && !matches.flag("silent") {
-        Some(Mistake::OnlyWith("--for", "-s"))
-    } else {
-        None
+    if !matches.flag("keytab") {
+        return refuse_with_cache(matches);
     }
-}
-
-// Returns the first option that is for the other kind of file.
-fn odd_option<'a, M: Matches<'a>>(matches: &M) -> Option<Mistake<'a>>
-    ensures { option_map mistake_parts result ≡ odd_option (M.matched matches.now) }
-{
-    if matches.flag("keytab") {
-        odd_with_keytab(matches)
+    let keytab = typed(matches, "-k", "--keytab");
+    if matches.flag("cache") {
+        Err(Mistake::DoNotGoTogether(typed(matches, "-c", "--cache"), keytab))
+    } else if matches.flag("flags") {
+        Err(Mistake::DoNotGoTogether(typed(matches, "-f", "--flags"), keytab))
+    } else if matches.flag("config") {
+        Err(Mistake::DoNotGoTogether(typed(matches, "-C", "--config"), keytab))
     } else {
-        odd_with_cache(matches)
+        Ok(())
     }
 }
 
@@ -171,23 +153,12 @@ fn list_kind<'a, M: Matches<'a>>(matches: &M) -> ListKind
     }
 }
 
-// Returns the first mistake in the words of a listing.
-fn list_mistake<'a, M: Matches<'a>>(matches: &M) -> Option<Mistake<'a>>
-    ensures { option_map mistake_parts result ≡ list_mistake (M.matched matches.now) }
-{
-    match odd_seconds(matches) {
-        Some(mistake) => Some(mistake),
-        None => odd_option(matches),
-    }
-}
-
 /// Returns the options of a listing. Refuses options that do not go together.
-pub fn klist_options<'a, M: Matches<'a>>(matches: &M) -> Result<KlistOptions, WordFault<'a>>
-    ensures { Reads (list_mistake (M.matched matches.now)) (λ options. options ≡ list_options (M.matched matches.now)) result }
+pub fn klist_options<'a, M: Matches<'a>>(matches: &M) -> Result<KlistOptions, Mistake<'a>>
+    ensures { Spells (list_mistake (M.matched matches.now)) (λ options. options ≡ list_options (M.matched matches.now)) result }
 {
-    if let Some(mistake) = list_mistake(matches) {
-        return Err(WordFault::of(mistake));
-    }
+    refuse_odd_seconds(matches)?;
+    refuse_odd_option(matches)?;
     Ok(KlistOptions {
         kind: list_kind(matches),
         v1_order: v1_order(matches),

@@ -1,11 +1,12 @@
 //! The words of ktcheck, and its options.
 
-ghost use Rattle.std.specs.Prelude.{◌≡◌, codes, map, option_map};
-ghost use Rattle.krb_readers.specs.CheckWords.{allowed_words, bad_finding, bad_findings, check_options, is_finding, is_given};
-ghost use Rattle.krb_driver.specs.Mistakes.{Reads, mistake_parts};
+ghost use Rattle.std.specs.Prelude.{◌≡◌, codes, map};
+ghost use Rattle.krb_readers.specs.CheckWords.{bad_finding, check_options, finding, findings};
+ghost use Rattle.krb_driver.specs.Matches.{first_mistake};
+ghost use Rattle.krb_driver.specs.Mistakes.{Spells};
 
 use krb_audit::FindingWords;
-use krb_driver::{CommandName, CommandWords, Matches, Mistake, V1_BIG, Word, WordFault, v1_order};
+use krb_driver::{CommandName, CommandWords, Matches, Mistake, V1_BIG, Word, v1_order};
 use krb_wire::Order;
 
 /// The words of ktcheck.
@@ -56,72 +57,46 @@ pub struct CheckOptions {
     pub allowed: FindingWords,
 }
 
-// Returns whether a word is given.
-fn contains(words: &[&str], name: &str) -> bool
-    ensures { result ≡ is_given (map (λ word. word.now) words.now) name.now }
+// Returns the finding of that name.
+fn finding<'a>(word: &'a str) -> Result<FindingWords, Mistake<'a>>
+    ensures { Spells (bad_finding word.now) (λ found. found ≡ finding word.now) result }
 {
-    'words: for word in words {
-        if *word == name {
-            return true;
-        }
-    }
-    false
-}
-
-fn allowed_words(words: &[&str]) -> FindingWords
-    ensures { result ≡ allowed_words (map (λ word. word.now) words.now) }
-{
-    FindingWords {
-        weak: contains(words, "weak"),
-        hidden: contains(words, "hidden"),
-        same: contains(words, "same"),
-        clash: contains(words, "clash"),
-        old: contains(words, "old"),
-        mode: contains(words, "mode"),
-    }
-}
-
-fn is_finding(word: &str) -> bool
-    ensures { result ≡ is_finding word.now }
-{
-    allowed_words(&[word]).has_some()
-}
-
-// Returns the mistake in a word that is no finding.
-fn bad_finding<'a>(word: &'a str) -> Option<Mistake<'a>>
-    ensures { option_map mistake_parts result ≡ bad_finding word.now }
-{
-    if is_finding(word) {
-        None
+    let finding = FindingWords {
+        weak: word == "weak",
+        hidden: word == "hidden",
+        same: word == "same",
+        clash: word == "clash",
+        old: word == "old",
+        mode: word == "mode",
+    };
+    if finding.has_some() {
+        Ok(finding)
     } else {
-        Some(Mistake::NoFinding(word))
+        Err(Mistake::NoFinding(word))
     }
 }
 
-// Returns the mistake in the first word that is no finding.
-fn bad_findings<'a>(words: &[&'a str]) -> Option<Mistake<'a>>
-    ensures { option_map mistake_parts result ≡ bad_findings (map (λ word. word.now) words.now) }
+// Returns the findings of those names.
+fn findings<'a>(words: &[&'a str]) -> Result<FindingWords, Mistake<'a>>
+    ensures { Spells (first_mistake bad_finding (map (λ word. word.now) words.now))
+        (λ found. found ≡ findings (map (λ word. word.now) words.now)) result }
 {
+    let mut findings = FindingWords::none();
     'words: for word in words {
-        if let Some(mistake) = bad_finding(*word) {
-            return Some(mistake);
-        }
+        findings = findings.and(finding(word)?);
     }
-    None
+    Ok(findings)
 }
 
 /// Returns the options of ktcheck. Refuses a word that is no finding.
-pub fn check_options<'a, M: Matches<'a>>(matches: &M) -> Result<CheckOptions, WordFault<'a>>
-    ensures { Reads (bad_findings ((M.matched matches.now).values (codes "allow")))
+pub fn check_options<'a, M: Matches<'a>>(matches: &M) -> Result<CheckOptions, Mistake<'a>>
+    ensures { Spells (first_mistake bad_finding ((M.matched matches.now).values (codes "allow")))
         (λ options. options ≡ check_options (M.matched matches.now)) result }
 {
-    let allowed = matches.values("allow");
-    if let Some(mistake) = bad_findings(allowed) {
-        return Err(WordFault::of(mistake));
-    }
+    let allowed = findings(matches.values("allow"))?;
     Ok(CheckOptions {
         v1_order: v1_order(matches),
         quiet: matches.flag("quiet"),
-        allowed: allowed_words(allowed),
+        allowed,
     })
 }
