@@ -1,11 +1,6 @@
 -- What is found when one more entry is checked.
-use Rattle.krb_audit.proofs.Cited.{◌≡◌, ℕ, suc, ◌≤◌, arith, Bool, List, [], ◌∷◌, ◌++◌, length, Option, Some, None, refl, sym, ap, ◌∙◌, append_assoc, ◌||◌, list_any, PlacedEntry, placed_entries}
-use Rattle.std.specs.List.{flat_map, filter_map, cons_option}
-use Rattle.std.proofs.Math.Bool.{or_assoc, or-false}
-use Rattle.std.proofs.lemmas.List.Folds.{list_any-append}
-use Rattle.krb_keytab.specs.CellViews.{cells_of}
+use Rattle.krb_audit.proofs.Cited.{◌≡◌, ℕ, suc, ◌≤◌, arith, Bool, List, [], ◌∷◌, ◌++◌, length, Option, Some, None, refl, sym, ap, ◌∙◌, append_assoc, ◌||◌, list_any, PlacedEntry, placed_entries, flat_map, filter_map, cons_option, or_assoc, or-false, list_any-append, cells_of, entry_in, ends_mit, marked, marked_after, marks_of, is_clash, is_same, mark_lines, words_of, with_marks}
 use Rattle.krb_keytab.specs.Changes.{placed_cells}
-use Rattle.krb_keytab.specs.Entries.{entry_in}
 use Rattle.krb_keytab.specs.Store.{KeytabState}
 use Rattle.krb_keytab.proofs.EntryLists.{entries_of_cells}
 use Rattle.krb_keytab.proofs.ImageChanges.{placed_len}
@@ -13,8 +8,6 @@ use Rattle.krb_audit.specs.declared.findings.Before.{Before}
 use Rattle.krb_audit.specs.declared.marks.Marks.{Marks}
 use Rattle.krb_audit.specs.declared.finding_words.FindingWords.{FindingWords}
 use Rattle.krb_audit.specs.Before.{IsBefore}
-use Rattle.krb_audit.specs.Findings.{ends_mit, marked, marked_after, marks_of}
-use Rattle.krb_audit.specs.Report.{is_clash, is_same, mark_lines, words_of, with_marks}
 
 -- ---- words
 

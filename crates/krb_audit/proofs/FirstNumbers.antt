@@ -1,9 +1,6 @@
 -- The number of the first entry of a name.
-use Rattle.krb_audit.proofs.Cited.{◌≡◌, ℕ, ◌+◌, ◌≤◌, Bool, true, false, cond, List, [], ◌∷◌, Option, Some, refl, sym, ap, ◌∙◌, arith, eq-eqb, eqb-true, Parts, have_same_name, some_is, PlacedEntry, first_number}
-use Rattle.std.proofs.Common.{◌==◌}
+use Rattle.krb_audit.proofs.Cited.{◌≡◌, ℕ, ◌+◌, ◌≤◌, Bool, true, false, cond, List, [], ◌∷◌, Option, Some, refl, sym, ap, ◌∙◌, arith, eq-eqb, eqb-true, Parts, have_same_name, some_is, PlacedEntry, first_number, ◌==◌, on_equiv, and_equiv, nat_list_eq_equiv, lists_equiv, first_from}
 use Rattle.std.specs.Cmp.{IsEquivalence}
-use Rattle.std.proofs.lemmas.Cmp.{on_equiv, and_equiv, nat_list_eq_equiv, lists_equiv}
-use Rattle.krb_audit.specs.Rows.{first_from}
 
 pub same_equiv : IsEquivalence have_same_name
 same_equiv = and_equiv (on_equiv (λ (p : Parts). p.realm) nat_list_eq_equiv) (on_equiv (λ (p : Parts). p.components) (lists_equiv nat_list_eq_equiv))

@@ -1,13 +1,8 @@
 -- The first entry that is alike, when one more entry is added.
-use Rattle.krb_audit.proofs.Cited.{◌≡◌, ℕ, Bool, true, false, cond, List, [], ◌∷◌, ◌++◌, Option, Some, None, refl, sym, ap, ◌∙◌, ◌&&◌, ◌==◌, option_map, bytes_eq, have_same_name, PlacedEntry, first_number}
-use Rattle.std.specs.Prelude.{find}
+use Rattle.krb_audit.proofs.Cited.{◌≡◌, ℕ, Bool, true, false, cond, List, [], ◌∷◌, ◌++◌, Option, Some, None, refl, sym, ap, ◌∙◌, ◌&&◌, ◌==◌, option_map, bytes_eq, have_same_name, PlacedEntry, first_number, find, and_assoc, on_equiv, and_equiv, nat_eq_equiv, find-append, as_alike, is_alike}
 use Rattle.std.specs.Cmp.{IsEquivalence}
 use Rattle.std.specs.Option.{option_or, unwrap_or}
-use Rattle.std.proofs.Math.Bool.{and_assoc}
-use Rattle.std.proofs.lemmas.Cmp.{on_equiv, and_equiv, nat_eq_equiv}
-use Rattle.std.proofs.lemmas.List.Folds.{find-append}
 use Rattle.krb_audit.specs.declared.marks.Alike.{Alike}
-use Rattle.krb_audit.specs.Findings.{as_alike, is_alike}
 use Rattle.krb_audit.specs.Firsts.{AreFirsts, Key, same_key}
 use Rattle.krb_audit.proofs.FirstNumbers.{number_test, same_equiv}
 

@@ -1,10 +1,6 @@
 -- Which entries have a selected kvno, from the rows.
-use Rattle.krb_audit.proofs.Cited.{◌≡◌, ℕ, Bool, true, false, cond, List, [], ◌∷◌, get_or, map, replicate, Option, refl, ap, sym, ◌∙◌, ◌&&◌, ◌||◌, ◌==◌, not, fold, list_any, All, Parts, have_same_name, PlacedEntry, Row, Stamp, is_old, AreRows, HasPlace, has_selected_kvno, AreNewest, selects_row}
-use Rattle.std.proofs.Math.Bool.{or_assoc, or-false}
+use Rattle.krb_audit.proofs.Cited.{◌≡◌, ℕ, Bool, true, false, cond, List, [], ◌∷◌, get_or, map, replicate, Option, refl, ap, sym, ◌∙◌, ◌&&◌, ◌||◌, ◌==◌, not, fold, list_any, All, Parts, have_same_name, PlacedEntry, Row, Stamp, is_old, AreRows, HasPlace, has_selected_kvno, AreNewest, selects_row, or_assoc, or-false, Any, Exactly, Newest, Old, OldFor, is_young, AreMarks, AreYoung, is_old_row, is_young_row}
 use Rattle.krb_audit.specs.declared.selection.SelectedKvno.{SelectedKvno}
-use Rattle.krb_audit.specs.declared.selection.SelectedKvno.TheVariants.{Any, Exactly, Newest, Old, OldFor}
-use Rattle.krb_audit.specs.Selection.{is_young}
-use Rattle.krb_audit.specs.KvnoMarks.{AreMarks, AreYoung, is_old_row, is_young_row}
 use Rattle.krb_audit.proofs.NewestStamps.{at_name, old_row}
 use Rattle.krb_audit.proofs.RowLemmas.{IsRow, map_rows, stepped}
 

@@ -1,18 +1,12 @@
 -- The bytes that encode a name without its type determine the name.
-use Rattle.krb_audit.proofs.Cited.{◌≡◌, ℕ, ◌+◌, List, [], ◌∷◌, ◌++◌, length, take, Some, None, refl, sym, ap, subst, ◌∙◌, append_assoc, arith, bytes_eq, KtFormat, Parts, have_same_name, some_is, EntryParts, kt_name}
-use Rattle.std.specs.List.{flat_map}
+use Rattle.krb_audit.proofs.Cited.{◌≡◌, ℕ, ◌+◌, List, [], ◌∷◌, ◌++◌, length, take, Some, None, refl, sym, ap, subst, ◌∙◌, append_assoc, arith, bytes_eq, KtFormat, Parts, have_same_name, some_is, EntryParts, kt_name, flat_map, length-append, take_at, digits, data16, order_of, count_field, name_type_field, kt_principal, HasNameType, FitsKt, wide32, Spells, type_len}
 use Rattle.std.specs.Int.{w16, w32}
-use Rattle.std.proofs.lemmas.List.{length-append, take_at}
 use Rattle.std.proofs.lemmas.Slice.Eq.{bytes_eq-Decides}
 use Rattle.krb_wire.specs.declared.format.Order.TheVariants.{Big}
 use Rattle.krb_wire.specs.declared.format.KtFormat.TheVariants.{V1, V2}
-use Rattle.krb_wire.specs.Spelling.{digits, data16, order_of, count_field, name_type_field, kt_principal, HasNameType, FitsKt}
 use Rattle.krb_wire.specs.Reading.{kt_principal_at}
-use Rattle.krb_wire.proofs.Fields.{wide32}
 use Rattle.krb_wire.proofs.NamesCompared.{same_name_is}
 use Rattle.krb_wire.proofs.Principals.{kt_principal_again}
-use Rattle.krb_keytab.specs.Entry.{Spells}
-use Rattle.krb_audit.specs.Names.{type_len}
 
 -- a name is encoded by these bytes and its type
 with_type : (f : KtFormat) (p : Parts) → kt_principal f p ≡ kt_name f p ++ name_type_field f p.name_type

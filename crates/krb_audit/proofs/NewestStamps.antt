@@ -1,12 +1,5 @@
 -- The newest stamps at the numbers of names.
-use Rattle.krb_audit.proofs.Cited.{◌≡◌, ℕ, Bool, true, false, cond, List, [], ◌∷◌, get_or, replicate, Option, Some, None, refl, ap, sym, subst, ◌∙◌, arith, option_map, fold, All, Parts, have_same_name, EntryParts, PlacedEntry, Row, Stamp, is_old, AreRows, HasPlace, first_number, stamp_of, AreNewest}
-use Rattle.std.proofs.Common.{◌==◌, inl, inr}
-use Rattle.std.specs.Prelude.{filter}
-use Rattle.std.proofs.lemmas.Bool.{cases_lt}
-use Rattle.std.proofs.lemmas.List.{get_or-replicate, get_or_past, length-replicate}
-use Rattle.krb_audit.specs.Newest.{has_other_version, is_newer, newer, newest, newest_from}
-use Rattle.krb_audit.specs.Rows.{newer_stamp, stamped}
-use Rattle.krb_audit.specs.KvnoMarks.{is_old_row}
+use Rattle.krb_audit.proofs.Cited.{◌≡◌, ℕ, Bool, true, false, cond, List, [], ◌∷◌, get_or, replicate, Option, Some, None, refl, ap, sym, subst, ◌∙◌, arith, option_map, fold, All, Parts, have_same_name, EntryParts, PlacedEntry, Row, Stamp, is_old, AreRows, HasPlace, first_number, stamp_of, AreNewest, ◌==◌, inl, inr, filter, cases_lt, get_or-replicate, get_or_past, length-replicate, has_other_version, is_newer, newer, newest, newest_from, newer_stamp, stamped, is_old_row}
 use Rattle.krb_audit.proofs.FirstNumbers.{number_test, same_equiv}
 use Rattle.krb_audit.proofs.RowLemmas.{IsRow, at_number, fold_rows, stepped}
 

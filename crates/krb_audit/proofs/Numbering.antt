@@ -1,22 +1,15 @@
 -- The names of entries are numbered, one entry after the other.
-use Rattle.krb_audit.proofs.Cited.{◌≡◌, ℕ, ◌+◌, Bool, true, false, cond, List, [], ◌∷◌, ◌++◌, length, map, Option, Some, None, refl, sym, ap, ◌∙◌, append_assoc, bytes_eq, KtFormat, Parts, have_same_name, PlacedEntry, Row, Stamp, AreNumbered, AreRows, first_number, stamp_of, kt_name}
-use Rattle.std.proofs.Common.{append-nil}
-use Rattle.std.specs.Prelude.{unwrap_or}
+use Rattle.krb_audit.proofs.Cited.{◌≡◌, ℕ, ◌+◌, Bool, true, false, cond, List, [], ◌∷◌, ◌++◌, length, map, Option, Some, None, refl, sym, ap, ◌∙◌, append_assoc, bytes_eq, KtFormat, Parts, have_same_name, PlacedEntry, Row, Stamp, AreNumbered, AreRows, first_number, stamp_of, kt_name, append-nil, unwrap_or, option_or, nat_cmp_total, tied_itself, length_push, map_push, FitsKt, HashedName, name_cmp, to_name, first_from, row_in, shown}
 use Rattle.std.specs.BTreeMap.{BTreeMap, get, get_by, Updates}
 use Rattle.std.specs.Cmp.Lexicographic.{slice_cmp}
-use Rattle.std.specs.Option.{option_or}
 use Rattle.std.specs.declared.cmp.Ordering.{Ordering}
 use Rattle.std.specs.declared.cmp.Ordering.TheVariants.{Less, Equal, Greater}
 use Rattle.std.specs.Ordering.{nat_cmp, ordering_then, is_eq}
-use Rattle.std.proofs.lemmas.Cmp.{nat_cmp_total, tied_itself}
-use Rattle.std.proofs.lemmas.List.{length_push, map_push}
 use Rattle.std.proofs.lemmas.Map.Text.{is_eq-slice_cmp}
 use Rattle.std.proofs.lemmas.Slice.Eq.{bytes_eq-Decides}
 use denote.Ref.{Bor}
-use Rattle.krb_wire.specs.Spelling.{FitsKt}
 use Rattle.krb_audit.specs.declared.rows.Names.{Names}
 use Rattle.krb_audit.specs.Hash.{hash_of}
-use Rattle.krb_audit.specs.Rows.{HashedName, name_cmp, to_name, first_from, row_in, shown}
 use Rattle.krb_audit.proofs.FirstNumbers.{same_equiv, first_alike}
 use Rattle.krb_audit.proofs.NameBytes.{same_bytes}
 

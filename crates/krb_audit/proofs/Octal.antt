@@ -1,7 +1,5 @@
 -- One more octal digit.
-use Rattle.krb_audit.proofs.Cited.{◌≡◌, ℕ, suc, ◌+◌, arith, Bool, false, cond, [], ◌∷◌, ◌++◌, refl, sym, ap, ◌∙◌, ◌==◌}
-use Rattle.std.proofs.Common.{◌≢◌, zero, ◌-◌, ◌/◌, ◌%◌}
-use Rattle.krb_audit.specs.Report.{octal}
+use Rattle.krb_audit.proofs.Cited.{◌≡◌, ℕ, suc, ◌+◌, arith, Bool, false, cond, [], ◌∷◌, ◌++◌, refl, sym, ap, ◌∙◌, ◌==◌, ◌≢◌, zero, ◌-◌, ◌/◌, ◌%◌, octal}
 
 not_zero : (n : ℕ) → n ≢ 0 → (n == 0) ≡ false
 not_zero n ne = grind arith

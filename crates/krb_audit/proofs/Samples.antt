@@ -1,7 +1,6 @@
 -- Worked samples of the definitions.
 use Rattle.std.specs.Prelude.{◌≡◌, [], ◌∷◌, codes, Some, true, false}
-use Rattle.std.proofs.Common.{refl}
-use Rattle.krb_audit.specs.Report.{mark_lines}
+use Rattle.krb_audit.proofs.Cited.{refl, mark_lines}
 use Rattle.krb_audit.proofs.OnLiterals.{krb_audit_on_literals}
 
 -- what is found about an entry has its order: weak, hidden, same or clash, old

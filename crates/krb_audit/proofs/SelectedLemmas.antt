@@ -1,6 +1,5 @@
 -- A pass over the entries of a keytab that hands on the selected ones.
-use Rattle.krb_audit.proofs.Cited.{◌≡◌, Bool, true, false, cond, List, [], ◌∷◌, ◌++◌, refl, ap, subst, ◌∙◌, append_assoc, ◌&&◌, ◌||◌, not, list_any, PlacedEntry}
-use Rattle.std.specs.Prelude.{filter}
+use Rattle.krb_audit.proofs.Cited.{◌≡◌, Bool, true, false, cond, List, [], ◌∷◌, ◌++◌, refl, ap, subst, ◌∙◌, append_assoc, ◌&&◌, ◌||◌, not, list_any, PlacedEntry, filter}
 
 -- the selected ones of the entries before `rest` were taken, and it is known whether one of them is named
 pub record IsOnTheWay {T : Type 0} (has_taken : T → List PlacedEntry → Type 0) (named has_kvno : PlacedEntry → Bool) (all rest : List PlacedEntry) (any : Bool) (taker : T) : Type 0 where

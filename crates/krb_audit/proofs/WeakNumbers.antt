@@ -1,12 +1,5 @@
 -- The weak enctypes that were found.
-use Rattle.krb_audit.proofs.Cited.{◌≡◌, ℕ, ◌<◌, Bool, true, false, List, [], ◌∷◌, ◌++◌, Option, Some, None, map, get_or, length, replicate, refl, ap, ◌∙◌, sym, arith, ◌==◌, ◌&&◌, ◌||◌, list_any, eq-eqb, eqb-true, PlacedEntry}
-use Rattle.std.proofs.Common.{set, inl, inr}
-use Rattle.std.specs.Prelude.{nat_lt}
-use Rattle.std.specs.List.{AllByRecursion, range_with_len}
-use Rattle.std.specs.Option.{MatchOption, option_map_or}
-use Rattle.std.proofs.lemmas.Bool.{and_from, and_left, cases_eq, cases_lt, false_from_ne_true, false≢true, ltb-true, ne_eqb, or_right}
-use Rattle.std.proofs.lemmas.List.{get_or-set_other, get_or-set_same, get_or_past, length-set}
-use Rattle.std.proofs.lemmas.List.Folds.{list_any-append}
+use Rattle.krb_audit.proofs.Cited.{◌≡◌, ℕ, ◌<◌, Bool, true, false, List, [], ◌∷◌, ◌++◌, Option, Some, None, map, get_or, length, replicate, refl, ap, ◌∙◌, sym, arith, ◌==◌, ◌&&◌, ◌||◌, list_any, eq-eqb, eqb-true, PlacedEntry, set, inl, inr, nat_lt, AllByRecursion, range_with_len, MatchOption, option_map_or, and_from, and_left, cases_eq, cases_lt, false_from_ne_true, false≢true, ltb-true, ne_eqb, or_right, get_or-set_other, get_or-set_same, get_or_past, length-set, list_any-append}
 use Rattle.std.proofs.lemmas.List.FromFn.{fill_by_all, get_or-map-range_with_len, length-map-range_with_len}
 use Rattle.krb_text.specs.Etype.{Etype, etype_numbered, etype_table, is_weak}
 use Rattle.krb_text.proofs.Found.{MatchOption-find}

@@ -1,8 +1,6 @@
 -- Entries are twins iff their keys in a map compare equal.
-use Rattle.krb_copy.proofs.Cited.{◌≡◌, ℕ, ◌+◌, ◌<◌, Bool, true, false, cond, List, [], ◌∷◌, ◌++◌, length, None, Ok, refl, sym, ap, ◌∙◌, arith, ◌&&◌, ◌==◌, map, bytes_eq, name_text, EntryParts, are_twins, ClassKey}
-use Rattle.std.proofs.Common.{◌*◌, ◌/◌}
+use Rattle.krb_copy.proofs.Cited.{◌≡◌, ℕ, ◌+◌, ◌<◌, Bool, true, false, cond, List, [], ◌∷◌, ◌++◌, length, None, Ok, refl, sym, ap, ◌∙◌, arith, ◌&&◌, ◌==◌, map, bytes_eq, name_text, EntryParts, are_twins, ClassKey, ◌*◌, ◌/◌, join_with_byte, IsClassKey, class_cmp, emptiness, kind_of}
 use Rattle.std.specs.Prelude.{Result, nat_lt}
-use Rattle.std.specs.List.{join_with_byte}
 use Rattle.std.specs.declared.cmp.Ordering.{Ordering}
 use Rattle.std.specs.declared.cmp.Ordering.TheVariants.{Less, Equal, Greater}
 use Rattle.std.specs.Ordering.{is_eq, nat_cmp, ordering_then}
@@ -16,7 +14,6 @@ use Rattle.krb_wire.proofs.NamesCompared.{same_name_is, and_both, both_and}
 use Rattle.krb_wire.proofs.RoundTrip.{name_of-name_text}
 use Rattle.krb_audit.specs.Hash.{hash_of}
 use Rattle.krb_audit.proofs.FirstNumbers.{same_bool}
-use Rattle.krb_copy.specs.Classes.{IsClassKey, class_cmp, emptiness, kind_of}
 
 -- ---- names as text
 

@@ -1,14 +1,10 @@
 -- What is known of all classes, before a run and after each entry asked for.
-use Rattle.krb_copy.proofs.Cited.{◌≡◌, ℕ, Bool, true, false, cond, List, [], ◌∷◌, ◌++◌, Option, Some, None, refl, sym, ap, subst, ◌∙◌, map, filter, not, ◌&&◌, ◌||◌, list_any, bytes_eq, append-nil, list_any-append, EntryParts, are_twins, are_same, Held, as_found, as_copied, twins, There, Clash, Copy, step_among, step_of, with_copy, AreClasses, ClassKey}
-use Rattle.std.specs.Prelude.{unwrap_or}
+use Rattle.krb_copy.proofs.Cited.{◌≡◌, ℕ, Bool, true, false, cond, List, [], ◌∷◌, ◌++◌, Option, Some, None, refl, sym, ap, subst, ◌∙◌, map, filter, not, ◌&&◌, ◌||◌, list_any, bytes_eq, append-nil, list_any-append, EntryParts, are_twins, are_same, Held, as_found, as_copied, twins, There, Clash, Copy, step_among, step_of, with_copy, AreClasses, ClassKey, unwrap_or, map_push, is_kept, HaveClass, IsClass, IsClassKey, class_cmp, has_key, places_of, stays, step_at}
 use Rattle.std.specs.BTreeMap.{BTreeMap, get, Updates}
-use Rattle.std.proofs.lemmas.List.{map_push}
 use Rattle.std.proofs.lemmas.List.Elements.{filter-append, filter_agree}
 use denote.Ref.{Bor}
 use Rattle.krb_copy.specs.declared.class.Class.{Class}
 use Rattle.krb_copy.specs.declared.class.Class.TheVariants.{Empty, Kept}
-use Rattle.krb_copy.specs.Copying.{is_kept}
-use Rattle.krb_copy.specs.Classes.{HaveClass, IsClass, IsClassKey, class_cmp, has_key, places_of, stays, step_at}
 use Rattle.krb_copy.proofs.Alike.{twins_equiv}
 use Rattle.krb_copy.proofs.ClassKeys.{classes_agree}
 

@@ -1,24 +1,13 @@
 -- A change of one cell leaves the entries of all others.
-use Rattle.krb_copy.proofs.Cited.{◌≡◌, ℕ, ◌+◌, ◌<◌, Bool, true, false, cond, List, [], ◌∷◌, ◌++◌, Option, Some, None, Result, Ok, Err, refl, sym, ap, subst, ◌∙◌, inl, inr, arith, map, ◌==◌, ◌||◌, AllByRecursion, list_any, append-nil, some_is, Code, EntryParts, PlacedEntry, placed_entries, KeytabState, entry_at_place, put_result, without}
-use Rattle.std.proofs.Common.{◌≤◌}
-use Rattle.std.specs.Prelude.{option_map}
-use Rattle.std.specs.List.{filter_map, cons_option, find}
-use Rattle.std.proofs.lemmas.Bool.{ne_eqb}
+use Rattle.krb_copy.proofs.Cited.{◌≡◌, ℕ, ◌+◌, ◌<◌, Bool, true, false, cond, List, [], ◌∷◌, ◌++◌, Option, Some, None, Result, Ok, Err, refl, sym, ap, subst, ◌∙◌, inl, inr, arith, map, ◌==◌, ◌||◌, AllByRecursion, list_any, append-nil, some_is, Code, EntryParts, PlacedEntry, placed_entries, KeytabState, entry_at_place, put_result, without, ◌≤◌, option_map, filter_map, cons_option, find, ne_eqb, bind_some, cut_store, entry_at, store_of, store_cell, cut_result, cut_gives, put_gives, removal_cuts, addition_puts}
 use Rattle.krb_wire.specs.declared.format.KtFormat.{KtFormat}
 use Rattle.krb_wire.specs.Reading.{◌>>=◌}
-use Rattle.krb_wire.proofs.Fields.{bind_some}
-use Rattle.krb_walk.specs.Events.{cut_store}
 use Rattle.krb_walk.specs.Store.{Cell, Store, Standing, Record, standing, end_from, record_of, record_of_some, bytes_of_some, live_bytes}
 use Rattle.krb_walk.specs.Changes.{OneCell, Fills, Appends}
 use Rattle.krb_walk.proofs.Stops.{bytes_from}
 use Rattle.krb_walk.proofs.Splits.{bytes_ahead, bytes_here}
 use Rattle.krb_walk.proofs.Cells.{find_head, find_tail}
-use Rattle.krb_keytab.specs.Entry.{entry_at}
-use Rattle.krb_keytab.specs.Store.{store_of, store_cell}
-use Rattle.krb_keytab.specs.Changes.{cut_result}
 use Rattle.krb_keytab.proofs.Cuts.{store_sound}
-use Rattle.krb_keytab.proofs.AfterChanges.{cut_gives, put_gives}
-use Rattle.krb_keytab.proofs.StoreChanges.{removal_cuts, addition_puts}
 
 -- ---- cells
 

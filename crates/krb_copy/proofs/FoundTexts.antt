@@ -1,7 +1,5 @@
 -- A pass over the entries of a keytab: those so far, and those still to come.
-use Rattle.krb_copy.proofs.Cited.{name_texts, ◌≡◌, ℕ, ◌+◌, ◌<◌, List, [], ◌∷◌, ◌++◌, length, take, sym, ap, subst, ◌∙◌, append_assoc, map, name_text, PlacedEntry, AreClasses, ClassKey, Held, as_found, AreTexts, entry_texts}
-use Rattle.std.proofs.Common.{get_or}
-use Rattle.std.proofs.lemmas.List.{map_push, take_more}
+use Rattle.krb_copy.proofs.Cited.{name_texts, ◌≡◌, ℕ, ◌+◌, ◌<◌, List, [], ◌∷◌, ◌++◌, length, take, sym, ap, subst, ◌∙◌, append_assoc, map, name_text, PlacedEntry, AreClasses, ClassKey, Held, as_found, AreTexts, entry_texts, get_or, map_push, take_more}
 use Rattle.std.proofs.lemmas.List.Concat.{flat_map-append}
 use Rattle.std.specs.BTreeMap.{BTreeMap}
 use Rattle.krb_copy.specs.declared.class.Class.{Class}

@@ -1,21 +1,11 @@
 -- After removals and an addition a keytab has no entry but those that were left and the new one.
-use Rattle.krb_copy.proofs.Cited.{◌≡◌, ℕ, Bool, true, false, cond, List, [], ◌∷◌, Option, Some, None, Result, Ok, Err, refl, sym, ap, subst, ◌∙◌, inl, inr, arith, map, filter, not, ◌==◌, ◌||◌, list_any, list_any-append, Code, EntryParts, PlacedEntry, placed_entries, KeytabState, entry_at_place, put_result, without, are_twins, Held, Run, Step, There, Clash, Copy, as_found, as_copied, twins, step_of, with_copy, run_added, run_after, go_on, run_over, run_start, copy_run, has_lines}
-use Rattle.std.proofs.Common.{◌⊎◌}
-use Rattle.std.specs.Prelude.{is_some}
-use Rattle.std.proofs.lemmas.Bool.{eq-eqb}
+use Rattle.krb_copy.proofs.Cited.{◌≡◌, ℕ, Bool, true, false, cond, List, [], ◌∷◌, Option, Some, None, Result, Ok, Err, refl, sym, ap, subst, ◌∙◌, inl, inr, arith, map, filter, not, ◌==◌, ◌||◌, list_any, list_any-append, Code, EntryParts, PlacedEntry, placed_entries, KeytabState, entry_at_place, put_result, without, are_twins, Held, Run, Step, There, Clash, Copy, as_found, as_copied, twins, step_of, with_copy, run_added, run_after, go_on, run_over, run_start, copy_run, has_lines, ◌⊎◌, is_some, eq-eqb, cut_store, entry_at, store_of, cut_result, with_hole, cut_gives, put_gives, removed_none, removal_cuts, addition_puts, GoesByItsEntries}
 use Rattle.krb_wire.specs.declared.format.KtFormat.{KtFormat}
 use Rattle.krb_wire.specs.Reading.{◌>>=◌}
 use Rattle.krb_walk.specs.declared.refusal.Code.TheVariants as code
 use Rattle.krb_walk.specs.declared.fault.FaultKind.{FaultKind}
-use Rattle.krb_walk.specs.Events.{cut_store}
 use Rattle.krb_walk.specs.Store.{Cell, fault_of, fault_from, live_bytes}
 use Rattle.krb_walk.proofs.Stops.{bytes_from}
-use Rattle.krb_keytab.specs.Entry.{entry_at}
-use Rattle.krb_keytab.specs.Store.{store_of}
-use Rattle.krb_keytab.specs.Changes.{cut_result, with_hole}
-use Rattle.krb_keytab.proofs.AfterChanges.{cut_gives, put_gives, removed_none}
-use Rattle.krb_keytab.proofs.StoreChanges.{removal_cuts, addition_puts}
-use Rattle.krb_copy.specs.Laws.{GoesByItsEntries}
 use Rattle.krb_copy.proofs.Elsewhere.{elsewhere, appended_elsewhere, put_format, any_entry}
 use Rattle.krb_copy.proofs.LawLemmas.{any_parts, copy_step, start_there}
 use Rattle.krb_copy.proofs.LawRuns.{ok_is, ended, over}

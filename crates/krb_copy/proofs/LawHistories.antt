@@ -1,12 +1,9 @@
 -- A run is a history of removals and additions, and without replacing of additions alone.
-use Rattle.krb_copy.proofs.Cited.{◌≡◌, ℕ, Bool, true, false, cond, List, [], ◌∷◌, ◌++◌, Some, Result, Ok, Err, refl, sym, ap, subst, ◌∙◌, map, list_any, bytes_eq, Code, EntryParts, PlacedEntry, KeytabState, entry_at_place, put_result, without, Held, Run, Step, There, Clash, Copy, twins, step_among, step_of, run_added, run_after, go_on, run_over, run_start, copy_run, has_lines}
+use Rattle.krb_copy.proofs.Cited.{◌≡◌, ℕ, Bool, true, false, cond, List, [], ◌∷◌, ◌++◌, Some, Result, Ok, Err, refl, sym, ap, subst, ◌∙◌, map, list_any, bytes_eq, Code, EntryParts, PlacedEntry, KeytabState, entry_at_place, put_result, without, Held, Run, Step, There, Clash, Copy, twins, step_among, step_of, run_added, run_after, go_on, run_over, run_start, copy_run, has_lines, SessionState, after, put_store, cuts_ran, AllStay, AreHistories, changes_of, changes_on, changes_over}
 use Rattle.krb_walk.specs.declared.event.Event.{Event}
 use Rattle.krb_walk.specs.declared.event.Event.TheVariants.{Put, Cut}
-use Rattle.krb_walk.specs.Events.{SessionState, after, put_store}
 use Rattle.krb_walk.specs.History.{state_after}
 use Rattle.krb_keytab.specs.Rewrite.{keytab_rules}
-use Rattle.krb_keytab.proofs.StoreChanges.{cuts_ran}
-use Rattle.krb_copy.specs.Laws.{AllStay, AreHistories, changes_of, changes_on, changes_over}
 use Rattle.krb_copy.proofs.Elsewhere.{put_elsewhere}
 use Rattle.krb_copy.proofs.LawRuns.{ok_is, ended}
 

@@ -1,9 +1,6 @@
 -- What a run does to the entries of its keytab.
-use Rattle.krb_copy.proofs.Cited.{◌≡◌, ℕ, Bool, true, false, cond, List, [], ◌∷◌, ◌++◌, Some, Ok, refl, sym, ap, subst, ◌∙◌, map, filter, not, ◌&&◌, ◌||◌, AllByRecursion, list_any, bytes_eq, list_any-append, some_is, EntryParts, PlacedEntry, placed_entries, KeytabState, entry_at_place, put_result, without, are_twins, are_same, Held, There, Clash, Copy, as_found, as_copied, twins, step_among, step_of, with_copy}
+use Rattle.krb_copy.proofs.Cited.{◌≡◌, ℕ, Bool, true, false, cond, List, [], ◌∷◌, ◌++◌, Some, Ok, refl, sym, ap, subst, ◌∙◌, map, filter, not, ◌&&◌, ◌||◌, AllByRecursion, list_any, bytes_eq, list_any-append, some_is, EntryParts, PlacedEntry, placed_entries, KeytabState, entry_at_place, put_result, without, are_twins, are_same, Held, There, Clash, Copy, as_found, as_copied, twins, step_among, step_of, with_copy, added_reads, is_kept, IsInPlace}
 use Rattle.krb_keytab.specs.Form.{IsEntry, read_back}
-use Rattle.krb_keytab.proofs.AfterChanges.{added_reads}
-use Rattle.krb_copy.specs.Copying.{is_kept}
-use Rattle.krb_copy.specs.Laws.{IsInPlace}
 use Rattle.krb_copy.proofs.Alike.{twins_equiv, same_equiv, same_are_twins}
 use Rattle.krb_copy.proofs.Elsewhere.{entries_read, put_elsewhere, without_elsewhere}
 

@@ -1,7 +1,6 @@
 -- What a run over all entries asked for does to the entries of its keytab.
-use Rattle.krb_copy.proofs.Cited.{◌≡◌, ℕ, Bool, true, false, cond, List, [], ◌∷◌, ◌++◌, Some, Result, Ok, Err, refl, sym, ap, subst, ◌∙◌, append_assoc, map, ◌||◌, AllByRecursion, list_any, flat_map, append-nil, Code, removed_line, EntryParts, PlacedEntry, placed_entries, KeytabState, entry_at_place, put_result, without, are_twins, are_same, Held, Run, Step, There, Clash, Copy, as_found, step_of, with_copy, run_added, run_after, go_on, run_over, run_start, copy_run, has_lines}
+use Rattle.krb_copy.proofs.Cited.{◌≡◌, ℕ, Bool, true, false, cond, List, [], ◌∷◌, ◌++◌, Some, Result, Ok, Err, refl, sym, ap, subst, ◌∙◌, append_assoc, map, ◌||◌, AllByRecursion, list_any, flat_map, append-nil, Code, removed_line, EntryParts, PlacedEntry, placed_entries, KeytabState, entry_at_place, put_result, without, are_twins, are_same, Held, Run, Step, There, Clash, Copy, as_found, step_of, with_copy, run_added, run_after, go_on, run_over, run_start, copy_run, has_lines, Has, AreEntries, IsInPlace, HasEachAsked, SecondDoesNothing, OthersStay, ChangesAreTold}
 use Rattle.krb_keytab.specs.Form.{IsEntry}
-use Rattle.krb_copy.specs.Laws.{Has, AreEntries, IsInPlace, HasEachAsked, SecondDoesNothing, OthersStay, ChangesAreTold}
 use Rattle.krb_copy.proofs.Alike.{same_equiv}
 use Rattle.krb_copy.proofs.Elsewhere.{any_entry}
 use Rattle.krb_copy.proofs.LawLemmas.{AreThere, IsHeld, no_clash, start_there, copy_step, stays_after, copy_there, none_gone, copy_held, all_held_after, all_append, held_there, there_held}

@@ -1,7 +1,5 @@
 -- After a run nothing else is in the keytab than was there or is asked for.
-use Rattle.krb_copy.proofs.Cited.{◌≡◌, ℕ, Bool, true, false, cond, List, [], ◌∷◌, ◌++◌, Some, inl, inr, Result, Ok, Err, refl, sym, ap, subst, ◌∙◌, append_assoc, ◌==◌, ◌||◌, filter, map, AllByRecursion, list_any, append-nil, list_any-append, some_is, Code, EntryParts, PlacedEntry, placed_entries, KeytabState, entry_at_place, put_result, without, are_same, Held, Run, Step, There, Clash, Copy, as_copied, as_found, copy_run, go_on, has_lines, run_added, run_after, run_over, run_start, step_of, with_copy}
-use Rattle.std.proofs.lemmas.Bool.{cases_Bool, eqb-true, or_right}
-use Rattle.krb_copy.specs.Laws.{NothingElse}
+use Rattle.krb_copy.proofs.Cited.{◌≡◌, ℕ, Bool, true, false, cond, List, [], ◌∷◌, ◌++◌, Some, inl, inr, Result, Ok, Err, refl, sym, ap, subst, ◌∙◌, append_assoc, ◌==◌, ◌||◌, filter, map, AllByRecursion, list_any, append-nil, list_any-append, some_is, Code, EntryParts, PlacedEntry, placed_entries, KeytabState, entry_at_place, put_result, without, are_same, Held, Run, Step, There, Clash, Copy, as_copied, as_found, copy_run, go_on, has_lines, run_added, run_after, run_over, run_start, step_of, with_copy, cases_Bool, eqb-true, or_right, NothingElse}
 use Rattle.krb_copy.proofs.Alike.{same_equiv}
 use Rattle.krb_copy.proofs.Gone.{goes_by_its_entries}
 use Rattle.krb_copy.proofs.LawLemmas.{AreThere, all_append}

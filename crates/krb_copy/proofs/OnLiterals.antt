@@ -1,7 +1,6 @@
 -- What a proof unfolds to compute the definitions of this crate, and of those that it uses, on literals.
-use Rattle.std.specs.Prelude.{⊤}
+use Rattle.krb_copy.proofs.Cited.{⊤, copy_run}
 use Rattle.krb_audit.proofs.OnLiterals.{krb_audit_on_literals}
-use Rattle.krb_copy.specs.Copying.{copy_run}
 
 unfoldable pub krb_copy_on_literals : ⊤
 unfolding krb_audit_on_literals copy_run

@@ -1,13 +1,9 @@
 -- A run and its definition, entry by entry.
-use Rattle.krb_copy.proofs.Cited.{◌≡◌, ℕ, ◌+◌, ◌<◌, Bool, true, false, cond, List, [], ◌∷◌, ◌++◌, length, drop, Result, Ok, Err, refl, sym, ap, subst, ◌∙◌, map, Code, PlacedEntry, placed_entries, KeytabState, put_result, without, Run, Copy, as_found, step_of, with_copy, run_after, run_added, has_lines, run_over, run_start, copy_run, go_on, AreClasses, AreTexts, name_texts}
-use Rattle.std.proofs.Common.{get_or}
-use Rattle.std.proofs.lemmas.List.{drop_more}
+use Rattle.krb_copy.proofs.Cited.{◌≡◌, ℕ, ◌+◌, ◌<◌, Bool, true, false, cond, List, [], ◌∷◌, ◌++◌, length, drop, Result, Ok, Err, refl, sym, ap, subst, ◌∙◌, map, Code, PlacedEntry, placed_entries, KeytabState, put_result, without, Run, Copy, as_found, step_of, with_copy, run_after, run_added, has_lines, run_over, run_start, copy_run, go_on, AreClasses, AreTexts, name_texts, get_or, drop_more, copied_lines, IsMade, IsRefusal, IsRefusedBy, IsRun, Meets, Ends, EndsBy}
 use Rattle.krb_walk.specs.declared.refusal.Refusal.{Refusal}
 use Rattle.krb_walk.specs.declared.refusal.Refusal.TheVariants.{Code as ByCode, NoMemory}
 use Rattle.krb_walk.specs.Rules.{PutGives}
 use Rattle.krb_copy.specs.declared.copy.Copying.{Copying}
-use Rattle.krb_copy.specs.Copying.{copied_lines}
-use Rattle.krb_copy.specs.Made.{IsMade, IsRefusal, IsRefusedBy, IsRun, Meets, Ends, EndsBy}
 
 -- an addition that is refused
 pub refusal_is : (due given : Result (ℕ × KeytabState) Code) (old new : List ℕ) (k k' : KeytabState) (refusal : Refusal) → due ≡ given → new ≡ old → PutGives given k (Err refusal) k' → IsRefusal due old new refusal

@@ -1,7 +1,5 @@
 -- A fault in the text of a name is never that memory ran out.
-use Rattle.std.proofs.Common.{◌≡◌, ◌⊎◌, inl, inr, ℕ, List, [], ◌∷◌, ◌++◌, append-nil, Option, Some, None, Result, Ok, Err, ap, subst, ◌∙◌}
-use Rattle.std.specs.Prelude.{IsOk, unwrap_or}
-use Rattle.std.specs.List.{filter_map, cons_option}
+use Rattle.krb_driver.proofs.Cited.{◌≡◌, ◌⊎◌, inl, inr, ℕ, List, [], ◌∷◌, ◌++◌, append-nil, Option, Some, None, Result, Ok, Err, ap, subst, ◌∙◌, IsOk, unwrap_or, filter_map, cons_option}
 use Rattle.krb_wire.specs.declared.name_fault.NameFault.{NameFault}
 use Rattle.krb_wire.specs.declared.name_fault.NameFault.TheVariants.{NoRealm, LoneBackslash, SecondAt, SlashInRealm, NoMemory}
 use Rattle.krb_wire.specs.declared.atom.Atom.{Atom}

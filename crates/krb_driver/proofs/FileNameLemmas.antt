@@ -1,8 +1,6 @@
 -- Words without a prefix.
-use Rattle.std.proofs.Common.{◌≡◌, ◌≢◌, Bool, true, false, List, [], ◌∷◌, ◌++◌, ℕ, Option, None, Some, Bor, refl, sym, ap, ◌∙◌, cond, drop, eqb}
-use Rattle.std.specs.Prelude.{MatchOption, option_map}
+use Rattle.krb_driver.proofs.Cited.{◌≡◌, ◌≢◌, Bool, true, false, List, [], ◌∷◌, ◌++◌, ℕ, Option, None, Some, Bor, refl, sym, ap, ◌∙◌, cond, drop, eqb, MatchOption, option_map, eqb-true, eq-eqb}
 use Rattle.std.specs.Str.Pattern.{FindsTextPrefix, StripsPrefix}
-use Rattle.std.proofs.lemmas.Bool.{eqb-true, eq-eqb}
 use Rattle.krb_driver.specs.FileNames.{stripped}
 
 -- a word that begins with the prefix

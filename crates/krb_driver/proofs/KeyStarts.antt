@@ -1,9 +1,5 @@
 -- Where in a word what may be a key begins.
-use Rattle.std.proofs.Common.{◌≡◌, ℕ, ◌+◌, ◌-◌, ◌<◌, ◌≤◌, Bool, true, false, List, ◌∷◌, ◌++◌, sym, ap, ◌∙◌, take, drop, get_or, length, length-drop, arith}
-use Rattle.std.proofs.lemmas.List.{drop_more, drop_all, take_all}
-use Rattle.std.specs.Prelude.{◌==◌, ◌&&◌, if◌then◌else◌, codes}
-use Rattle.std.specs.List.{flat_map}
-use Rattle.krb_driver.specs.PieceTexts.{has_key, hidden_word, key_from, key_start, may_be_key, quoted_word, shown_byte}
+use Rattle.krb_driver.proofs.Cited.{◌≡◌, ℕ, ◌+◌, ◌-◌, ◌<◌, ◌≤◌, Bool, true, false, List, ◌∷◌, ◌++◌, sym, ap, ◌∙◌, take, drop, get_or, length, length-drop, arith, drop_more, drop_all, take_all, ◌==◌, ◌&&◌, if◌then◌else◌, codes, flat_map, has_key, hidden_word, key_from, key_start, may_be_key, quoted_word, shown_byte}
 
 -- where it begins in a word that is not empty
 key_from-cons : (can_begin : Bool) (b : ℕ) (bs : List ℕ) (is : Bool) → (can_begin && may_be_key (b ∷ bs)) ≡ is → key_from can_begin (b ∷ bs) ≡ (if is then 0 else 1 + key_from (b == 61) bs)

@@ -1,3 +1,4 @@
+pub mod Cited
 pub mod Faults
 pub mod Pieces
 pub mod Shown

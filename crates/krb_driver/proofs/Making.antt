@@ -1,7 +1,6 @@
 -- What was made of the files follows the plan.
-use Rattle.std.proofs.Common.{◌≡◌, ◌⊎◌, inl, inr, ◌∙◌, ℕ, Bool, true, false, List, [], ◌∷◌, refl, sym, ap, subst}
+use Rattle.krb_driver.proofs.Cited.{◌≡◌, ◌⊎◌, inl, inr, ◌∙◌, ℕ, Bool, true, false, List, [], ◌∷◌, refl, sym, ap, subst, false≢true, true≢false, FairOver, GivesLoaded, GivesOf, HoldsIf, Makes, MakesFairly, Opens, fair_first, of_file, CommandPlan, Effect, Fails, IsMade, IsSpent, faults, goes_on, opens, or_refused, unless_refused}
 use Rattle.std.specs.Prelude.{Option, None, Some, Result, Ok, Err, is_ok}
-use Rattle.std.proofs.lemmas.Bool.{false≢true, true≢false}
 use Rattle.krb_files.specs.declared.files.LoadFault.TheVariants as load
 use Rattle.krb_files.specs.declared.files.Files.{Ghosts}
 use Rattle.krb_driver.specs.declared.error.RunError.{RunError}
@@ -11,9 +10,6 @@ use Rattle.krb_driver.specs.declared.error.RunError.TheVariants as error
 use Rattle.krb_walk.specs.declared.refusal.Code.{Code}
 use Rattle.krb_files.specs.Loading.{Answer}
 use Rattle.krb_files.specs.Plan.{Ends, HeldIf, Holds, Loaded, Loads, by}
-use Rattle.krb_driver.specs.Commands.{FairOver, GivesLoaded, GivesOf, HoldsIf, Makes, MakesFairly, Opens, fair_first, of_file}
-use Rattle.krb_driver.specs.Effects.{CommandPlan, Effect, Fails, IsMade, IsSpent, faults, goes_on, opens}
-use Rattle.krb_driver.specs.Opening.{or_refused, unless_refused}
 use Rattle.krb_files.proofs.PlanLaws.{loaded-none}
 
 -- the effect of an error

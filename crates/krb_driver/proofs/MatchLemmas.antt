@@ -1,6 +1,5 @@
 -- Words and their texts.
-use Rattle.std.proofs.Common.{◌≡◌, List, ℕ, Bor, map}
-use Rattle.std.proofs.lemmas.List.{length-map}
+use Rattle.krb_driver.proofs.Cited.{◌≡◌, List, ℕ, Bor, map, length-map}
 use Rattle.std.proofs.lemmas.Option.{slice_get-map}
 use Rattle.std.specs.Prelude.{length, option_map, slice_get}
 

@@ -1,17 +1,11 @@
 -- A text on its way to the error output, piece by piece.
-use Rattle.std.proofs.Common.{◌≡◌, ℕ, ◌+◌, add-one, ◌<◌, List, [], ◌∷◌, ◌++◌, Option, sym, ap, ◌∙◌, append_assoc, append-nil, arith, length, get_or, take, refl, subst}
+use Rattle.krb_driver.proofs.Cited.{◌≡◌, ℕ, ◌+◌, add-one, ◌<◌, List, [], ◌∷◌, ◌++◌, Option, sym, ap, ◌∙◌, append_assoc, append-nil, arith, length, get_or, take, refl, subst, map-id, flat_map, range_with_len, false≢true, Watch, AppendsPrefix, Writes, Adds, Sends, Underway}
 use Rattle.std.proofs.Math.Seq.{take-suc}
 use Rattle.std.proofs.lemmas.Grind.{flat_map-append}
-use Rattle.std.proofs.lemmas.List.{map-id}
 use Rattle.std.proofs.lemmas.List.FromFn.{map-range_with_len_more}
-use Rattle.std.specs.List.{flat_map, range_with_len}
 use Rattle.std.specs.Prelude.{Result, Ok, Err, OnOk, OnErr, is_err, IsFalse}
 use Rattle.std.specs.Io.KnownBytes.{Appends}
-use Rattle.std.proofs.lemmas.Bool.{false≢true}
-use Rattle.krb_files.specs.Bytes.{Watch, AppendsPrefix}
 use Rattle.krb_files.proofs.Prefixes.{Appends-nil, Appends-trans, AppendsPrefix-all, AppendsPrefix-after, AppendsPrefix-none}
-use Rattle.krb_driver.specs.Runs.{Writes}
-use Rattle.krb_driver.specs.Underway.{Adds, Sends, Underway}
 
 -- nothing is on its way
 underway-none : (err : Watch) → Underway err.contents err [] []

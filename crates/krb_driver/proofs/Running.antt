@@ -1,23 +1,17 @@
 -- What a run of a command keeps.
-use Rattle.std.proofs.Common.{◌≡◌, ◌⊎◌, inl, inr, ◌∙◌, ℕ, ◌≤◌, Bool, true, false, List, [], refl, sym, ap, subst, arith}
+use Rattle.krb_driver.proofs.Cited.{◌≡◌, ◌⊎◌, inl, inr, ◌∙◌, ℕ, ◌≤◌, Bool, true, false, List, [], refl, sym, ap, subst, arith, false≢true, true≢false, Watch, ErrorWatch, Run, Shows, ends_by, EndsCommand, Finishes, Keeps, MakesFairly, Settles, ShowsEnd, ShowsPage, Takes, CommandPlan, Displays, Effect, Fails, IsSpent, Page, Saves, faults, files_after, saved_end, settled, text}
 use Rattle.std.specs.Prelude.{Option, None, Result, Ok, Err, IsTrue}
-use Rattle.std.proofs.lemmas.Bool.{false≢true, true≢false}
 use Rattle.krb_files.specs.declared.files.SaveFault.{SaveFault}
 use Rattle.krb_files.specs.declared.files.SaveFault.TheVariants as save
 use Rattle.krb_files.specs.declared.files.Files.{Ghosts}
-use Rattle.krb_files.specs.Bytes.{Watch}
 use Rattle.krb_files.specs.Files.{SameFiles, CountsFailure}
 use Rattle.krb_driver.specs.declared.error.RunError.TheVariants as error
 use Rattle.krb_files.specs.Loading.{Answer, SavesFile, TurnsHold}
 use Rattle.krb_driver.specs.declared.world.World.{World}
-use Rattle.krb_driver.specs.ErrorOutput.{ErrorWatch}
-use Rattle.krb_driver.specs.Runs.{Run, Shows, ends_by}
 use Rattle.krb_driver.specs.RunErrors.{Ending, is_spent}
 use Rattle.krb_driver.specs.declared.command.RunEnd.{RunEnd}
 use Rattle.krb_driver.specs.declared.verdict.Verdict.{Verdict}
 use Rattle.krb_files.specs.Plan.{Faults, follow}
-use Rattle.krb_driver.specs.Commands.{EndsCommand, Finishes, Keeps, MakesFairly, Settles, ShowsEnd, ShowsPage, Takes}
-use Rattle.krb_driver.specs.Effects.{CommandPlan, Displays, Effect, Fails, IsSpent, Page, Saves, faults, files_after, saved_end, settled, text}
 use Rattle.krb_files.proofs.PlanLaws.{Lasts, comes, count-more, count-trans, loaded-lasts, same-trans, with_bytes-set}
 
 module _ (out out' : Watch) (ending : Ending) (spent : ending ≡ Err error.NoMemory) where

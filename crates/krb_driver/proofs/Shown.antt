@@ -1,21 +1,15 @@
 -- What is shown of a run.
-use Rattle.std.proofs.Common.{◌≡◌, ℕ, List, [], ◌++◌, refl, sym, subst, inl, ◌∙◌, arith}
+use Rattle.krb_driver.proofs.Cited.{◌≡◌, ℕ, List, [], ◌++◌, refl, sym, subst, inl, ◌∙◌, arith, true≢false, Watch, ShowsEnd, ready_end, Page, Run, Shows, Writes, ReportsEnd, ends_by, ErrorWatch}
 use Rattle.std.specs.Prelude.{max, Bool, true, false, Option, None, IsTrue, Result, Ok, Err}
-use Rattle.std.proofs.lemmas.Bool.{true≢false}
-use Rattle.krb_files.specs.Bytes.{Watch}
 use Rattle.krb_files.proofs.Prefixes.{AppendsPrefix-none, Appends-nil}
 use Rattle.krb_driver.specs.declared.verdict.Verdict.TheVariants.{Well}
 use Rattle.krb_driver.specs.declared.command.FileError.{FileError}
 use Rattle.krb_driver.specs.declared.command.Ready.{Ready}
 use Rattle.krb_driver.specs.declared.command.Ready.TheVariants as ready
 use Rattle.krb_driver.specs.declared.error.RunError.TheVariants.{OutputNotWritten}
-use Rattle.krb_driver.specs.Commands.{ShowsEnd, ready_end}
-use Rattle.krb_driver.specs.Effects.{Page}
-use Rattle.krb_driver.specs.Runs.{Run, Shows, Writes, ReportsEnd, ends_by}
 use Rattle.krb_files.specs.declared.aftermath.Aftermath.{Aftermath}
 use Rattle.krb_driver.specs.declared.reporting.details.Details.{Details}
 use Rattle.krb_driver.specs.Reports.{aftermath_text, words_if}
-use Rattle.krb_driver.specs.ErrorOutput.{ErrorWatch}
 use Rattle.krb_driver.specs.RunErrors.{Ending, aftermath_status, end_status, ending_status}
 
 -- once an output has failed, nothing more is shown

@@ -1,15 +1,10 @@
 -- Pieces and the text after them, and messages without words.
-use Rattle.std.proofs.Common.{◌≡◌, ℕ, Bool, false, List, [], ◌∷◌, ◌++◌, refl, sym, ap, subst, ◌∙◌, append_assoc}
-use Rattle.std.specs.Prelude.{codes}
+use Rattle.krb_driver.proofs.Cited.{◌≡◌, ℕ, Bool, false, List, [], ◌∷◌, ◌++◌, refl, sym, ap, subst, ◌∙◌, append_assoc, codes, Watch, ErrorWatch, Writes, piece_text, pieces_text, pieces_before}
 use Rattle.krb_driver.specs.declared.reporting.piece.MessagePiece.{MessagePiece}
-use Rattle.krb_files.specs.Bytes.{Watch}
 use Rattle.krb_driver.specs.declared.command_line.mistake.BadLine.{BadLine}
 use Rattle.krb_driver.specs.declared.command_line.mistake.WordFault.TheVariants as word
-use Rattle.krb_driver.specs.ErrorOutput.{ErrorWatch}
 use Rattle.krb_driver.specs.Messages.{message}
 use Rattle.krb_driver.specs.Mistakes.{word_text}
-use Rattle.krb_driver.specs.Runs.{Writes}
-use Rattle.krb_driver.specs.PieceTexts.{piece_text, pieces_text, pieces_before}
 
 pub pieces_text-append : (pieces : List MessagePiece) (rest : List ℕ) → pieces_text pieces ++ rest ≡ pieces_before pieces rest
 pieces_text-append [] rest = refl

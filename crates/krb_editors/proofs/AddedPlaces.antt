@@ -1,24 +1,14 @@
 -- Where added entries stand, in lists and in sets.
-use Rattle.std.proofs.Common.{◌≡◌, ◌⊎◌, inl, inr, ℕ, zero, suc, ◌<◌, ◌≤◌, Bool, true, false, List, [], ◌∷◌, ◌++◌, length, map, get_or, refl, sym, ap, ◌∙◌, subst, arith}
+use Rattle.krb_editors.proofs.Cited.{◌≡◌, ◌⊎◌, inl, inr, ℕ, zero, suc, ◌<◌, ◌≤◌, Bool, true, false, List, [], ◌∷◌, ◌++◌, length, map, get_or, refl, sym, ap, ◌∙◌, subst, arith, list_any, Event, Store, carry, nth_or, ReplyContent, Started, Gave, Ended, Faulted, Placed, Gone, Rewritten, Refused, Rules, SessionState, after, history, moment, state_after, KeytabState, HaveSame, followed_past, followed_over, places_after}
 use Rattle.std.specs.Prelude.{◌||◌, ◌&&◌, ◌==◌, not, filter, nat_le, nat_lt, cond, if◌then◌else◌, Option, None, Some, option_and_then}
-use Rattle.std.specs.List.{list_any}
 use Rattle.std.specs.List.Sorted.{IsNonDecreasing}
 use Rattle.std.specs.Ordering.{nat_cmp, is_eq, match_ordering}
 use Rattle.std.specs.declared.cmp.Ordering.TheVariants.{Less, Equal, Greater}
 use Rattle.std.specs.BTreeMap.{is_at}
 use Rattle.std.specs.BTreeSet.{insert_key}
 use Rattle.std.proofs.lemmas.Bool.Decides.{nat_tests}
-use Rattle.krb_walk.specs.declared.event.Event.{Event}
-use Rattle.krb_walk.specs.Store.{Store}
-use Rattle.krb_walk.specs.Ranks.{carry, nth_or}
-use Rattle.krb_walk.specs.ReplyContent.{ReplyContent, Started, Gave, Ended, Faulted, Placed, Gone, Rewritten, Refused}
-use Rattle.krb_walk.specs.Rules.{Rules}
-use Rattle.krb_walk.specs.Events.{SessionState, after}
-use Rattle.krb_walk.specs.History.{history, moment, state_after}
 use Rattle.krb_walk.proofs.Carries.{Rises}
-use Rattle.krb_keytab.specs.Store.{KeytabState}
 use Rattle.krb_audit.specs.Findings.{hidden_at, hidden_from, hides_added}
-use Rattle.krb_editors.specs.Added.{HaveSame, followed_past, followed_over, places_after}
 
 -- ---- lists with the same numbers
 

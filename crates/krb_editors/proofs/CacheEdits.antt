@@ -1,22 +1,13 @@
 -- What lines do to a cache: they run the events of each line, one after the other.
-use Rattle.std.proofs.Common.{◌≡◌, ◌<◌, ℕ, Bool, true, false, List, [], ◌∷◌, ◌++◌, map, length, take, refl, sym, ap, subst, ◌∙◌, append_assoc}
+use Rattle.krb_editors.proofs.Cited.{◌≡◌, ◌<◌, ℕ, Bool, true, false, List, [], ◌∷◌, ◌++◌, map, length, take, refl, sym, ap, subst, ◌∙◌, append_assoc, append-nil, take_more, Event, ReplyContent, SessionState, put_reply, reply_to, state_after, Ran, cache_rules, CacheState, is_refusal, line_events, lines_events}
 use Rattle.std.specs.Prelude.{◌+◌, Result, Ok, Err, get_or, if◌then◌else◌}
-use Rattle.std.proofs.lemmas.List.{append-nil, take_more}
-use Rattle.krb_walk.specs.declared.event.Event.{Event}
 use Rattle.krb_walk.specs.declared.event.Event.TheVariants.{Put, Cut}
 use Rattle.krb_walk.specs.declared.refusal.Code.{Code}
-use Rattle.krb_walk.specs.ReplyContent.{ReplyContent}
-use Rattle.krb_walk.specs.Events.{SessionState, put_reply, reply_to}
-use Rattle.krb_walk.specs.History.{state_after}
-use Rattle.krb_walk.specs.Ran.{Ran}
 use Rattle.krb_ccache.specs.Changes.{is_refused, put_result}
 use Rattle.krb_ccache.specs.Credential.{CredParts}
-use Rattle.krb_ccache.specs.Rewrite.{cache_rules}
 use Rattle.krb_ccache.specs.SetConfig.{SettingParts, entry_of, match_places, setting_events}
-use Rattle.krb_ccache.specs.Store.{CacheState}
 use Rattle.krb_cache_text.specs.Script.{CacheLineParts}
 use Rattle.krb_editors.proofs.RunJoins.{ran_join, state_join}
-use Rattle.krb_editors.specs.Ccedit.{is_refusal, line_events, lines_events}
 
 -- ---- a value
 

@@ -1,14 +1,10 @@
 -- Copying from a keytab.
-use Rattle.std.proofs.Common.{◌≡◌, Bool, true, false, List, [], inl, inr, refl, sym, ap, subst, ◌∙◌, cond}
+use Rattle.krb_editors.proofs.Cited.{◌≡◌, Bool, true, false, List, [], inl, inr, refl, sym, ap, subst, ◌∙◌, cond, Ends, Makes, CommandPlan, Effect, Fails, IsSpent, faults, makes-end}
 use Rattle.krb_keytab.specs.Find.{PlacedEntry}
 use Rattle.krb_files.specs.declared.files.Files.{Ghosts}
-use Rattle.krb_files.specs.Plan.{Ends}
 use Rattle.krb_files.proofs.PlanLaws.{loaded-none}
 use Rattle.krb_driver.specs.declared.error.RunError.TheVariants.{NothingToCopy}
 use Rattle.krb_driver.specs.declared.file_name.FileName.{FileName}
-use Rattle.krb_driver.specs.Commands.{Makes}
-use Rattle.krb_driver.specs.Effects.{CommandPlan, Effect, Fails, IsSpent, faults}
-use Rattle.krb_driver.proofs.Making.{makes-end}
 use Rattle.krb_editors.specs.declared.ktcopy.CopyOptions.{CopyOptions}
 use Rattle.krb_editors.specs.Ktcopy.{copies_from, copies_to, finds_none}
 

@@ -1,3 +1,4 @@
+pub mod Cited
 pub mod SessionReplies
 pub mod RunJoins
 pub mod CacheEdits

@@ -1,7 +1,6 @@
 -- The places of live cells, from stop to stop.
-use Rattle.std.proofs.Common.{◌≡◌, ◌≢◌, ℕ, ◌<◌, ◌≤◌, true, List, [], ◌∷◌, map, Option, Some, None, refl, ap, arith}
+use Rattle.krb_editors.proofs.Cited.{◌≡◌, ◌≢◌, ℕ, ◌<◌, ◌≤◌, true, List, [], ◌∷◌, map, Option, Some, None, refl, ap, arith, Store, Record, IsSound, end_of, is_place, next_live, stop_at, stop_of}
 use Rattle.krb_walk.specs.declared.stop.Stop.TheVariants.{Live}
-use Rattle.krb_walk.specs.Store.{Store, Record, IsSound, end_of, is_place, next_live, stop_at, stop_of}
 use Rattle.krb_walk.specs.Stops.{records_from}
 use Rattle.krb_walk.proofs.Cells.{stops_live}
 use Rattle.krb_walk.proofs.Stops.{stops_end, stops_give_records}

@@ -1,14 +1,6 @@
 -- Runs one after the other.
-use Rattle.std.proofs.Common.{◌≡◌, ◌<◌, ℕ, List, [], ◌∷◌, ◌++◌, length, take, refl, sym, ap, subst, ◌∙◌, append_assoc}
+use Rattle.krb_editors.proofs.Cited.{◌≡◌, ◌<◌, ℕ, List, [], ◌∷◌, ◌++◌, length, take, refl, sym, ap, subst, ◌∙◌, append_assoc, take_more, Event, ReplyContent, Rules, SessionState, after, reply_to, AllLawful, history, replies, state_after, Ran, ran_of}
 use Rattle.std.specs.Prelude.{◌+◌, get_or}
-use Rattle.std.proofs.lemmas.List.{take_more}
-use Rattle.krb_walk.specs.declared.event.Event.{Event}
-use Rattle.krb_walk.specs.ReplyContent.{ReplyContent}
-use Rattle.krb_walk.specs.Rules.{Rules}
-use Rattle.krb_walk.specs.Events.{SessionState, after, reply_to}
-use Rattle.krb_walk.specs.History.{AllLawful, history, replies, state_after}
-use Rattle.krb_walk.specs.Ran.{Ran}
-use Rattle.krb_walk.proofs.Runs.{ran_of}
 
 pub state_join : {S I : Type 0} (r : Rules S I) (s : SessionState S) (es fs : List (Event I)) → state_after r s (es ++ fs) ≡ state_after r (state_after r s es) fs
 state_join r s [] fs = refl

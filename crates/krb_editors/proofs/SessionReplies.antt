@@ -1,42 +1,27 @@
 -- What a session leaves and replies: the format after each event, and the text of the replies.
-use Rattle.std.proofs.Common.{◌≡◌, ℕ, Bool, true, false, List, [], ◌∷◌, ◌++◌, refl, sym, ap, subst, ◌∙◌}
+use Rattle.krb_editors.proofs.Cited.{◌≡◌, ℕ, Bool, true, false, List, [], ◌∷◌, ◌++◌, refl, sym, ap, subst, ◌∙◌, flat_map, list_any, Event, Store, Record, end_of, fault_of, is_place, live_bytes, next_live, ReplyContent, Started, Refused, Rules, SessionState, reply_to, after, store_after, step_reply, stop_reply, end_reply, put_reply, put_store, cut_reply, cut_store, rewrite_reply, history, replies, state_after, Ran, KeytabState, cache_rules, CacheState, reply_text_by, reply_texts_by, format_after_by, text_effect, Effect, Displays, Saves, text, is_change, new_session, moments, left, replied, session_effect, RunsFairly}
 use Rattle.std.specs.Prelude.{if◌then◌else◌, cond, is_some, nat_lt, length, slice_get, Option, None, Some, Result, Ok, Err, IfOk}
-use Rattle.std.specs.List.{flat_map, list_any}
 use Rattle.krb_wire.specs.declared.format.KtFormat.{KtFormat}
 use Rattle.krb_wire.specs.declared.format.KtFormat.TheVariants.{V2}
-use Rattle.krb_walk.specs.declared.event.Event.{Event}
 use Rattle.krb_walk.specs.declared.event.Event.TheVariants.{Start, Resume, Step, Put, Cut, Rewrite}
 use Rattle.krb_walk.specs.declared.fault.FaultKind.{FaultKind}
 use Rattle.krb_walk.specs.declared.refusal.Code.{Code}
 use Rattle.krb_walk.specs.declared.refusal.Code.TheVariants as code
-use Rattle.krb_walk.specs.Store.{Store, Record, end_of, fault_of, is_place, live_bytes, next_live}
-use Rattle.krb_walk.specs.ReplyContent.{ReplyContent, Started, Refused}
-use Rattle.krb_walk.specs.Rules.{Rules}
-use Rattle.krb_walk.specs.Events.{SessionState, reply_to, after, store_after, step_reply, stop_reply, end_reply, put_reply, put_store, cut_reply, cut_store, rewrite_reply}
-use Rattle.krb_walk.specs.History.{history, replies, state_after}
-use Rattle.krb_walk.specs.Ran.{Ran}
 use Rattle.krb_keytab.specs.Changes as keytab
 use Rattle.krb_keytab.specs.Rewrite as keytab_rewrite
 use Rattle.krb_keytab.specs.Store as keytab_store
-use Rattle.krb_keytab.specs.Store.{KeytabState}
 use Rattle.krb_keytab.specs.Rewrite.{keytab_rules}
 use Rattle.krb_keytab.specs.Form.{fits, written_form}
 use Rattle.krb_ccache.specs.declared.version.Version.{Version}
 use Rattle.krb_ccache.specs.declared.version.Version.TheVariants.{V4}
 use Rattle.krb_ccache.specs.Changes as cache
 use Rattle.krb_ccache.specs.Credential.{is_marked}
-use Rattle.krb_ccache.specs.Rewrite.{cache_rules}
 use Rattle.krb_ccache.specs.Rewrite as cache_rewrite
 use Rattle.krb_ccache.specs.Store as cache_store
-use Rattle.krb_ccache.specs.Store.{CacheState}
-use Rattle.krb_text.specs.Reply.{reply_text_by, reply_texts_by, format_after_by}
 use Rattle.krb_driver.specs.declared.command.Made.{Made}
 use Rattle.krb_driver.specs.declared.command.Output.{Output}
 use Rattle.krb_driver.specs.declared.verdict.FileKind.{FileKind}
 use Rattle.krb_driver.specs.declared.verdict.Verdict.{Verdict}
-use Rattle.krb_driver.specs.Commands.{text_effect}
-use Rattle.krb_driver.specs.Effects.{Effect, Displays, Saves, text}
-use Rattle.krb_editors.specs.Sessions.{is_change, new_session, moments, left, replied, session_effect, RunsFairly}
 use Rattle.krb_driver.specs.Verdicts.{hiding}
 use Rattle.krb_driver.specs.Reported.{replied_verdict}
 

@@ -1,5 +1,5 @@
 -- The lines of ktutil, one after the other.
-use Rattle.krb_ktutil.proofs.Cited.{◌≡◌, inl, inr, ℕ, ◌⊎◌, ◌+◌, ◌-◌, ◌<◌, ◌≤◌, Bool, true, false, List, [], ◌∷◌, ◌++◌, length, length-append, take, take-add, drop, refl, sym, ap, subst, ◌∙◌, append_assoc, append-nil, arith, max, not, slice_range, ◌&&◌, Option, None, Some, IfSome, Err, Ghosts, ErrorWatch, input_error, error_status, lines_of, HasNone, Grows, Talk, first_talk, goes_on, HandlesLine, Prompts, ◌≢◌, ◌||◌, drop_all, take-append-le, Consumes, InputParts, with_newlines, HasLines, KeepsLines, TakesLine, EndsInNewline, IsSpent, HasNoMore, CutsOff, IsWithin, most_bytes, AreFirst, Continues, EndsTalk, Stops, TalksOver, prompt_of, last_prompt, Reports}
+use Rattle.krb_ktutil.proofs.Cited.{◌≡◌, inl, inr, ℕ, ◌⊎◌, ◌+◌, ◌-◌, ◌<◌, ◌≤◌, Bool, true, false, List, [], ◌∷◌, ◌++◌, length, length-append, take, take-add, drop, refl, sym, ap, subst, ◌∙◌, append_assoc, append-nil, arith, max, not, slice_range, ◌&&◌, Option, None, Some, IfSome, Err, Ghosts, ErrorWatch, input_error, error_status, lines_of, HasNone, Grows, Talk, first_talk, goes_on, HandlesLine, Prompts, ◌≢◌, ◌||◌, drop_all, take-append-le, Consumes, InputParts, with_newlines, HasLines, KeepsLines, TakesLine, EndsInNewline, IsSpent, HasNoMore, CutsOff, IsWithin, most_bytes, AreFirst, Continues, EndsTalk, Stops, TalksOver, prompt_of, last_prompt, Reports, Source, is_failed}
 use Rattle.std.proofs.lemmas.Grind.{flat_map-append}
 use Rattle.krb_wire.specs.declared.format.Order.{Order}
 use Rattle.krb_files.specs.declared.files.LoadFault.{LoadFault}
@@ -8,7 +8,6 @@ use Rattle.krb_driver.specs.declared.world.World.{World}
 use Rattle.krb_ktutil.specs.Ktutil.{HandlesNext, RunsKtutil}
 use Rattle.krb_ktutil.specs.KtutilDue.{TalksHonestly}
 use Rattle.krb_ktutil.proofs.KtutilHonestly.{AreLines, are_first, honest_after, honest_in_line, honest_unread}
-use Rattle.krb_files.specs.Bytes.{Source, is_failed}
 use Rattle.krb_driver.specs.declared.reporting.details.Details.{Details}
 use Rattle.krb_files.proofs.Reading.{Consumes-trans}
 

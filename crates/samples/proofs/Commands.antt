@@ -1,11 +1,10 @@
 -- What commands find, copy, remove and print. A command's output is a definition over what its files hold.
-use Rattle.samples.proofs.Cited.{◌≡◌, ℕ, List, [], ◌∷◌, ◌++◌, codes, length, drop, replicate, map, filter, Bool, true, false, Option, None, Some, Result, Ok, Err, flat_map, refl, image_of, event_in, script_by, OldFor, result_map}
+use Rattle.samples.proofs.Cited.{◌≡◌, ℕ, List, [], ◌∷◌, ◌++◌, codes, length, drop, replicate, map, filter, Bool, true, false, Option, None, Some, Result, Ok, Err, flat_map, refl, image_of, event_in, script_by, OldFor, result_map, found_line, removed_line, Well, Saves, Displays, cache_after}
 use Rattle.krb_walk.specs.declared.refusal.Code.{Code}
 use Rattle.krb_walk.specs.declared.refusal.Code.TheVariants.{Damaged, NotFound, KvnoNotFound}
 use Rattle.krb_keytab.specs.Find.{placed_entries}
 use Rattle.krb_ccache.specs.Store.{image_of as cache_image}
 use Rattle.krb_text.specs.declared.line_fault.LineFault.TheVariants.{BadNumber, BadKey}
-use Rattle.krb_text.specs.Listing.{found_line, removed_line}
 use Rattle.krb_json.specs.Cache.{cache_json_text}
 use Rattle.krb_json.specs.Keytab.{keytab_json_text}
 use Rattle.krb_audit.specs.Findings.{is_out}
@@ -14,10 +13,7 @@ use Rattle.krb_audit.specs.Report.{report}
 use Rattle.krb_audit.specs.Tickets.{removed_ticket_line, selected_tickets}
 use Rattle.krb_audit.specs.Selection.{has_selected_kvno, is_young}
 use Rattle.krb_copy.specs.Copying.{copy_run}
-use Rattle.krb_driver.specs.declared.verdict.Verdict.TheVariants.{Well}
-use Rattle.krb_driver.specs.Effects.{Saves, Displays}
 use Rattle.krb_readers.specs.TicketCheck.{has_ticket}
-use Rattle.krb_editors.specs.Ccremove.{cache_after}
 use Rattle.krb_editors.specs.Frame.{frame, framed}
 use Rattle.krb_editors.specs.Ktedit as ktedit
 use Rattle.samples.proofs.Given.{hex, keytab, cache, name, found, old, events, printed, host, b, two, front, ticket, pa_type, worked}

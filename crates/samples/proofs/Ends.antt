@@ -1,30 +1,23 @@
 -- How runs end, when they read the clock, and what hold takes: worked by hand from krbfile(1).
-use Rattle.std.specs.Prelude.{◌≡◌, ◌+◌, ℕ, [], codes, true, false, None, Some, Ok, Err}
-use Rattle.std.proofs.Common.{refl}
+use Rattle.samples.proofs.Cited.{◌≡◌, ◌+◌, ℕ, [], codes, true, false, None, Some, Ok, Err, refl, Little, most_bytes, Old, OldFor, Well, CommandPlan, ended_by}
 use Rattle.krb_wire.specs.declared.format.Order.{Order}
-use Rattle.krb_wire.specs.declared.format.Order.TheVariants.{Little}
 use Rattle.krb_walk.specs.declared.fault.FaultKind.TheVariants.{CutLength}
 use Rattle.krb_files.specs.declared.aftermath.Aftermath.TheVariants.{LostChange, Mixed, Restored}
 use Rattle.krb_files.specs.declared.files.Files.{Ghosts}
 use Rattle.krb_files.specs.declared.files.LoadFault.TheVariants.{Missing}
 use Rattle.krb_files.specs.declared.files.SaveFault.TheVariants as save
 use Rattle.krb_files.specs.Bytes.{Watch}
-use Rattle.krb_files.specs.Loading.{most_bytes}
-use Rattle.krb_audit.specs.declared.selection.SelectedKvno.TheVariants.{Old, OldFor}
 use Rattle.krb_driver.specs.declared.error.RunError.TheVariants as error
 use Rattle.krb_driver.specs.declared.file_name.FileName.{FileName}
 use Rattle.krb_driver.specs.declared.file_name.NameSource.TheVariants.{Word, Default}
-use Rattle.krb_driver.specs.declared.verdict.Verdict.TheVariants.{Well}
 use Rattle.krb_driver.specs.declared.world.World.{World}
 use Rattle.krb_driver.specs.Commands.{always, of_file}
-use Rattle.krb_driver.specs.Effects.{CommandPlan}
 use Rattle.krb_driver.specs.ErrorOutput.{ErrorWatch}
 use Rattle.krb_driver.specs.RunErrors.{end_status, error_status, save_error}
 use Rattle.krb_readers.specs.declared.ktcheck.words.CheckOptions.{CheckOptions}
 use Rattle.krb_readers.specs.Ktcheck.{Round, first_round, is_last}
 use Rattle.krb_editors.specs.declared.ccremove.TicketOptions.{TicketOptions}
 use Rattle.krb_editors.specs.declared.hold.words.HoldKind.TheVariants.{Keytab, Cache}
-use Rattle.krb_editors.specs.Ccremove.{ended_by}
 use Rattle.krb_editors.specs.Frame.{frame, most_frame}
 use Rattle.krb_editors.specs.Hold.{about_end, ending_of, held_in, received}
 use Rattle.krb_editors.specs.Ktremove.{needed_time}

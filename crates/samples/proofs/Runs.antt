@@ -1,5 +1,5 @@
 -- What a run of a command comes to if no call fails: what it prints, how it ends, and its files afterwards.
-use Rattle.samples.proofs.Cited.{◌≡◌, ℕ, ◌+◌, ◌<◌, ◌≤◌, ◌^◌, max, List, [], ◌∷◌, ◌++◌, codes, length, map, fold, Bool, true, false, nat_lt, Option, None, Some, option_and_then, unwrap_or, Result, Ok, Err, if◌then◌else◌, Vec, slice_get, filter_map, flat_map, list_any, arith, refl, name_of, most_bytes, event_in, Any, Newest, Old}
+use Rattle.samples.proofs.Cited.{◌≡◌, ℕ, ◌+◌, ◌<◌, ◌≤◌, ◌^◌, max, List, [], ◌∷◌, ◌++◌, codes, length, map, fold, Bool, true, false, nat_lt, Option, None, Some, option_and_then, unwrap_or, Result, Ok, Err, if◌then◌else◌, Vec, slice_get, filter_map, flat_map, list_any, arith, refl, name_of, most_bytes, event_in, Any, Newest, Old, Well, CommandPlan, Effect, Fails, Displays, Saves, files_after, ccremove_plan}
 use Rattle.std.specs.Str.{bytes_eq}
 use denote.RawPtr.{null_ptr}
 use lib.Dec.{lit<, lit≤}
@@ -20,8 +20,6 @@ use Rattle.krb_driver.specs.declared.file_name.NameSource.TheVariants.{Word}
 use Rattle.krb_driver.specs.declared.reporting.details.Details.{Details}
 use Rattle.krb_driver.specs.declared.verdict.FileKind.{FileKind}
 use Rattle.krb_driver.specs.declared.verdict.FileKind.TheVariants.{Keytab, Cache}
-use Rattle.krb_driver.specs.declared.verdict.Verdict.TheVariants.{Well}
-use Rattle.krb_driver.specs.Effects.{CommandPlan, Effect, Fails, Displays, Saves, files_after}
 use Rattle.krb_driver.specs.FileNames.{bare_name, is_other_type}
 use Rattle.krb_driver.specs.Matches.{Matched, first_value, printed_name, v1_order}
 use Rattle.krb_driver.specs.RunErrors.{Ending, ending_status}
@@ -32,7 +30,6 @@ use Rattle.krb_readers.specs.Ktcheck.{explained_by, plan_of as check_plan}
 use Rattle.krb_readers.specs.Ktfind.{ktfind_plan}
 use Rattle.krb_readers.specs.TicketCheck.{check_of, check_status}
 use Rattle.krb_editors.specs.Ccedit.{ccedit_plan}
-use Rattle.krb_editors.specs.Ccremove.{ccremove_plan}
 use Rattle.krb_editors.specs.Ktcopy.{ktcopy_plan}
 use Rattle.krb_editors.specs.Ktedit.{ktedit_plan}
 use Rattle.krb_editors.specs.Ktremove.{ktremove_plan, with_age}

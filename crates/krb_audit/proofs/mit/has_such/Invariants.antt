@@ -1,5 +1,4 @@
-use Rattle.krb_audit.proofs.Cited.{◌≡◌, List, ℕ, length, list_any}
-use Rattle.krb_audit.specs.Findings.{is_out}
+use Rattle.krb_audit.proofs.Cited.{◌≡◌, List, ℕ, length, list_any, is_out}
 use Rattle.krb_audit.proofs.mit.has_such.Given as goal
 
 -- no component so far is out of range

@@ -1,5 +1,4 @@
-use Rattle.krb_audit.proofs.Cited.{◌≡◌}
-use Rattle.krb_audit.specs.Findings.{first_hidden, hidden_from}
+use Rattle.krb_audit.proofs.Cited.{◌≡◌, first_hidden, hidden_from}
 use Rattle.krb_audit.proofs.mit.hidden_from.Given as goal
 
 -- they stop before none of the entries so far

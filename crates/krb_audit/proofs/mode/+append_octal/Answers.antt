@@ -1,5 +1,4 @@
-use Rattle.krb_audit.proofs.Cited.{List, ℕ, ◌++◌, ◌∷◌, [], ◌+◌, ap, sym, append_assoc, ◌∙◌}
-use Rattle.std.proofs.Common.{◌%◌}
+use Rattle.krb_audit.proofs.Cited.{List, ℕ, ◌++◌, ◌∷◌, [], ◌+◌, ap, sym, append_assoc, ◌∙◌, ◌%◌}
 use Rattle.std.proofs.lemmas.Result.{on_ok_weaker}
 use Rattle.krb_audit.proofs.Octal.{octal_more}
 use Rattle.krb_audit.proofs.mode.+append_octal.Goals as goal

@@ -1,5 +1,4 @@
-use Rattle.krb_audit.proofs.Cited.{◌≡◌, length, arith, ◌∙◌, kt_name}
-use Rattle.std.proofs.Common.{◌-◌}
+use Rattle.krb_audit.proofs.Cited.{◌≡◌, length, arith, ◌∙◌, kt_name, ◌-◌}
 use Rattle.krb_audit.proofs.NameBytes.{opens, is_read, lengths, name_taken}
 use Rattle.krb_audit.proofs.names.named_entry.Goals as goal
 

@@ -1,5 +1,4 @@
-use Rattle.krb_audit.proofs.Cited.{◌≡◌, placed_entries, AreNumbered}
-use Rattle.krb_keytab.specs.Entries.{entries_in}
+use Rattle.krb_audit.proofs.Cited.{◌≡◌, placed_entries, AreNumbered, entries_in}
 use Rattle.krb_audit.proofs.rows.rows_of.Given as goal
 
 -- the names of the entries so far are numbered

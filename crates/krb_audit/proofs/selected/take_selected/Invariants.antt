@@ -1,5 +1,4 @@
-use Rattle.krb_audit.proofs.Cited.{placed_entries, AreVersions, has_selected_kvno}
-use Rattle.krb_audit.specs.Selection.{is_named}
+use Rattle.krb_audit.proofs.Cited.{placed_entries, AreVersions, has_selected_kvno, is_named}
 use Rattle.krb_audit.proofs.SelectedLemmas.{IsOnTheWay}
 use Rattle.krb_audit.proofs.selected.take_selected.Given as goal
 

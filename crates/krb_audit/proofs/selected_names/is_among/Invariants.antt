@@ -1,6 +1,4 @@
-use Rattle.krb_audit.proofs.Cited.{◌≡◌, map, list_any, bytes_eq}
-use Rattle.std.proofs.Common.{drop}
-use Rattle.std.specs.Vec.{vec_items}
+use Rattle.krb_audit.proofs.Cited.{◌≡◌, map, list_any, bytes_eq, drop, vec_items}
 use Rattle.krb_audit.proofs.selected_names.is_among.Given as goal
 
 -- no text so far is the same

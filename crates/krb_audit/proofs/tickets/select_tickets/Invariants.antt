@@ -1,5 +1,4 @@
-use Rattle.krb_audit.proofs.Cited.{map}
-use Rattle.std.specs.Vec.{vec_items}
+use Rattle.krb_audit.proofs.Cited.{map, vec_items}
 use Rattle.krb_ccache.specs.Store.{placed_credentials}
 use Rattle.krb_audit.specs.Tickets.{SelectsSoFar}
 use Rattle.krb_audit.proofs.tickets.select_tickets.Given as goal

@@ -1,6 +1,4 @@
-use Rattle.krb_audit.proofs.Cited.{false, ap, sym, subst, ◌∙◌, replicate, arith, fold, take_all}
-use Rattle.krb_audit.specs.declared.selection.SelectedKvno.TheVariants.{OldFor}
-use Rattle.krb_audit.specs.KvnoMarks.{AreYoung}
+use Rattle.krb_audit.proofs.Cited.{false, ap, sym, subst, ◌∙◌, replicate, arith, fold, take_all, OldFor, AreYoung}
 use Rattle.krb_audit.proofs.KvnoMarkLemmas.{are_young, marked}
 use Rattle.krb_audit.proofs.young.young_for.Goals as goal
 

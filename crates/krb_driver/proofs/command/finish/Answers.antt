@@ -1,5 +1,4 @@
-use Rattle.std.proofs.Common.{◌∙◌}
-use Rattle.krb_driver.specs.Commands.{made_effect, ready_end}
+use Rattle.krb_driver.proofs.Cited.{◌∙◌, made_effect, ready_end}
 use Rattle.krb_driver.proofs.command.finish.Goals as goal
 
 pub returns-clause-finishes : goal.returns-clause-finishes

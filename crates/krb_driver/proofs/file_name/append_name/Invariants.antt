@@ -1,5 +1,4 @@
-use Rattle.std.proofs.Common.{◌≡◌, ◌++◌, take}
-use Rattle.std.specs.List.{flat_map}
+use Rattle.krb_driver.proofs.Cited.{◌≡◌, ◌++◌, take, flat_map}
 use Rattle.krb_driver.specs.FileNames.{name_byte}
 use Rattle.krb_driver.proofs.file_name.append_name.Given as goal
 

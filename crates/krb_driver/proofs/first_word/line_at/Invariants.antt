@@ -1,5 +1,4 @@
-use Rattle.std.proofs.Common.{◌≡◌, ◌-◌}
-use Rattle.std.specs.Prelude.{slice_get}
+use Rattle.krb_driver.proofs.Cited.{◌≡◌, ◌-◌, slice_get}
 use Rattle.krb_text.specs.Word.{pieces}
 use Rattle.krb_driver.proofs.first_word.line_at.Given as goal
 

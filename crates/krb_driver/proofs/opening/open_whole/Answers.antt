@@ -1,5 +1,4 @@
-use Rattle.krb_driver.specs.Opening.{keytab_in, keytab_refusal, whole_in}
-use Rattle.krb_driver.specs.declared.verdict.FileKind.TheVariants.{Keytab}
+use Rattle.krb_driver.proofs.Cited.{keytab_in, keytab_refusal, whole_in, Keytab}
 use Rattle.krb_driver.proofs.Making.{gives-unless, opens-by}
 use Rattle.krb_driver.proofs.opening.open_whole.Goals as goal
 

@@ -1,5 +1,4 @@
-use Rattle.krb_driver.specs.Opening.{fresh_in, keytab_refusal, whole_or_empty}
-use Rattle.krb_driver.specs.declared.verdict.FileKind.TheVariants.{Keytab}
+use Rattle.krb_driver.proofs.Cited.{fresh_in, keytab_refusal, whole_or_empty, Keytab}
 use Rattle.krb_driver.proofs.Making.{gives-unless, opens-by}
 use Rattle.krb_driver.proofs.opening.open_whole_or_empty.Goals as goal
 

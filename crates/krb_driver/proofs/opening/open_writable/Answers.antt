@@ -1,6 +1,5 @@
 use Rattle.krb_driver.specs.Loading.{cache_of}
-use Rattle.krb_driver.specs.Opening.{cache_refusal, writable_in}
-use Rattle.krb_driver.specs.declared.verdict.FileKind.TheVariants.{Cache}
+use Rattle.krb_driver.proofs.Cited.{cache_refusal, writable_in, Cache}
 use Rattle.krb_driver.proofs.Making.{gives-unless, opens-by}
 use Rattle.krb_driver.proofs.opening.open_writable.Goals as goal
 

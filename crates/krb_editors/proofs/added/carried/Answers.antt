@@ -1,11 +1,8 @@
-use Rattle.std.proofs.Common.{ap, ◌∙◌, ◌≡◌, ◌++◌, ◌∷◌, [], map}
-use Rattle.std.proofs.lemmas.List.{append-nil}
+use Rattle.krb_editors.proofs.Cited.{ap, ◌∙◌, ◌≡◌, ◌++◌, ◌∷◌, [], map, append-nil, nth_or, HaveSame, carry_by}
 use Rattle.std.proofs.lemmas.Map.Iter.{rest_all, rest_more}
 use Rattle.std.specs.BTreeSet.{insert_key}
 use Rattle.std.specs.Map.Iter.{deref}
 use Rattle.std.specs.Ordering.{nat_cmp}
-use Rattle.krb_walk.specs.Ranks.{nth_or}
-use Rattle.krb_editors.specs.Added.{HaveSame, carry_by}
 use Rattle.krb_editors.proofs.AddedPlaces.{same_refl, same_trans, same_turned}
 use Rattle.krb_editors.proofs.added.carried.Goals as goal
 

@@ -1,5 +1,4 @@
-use Rattle.std.proofs.Common.{◌++◌, map}
-use Rattle.krb_editors.specs.Added.{HaveSame, carry_by}
+use Rattle.krb_editors.proofs.Cited.{◌++◌, map, HaveSame, carry_by}
 use Rattle.krb_editors.proofs.added.carried.Given as goal
 
 -- the places so far, and those that are left to carry

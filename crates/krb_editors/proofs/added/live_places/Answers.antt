@@ -1,8 +1,5 @@
-use Rattle.std.proofs.Common.{map, subst, ap, sym, ◌∙◌, ◌≡◌, ◌++◌, ◌∷◌, [], ℕ, List, arith, append_assoc}
-use Rattle.std.proofs.lemmas.List.{append-nil}
+use Rattle.krb_editors.proofs.Cited.{map, subst, ap, sym, ◌∙◌, ◌≡◌, ◌++◌, ◌∷◌, [], ℕ, List, arith, append_assoc, append-nil, live_places, end_of}
 use Rattle.std.specs.List.Sorted.{IsNonDecreasing}
-use Rattle.krb_walk.specs.Ranks.{live_places}
-use Rattle.krb_walk.specs.Store.{end_of}
 use Rattle.krb_walk.proofs.Carries.{places_rise}
 use Rattle.krb_walk.proofs.Stops.{walks_begin_with_all}
 use Rattle.krb_editors.proofs.AddedPlaces.{rises-non_decreasing}

@@ -1,5 +1,4 @@
-use Rattle.std.proofs.Common.{ap, ◌∙◌, arith}
-use Rattle.std.specs.Prelude.{unwrap_or}
+use Rattle.krb_editors.proofs.Cited.{ap, ◌∙◌, arith, unwrap_or}
 use Rattle.krb_editors.proofs.AddedPlaces.{nth_or-get}
 use Rattle.krb_editors.proofs.added.of_rank.Goals as goal
 

@@ -1,5 +1,4 @@
-use Rattle.std.proofs.Common.{rules, sym, arith}
-use Rattle.std.specs.Prelude.{nat_lt}
+use Rattle.krb_editors.proofs.Cited.{rules, sym, arith, nat_lt}
 use Rattle.std.proofs.lemmas.List.Sorted.{IsPartitionPoint-from_clause, IsPartitionedBy-ltb}
 use Rattle.krb_editors.proofs.AddedPlaces.{below_point}
 use Rattle.krb_editors.proofs.added.rank.Goals as goal

@@ -1,7 +1,4 @@
-use Rattle.std.proofs.Common.{[], ◌<◌, length, map, take, arith}
-use Rattle.krb_walk.specs.Events.{session_of}
-use Rattle.krb_walk.specs.ReplyContent.{content_of}
-use Rattle.krb_walk.proofs.Runs.{ran_none}
+use Rattle.krb_editors.proofs.Cited.{[], ◌<◌, length, map, take, arith, session_of, content_of, ran_none}
 use Rattle.krb_editors.proofs.AddedPlaces.{same_followed, same_refl}
 use Rattle.krb_editors.proofs.RunJoins.{one_more, ran_event}
 use Rattle.krb_editors.proofs.added.run_following.Goals as goal

@@ -1,9 +1,4 @@
-use Rattle.std.proofs.Common.{[], map, take}
-use Rattle.krb_walk.specs.Events.{session_of}
-use Rattle.krb_walk.specs.History.{history}
-use Rattle.krb_walk.specs.Ran.{Ran}
-use Rattle.krb_walk.specs.ReplyContent.{content_of}
-use Rattle.krb_editors.specs.Added.{HaveSame, followed_over}
+use Rattle.krb_editors.proofs.Cited.{[], map, take, session_of, history, Ran, content_of, HaveSame, followed_over}
 use Rattle.krb_editors.proofs.added.run_following.Given as goal
 
 -- the events so far were run, and the places followed

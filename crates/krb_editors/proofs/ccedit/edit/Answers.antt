@@ -1,14 +1,9 @@
-use Rattle.std.proofs.Common.{ℕ, List, map, ap, ◌∙◌}
+use Rattle.krb_editors.proofs.Cited.{ℕ, List, map, ap, ◌∙◌, content_of, cache_rules, CacheState, image_of, reply_texts_by, replied}
 use Rattle.std.specs.Prelude.{None}
-use Rattle.krb_walk.specs.ReplyContent.{content_of}
 use Rattle.krb_ccache.specs.declared.version.Version.TheVariants.{V4}
-use Rattle.krb_ccache.specs.Rewrite.{cache_rules}
-use Rattle.krb_ccache.specs.Store.{CacheState, image_of}
-use Rattle.krb_text.specs.Reply.{reply_texts_by}
 use Rattle.krb_cache_text.specs.Reply.{cache_record_tail}
 use Rattle.krb_driver.specs.declared.verdict.FileKind.TheVariants.{Cache}
 use Rattle.krb_editors.specs.Ccedit.{RunsFairly, cache_events, edits}
-use Rattle.krb_editors.specs.Sessions.{replied}
 use Rattle.krb_editors.proofs.SessionReplies.{cache_keeps, made_as, made_so, ran_fair, session_made}
 use Rattle.krb_editors.proofs.ccedit.edit.Goals as goal
 

@@ -1,11 +1,4 @@
-use Rattle.std.proofs.Common.{ap, arith, ◌<◌, ◌≤◌, length}
-use Rattle.std.proofs.lemmas.List.{take_all}
-use Rattle.krb_walk.specs.Events.{SessionState}
-use Rattle.krb_walk.proofs.Runs.{ran_none}
-use Rattle.krb_ccache.specs.Rewrite.{cache_rules}
-use Rattle.krb_ccache.specs.Store.{CacheState}
-use Rattle.krb_editors.specs.Ccedit.{cache_session}
-use Rattle.krb_editors.specs.Sessions.{new_session}
+use Rattle.krb_editors.proofs.Cited.{ap, arith, ◌<◌, ◌≤◌, length, take_all, SessionState, ran_none, cache_rules, CacheState, cache_session, new_session}
 use Rattle.krb_editors.proofs.CacheEdits.{ran_line}
 use Rattle.krb_editors.proofs.RunJoins.{ran_to_end}
 use Rattle.krb_editors.proofs.ccedit.run_lines.Goals as goal

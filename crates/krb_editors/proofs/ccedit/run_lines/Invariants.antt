@@ -1,9 +1,4 @@
-use Rattle.std.proofs.Common.{map, take}
-use Rattle.krb_walk.specs.Ran.{Ran}
-use Rattle.krb_walk.specs.ReplyContent.{content_of}
-use Rattle.krb_ccache.specs.Rewrite.{cache_rules}
-use Rattle.krb_editors.specs.Ccedit.{cache_session, lines_events}
-use Rattle.krb_editors.specs.Sessions.{new_session}
+use Rattle.krb_editors.proofs.Cited.{map, take, Ran, content_of, cache_rules, cache_session, lines_events, new_session}
 use Rattle.krb_editors.proofs.ccedit.run_lines.Given as goal
 
 -- the lines so far were run

@@ -1,5 +1,4 @@
-use Rattle.std.proofs.Common.{sym, ◌∙◌}
-use Rattle.krb_editors.specs.Ccedit.{cache_session}
+use Rattle.krb_editors.proofs.Cited.{sym, ◌∙◌, cache_session}
 use Rattle.krb_editors.proofs.CacheEdits.{set_placed, set_refused}
 use Rattle.krb_editors.proofs.ccedit.set_value.Goals as goal
 

@@ -1,13 +1,10 @@
-use Rattle.std.proofs.Common.{rules, ◌≡◌, ◌∙◌, inr, ℕ, Bool, false, List, length, map, sym, ap}
+use Rattle.krb_editors.proofs.Cited.{rules, ◌≡◌, ◌∙◌, inr, ℕ, Bool, false, List, length, map, sym, ap, flat_map, list_any, CacheState, PlacedCredential, image_of, placed_credentials, Effect, Displays, saves_unless, text}
 use Rattle.std.specs.Prelude.{[], ◌==◌, if◌then◌else◌}
-use Rattle.std.specs.List.{flat_map, list_any}
 use Rattle.std.specs.Vec.{vec_items}
-use Rattle.krb_ccache.specs.Store.{CacheState, PlacedCredential, image_of, placed_credentials}
 use Rattle.krb_audit.specs.Tickets.{selected_tickets, names_ticket, removed_ticket_line}
 use Rattle.krb_editors.specs.declared.ccremove.TicketOptions.{TicketOptions}
 use Rattle.krb_driver.specs.declared.verdict.Verdict.TheVariants.{Well}
 use Rattle.krb_editors.specs.Ccremove.{cache_after, none_verdict, places, removes}
-use Rattle.krb_driver.specs.Effects.{Effect, Displays, saves_unless, text}
 use Rattle.krb_editors.proofs.ccremove.remove.Goals as goal
 
 -- some tickets are selected, and they were removed

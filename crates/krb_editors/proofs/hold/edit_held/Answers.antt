@@ -1,5 +1,4 @@
-use Rattle.std.proofs.Common.{refl}
-use Rattle.std.specs.Prelude.{Ok, Err}
+use Rattle.krb_editors.proofs.Cited.{refl, Ok, Err}
 use Rattle.krb_editors.proofs.hold.edit_held.Goals as goal
 
 -- the hold is good: the image went out

@@ -1,6 +1,4 @@
-use Rattle.std.specs.Prelude.{Ok, Err}
-use Rattle.std.proofs.Common.{refl}
-use Rattle.krb_editors.specs.Hold.{held_in}
+use Rattle.krb_editors.proofs.Cited.{Ok, Err, refl, held_in}
 use Rattle.krb_editors.proofs.Holding.{gives-of}
 use Rattle.krb_editors.proofs.hold.give_whole.Goals as goal
 

@@ -1,8 +1,5 @@
-use Rattle.std.proofs.Common.{ap, sym, ◌∙◌}
-use Rattle.std.proofs.lemmas.Result.{err_from_is_err_and}
+use Rattle.krb_editors.proofs.Cited.{ap, sym, ◌∙◌, err_from_is_err_and, RunError, Fails}
 use Rattle.krb_audit.specs.Selection.{selected_in}
-use Rattle.krb_driver.specs.declared.error.RunError.{RunError}
-use Rattle.krb_driver.specs.Effects.{Fails}
 use Rattle.krb_editors.proofs.Copies.{makes-none, makes-some, makes-spent}
 use Rattle.krb_editors.proofs.ktcopy.copy_from.Goals as goal
 

@@ -1,5 +1,4 @@
-use Rattle.krb_ktutil.proofs.Cited.{◌≡◌, ◌+◌, Bool, ap, refl, subst, sym, ◌∙◌, max, Err, first_talk, error_status, input_error, ◌||◌, end_status, end_status-none}
-use Rattle.krb_files.specs.Bytes.{Source, is_failed}
+use Rattle.krb_ktutil.proofs.Cited.{◌≡◌, ◌+◌, Bool, ap, refl, subst, sym, ◌∙◌, max, Err, first_talk, error_status, input_error, ◌||◌, end_status, end_status-none, Source, is_failed}
 use Rattle.krb_ktutil.specs.Ktutil.{RunsKtutil}
 use Rattle.krb_ktutil.proofs.PromptLemmas.{Prompts-first}
 use Rattle.krb_ktutil.proofs.KtutilLemmas.{Underway, Underway-first, Underway-line, RunsKtutil-after, RunsKtutil-in_line, RunsKtutil-unread}

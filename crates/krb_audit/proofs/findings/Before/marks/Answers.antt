@@ -1,9 +1,7 @@
-use Rattle.krb_audit.proofs.Cited.{◌≡◌, List, ℕ, cond, Option, Some, ap, sym, ◌∙◌, ◌∷◌, [], append_assoc, ◌&&◌, ◌||◌, not, option_map, PlacedEntry, placed_entries}
+use Rattle.krb_audit.proofs.Cited.{◌≡◌, List, ℕ, cond, Option, Some, ap, sym, ◌∙◌, ◌∷◌, [], append_assoc, ◌&&◌, ◌||◌, not, option_map, PlacedEntry, placed_entries, Old, as_alike, ends_mit, is_alike}
 use Rattle.std.specs.Prelude.{Bool, find}
 use Rattle.std.specs.Option.{unwrap_or}
 use Rattle.krb_text.specs.Etype.{is_weak}
-use Rattle.krb_audit.specs.declared.selection.SelectedKvno.TheVariants.{Old}
-use Rattle.krb_audit.specs.Findings.{as_alike, ends_mit, is_alike}
 use Rattle.krb_audit.specs.Firsts.{Key, looked, same_key}
 use Rattle.krb_audit.proofs.FindingsLemmas.{ended_here}
 use Rattle.krb_audit.proofs.FirstsLemmas.{alike_here, alike_to, firsts_next, key_in}

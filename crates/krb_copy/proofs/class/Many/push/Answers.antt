@@ -1,7 +1,6 @@
-use Rattle.krb_copy.proofs.Cited.{ap, ◌∙◌, cond, true, Bool}
+use Rattle.krb_copy.proofs.Cited.{ap, ◌∙◌, cond, true, Bool, has_among}
 use Rattle.std.proofs.lemmas.Cmp.{nat_list_eq_equiv}
 use Rattle.std.proofs.lemmas.Map.Text.{is_eq-slice_cmp}
-use Rattle.krb_copy.specs.Classes.{has_among}
 use Rattle.krb_copy.proofs.ClassesAfter.{or_added}
 use Rattle.krb_copy.proofs.class.Many.push.Goals as goal
 

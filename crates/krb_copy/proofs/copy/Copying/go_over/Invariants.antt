@@ -1,5 +1,4 @@
-use Rattle.krb_copy.proofs.Cited.{drop, Run, run_over}
-use Rattle.krb_copy.specs.Made.{IsRun}
+use Rattle.krb_copy.proofs.Cited.{drop, Run, run_over, IsRun}
 use Rattle.krb_copy.proofs.Runs.{IsOnTheWay}
 use Rattle.krb_copy.proofs.copy.Copying.go_over.Given as goal
 

@@ -1,7 +1,6 @@
-use Rattle.krb_copy.proofs.Cited.{◌++◌, ◌∷◌, [], List, ℕ, refl, sym, ap, ◌∙◌, name_text, PlacedEntry, run_after, name_texts}
+use Rattle.krb_copy.proofs.Cited.{◌++◌, ◌∷◌, [], List, ℕ, refl, sym, ap, ◌∙◌, name_text, PlacedEntry, run_after, name_texts, clash_line, copied_lines}
 use Rattle.std.proofs.lemmas.Result.{err_from_is_err_and}
 use Rattle.krb_copy.specs.declared.class.Class.TheVariants.{Kept}
-use Rattle.krb_copy.specs.Copying.{clash_line, copied_lines}
 use Rattle.krb_copy.proofs.ClassesAfter.{after_clash, after_copy, after_there, met, step_is}
 use Rattle.krb_copy.proofs.Runs.{copied_run, refused_run}
 use Rattle.krb_copy.proofs.copy.Copying.meet.Goals as goal

@@ -1,5 +1,4 @@
-use Rattle.krb_copy.proofs.Cited.{◌++◌, List, take, subst, arith, PlacedEntry, AreTexts, name_texts}
-use Rattle.std.proofs.lemmas.List.{take_all}
+use Rattle.krb_copy.proofs.Cited.{◌++◌, List, take, subst, arith, PlacedEntry, AreTexts, name_texts, take_all}
 use Rattle.krb_copy.proofs.FoundTexts.{one_asked}
 use Rattle.krb_copy.proofs.texts.Texts.push_names.Goals as goal
 

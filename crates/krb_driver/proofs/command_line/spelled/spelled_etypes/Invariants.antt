@@ -1,5 +1,4 @@
-use Rattle.std.proofs.Common.{◌≡◌, drop, map, take}
-use Rattle.std.specs.Prelude.{IfOk}
+use Rattle.krb_driver.proofs.Cited.{◌≡◌, drop, map, take, IfOk}
 use Rattle.krb_text.specs.Etype.{etype_in}
 use Rattle.krb_driver.specs.Matches.{AreSpelled, bad_etype, first_mistake}
 use Rattle.krb_driver.proofs.command_line.spelled.spelled_etypes.Given as goal

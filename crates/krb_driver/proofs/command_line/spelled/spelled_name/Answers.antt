@@ -1,5 +1,4 @@
-use Rattle.std.proofs.Common.{◌≡◌, Result, Ok, Err, None, refl}
-use Rattle.std.specs.Prelude.{IsOk}
+use Rattle.krb_driver.proofs.Cited.{◌≡◌, Result, Ok, Err, None, refl, IsOk}
 use Rattle.std.specs.Result.{result_err}
 use Rattle.krb_wire.specs.NameOf.{name_of}
 use Rattle.krb_driver.proofs.Faults.{ran_out_at_a_name}

@@ -1,5 +1,4 @@
-use Rattle.std.proofs.Common.{◌≡◌, arith}
-use Rattle.krb_driver.specs.Hints.{etype_option}
+use Rattle.krb_driver.proofs.Cited.{◌≡◌, arith, etype_option}
 use Rattle.krb_driver.proofs.Pieces.{Adds-none, Adds-number}
 use Rattle.krb_driver.proofs.reporting.hints.add_etypes.Goals as goal
 

@@ -1,6 +1,4 @@
-use Rattle.std.specs.List.{flat_map, range_with_len}
-use Rattle.krb_driver.specs.Hints.{etype_option}
-use Rattle.krb_driver.specs.Underway.{Adds}
+use Rattle.krb_driver.proofs.Cited.{flat_map, range_with_len, etype_option, Adds}
 use Rattle.krb_driver.proofs.reporting.hints.add_etypes.Given as goal
 
 abbrev pub invariant-etypes : goal.invariant-etypes

@@ -1,7 +1,4 @@
-use Rattle.std.proofs.Common.{◌≡◌, ◌≤◌, ◌∙◌, length, sym, true}
-use Rattle.std.proofs.lemmas.Bool.{le-leb}
-use Rattle.std.specs.List.{list_all}
-use Rattle.krb_driver.specs.Hints.{is_alike, operand_text}
+use Rattle.krb_driver.proofs.Cited.{◌≡◌, ◌≤◌, ◌∙◌, length, sym, true, le-leb, list_all, is_alike, operand_text}
 use Rattle.krb_driver.proofs.reporting.hints.add_hints.Goals as goal
 
 -- the operand has room for the name

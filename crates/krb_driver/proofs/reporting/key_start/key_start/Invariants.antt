@@ -1,5 +1,4 @@
-use Rattle.std.proofs.Common.{◌≡◌, ◌+◌, drop}
-use Rattle.krb_driver.specs.PieceTexts.{key_from, key_start}
+use Rattle.krb_driver.proofs.Cited.{◌≡◌, ◌+◌, drop, key_from, key_start}
 use Rattle.krb_driver.proofs.reporting.key_start.key_start.Given as goal
 
 -- no key begins before this byte

@@ -1,7 +1,5 @@
-use Rattle.std.proofs.Common.{arith, ℕ, List, ◌<◌, ap, length, length-append, take}
-use Rattle.std.specs.List.{flat_map}
+use Rattle.krb_driver.proofs.Cited.{arith, ℕ, List, ◌<◌, ap, length, length-append, take, flat_map, quoted_byte}
 use Rattle.std.proofs.lemmas.List.Folds.{length-flat_map-take}
-use Rattle.krb_driver.specs.Hints.{quoted_byte}
 use Rattle.krb_driver.proofs.reporting.operand.append_quoted.Goals as goal
 
 -- the bytes up to this one are too many already

@@ -1,6 +1,4 @@
-use Rattle.std.proofs.Common.{◌≡◌, ◌++◌, take}
-use Rattle.std.specs.List.{flat_map}
-use Rattle.krb_driver.specs.Hints.{quoted_byte}
+use Rattle.krb_driver.proofs.Cited.{◌≡◌, ◌++◌, take, flat_map, quoted_byte}
 use Rattle.krb_driver.proofs.reporting.operand.append_quoted.Given as goal
 
 -- the bytes so far are appended

@@ -1,5 +1,4 @@
-use Rattle.std.proofs.Common.{Bool, List, ap, ◌∙◌}
-use Rattle.std.specs.List.{list_any}
+use Rattle.krb_driver.proofs.Cited.{Bool, List, ap, ◌∙◌, list_any}
 use Rattle.std.specs.Prelude.{if◌then◌else◌, Option, None, is_some}
 use Rattle.krb_driver.specs.declared.reporting.reported.Failure.{Failure}
 use Rattle.krb_driver.specs.declared.verdict.FileKind.{FileKind}

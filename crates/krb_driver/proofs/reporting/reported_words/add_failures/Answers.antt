@@ -1,5 +1,4 @@
-use Rattle.std.proofs.Common.{arith, ◌<◌, ◌≤◌, length}
-use Rattle.std.proofs.lemmas.List.{take_all}
+use Rattle.krb_driver.proofs.Cited.{arith, ◌<◌, ◌≤◌, length, take_all}
 use Rattle.krb_driver.specs.EndingWords.{failure_words}
 use Rattle.krb_driver.proofs.Pieces.{Adds-none, Adds-piece}
 use Rattle.krb_driver.proofs.reporting.reported_words.add_failures.Goals as goal

@@ -1,7 +1,5 @@
-use Rattle.std.proofs.Common.{take}
-use Rattle.std.specs.List.{flat_map}
+use Rattle.krb_driver.proofs.Cited.{take, flat_map, Adds}
 use Rattle.krb_driver.specs.EndingWords.{failure_words}
-use Rattle.krb_driver.specs.Underway.{Adds}
 use Rattle.krb_driver.proofs.reporting.reported_words.add_failures.Given as goal
 
 abbrev pub invariant-failures : goal.invariant-failures

@@ -1,7 +1,4 @@
-use Rattle.std.proofs.Common.{take}
-use Rattle.std.specs.List.{flat_map}
-use Rattle.krb_driver.specs.PieceTexts.{byte_text}
-use Rattle.krb_driver.specs.Underway.{Adds}
+use Rattle.krb_driver.proofs.Cited.{take, flat_map, byte_text, Adds}
 use Rattle.krb_driver.proofs.reporting.writing.add_bytes.Given as goal
 
 abbrev pub invariant-bytes : goal.invariant-bytes

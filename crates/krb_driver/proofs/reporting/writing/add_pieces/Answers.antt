@@ -1,6 +1,4 @@
-use Rattle.std.proofs.Common.{arith, ◌<◌, ◌≤◌, length}
-use Rattle.std.proofs.lemmas.List.{take_all}
-use Rattle.krb_driver.specs.PieceTexts.{piece_text}
+use Rattle.krb_driver.proofs.Cited.{arith, ◌<◌, ◌≤◌, length, take_all, piece_text}
 use Rattle.krb_driver.proofs.Pieces.{Adds-none, Adds-piece}
 use Rattle.krb_driver.proofs.reporting.writing.add_pieces.Goals as goal
 

@@ -1,15 +1,6 @@
-use Rattle.std.proofs.Common.{ap, inl, inr, ◌∙◌}
-use Rattle.std.specs.Prelude.{Err}
-use Rattle.std.specs.List.{list_any}
-use Rattle.std.proofs.lemmas.Result.{err_from_is_err_and}
-use Rattle.krb_ccache.specs.Store.{CacheState}
+use Rattle.krb_editors.proofs.Cited.{ap, inl, inr, ◌∙◌, Err, list_any, err_from_is_err_and, CacheState, RunError, fair_first, Fails, IsSpent, can_hold, opens, Ends, fairly-failed, fairly-holds, makes-fairly}
 use Rattle.krb_editors.specs.Ccedit.{RunsFairly, edits, line_may_change}
 use Rattle.krb_driver.specs.Loading.{cache_of}
-use Rattle.krb_driver.specs.declared.error.RunError.{RunError}
-use Rattle.krb_driver.specs.Commands.{fair_first}
-use Rattle.krb_driver.specs.Effects.{Fails, IsSpent, can_hold, opens}
-use Rattle.krb_files.specs.Plan.{Ends}
-use Rattle.krb_driver.proofs.Making.{fairly-failed, fairly-holds, makes-fairly}
 use Rattle.krb_editors.proofs.ccedit.EditCacheCommand.make.Goals as goal
 
 -- nothing was opened

@@ -1,0 +1,28 @@
+-- The names that the proofs cite most, passed on from one place. Declares nothing.
+pub use Rattle.std.proofs.Common.{◌∙◌, ap, map, sym, ◌≡◌, List, ℕ, [], refl, ◌++◌, subst, arith, length, ◌∷◌, inr, true, inl, ◌<◌, false, Bool, take, ◌≤◌, append_assoc, ◌⊎◌, rules, get_or, Some, ◌-◌, Option, ◌≢◌, zero, suc, None, cond}
+pub use Rattle.std.proofs.lemmas.List.{append-nil, take_more, take_all}
+pub use Rattle.std.proofs.lemmas.Result.{err_from_is_err_and}
+pub use Rattle.std.specs.List.{list_any, flat_map}
+pub use Rattle.std.specs.Prelude.{Err, Ok, Result, nat_lt, unwrap_or}
+pub use Rattle.krb_editors.specs.Added.{HaveSame, followed_over, carry_by, followed_past, places_after}
+pub use Rattle.krb_editors.specs.Ccedit.{cache_session, lines_events, is_refusal, line_events}
+pub use Rattle.krb_editors.specs.Hold.{held_in, LoadsImage}
+pub use Rattle.krb_editors.specs.Sessions.{new_session, replied, left, is_change, may_change, added, session_effect, RunsFairly, moments}
+pub use Rattle.krb_ccache.specs.Rewrite.{cache_rules}
+pub use Rattle.krb_ccache.specs.Store.{CacheState, image_of, PlacedCredential, placed_credentials}
+pub use Rattle.krb_driver.proofs.Making.{makes-fairly, fairly-failed, fairly-holds, makes-end}
+pub use Rattle.krb_driver.specs.Commands.{fair_first, of_file, GivesOf, Makes, text_effect}
+pub use Rattle.krb_driver.specs.Effects.{Fails, Effect, IsSpent, opens, can_hold, Displays, text, CommandPlan, Saves, faults, saves_unless}
+pub use Rattle.krb_driver.specs.declared.error.RunError.{RunError}
+pub use Rattle.krb_files.specs.Plan.{Ends}
+pub use Rattle.krb_keytab.specs.Store.{KeytabState}
+pub use Rattle.krb_text.specs.Reply.{reply_texts_by, reply_text_by, record_tail, format_after_by}
+pub use Rattle.krb_walk.proofs.Runs.{ran_none, ran_of}
+pub use Rattle.krb_walk.specs.Events.{SessionState, reply_to, session_of, after, put_reply, cut_store, step_reply, end_reply, put_store, rewrite_reply, stop_reply, store_after, cut_reply}
+pub use Rattle.krb_walk.specs.History.{history, state_after, replies, moment, AllLawful}
+pub use Rattle.krb_walk.specs.Ran.{Ran}
+pub use Rattle.krb_walk.specs.Ranks.{live_places, nth_or, carry}
+pub use Rattle.krb_walk.specs.ReplyContent.{content_of, ReplyContent, Refused, Started, Placed, Rewritten, Gave, Ended, Faulted, Gone}
+pub use Rattle.krb_walk.specs.Rules.{Rules}
+pub use Rattle.krb_walk.specs.Store.{end_of, is_place, Store, Record, next_live, stop_of, IsSound, stop_at, fault_of, live_bytes}
+pub use Rattle.krb_walk.specs.declared.event.Event.{Event}
