@@ -1,55 +1,18 @@
 //! Finds the mistake in a command line that clap did not match.
 
-ghost use Rattle.std.specs.Prelude.{◌≡◌, option_copied};
+ghost use Rattle.std.specs.Prelude.{◌≡◌, option_copied, option_map};
 ghost use Rattle.krb_driver.specs.Mistakes.{mistake_parts};
-ghost use Rattle.krbfile.specs.Words.{command_named, is_named, is_option, mistake_of_help, no_command, words_behind};
+ghost use Rattle.krbfile.specs.Words.{command_name, command_named, command_of, is_named, is_option, mistake_of_help, mistake_of_words, no_command, words_behind};
 
-use crate::options::{missing_operand, takes_operand, wants_value};
+use crate::place::mistake_behind;
 use clap::Command;
 use krb_commands::{BadLine, Mistake, More};
 
-// Returns whether a word is an option or a bundle of options, if no `--` comes before it.
-fn is_option(word: &str) -> bool
+/// Returns whether a word is an option or a bundle of options, if no `--` comes before it.
+pub fn is_option(word: &str) -> bool
     ensures { result ≡ is_option word.now }
 {
     word.len() > 1 && word.starts_with('-')
-}
-
-// Returns the first mistake in the words after a command: one that it does not accept, or else what is missing.
-fn mistake_behind<'a>(command: &Command<'a>, words: &'a [String]) -> Mistake<'a> {
-    let options = command.get_arguments();
-    let mut operands: usize = 0;
-    let mut takes_options = true;
-    let mut waiting = None;
-    let mut last = "";
-    for word in words {
-        last = word.as_str();
-        if let Some(option) = waiting {
-            if is_option(last) {
-                return Mistake::NeedsValue(option);
-            }
-            waiting = None;
-        } else if takes_options && last == "--" {
-            takes_options = false;
-        } else if takes_options && last == "--explain" {
-            return Mistake::LateExplain;
-        } else if takes_options && is_option(last) {
-            match wants_value(options, last) {
-                Ok(true) => waiting = Some(last),
-                Ok(false) => {}
-                Err(mistake) => return mistake,
-            }
-        } else if takes_operand(options, operands) {
-            operands = operands.saturating_add(1);
-        } else {
-            return Mistake::LeftOver(last);
-        }
-    }
-    match (waiting, missing_operand(options, operands)) {
-        (Some(option), _) => Mistake::NeedsValue(option),
-        (None, Some(operand)) => Mistake::Missing(operand),
-        (None, None) => Mistake::LeftOver(last),
-    }
 }
 
 // Returns the mistake of a word where a command is expected.
@@ -79,6 +42,16 @@ fn command_named<'k, 'a>(krbfile: &'k Command<'a>, name: &str) -> Option<&'k Com
         .get_subcommands()
         .iter()
         .find(|command| is_named(command, name))
+}
+
+/// Returns the command that words name first.
+pub fn command_of<'k, 'a>(krbfile: &'k Command<'a>, words: &[String]) -> Option<&'k Command<'a>>
+    ensures { option_copied result ≡ command_of krbfile.now words.now }
+{
+    match words {
+        [name, ..] if name.as_str() != "help" => command_named(krbfile, name.as_str()),
+        _ => None,
+    }
 }
 
 // Returns the mistake in the words after `help`.
@@ -111,7 +84,11 @@ pub fn words_behind(words: &[String]) -> &[String]
 
 /// Returns the first mistake in words that `krbfile` did not match, and nothing after it; the first word is the program's
 /// name.
-pub fn bad_line<'a>(krbfile: &Command<'a>, words: &'a [String]) -> BadLine<'a> {
+pub fn bad_line<'a>(krbfile: &Command<'a>, words: &'a [String]) -> BadLine<'a>
+    ensures mistake { mistake_parts result.mistake ≡ mistake_of_words krbfile.now (words_behind words.now) }
+    ensures command { option_copied result.command ≡ option_map command_name (command_of krbfile.now (words_behind words.now)) }
+    ensures more { result.more ≡ More.Nothing }
+{
     let (mistake, command) = match words_behind(words) {
         [] => (Mistake::NoCommand, None),
         [name, rest @ ..] if name.as_str() == "help" => (mistake_of_help(krbfile, rest), None),

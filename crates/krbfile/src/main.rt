@@ -2,12 +2,14 @@
 #![tactic(auto)]
 
 mod bad_line;
+mod bundle;
 mod clock;
 mod command_lines;
 mod default_name;
 mod equals;
 mod nearest;
 mod options;
+mod place;
 mod run;
 mod silent;
 mod words;

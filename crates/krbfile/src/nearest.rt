@@ -3,6 +3,7 @@
 ghost use Rattle.std.specs.Prelude.{◌≡◌, IfOk};
 ghost use Rattle.krbfile.specs.Nearest.{nearest};
 
+use crate::options::before_equals;
 use clap::Command;
 use krb_commands::{COMMANDS, More, words_of};
 use std::alloc::{AllocError, Global};
@@ -68,9 +69,8 @@ pub fn meant_option<'a>(
     let Some(option) = word.strip_prefix("--") else {
         return Ok(More::Nothing);
     };
-    let typed = option.split_once("=").map_or(option, |parts| parts.0);
     let names = long_names(alloc, command)?;
-    match nearest(alloc, typed, &names)? {
+    match nearest(alloc, before_equals(option), &names)? {
         Some(name) => Ok(More::MeantOption(name)),
         None => Ok(More::Nothing),
     }

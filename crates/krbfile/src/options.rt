@@ -1,9 +1,12 @@
 //! The options and operands of a command.
 
 ghost use Rattle.std.specs.Prelude.{◌≡◌, ◌&&◌, filter, length, option_map};
-ghost use Rattle.std.specs.List.{list_any};
-ghost use Rattle.krbfile.specs.Words.{is_of_name, is_operand, missing_operand, takes_long_value, takes_operand, takes_values, wants_long, with_value};
+ghost use Rattle.std.specs.List.{before_first, list_any};
+ghost use Rattle.std.specs.Result.{result_map_both};
+ghost use Rattle.krb_driver.specs.Mistakes.{mistake_parts};
+ghost use Rattle.krbfile.specs.Words.{is_equals, is_of_name, is_operand, missing_operand, takes_long_value, takes_values, wants_long, wants_value, with_operand, with_value};
 
+use crate::bundle::bundled_value;
 use clap::{Arg, ArgAction};
 use krb_commands::Mistake;
 
@@ -13,43 +16,11 @@ fn is_of_name(option: &Arg<'_>, name: &str) -> bool
     option.get_long() == Some(name)
 }
 
-// Returns whether an option takes values, or an operand many words.
-fn takes_values(option: &Arg<'_>) -> bool
+/// Returns whether an option takes values, or an operand many words.
+pub fn takes_values(option: &Arg<'_>) -> bool
     ensures { result ≡ takes_values option.now }
 {
     matches!(option.get_action(), ArgAction::Append)
-}
-
-/// Returns whether an option has that letter.
-pub fn has_letter(options: &[Arg<'_>], letter: char) -> bool {
-    options
-        .iter()
-        .any(|option| option.get_short() == Some(letter))
-}
-
-/// Returns whether the option of that letter takes a value.
-pub fn takes_value(options: &[Arg<'_>], letter: char) -> bool {
-    options.iter().any(|option| option.get_short() == Some(letter) && takes_values(option))
-}
-
-// Returns whether a bundle needs the next word as a value, or else its first unknown letter as a mistake. If that is
-// `=`, after flags, the mistake names the whole bundle.
-fn wants_next<'a>(options: &[Arg<'_>], word: &'a str) -> Result<bool, Mistake<'a>> {
-    let Some(letters) = word.strip_prefix("-") else {
-        return Ok(false);
-    };
-    let (flags, value) = match letters.split_once(|letter: char| takes_value(options, letter)) {
-        Some((flags, value)) => (flags, Some(value)),
-        None => (letters, None),
-    };
-    match flags
-        .matches(|letter: char| !has_letter(options, letter))
-        .next()
-    {
-        Some("=") => Err(Mistake::UnknownOption(word)),
-        Some(letter) => Err(Mistake::UnknownLetter(letter)),
-        None => Ok(value == Some("")),
-    }
 }
 
 // Returns whether the option of that long name takes a value, or `None` if there is none.
@@ -81,11 +52,23 @@ fn wants_long(options: &[Arg<'_>], word: &str) -> Option<bool>
     }
 }
 
+/// Returns a long option without a value.
+pub fn before_equals(word: &str) -> &str
+    ensures { result.now ≡ before_first is_equals word.now }
+{
+    match word.split_once('=') {
+        Some((name, _)) => name,
+        None => word,
+    }
+}
+
 /// Returns whether an option or a bundle of options needs the next word as a value, or else the mistake in it.
-pub fn wants_value<'a>(options: &[Arg<'_>], word: &'a str) -> Result<bool, Mistake<'a>> {
+pub fn wants_value<'a>(options: &[Arg<'_>], word: &'a str) -> Result<bool, Mistake<'a>>
+    ensures { result_map_both (λ wants. wants) mistake_parts result ≡ wants_value options.now word.now }
+{
     match word.strip_prefix("--") {
         Some(name) => wants_long(options, name).ok_or(Mistake::UnknownOption(word)),
-        None => wants_next(options, word),
+        None => Ok(bundled_value(options, word)? == Some("")),
     }
 }
 
@@ -108,11 +91,17 @@ fn operand_count(args: &[Arg<'_>]) -> usize
     args.iter().filter(|arg| is_operand(arg)).count()
 }
 
-/// Returns whether a command takes one more operand after that many.
-pub fn takes_operand(args: &[Arg<'_>], count: usize) -> bool
-    ensures { result ≡ takes_operand args.now count }
+/// Returns the number of operands with one more word, or else that word as a mistake.
+pub fn with_operand<'a>(args: &[Arg<'_>], count: usize, word: &'a str) -> Result<usize, Mistake<'a>>
+    ensures { result_map_both (λ count. count) mistake_parts result ≡ with_operand args.now count word.now }
 {
-    takes_many(args) || count < operand_count(args)
+    if count < operand_count(args) {
+        Ok(count + 1)
+    } else if takes_many(args) {
+        Ok(count)
+    } else {
+        Err(Mistake::LeftOver(word))
+    }
 }
 
 /// Returns the first operand that is required after that many.

@@ -1,6 +1,6 @@
 //! The command line, and its run.
 
-ghost use Rattle.std.specs.Prelude.{ℕ, Option};
+ghost use Rattle.std.specs.Prelude.{◌≡◌, ◌↔◌, ℕ, IsTrue, Option};
 ghost use Rattle.krb_commands.specs.Actions.{DefaultName, EndsParsed};
 
 use crate::clock::seconds_now;
@@ -57,7 +57,9 @@ pub fn announce_script<E: Write>(err: &mut Watched<E>) {
 }
 
 /// Returns whether memory ran out for the words of the command line.
-pub fn is_out_of_memory(parsed: &Result<Action<'_>, WordFault<'_>>) -> bool {
+pub fn is_out_of_memory(parsed: &Result<Action<'_>, WordFault<'_>>) -> bool
+    ensures { IsTrue result ↔ (parsed.now ≡ Err WordFault.NoMemory) }
+{
     matches!(parsed, Err(WordFault::NoMemory))
 }
 

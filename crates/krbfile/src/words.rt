@@ -1,9 +1,13 @@
 //! Parses the words of a command line.
 
+ghost use Rattle.std.specs.Prelude.{◌≡◌, IfOk, map};
+ghost use Rattle.krbfile.specs.Words.{is_long, long_names};
+
 use crate::bad_line::{bad_line, words_behind};
 use crate::command_lines::krbfile_command;
 use crate::equals::double_equals;
 use crate::nearest::{meant_command, meant_option};
+use crate::options::before_equals;
 use clap::error::ErrorKind;
 use clap::{ArgMatches, Command};
 use krb_commands::{
@@ -58,16 +62,24 @@ impl<'a> Matches<'a> for Matched<'_, 'a> {
     }
 }
 
+fn is_long(word: &str) -> bool
+    ensures { result ≡ is_long word.now }
+{
+    word.starts_with("--")
+}
+
 // Returns the long names of options in the words before a first `--`, each with its `--` and without its value.
-fn long_names<'a>(alloc: Global, words: &'a [String]) -> Result<Vec<&'a str>, AllocError> {
+fn long_names<'a>(alloc: Global, words: &'a [String]) -> Result<Vec<&'a str>, AllocError>
+    ensures { IfOk result (λ names. map (λ name. name.now) names.items ≡ long_names words.now) }
+{
     let mut names = Vec::new(alloc);
-    for word in words {
+    'words: for word in words {
         let word = word.as_str();
         if word == "--" {
             return Ok(names);
         }
-        if word.starts_with("--") {
-            names.push(word.split_once("=").map_or(word, |parts| parts.0))?;
+        if is_long(word) {
+            names.push(before_equals(word))?;
         }
     }
     Ok(names)
