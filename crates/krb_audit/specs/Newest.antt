@@ -5,11 +5,11 @@ use Rattle.krb_wire.specs.Names.{have_same_name}
 use Rattle.krb_keytab.specs.Entry.{EntryParts}
 use Rattle.krb_keytab.specs.Find.{PlacedEntry}
 
--- of two kvnos the small one is the later: the kvno has wrapped around between them
+-- one kvno is below 128 and the other above 240: kvnos of 8 bits wrap from 255 to 0, so the small one may be the later
 abbrev pub has_wrapped : ℕ → ℕ → Bool
 has_wrapped small large = nat_lt small 128 && nat_lt 240 large
 
--- a later entry replaces the newest: its kvno is greater, or across a wrap its time counts (MIT kt_file.c, more_recent)
+-- a later entry replaces the newest: its kvno is greater; across a wrap the later time decides, and the smaller kvno at one time (MIT kt_file.c, more_recent)
 abbrev pub is_newer : EntryParts → EntryParts → Bool
 is_newer newest later =
     if has_wrapped later.version newest.version then not (nat_lt later.timestamp newest.timestamp)

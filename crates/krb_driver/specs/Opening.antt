@@ -14,20 +14,20 @@ use Rattle.krb_driver.specs.declared.verdict.FileKind.TheVariants.{Keytab, Cache
 use Rattle.krb_driver.specs.Loading.{cache_of, keytab_of, keytab_or_fresh, keytab_or_new, result_map_err}
 use Rattle.krb_driver.specs.RunErrors.{list_error, no_keytab_error}
 
--- the keytab of a file
+-- the keytab in a file, or the error: the file is missing or was not read, or it is no keytab
 abbrev pub keytab_in : Order → Answer → Result KeytabState RunError
 keytab_in order answer = result_map_err no_keytab_error (keytab_of order answer)
 
--- the same for a file to list
+-- the keytab in a file to list: if it is none, the error has its own words
 abbrev pub listed_in : Order → Answer → Result KeytabState RunError
 listed_in order answer = result_map_err list_error (keytab_of order answer)
 
--- the same, but a missing file that is not to be saved in place gives an empty keytab
+-- the keytab in a file, where a missing one that is not to be saved in place gives an empty keytab
 abbrev pub keytab_or_empty : Order → Bool → Answer → Result KeytabState RunError
 keytab_or_empty order true answer = keytab_in order answer
 keytab_or_empty order false answer = result_map_err no_keytab_error (keytab_or_new order answer)
 
--- the same, but a file of no bytes gives an empty keytab too
+-- the keytab in a file, where one of no bytes gives an empty keytab, and so does a missing one that is not to be saved in place
 abbrev pub fresh_in : Order → Bool → Answer → Result KeytabState RunError
 fresh_in order in_place answer = result_map_err no_keytab_error (keytab_or_fresh order in_place answer)
 
@@ -36,6 +36,7 @@ abbrev pub or_refused : {K E : Type 0} → (Code → E) → K → Option Code �
 or_refused why k None = Ok k
 or_refused why k (Some code) = Err (why code)
 
+-- what was opened, unless it refuses to be changed
 abbrev pub unless_refused : {K E : Type 0} → (Code → E) → (K → Option Code) → Result K E → Result K E
 unless_refused why refusal (Ok k) = or_refused why k (refusal k)
 unless_refused why refusal (Err e) = Err e
@@ -52,7 +53,7 @@ cache_refusal k = if is_read_only k.version then Some ReadOnly else (if is_some 
 unfoldable pub whole_in : Order → Answer → Result KeytabState RunError
 whole_in order answer = unless_refused (Refused Keytab) keytab_refusal (keytab_in order answer)
 
--- the same, but a file of no bytes, or a missing one that is not to be saved in place, gives an empty keytab
+-- the keytab of a file to change, which is not damaged, where one of no bytes or a missing one gives an empty keytab as above
 unfoldable pub whole_or_empty : Order → Bool → Answer → Result KeytabState RunError
 whole_or_empty order in_place answer = unless_refused (Refused Keytab) keytab_refusal (fresh_in order in_place answer)
 

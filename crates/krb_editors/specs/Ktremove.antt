@@ -33,9 +33,9 @@ asks_for_old Old = true
 asks_for_old (OldFor seconds) = true
 asks_for_old kvno = false
 
--- the verdict if no entry is selected: no failure with `-k old`, if no name or enctype is given or they have entries
+-- the verdict if no entry is selected: `refused 9`; with `-k old` all is well if no name or enctype is given, or some entry has them
 abbrev pub none_verdict : {A : Type 0} → Selection A → Bool → Verdict
-none_verdict s named = if asks_for_old s.kvno && (asks_for_any s || named) then Well else NothingToRemove Keytab
+none_verdict s has_named = if asks_for_old s.kvno && (asks_for_any s || has_named) then Well else NothingToRemove Keytab
 
 -- the places of entries
 abbrev pub places : List PlacedEntry → List ℕ

@@ -12,8 +12,8 @@ use krb_audit::{SelectedKvno, Selection, select};
 use krb_driver::{
     Command, CommandName, CommandWords, DRY_RUN, FileError, FileKind, FileName, IN_PLACE, Made,
     Matches, Mistake, Output, RunError, V1_BIG, Verdict, Word, WordFault, World, end_before,
-    first_value, hold_if, open_whole, refuse_twice, run, spelled_etypes, spelled_names, spelled_seconds,
-    times_given, v1_order,
+    first_value, hold_if, open_whole, refuse_twice, run, spelled_etypes, spelled_names,
+    spelled_seconds, times_given, v1_order,
 };
 use krb_files::Files;
 use krb_keytab::Keytab;
