@@ -8,3 +8,4 @@ pub mod Words
 mod KeyStarts
 pub mod MatchLemmas
 mod FileNameLemmas
+pub mod Failures

@@ -1,7 +1,8 @@
 -- The failures that replies report, and the verdict of a run that printed them.
-use Rattle.std.specs.Prelude.{◌==◌, List, [], ◌∷◌, ◌++◌, map, Bool, false, if◌then◌else◌, Option, None, is_some}
+use Rattle.std.specs.Prelude.{ℕ, ◌==◌, List, [], ◌∷◌, ◌++◌, map, Bool, false, if◌then◌else◌, Option, None, Some, is_some, slice_set, ◌+◌, ◌-◌}
 use Rattle.std.specs.Bool.{then_some}
 use Rattle.std.specs.List.{list_any}
+use Rattle.std.specs.Option.{option_map_or}
 use Rattle.krb_walk.specs.declared.fault.FaultKind.TheVariants.{CutLength, Overrun, BadEntry, BadCredential}
 use Rattle.krb_walk.specs.declared.refusal.Code.TheVariants.{Damaged, TooLong, Full, NotAPlace, NotLive, NoSuchWalk, TooManyWalks, ReadOnly, NotFound, KvnoNotFound, Marked}
 use Rattle.krb_walk.specs.Phrases.{code_number, fault_number}
@@ -12,25 +13,36 @@ use Rattle.krb_driver.specs.declared.verdict.FileKind.{FileKind}
 use Rattle.krb_driver.specs.declared.verdict.Verdict.{Verdict}
 use Rattle.krb_driver.specs.declared.verdict.Verdict.TheVariants.{Well, Replied}
 
--- a reply reports that failure: it is a refusal with its code, or a fault of its kind
+-- the failure that a reply reports, if it is a refusal or a fault
+abbrev pub failure_of : ReplyContent → Option Failure
+failure_of (Refused code) = Some (failure.Refused code)
+failure_of (Faulted walk fault) = Some (failure.Faulted fault.kind)
+failure_of other = None
+
+-- the place of a failure among all: refusals and then faults, in the order of their numbers
+abbrev pub place_of : Failure → ℕ
+place_of (failure.Refused code) = code_number code - 1
+place_of (failure.Faulted kind) = 10 + fault_number kind
+
+-- a reply reports that failure
 abbrev pub reports : Failure → ReplyContent → Bool
-reports (failure.Refused code) (Refused reported) = code_number reported == code_number code
-reports (failure.Faulted kind) (Faulted walk fault) = fault_number fault.kind == fault_number kind
-reports expected other = false
+reports expected reply = option_map_or (λ reported. place_of reported == place_of expected) (failure_of reply) false
 
--- a failure, if some reply reports it
-abbrev pub if_reported : List ReplyContent → Failure → Option Failure
-if_reported replies expected = then_some (list_any (reports expected) replies) expected
+-- all failures, in that order
+abbrev pub all_failures : List Failure
+all_failures =
+    map failure.Refused (Damaged ∷ TooLong ∷ Full ∷ NotAPlace ∷ NotLive ∷ NoSuchWalk ∷ TooManyWalks ∷ ReadOnly ∷ NotFound ∷ KvnoNotFound ∷ Marked ∷ [])
+    ++ map failure.Faulted (CutLength ∷ Overrun ∷ BadEntry ∷ BadCredential ∷ [])
 
--- each failure that is reported, at its place: refusals and then faults, in the order of their numbers
+-- each failure, if some reply reports it
 abbrev pub failures : List ReplyContent → List (Option Failure)
-failures replies =
-    map (if_reported replies)
-    (map failure.Refused (Damaged ∷ TooLong ∷ Full ∷ NotAPlace ∷ NotLive ∷ NoSuchWalk ∷ TooManyWalks ∷ ReadOnly ∷ NotFound ∷ KvnoNotFound ∷ Marked ∷ [])
-    ++ map failure.Faulted (CutLength ∷ Overrun ∷ BadEntry ∷ BadCredential ∷ []))
+failures replies = map (λ expected. then_some (list_any (reports expected) replies) expected) all_failures
+
+-- what is reported, with one more reply
+abbrev pub with_reply : List (Option Failure) → ReplyContent → List (Option Failure)
+with_reply failures reply = option_map_or (λ f. slice_set failures (place_of f) (Some f)) (failure_of reply) failures
 
 -- the verdict of a run that printed these replies about a file of that kind
 abbrev pub replied_verdict : FileKind → List ReplyContent → Verdict
 replied_verdict kind replies =
-    let reported = failures replies in
-    if list_any is_some reported then Replied (record { kind = kind; failures = reported; hidden_from = None }) else Well
+    if list_any is_some (failures replies) then Replied (record { kind = kind; failures = failures replies; hidden_from = None }) else Well

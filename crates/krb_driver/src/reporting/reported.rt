@@ -3,7 +3,7 @@
 ghost use Rattle.std.specs.Prelude.{◌≡◌, is_some, map};
 ghost use Rattle.std.specs.List.{list_any};
 ghost use Rattle.krb_walk.specs.ReplyContent.{content_of};
-ghost use Rattle.krb_driver.specs.Reported.{failures, if_reported, replied_verdict, reports};
+ghost use Rattle.krb_driver.specs.Reported.{failure_of, failures, place_of, replied_verdict, with_reply};
 
 use crate::verdict::{FileKind, Verdict};
 use krb_walk::{Code, FaultKind, Reply};
@@ -26,52 +26,49 @@ pub struct Reported {
     pub hidden_from: Option<u32>,
 }
 
-// Returns whether a reply reports that failure.
-fn reports<A: Allocator>(failure: Failure, reply: &Reply<A>) -> bool
-    ensures { result ≡ reports failure (content_of reply.now) }
+// Returns the failure that a reply reports, if it is a refusal or a fault.
+fn failure_of<A: Allocator>(reply: &Reply<A>) -> Option<Failure>
+    ensures { result ≡ failure_of (content_of reply.now) }
 {
-    match (failure, reply) {
-        (Failure::Refused(code), Reply::Refused(reported)) => reported.number() == code.number(),
-        (Failure::Faulted(kind), Reply::Faulted { fault, .. }) => {
-            fault.kind.number() == kind.number()
-        }
-        _ => false,
+    match reply {
+        Reply::Refused(code) => Some(Failure::Refused(*code)),
+        Reply::Faulted { fault, .. } => Some(Failure::Faulted(fault.kind)),
+        _ => None,
     }
 }
 
-fn is_reported<A: Allocator>(failure: Failure, replies: &[Reply<A>]) -> bool
-    ensures { result ≡ list_any (λ r. reports failure (content_of r)) replies.now }
+// Returns the place of a failure among all.
+fn place_of(failure: Failure) -> usize
+    ensures { result ≡ place_of failure }
 {
-    replies.iter().any(|reply| reports(failure, reply))
+    match failure {
+        Failure::Refused(code) => code.number().saturating_sub(1) as usize,
+        Failure::Faulted(kind) => kind.number() as usize + 10,
+    }
 }
 
-// Returns a failure if some reply reports it.
-fn if_reported<A: Allocator>(failure: Failure, replies: &[Reply<A>]) -> Option<Failure>
-    ensures { result ≡ if_reported (map content_of replies.now) failure }
+// Adds the failure that a reply reports.
+#[tactic(auto, using(std::proofs::lemmas::List::set_past))]
+fn add<A: Allocator>(failures: &mut [Option<Failure>], reply: &Reply<A>)
+    ensures { failures.new ≡ with_reply failures.old (content_of reply.now) }
 {
-    is_reported(failure, replies).then_some(failure)
+    let Some(failure) = failure_of(reply) else {
+        return;
+    };
+    let place = place_of(failure);
+    if place < failures.len() {
+        failures[place] = Some(failure);
+    }
 }
 
 fn failures<A: Allocator>(replies: &[Reply<A>]) -> [Option<Failure>; 15]
     ensures { result ≡ failures (map content_of replies.now) }
 {
-    [
-        if_reported(Failure::Refused(Code::Damaged), replies),
-        if_reported(Failure::Refused(Code::TooLong), replies),
-        if_reported(Failure::Refused(Code::Full), replies),
-        if_reported(Failure::Refused(Code::NotAPlace), replies),
-        if_reported(Failure::Refused(Code::NotLive), replies),
-        if_reported(Failure::Refused(Code::NoSuchWalk), replies),
-        if_reported(Failure::Refused(Code::TooManyWalks), replies),
-        if_reported(Failure::Refused(Code::ReadOnly), replies),
-        if_reported(Failure::Refused(Code::NotFound), replies),
-        if_reported(Failure::Refused(Code::KvnoNotFound), replies),
-        if_reported(Failure::Refused(Code::Marked), replies),
-        if_reported(Failure::Faulted(FaultKind::CutLength), replies),
-        if_reported(Failure::Faulted(FaultKind::Overrun), replies),
-        if_reported(Failure::Faulted(FaultKind::BadEntry), replies),
-        if_reported(Failure::Faulted(FaultKind::BadCredential), replies),
-    ]
+    let mut failures = [None; 15];
+    'replies: for reply in replies {
+        add(&mut failures, reply);
+    }
+    failures
 }
 
 fn has_some(failures: &[Option<Failure>]) -> bool
