@@ -1,6 +1,8 @@
 //! Shows, checks and edits Kerberos keytabs and credential caches.
 #![tactic(auto)]
 
+ghost use Rattle.std.specs.Prelude.{◌≡◌};
+
 mod bad_line;
 mod bundle;
 mod clock;
@@ -14,7 +16,7 @@ mod run;
 mod silent;
 mod words;
 
-use krb_commands::{ErrorOutput, World, at_terminal, needs_of};
+use krb_commands::{ErrorOutput, Needs, World, at_terminal, needs_of};
 use krb_disk::DiskFiles;
 use krb_files::{Watched, WatchedReader};
 use krb_terminal::Screen;
@@ -24,6 +26,22 @@ use run::{
 use silent::asks_for_silence;
 use std::io::IsTerminal;
 use std::process::ExitCode;
+use std::rt;
+
+// Returns the files of a run.
+fn files_for<R: rt::Files + Alloc>(rt: &R, needs: Needs) -> DiskFiles<'_, R>
+    ensures plain { result.only_plain ≡ needs.plain }
+    ensures in_place { result.in_place ≡ needs.in_place }
+{
+    let mut files = DiskFiles::new(rt);
+    if needs.plain {
+        files.only_plain();
+    }
+    if needs.in_place {
+        files.save_in_place();
+    }
+    files
+}
 
 fn main(rt: HostRuntime) -> ExitCode {
     let is_told = is_told_to_explain(&rt);
@@ -40,18 +58,11 @@ fn main(rt: HostRuntime) -> ExitCode {
     let is_typed = input.is_terminal() && on_terminal;
     let parsed = at_terminal(parsed, out.is_terminal(), is_typed);
     let needs = needs_of(&parsed);
-    let mut files = DiskFiles::new(&rt);
-    if needs.plain {
-        files.only_plain();
-    }
-    if needs.in_place {
-        files.save_in_place();
-    }
     let mut screen = Screen::new(out, out.is_terminal() && !needs.json);
     let mut error_screen = Screen::new(err, on_terminal);
     let status = {
         let mut world = World {
-            files,
+            files: files_for(&rt, needs),
             input: WatchedReader::new(input),
             out: Watched::new(&mut screen),
             err: ErrorOutput {
