@@ -22,7 +22,7 @@ IMPORTS = {source: names.split() for source, names in {
     "Rattle.krb_ccache.specs.Store": "PlacedCredential placed_credentials",
     "Rattle.krb_ccache.specs.SetConfig": "SettingParts setting_events",
     "Rattle.krb_text.specs.Calendar": "day_number day_text next_day time_text_of",
-    "Rattle.krb_text.specs.Found": "found_line",
+    "Rattle.krb_text.specs.Listing": "found_line",
     "Rattle.krb_driver.specs.Loading": "result_map",
     "Rattle.samples.proofs.Given":
         "hex keytab cache found old listed cache_listed plain all tickets details left printed cache_left",

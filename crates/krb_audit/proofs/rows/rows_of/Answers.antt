@@ -9,12 +9,12 @@ loop-place-init g c =
     let k = c.args.keytab.now.state in
     let is = c.into_iter-place-iterator.ensures.into_iter_gives ∙ c.cells-place-items.ensures in
     record {
-      numbered = none_numbered c.format-format.result (placed_entries k) _ _ (entries_of_cells k c.into_iter-place-iterator.result is) c.new.ensures.empty c.new-2.ensures.items;
+      numbered = none_numbered c.format-format.result (placed_entries k) _ _ (entries_of_cells k c.into_iter-place-iterator.result is) c.new.ensures.empty c.in_ok-with_capacity.ensures.items;
       format = ap (λ (x : CellsFrom). x.format) is ∙ sym c.format-format.ensures;
     }
 
-pub loop-place-preserved-in-Continue-1 : goal.loop-place-preserved-in-Continue-1
-loop-place-preserved-in-Continue-1 g c =
+pub loop-place-preserved-in_ok-consider : goal.loop-place-preserved-in_ok-consider
+loop-place-preserved-in_ok-consider g c =
     let f = c.format-format.result in
     let all = placed_entries c.args.keytab.now.state in
     let old = c.loop-place._place-iterator in
