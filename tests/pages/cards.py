@@ -12,7 +12,8 @@ LINES, COLUMNS = 200, 100
 
 
 def faults(card: str) -> list[str]:
-    """Returns the lines that are too many or too long, and what is named or quoted and is not in the sources."""
+    """Returns the lines that are too many or too long, what is named or quoted and is not in the sources, and what
+    computes and has no sample."""
     title, _, contract, full, brief, others = card.split("\n\n")
     texts = {"contract": read(title.split()[-1]), "definitions": sources("crates/*/specs/*.antt")}
     texts = {what: " ".join(text.split()) for what, text in texts.items()}
@@ -24,6 +25,8 @@ def faults(card: str) -> list[str]:
     samples = re.findall(r"\(sample:\s(?: *-- | *)(\w+)\s(?: *-- | *)([\w'-]+)\)", full + brief)
     wrong += [f"no sample {file} {name}" for file, name in {*samples}
               if not re.search(rf"^(?:\w+ )*{name} :", read(f"crates/samples/proofs/{file}.antt"), re.MULTILINE)]
+    wrong += [f"no sample: {said}" for said in re.findall(r"(?:^ *-- .*\n)+(?! *(?:--|pub \S+ :))", full, re.MULTILINE)
+              if "(sample:" not in said and not re.match(r" *-- (?:relation|type): ", said)]
     crates = re.findall(r"(\w+)\s+\d+", others)
     wrong += [f"no {crate}" for crate in crates if not os.path.exists(os.path.join(TOP, "crates", crate, "specs"))]
     wrong += [] if samples and named and crates else ["it names nothing"]
