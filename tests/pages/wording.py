@@ -37,11 +37,9 @@ def of_mistakes() -> Iterator[tuple[str, set[object]]]:
 
 
 def of_sources() -> Iterator[tuple[str, set[object]]]:
-    """Yields the phrases of the definitions and of Python's module that are not on the pages, or the other way round.
-    Both pages have the phrase of clashes, and the hints."""
-    of_both = (f"clash: {phrases.CLASH}", phrases.TO_REPLACE, phrases.NO_ENTRY, *phrases.HINTS.values())
-    yield from ((f"the clashes and hints of {name}", {each for each in of_both if each not in page})
-                for name, page in ((PAGE, phrases.PAGE), ("FORMATS", phrases.FORMATS)))
+    """Yields the phrases of the definitions and of Python's module that are not on the page, or the other way round."""
+    displayed = (f"clash: {phrases.CLASH}", phrases.TO_REPLACE, phrases.NO_ENTRY)
+    yield "the clashes", {each for each in displayed if each not in phrases.PAGE}
     defined = {*re.findall(r'^\w+_phrase .*= codes "(.*)"$', sources("crates/*/specs/*.antt"), re.MULTILINE)}
     files = {"no such file", "file too large", "cannot read", "cannot write", "out of memory"}
     in_library = {*phrases.LIBRARY_CODES.values(), phrases.TOO_LONG, phrases.LIBRARY_IN_THE_WAY, "error "}
