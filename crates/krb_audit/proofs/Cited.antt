@@ -19,7 +19,7 @@ pub use Rattle.krb_audit.specs.Rows.{first_number, AreRows, AreNumbered, HasPlac
 pub use Rattle.krb_audit.specs.Selection.{has_selected_kvno, is_named, is_young}
 pub use Rattle.krb_audit.specs.declared.rows.Row.{Row}
 pub use Rattle.krb_audit.specs.declared.selection.SelectedKvno.TheVariants.{OldFor, Old, Exactly, Any, Newest}
-pub use Rattle.krb_audit.specs.declared.stamp.Stamp.{Stamp}
+pub use Rattle.krb_audit.specs.declared.newest.Stamp.{Stamp}
 pub use Rattle.krb_keytab.specs.CellViews.{cell_of, cells_of, CellsFrom, BeginsWith}
 pub use Rattle.krb_keytab.specs.Cells.{size, Free, Live, Cell}
 pub use Rattle.krb_keytab.specs.Entries.{entries_in, entry_in}

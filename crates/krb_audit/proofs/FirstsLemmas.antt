@@ -3,7 +3,7 @@ use Rattle.krb_audit.proofs.Cited.{◌≡◌, ℕ, Bool, true, false, cond, List
 use Rattle.std.specs.Cmp.{IsEquivalence}
 use Rattle.std.specs.Option.{option_or, unwrap_or}
 use Rattle.krb_audit.specs.declared.marks.Alike.{Alike}
-use Rattle.krb_audit.specs.Firsts.{AreFirsts, Key, same_key}
+use Rattle.krb_audit.specs.Before.{AreFirsts, Key, same_key}
 use Rattle.krb_audit.proofs.FirstNumbers.{number_test, same_equiv}
 
 alike_equiv : IsEquivalence is_alike

@@ -62,8 +62,7 @@ lengths f e bytes p rest s read =
     let given : Parts × List ℕ = (p, rest) in
     let same : found ≡ given = some_is found given (sym o.read ∙ read) in
     let rest_is : length o.rest ≡ length rest = ap (λ (x : Parts × List ℕ). length x.1) same in
-    let whole = ap length o.parts in
-    omega (arith, whole, rest_is, length-append (kt_name f e.principal) (name_type_field f e.principal.name_type ++ o.rest), length-append (name_type_field f e.principal.name_type) o.rest, type_length f e.principal.name_type)
+    omega (arith, ap length o.parts, rest_is, length-append (kt_name f e.principal) (name_type_field f e.principal.name_type ++ o.rest), length-append (name_type_field f e.principal.name_type) o.rest, type_length f e.principal.name_type)
 
 -- the bytes before the type are those of the name
 pub name_taken : (f : KtFormat) (e : EntryParts) (bytes : List ℕ) (n : ℕ) → Spells f e bytes → n ≡ length (kt_name f e.principal) → take n bytes ≡ kt_name f e.principal

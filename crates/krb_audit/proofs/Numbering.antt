@@ -9,7 +9,7 @@ use Rattle.std.proofs.lemmas.Map.Text.{is_eq-slice_cmp}
 use Rattle.std.proofs.lemmas.Slice.Eq.{bytes_eq-Decides}
 use denote.Ref.{Bor}
 use Rattle.krb_audit.specs.declared.rows.Names.{Names}
-use Rattle.krb_audit.specs.Hash.{hash_of}
+use Rattle.krb_audit.specs.Names.{hash_of}
 use Rattle.krb_audit.proofs.FirstNumbers.{same_equiv, first_alike}
 use Rattle.krb_audit.proofs.NameBytes.{same_bytes}
 

@@ -1,15 +1,38 @@
--- What is known before an entry of a keytab.
-use Rattle.std.specs.Prelude.{◌≡◌, List, ◌++◌}
+-- What is known before an entry of a keytab: the first entry of each name, kvno and enctype, in a map, and more.
+use Rattle.std.specs.Prelude.{◌≡◌, List, ◌++◌, ℕ, find, Bool, ◌&&◌, ◌==◌, Option, Some, option_map}
 use Rattle.std.specs.List.{list_any}
 use Rattle.std.specs.Vec.Iter.{into_iter_items}
 use Rattle.krb_keytab.specs.Find.{PlacedEntry, placed_entries}
 use Rattle.krb_keytab.specs.Store.{KeytabState}
 use Rattle.krb_audit.specs.declared.findings.Before.{Before}
 use Rattle.krb_audit.specs.declared.selection.SelectedKvno.TheVariants.{Old}
-use Rattle.krb_audit.specs.Findings.{ends_mit, weak_among}
-use Rattle.krb_audit.specs.Firsts.{AreFirsts, looked}
-use Rattle.krb_audit.specs.Rows.{AreRows}
+use Rattle.krb_audit.specs.Findings.{ends_mit, weak_among, is_alike}
+use Rattle.krb_audit.specs.Rows.{AreRows, first_number}
 use Rattle.krb_audit.specs.KvnoMarks.{AreMarks}
+use Rattle.std.specs.BTreeMap.{get}
+use Rattle.std.specs.declared.cmp.Ordering.{Ordering}
+use Rattle.std.specs.Ordering.{nat_cmp, ordering_then}
+use Rattle.krb_audit.specs.declared.firsts.Firsts.{Firsts}
+
+-- a name, as the number of its first entry, a kvno and an enctype
+abbrev pub Key : Type 0
+Key = ℕ × ℕ × ℕ
+
+-- two keys are the same
+abbrev pub same_key : Key → Key → Bool
+same_key k l = (k.0 == l.0 && k.1 == l.1) && k.2 == l.2
+
+-- the order of keys
+abbrev pub key_cmp : Key → Key → Ordering
+key_cmp k l = ordering_then (ordering_then (nat_cmp k.0 l.0) (nat_cmp k.1 l.1)) (nat_cmp k.2 l.2)
+
+-- the place and the secret key that the map has for a key
+abbrev pub looked : {A : Type 0} → Firsts A → Key → Option (ℕ × List ℕ)
+looked firsts k = option_map (λ v. (v.0, v.1.now)) (get key_cmp firsts.map k)
+
+-- for the key of each entry, the place and the secret key of the first entry among `xs` that is alike
+abbrev pub AreFirsts : List PlacedEntry → List PlacedEntry → (Key → Option (ℕ × List ℕ)) → Type 0
+AreFirsts all xs look = (x : PlacedEntry) (i : ℕ) → first_number x.1.principal all ≡ Some i → look (i, x.1.version, x.1.enctype) ≡ option_map (λ y. (y.0, y.1.key)) (find (is_alike x) xs)
 
 -- what is known of a keytab between the entries `before` and the entries `rest`
 pub record IsBefore {A : Type 0} (k : KeytabState) (before rest : List PlacedEntry) (b : Before A) : Type 0 where

@@ -6,9 +6,9 @@ use Rattle.krb_keytab.specs.Find.{PlacedEntry}
 use Rattle.krb_audit.specs.declared.rows.Row.{Row}
 use Rattle.krb_audit.specs.declared.selection.SelectedKvno.{SelectedKvno}
 use Rattle.krb_audit.specs.declared.selection.SelectedKvno.TheVariants.{Any, Exactly, Newest, Old, OldFor}
-use Rattle.krb_audit.specs.declared.selected_versions.SelectedVersions.{SelectedVersions}
-use Rattle.krb_audit.specs.declared.selected_versions.SelectedVersions.TheVariants.{Each, This, Marked}
-use Rattle.krb_audit.specs.declared.stamp.Stamp.{Stamp}
+use Rattle.krb_audit.specs.declared.kvno_marks.SelectedVersions.{SelectedVersions}
+use Rattle.krb_audit.specs.declared.kvno_marks.SelectedVersions.TheVariants.{Each, This, Marked}
+use Rattle.krb_audit.specs.declared.newest.Stamp.{Stamp}
 use Rattle.krb_audit.specs.Newest.{has_other_version}
 use Rattle.krb_audit.specs.Rows.{first_number, newest_stamp, stamped}
 use Rattle.krb_audit.specs.Selection.{has_selected_kvno, has_young, is_young}

@@ -7,8 +7,6 @@ pub mod Report
 pub mod Laws
 -- For private contracts alone.
 pub mod Names
-pub mod Hash
 pub mod Rows
 pub mod KvnoMarks
-pub mod Firsts
 pub mod Before

@@ -1,7 +1,7 @@
--- The bytes of a record that encode its entry's name.
-use Rattle.std.specs.Prelude.{ℕ, List, ◌++◌, length, if◌then◌else◌}
+-- The bytes of a record that encode its entry's name, and a hash of names.
+use Rattle.std.specs.Prelude.{ℕ, List, ◌++◌, length, if◌then◌else◌, ◌+◌, ◌*◌, ◌%◌, ◌^◌}
 use Rattle.std.specs.Int.{w16}
-use Rattle.std.specs.List.{flat_map}
+use Rattle.std.specs.List.{flat_map, fold}
 use Rattle.krb_wire.specs.declared.format.KtFormat.{KtFormat}
 use Rattle.krb_wire.specs.Spelling.{Parts, digits, data16, order_of, count_field, has_name_type}
 
@@ -14,3 +14,13 @@ kt_name f p =
 -- the size of a name type in bytes: 0 if the format has none
 abbrev pub type_len : KtFormat → ℕ
 type_len f = if has_name_type f then 4 else 0
+
+-- ---- their hash
+
+-- the hash with one more byte, in 64 bits (the multiplier is that of FNV-1a)
+abbrev pub hash_step : ℕ → ℕ → ℕ
+hash_step hash byte = (hash * 1099511628211 % 2 ^ 64 + byte) % 2 ^ 64
+
+-- the hash of a name's bytes
+unfoldable pub hash_of : List ℕ → ℕ
+hash_of name = fold hash_step 0 name

@@ -14,9 +14,8 @@ use Rattle.krb_keytab.specs.Entry.{EntryParts}
 use Rattle.krb_keytab.specs.Find.{PlacedEntry}
 use Rattle.krb_audit.specs.declared.rows.Names.{Names}
 use Rattle.krb_audit.specs.declared.rows.Row.{Row}
-use Rattle.krb_audit.specs.declared.stamp.Stamp.{Stamp}
-use Rattle.krb_audit.specs.Hash.{hash_of}
-use Rattle.krb_audit.specs.Names.{kt_name}
+use Rattle.krb_audit.specs.declared.newest.Stamp.{Stamp}
+use Rattle.krb_audit.specs.Names.{hash_of, kt_name}
 use Rattle.krb_audit.specs.Newest.{newer, newest}
 
 -- the stamp of an entry: its kvno and timestamp

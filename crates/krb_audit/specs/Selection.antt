@@ -12,7 +12,7 @@ use Rattle.krb_text.specs.Listing.{removed_line}
 use Rattle.krb_audit.specs.declared.selection.SelectedKvno.{SelectedKvno}
 use Rattle.krb_audit.specs.declared.selection.SelectedKvno.TheVariants.{Any, Exactly, Newest, Old, OldFor}
 use Rattle.krb_audit.specs.declared.selection.Selection.{Selection}
-use Rattle.krb_audit.specs.declared.selected.Selected.{Selected}
+use Rattle.krb_audit.specs.declared.selection.Selected.{Selected}
 use Rattle.krb_audit.specs.Newest.{is_old}
 
 -- a name prints as one of those texts, if there are any

@@ -3,7 +3,7 @@
 ghost use Rattle.std.specs.Prelude.{◌≡◌, None, Some, OnOk, IfOk, option_map, if◌then◌else◌};
 ghost use Rattle.std.specs.Option.{unwrap_or};
 ghost use Rattle.std.specs.Str.{bytes_eq};
-ghost use Rattle.krb_audit.specs.Firsts.{Key, looked, same_key};
+ghost use Rattle.krb_audit.specs.Before.{Key, looked, same_key};
 
 use crate::marks::Alike;
 use krb_wire::NoMemory;

@@ -2,17 +2,17 @@
 
 ghost use Rattle.std.specs.Prelude.{◌≡◌, ℕ, ◌∷◌, List, IfOk, false, get_or};
 ghost use Rattle.std.specs.Vec.Iter.{into_iter_items};
-ghost use Rattle.krb_keytab.specs.Find.{PlacedEntry};
+ghost use Rattle.krb_keytab.specs.Find.{PlacedEntry, placed_entries};
 ghost use Rattle.krb_audit.specs.Rows.{AreRows};
 ghost use Rattle.krb_audit.specs.Selection.{has_selected_kvno};
 ghost use Rattle.krb_audit.specs.declared.selection.SelectedKvno.{SelectedKvno};
-ghost use Rattle.krb_audit.specs.KvnoMarks.{AreMarks, selects_row};
+ghost use Rattle.krb_audit.specs.KvnoMarks.{AreMarks, selects_row, AreVersions};
 
-use crate::newest::{is_old, newest_stamps};
-use crate::rows::Row;
+use crate::newest::{Stamp, is_old, newest_stamps};
+use crate::rows::{Row, rows_of};
 use crate::selection::SelectedKvno;
-use crate::stamp::Stamp;
 use crate::young::young_names;
+use krb_keytab::Keytab;
 use krb_wire::NoMemory;
 use std::alloc::Allocator;
 use std::vec::IntoIter;
@@ -64,5 +64,49 @@ pub fn next_mark<A: Allocator>(marks: &mut IntoIter<bool, A>) -> bool
     match marks.next() {
         Some(next) => next,
         None => false,
+    }
+}
+
+/// The selected kvnos, for a pass over the entries of a keytab.
+#[derive(Drop)]
+pub enum SelectedVersions<A: Allocator> {
+    Each,
+    This(u32),
+    Marked(IntoIter<bool, A>),
+}
+
+impl<A: Allocator + Copy> SelectedVersions<A> {
+    pub fn of(
+        alloc: A,
+        keytab: &Keytab<A>,
+        kvno: SelectedKvno,
+        now: u32,
+    ) -> Result<SelectedVersions<A>, NoMemory>
+        ensures { IfOk result (AreVersions kvno now (placed_entries keytab.now.state) (placed_entries keytab.now.state)) }
+    {
+        match kvno {
+            SelectedKvno::Any => Ok(SelectedVersions::Each),
+            SelectedKvno::Exactly(version) => Ok(SelectedVersions::This(version)),
+            _ => {
+                let rows = rows_of(alloc, keytab)?;
+                let marks = marks_of(alloc, &rows, kvno, now)?;
+                Ok(SelectedVersions::Marked(marks.into_iter()))
+            }
+        }
+    }
+}
+
+impl<A: Allocator> SelectedVersions<A> {
+    /// Returns whether the next entry, whose kvno is `version`, has a selected kvno.
+    pub fn next(&mut self, version: u32) -> bool
+        ensures { (kvno : SelectedKvno) (now : ℕ) (all rest : List PlacedEntry) (x : PlacedEntry)
+            → AreVersions kvno now all (x ∷ rest) self.old → x.1.version ≡ version
+            → (result ≡ has_selected_kvno kvno now all x.1) × AreVersions kvno now all rest self.new }
+    {
+        match self {
+            SelectedVersions::Each => true,
+            SelectedVersions::This(selected) => version == *selected,
+            SelectedVersions::Marked(marks) => next_mark(marks),
+        }
     }
 }

@@ -1,10 +1,10 @@
-//! The bytes of a record that encode its entry's name.
+//! The bytes of a record that encode its entry's name, and a hash of them.
 
 ghost use Rattle.std.specs.Prelude.{◌≡◌, IfSome, Some, None};
 ghost use Rattle.krb_wire.specs.Reading.{Gives};
 ghost use Rattle.krb_wire.specs.Spelling.{FitsKt};
 ghost use Rattle.krb_keytab.specs.Entry.{entry_at};
-ghost use Rattle.krb_audit.specs.Names.{kt_name, type_len};
+ghost use Rattle.krb_audit.specs.Names.{kt_name, type_len, hash_of};
 
 use krb_keytab::{EntryView, read_entry};
 use krb_wire::{KtFormat, split_kt_principal};
@@ -27,4 +27,18 @@ pub fn named_entry(format: KtFormat, bytes: &[u8]) -> Option<(&[u8], EntryView<'
     let (_, rest) = split_kt_principal(format, bytes)?;
     let end = bytes.len() - rest.len() - name_type_len(format);
     Some((bytes.split_at(end).0, entry))
+}
+
+/// Returns a hash of a name's bytes. Names with different hashes are not compared byte by byte.
+#[tactic(auto, using(std::proofs::lemmas::List::Sums::fold_more), unfolding(crate::specs::Names::hash_of))]
+pub fn hash_of(name: &[u8]) -> u64
+    ensures { result ≡ hash_of name.now }
+{
+    let mut hash: u64 = 0;
+    for byte in name {
+        hash = hash
+            .wrapping_mul(0x100_0000_01b3)
+            .wrapping_add(*byte as u64);
+    }
+    hash
 }

@@ -1,14 +1,53 @@
-//! The newest entry of each name.
+//! The newest entry of each name, and which of two entries of a name is the newer one.
 
 ghost use Rattle.std.specs.Prelude.{◌≡◌, List, IfOk, None, get_or, slice_set};
 ghost use Rattle.krb_keytab.specs.Find.{PlacedEntry};
-ghost use Rattle.krb_audit.specs.Rows.{AreRows, newer_stamp};
+ghost use Rattle.krb_audit.specs.Rows.{AreRows, newer_stamp, stamp_of, stamped};
 ghost use Rattle.krb_audit.specs.KvnoMarks.{AreNewest, is_old_row};
+ghost use Rattle.krb_audit.specs.Newest.{has_wrapped, is_newer};
 
 use crate::rows::{Row, numbered_len};
-use crate::stamp::Stamp;
+use krb_keytab::EntryView;
 use krb_wire::NoMemory;
 use std::alloc::Allocator;
+
+/// The kvno and the timestamp of an entry.
+#[derive(Clone, Copy, Debug)]
+pub struct Stamp {
+    pub kvno: u32,
+    pub timestamp: u32,
+}
+
+fn has_wrapped(small: u32, large: u32) -> bool
+    ensures { result ≡ has_wrapped small large }
+{
+    small < 128 && large > 240
+}
+
+impl Stamp {
+    /// Returns the stamp of an entry.
+    pub fn of(entry: &EntryView<'_>) -> Stamp
+        ensures { result ≡ stamp_of entry.now }
+    {
+        Stamp {
+            kvno: entry.kvno(),
+            timestamp: entry.timestamp(),
+        }
+    }
+
+    /// Returns whether a later entry of the name replaces this one as the newest.
+    pub fn is_older_than(self, later: Stamp) -> bool
+        ensures { result ≡ is_newer (stamped self) (stamped later) }
+    {
+        if has_wrapped(later.kvno, self.kvno) {
+            self.timestamp <= later.timestamp
+        } else if has_wrapped(self.kvno, later.kvno) {
+            self.timestamp < later.timestamp
+        } else {
+            self.kvno < later.kvno
+        }
+    }
+}
 
 // Returns the newer of two stamps, or the only one.
 fn newer(newest: Option<Stamp>, later: Stamp) -> Option<Stamp>

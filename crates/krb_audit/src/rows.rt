@@ -8,9 +8,8 @@ ghost use Rattle.krb_keytab.specs.Entry.{entry_at};
 ghost use Rattle.krb_keytab.specs.Find.{PlacedEntry, placed_entries};
 ghost use Rattle.krb_audit.specs.Rows.{name_cmp, AreNumbered, AreRows, HasPlace, first_number};
 
-use crate::hash::hash_of;
-use crate::names::named_entry;
-use crate::stamp::Stamp;
+use crate::names::{hash_of, named_entry};
+use crate::newest::Stamp;
 use krb_keytab::{Keytab, KtCell};
 use krb_wire::{KtFormat, NoMemory};
 use std::alloc::Allocator;

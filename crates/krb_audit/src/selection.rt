@@ -1,5 +1,15 @@
-//! Selections of entries.
+//! Selections of entries of a keytab.
 
+ghost use Rattle.std.specs.Prelude.{◌≡◌, ◌++◌, ◌∷◌, [], if◌then◌else◌, List, IfOk, OnOk};
+ghost use Rattle.std.specs.List.{list_any};
+ghost use Rattle.krb_keytab.specs.Find.{PlacedEntry, placed_entries};
+ghost use Rattle.krb_audit.specs.Selection.{Selects, is_named, selected_in};
+
+use crate::criteria::is_named_if_it_matters;
+use crate::kvno_marks::SelectedVersions;
+use krb_keytab::{EntryView, Keytab};
+use krb_text::append_placed;
+use krb_wire::NoMemory;
 use std::alloc::Allocator;
 
 /// Which kvnos are selected.
@@ -23,4 +33,130 @@ pub struct Selection<A: Allocator> {
     pub kvno: SelectedKvno,
     /// The enctypes; an empty list selects any.
     pub enctypes: Vec<u16, A>,
+}
+
+/// The entries of a keytab that a `Selection` selects.
+#[derive(Drop)]
+pub struct Selected<A: Allocator> {
+    /// The places of their records, in file order.
+    pub places: Vec<u32, A>,
+    /// A line for each that reports its removal.
+    pub text: Vec<u8, A>,
+    /// True if some entry has the selected name and enctype, whatever its kvno.
+    pub is_named: bool,
+}
+
+// What takes the selected entries of a keytab, in file order.
+trait Taker<'k> {
+    ghost use Rattle.std.specs.Prelude.{List};
+    ghost use Rattle.krb_keytab.specs.Find.{PlacedEntry};
+
+    /// It has taken these entries.
+    ghost HasTaken: { Self → List PlacedEntry → Type 0 };
+
+    /// Takes one more.
+    fn take(&mut self, place: u32, entry: EntryView<'k>) -> Result<(), NoMemory>
+        ensures { (xs : List PlacedEntry) → HasTaken self.old xs → OnOk result (HasTaken self.new (xs ++ (place, entry.entry) ∷ [])) };
+}
+
+impl<'k, A: Allocator> Taker<'k> for Selected<A> {
+    ghost use Rattle.krb_audit.specs.Selection.{AreAdded};
+
+    ghost HasTaken = { λ selected xs. AreAdded selected xs };
+
+    fn take(&mut self, place: u32, entry: EntryView<'k>) -> Result<(), NoMemory> {
+        self.places.push(place)?;
+        append_placed(b"removed ", place, &entry, &mut self.text)
+    }
+}
+
+impl<'k, A: Allocator> Taker<'k> for Vec<(u32, EntryView<'k>), A> {
+    ghost use Rattle.std.specs.Prelude.{◌≡◌};
+
+    ghost HasTaken = { λ entries xs. entries.items ≡ xs };
+
+    fn take(&mut self, place: u32, entry: EntryView<'k>) -> Result<(), NoMemory> {
+        self.push((place, entry))?;
+        Ok(())
+    }
+}
+
+// Hands an entry on if it is selected.
+fn take_if<'k, T: Taker<'k>>(
+    is_selected: bool,
+    place: u32,
+    entry: EntryView<'k>,
+    taker: &mut T,
+) -> Result<(), NoMemory>
+    ensures { (xs : List PlacedEntry) → T.HasTaken taker.old xs
+        → OnOk result (T.HasTaken taker.new (if is_selected then xs ++ (place, entry.entry) ∷ [] else xs)) }
+{
+    if is_selected {
+        return taker.take(place, entry);
+    }
+    Ok(())
+}
+
+// Hands on the entries of a keytab that are selected. Returns whether some entry has the selected name and enctype,
+// whatever its kvno. Takes time n log n in the bytes of the keytab.
+fn take_selected<'k, A: Allocator + Copy, B: Allocator, T: Taker<'k>>(
+    alloc: A,
+    keytab: &'k Keytab<A>,
+    selection: &Selection<B>,
+    now: u32,
+    taker: &mut T,
+) -> Result<bool, NoMemory>
+    requires { T.HasTaken taker.old [] }
+    ensures taken { OnOk result (T.HasTaken taker.new (selected_in selection.now now keytab.now.state)) }
+    ensures named { IfOk result (λ b. b ≡ list_any (λ x. is_named selection.now x.1) (placed_entries keytab.now.state)) }
+{
+    let mut printed = Vec::new(alloc);
+    let mut versions = SelectedVersions::of(alloc, keytab, selection.kvno, now)?;
+    let mut is_any_named = false;
+    'entries: for (place, entry) in keytab.entries() {
+        let has_kvno = versions.next(entry.kvno());
+        let is_named = is_named_if_it_matters(
+            is_any_named,
+            has_kvno,
+            selection,
+            &entry,
+            &mut printed,
+        )?;
+        is_any_named |= is_named;
+        take_if(is_named & has_kvno, place, entry, taker)?;
+    }
+    Ok(is_any_named)
+}
+
+/// Returns the entries of a keytab that `selection` selects at the time `now`, in seconds, which matters for `OldFor`
+/// alone. Takes time n log n in the bytes of the keytab.
+pub fn select<A: Allocator + Copy, B: Allocator>(
+    alloc: A,
+    keytab: &Keytab<A>,
+    selection: &Selection<B>,
+    now: u32,
+) -> Result<Selected<A>, NoMemory>
+    ensures { IfOk result (Selects selection.now now keytab.now.state) }
+{
+    let mut selected = Selected {
+        places: Vec::new(alloc),
+        text: Vec::new(alloc),
+        is_named: false,
+    };
+    selected.is_named = take_selected(alloc, keytab, selection, now, &mut selected)?;
+    Ok(selected)
+}
+
+/// Returns the entries of a keytab that `selection` selects, with the places of their records. Takes time n log n in
+/// the bytes of the keytab.
+pub fn selected_entries<'k, A: Allocator + Copy, B: Allocator>(
+    alloc: A,
+    keytab: &'k Keytab<A>,
+    selection: &Selection<B>,
+) -> Result<Vec<(u32, EntryView<'k>), A>, NoMemory>
+    ensures { IfOk result (λ entries. entries.items ≡ selected_in selection.now 0 keytab.now.state) }
+{
+    let mut entries = Vec::new(alloc);
+    let _ = take_selected(alloc, keytab, selection, 0, &mut entries)?;
+    Ok(entries)
 }

@@ -5,7 +5,7 @@ ghost use Rattle.std.specs.Vec.{vec_items};
 ghost use Rattle.krb_ccache.specs.Store.{PlacedCredential};
 ghost use Rattle.krb_audit.specs.Tickets.{SelectsSoFar, SelectsTickets, removed_ticket_line};
 
-use crate::ticket_criteria::{has_ended_by, names_ticket};
+use crate::criteria::{has_ended_by, names_ticket};
 use krb_ccache::{Ccache, CredView};
 use krb_text::{append_byte, append_labelled};
 use krb_wire::{NoMemory, write_name};

@@ -7,10 +7,9 @@ ghost use Rattle.krb_audit.specs.Rows.{AreRows, stamped};
 ghost use Rattle.krb_audit.specs.Selection.{is_young};
 ghost use Rattle.krb_audit.specs.KvnoMarks.{AreNewest, AreYoung, is_young_row};
 
-use crate::newest::is_old;
+use crate::newest::{Stamp, is_old};
 use crate::rows::{Row, numbered_len};
 use crate::selection::SelectedKvno;
-use crate::stamp::Stamp;
 use krb_wire::NoMemory;
 use std::alloc::Allocator;
 

@@ -12,7 +12,7 @@ use Rattle.krb_wire.specs.Names.{joined_components, quote, have_same_name}
 use Rattle.krb_wire.specs.NameOf.{name_of}
 use Rattle.krb_wire.proofs.NamesCompared.{same_name_is, and_both, both_and}
 use Rattle.krb_wire.proofs.RoundTrip.{name_of-name_text}
-use Rattle.krb_audit.specs.Hash.{hash_of}
+use Rattle.krb_audit.specs.Names.{hash_of}
 use Rattle.krb_audit.proofs.FirstNumbers.{same_bool}
 
 -- ---- names as text
@@ -47,9 +47,7 @@ by_emptiness p q [] [] ep eq n e =
 by_emptiness p q [] (b ∷ bs) ep eq n e = let none = bit_some b bs in absurd (omega (arith, n, none))
 by_emptiness p q (a ∷ as') [] ep eq n e = let none = bit_some a as' in absurd (omega (arith, n, none))
 by_emptiness p q (a ∷ as') (b ∷ bs) ep eq n e =
-    let lp = ap length ep in
-    let lq = ap length eq in
-    by_text p q (omega (arith, lp)) (omega (arith, lq)) e
+    by_text p q (omega (arith, ap length ep)) (omega (arith, ap length eq)) e
 
 -- ---- comparisons
 

@@ -7,6 +7,7 @@ use Rattle.krb_copy.specs.declared.class.Class.{Class}
 use Rattle.krb_copy.specs.declared.class.Class.TheVariants.{Empty, Kept}
 use Rattle.krb_copy.proofs.Alike.{twins_equiv}
 use Rattle.krb_copy.proofs.ClassKeys.{classes_agree}
+use Rattle.krb_copy.proofs.LawLemmas.{there_by}
 
 -- ---- the twins of an entry
 
@@ -174,22 +175,10 @@ step_by replace before held x b stays places keys kept are = rw (keys, kept, are
 pub step_is : {A : Type 0} {before : List EntryParts} {held : List Held} {x : EntryParts} {k : ClassKey} {old : BTreeMap ClassKey (Class A)} {c : Class A} (replace : Bool) (key : List ℕ) → IsMet before held x k old c → key ≡ x.key → cond (has_key c key) There (step_at replace (stays c) (places_of c)) ≡ step_of replace before held x
 step_is {A} {before} {held} {x} {k} {old} {c} replace key m same = step_by replace before held x (has_key c key) (stays c) (places_of c) (ap (has_key c) same ∙ m.is.keys x.key) m.is.kept m.is.places
 
--- an entry is there, or it is not, by its step
-no_there : (b : Bool) (places : List ℕ) (place : ℕ) → cond b (Copy places) (Clash place) ≡ There → ⊥
-no_there true places place e = cc
-no_there false places place e = cc
-
-there_step : (b replace : Bool) (before : List EntryParts) (hs : List Held) → cond b There (step_among replace before hs) ≡ There → b ≡ true
-there_step true replace before hs e = refl
-there_step false replace before [] e = absurd cc
-there_step false replace before (h ∷ hs) e = absurd (no_there (replace && not (list_any (is_kept before) (h ∷ hs))) _ h.place e)
-
+-- an entry that clashes is not there
 clash_step : (b replace : Bool) (before : List EntryParts) (hs : List Held) (place : ℕ) → cond b There (step_among replace before hs) ≡ Clash place → b ≡ false
 clash_step true replace before hs place e = absurd cc
 clash_step false replace before hs place e = refl
-
-is_there : (replace : Bool) (before : List EntryParts) (held : List Held) (x : EntryParts) → step_of replace before held x ≡ There → list_any (λ h. bytes_eq x.key h.entry.key) (twins x held) ≡ true
-is_there replace before held x e = there_step (list_any (λ h. bytes_eq x.key h.entry.key) (twins x held)) replace before (twins x held) e
 
 not_there : (replace : Bool) (before : List EntryParts) (held : List Held) (x : EntryParts) (place : ℕ) → step_of replace before held x ≡ Clash place → list_any (λ h. bytes_eq x.key h.entry.key) (twins x held) ≡ false
 not_there replace before held x place e = clash_step (list_any (λ h. bytes_eq x.key h.entry.key) (twins x held)) replace before (twins x held) place e
@@ -207,7 +196,7 @@ module _ {A : Type 0} {before : List EntryParts} {held : List Held} {x : EntryPa
   -- it is there: one of its class stays
   pub after_there : (replace : Bool) → There ≡ step_of replace before held x → places_of c ≡ places_of was → ((key : List ℕ) → has_key c key ≡ has_key was key) → ((key : List ℕ) → has_key was key ≡ true → stays c ≡ true) → AreClasses (before ++ x ∷ []) held after
   after_there replace step places keys kept =
-      let there = is_there replace before held x (sym step) in
+      let there = there_by (list_any (λ h. bytes_eq x.key h.entry.key) (twins x held)) replace before (twins x held) (sym step) in
       let one_stays : list_any (is_kept (before ++ x ∷ [])) (twins x held) ≡ true = kept_twins before x held ∙ ap (λ (b : Bool). list_any (is_kept before) (twins x held) || b) there ∙ or_true (list_any (is_kept before) (twins x held)) in
       updated (before ++ x ∷ []) held (record { places = places ∙ m.is.places; keys = λ key. keys key ∙ m.is.keys key; kept = kept x.key (m.is.keys x.key ∙ there) ∙ sym one_stays }) (asked_leaves before held x)
 

@@ -109,8 +109,7 @@ IsReadFrom f at cells y = (at ≤ y.0) × ((bytes_from at cells y.0 >>= entry_at
 
 later_read : (f : KtFormat) (at w : ℕ) (live : Option (List ℕ)) (cells : List Cell) (y : PlacedEntry) → 0 < w → IsReadFrom f (at + w) cells y → IsReadFrom f at (record { width = w; live = live } ∷ cells) y
 later_read f at w live cells y some r =
-    let le = r.0 in
-    (omega (arith, le), ap (λ (o : Option (List ℕ)). o >>= entry_at f) (ap bytes_of_some (find_tail at w y.0 live cells (omega (arith, le, some)))) ∙ r.1)
+    (omega (arith, r.0), ap (λ (o : Option (List ℕ)). o >>= entry_at f) (ap bytes_of_some (find_tail at w y.0 live cells (omega (arith, r.0, some)))) ∙ r.1)
 
 first_read : (f : KtFormat) (at w : ℕ) (bytes : List ℕ) (cells : List Cell) (o : Option EntryParts) → entry_at f bytes ≡ o → AllByRecursion (IsReadFrom f at (record { width = w; live = Some bytes } ∷ cells)) (entries_from f (at + w) cells)
     → AllByRecursion (IsReadFrom f at (record { width = w; live = Some bytes } ∷ cells)) (cons_option (option_map (λ (e : EntryParts). (at, e)) o) (entries_from f (at + w) cells))

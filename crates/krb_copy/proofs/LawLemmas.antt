@@ -56,7 +56,8 @@ not_there : (b : Bool) (places : List ℕ) (place : ℕ) → cond b (Copy places
 not_there true places place e = cc
 not_there false places place e = cc
 
-there_by : (b replace : Bool) (before : List EntryParts) (ts : List Held) → cond b There (step_among replace before ts) ≡ There → b ≡ true
+-- an entry that is there has a twin with its key
+pub there_by : (b replace : Bool) (before : List EntryParts) (ts : List Held) → cond b There (step_among replace before ts) ≡ There → b ≡ true
 there_by true replace before ts e = refl
 there_by false replace before [] e = absurd cc
 there_by false replace before (t ∷ ts) e = absurd (not_there (replace && not (list_any (is_kept before) (t ∷ ts))) _ t.place e)

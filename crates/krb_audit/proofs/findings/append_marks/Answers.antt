@@ -8,9 +8,7 @@ overflow_cast-count g c =
     let k = c.args.keytab.now.state in
     let rows = c.in_ok-rows.rows in
     let count = c.len-count.ensures ∙ rows.ok.0 ∙ row_count (placed_entries k) (placed_entries k) rows.items c.in_ok-rows.ensures in
-    let few = c.cell_count-few.ensures.few in
-    let cells = c.cell_count-few.ensures.count in
-    omega (arith, count, few, cells, entries_few k)
+    omega (arith, count, c.cell_count-few.ensures.few, c.cell_count-few.ensures.count, entries_few k)
 
 pub returns-clause-count : goal.returns-clause-count
 returns-clause-count g c =

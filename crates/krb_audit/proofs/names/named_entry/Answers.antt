@@ -13,14 +13,12 @@ overflow_sub-end c =
 pub overflow_sub-end-2 : goal.overflow_sub-end-2
 overflow_sub-end-2 c =
     let len = lengths c.args.format c.in_ok-entry.entry c.args.bytes.now _ c.in_ok-rest.rest.now c.in_ok-entry.ensures.found c.in_ok-rest.ensures in
-    let type_ = c.name_type_len.ensures in
-    omega (arith, len, type_)
+    omega (arith, len, c.name_type_len.ensures)
 
 pub returns : goal.returns
 returns c =
     let len = lengths c.args.format c.in_ok-entry.entry c.args.bytes.now _ c.in_ok-rest.rest.now c.in_ok-entry.ensures.found c.in_ok-rest.ensures in
-    let type_ = c.name_type_len.ensures in
-    let end : length c.args.bytes.now - length c.in_ok-rest.rest.now - c.name_type_len.result ≡ length (kt_name c.args.format c.in_ok-entry.entry.principal) = omega (arith, len, type_) in
+    let end : length c.args.bytes.now - length c.in_ok-rest.rest.now - c.name_type_len.result ≡ length (kt_name c.args.format c.in_ok-entry.entry.principal) = omega (arith, len, c.name_type_len.ensures) in
     record {
       entry = c.in_ok-entry.ensures.exact;
       name = c.split_at.ensures.front ∙ name_taken c.args.format c.in_ok-entry.entry c.args.bytes.now _ c.in_ok-entry.ensures.found end;

@@ -15,7 +15,6 @@ loop-place-init g c =
 
 pub loop-place-preserved-in_ok-consider : goal.loop-place-preserved-in_ok-consider
 loop-place-preserved-in_ok-consider g c =
-    let f = c.format-format.result in
     let all = placed_entries c.args.keytab.now.state in
     let old = c.loop-place._place-iterator in
     let new = c.next.new.self in
@@ -25,7 +24,7 @@ loop-place-preserved-in_ok-consider g c =
     let h = c.loop-place.invariant in
     let e = is_some_has (entry_at old.format bytes) steps.sound.2 in
     let read = ap (λ (x : KtFormat). entry_at x bytes) (sym h.format) ∙ e.1 in
-    let next = subst (λ (xs : List PlacedEntry). AreNumbered f all xs c.loop-place.names) (listed_live old new at bytes e.0 steps e.1) h.numbered in
+    let next = subst (λ (xs : List PlacedEntry). AreNumbered c.format-format.result all xs c.loop-place.names) (listed_live old new at bytes e.0 steps e.1) h.numbered in
     record {
       numbered = c.in_ok-consider.ensures all (entries_in new.format new.place new.contents.cells) (at, e.0) read next;
       format = steps.format ∙ h.format;

@@ -2,7 +2,7 @@ use Rattle.krb_audit.proofs.Cited.{◌≡◌, List, ℕ, cond, Option, Some, ap,
 use Rattle.std.specs.Prelude.{Bool, find}
 use Rattle.std.specs.Option.{unwrap_or}
 use Rattle.krb_text.specs.Etype.{is_weak}
-use Rattle.krb_audit.specs.Firsts.{Key, looked, same_key}
+use Rattle.krb_audit.specs.Before.{Key, looked, same_key}
 use Rattle.krb_audit.proofs.FindingsLemmas.{ended_here}
 use Rattle.krb_audit.proofs.FirstsLemmas.{alike_here, alike_to, firsts_next, key_in}
 use Rattle.krb_audit.proofs.findings.Before.marks.Goals as goal

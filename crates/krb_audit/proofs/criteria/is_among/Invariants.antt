@@ -1,5 +1,5 @@
 use Rattle.krb_audit.proofs.Cited.{◌≡◌, map, list_any, bytes_eq, drop, vec_items}
-use Rattle.krb_audit.proofs.selected_names.is_among.Given as goal
+use Rattle.krb_audit.proofs.criteria.is_among.Given as goal
 
 -- no text so far is the same
 abbrev pub invariant-texts : goal.invariant-texts

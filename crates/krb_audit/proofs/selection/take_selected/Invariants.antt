@@ -1,6 +1,6 @@
 use Rattle.krb_audit.proofs.Cited.{placed_entries, AreVersions, has_selected_kvno, is_named}
 use Rattle.krb_audit.proofs.SelectedLemmas.{IsOnTheWay}
-use Rattle.krb_audit.proofs.selected.take_selected.Given as goal
+use Rattle.krb_audit.proofs.selection.take_selected.Given as goal
 
 -- the selected ones of the entries so far were taken
 abbrev pub invariant-entries : goal.invariant-entries

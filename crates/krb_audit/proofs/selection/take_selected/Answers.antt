@@ -1,6 +1,6 @@
 use Rattle.krb_audit.proofs.Cited.{List, Bool, sym, subst, PlacedEntry, placed_entries, AreVersions, has_selected_kvno, is_named}
 use Rattle.krb_audit.proofs.SelectedLemmas.{IsOnTheWay, one_further}
-use Rattle.krb_audit.proofs.selected.take_selected.Goals as goal
+use Rattle.krb_audit.proofs.selection.take_selected.Goals as goal
 
 -- the next entry was taken if it is selected
 pub entries-preserved : goal.entries-preserved
