@@ -2,10 +2,11 @@
 use Rattle.krb_ccache.proofs.Cited.{◌≡◌, ℕ, ◌+◌, ◌≤◌, List, [], ◌∷◌, ◌++◌, length, drop, map, Option, Some, None, refl, sym, ap, subst, ◌∙◌, length-append, arith, flat_map, AllByRecursion, append-nil, drop_at, drop-drop, length-drop, w16, Big, Parts, digits, data16, cc_principal, IsShort, FitsCc, data16_at, cc_principal_at, IsBytes, IsBytes-drop, bind_some, some_is, Takes, data16_field, cc_principal_field, Contents, More, contents, spelling, next_by, IsCell, IsEnd, end_from, end_of, contents_again, Version, V3, V4, Layout, CredParts, credential, credential_at, FitsCredential, Field, header, header_at, fields_in, CacheState, credentials_format, image_of, store_cell, store_of, first_place, header_in, principal_in, IsImage, cache_of, Holds}
 use Rattle.krb_ccache.specs.declared.open.Places.{Places}
 use Rattle.krb_ccache.proofs.CredentialField.{credential_field}
-use Rattle.krb_ccache.proofs.HeaderFields.{fields_spell, header_takes, IsBytes-front, IsBytes-back}
+use Rattle.krb_ccache.proofs.HeaderFields.{fields_spell, header_takes}
 use Rattle.krb_ccache.proofs.CellLemmas.{credentials_are, end_is, all_cells}
 use Rattle.krb_ccache.proofs.PlaceLemmas.{header_is, name_is}
 use Rattle.krb_ccache.proofs.ImageLemmas.{image_parts, end_held}
+use Rattle.krb_wire.proofs.Fields.{IsBytes-front, IsBytes-back}
 
 -- a cache whose parts are read back from their spelling, and whose image is not longer than the limit
 pub record IsReadable (k : CacheState) : Type 0 where
@@ -97,7 +98,6 @@ readable_image k kept fits =
     let len = length-append h (p ++ text) in
     let len_p = length-append p text in
     let len_t = length-append (flat_map (credential v) k.contents.cells) k.contents.end in
-    let end = end_is v (first_place k) k.contents.cells in
     record {
       kept = record {
         long = omega arith;
@@ -111,7 +111,7 @@ readable_image k kept fits =
           principal = read_name ∙ ap (λ (q : Parts). Some (q, text)) (sym name) ∙ ap (λ (b : List ℕ). Some (principal_in (drop (2 + length h) image), b)) (sym after_name);
           first_within = omega (arith, len, len_p);
           end = ap (λ (c : Contents CredParts (List ℕ)). end_from (first_place k) (map (store_cell v) c.cells)) (sym same);
-          end_within = omega (arith, len, len_p, len_t, end);
+          end_within = omega (arith, len, len_p, len_t, end_is v (first_place k) k.contents.cells);
         };
       };
       state =
@@ -132,9 +132,7 @@ layout_is h image fits is =
     let k = image_parts h image fits is in
     let xs = header_in v image in
     let t : Takes (drop 2 image) (header v xs) (drop h.places.principal image) = header_takes v (drop 2 image) (xs, drop h.places.principal image) (IsBytes-drop 2 image fits) is.parts.header in
-    let long = is.long in
-    let within = is.parts.principal_within in
-    let principal : h.places.principal ≡ 2 + length (header v xs) = omega (arith, long, within, ap length t.parts, length-append (header v xs) (drop h.places.principal image), length-drop 2 image, length-drop h.places.principal image) in
+    let principal : h.places.principal ≡ 2 + length (header v xs) = omega (arith, is.long, is.parts.principal_within, ap length t.parts, length-append (header v xs) (drop h.places.principal image), length-drop 2 image, length-drop h.places.principal image) in
     let end = end_held h image k is in
     ap (λ (n : ℕ). record { version = v; limit = h.limit; places = record { principal = n; first = h.places.first; end = h.places.end } }) principal
     ∙ ap (λ (n : ℕ). record { version = v; limit = h.limit; places = record { principal = 2 + length (header v xs); first = n; end = h.places.end } }) k.first

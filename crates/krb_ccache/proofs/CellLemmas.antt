@@ -39,8 +39,7 @@ cell_first v bytes c after live fits e is_live =
     let n = length bytes - length after in
     let r = read_one v bytes c after fits e in
     let t = ((credential_field v).takes bytes (c, after) fits e).0 in
-    let len = r.len in
-    let width : length (credential v c) ≡ n = omega (arith, len) in
+    let width : length (credential v c) ≡ n = omega (arith, r.len) in
     let taken : take n bytes ≡ credential v c = ap (take n) t.parts ∙ take_at (credential v c) after n width in
     let left : drop n bytes ≡ after = ap (drop n) t.parts ∙ drop_at (credential v c) after n width in
     let others = seen_in (credentials_format v) (store_cell v) (drop n bytes) in
@@ -52,15 +51,14 @@ cell_first v bytes c after live fits e is_live =
 pub begins : (v : Version) (place : ℕ) (bytes : List ℕ) (c : CredParts) (after : List ℕ) (old : CredentialsFrom) → ReadsOne (credentials_format v) bytes c after → place + length bytes ≤ 2 ^ 30
     → ◌≡◌ {A = CredentialsFrom} (record { version = v; place = place; cells = (contents (credentials_format v) bytes).cells }) old → BeginsWithCredential old place c (record { version = v; place = place + (length bytes - length after); cells = (contents (credentials_format v) after).cells })
 begins v place bytes c after old r small is =
-    let len = r.len in
     let version : v ≡ old.version = ap (λ (x : CredentialsFrom). x.version) is in
-    let next : place + (length bytes - length after) ≡ place + length (credential v c) = omega (arith, len) in
+    let next : place + (length bytes - length after) ≡ place + length (credential v c) = omega (arith, r.len) in
     record {
       place = ap (λ (x : CredentialsFrom). x.place) is;
       cells = ap (λ (x : CredentialsFrom). x.cells) (sym is) ∙ r.cells;
       next = next ∙ ap (λ (w : Version). place + length (credential w c)) version;
       version = version;
-      small = omega (arith, len, small);
+      small = omega (arith, r.len, small);
     }
 
 -- one credential fewer is left

@@ -29,7 +29,7 @@ pub use Rattle.krb_cells.specs.Contents.{Contents, contents, next_by, spelling, 
 pub use Rattle.krb_walk.specs.Store.{end_of, fault_of, end_from, live_bytes, IsPlace, Cell, fault_from, is_place_from, Store}
 pub use Rattle.krb_walk.specs.declared.refusal.Code.{Code}
 pub use Rattle.krb_wire.proofs.Fields.{IsBytes, some_is, IsBytes-drop, Takes, bind_some, is_some_has, Takes-then, wide32, wide16, IsBytes-take, IsWide, number_again, number_takes}
-pub use Rattle.krb_wire.proofs.PenLemmas.{puts_then, left_next, Left, left_none, left_room}
+pub use Rattle.krb_wire.proofs.PenLemmas.{puts_then, left_all, left_next, Left, left_none, left_room}
 pub use Rattle.krb_wire.proofs.Places.{IsField}
 pub use Rattle.krb_wire.proofs.Principals.{cc_principal_field, data16_field, data32_field, no_cc_principal}
 pub use Rattle.krb_wire.proofs.ReadLists.{held_has_one, length_held, held_has_end, first_held, none_held, list_takes, held, ends, is_done, list_again, length_list, goes_on, past_held}

@@ -10,6 +10,7 @@ use Rattle.krb_walk.specs.Events.{cut_store}
 use Rattle.krb_ccache.proofs.CredentialField.{credential_field}
 use Rattle.krb_ccache.proofs.MarkLemmas.{marked_len, unmarked_by, unmarked_after}
 use Rattle.krb_ccache.proofs.Splits.{live_is}
+use Rattle.krb_wire.proofs.Fields.{ok_is}
 
 same_bytes : (b : List ℕ) → bytes_eq b b ≡ true
 same_bytes b = (bytes_eq-Decides b b).1 refl
@@ -51,7 +52,6 @@ record IsFirst (v : Version) (q : QueryParts) (at : ℕ) (cs : List CredParts) (
 first_here : (v : Version) (q : QueryParts) (at p : ℕ) (c : CredParts) (cs : List CredParts) (rest : List PlacedCredential) → at ≡ p → is_marked c ≡ false → matches_from v q (at + length (credential v c)) cs ≡ rest → IsFirst v q at (c ∷ cs) p c rest
 first_here v q at p c cs rest is live others =
     let next = at + length (credential v c) in
-    let some = (credential_field v).nonempty c in
     let here : (at == p) ≡ true = grind (arith, nat_tests) in
     let found : find (λ x. x.0 == p) (placed_from v at (c ∷ cs)) ≡ Some (at, c) = rw here refl in
     let marked : add_mark_at v at p (c ∷ cs) ≡ add_mark c ∷ add_mark_at v next p cs = rw here refl in
@@ -59,7 +59,7 @@ first_here v q at p c cs rest is live others =
       from = omega (arith, is);
       there = ap live_of found ∙ rw live refl;
       left =
-          ap (matches_from v q at) (marked ∙ ap (λ (xs : List CredParts). add_mark c ∷ xs) (unmarked_after v next p cs (omega (arith, is, some))))
+          ap (matches_from v q at) (marked ∙ ap (λ (xs : List CredParts). add_mark c ∷ xs) (unmarked_after v next p cs (omega (arith, is, (credential_field v).nonempty c))))
           ∙ passed v q at (add_mark c) cs true (is_match q (add_mark c)) refl refl refl
           ∙ ap (λ (n : ℕ). matches_from v q (at + n) cs) (marked_len v c) ∙ others;
     }
@@ -68,11 +68,9 @@ first_here v q at p c cs rest is live others =
 first_after : (v : Version) (q : QueryParts) (at p : ℕ) (c d : CredParts) (cs : List CredParts) (rest : List PlacedCredential) → ((xs : List CredParts) → matches_from v q at (d ∷ xs) ≡ matches_from v q (at + length (credential v d)) xs)
     → IsFirst v q (at + length (credential v d)) cs p c rest → IsFirst v q at (d ∷ cs) p c rest
 first_after v q at p c d cs rest skips first =
-    let some = (credential_field v).nonempty d in
-    let from = first.from in
-    let apart : (at == p) ≡ false = grind (arith, nat_tests, some, from) in
+    let apart : (at == p) ≡ false = grind (arith, nat_tests, (credential_field v).nonempty d, first.from) in
     record {
-      from = omega (arith, from);
+      from = omega (arith, first.from);
       there = rw apart first.there;
       left = ap (matches_from v q at) (unmarked_by v at p d cs apart) ∙ skips (add_mark_at v (at + length (credential v d)) p cs) ∙ first.left;
     }
@@ -162,9 +160,6 @@ set_by k new key text value p owner all =
       there = (first_is new.version (query_of k key text) (first_place new) p (config_entry k.principal key text value) new.contents.cells [] all).there;
     }
 
-ok_pair : (a b : ℕ × CacheState) → ◌≡◌ {A = Result (ℕ × CacheState) Code} (Ok a) (Ok b) → a ≡ b
-ok_pair a b e = cc
-
 pub is_set : (k mid : CacheState) (key : List ℕ) (text : Option (List ℕ)) (value : List ℕ) (p : ℕ) → k.version ≡ V4 → k.contents.end ≡ [] → put_result k (config_entry k.principal key text value) ≡ Ok (end_of (store_of k), with_last k (config_entry k.principal key text value))
     → put_result k (config_entry k.principal key text value) ≡ Ok (p, mid) → IsSet k (without mid (map (λ x. x.0) (matches_of k key text))) key text value p
 is_set k mid key text value p version whole fits put =
@@ -172,4 +167,4 @@ is_set k mid key text value p version whole fits put =
     let x = config_entry k.principal key text value in
     let xs = matches_of k key text in
     let all = cut_matches q (with_last k x) xs ((end_of (store_of k), x) ∷ []) version whole (match_last q k x refl (match_by k.principal key text value)) in
-    subst (λ (y : ℕ × CacheState). IsSet k (without y.1 (map (λ z. z.0) xs)) key text value y.0) (ok_pair _ _ (sym fits ∙ put)) (set_by k (without (with_last k x) (map (λ z. z.0) xs)) key text value (end_of (store_of k)) all.1 all.0)
+    subst (λ (y : ℕ × CacheState). IsSet k (without y.1 (map (λ z. z.0) xs)) key text value y.0) (ok_is _ _ (sym fits ∙ put)) (set_by k (without (with_last k x) (map (λ z. z.0) xs)) key text value (end_of (store_of k)) all.1 all.0)

@@ -57,10 +57,9 @@ credential_again v c rest fits =
     let z4 = (c.is_skey ∷ []) ++ z5 in
     let z3 = times c.times ++ z4 in
     let z2 = key v c.key ++ z3 in
-    let z1 = cc_principal c.server ++ z2 in
     ap (credential_at v) (ten_parts (cc_principal c.client) (cc_principal c.server) (key v c.key) (times c.times) (c.is_skey ∷ []) (number32 c.flags) (typed_list c.addresses) (typed_list c.authdata) (data32 Big c.ticket) (data32 Big c.second_ticket) rest)
     ∙ rw (
-      cc_principal_field.again c.client z1 fits.client,
+      cc_principal_field.again c.client (cc_principal c.server ++ z2) fits.client,
       cc_principal_field.again c.server z2 fits.server,
       (key_field v).again c.key z3 fits.key,
       times_field.again c.times z4 fits.times,

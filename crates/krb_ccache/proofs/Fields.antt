@@ -1,6 +1,7 @@
 -- Each field of a credential is spelled by the bytes that it is read from, and is read back from its spelling.
-use Rattle.krb_ccache.proofs.Cited.{◌≡◌, ℕ, ◌^◌, ◌<◌, List, [], ◌∷◌, ◌++◌, length, Option, Some, refl, sym, ap, subst, ◌∙◌, append_assoc, length-append, arith, flat_map, Width, w16, w32, Big, digits, data32, ◌>>=◌, byte_at, number_at, data32_at, IsBytes, IsBytes-drop, IsWide, bind_some, some_is, Takes, Takes-then, wide16, wide32, number_takes, number_again, length_list, list_takes, list_again, IsField, data32_field, Version, V3, V4, TypedData, Key, number32, typed_data, typed_list, second_enctype_field, key, times, FitsTypedData, FitsTypedList, FitsSecondEnctype, FitsKey, FitsTimes, typed_data_at, typed_list_at, second_enctype_at, key_at, times_at}
+use Rattle.krb_ccache.proofs.Cited.{◌≡◌, ℕ, ◌^◌, ◌<◌, List, [], ◌∷◌, ◌++◌, length, Option, Some, refl, sym, ap, subst, ◌∙◌, append_assoc, length-append, arith, flat_map, Width, w16, w32, Big, digits, data32, ◌>>=◌, byte_at, number_at, data32_at, IsBytes, IsWide, bind_some, some_is, Takes, Takes-then, wide16, wide32, number_takes, number_again, length_list, list_takes, list_again, IsField, data32_field, Version, V3, V4, TypedData, Key, number32, typed_data, typed_list, second_enctype_field, key, times, FitsTypedData, FitsTypedList, FitsSecondEnctype, FitsKey, FitsTimes, typed_data_at, typed_list_at, second_enctype_at, key_at, times_at}
 use Rattle.krb_ccache.specs.declared.credential.times.Times.{Times}
+use Rattle.krb_wire.proofs.Fields.{byte_takes}
 
 -- a number of a given width
 pub number_field : (w : Width) (limit : ℕ) → IsWide Big w limit → (0 < length (digits Big w 0)) → IsField (number_at Big w) (digits Big w) (λ n. n < limit)
@@ -16,15 +17,9 @@ field16 = number_field w16 (2 ^ 16) (wide16 Big) (omega (arith, (wide16 Big).len
 pub field32 : IsField (number_at Big w32) (digits Big w32) (λ n. n < 2 ^ 32)
 field32 = number_field w32 (2 ^ 32) (wide32 Big) (omega (arith, (wide32 Big).len 0))
 
-byte_takes : (bytes : List ℕ) (x : ℕ × List ℕ) → IsBytes bytes → byte_at bytes ≡ Some x → Takes bytes (x.0 ∷ []) x.1 × (x.0 < 256)
-byte_takes [] x fits e = absurd (cc e)
-byte_takes (b ∷ rest) x fits e =
-    let whole : Takes (b ∷ rest) (b ∷ []) rest = record { parts = refl; rest_fits = IsBytes-drop 1 (b ∷ rest) fits } in
-    subst (λ (y : ℕ × List ℕ). Takes (b ∷ rest) (y.0 ∷ []) y.1 × (y.0 < 256)) (some_is (b, rest) x e) (whole, fits 0)
-
 pub byte_field : IsField byte_at (λ n. n ∷ []) (λ n. n < 256)
 byte_field = record {
-  takes = λ bytes x fits e. byte_takes bytes x fits e;
+  takes = byte_takes;
   again = λ n rest lt. refl;
   nonempty = λ n. omega arith;
 }

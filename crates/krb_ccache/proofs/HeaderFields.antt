@@ -1,6 +1,7 @@
 -- A header is spelled by the bytes that it is read from.
-use Rattle.krb_ccache.proofs.Cited.{◌≡◌, ℕ, zero, suc, ◌<◌, List, [], ◌∷◌, ◌++◌, length, Some, refl, ap, subst, ◌∙◌, append_assoc, arith, Option, None, is_some, ◌==◌, flat_map, filter_map, cons_option, nat_tests, append-nil, w16, Big, digits, data16, number_at, data16_at, IsBytes, bind_some, some_is, Takes, Takes-then, IsField, data16_field, Contents, contents, IsFormat, contents_spelled, unframed_format, reads_one, reads_none, Version, V3, V4, Offset, Field, field, FitsField, header, field_at, fields_format, only_cells, fields_in, header_at, offset_of, first_of}
+use Rattle.krb_ccache.proofs.Cited.{◌≡◌, ℕ, ◌<◌, List, [], ◌∷◌, ◌++◌, length, Some, refl, ap, subst, ◌∙◌, append_assoc, arith, Option, None, is_some, ◌==◌, flat_map, filter_map, cons_option, nat_tests, append-nil, w16, Big, digits, data16, number_at, data16_at, IsBytes, bind_some, some_is, Takes, Takes-then, IsField, data16_field, Contents, contents, IsFormat, contents_spelled, unframed_format, reads_one, reads_none, Version, V3, V4, Offset, Field, field, FitsField, header, field_at, fields_format, only_cells, fields_in, header_at, offset_of, first_of}
 use Rattle.krb_ccache.proofs.Fields.{field16, some_more}
+use Rattle.krb_wire.proofs.Fields.{IsBytes-front, IsBytes-back}
 
 field_takes : (bytes : List ℕ) (x : Field × List ℕ) → IsBytes bytes → field_at bytes ≡ Some x → Takes bytes (field x.0) x.1 × FitsField x.0
 unfolding field_at
@@ -37,15 +38,6 @@ pub fields_spell : (bytes : List ℕ) (xs : List Field) → IsBytes bytes → fi
 fields_spell bytes xs fits e =
     let k = contents fields_format bytes in
     whole_by bytes k.cells k.end xs (contents_spelled fields_format bytes fields_are fits).parts e
-
-pub IsBytes-back : (a b : List ℕ) → IsBytes (a ++ b) → IsBytes b
-IsBytes-back [] b fits = fits
-IsBytes-back (x ∷ a) b fits = IsBytes-back a b (λ i. fits (suc i))
-
-pub IsBytes-front : (a b : List ℕ) → IsBytes (a ++ b) → IsBytes a
-IsBytes-front [] b fits i = omega arith
-IsBytes-front (x ∷ a) b fits zero = fits 0
-IsBytes-front (x ∷ a) b fits (suc i) = IsBytes-front a b (λ j. fits (suc j)) i
 
 -- a header spells the bytes that it is read from
 pub header_takes : (v : Version) (bytes : List ℕ) (x : List Field × List ℕ) → IsBytes bytes → header_at v bytes ≡ Some x → Takes bytes (header v x.0) x.1

@@ -6,11 +6,7 @@ use Rattle.krb_ccache.proofs.HeaderFields.{header_takes}
 use Rattle.krb_ccache.proofs.CellLemmas.{credentials_are, credentials_seen, end_is}
 use Rattle.krb_ccache.proofs.PlaceLemmas.{opens}
 use Rattle.krb_ccache.proofs.Splits.{bare_at}
-
-headed : (bytes : List ℕ) → 2 ≤ length bytes → bytes ≡ get_or bytes 0 0 ∷ get_or bytes 1 0 ∷ drop 2 bytes
-headed [] le = absurd (omega arith)
-headed (a ∷ []) le = absurd (omega arith)
-headed (a ∷ b ∷ bs) le = refl
+use Rattle.krb_wire.proofs.Lists.{headed}
 
 -- where the parts of an image are, and what they spell
 pub record ImageParts (h : Layout) (image : List ℕ) : Type 0 where
@@ -23,7 +19,6 @@ pub record ImageParts (h : Layout) (image : List ℕ) : Type 0 where
 pub image_parts : (h : Layout) (image : List ℕ) → IsBytes image → IsImage h image → ImageParts h image
 image_parts h image fits is =
     let are = is.parts in
-    let long = is.long in
     let xs = header_in h.version image in
     let p = principal_in (drop h.places.principal image) in
     let rest = drop h.places.principal image in
@@ -32,19 +27,14 @@ image_parts h image fits is =
     let th : Takes (drop 2 image) (header h.version xs) rest = header_takes h.version (drop 2 image) (xs, rest) (IsBytes-drop 2 image fits) are.header in
     let tp : Takes rest (cc_principal p) bytes = (cc_principal_field.takes rest (p, bytes) th.rest_fits are.principal).0 in
     let spelled = contents_spelled (credentials_format h.version) bytes (credentials_are h.version) tp.rest_fits in
-    let l0 = length-drop 2 image in
-    let l1 = length-drop h.places.principal image in
     let l2 = length-drop h.places.first image in
-    let l3 = ap length th.parts ∙ length-append (header h.version xs) rest in
-    let l4 = ap length tp.parts ∙ length-append (cc_principal p) bytes in
     let l5 = ap length spelled.parts ∙ length-append (flat_map (credential h.version) k.cells) k.end in
-    let w1 = are.principal_within in
     let w2 = are.first_within in
     let end = are.end ∙ end_is h.version h.places.first k.cells in
     record {
-      first = omega (arith, long, l0, l1, l2, l3, l4, w1, w2);
+      first = omega (arith, is.long, length-drop 2 image, length-drop h.places.principal image, l2, ap length th.parts ∙ length-append (header h.version xs) rest, ap length tp.parts ∙ length-append (cc_principal p) bytes, are.principal_within, w2);
       spells =
-          headed image long ∙ ap (λ (a : ℕ). a ∷ get_or image 1 0 ∷ drop 2 image) is.first_byte ∙ ap (λ (b : ℕ). 5 ∷ b ∷ drop 2 image) is.second_byte
+          headed image is.long ∙ ap (λ (a : ℕ). a ∷ get_or image 1 0 ∷ drop 2 image) is.first_byte ∙ ap (λ (b : ℕ). 5 ∷ b ∷ drop 2 image) is.second_byte
           ∙ ap (λ (b : List ℕ). 5 ∷ version_byte h.version ∷ b) (th.parts ∙ ap (λ (b : List ℕ). header h.version xs ++ b) (tp.parts ∙ ap (λ (b : List ℕ). cc_principal p ++ b) spelled.parts));
       spelled = spelled;
       end = end;
@@ -57,8 +47,7 @@ end_held h image p is = is.parts.end ∙ ap (λ (n : ℕ). end_from n (map (stor
 -- if nothing follows the last credential, it ends with the image
 pub image_end : (h : Layout) (image : List ℕ) (k : CacheState) → IsBytes image → IsImage h image → cache_of h image ≡ k → k.contents.end ≡ [] → length image ≡ h.places.end
 image_end h image k fits is same whole =
-    let total = (image_parts h image fits is).total in
-    omega (arith, total, ap (λ (x : CacheState). length x.contents.end) same, ap length whole)
+    omega (arith, (image_parts h image fits is).total, ap (λ (x : CacheState). length x.contents.end) same, ap length whole)
 
 -- ---- what is wrong after them
 
@@ -85,14 +74,10 @@ pub image_credentials : (h : Layout) (image bytes : List ℕ) (k : CacheState) �
     → AreCredentials k h.places.first bytes
 image_credentials h image bytes k fits is same is_bytes =
     let p = image_parts h image fits is in
-    let within = is.within in
-    let limit_fits = is.limit_fits in
-    let end = is.parts.end_within in
-    let ahead = first_ahead h image p in
     subst (λ (x : CacheState). AreCredentials x h.places.first bytes) same (record {
       place = p.first;
       contents = ap (contents (credentials_format h.version)) is_bytes ∙ bare_at h.version image (contents (credentials_format h.version) (drop h.places.first image)).end h.places.first h.places.end (contents (credentials_format h.version) (drop h.places.first image)).cells fits p.spelled.parts p.spelled.sound.cells p.end;
-      small = omega (arith, ahead, within, limit_fits, end, ap length is_bytes, length-take (h.places.end - h.places.first) (drop h.places.first image));
+      small = omega (arith, first_ahead h image p, is.within, is.limit_fits, is.parts.end_within, ap length is_bytes, length-take (h.places.end - h.places.first) (drop h.places.first image));
     })
 
 -- the credentials of an image are cells
@@ -125,6 +110,5 @@ version_is V4 image first second = rw (first, second) refl
 pub reopens : (h : Layout) (most : ℕ) (image : List ℕ) → IsImage h image → h.limit ≤ most → open_result most image ≡ Ok (cache_of (record h { limit = most }) image)
 reopens h most image is le =
     let long : nat_lt (length image) 2 ≡ false = le-ltb _ _ is.long in
-    let within = is.within in
-    let fits : nat_lt most (length image) ≡ false = le-ltb _ _ (omega (arith, within, le)) in
+    let fits : nat_lt most (length image) ≡ false = le-ltb _ _ (omega (arith, is.within, le)) in
     rw (long, version_is h.version image is.first_byte is.second_byte, fits) (opens h.version most image h.places is.parts)

@@ -1,5 +1,5 @@
 -- A cache with a credential appended.
-use Rattle.krb_ccache.proofs.Cited.{◌≡◌, ℕ, ◌+◌, ◌<◌, ◌≤◌, Bool, true, false, Result, Ok, Err, List, [], ◌∷◌, ◌++◌, length, replicate, refl, sym, ap, subst, ◌∙◌, append_assoc, length-append, arith, map, Some, nat_lt, IfOk, ◌==◌, find, lt-ltb, le-ltb, flat_map, splice, AllByRecursion, append-nil, length-replicate, nat_tests, IsBytes, Code, end_of, end_from, Version, V4, Layout, CredParts, credential, FitsCredential, is_marked, CacheState, image_of, store_of, first_place, store_cell, placed_from, live_of, credential_at_place, with_last, append_result, IsImage, cache_of, Holds}
+use Rattle.krb_ccache.proofs.Cited.{◌≡◌, ℕ, ◌+◌, ◌<◌, ◌≤◌, Bool, true, false, Result, Ok, Err, List, [], ◌∷◌, ◌++◌, length, replicate, refl, sym, ap, subst, ◌∙◌, append_assoc, length-append, arith, map, Some, nat_lt, IfOk, ◌==◌, find, lt-ltb, le-ltb, flat_map, splice, append-nil, length-replicate, nat_tests, IsBytes, end_of, end_from, Version, V4, Layout, CredParts, credential, FitsCredential, is_marked, CacheState, image_of, store_of, first_place, store_cell, placed_from, live_of, credential_at_place, with_last, append_result, IsImage, cache_of, Holds}
 use Rattle.std.proofs.lemmas.Grind.{flat_map-append}
 use Rattle.krb_walk.specs.declared.refusal.Code.TheVariants.{Full}
 use Rattle.krb_walk.specs.declared.refusal.Refusal.{Refusal}
@@ -10,6 +10,9 @@ use Rattle.krb_ccache.proofs.CacheLemmas.{IsReadable, layout_of, image_readable,
 use Rattle.krb_ccache.proofs.MarkLemmas.{splice_part}
 use Rattle.krb_ccache.proofs.MarkImage.{front_of, front_len, front_first}
 use Rattle.krb_ccache.proofs.CredentialField.{credential_field}
+use Rattle.krb_wire.proofs.Fields.{ok_is}
+use Rattle.krb_wire.proofs.Lists.{all_join}
+use Rattle.krb_ccache.proofs.ImageLemmas.{image_end}
 
 -- bytes written over zeros at the end are appended
 pub put_last : (old new text : List ℕ) (n at to : ℕ) → at ≡ length old → to ≡ at + length text → n ≡ length text → new ≡ splice (old ++ replicate n 0) at to text → new ≡ old ++ text
@@ -31,15 +34,11 @@ last_spelled k c whole =
     ∙ ap (λ (t : List ℕ). x ++ ((flat_map f cs ++ (f c ++ [])) ++ t)) whole ∙ group x (flat_map f cs) (f c)
     ∙ ap (λ (t : List ℕ). (x ++ (flat_map f cs ++ t)) ++ f c) (sym whole) ∙ ap (λ (t : List ℕ). t ++ f c) (sym (front_first k))
 
-all_last : (P : CredParts → Type 0) (cs : List CredParts) (c : CredParts) → AllByRecursion P cs → P c → AllByRecursion P (cs ++ c ∷ [])
-all_last P [] c all one = (one, tt)
-all_last P (x ∷ cs) c all one = (all.0, all_last P cs c all.1 one)
-
 pub last_readable : (k : CacheState) (c : CredParts) → IsReadable k → FitsCredential k.version c → length (image_of (with_last k c)) ≤ k.limit → IsReadable (with_last k c)
 last_readable k c kept fit within = record {
   header = kept.header;
   principal = kept.principal;
-  cells = all_last (FitsCredential k.version) k.contents.cells c kept.cells fit;
+  cells = all_join (FitsCredential k.version) k.contents.cells (c ∷ []) kept.cells (fit, tt);
   end = kept.end;
   within = within;
   limit_fits = kept.limit_fits;
@@ -58,6 +57,7 @@ pub record IsAppendable (h : Layout) (k : CacheState) : Type 0 where
   pub version : k.version ≡ V4
   pub whole : k.contents.end ≡ []
 
+-- the cache of an image whose end and version let it be appended to
 pub image_appendable : (h : Layout) (image : List ℕ) (k : CacheState) → IsBytes image → IsImage h image → cache_of h image ≡ k → k.contents.end ≡ [] → k.version ≡ V4 → IsAppendable h k
 image_appendable h image k fits is same whole version = record {
   readable = subst IsReadable same (image_readable h image fits is);
@@ -65,6 +65,12 @@ image_appendable h image k fits is same whole version = record {
   version = version;
   whole = whole;
 }
+
+-- the cache that an image in memory holds can be appended to, and the image ends where its cells do
+pub appendable_held : {h : Layout} {bytes image : List ℕ} {k : CacheState} → bytes ≡ image → IsBytes bytes → IsImage h image → cache_of h image ≡ k → k.contents.end ≡ [] → k.version ≡ V4 → IsAppendable h k × (length image ≡ h.places.end)
+appendable_held {h} {bytes} {image} {k} same fits is held whole version =
+    let image_fits = subst IsBytes same fits in
+    (image_appendable h image k image_fits is held whole version, image_end h image k image_fits is held whole)
 
 pub appendable_len : (h : Layout) (k : CacheState) → IsAppendable h k → length (image_of k) ≡ h.places.end
 appendable_len h k a =
@@ -101,12 +107,9 @@ append_fits h k c a short =
     let room : nat_lt k.limit (length (image_of (with_last k c))) ≡ false = le-ltb _ _ (omega (arith, ap (λ (x : Layout). x.limit) a.layout, short, last_len h k c a)) in
     rw room refl
 
-ok_pair : (a b : ℕ × CacheState) → ◌≡◌ {A = Result (ℕ × CacheState) Code} (Ok a) (Ok b) → a ≡ b
-ok_pair a b e = cc
-
 pair_by : (k new : CacheState) (c : CredParts) (p : ℕ) (full : Bool) → nat_lt k.limit (length (image_of (with_last k c))) ≡ full → append_result k c ≡ Ok (p, new) → ◌≡◌ {A = ℕ × CacheState} (end_of (store_of k), with_last k c) (p, new)
 pair_by k new c p true e is = let no : append_result k c ≡ Err Full = rw e refl in absurd (let f = sym no ∙ is in cc)
-pair_by k new c p false e is = let yes : append_result k c ≡ Ok (end_of (store_of k), with_last k c) = rw e refl in ok_pair _ _ (sym yes ∙ is)
+pair_by k new c p false e is = let yes : append_result k c ≡ Ok (end_of (store_of k), with_last k c) = rw e refl in ok_is _ _ (sym yes ∙ is)
 
 -- the place and the cache of an addition that was not refused
 pub append_pair : (k new : CacheState) (c : CredParts) (p : ℕ) → append_result k c ≡ Ok (p, new) → ◌≡◌ {A = ℕ × CacheState} (end_of (store_of k), with_last k c) (p, new)
@@ -124,9 +127,7 @@ found_last v at p [] c is =
     let found : find (λ x. x.0 == p) (placed_from v at (c ∷ [])) ≡ Some (at, c) = rw here refl in
     found ∙ ap (λ (n : ℕ). Some (n, c)) (sym is)
 found_last v at p (d ∷ cs) c is =
-    let some = (credential_field v).nonempty d in
-    let ge = end_is v (at + length (credential v d)) cs in
-    let passed : (at == p) ≡ false = grind (arith, nat_tests, some, ge, is) in
+    let passed : (at == p) ≡ false = grind (arith, nat_tests, (credential_field v).nonempty d, end_is v (at + length (credential v d)) cs, is) in
     let next : find (λ x. x.0 == p) (placed_from v at (d ∷ cs ++ c ∷ [])) ≡ find (λ x. x.0 == p) (placed_from v (at + length (credential v d)) (cs ++ c ∷ [])) = rw passed refl in
     next ∙ found_last v (at + length (credential v d)) p cs c is
 

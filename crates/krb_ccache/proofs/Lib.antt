@@ -11,7 +11,6 @@ pub mod MarkLemmas
 pub mod MarkImage
 pub mod LastCredential
 pub mod SpellingLemmas
-pub mod Pens
 pub mod Reopening
 pub mod PreambleLemmas
 pub mod StoreChanges

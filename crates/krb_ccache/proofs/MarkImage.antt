@@ -6,6 +6,7 @@ use Rattle.krb_ccache.proofs.CellLemmas.{end_is}
 use Rattle.krb_ccache.proofs.ImageLemmas.{image_parts}
 use Rattle.krb_ccache.proofs.CacheLemmas.{IsReadable, image_readable, holds, layout_is}
 use Rattle.krb_ccache.proofs.MarkLemmas.{IsAt, found_at, marked_one, marked_len, splice_part}
+use Rattle.krb_wire.proofs.Lists.{all_front, all_back, all_join}
 
 -- the bytes before the credentials
 abbrev pub front_of : CacheState → List ℕ
@@ -30,14 +31,6 @@ texts k before after c end is =
     let b = flat_map f after in
     front_first k ∙ ap (λ d. x ++ spelling (credentials_format k.version) d) is ∙ ap (λ (t : List ℕ). x ++ (t ++ end)) (flat_map-append f before (c ∷ after))
     ∙ group x a (f c) b end
-
-pub all_replace : (P : CredParts → Type 0) (before after : List CredParts) (c d : CredParts) → AllByRecursion P (before ++ c ∷ after) → (P c → P d) → AllByRecursion P (before ++ d ∷ after)
-all_replace P [] after c d all more = (more all.0, all.1)
-all_replace P (x ∷ before) after c d all more = (all.0, all_replace P before after c d all.1 more)
-
-pub all_here : (P : CredParts → Type 0) (before after : List CredParts) (c : CredParts) → AllByRecursion P (before ++ c ∷ after) → P c
-all_here P [] after c all = all.0
-all_here P (x ∷ before) after c all = all_here P before after c all.1
 
 -- a mark keeps the numbers of a credential in their ranges
 pub fits_marked : (v : Version) (c : CredParts) → FitsCredential v c → FitsCredential v (add_mark c)
@@ -74,7 +67,7 @@ live_in h image place c fits is live =
     let parts : image ≡ x ++ (f c ++ rest) = spells ∙ texts k s.before s.after c k.contents.end (ap (λ cs. record { cells = cs; end = k.contents.end }) s.parts) in
     let len : length x ≡ place = omega (arith, length-append (front_of k) (flat_map f s.before), front_len k, s.place, end_is v (first_place k) s.before) in
     let left : drop place image ≡ f c ++ rest = ap (drop place) parts ∙ drop_at x (f c ++ rest) place len in
-    let fit = all_here (FitsCredential v) s.before s.after c (subst (AllByRecursion (FitsCredential v)) s.parts kept.cells) in
+    let fit = (all_back (FitsCredential v) s.before (c ∷ s.after) (subst (AllByRecursion (FitsCredential v)) s.parts kept.cells)).0 in
     record {
       found_at = s;
       within = omega (arith, ap length parts, length-append x (f c ++ rest), len);
@@ -111,10 +104,12 @@ marked_held h image new place c fits new_fits is live written =
     ap length new_parts ∙ omega (arith, length-append x (f (add_mark c) ++ rest), length-append x (f c ++ rest), length-append (f (add_mark c)) rest, length-append (f c) rest, marked_len v c) ∙ sym (ap length parts) ∙ ap length spells in
     let end : end_of (store_of d) ≡ end_of (store_of k) =
     end_is v (first_place k) d.contents.cells ∙ ap (λ (n : ℕ). first_place k + n) (ap (λ cs. length (flat_map f cs)) cells ∙ same_text v s.before s.after c ∙ sym (ap (λ cs. length (flat_map f cs)) s.parts)) ∙ sym (end_is v (first_place k) k.contents.cells) in
+    let fit = subst (AllByRecursion (FitsCredential v)) s.parts kept.cells in
+    let back = all_back (FitsCredential v) s.before (c ∷ s.after) fit in
     let new_kept : IsReadable d = record {
       header = kept.header;
       principal = kept.principal;
-      cells = subst (AllByRecursion (FitsCredential v)) (sym cells) (all_replace (FitsCredential v) s.before s.after c (add_mark c) (subst (AllByRecursion (FitsCredential v)) s.parts kept.cells) (fits_marked v c));
+      cells = subst (AllByRecursion (FitsCredential v)) (sym cells) (all_join (FitsCredential v) s.before (add_mark c ∷ s.after) (all_front (FitsCredential v) s.before (c ∷ s.after) fit) (fits_marked v c back.0, back.1));
       end = kept.end;
       within = omega (arith, same_len, kept.within);
       limit_fits = kept.limit_fits;

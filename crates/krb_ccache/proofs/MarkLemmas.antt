@@ -153,13 +153,10 @@ unmarked_after v at p (c ∷ cs) lt =
 pub marked_one : (v : Version) (at p : ℕ) (before after : List CredParts) (c : CredParts) → p ≡ end_from at (map (store_cell v) before) → add_mark_at v at p (before ++ c ∷ after) ≡ before ++ add_mark c ∷ after
 marked_one v at p [] after c is =
     let here : (at == p) ≡ true = grind (arith, nat_tests) in
-    let some = (credential_field v).nonempty c in
     let one : add_mark_at v at p (c ∷ after) ≡ add_mark c ∷ add_mark_at v (at + length (credential v c)) p after = rw here refl in
-    one ∙ ap (λ (xs : List CredParts). add_mark c ∷ xs) (unmarked_after v (at + length (credential v c)) p after (omega (arith, some, is)))
+    one ∙ ap (λ (xs : List CredParts). add_mark c ∷ xs) (unmarked_after v (at + length (credential v c)) p after (omega (arith, (credential_field v).nonempty c, is)))
 marked_one v at p (d ∷ before) after c is =
-    let some = (credential_field v).nonempty d in
-    let ge = end_is v (at + length (credential v d)) before in
-    unmarked_by v at p d (before ++ c ∷ after) (grind (arith, nat_tests, some, ge, is)) ∙ ap (λ (xs : List CredParts). d ∷ xs) (marked_one v (at + length (credential v d)) p before after c is)
+    unmarked_by v at p d (before ++ c ∷ after) (grind (arith, nat_tests, (credential_field v).nonempty d, end_is v (at + length (credential v d)) before, is)) ∙ ap (λ (xs : List CredParts). d ∷ xs) (marked_one v (at + length (credential v d)) p before after c is)
 
 -- ---- what was found
 
@@ -167,9 +164,7 @@ marked_one v at p (d ∷ before) after c is =
 pub times_left : (v : Version) (image bytes times : List ℕ) (place : ℕ) (c : CredParts) (rest : List ℕ) → AroundTimes v image place c rest → bytes ≡ drop place image → times_from v bytes ≡ Some times → (length image ≡ place + length (before_times v c) + length times) × (16 ≤ length times)
 times_left v image bytes times place c rest w same found =
     let left : w.left ≡ times = some_is w.left times (sym w.is_left ∙ ap (times_from v) (sym same) ∙ found) in
-    let at = w.at in
-    let room = w.room in
-    (omega (arith, at, ap length left), omega (arith, room, ap length left))
+    (omega (arith, w.at, ap length left), omega (arith, w.room, ap length left))
 
 pub times_there : (v : Version) (image bytes : List ℕ) (place : ℕ) (c : CredParts) (rest : List ℕ) → AroundTimes v image place c rest → bytes ≡ drop place image → times_from v bytes ≡ None → ⊥
 times_there v image bytes place c rest w same none = let e = sym w.is_left ∙ ap (times_from v) (sym same) ∙ none in absurd cc

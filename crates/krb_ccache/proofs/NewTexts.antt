@@ -89,9 +89,7 @@ whole_same text c fits e = ((credential_field V4).takes text (c, []) fits e).0.p
 pub second_left : (text left : List ℕ) (c : CredParts) (rest : List ℕ) → AroundSecondEnctype text c rest → after_first_enctype text ≡ Some left → (length text ≡ length (before_second c) + length left) × (2 ≤ length left)
 second_left text left c rest w found =
     let same : w.left ≡ left = some_is w.left left (sym w.is_left ∙ found) in
-    let at = w.at in
-    let room = w.room in
-    (omega (arith, at, ap length same), omega (arith, room, ap length same))
+    (omega (arith, w.at, ap length same), omega (arith, w.room, ap length same))
 
 pub second_there : (text : List ℕ) (c : CredParts) (rest : List ℕ) → AroundSecondEnctype text c rest → after_first_enctype text ≡ None → ⊥
 second_there text c rest w none = let e = sym w.is_left ∙ none in absurd cc

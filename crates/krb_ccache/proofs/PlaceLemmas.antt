@@ -10,9 +10,8 @@ use Rattle.krb_ccache.proofs.CellLemmas.{read_one, read_none, end_is}
 pub len_step : (v : Version) (bytes : List ℕ) (c : CredParts) (after : List ℕ) → IsBytes bytes → credential_at v bytes ≡ Some (c, after) → credentials_len v bytes + length after ≡ length bytes + credentials_len v after
 len_step v bytes c after fits e =
     let r = read_one v bytes c after fits e in
-    let len = r.len in
     let cons : credentials_len v bytes ≡ length (credential v c) + credentials_len v after = ap (λ (cs : List CredParts). length (flat_map (credential v) cs)) r.cells ∙ ap length (flat_map-cons (credential v) c _) ∙ length-append (credential v c) _ in
-    omega (arith, cons, len)
+    omega (arith, cons, r.len)
 
 pub len_end : (v : Version) (bytes : List ℕ) → IsBytes bytes → credential_at v bytes ≡ None → credentials_len v bytes ≡ 0
 len_end v bytes fits e = ap (λ (k : Contents CredParts (List ℕ)). length (flat_map (credential v) k.cells)) (read_none v bytes fits e)
@@ -86,7 +85,6 @@ places_are v image rest after p cells n fits is_rest passes read is_n le =
     let tc = tail_is image cells front.cells_end in
     let there : header_at v (drop 2 image) ≡ Some (h.fields, after) = ap (header_at v) (sym is_rest) ∙ h.read in
     let named : cc_principal_at (drop (length image - length after) image) ≡ Some (p, cells) = ap cc_principal_at ta.1 ∙ read in
-    let lc = tc.0 in
     record {
       header = there ∙ ap (λ (xs : List Field). Some (xs, after)) (sym (header_is v image after h.fields there)) ∙ ap (λ (b : List ℕ). Some (header_in v image, b)) (sym ta.1);
       principal_within = omega arith;
@@ -95,7 +93,7 @@ places_are v image rest after p cells n fits is_rest passes read is_n le =
       end =
           ap (λ (m : ℕ). length image - length cells + m) (is_n ∙ ap (credentials_len v) (sym tc.1))
           ∙ sym (end_is v (length image - length cells) (contents (credentials_format v) (drop (length image - length cells) image)).cells);
-      end_within = omega (arith, lc, le);
+      end_within = omega (arith, tc.0, le);
     }
 
 -- an image with these places opens as the cache that it holds

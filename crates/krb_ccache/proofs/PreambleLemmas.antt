@@ -1,9 +1,9 @@
 -- What is written before the credentials of a new cache.
 use Rattle.krb_ccache.proofs.Cited.{◌≡◌, ℕ, ◌+◌, ◌≤◌, false, Ok, List, [], ◌∷◌, ◌++◌, length, Some, Option, None, refl, sym, ap, subst, ◌∙◌, length-append, arith, nat_lt, le-ltb, w16, w32, cast_unsigned, append-nil, Big, Parts, digits, cc_principal, FitsCc, IsBytes, next_by, V4, Offset, CredParts, number32, header, header_at, FitsHeader, image_of, first_place, new_header, new_preamble, empty_cache, create_result, Holds}
 use Rattle.krb_ccache.proofs.Reopening.{header_again}
-use Rattle.krb_ccache.proofs.HeaderFields.{IsBytes-front, IsBytes-back}
 use Rattle.krb_ccache.proofs.CacheLemmas.{IsReadable, holds}
 use Rattle.krb_ccache.proofs.Splits.{no_credential}
+use Rattle.krb_wire.proofs.Fields.{IsBytes-front, IsBytes-back}
 
 -- the header of an offset, number by number
 pub offset_text : (offset : Option Offset) (o : Offset) (s m : ℕ) → offset ≡ Some o → s ≡ cast_unsigned w32 o.seconds → m ≡ cast_unsigned w32 o.micros

@@ -1,7 +1,8 @@
 -- Opening the image of a cache gives that cache again.
 use Rattle.krb_ccache.proofs.Cited.{◌≡◌, ℕ, false, List, [], ◌∷◌, ◌++◌, length, Some, None, Ok, refl, sym, ap, subst, ◌∙◌, arith, nat_lt, flat_map, AllByRecursion, le-ltb, append-nil, w16, Big, digits, cc_principal, IsBytes, data16_field, cc_principal_field, Contents, NoMore, contents, spelling, next_by, IsCell, contents_again, unframed_cell, Version, V3, V4, CredParts, Field, field, FitsField, header, FitsHeader, field_at, fields_format, only_cells, fields_in, header_at, CacheState, credentials_format, version_byte, version_in, image_of, open_default, open_header, open_result, IsSoundCache}
-use Rattle.krb_ccache.proofs.HeaderFields.{field_field, fields_are, IsBytes-front, IsBytes-back}
+use Rattle.krb_ccache.proofs.HeaderFields.{field_field, fields_are}
 use Rattle.krb_ccache.proofs.CellLemmas.{credentials_are}
+use Rattle.krb_wire.proofs.Fields.{IsBytes-front, IsBytes-back}
 
 no_field : field_at [] ≡ None
 unfolding field_at

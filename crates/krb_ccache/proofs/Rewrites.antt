@@ -6,15 +6,16 @@ use Rattle.krb_walk.proofs.Lives.{lives}
 use Rattle.krb_walk.specs.declared.fault.FaultKind.{FaultKind}
 use Rattle.krb_cells.specs.Carry.{whole, store_in}
 use Rattle.krb_ccache.specs.Rewrite.{new_cells, rewrite_of, rewrite_result}
-use Rattle.krb_ccache.proofs.HeaderFields.{IsBytes-front, IsBytes-back}
 use Rattle.krb_ccache.proofs.Splits.{no_credential}
 use Rattle.krb_ccache.proofs.CellLemmas.{end_is}
 use Rattle.krb_ccache.proofs.CacheLemmas.{IsReadable, holds, image_readable}
 use Rattle.krb_ccache.proofs.PreambleLemmas.{header_read}
 use Rattle.krb_ccache.proofs.NewTexts.{flat_new_texts}
-use Rattle.krb_ccache.proofs.StoreChanges.{cells_wide, whole_of, live_cell}
+use Rattle.krb_ccache.proofs.StoreChanges.{cells_wide, live_cell}
 use Rattle.krb_ccache.proofs.ImageLemmas.{image_parts, first_ahead, image_credentials, image_cells}
 use Rattle.krb_walk.specs.declared.refusal.Code.TheVariants as code
+use Rattle.krb_wire.proofs.Fields.{IsBytes-front, IsBytes-back}
+use Rattle.krb_walk.proofs.Splits.{whole_of}
 
 -- ---- the new image
 
@@ -56,14 +57,13 @@ rewrite_held k image limit principal first end kept fits is is_limit within is_p
     let rest = cc_principal k.principal ++ spelling (credentials_format V4) d.contents in
     let spelled : IsBytes (image_of d) = subst IsBytes is fits in
     let head_fits : IsBytes h = IsBytes-front h rest (IsBytes-back (5 ∷ 4 ∷ []) (h ++ rest) spelled) in
-    let limit_fits = kept.limit_fits in
     let new_kept : IsReadable d = record {
       header = λ rest. header_read (offset_in k.header) rest head_fits;
       principal = kept.principal;
       cells = all_version_4 k.version k.contents.cells kept.cells;
       end = ap (next_by {C = CredParts} []) (no_credential V4);
       within = omega (arith, within, is_limit);
-      limit_fits = limit_fits;
+      limit_fits = kept.limit_fits;
     } in
     let place : first ≡ first_place d = omega (arith, is_first, length-append h (cc_principal k.principal)) in
     let last : end ≡ end_of (store_of d) = omega (arith, is_end, ap length (image_is k), length-append (new_preamble k.principal (offset_in k.header)) (flat_map new_text k.contents.cells), end_is V4 (first_place d) (new_cells k.contents.cells), ap length (flat_new_texts k.contents.cells), place, is_first) in
@@ -91,9 +91,6 @@ cells_live c cs e =
 old_removed : (v : Version) (c : CredParts) (cs : List CredParts) → is_marked c ≡ true → ◌≡◌ {A = List Cell} (map (store_cell v) (c ∷ cs)) (record { width = length (credential v c); live = None } ∷ map (store_cell v) cs)
 old_removed v c cs e = ap (λ (b : Bool). record { width = length (credential v c); live = live_by b (credential v c) } ∷ map (store_cell v) cs) e
 
-old_live : (v : Version) (c : CredParts) (cs : List CredParts) → is_marked c ≡ false → ◌≡◌ {A = List Cell} (map (store_cell v) (c ∷ cs)) (record { width = length (credential v c); live = Some (credential v c) } ∷ map (store_cell v) cs)
-old_live v c cs e = ap (λ (x : Cell). x ∷ map (store_cell v) cs) (live_cell v c e)
-
 abbrev IsAllLive : List Cell → Type 0
 IsAllLive cells = AllByRecursion (λ (x : Cell). is_some x.live ≡ true) cells
 
@@ -111,7 +108,7 @@ as_many_by : (v : Version) (c : CredParts) (cs : List CredParts) (at to : ℕ) (
 as_many_by v c cs at to true e ih =
     ap (λ (xs : List Cell). length (lives to xs)) (cells_removed c cs e) ∙ ih (at + length (credential v c)) to ∙ sym (ap (λ (xs : List Cell). length (lives at xs)) (old_removed v c cs e))
 as_many_by v c cs at to false e ih =
-    ap (λ (xs : List Cell). length (lives to xs)) (cells_live c cs e) ∙ ap suc (ih (at + length (credential v c)) (to + length (credential V4 (in_version_4 c)))) ∙ sym (ap (λ (xs : List Cell). length (lives at xs)) (old_live v c cs e))
+    ap (λ (xs : List Cell). length (lives to xs)) (cells_live c cs e) ∙ ap suc (ih (at + length (credential v c)) (to + length (credential V4 (in_version_4 c)))) ∙ sym (ap (λ (xs : List Cell). length (lives at xs)) (ap (λ (x : Cell). x ∷ map (store_cell v) cs) (live_cell v c e)))
 
 as_many : (v : Version) (cs : List CredParts) (at to : ℕ) → length (lives to (map (store_cell V4) (new_cells cs))) ≡ length (lives at (map (store_cell v) cs))
 as_many v [] at to = refl

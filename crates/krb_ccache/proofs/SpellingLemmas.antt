@@ -1,5 +1,6 @@
 -- What is written for a credential: whether it fits, and its parts.
-use Rattle.krb_ccache.proofs.Cited.{◌≡◌, ℕ, ◌+◌, ◌-◌, ◌^◌, ◌<◌, ◌≤◌, true, List, [], ◌∷◌, ◌++◌, length, sym, ap, subst, ◌∙◌, append_assoc, length-append, arith, sum, Option, None, IfNone, refl, flat_map, AllByRecursion, w16, w32, flat_map-cons, Big, Parts, digits, data32, cc_principal, cc_name_fits, IsLong, FitsCc, wide16, wide32, V4, TypedData, Key, CredParts, number32, typed_data, typed_list, key, times, credential, FitsTypedData, FitsTypedList, FitsTimes, FitsCredential, plain_key, middle_text, lists_text}
+use Rattle.krb_ccache.proofs.Cited.{◌≡◌, ℕ, ◌+◌, ◌-◌, ◌^◌, ◌<◌, ◌≤◌, true, List, [], ◌∷◌, ◌++◌, length, sym, ap, subst, ◌∙◌, append_assoc, length-append, arith, sum, Option, None, IfNone, refl, flat_map, AllByRecursion, w16, w32, flat_map-cons, Big, Parts, digits, data32, cc_principal, cc_name_fits, IsLong, FitsCc, wide16, wide32, V4, TypedData, Key, CredParts, number32, typed_data, typed_list, key, times, credential, FitsTypedData, FitsTypedList, FitsTimes, FitsCredential, plain_key, middle_text, lists_text, owned_list, owned_typed, at_drop_more, drop, get_or}
+use Rattle.std.specs.Prelude.{Vec}
 use Rattle.krb_wire.proofs.NamesCompared.{has_cc_len, and_both, long_lengths_of, long_lengths_fit}
 use Rattle.krb_ccache.specs.declared.credential.times.Times.{Times}
 
@@ -121,6 +122,10 @@ room_within c d most len room left xs ys t is_xs is_ys first second =
 
 -- ---- what was written, by the fields of an equal credential
 
+-- the items from an index on are the one there and those after it
+pub items_more : {A : Type 0} (items : List (ℕ × Vec ℕ A)) (i : ℕ) (x : ℕ × Vec ℕ A) → i < length items → x ≡ get_or items i x → owned_list (drop i items) ≡ owned_typed x ∷ owned_list (drop (i + 1) items)
+items_more items i x lt is = at_drop_more owned_list items i x lt ∙ ap (λ (y : TypedData). y ∷ owned_list (drop (i + 1) items)) (ap owned_typed (sym is))
+
 pub middle_is : (c d : CredParts) (bytes : List ℕ) (t : Times) → d ≡ c → bytes ≡ d.key.bytes → t ≡ c.times → key V4 (plain_key d.key.enctype bytes) ++ (times t ++ ((d.is_skey ∷ []) ++ number32 d.flags)) ≡ middle_text c
 middle_is c d bytes t same is_bytes is_times =
     let rest = (d.is_skey ∷ []) ++ number32 d.flags in
@@ -148,19 +153,17 @@ pub record PartsFit (d : CredParts) : Type 0 where
 pub parts_within : (c d : CredParts) (most len room left : ℕ) (xs ys : List TypedData) → LensWithin c d most len → most ≤ 2 ^ 30 → xs ≡ d.addresses → ys ≡ d.authdata → room + length (flat_map typed_data xs) ≡ most - len → left + length (flat_map typed_data ys) ≡ room
     → true ≡ has_cc_len d.client → true ≡ has_cc_len d.server → d.key.second_enctype ≡ 0 → AllByRecursion FitsTypedData xs → AllByRecursion FitsTypedData ys → PartsFit d
 parts_within c d most len room left xs ys t small is_xs is_ys first second client server one_enctype address element =
-    let within = t.within in
-    let lens = t.lens in
     record {
       client = client;
       server = server;
       one_enctype = one_enctype;
-      key = omega (arith, small, within, lens);
+      key = omega (arith, small, t.within, t.lens);
       address = subst (AllByRecursion FitsTypedData) is_xs address;
       addresses = omega (arith, small, first, ap (λ (x : List TypedData). length (flat_map typed_data x)) is_xs);
       element = subst (AllByRecursion FitsTypedData) is_ys element;
       authdata = omega (arith, small, first, second, ap (λ (x : List TypedData). length (flat_map typed_data x)) is_ys);
-      ticket = omega (arith, small, within, lens);
-      second_ticket = omega (arith, small, within, lens);
+      ticket = omega (arith, small, t.within, t.lens);
+      second_ticket = omega (arith, small, t.within, t.lens);
     }
 
 pub fits_by : (c d : CredParts) → d ≡ c → PartsFit d → c.client.name_type < 2 ^ 32 → c.server.name_type < 2 ^ 32 → c.key.enctype < 2 ^ 16 → c.is_skey < 256 → c.flags < 2 ^ 32 → FitsTimes c.times → FitsCredential V4 c

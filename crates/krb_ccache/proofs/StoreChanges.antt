@@ -1,16 +1,11 @@
 -- An addition to a cache, and a removal from it, change one cell of its store.
-use Rattle.krb_ccache.proofs.Cited.{◌≡◌, ℕ, ◌<◌, Bool, true, false, List, [], ◌∷◌, ◌++◌, length, map, Option, Some, None, inr, refl, sym, ap, ◌∙◌, is_some, option_map, IsSome, AllByRecursion, map-append, Cell, end_of, fault_from, fault_of, is_place_from, live_bytes, IsPlace, is_some_has, Version, V3, V4, CredParts, credential, is_marked, CacheState, live_by, store_cell, store_of, fault_kind, first_place, credential_at_place, add_mark, add_mark_at, with_mark, with_last, is_read_only}
-use Rattle.krb_walk.specs.declared.fault.FaultKind.{FaultKind}
+use Rattle.krb_ccache.proofs.Cited.{◌≡◌, ℕ, ◌<◌, Bool, true, false, List, [], ◌∷◌, ◌++◌, length, map, Option, Some, None, inr, refl, sym, ap, ◌∙◌, is_some, option_map, IsSome, AllByRecursion, map-append, Cell, end_of, fault_of, is_place_from, live_bytes, IsPlace, is_some_has, Version, V3, V4, CredParts, credential, is_marked, CacheState, live_by, store_cell, store_of, fault_kind, first_place, credential_at_place, add_mark, add_mark_at, with_mark, with_last, is_read_only}
 use Rattle.krb_walk.specs.Changes.{Puts, Cuts}
 use Rattle.krb_walk.proofs.Stops.{bytes_from}
-use Rattle.krb_walk.proofs.Splits.{bytes_here, split_is_place}
+use Rattle.krb_walk.proofs.Splits.{bytes_here, split_is_place, whole_of}
 use Rattle.krb_ccache.proofs.CredentialField.{credential_field}
 use Rattle.krb_ccache.proofs.MarkLemmas.{found_at, marked_one, marked_len}
 use Rattle.krb_ccache.proofs.Splits.{live_is}
-
-pub whole_of : (place : ℕ) (kind : Option FaultKind) → is_some (fault_from place kind) ≡ false → kind ≡ None
-whole_of place None h = refl
-whole_of place (Some kind) h = absurd cc
 
 none_left : (end : List ℕ) → fault_kind end ≡ None → end ≡ []
 none_left [] h = refl

@@ -1,7 +1,7 @@
 //! Owned credentials.
 
 pub(crate) mod key;
-mod spelling;
+pub(crate) mod spelling;
 pub(crate) mod times;
 pub(crate) mod typed_list;
 pub(crate) mod view;

@@ -9,7 +9,6 @@ mod config;
 mod credential;
 mod credentials;
 mod laws;
-mod lengths;
 mod mark;
 mod new_image;
 mod offset;

@@ -1,9 +1,10 @@
 -- Unique reading: in any format, bytes have one list of cells and one end.
-use Rattle.krb_cells.proofs.Cited.{◌≡◌, ℕ, zero, suc, ◌+◌, ◌<◌, List, [], ◌∷◌, ◌++◌, length, Option, Some, None, refl, sym, ap, subst, ◌∙◌, append_assoc, arith, flat_map, AllByRecursion, IsBytes, IsBytes-drop, Takes}
-use Rattle.std.proofs.lemmas.List.{append-nil, drop_at, length-append}
+use Rattle.krb_cells.proofs.Cited.{◌≡◌, ℕ, zero, suc, ◌+◌, ◌<◌, List, [], ◌∷◌, ◌++◌, length, Option, Some, None, refl, sym, ap, subst, ◌∙◌, append_assoc, arith, flat_map, AllByRecursion, IsBytes, Takes}
+use Rattle.std.proofs.lemmas.List.{append-nil, length-append}
 use Rattle.std.proofs.lemmas.List.Concat.{flat_map-cons}
 use Rattle.krb_wire.proofs.Places.{IsField}
 use Rattle.krb_cells.specs.Contents.{NextCell, More, NoMore, Contents, Format, spelling, on_next, first_cells, contents, IsCell, IsEnd, IsSound, IsSpelled, next_by, unframed}
+use Rattle.krb_wire.proofs.Fields.{IsBytes-back}
 
 -- what one read gives: a cell and the bytes after it, or the end
 abbrev pub IsNext : {C E : Type 0} → Format C E → List ℕ → NextCell C E → Type 0
@@ -74,9 +75,6 @@ contents_spelled f bytes is fits = spelled_within f (suc (length bytes)) bytes i
 -- contents with some cells before them
 abbrev pub behind : {C E : Type 0} → List C → Contents C E → Contents C E
 behind cs k = record { cells = cs ++ k.cells; end = k.end }
-
-IsBytes-back : (a b : List ℕ) → IsBytes (a ++ b) → IsBytes b
-IsBytes-back a b fits = subst IsBytes (drop_at a b (length a) refl) (IsBytes-drop (length a) (a ++ b) fits)
 
 -- sound cells that bytes begin with are the first cells read: so the list is the longest one
 pub contents_behind : {C E : Type 0} (f : Format C E) (cs : List C) (rest : List ℕ) → IsFormat f → AllByRecursion (IsCell f) cs → IsBytes (flat_map f.cell cs ++ rest) → contents f (flat_map f.cell cs ++ rest) ≡ behind cs (contents f rest)

@@ -4,6 +4,7 @@ use Rattle.krb_walk.specs.declared.fault.FaultKind.{FaultKind}
 use Rattle.krb_walk.proofs.Stops.{next_from, bytes_from, is_place_from-first}
 use Rattle.krb_walk.proofs.Splits.{end_from-append, next_ahead, bytes_ahead, live_splits, split_is_place}
 use Rattle.krb_cells.specs.Cells.{HoldsCells, IsFrom}
+use Rattle.krb_wire.proofs.Lists.{all_front}
 
 -- each cell of bytes takes up a place
 pub sound_by : (cells : List ℕ → List Cell) (bytes : List ℕ) (cs : List Cell) → HasCells cells bytes cs → AllByRecursion (λ c. 0 < c.width) cs
@@ -17,8 +18,7 @@ sound cells place bytes s holds is = subst (AllByRecursion (λ (c : Cell). 0 < c
 filled : (cells : List ℕ → List Cell) (at : ℕ) (bytes : List ℕ) (cs : List Cell) → HasCells cells bytes cs → end_from at cs ≡ at + length bytes
 filled cells at bytes [] has = omega (arith, ap length has)
 filled cells at bytes (c ∷ cs) has =
-    let within = has.1 in
-    filled cells (at + c.width) (drop c.width bytes) cs has.3 ∙ omega (arith, length-drop c.width bytes, within)
+    filled cells (at + c.width) (drop c.width bytes) cs has.3 ∙ omega (arith, length-drop c.width bytes, has.1)
 
 -- the cells end where the bytes do
 pub ends : (cells : List ℕ → List Cell) (place : ℕ) (bytes : List ℕ) (fault : Option FaultKind) (s : Store) → HoldsCells cells place bytes
@@ -48,14 +48,12 @@ cut_here cells at bytes cs p has is same =
 
 cut_after : (cells : List ℕ → List Cell) (at : ℕ) (bytes : List ℕ) (c : Cell) (cs : List Cell) (p : ℕ) → c.width ≤ length bytes → CutAt cells (at + c.width) (drop c.width bytes) cs p → CutAt cells at bytes (c ∷ cs) p
 cut_after cells at bytes c cs p wide k =
-    let ahead = k.ahead in
-    let within = k.within in
-    let size : c.width + (p - (at + c.width)) ≡ p - at = omega (arith, ahead) in
+    let size : c.width + (p - (at + c.width)) ≡ p - at = omega (arith, k.ahead) in
     let same : drop (p - (at + c.width)) (drop c.width bytes) ≡ drop (p - at) bytes = drop-drop (p - (at + c.width)) c.width bytes ∙ ap (λ (n : ℕ). drop n bytes) size in
     record {
       before = c ∷ k.before;
-      ahead = omega (arith, ahead);
-      within = omega (arith, within, length-drop c.width bytes, wide);
+      ahead = omega (arith, k.ahead);
+      within = omega (arith, k.within, length-drop c.width bytes, wide);
       place = k.place;
       parts = ap (λ (xs : List Cell). c ∷ xs) (k.parts ∙ ap (λ (b : List ℕ). k.before ++ cells b) same);
       rest = subst (AreCells cells) same k.rest;
@@ -78,14 +76,7 @@ cut_held cells place bytes fault s p holds is at = cut cells place bytes (cells 
 -- the bytes from a place on hold the cells from there on
 pub holds_from : (cells : List ℕ → List Cell) (place : ℕ) (bytes : List ℕ) (p : ℕ) → HoldsCells cells place bytes → CutAt cells place bytes (cells bytes) p → HoldsCells cells p (drop (p - place) bytes)
 holds_from cells place bytes p holds k =
-    let small = holds.small in
-    let ahead = k.ahead in
-    let within = k.within in
-    record { are = k.rest; small = omega (arith, small, ahead, within, length-drop (p - place) bytes) }
-
-all_before : (before after : List Cell) → AllByRecursion (λ c. 0 < c.width) (before ++ after) → AllByRecursion (λ c. 0 < c.width) before
-all_before [] after all = tt
-all_before (c ∷ before) after all = (all.0, all_before before after all.1)
+    record { are = k.rest; small = omega (arith, holds.small, k.ahead, k.within, length-drop (p - place) bytes) }
 
 stop_by : (at p : ℕ) (all after : List Cell) (fault : Option FaultKind) (o : Option Record) → end_from at all ≡ end_from p after → stop_of (record { first = at; cells = all; fault = fault }) o ≡ stop_of (record { first = p; cells = after; fault = fault }) o
 stop_by at p all after fault (Some r) end = refl
@@ -111,7 +102,7 @@ is_from cells place bytes fault s p holds is k =
     let after = cells (drop (p - place) bytes) in
     let all = subst (AllByRecursion (λ (c : Cell). 0 < c.width)) k.parts (sound_by cells bytes (cells bytes) holds.are) in
     let whole : record { first = place; cells = k.before ++ after; fault = fault } ≡ s = ap (λ (cs : List Cell). record { first = place; cells = cs; fault = fault }) (sym k.parts) ∙ is in
-    subst (λ (x : Store). IsFrom x p (record { first = p; cells = after; fault = fault })) whole (from_split place p k.before after fault k.place (all_before k.before after all))
+    subst (λ (x : Store). IsFrom x p (record { first = p; cells = after; fault = fault })) whole (from_split place p k.before after fault k.place (all_front (λ (c : Cell). 0 < c.width) k.before after all))
 
 -- the number at which a live cell begins is a place
 pub live_is_place : (s : Store) (p : ℕ) → IsSome (live_bytes s p) → IsPlace s p

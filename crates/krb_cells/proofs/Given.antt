@@ -6,7 +6,7 @@ use Rattle.std.proofs.lemmas.Bool.{ne_eqb, cases_lt}
 use Rattle.std.proofs.lemmas.List.{take_at, drop_at, take-append-le, drop-append-le, drop-take, take-take, length-take, length-drop, length-append, drop-drop}
 use Rattle.krb_wire.specs.declared.format.Order.TheVariants.{Big}
 use Rattle.krb_wire.specs.Spelling.{digits}
-use Rattle.krb_cells.specs.declared.cell_format.CellView.{CellView}
+use Rattle.krb_cells.specs.declared.cells.CellView.{CellView}
 use Rattle.krb_cells.specs.Cells.{GivesCell}
 
 -- ---- places of cells
@@ -107,7 +107,6 @@ given_first cs ds first start image le = record {
 given_next : (all news : List Cell) (first start : ℕ) (image put : List ℕ) (c : Cell) (cs ds : List Cell) (at to : ℕ) → IsGivenTo all news first start image (c ∷ cs) ds at to → 4 ≤ c.width → at + c.width ≤ length image
     → put ≡ splice image at (at + 4) (digits Big w32 to) → length put ≡ length image → IsGivenTo all news first start put cs (new_after (is_some c.live) ds) (at + c.width) (to + new_width (is_some c.live) ds)
 given_next all news first start image put c cs ds at to g wide room wrote len =
-    let within = g.within in
     let not_in : (p : ℕ) → is_place_from first all p ≡ true → at ≤ p → p < at + c.width → p ≡ at = λ p h le lt. not_within at c cs p (sym (g.left p le) ∙ h) lt in
     let goes : new_place first all start news at ≡ to = g.same at (omega arith) ∙ goes_here at (c ∷ cs) to ds in
     let new_encoded : take 4 (drop at put) ≡ digits Big w32 (new_place first all start news at) =
@@ -123,7 +122,7 @@ given_next all news first start image put c cs ds at to g wide room wrote len =
         | inr ge ↦ omega (arith, not_in p h ge lt, wide)
       ];
       encoded = λ p h lt. elim (cases_lt p at) [
-        | inl less ↦ ap (λ (b : List ℕ). take 4 (drop p b)) wrote ∙ put_before image (digits Big w32 to) at p within (g.before p h less) ∙ g.encoded p h less
+        | inl less ↦ ap (λ (b : List ℕ). take 4 (drop p b)) wrote ∙ put_before image (digits Big w32 to) at p g.within (g.before p h less) ∙ g.encoded p h less
         | inr ge ↦ subst (λ (q : ℕ). take 4 (drop q put) ≡ digits Big w32 (new_place first all start news q)) (sym (not_in p h ge lt)) new_encoded
       ];
     }
@@ -190,14 +189,12 @@ pub is_at_place : (cells : List ℕ → List Cell) (image : List ℕ) (at end : 
 is_at_place cells image at end c ahead within are first =
     let bytes = between at end image in
     let has : HasCells cells bytes (c ∷ cells (drop c.width bytes)) = subst (HasCells cells bytes) first are in
-    let wide = has.0 in
-    let fits = has.1 in
-    let room : at + c.width ≤ end = omega (arith, fits, ahead, within, length-take (end - at) (drop at image), length-drop at image) in
+    let room : at + c.width ≤ end = omega (arith, has.1, ahead, within, length-take (end - at) (drop at image), length-drop at image) in
     let sum : end - at ≡ c.width + (end - (at + c.width)) = omega (arith, room) in
     let same : drop c.width bytes ≡ between (at + c.width) end image =
     ap (λ (n : ℕ). drop c.width (take n (drop at image))) sum ∙ drop-take c.width (end - (at + c.width)) (drop at image) ∙ ap (take (end - (at + c.width))) (drop-drop c.width at image) in
     record {
-      wide = wide;
+      wide = has.0;
       room = room;
       parts = first ∙ ap (λ (b : List ℕ). c ∷ cells b) same;
       others = subst (AreCells cells) same has.3;
@@ -209,20 +206,15 @@ pub one_given : (cells : List ℕ → List Cell) (all : List Cell) (news : Store
 one_given cells all news first end image put bytes old left at to w n next g is y wrote is_n len is_next =
     let x = subst (λ (b : List ℕ). Passes cells b old w left) is y in
     let c = x.cell in
-    let is_w = x.is_width in
-    let ahead = g.ahead in
-    let within = g.within in
     let s = is_at_place cells image at end c g.ahead g.within g.are x.parts in
-    let wide = s.wide in
-    let room = s.room in
     let four = put_four image put at n to wrote is_n in
-    let behind : between (at + c.width) end put ≡ between (at + c.width) end image = ap (take (end - (at + c.width))) (put_behind image put at (at + c.width) to (omega (arith, ahead, within)) (omega (arith, wide)) four) in
+    let behind : between (at + c.width) end put ≡ between (at + c.width) end image = ap (take (end - (at + c.width))) (put_behind image put at (at + c.width) to (omega (arith, g.ahead, g.within)) (omega (arith, s.wide)) four) in
     let more = given_next all news.cells first news.first image put c (cells (between (at + c.width) end image)) old.cells at to
-    (subst (λ (cs : List Cell). IsGivenTo all news.cells first news.first image cs old.cells at to) s.parts g.given) wide (omega (arith, room, within)) four len in
+    (subst (λ (cs : List Cell). IsGivenTo all news.cells first news.first image cs old.cells at to) s.parts g.given) s.wide (omega (arith, s.room, g.within)) four len in
     let goes : to + new_width (is_some c.live) old.cells ≡ left.first = ap (λ (m : ℕ). m + new_width (is_some c.live) old.cells) g.is_to ∙ sym x.first in
-    rw (is_w, is_next) (record {
-      ahead = room;
-      within = omega (arith, within, len);
+    rw (x.is_width, is_next) (record {
+      ahead = s.room;
+      within = omega (arith, g.within, len);
       are = subst (AreCells cells) (sym behind) s.others;
       is_to = refl;
       given = subst (λ (b : List ℕ). IsGivenTo all news.cells first news.first put (cells b) left.cells (at + c.width) left.first) (sym behind)
@@ -241,14 +233,12 @@ pub all_given : (cells : List ℕ → List Cell) (all : List Cell) (news : Store
 all_given cells all news first end image bytes left at to i is no_cells =
     let none : cells (between at end image) ≡ [] = ap cells (sym is) ∙ no_cells in
     let g = i.given in
-    let ahead = i.ahead in
-    let within = i.within in
     let empty : between at end image ≡ [] = subst (HasCells cells (between at end image)) none i.are in
-    let here : at ≡ end = omega (arith, ap length empty, length-take (end - at) (drop at image), length-drop at image, ahead, within) in
+    let here : at ≡ end = omega (arith, ap length empty, length-take (end - at) (drop at image), length-drop at image, i.ahead, i.within) in
     let last : end_from first all ≡ end = g.end ∙ ap (end_from at) none ∙ here in
     record {
       given = λ p h lt. record {
-        within = omega (arith, g.before p h (omega (arith, lt, last, here)), here, within);
+        within = omega (arith, g.before p h (omega (arith, lt, last, here)), here, i.within);
         bytes = g.encoded p h (omega (arith, lt, last, here));
       };
       is_end = sym last;

@@ -1,7 +1,7 @@
 -- A store of the cells in bytes.
 use Rattle.std.specs.Prelude.{◌≡◌, ℕ, ◌+◌, ◌≤◌, ◌^◌, List, [], ◌∷◌, length, Option, Some, None, drop, map, option_copied}
 use Rattle.krb_walk.specs.Store.{Cell, Store, live_bytes, stop_at}
-use Rattle.krb_cells.specs.declared.cell_format.CellView.{CellView}
+use Rattle.krb_cells.specs.declared.cells.CellView.{CellView}
 use Rattle.krb_cells.specs.Contents.{Format, contents}
 
 -- ---- the cells of bytes, read from the front

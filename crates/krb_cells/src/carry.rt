@@ -13,8 +13,7 @@ ghost use Rattle.krb_walk.specs.Ranks.{carry as carry_of, Rewrites};
 ghost use Rattle.krb_cells.specs.Cells.{AreCells};
 ghost use Rattle.krb_cells.specs.Carry.{between, store_in, new_place, Passes, AreGiven, HasGiven, GoesBy};
 
-use crate::cell_format::CellFormat;
-use crate::cells::Cells;
+use crate::cells::{CellFormat, Cells};
 use krb_wire::{Order, Pen, split_u32, tail};
 
 // Returns the bytes from `first` up to `end`.

@@ -1,13 +1,31 @@
-//! The cells of some bytes, as a store.
+//! What a file format implements to be read as cells, and the cells of some bytes, as a store.
 
-ghost use Rattle.std.specs.Prelude.{◌≡◌, ◌≤◌, ◌^◌, ◌+◌, length, IsSome, Some, option_copied};
+ghost use Rattle.std.specs.Prelude.{◌≡◌, ◌≤◌, ◌^◌, ◌+◌, length, IsSome, Some, option_copied, ℕ, List, [], ◌∷◌, drop, IfSome, IfNone};
 ghost use Rattle.std.specs.Iterator.{item_count};
-ghost use Rattle.krb_walk.specs.Store.{end_of, fault_of, is_place, live_bytes, stop_at, IsPlace, IsSound};
-ghost use Rattle.krb_cells.specs.Cells.{AreCells, GivesCell, IsFrom};
+ghost use Rattle.krb_walk.specs.Store.{end_of, fault_of, is_place, live_bytes, stop_at, IsPlace, IsSound, Cell};
+ghost use Rattle.krb_cells.specs.Cells.{AreCells, GivesCell, IsFrom, cell_of};
 
-use crate::cell_format::{CellFormat, CellView};
 use krb_walk::{Fault, FaultKind, Stop};
 use std::marker::Model;
+
+/// A cell: its width in bytes and, if it is live, the bytes that a store returns of it.
+#[derive(Clone, Copy, Debug)]
+pub struct CellView<'a> {
+    pub width: usize,
+    pub live: Option<&'a [u8]>,
+}
+
+/// A format whose cells touch one another in bytes.
+pub trait CellFormat: Copy {
+    /// The cells of some bytes.
+    ghost cells: { Self → List ℕ → List Cell };
+
+    /// Returns the first cell of bytes that are cells, or `None` if no bytes are left.
+    fn first<'b>(self, bytes: &'b [u8]) -> Option<CellView<'b>>
+        requires { AreCells (cells self) bytes.now }
+        ensures some { IfSome result (λ c. cells self bytes.now ≡ cell_of c ∷ cells self (drop c.width bytes.now)) }
+        ensures none { IfNone result (cells self bytes.now ≡ []) };
+}
 
 /// The cells from a place on, one place per byte, and the kind of the fault after them, if there is one.
 #[derive(Drop)]

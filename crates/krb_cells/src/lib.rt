@@ -4,9 +4,7 @@
 #![tactic(auto)]
 
 mod carry;
-mod cell_format;
 mod cells;
 
 pub use carry::carry_to;
-pub use cell_format::{CellFormat, CellView};
-pub use cells::Cells;
+pub use cells::{CellFormat, CellView, Cells};

@@ -2,8 +2,9 @@
 use Rattle.krb_keytab.proofs.Cited.{◌≡◌, ℕ, ◌+◌, ◌<◌, ◌≤◌, Bool, true, false, cond, ltb, List, [], ◌∷◌, ◌++◌, length, drop, None, Ok, Err, sym, ap, ◌∙◌, length-append, arith, is_some, flat_map, lt-ltb, le-ltb, length-replicate, KtFormat, order_of, end_of, fault_of, CellsEnd, Live, Contents, cell, end_bytes, contents, image, kind_of, ends, IsKnownEnd, mark_len, len_with, KeytabState, image_of, store_of, end_place, with_last, end_after, append_result}
 use Rattle.krb_walk.specs.declared.refusal.Code.TheVariants as code
 use Rattle.krb_keytab.proofs.Cuts.{end_place_is, end_place-append}
-use Rattle.krb_keytab.proofs.Stores.{keytab_of, end_held, whole_of}
+use Rattle.krb_keytab.proofs.Stores.{keytab_of, end_held}
 use Rattle.krb_keytab.proofs.AppendLemmas.{zeros_after}
+use Rattle.krb_walk.proofs.Splits.{whole_of}
 
 -- the length of the image with one more record
 last_len : (f : KtFormat) (limit : ℕ) (bytes x : List ℕ) (e : CellsEnd) → IsKnownEnd f bytes e → kind_of (contents f (drop 2 bytes)).end ≡ None → length (image_of (with_last (keytab_of f limit bytes) x)) ≡ len_with e (length x)

@@ -1,5 +1,5 @@
 -- After an addition and a removal: what was added is read back, and what was removed is gone.
-use Rattle.krb_keytab.proofs.Cited.{◌≡◌, ℕ, ◌⊎◌, true, false, cond, ltb, List, [], ◌++◌, length, map, replicate, Option, Some, None, Result, Ok, Err, refl, sym, ap, subst, ◌∙◌, inl, inr, is_some, append-nil, ◌>>=◌, is_some_has, bytes_from, EntryParts, entry_at, Cell, Live, size, KeytabState, image_of, store_cell, store_of, entry_at_place, fits, written_form, read_back, IsEntry, PlacedCell, zero_hole, with_zeros, record_in, first_hole, with_hole, with_record_in, with_last, put_result_into, put_bytes_result, put_result, cut_result}
+use Rattle.krb_keytab.proofs.Cited.{◌≡◌, ℕ, ◌⊎◌, true, false, cond, ltb, List, [], ◌++◌, length, map, replicate, Option, Some, None, Ok, Err, refl, sym, ap, subst, ◌∙◌, inl, inr, is_some, append-nil, ◌>>=◌, is_some_has, bytes_from, EntryParts, entry_at, Cell, Live, size, KeytabState, image_of, store_cell, store_of, entry_at_place, fits, written_form, read_back, IsEntry, PlacedCell, zero_hole, with_zeros, record_in, first_hole, with_hole, with_record_in, with_last, put_result_into, put_bytes_result, put_result, cut_result}
 use Rattle.krb_walk.specs.declared.refusal.Code.TheVariants as code
 use Rattle.krb_walk.specs.Store.{end_of, fault_of, live_bytes as store_bytes}
 use Rattle.krb_keytab.proofs.CellLemmas.{chosen}
@@ -8,10 +8,7 @@ use Rattle.krb_keytab.proofs.EntryLemmas.{entry_again}
 use Rattle.krb_keytab.proofs.Replacements.{IsAt, live_is_at, hole_is_at, replaced_cells}
 use Rattle.krb_keytab.proofs.Removals.{holds}
 use Rattle.krb_keytab.proofs.WrittenLemmas.{written_spells}
-
--- a result has one value
-ok_is : {X Y : Type 0} (a b : X) → ◌≡◌ {A = Result X Y} (Ok a) (Ok b) → a ≡ b
-ok_is a b e = cc
+use Rattle.krb_wire.proofs.Fields.{ok_is}
 
 -- ---- additions
 

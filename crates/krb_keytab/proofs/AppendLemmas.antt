@@ -4,7 +4,7 @@ use Rattle.std.proofs.lemmas.Grind.{flat_map-append}
 use Rattle.krb_keytab.specs.declared.image.Ending.TheVariants as ending
 use Rattle.krb_keytab.proofs.CellLemmas.{contents_spelled, contents_again}
 use Rattle.krb_keytab.proofs.Cuts.{cell_len, end_place_is, end_place-append}
-use Rattle.krb_keytab.proofs.Replacements.{all_join}
+use Rattle.krb_wire.proofs.Lists.{all_join}
 
 -- ---- what ends the cells
 
@@ -77,9 +77,8 @@ appended_is f image mid image' x e long some small fits fits' known entry whole 
     let n : length mid - (e.place + 4 + length x) ≡ mark_len e.ending = omega (arith, is_len) in
     let zeros : replicate {A = ℕ} (length mid - (e.place + 4 + length x)) 0 ≡ end_bytes o (end_after k.end) = ap (λ (m : ℕ). replicate {A = ℕ} m 0) n ∙ zeros_after o e.ending k.end (drop e.place image) was whole in
     let two : length (take 2 image) ≡ 2 = omega (arith, length-take 2 image) in
-    let at = known.place in
     let split : image ≡ (take 2 image ++ F) ++ end_bytes o k.end = sym (take-append-drop 2 image) ∙ ap (λ (b : List ℕ). take 2 image ++ b) spelled.parts ∙ sym (append_assoc (take 2 image) F (end_bytes o k.end)) in
-    let place : length (take 2 image ++ F) ≡ e.place = omega (arith, at, end_place_is o 2 k.cells, two, length-append (take 2 image) F) in
+    let place : length (take 2 image ++ F) ≡ e.place = omega (arith, known.place, end_place_is o 2 k.cells, two, length-append (take 2 image) F) in
     let front : take e.place image ≡ take 2 image ++ F = ap (take e.place) split ∙ take_at (take 2 image ++ F) (end_bytes o k.end) e.place place in
     let put : image' ≡ (take 2 image ++ F) ++ (cell o (Live x) ++ end_bytes o (end_after k.end)) =
     behind_all mid image' e.place (cell o (Live x) ++ replicate {A = ℕ} (length mid - (e.place + 4 + length x)) 0) written
@@ -96,5 +95,5 @@ appended_is f image mid image' x e long some small fits fits' known entry whole 
     record {
       head = ap (take 2) bytes ∙ take_at (take 2 image) (spelling o new) 2 two;
       contents = is;
-      known = known_after f image' head k x e (drop e.place image) fits' spelled.sound.end whole at was grouped head_len is;
+      known = known_after f image' head k x e (drop e.place image) fits' spelled.sound.end whole known.place was grouped head_len is;
     }

@@ -5,6 +5,8 @@ use Rattle.krb_cells.specs.Contents.{NextCell, More, NoMore, on_next, IsCell as 
 use Rattle.krb_cells.proofs.ContentsLemmas.{IsNext as IsNextIn, IsFormat, behind, contents_next as next_of_contents, contents_spelled as spelled_of, contents_behind as behind_of, contents_again as again_of}
 use Rattle.krb_keytab.specs.declared.length.Length.TheVariants as says
 use Rattle.krb_keytab.proofs.LengthLemmas.{means, length_again, cell_has}
+use Rattle.krb_wire.proofs.Fields.{IsBytes-back}
+use Rattle.krb_wire.proofs.Lists.{headed}
 
 pub chosen : {A : Type 0} (b : Bool) (x y z : A) → cond b x y ≡ z → ((b ≡ true) × (x ≡ z)) ⊎ ((b ≡ false) × (y ≡ z))
 chosen true x y z e = inl (refl, e)
@@ -146,9 +148,6 @@ pub contents_next : (f : KtFormat) (bytes : List ℕ) (s : NextCell Cell End) �
 unfolding contents
 contents_next f bytes s fits e = next_of_contents (keytab_format f) bytes s (keytab_is f) fits e
 
-pub IsBytes-back : (a b : List ℕ) → IsBytes (a ++ b) → IsBytes b
-IsBytes-back a b fits = subst IsBytes (drop_at a b (length a) refl) (IsBytes-drop (length a) (a ++ b) fits)
-
 -- cells that are read are sound
 sound_cells : (f : KtFormat) (cs : List Cell) (rest : List ℕ) → AllByRecursion (IsReadCell (keytab_format f)) cs → IsBytes (flat_map (cell (order_of f)) cs ++ rest) → AllByRecursion (IsCell f) cs
 sound_cells f [] rest read fits = tt
@@ -184,11 +183,6 @@ contents_behind f cs rest sound fits = behind_of (keytab_format f) cs rest (keyt
 pub contents_again : (f : KtFormat) (k : Contents) → IsSound f k → IsBytes (spelling (order_of f) k) → contents f (spelling (order_of f) k) ≡ k
 unfolding contents
 contents_again f k sound fits = again_of (keytab_format f) k (keytab_is f) (record { cells = read_cells f k.cells sound.cells; end = end_again f k.end sound.end }) fits
-
-headed : (bytes : List ℕ) → 2 ≤ length bytes → bytes ≡ get_or bytes 0 0 ∷ get_or bytes 1 0 ∷ drop 2 bytes
-headed [] le = absurd (omega arith)
-headed (a ∷ []) le = absurd (omega arith)
-headed (a ∷ b ∷ bs) le = refl
 
 -- the image is what its contents spell
 pub image_is : (f : KtFormat) (bytes : List ℕ) → IsBytes bytes → 2 ≤ length bytes → get_or bytes 0 0 ≡ 5 → get_or bytes 1 0 ≡ version_byte f → bytes ≡ image f (contents f (drop 2 bytes))

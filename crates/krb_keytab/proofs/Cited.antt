@@ -11,7 +11,7 @@ pub use Rattle.std.specs.List.{flat_map, AllByRecursion, splice, filter_map, con
 pub use Rattle.std.specs.Prelude.{is_some, IsSome, ◌==◌, option_map, ◌&&◌, nat_lt, slice_index, IfSome, filter, nat_le, max, find, if◌then◌else◌, nat_eq, ⊤, OnOk, IfOk, IfNone, IsTrue, IfErr, ◌||◌}
 pub use Rattle.std.specs.Str.{bytes_eq}
 pub use Rattle.krb_keytab.specs.CellViews.{CellsFrom, AreKnown, IsFirst, BeginsWith, cells_of, IsCellOrNothing, cell_of}
-pub use Rattle.krb_keytab.specs.Cells.{Live, Cell, cell, Free, IsCell, Contents, end_bytes, IsSound, size, kind_of, Bare, End, length_field, bytes_of, Mark, Damaged, spelling, cell_in, length_of_cell, IsSpelled, IsEnd, image, keytab_format, short_end, next_of_length, next_by}
+pub use Rattle.krb_keytab.specs.Cells.{Live, Cell, cell, Free, IsCell, Contents, end_bytes, IsSound, size, kind_of, Bare, End, length_field, bytes_of, Mark, Damaged, spelling, cell_in, length_of_cell, IsSpelled, IsEnd, image, keytab_format, short_end, next_of_length, next_by, size_of, length_of, HasField, field_of}
 unfoldable pub use Rattle.krb_keytab.specs.Cells.{contents, next}
 pub use Rattle.krb_keytab.specs.Changes.{end_after, hole_from, with_last, cut_result, PlacedCell, with_hole, first_hole, record_in, zero_hole, with_record_in, with_zeros, replaced_at, is_hole, put_result, hole_of, append_result, without, placed_cells, put_bytes_result, put_result_into}
 pub use Rattle.krb_keytab.specs.Entry.{EntryParts, Spells, entry_of, front, version_by, Front, FitsFront}
@@ -20,9 +20,8 @@ pub use Rattle.krb_keytab.specs.Find.{PlacedEntry, is_match, placed_entries, loo
 pub use Rattle.krb_keytab.specs.Form.{written_form, fits, IsEntry, IsRecord, read_back, front_of, kept_type}
 pub use Rattle.krb_keytab.specs.Image.{IsKnownEnd, ends, IsChanged, len_with, ending_kind, mark_len, IsPassed, EndsThere}
 pub use Rattle.krb_keytab.specs.Index.{slot_at, IsIndex, IsFit, IsLiveNumber, HasSpare, fit_of}
-pub use Rattle.krb_keytab.specs.Length.{size_of, length_of, HasField, field_of}
-pub use Rattle.krb_keytab.specs.LookUp.{IsFoundAmong, IsFoundUpTo, answer}
-pub use Rattle.krb_keytab.specs.Nodes.{Descends, AreNodesFrom, IsTree, child_with, AreNodes, AreNodesBut}
+pub use Rattle.krb_keytab.specs.LookUp.{IsFoundAmong, answer}
+pub use Rattle.krb_keytab.specs.Nodes.{AreNodesFrom, IsTree, child_with, AreNodes, AreNodesBut}
 pub use Rattle.krb_keytab.specs.Rewrite.{rewrite_of, new_record, rewrite_result}
 pub use Rattle.krb_keytab.specs.Slot.{free_size, slots_from, slot_of, places, IsRank, hole_of_slot, is_free, negated, IsRising, room_of}
 pub use Rattle.krb_keytab.specs.Store.{KeytabState, store_of, end_place, store_cell, image_of, InMemory, entry_at_place, IsImage, store_of_image, entries, store_cells, empty, live_of}

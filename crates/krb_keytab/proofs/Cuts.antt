@@ -10,18 +10,13 @@ cell_len o c = omega (arith, length-append (digits o w32 (length_field c)) (byte
 pub end_place_is : (o : Order) (at : ℕ) (cs : List Cell) → end_place at cs ≡ at + length (flat_map (cell o) cs)
 end_place_is o at [] = omega arith
 end_place_is o at (c ∷ cs) =
-    let ih = end_place_is o (at + (4 + size c)) cs in
     let e : length (flat_map (cell o) (c ∷ cs)) ≡ (4 + size c) + length (flat_map (cell o) cs) = ap length (flat_map-cons (cell o) c cs) ∙ length-append (cell o c) (flat_map (cell o) cs) ∙ ap (λ (n : ℕ). n + length (flat_map (cell o) cs)) (cell_len o c) in
-    omega (arith, ih, e)
+    omega (arith, end_place_is o (at + (4 + size c)) cs, e)
 
 -- the cells of a second list end where those of both do
 pub end_place-append : (at : ℕ) (front back : List Cell) → end_place at (front ++ back) ≡ end_place (end_place at front) back
 end_place-append at [] back = refl
 end_place-append at (c ∷ front) back = end_place-append (at + (4 + size c)) front back
-
-pub all_back : (P : Cell → Type 0) (xs ys : List Cell) → AllByRecursion P (xs ++ ys) → AllByRecursion P ys
-all_back P [] ys h = h
-all_back P (x ∷ xs) ys h = all_back P xs ys h.1
 
 -- each cell takes four places or more
 pub places_for : (cs : List Cell) (at : ℕ) → at + 4 * length cs ≤ end_place at cs

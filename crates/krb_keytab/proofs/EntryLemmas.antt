@@ -1,10 +1,7 @@
 -- An entry that is read is one that the bytes spell, and the only one.
-use Rattle.krb_keytab.proofs.Cited.{◌≡◌, ℕ, suc, ◌^◌, ◌<◌, List, [], ◌∷◌, ◌++◌, Option, Some, None, refl, sym, ap, subst, ◌∙◌, append_assoc, IfSome, w16, w32, KtFormat, order_of, digits, data16, kt_principal, byte_at, ◌>>=◌, Gives, number_at, data16_at, kt_principal_at, IsBytes, bind_some, some_is, Takes, Takes-then, wide16, wide32, number_takes, number_again, data16_takes, data16_again, EntryParts, Front, front, FitsFront, entry_of, Spells, front_at, entry_at}
+use Rattle.krb_keytab.proofs.Cited.{◌≡◌, ℕ, ◌^◌, ◌<◌, List, [], ◌∷◌, ◌++◌, Option, Some, None, refl, sym, ap, subst, ◌∙◌, append_assoc, IfSome, w16, w32, KtFormat, order_of, digits, data16, kt_principal, byte_at, ◌>>=◌, Gives, number_at, data16_at, kt_principal_at, IsBytes, bind_some, some_is, Takes, Takes-then, wide16, wide32, number_takes, number_again, data16_takes, data16_again, EntryParts, Front, front, FitsFront, entry_of, Spells, front_at, entry_at}
 use Rattle.krb_wire.proofs.Principals.{kt_principal_takes, kt_principal_again}
-
-pub byte_takes : (bytes : List ℕ) (x : ℕ × List ℕ) → IsBytes bytes → byte_at bytes ≡ Some x → Takes bytes (x.0 ∷ []) x.1 × (x.0 < 256)
-byte_takes [] x fits e = absurd cc
-byte_takes (b ∷ bs) x fits e = subst (λ (y : ℕ × List ℕ). Takes (b ∷ bs) (y.0 ∷ []) y.1 × (y.0 < 256)) (some_is (b, bs) x e) (record { parts = refl; rest_fits = λ i. fits (suc i) }, fits 0)
+use Rattle.krb_wire.proofs.Fields.{byte_takes}
 
 pub front_takes : (f : KtFormat) (bytes : List ℕ) (x : Front × List ℕ) → IsBytes bytes → front_at f bytes ≡ Some x → Takes bytes (front f x.0) x.1 × FitsFront f x.0
 unfolding front_at

@@ -1,7 +1,13 @@
 -- The entries listed cell by cell are those of the records.
-use Rattle.krb_keytab.proofs.Cited.{◌≡◌, ◌∷◌, ℕ, ◌+◌, [], List, length, map, refl, sym, ap, append_assoc, ◌∙◌, Parts, is_some_has, filter_map, cons_option, KtFormat, Record, standing, record_of, EntryParts, entry_at, Cell, Live, Free, KeytabState, store_cell, CellsFrom, BeginsWith, cells_of, IsFoundAmong, IsFoundUpTo, PlacedEntry, placed_entries}
+use Rattle.krb_keytab.proofs.Cited.{◌≡◌, ◌∷◌, ℕ, ◌+◌, [], List, length, map, refl, sym, ap, append_assoc, ◌∙◌, Parts, is_some_has, filter_map, cons_option, KtFormat, Record, standing, record_of, EntryParts, entry_at, Cell, Live, Free, KeytabState, store_cell, CellsFrom, BeginsWith, cells_of, IsFoundAmong, PlacedEntry, placed_entries}
 use Rattle.std.specs.Prelude.{Option, Some, None, Bool, false, ◌++◌, option_map}
 use Rattle.krb_keytab.specs.Entries.{entries_in}
+
+-- some entries were considered, and those of these cells are still to come
+pub record IsFoundUpTo (name : Parts) (kvno enctype : ℕ) (k : KeytabState) (cells : CellsFrom) (named : Bool) (best : Option PlacedEntry) : Type 0 where
+  pub before : List PlacedEntry
+  pub found : IsFoundAmong name kvno enctype before named best
+  pub all : before ++ entries_in cells.format cells.place cells.contents.cells ≡ placed_entries k
 
 -- the entries of the records of a store's cells
 abbrev record_entries : KtFormat → ℕ → List Cell → List PlacedEntry

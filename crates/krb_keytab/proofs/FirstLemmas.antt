@@ -51,10 +51,9 @@ read_first f bytes rest n l c fits t e is =
     let says : l ≡ length_of_cell c = is ∙ ap (λ (x : ℕ × List ℕ). length_of x.0) same ∙ length_again (length_of_cell c) (cell_has f c t.sound) in
     let as_many : size_of l ≡ size c = ap size_of says ∙ size_is c in
     let is_cell : cell_in l (take (size_of l) rest) ≡ c = ap (λ (b : List ℕ). cell_in l (take (size_of l) b)) behind ∙ cell_of_bytes c l (drop 4 bytes) says t.taken in
-    let within = t.within in
     record {
-      room = omega (arith, as_many, within, ap length behind, length-drop 4 bytes);
-      first = subst (IsFirst f bytes) (sym is_cell) (record { contents = contents_next f bytes (More c (drop (4 + size c) bytes)) fits t.next; sound = t.sound; within = within });
+      room = omega (arith, as_many, t.within, ap length behind, length-drop 4 bytes);
+      first = subst (IsFirst f bytes) (sym is_cell) (record { contents = contents_next f bytes (More c (drop (4 + size c) bytes)) fits t.next; sound = t.sound; within = t.within });
     }
 
 no_number : (f : KtFormat) (n : ℕ) (rest : List ℕ) → number_at (order_of f) w32 [] ≡ Some (n, rest) → ⊥

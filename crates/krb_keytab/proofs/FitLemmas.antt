@@ -2,11 +2,7 @@
 use Rattle.krb_keytab.proofs.Cited.{◌≡◌, ℕ, zero, suc, ◌+◌, ◌-◌, ◌<◌, ◌≤◌, false, List, [], ◌∷◌, ◌++◌, length, map, get_or, replicate, Some, None, refl, sym, ap, subst, ◌∙◌, arith, inl, inr, AllByRecursion, position_from, lt-leb, cases_Bool, KtFormat, Cell, Live, Free, IsCell, hole_from, Slot, free_size, slots_from, slot_of, hole_of_slot, first_fit}
 use Rattle.std.specs.Prelude.{Option, nat_le}
 use Rattle.std.proofs.lemmas.Iterator.Adapters.{position_from-zero}
-use Rattle.krb_keytab.proofs.SlotLemmas.{live_room, hole_size, hole_room}
-
--- the default if there is no slot
-abbrev pub none : Slot
-none = record { place = 0; field = 0 }
+use Rattle.krb_keytab.proofs.SlotLemmas.{none, live_room, hole_size, hole_room}
 
 -- the leaves: those of the cells, and zeros
 abbrev pub leaves_of : List Slot → ℕ → List ℕ
@@ -31,11 +27,9 @@ zeros_small need n (suc spare) some =
 passed : (at next need n : ℕ) (c : Cell) (cs : List Cell) (o : Option ℕ) → hole_from at need (c ∷ cs) ≡ hole_from next need cs → slots_from at (c ∷ cs) ≡ get_or (slots_from at (c ∷ cs)) 0 none ∷ slots_from next cs → Finds next need (n + 1) cs o → Finds at need n (c ∷ cs) o
 passed at next need n c cs None same slots f = same ∙ f
 passed at next need n c cs (Some i) same slots f =
-    let from = f.0 in
-    let to = f.1 in
-    let up : i - n ≡ suc (i - (n + 1)) = omega (arith, from) in (
-      omega (arith, from),
-      omega (arith, to),
+    let up : i - n ≡ suc (i - (n + 1)) = omega (arith, f.0) in (
+      omega (arith, f.0),
+      omega (arith, f.1),
       same ∙ f.2 ∙ sym (ap (λ (m : ℕ). Some (hole_of_slot (get_or (slots_from at (c ∷ cs)) m none))) up ∙ ap (λ (s : List Slot). Some (hole_of_slot (get_or s (suc (i - (n + 1))) none))) slots),
     )
 

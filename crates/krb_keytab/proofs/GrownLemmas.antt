@@ -3,9 +3,10 @@ use Rattle.krb_keytab.proofs.Cited.{◌≡◌, ℕ, ◌+◌, ◌-◌, ◌*◌, �
 use Rattle.std.proofs.Math.Pow.{pow_mono}
 use Rattle.std.proofs.lemmas.Nat.{pow_pos}
 use Rattle.krb_keytab.specs.Cells as cells
-use Rattle.krb_keytab.proofs.ChangeLemmas.{IsKept, image_len, ok_is}
+use Rattle.krb_keytab.proofs.ChangeLemmas.{IsKept, image_len}
 use Rattle.krb_keytab.proofs.Cuts.{end_place-append}
-use Rattle.krb_keytab.proofs.Stores.{whole_of}
+use Rattle.krb_wire.proofs.Fields.{ok_is}
+use Rattle.krb_walk.proofs.Splits.{whole_of}
 
 -- ---- the height of a tree with one leaf more
 
@@ -30,8 +31,7 @@ pub none_so_large : (f : KtFormat) (at need : ℕ) (cs : List Cell) → AllByRec
 none_so_large f at need [] sound lt = refl
 none_so_large f at need (Live b ∷ cs) sound lt = none_so_large f (at + (4 + length b)) need cs sound.1 lt
 none_so_large f at need (Free b ∷ cs) sound lt =
-    let small = sound.0.1 in
-    let large : nat_le need (length b) ≡ false = lt-leb need (length b) (omega (arith, small, lt)) in
+    let large : nat_le need (length b) ≡ false = lt-leb need (length b) (omega (arith, sound.0.1, lt)) in
     rw large (none_so_large f (at + (4 + length b)) need cs sound.1 lt)
 
 -- ---- table and tree with a record more
@@ -55,9 +55,8 @@ appended_index k slots t u bytes i grown small =
     let zeros = replicate {A = ℕ} (2 ^ u.height - (n + 1)) 0 in
     let one : (0 ∷ []) ++ zeros ≡ replicate {A = ℕ} (2 ^ u.height - n) 0 =
     replicate-append-replicate 1 (2 ^ u.height - (n + 1)) 0 ∙ ap (λ (m : ℕ). replicate {A = ℕ} m 0) (omega (arith, grown.height.0)) in
-    let rising = pow_mono {i = t.height} {j = u.height} grown.higher in
     let both : replicate {A = ℕ} (2 ^ t.height - n) 0 ++ replicate {A = ℕ} (2 ^ u.height - 2 ^ t.height) 0 ≡ replicate {A = ℕ} (2 ^ u.height - n) 0 =
-    replicate-append-replicate (2 ^ t.height - n) (2 ^ u.height - 2 ^ t.height) 0 ∙ ap (λ (m : ℕ). replicate {A = ℕ} m 0) (omega (arith, rising, i.height.0)) in
+    replicate-append-replicate (2 ^ t.height - n) (2 ^ u.height - 2 ^ t.height) 0 ∙ ap (λ (m : ℕ). replicate {A = ℕ} m 0) (omega (arith, pow_mono {i = t.height} {j = u.height} grown.higher, i.height.0)) in
     record {
       table = ap (λ (y : List Slot). y ++ (s ∷ [])) i.table ∙ sym (slots_last 2 k.contents.cells (Live bytes));
       sizes = grown.sizes ∙ ap (λ (y : List ℕ). y ++ replicate {A = ℕ} (2 ^ u.height - 2 ^ t.height) 0) i.sizes

@@ -16,11 +16,8 @@ pub placed_len : (at : ℕ) (cs : List Cell) → length (placed_cells at cs) ≡
 placed_len at [] = refl
 placed_len at (c ∷ cs) = ap suc (placed_len (at + (4 + size c)) cs)
 
-pub replaced_len : (at : ℕ) (change : Cell → Cell) (p : ℕ) (cs : List Cell) → length (replaced_at at change p cs) ≡ length cs
-replaced_len at change p cs = length-map (placed_cells at cs) (λ (x : PlacedCell). if x.0 == p then change x.1 else x.1) ∙ placed_len at cs
-
 pub as_many : (f : KtFormat) (old new : List ℕ) (change : Cell → Cell) (p : ℕ) (e : End) (end : CellsEnd) → IsChanged f old new (record { cells = replaced_at 2 change p (contents f (drop 2 old)).cells; end = e }) end → length (contents f (drop 2 new)).cells ≡ length (contents f (drop 2 old)).cells
-as_many f old new change p e end changed = ap (λ (k : Contents). length k.cells) changed.contents ∙ replaced_len 2 change p (contents f (drop 2 old)).cells
+as_many f old new change p e end changed = ap (λ (k : Contents). length k.cells) changed.contents ∙ length-map (placed_cells 2 (contents f (drop 2 old)).cells) (λ (x : PlacedCell). if x.0 == p then change x.1 else x.1) ∙ placed_len 2 (contents f (drop 2 old)).cells
 
 -- a cell ends where the cells do, or before
 pub ends_within : (cs : List Cell) (p : ℕ) (c : Cell) → IsAt cs 2 p c → p + 4 + size c ≤ end_place 2 cs
@@ -38,11 +35,9 @@ pub record IsIn (f : KtFormat) (image : List ℕ) (p : ℕ) (c : Cell) : Type 0 
 pub is_in : (f : KtFormat) (image : List ℕ) (p : ℕ) (c : Cell) (end : CellsEnd) → IsBytes image → IsKnownEnd f image end → IsAt (contents f (drop 2 image)).cells 2 p c → IsIn f image p c
 is_in f image p c end fits known s =
     let cs = (contents f (drop 2 image)).cells in
-    let stops = known.place in
-    let within = known.within in
     let sound = (contents_spelled f (drop 2 image) (IsBytes-drop 2 image fits)).sound in
     record {
-      room = omega (arith, ends_within cs p c s, stops, within);
+      room = omega (arith, ends_within cs p c s, known.place, known.within);
       sound = is_at_sound f cs 2 p c sound.cells s;
     }
 
@@ -102,14 +97,13 @@ hole_by f image n h end (Some x) fits known is e =
     let is_size : size x.1 ≡ h.size = ap (λ (y : Hole). y.size) same in
     let at = hole_is_at (contents f (drop 2 image)).cells 2 n x.0 x.1 is in
     let inside = is_in f image x.0 x.1 end fits known at.is_at in
-    let room = inside.room in
     record {
       cell = x.1;
       is_at = subst (λ (p : ℕ). IsAt (contents f (drop 2 image)).cells 2 p x.1) place at.is_at;
       size_is = is_size;
       large = omega (arith, hole_large n x.1 at.large);
       some = omega (arith, sound_size f x.1 inside.sound);
-      room = omega (arith, room);
+      room = omega (arith, inside.room);
     }
 
 pub hole_in : (f : KtFormat) (image : List ℕ) (n : ℕ) (h : Hole) (end : CellsEnd) → IsBytes image → IsKnownEnd f image end → hole_from 2 n (contents f (drop 2 image)).cells ≡ Some h → HoleIn f image n h
@@ -126,10 +120,9 @@ pub filled_is : (f : KtFormat) (image image' x : List ℕ) (h : Hole) (end : Cel
 filled_is f image image' x h end long small fits fits' known entry hole written =
     let i = hole_in f image (length x) h end fits known hole in
     let old = i.cell in
-    let is_size = i.size_is in
     let large = i.large in
     let some = i.some in
     let room = i.room in
     let len : length (with_zeros x (size old)) ≡ size old = padded_len x (size old) (omega arith) in
     changed_is f image image' (record_in x) old h.place end long fits fits' known i.is_at len (omega arith, omega arith, entry (size old - length x))
-    (written ∙ ap (λ (m : ℕ). splice image h.place (h.place + 4 + m) (cell (order_of f) (Live (with_zeros x m)))) (sym is_size))
+    (written ∙ ap (λ (m : ℕ). splice image h.place (h.place + 4 + m) (cell (order_of f) (Live (with_zeros x m)))) (sym i.size_is))

@@ -37,8 +37,7 @@ bare f image e fits known =
     let k = contents f (drop 2 image) in
     let text = flat_map (cell o) k.cells in
     let spelled = contents_spelled f (drop 2 image) (IsBytes-drop 2 image fits) in
-    let place = known.place in
-    let size : length text ≡ e.place - 2 = omega (arith, place, end_place_is o 2 k.cells) in
+    let size : length text ≡ e.place - 2 = omega (arith, known.place, end_place_is o 2 k.cells) in
     let taken : take (e.place - 2) (drop 2 image) ≡ text ++ [] = ap (take (e.place - 2)) spelled.parts ∙ take_at text (end_bytes o k.end) (e.place - 2) size ∙ sym (append-nil text) in
     let taken_fits : IsBytes (text ++ []) = subst IsBytes taken (IsBytes-take (e.place - 2) (drop 2 image) (IsBytes-drop 2 image fits)) in
     ap (contents f) taken ∙ contents_behind f k.cells [] spelled.sound.cells taken_fits
@@ -53,13 +52,10 @@ all_held : (f : KtFormat) (limit : ℕ) (image : List ℕ) (e : CellsEnd) (k : K
 all_held f limit image e k fits is known of_k =
     let spelled = between 2 e.place image in
     let held = bare f image e fits known in
-    let within = known.within in
-    let short = is.within in
-    let limit_fits = is.limit_fits in
     record {
       holds = record {
         are = are_seen f spelled (IsBytes-take (e.place - 2) (drop 2 image) (IsBytes-drop 2 image fits)) (ap (λ (x : Contents). x.end) held);
-        small = omega (arith, ahead f image e known, within, short, limit_fits, length-take (e.place - 2) (drop 2 image));
+        small = omega (arith, ahead f image e known, known.within, is.within, is.limit_fits, length-take (e.place - 2) (drop 2 image));
       };
       cells = ap (λ (x : Contents). map store_cell x.cells) held ∙ ap (λ (x : KeytabState). (store_of x).cells) of_k;
     }
@@ -101,13 +97,10 @@ held_from f limit image image' rest e k p same fits is known of_k at is_rest =
     let c = cut_held (store_cells f) 2 spelled fault (store_of k) p s.holds store at in
     let holds = holds_from (store_cells f) 2 spelled p s.holds c in
     let after = store_cells f (drop (p - 2) spelled) in
-    let two = c.ahead in
-    let upto = c.within in
-    let within = known.within in
-    let ahead : p ≤ e.place = omega (arith, upto, ahead f image e known, length-take (e.place - 2) (drop 2 image)) in
+    let ahead : p ≤ e.place = omega (arith, c.within, ahead f image e known, length-take (e.place - 2) (drop 2 image)) in
     let from : AreFrom f (length image') e.place (drop (p - 2) spelled) k p = record {
       ahead = ahead;
-      within = omega (arith, within, ap length same);
+      within = omega (arith, known.within, ap length same);
       are = holds.are;
       small = holds.small;
       places = λ q h.
@@ -116,4 +109,4 @@ held_from f limit image image' rest e k p same fits is known of_k at is_rest =
       bytes = (is_from (store_cells f) 2 spelled fault (store_of k) p s.holds store c).bytes;
       all = λ kind first wrong. ap (λ (n : ℕ). record { first = n; cells = store_cells f (drop (n - 2) spelled); fault = kind }) first ∙ ap (λ (x : Option FaultKind). record { first = 2; cells = store_cells f spelled; fault = x }) wrong ∙ store;
     } in
-    subst (λ (b : List ℕ). AreFrom f (length image') e.place b k p) (cut_between image p e.place two ahead ∙ ap (between p e.place) (sym same) ∙ sym is_rest) from
+    subst (λ (b : List ℕ). AreFrom f (length image') e.place b k p) (cut_between image p e.place c.ahead ahead ∙ ap (between p e.place) (sym same) ∙ sym is_rest) from

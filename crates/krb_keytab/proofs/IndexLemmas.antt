@@ -41,9 +41,8 @@ one_height n a b p q = elim (cases_lt a b) [
 fits_by : (k : KeytabState) (need : ℕ) (o : Option ℕ) → Finds 2 need 0 k.contents.cells o → IsFit k need o
 fits_by k need None f = f
 fits_by k need (Some i) f =
-    let inside = f.1 in
     let is : i - 0 ≡ i = omega arith in
-    (omega (arith, inside), rw is at f.2)
+    (omega (arith, f.1), rw is at f.2)
 
 -- what the tree returns
 pub fit_is : (k : KeytabState) (slots : List Slot) (t : SizeTree) (need : ℕ) (o : Option ℕ) → IsIndex k slots t → IsSound k.format k.contents → 0 < need → o ≡ first_fit need t.sizes → IsFit k need o

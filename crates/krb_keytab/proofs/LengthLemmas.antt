@@ -20,8 +20,7 @@ means n l lt is = subst (Means n) is (means_by n (eqb n 0) (ltb n (2 ^ 31)) lt r
 pub length_again : (l : Length) → HasField l → length_of (field_of l) ≡ l
 length_again End has = refl
 length_again (Live n) has =
-    let some = has.0 in
-    let pos : eqb n 0 ≡ false = grind arith in
+    let pos : eqb n 0 ≡ false = grind (arith, has.0) in
     let small : ltb n (2 ^ 31) ≡ true = lt-ltb _ _ has.1 in
     rw (pos, small) refl
 length_again (Free n) has =

@@ -76,8 +76,7 @@ no_greater b y ys le ih =
     rw worse (ih ∙ ap (λ (n : ℕ). with_version n (b ∷ ys)) same ∙ elim (eqb_tells b.1.version m) [
       | inl is ↦ takes m b ys is.0 ∙ sym (takes m b (y ∷ ys) is.0)
       | inr not ↦
-          let ne = not.1 in
-          let no : (y.1.version == m) ≡ false = ne_eqb y.1.version m (λ e. ne (omega (arith, le, e))) in
+          let no : (y.1.version == m) ≡ false = ne_eqb y.1.version m (λ e. not.1 (omega (arith, le, e))) in
           skips m b ys not.0 ∙ sym (skips m y ys no) ∙ sym (skips m b (y ∷ ys) not.0)
     ])
 
@@ -100,9 +99,8 @@ best_found v x xs = elim (eqb_tells v 0) [
       let here : v ≡ 0 = zero_.1 in
       subst (λ (n : ℕ). best_after n None (x ∷ xs) ≡ with_version (selected_version n (x ∷ xs)) (x ∷ xs)) (sym here) (first_greatest x xs)
   | inr some ↦
-      let no = some.0 in
-      let selected : selected_version v (x ∷ xs) ≡ v = ap (λ (b : Bool). cond b (greatest (x ∷ xs)) v) no in
-      first_with v (x ∷ xs) no ∙ ap (λ (n : ℕ). with_version n (x ∷ xs)) (sym selected)
+      let selected : selected_version v (x ∷ xs) ≡ v = ap (λ (b : Bool). cond b (greatest (x ∷ xs)) v) some.0 in
+      first_with v (x ∷ xs) some.0 ∙ ap (λ (n : ℕ). with_version n (x ∷ xs)) (sym selected)
 ]
 
 answer_found : (o : Option PlacedEntry) → answer true o ≡ first_or_missing o

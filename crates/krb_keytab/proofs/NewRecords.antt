@@ -2,8 +2,8 @@
 use Rattle.krb_keytab.proofs.Cited.{◌≡◌, ℕ, ◌+◌, ◌^◌, ◌<◌, List, [], ◌∷◌, ◌++◌, length, map, Option, Some, None, true, refl, sym, ap, ◌∙◌, arith, ◌&&◌, option_map, filter_map, flat_map, cons_option, w16, w32, Order, Big, KtFormat, V2, Parts, count_field, name_fits, is_short, byte_at, number_at, data16_at, kt_principal_at, IsBytes, wide16, wide32, number_takes, data16_takes, lengths_of, lengths_fit, Record, records, EntryParts, entry_at, Spells, cell, KeytabState, store_of, entries, image_of, PlacedEntry, placed_entries, fits, new_record, rewrite_of}
 use Rattle.std.proofs.lemmas.List.{length-map, length-append}
 use Rattle.krb_wire.proofs.Principals.{kt_principal_takes}
-use Rattle.krb_keytab.proofs.EntryLemmas.{byte_takes}
 use Rattle.krb_keytab.proofs.WrittenLemmas.{fits_yes}
+use Rattle.krb_wire.proofs.Fields.{byte_takes}
 
 -- the bytes of the new records of entries
 abbrev pub new_records : List PlacedEntry → List ℕ
@@ -24,8 +24,7 @@ new_records_all k xs is = sym (ap new_records is ∙ ap (λ (es : List EntryPart
 
 pub len_all : (k : KeytabState) (xs : List PlacedEntry) → xs ≡ placed_entries k → 2 + length (new_records xs) ≡ length (image_of (rewrite_of k))
 len_all k xs is =
-    let cells = flat_map (cell Big) (rewrite_of k).contents.cells in
-    omega (arith, ap length (new_records_all k xs is), length-append cells [])
+    omega (arith, ap length (new_records_all k xs is), length-append (flat_map (cell Big) (rewrite_of k).contents.cells) [])
 
 -- there are as many new cells as entries
 pub count_all : (k : KeytabState) (xs : List PlacedEntry) → xs ≡ placed_entries k → length xs ≡ length (rewrite_of k).contents.cells
@@ -45,9 +44,8 @@ name_fits_v2 f p h = let l = lengths_of f p h in lengths_fit V2 p (record { coun
 
 pub fits_v2 : (f : KtFormat) (e : EntryParts) (b : List ℕ) → Spells f e b → fits V2 e ≡ true
 fits_v2 f e b s =
-    let same = s.entry in
-    let name : name_fits V2 e.principal ≡ true = ap (λ (x : EntryParts). name_fits V2 x.principal) same ∙ name_fits_v2 f s.fields.principal s.fit.principal.lengths in
-    let key : e.key ≡ s.fields.key = ap (λ (x : EntryParts). x.key) same in
+    let name : name_fits V2 e.principal ≡ true = ap (λ (x : EntryParts). name_fits V2 x.principal) s.entry ∙ name_fits_v2 f s.fields.principal s.fit.principal.lengths in
+    let key : e.key ≡ s.fields.key = ap (λ (x : EntryParts). x.key) s.entry in
     sym (fits_yes V2 e name (omega (arith, s.fit.key, ap length key)))
 
 -- what is read part by part fits it

@@ -1,9 +1,17 @@
 -- What holds of the nodes of a tree.
-use Rattle.krb_keytab.proofs.Cited.{◌≡◌, ℕ, zero, suc, ◌+◌, ◌-◌, ◌*◌, ◌^◌, ◌<◌, ◌≤◌, true, false, List, length, drop, get_or, refl, sym, ap, subst, ◌∙◌, arith, inl, inr, cases_lt, lt-ltb, le-ltb, lt-leb, le-leb, leb_tells, get_or-drop, length-drop, pow-suc, pow-succ', mul-le-mul_left, AreNodes, IsTree, Descends, child_with, first_fit}
+use Rattle.krb_keytab.proofs.Cited.{◌≡◌, ℕ, zero, suc, ◌+◌, ◌-◌, ◌*◌, ◌^◌, ◌<◌, ◌≤◌, true, false, List, length, drop, get_or, refl, sym, ap, subst, ◌∙◌, arith, inl, inr, cases_lt, lt-ltb, le-ltb, lt-leb, le-leb, leb_tells, get_or-drop, length-drop, pow-suc, pow-succ', mul-le-mul_left, AreNodes, IsTree, child_with, first_fit}
 use Rattle.std.specs.Prelude.{nat_le, slice_index, Some, None}
 use Rattle.std.proofs.lemmas.List.Sums.{position_or_len_is}
 use Rattle.std.proofs.lemmas.Nat.{pow_pos, pow-add}
 use Rattle.std.proofs.Math.Pow.{pow_mono}
+
+-- after this many levels a descent is at a node of the next: a leaf under it is large enough, and no leaf before those under it is
+pub record Descends (height : ℕ) (nodes : List ℕ) (need level node : ℕ) : Type 0 where
+  pub low : level ≤ height
+  pub from : 2 ^ level ≤ node
+  pub to : node < 2 * 2 ^ level
+  pub fits : need ≤ slice_index nodes node
+  pub before : (i rest : ℕ) → rest + level ≡ height → 2 ^ height ≤ i → i < node * 2 ^ rest → slice_index nodes i < need
 
 -- ---- numbers of nodes
 
@@ -46,8 +54,7 @@ under nodes leaves inner (suc k) i j some room low high =
 pub has_children : (height : ℕ) (nodes : List ℕ) (need level node : ℕ) → IsTree height nodes → Descends height nodes need level node → level < height → (0 < node) × (node < 2 ^ height)
 has_children height nodes need level node tree is_at lt =
     let lower : 2 ^ suc level ≤ 2 ^ height = pow_mono (omega arith) in
-    let p = pow-suc 2 level in
-    (omega (arith, pow_pos level, is_at.from), omega (arith, lower, p, is_at.to))
+    (omega (arith, pow_pos level, is_at.from), omega (arith, lower, pow-suc 2 level, is_at.to))
 
 -- it starts at the root
 pub descends_from_root : (height : ℕ) (nodes : List ℕ) (need : ℕ) → need ≤ slice_index nodes 1 → Descends height nodes need 0 1
@@ -68,8 +75,7 @@ before_left height nodes need level node is_at i rest e low high =
 room_under : (n s l h : ℕ) → n < 2 * l → 2 * s * l ≡ h → 2 * n * s + s ≤ 2 * h
 room_under n s l h lt e =
     let m : n + 1 ≤ 2 * l = omega arith in
-    let more = mul-le-mul_left s m in
-    omega (arith, more, e)
+    omega (arith, mul-le-mul_left s m, e)
 
 descends_right : (height : ℕ) (nodes : List ℕ) (need level node : ℕ) → IsTree height nodes → Descends height nodes need level node → level < height → slice_index nodes (2 * node) < need → Descends height nodes need (suc level) (2 * node + 1)
 descends_right height nodes need level node tree is_at lt small =

@@ -49,12 +49,11 @@ place_by_rank at (c ∷ cs) p zero r =
     elim (eqb_tells at p) [
       | inl y ↦ rw (y.0) refl
       | inr n ↦
-          let no = n.0 in
           let none : is_place_from (at + (4 + size c)) (map store_cell cs) p ≡ false = elim (cases_Bool (is_place_from (at + (4 + size c)) (map store_cell cs) p)) [
             | inl y ↦ absurd (omega (arith, le, place_ge (at + (4 + size c)) (map store_cell cs) p y))
             | inr n2 ↦ n2
           ] in
-          rw no none
+          rw n.0 none
     ]
 place_by_rank at (c ∷ cs) p (suc rank) r =
     let lt : at < p = r.below 0 (omega arith) in

@@ -2,16 +2,9 @@
 use Rattle.krb_keytab.proofs.Cited.{◌≡◌, ℕ, ◌+◌, ◌<◌, ◌≤◌, true, false, eqb, List, [], ◌∷◌, ◌++◌, length, map, take, drop, Some, refl, sym, ap, subst, ◌∙◌, append_assoc, length-append, arith, inl, inr, flat_map, splice, AllByRecursion, eq-eqb, ne_eqb, eqb_tells, take_at, drop_at, take-append-drop, length-take, drop-drop, flat_map-cons, Order, KtFormat, order_of, IsBytes, IsBytes-drop, some_is, record_of_some, bytes_of_some, bytes_from, end_from-ge, CellsEnd, Cell, Live, Free, End, Contents, cell, end_bytes, spelling, contents, IsCell, IsSound, size, ends, IsKnownEnd, IsChanged, store_cell, end_place, PlacedCell, replaced_at, is_hole, first_hole}
 use Rattle.std.proofs.lemmas.Grind.{flat_map-append}
 use Rattle.krb_keytab.proofs.CellLemmas.{chosen, contents_spelled, contents_again}
-use Rattle.krb_keytab.proofs.Cuts.{cell_len, end_place_is, end_place-append, all_back}
+use Rattle.krb_keytab.proofs.Cuts.{cell_len, end_place_is, end_place-append}
 use Rattle.krb_keytab.proofs.Splices.{splice-len, splice-behind}
-
-pub all_front : (P : Cell → Type 0) (xs ys : List Cell) → AllByRecursion P (xs ++ ys) → AllByRecursion P xs
-all_front P [] ys h = tt
-all_front P (x ∷ xs) ys h = (h.0, all_front P xs ys h.1)
-
-pub all_join : (P : Cell → Type 0) (xs ys : List Cell) → AllByRecursion P xs → AllByRecursion P ys → AllByRecursion P (xs ++ ys)
-all_join P [] ys h k = k
-all_join P (x ∷ xs) ys h k = (h.0, all_join P xs ys h.1 k)
+use Rattle.krb_wire.proofs.Lists.{all_front, all_back, all_join}
 
 -- ---- where a cell is
 
@@ -128,10 +121,9 @@ replaced_bytes f image front back old new e p r fits =
 known_kept : (f : KtFormat) (image image' : List ℕ) (e : CellsEnd) → IsKnownEnd f image e → end_place 2 (contents f (drop 2 image')).cells ≡ end_place 2 (contents f (drop 2 image)).cells
     → (contents f (drop 2 image')).end ≡ (contents f (drop 2 image)).end → length image' ≡ length image → drop e.place image' ≡ drop e.place image → IsKnownEnd f image' e
 known_kept f image image' e known place end len tail =
-    let within = known.within in
     record {
       place = place ∙ known.place;
-      within = omega (arith, within, len);
+      within = omega (arith, known.within, len);
       same = end ∙ known.same ∙ ap (λ (b : List ℕ). (contents f b).end) (sym tail);
       ending = ap (contents f) tail ∙ known.ending ∙ ap (λ (b : List ℕ). record { cells = []; end = ends b e.ending }) (sym tail);
     }
@@ -151,22 +143,19 @@ replaced f image image' front back old new e p end r fits fits' known written =
     let cells : AllByRecursion (IsCell f) (front ++ (new ∷ back)) = all_join (IsCell f) front (new ∷ back) (all_front (IsCell f) front (old ∷ back) sound.cells) (r.sound, (all_back (IsCell f) front (old ∷ back) sound.cells).1) in
     let fits_k : IsBytes (spelling o k) = subst IsBytes body (IsBytes-drop 2 image' fits') in
     let is : contents f (drop 2 image') ≡ k = ap (contents f) body ∙ contents_again f k (record { cells = cells; end = sound.end }) fits_k in
-    let was = r.before in
     let at : p ≡ end_place 2 front = r.place in
     let behind : end_place 2 (front ++ (old ∷ back)) ≡ end_place (p + (4 + size old)) back = end_place-append 2 front (old ∷ back) ∙ ap (λ (n : ℕ). end_place (n + (4 + size old)) back) (sym at) in
     let behind' : end_place 2 (front ++ (new ∷ back)) ≡ end_place (p + (4 + size old)) back = end_place-append 2 front (new ∷ back) ∙ ap (λ (n : ℕ). end_place (n + (4 + size new)) back) (sym at) ∙ ap (λ (n : ℕ). end_place (p + (4 + n)) back) r.same_size in
-    let stops : end.place ≡ end_place (p + (4 + size old)) back = sym known.place ∙ ap (λ (x : Contents). end_place 2 x.cells) was ∙ behind in
-    let within = known.within in
+    let stops : end.place ≡ end_place (p + (4 + size old)) back = sym known.place ∙ ap (λ (x : Contents). end_place 2 x.cells) r.before ∙ behind in
     let last = end_from-ge (p + (4 + size old)) (map store_cell back) in
-    let room : p + 4 + size old ≤ length image = omega (arith, stops, last, within) in
-    let same_len = r.same_size in
-    let new_len : length (cell o new) ≡ 4 + size old = omega (arith, cell_len o new, same_len) in
+    let room : p + 4 + size old ≤ length image = omega (arith, stops, last, known.within) in
+    let new_len : length (cell o new) ≡ 4 + size old = omega (arith, cell_len o new, r.same_size) in
     record {
       head = ap (take 2) bytes ∙ take_at (take 2 image) (spelling o k) 2 two;
       contents = is;
       known = known_kept f image image' end known
-          (ap (λ (x : Contents). end_place 2 x.cells) is ∙ behind' ∙ sym (ap (λ (x : Contents). end_place 2 x.cells) was ∙ behind))
-          (ap (λ (x : Contents). x.end) is ∙ sym (ap (λ (x : Contents). x.end) was))
+          (ap (λ (x : Contents). end_place 2 x.cells) is ∙ behind' ∙ sym (ap (λ (x : Contents). end_place 2 x.cells) r.before ∙ behind))
+          (ap (λ (x : Contents). x.end) is ∙ sym (ap (λ (x : Contents). x.end) r.before))
           (ap length written ∙ splice-len image (cell o new) p (p + 4 + size old) room (omega (arith, new_len)))
           (ap (drop end.place) written ∙ splice-behind image (cell o new) p (p + 4 + size old) end.place (omega arith) (omega (arith, new_len)) (omega (arith, stops, last)));
     }

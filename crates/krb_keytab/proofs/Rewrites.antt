@@ -1,17 +1,18 @@
 -- A rewritten keytab, as a store.
-use Rattle.krb_keytab.proofs.Cited.{◌≡◌, ℕ, suc, ◌+◌, ◌^◌, ◌<◌, ◌≤◌, Bool, true, false, cond, List, [], ◌∷◌, ◌++◌, length, map, drop, Option, Some, None, Result, Ok, Err, refl, sym, ap, subst, ◌∙◌, append_assoc, length-append, arith, is_some, nat_lt, ◌==◌, w32, filter_map, flat_map, cons_option, AllByRecursion, append-nil, take_at, flat_map-cons, Order, Big, KtFormat, V1, V2, order_of, digits, HasNameType, number_at, IsBytes, IsBytes-drop, IsBytes-take, is_some_has, wide32, number_takes, Rewrites, records_of, EntryParts, entry_at, front, entry_of, Spells, version_by, Cell, Live, Free, Bare, Contents, bytes_of, length_field, cell, end_bytes, contents, IsCell, IsSound, KeytabState, store_cell, store_of, end_place, image_of, entries, written_form, fits, IsEntry, new_record, rewrite_of, rewrite_result, IsKnownEnd, drop_of_length-le}
+use Rattle.krb_keytab.proofs.Cited.{◌≡◌, ℕ, suc, ◌+◌, ◌^◌, ◌<◌, ◌≤◌, Bool, true, false, cond, List, [], ◌∷◌, ◌++◌, length, map, drop, Option, Some, None, Result, Ok, Err, refl, sym, ap, subst, ◌∙◌, append_assoc, length-append, arith, is_some, nat_lt, ◌==◌, w32, filter_map, flat_map, cons_option, AllByRecursion, append-nil, flat_map-cons, Order, Big, KtFormat, V1, V2, order_of, digits, HasNameType, number_at, IsBytes, IsBytes-drop, is_some_has, wide32, number_takes, Rewrites, records_of, EntryParts, entry_at, front, entry_of, Spells, version_by, Cell, Live, Free, Bare, Contents, bytes_of, length_field, cell, end_bytes, contents, IsCell, IsSound, KeytabState, store_cell, store_of, end_place, image_of, entries, written_form, fits, IsEntry, new_record, rewrite_of, rewrite_result, IsKnownEnd, drop_of_length-le}
 use Rattle.krb_walk.specs.declared.refusal.Code.{Code}
 use Rattle.krb_walk.specs.declared.refusal.Code.TheVariants as code
 use Rattle.krb_walk.specs.Store.{Cell as StoreCell, fault_of}
 use Rattle.krb_walk.proofs.Lives.{lives}
 use Rattle.krb_keytab.specs.declared.image.Ending.TheVariants as ending
-use Rattle.krb_keytab.proofs.CellLemmas.{IsBytes-back, contents_again}
+use Rattle.krb_keytab.proofs.CellLemmas.{contents_again}
 use Rattle.krb_keytab.proofs.ImageChanges.{contents_none}
 use Rattle.krb_keytab.proofs.Cuts.{cell_len, end_place_is, store_sound}
 use Rattle.krb_keytab.proofs.EntryLemmas.{entry_spelled, entry_again}
 use Rattle.krb_keytab.proofs.WrittenLemmas.{written_spells, written_len}
 use Rattle.krb_keytab.proofs.Stores.{keytab_of}
 use Rattle.krb_keytab.proofs.NewRecords.{fits_v2}
+use Rattle.krb_wire.proofs.Fields.{IsBytes-front, IsBytes-back}
 
 -- ---- the entries of cells
 
@@ -63,18 +64,14 @@ version_fits_by : (low : ℕ) (read : Option (ℕ × List ℕ)) → low < 256 �
 version_fits_by low None lt h = omega arith
 version_fits_by low (Some n) lt h = one_below (n.0 == 0) low n.0 lt (h n refl)
 
-IsBytes-front : (a b : List ℕ) → IsBytes (a ++ b) → IsBytes a
-IsBytes-front a b fits = subst IsBytes (take_at a b (length a) refl) (IsBytes-take (length a) (a ++ b) fits)
-
 is_entry : (f : KtFormat) (e : EntryParts) (b : List ℕ) → IsBytes b → Spells f e b → IsEntry e
 is_entry f e b fits s =
-    let same = s.entry in
     let o = order_of f in
     let tail_fits : IsBytes s.tail = IsBytes-back (front f s.fields) s.tail (subst IsBytes s.parts fits) in
     let version : version_by s.fields.low_version (number_at o w32 s.tail) < 2 ^ 32 =
     version_fits_by s.fields.low_version (number_at o w32 s.tail) s.fit.low_version (λ n got. (number_takes o w32 (2 ^ 32) (wide32 o) s.tail n.0 n.1 tail_fits got).1) in
     let made : IsEntry (entry_of f s.fields s.tail) = record { name_type = type_fits f s.fields.principal.name_type s.fit.principal.name_type; timestamp = s.fit.timestamp; version = version; enctype = s.fit.enctype } in
-    subst IsEntry (sym same) made
+    subst IsEntry (sym s.entry) made
 
 -- what is written for it is a record, and is read back as it
 pub record GivesBack (e : EntryParts) : Type 0 where

@@ -19,7 +19,8 @@ partitioned_by_place slots p rising i j d le lt h =
       | inr same ↦ let is : i ≡ j = omega arith in subst (λ (k : ℕ). nat_lt (get_or slots k d).place p ≡ true) (sym is) h
     ]
 
-none : Slot
+-- the default if there is no slot
+abbrev pub none : Slot
 none = record { place = 0; field = 0 }
 
 -- the partition point is the rank

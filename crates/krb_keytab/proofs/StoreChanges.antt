@@ -15,7 +15,7 @@ use Rattle.krb_keytab.proofs.AfterChanges.{added_reads, put_gives, cut_gives, re
 use Rattle.krb_keytab.proofs.Cuts.{store_sound}
 use Rattle.krb_keytab.proofs.ImageChanges.{padded_len}
 use Rattle.krb_keytab.proofs.Replacements.{IsAt, live_is_at, hole_is_at, replaced_cells}
-use Rattle.krb_keytab.proofs.Stores.{whole_of}
+use Rattle.krb_walk.proofs.Splits.{whole_of}
 
 -- replacing one cell changes one cell of the store
 replaced_cell : (k : KeytabState) (change : Cell → Cell) (p : ℕ) (c : Cell) → IsAt k.contents.cells 2 p c

@@ -1,7 +1,6 @@
 -- The store of a keytab, by the fields in which it is kept.
-use Rattle.krb_keytab.proofs.Cited.{◌≡◌, ℕ, ◌<◌, ◌^◌, List, length, drop, Option, Some, None, false, refl, sym, ap, subst, ◌∙◌, arith, is_some, IsSome, IfNone, KtFormat, Gives, place_first, CellsEnd, Ending, entry_at, Live, contents, IsSound, kind_of, ends, ending_kind, IsKnownEnd, CellsFrom, AreKnown, cells_of, KeytabState, InMemory, IsImage, store_of_image, store_of}
-use Rattle.krb_walk.specs.declared.fault.FaultKind.{FaultKind}
-use Rattle.krb_walk.specs.Store.{end_of, fault_from, live_bytes as store_bytes, IsPlace}
+use Rattle.krb_keytab.proofs.Cited.{◌≡◌, ℕ, ◌<◌, ◌^◌, List, length, drop, Option, Some, None, refl, sym, ap, subst, ◌∙◌, arith, IsSome, IfNone, KtFormat, Gives, place_first, CellsEnd, Ending, entry_at, Live, contents, IsSound, kind_of, ends, ending_kind, IsKnownEnd, CellsFrom, AreKnown, cells_of, KeytabState, InMemory, IsImage, store_of_image, store_of}
+use Rattle.krb_walk.specs.Store.{end_of, live_bytes as store_bytes, IsPlace}
 use Rattle.krb_keytab.specs.declared.image.Ending.TheVariants as ending
 use Rattle.krb_keytab.proofs.Cuts.{places_for}
 use Rattle.krb_keytab.proofs.Replacements.{live_is_at, is_at_sound}
@@ -23,11 +22,6 @@ first_is_place k p first = rw first (place_first (store_of k))
 pub end_held : (f : KtFormat) (limit : ℕ) (image : List ℕ) (k : KeytabState) (e : CellsEnd) → IsKnownEnd f image e → keytab_of f limit image ≡ k → e.place ≡ end_of (store_of k)
 end_held f limit image k e known is = sym known.place ∙ ap (λ (x : KeytabState). end_of (store_of x)) is
 
--- there is no fault if none is reported
-pub whole_of : (place : ℕ) (kind : Option FaultKind) → is_some (fault_from place kind) ≡ false → kind ≡ None
-whole_of place None h = refl
-whole_of place (Some kind) h = absurd cc
-
 pub kind_ends : (bytes : List ℕ) (e : Ending) → kind_of (ends bytes e) ≡ ending_kind e
 kind_ends bytes ending.Bare = refl
 kind_ends bytes ending.Mark = refl
@@ -39,20 +33,13 @@ live_held f limit image bytes k p same is =
 
 pub few_cells : (f : KtFormat) (limit : ℕ) (image : List ℕ) (e : CellsEnd) (count : ℕ) → IsImage f limit image → IsKnownEnd f image e → count ≡ length (contents f (drop 2 image)).cells → count < 2 ^ 30
 few_cells f limit image e count is known counted =
-    let short = is.within in
-    let fits = is.limit_fits in
-    let place = known.place in
-    let within = known.within in
-    omega (arith, short, fits, place, within, places_for (contents f (drop 2 image)).cells 2, counted)
+    omega (arith, is.within, is.limit_fits, known.place, known.within, places_for (contents f (drop 2 image)).cells 2, counted)
 
 -- ---- the cells of a keytab
 
 pub known_held : (f : KtFormat) (limit : ℕ) (image bytes : List ℕ) (e : CellsEnd) → bytes ≡ image → IsImage f limit image → IsKnownEnd f image e → AreKnown f bytes 2 e
 known_held f limit image bytes e same is known =
-    let long = is.long in
-    let within = is.within in
-    let fits = is.limit_fits in
-    subst (λ (b : List ℕ). AreKnown f b 2 e) (sym same) (record { within = long; small = omega (arith, within, fits); ends = known })
+    subst (λ (b : List ℕ). AreKnown f b 2 e) (sym same) (record { within = is.long; small = omega (arith, is.within, is.limit_fits); ends = known })
 
 pub cells_held : (f : KtFormat) (limit : ℕ) (image bytes : List ℕ) (k : KeytabState) → bytes ≡ image → keytab_of f limit image ≡ k → ◌≡◌ {A = CellsFrom} (record { format = f; place = 2; contents = contents f (drop 2 bytes) }) (cells_of k)
 cells_held f limit image bytes k same is = ap (λ (b : List ℕ). cells_of (keytab_of f limit b)) same ∙ ap (λ (x : KeytabState). cells_of x) is

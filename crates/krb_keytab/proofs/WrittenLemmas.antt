@@ -24,12 +24,11 @@ data16_len o c = omega (arith, length-append (digits o w16 (length c)) c, (wide1
 pub written_len : (f : KtFormat) (e : EntryParts) → length (written_form f e) ≡ length (kt_principal f e.principal) + 13 + length e.key
 written_len f e =
     let o = order_of f in
-    let d0 = kt_principal f e.principal in
     let d1 = digits o w32 e.timestamp in
     let d3 = digits o w16 e.enctype in
     let d4 = data16 o e.key in
     let d5 = digits o w32 e.version in
-    omega (arith, length-append (front f (front_of e)) d5, length-append d0 (d1 ++ ((e.version % 256) ∷ (d3 ++ d4))), length-append d1 ((e.version % 256) ∷ (d3 ++ d4)), length-append d3 d4, data16_len o e.key, (wide32 o).len e.timestamp, (wide16 o).len e.enctype, (wide32 o).len e.version)
+    omega (arith, length-append (front f (front_of e)) d5, length-append (kt_principal f e.principal) (d1 ++ ((e.version % 256) ∷ (d3 ++ d4))), length-append d1 ((e.version % 256) ∷ (d3 ++ d4)), length-append d3 d4, data16_len o e.key, (wide32 o).len e.timestamp, (wide16 o).len e.enctype, (wide32 o).len e.version)
 
 -- ---- that it is read again
 

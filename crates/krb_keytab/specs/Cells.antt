@@ -1,5 +1,5 @@
 -- A keytab as a list of cells and an end, and the bytes that spell it (MIT krb5, "Keytab file format").
-use Rattle.std.specs.Prelude.{◌≡◌, ℕ, ◌<◌, ◌≤◌, ◌^◌, List, [], ◌∷◌, ◌++◌, length, take, drop, Option, Some, None, IsSome, is_some, nat_lt, if◌then◌else◌}
+use Rattle.std.specs.Prelude.{◌≡◌, ℕ, ◌<◌, ◌≤◌, ◌^◌, List, [], ◌∷◌, ◌++◌, length, take, drop, Option, Some, None, IsSome, is_some, nat_lt, if◌then◌else◌, ◌-◌, ◌==◌}
 use Rattle.std.specs.List.{flat_map, AllByRecursion}
 use Rattle.std.specs.Int.{w32}
 use Rattle.krb_wire.specs.declared.format.Order.{Order}
@@ -12,7 +12,32 @@ use Rattle.krb_cells.specs.Contents.{NextCell, More, NoMore, Format, Contents as
 use Rattle.krb_keytab.specs.declared.length.Length.{Length}
 use Rattle.krb_keytab.specs.declared.length.Length.TheVariants as says
 use Rattle.krb_keytab.specs.Entry.{entry_at}
-use Rattle.krb_keytab.specs.Length.{length_of, field_of}
+
+-- ---- the length before each cell
+
+-- what a field says: 0 is the end, a number below 2 ^ 31 the size of a record, any other that of a hole in two's complement
+abbrev pub length_of : ℕ → Length
+length_of n = if n == 0 then says.End else (if nat_lt n (2 ^ 31) then says.Live n else says.Free (2 ^ 32 - n))
+
+-- the field that says it
+abbrev pub field_of : Length → ℕ
+field_of says.End = 0
+field_of (says.Live n) = n
+field_of (says.Free n) = 2 ^ 32 - n
+
+-- how many bytes the cell has after it
+abbrev pub size_of : Length → ℕ
+size_of says.End = 0
+size_of (says.Live n) = n
+size_of (says.Free n) = n
+
+-- a field says this length and no other: a cell is not empty, and its size is in 31 bits, or 2 ^ 31 for a hole
+abbrev pub HasField : Length → Type 0
+HasField says.End = Unit {0}
+HasField (says.Live n) = (0 < n) × (n < 2 ^ 31)
+HasField (says.Free n) = (0 < n) × (n ≤ 2 ^ 31)
+
+-- ---- cells
 
 -- a cell: a record, whose bytes begin with an entry, or a hole
 pub data Cell : Type 0 where

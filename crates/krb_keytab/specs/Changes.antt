@@ -1,16 +1,18 @@
 -- Adding an entry to a keytab, and removing one. A keytab is a store for walks, `store_of`; `put_result` is the result of an addition, `cut_result` that of a removal.
-use Rattle.std.specs.Prelude.{ℕ, ◌+◌, ◌-◌, List, [], ◌∷◌, ◌++◌, length, map, find, replicate, Option, Some, None, is_some, Result, Ok, Err, Bool, true, false, ◌||◌, nat_lt, nat_le, ◌==◌, if◌then◌else◌, option_map, ◌≡◌}
+use Rattle.std.specs.Prelude.{ℕ, ◌+◌, ◌-◌, List, [], ◌∷◌, ◌++◌, length, map, find, replicate, Option, Some, None, is_some, Result, Ok, Err, Bool, true, false, ◌||◌, nat_lt, nat_le, ◌==◌, if◌then◌else◌, option_map, ◌≡◌, ◌<◌, ◌≤◌}
 use Rattle.krb_wire.specs.Spelling.{Parts}
 use Rattle.krb_walk.specs.declared.refusal.Code.{Code}
 use Rattle.krb_walk.specs.Events.{cut_store}
 use Rattle.krb_walk.specs.Store.{end_of, fault_of, live_bytes}
 use Rattle.krb_keytab.specs.Entry.{EntryParts}
 use Rattle.krb_keytab.specs.Cells.{Cell, Live, Free, End, Bare, Mark, Damaged, size}
-use Rattle.krb_keytab.specs.Store.{KeytabState, image_of, store_of}
+use Rattle.krb_keytab.specs.Store.{KeytabState, image_of, store_of, InMemory}
 use Rattle.krb_keytab.specs.Find.{PlacedEntry, find_result}
-use Rattle.krb_keytab.specs.Form.{fits, written_form}
+use Rattle.krb_keytab.specs.Form.{fits, written_form, FormParts}
 use Rattle.krb_keytab.specs.declared.cells.Hole.{Hole}
 use Rattle.krb_walk.specs.declared.refusal.Code.TheVariants as code
+use Rattle.krb_walk.specs.declared.refusal.Refusal.{Refusal}
+use Rattle.krb_walk.specs.declared.refusal.Refusal.TheVariants.{Code as ByCode, NoMemory}
 
 -- the place of a cell, and the cell
 abbrev pub PlacedCell : Type 0
@@ -133,3 +135,25 @@ takes_none k e =
     is_refused (put_result k e)
     || is_some (first_hole 2 (length (written_form k.format e)) k.contents.cells)
     || nat_le (length (image_of (with_last k (written_form k.format e)))) (length (image_of k))
+
+-- ---- an addition after the cells: for private contracts alone
+
+-- it returned its result, or that it is out of memory, which is only if the image becomes longer
+abbrev pub AnswersAppend : KeytabState → List ℕ → Result ℕ Refusal → KeytabState → Type 0
+AnswersAppend k bytes (Ok place) new = append_result k bytes ≡ Ok (place, new)
+AnswersAppend k bytes (Err (ByCode refused)) new = (append_result k bytes ≡ Err refused) × (new ≡ k)
+AnswersAppend k bytes (Err NoMemory) new =
+    (append_result k bytes ≡ Ok (end_of (store_of k), with_last k bytes)) × (length (image_of k) < length (image_of (with_last k bytes))) × (new ≡ k)
+
+-- its room is kept if it is refused, and if the image becomes no longer
+abbrev pub KeepsRoom : InMemory → List ℕ → Result ℕ Refusal → InMemory → Type 0
+KeepsRoom k bytes (Ok place) new = length (image_of (with_last k.state bytes)) ≤ length (image_of k.state) → new.room ≡ k.room
+KeepsRoom k bytes (Err (ByCode refused)) new = new.room ≡ k.room
+KeepsRoom k bytes (Err NoMemory) new = Unit {0}
+
+-- a written form is that of an entry that a keytab takes if it has room
+pub record IsFormOf (k : KeytabState) (e : EntryParts) (w : FormParts) : Type 0 where
+  pub whole : fault_of (store_of k) ≡ None
+  pub fits : fits k.format e ≡ true
+  pub format : w.format ≡ k.format
+  pub bytes : w.bytes ≡ written_form k.format e

@@ -5,8 +5,7 @@ use Rattle.krb_walk.specs.declared.fault.FaultKind.{FaultKind}
 use Rattle.krb_keytab.specs.declared.length.Length.{Length}
 use Rattle.krb_keytab.specs.declared.image.Ending.{Ending}
 use Rattle.krb_cells.specs.Contents.{NextCell, More, NoMore}
-use Rattle.krb_keytab.specs.Length.{size_of}
-use Rattle.krb_keytab.specs.Cells.{Cell, End, Bare, Mark, Damaged, cell_in, contents, Contents}
+use Rattle.krb_keytab.specs.Cells.{Cell, End, Bare, Mark, Damaged, cell_in, contents, Contents, size_of}
 use Rattle.krb_keytab.specs.Store.{end_place}
 use Rattle.krb_keytab.specs.declared.image.CellsEnd.{CellsEnd}
 use Rattle.krb_keytab.specs.declared.image.Ending.TheVariants as ending

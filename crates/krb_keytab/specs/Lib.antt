@@ -1,6 +1,5 @@
 -- The definitions that the contracts of this crate use.
 pub mod Entry
-pub mod Length
 pub mod Cells
 pub mod Store
 pub mod Find
@@ -17,5 +16,4 @@ pub mod Index
 pub mod Image
 pub mod CellViews
 pub mod LookUp
-pub mod Append
 pub mod Nodes

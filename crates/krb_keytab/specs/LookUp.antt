@@ -3,10 +3,7 @@ use Rattle.std.specs.Prelude.{◌≡◌, ℕ, List, ◌++◌, Bool, true, false,
 use Rattle.krb_wire.specs.Spelling.{Parts}
 use Rattle.krb_walk.specs.declared.refusal.Code.{Code}
 use Rattle.krb_walk.specs.declared.refusal.Code.TheVariants.{NotFound, KvnoNotFound}
-use Rattle.krb_keytab.specs.Find.{PlacedEntry, placed_entries, is_match, look_up_in}
-use Rattle.krb_keytab.specs.Store.{KeytabState}
-use Rattle.krb_keytab.specs.Entries.{entries_in}
-use Rattle.krb_keytab.specs.CellViews.{CellsFrom}
+use Rattle.krb_keytab.specs.Find.{PlacedEntry, is_match, look_up_in}
 use Rattle.std.specs.Str.{bytes_eq}
 use Rattle.krb_wire.specs.declared.format.Order.{Order}
 use Rattle.krb_wire.specs.Reading.{data16_at}
@@ -24,12 +21,6 @@ answer false None = Err NotFound
 -- it is the result of the look-up among these entries
 abbrev pub IsFoundAmong : Parts → ℕ → ℕ → List PlacedEntry → Bool → Option PlacedEntry → Type 0
 IsFoundAmong name kvno enctype xs named best = answer named best ≡ look_up_in kvno (filter (is_match name enctype) xs)
-
--- some entries were considered, and those of these cells are still to come
-pub record IsFoundUpTo (name : Parts) (kvno enctype : ℕ) (k : KeytabState) (cells : CellsFrom) (named : Bool) (best : Option PlacedEntry) : Type 0 where
-  pub before : List PlacedEntry
-  pub found : IsFoundAmong name kvno enctype before named best
-  pub all : before ++ entries_in cells.format cells.place cells.contents.cells ≡ placed_entries k
 
 -- ---- components compared with those that bytes begin with, one by one
 

@@ -26,11 +26,3 @@ pub record IsTree (height : ℕ) (nodes : List ℕ) : Type 0 where
 -- the first child of a node that has at least this size, if one has it
 abbrev pub child_with : ℕ → ℕ → List ℕ → ℕ
 child_with need i nodes = if nat_le need (slice_index nodes (2 * i)) then 2 * i else 2 * i + 1
-
--- after this many levels a descent is at a node of the next: a leaf under it is large enough, and no leaf before those under it is
-pub record Descends (height : ℕ) (nodes : List ℕ) (need level node : ℕ) : Type 0 where
-  pub low : level ≤ height
-  pub from : 2 ^ level ≤ node
-  pub to : node < 2 * 2 ^ level
-  pub fits : need ≤ slice_index nodes node
-  pub before : (i rest : ℕ) → rest + level ≡ height → 2 ^ height ≤ i → i < node * 2 ^ rest → slice_index nodes i < need

@@ -3,8 +3,7 @@ use Rattle.std.specs.Prelude.{ℕ, ◌-◌, ◌^◌, ◌<◌, ◌≤◌, Bool, t
 use Rattle.krb_keytab.specs.declared.cells.Hole.{Hole}
 use Rattle.krb_keytab.specs.declared.length.Length.{Length}
 use Rattle.krb_keytab.specs.declared.length.Length.TheVariants as says
-use Rattle.krb_keytab.specs.Length.{length_of, size_of}
-use Rattle.krb_keytab.specs.Cells.{Cell, length_field}
+use Rattle.krb_keytab.specs.Cells.{Cell, length_field, length_of, size_of}
 use Rattle.krb_keytab.specs.Changes.{PlacedCell, placed_cells}
 use Rattle.krb_keytab.specs.declared.indexed.slot.Slot.{Slot}
 

@@ -1,7 +1,6 @@
 //! Keytabs with a table of their cells.
 
 mod changes;
-mod height;
 mod index;
 mod nodes;
 mod placed;

@@ -1,7 +1,7 @@
 //! The length before each cell.
 
 ghost use Rattle.std.specs.Prelude.{◌≡◌, ◌<◌, ◌^◌, ◌-◌};
-ghost use Rattle.krb_keytab.specs.Length.{length_of, field_of, size_of, HasField};
+ghost use Rattle.krb_keytab.specs.Cells.{length_of, field_of, size_of, HasField};
 
 /// What a length field says (MIT krb5, "Keytab file format").
 #[derive(Clone, Copy, Debug, PartialEq, Eq)]

@@ -9,7 +9,6 @@ ghost use Rattle.krb_keytab.specs.LookUp.{answer, IsFoundAmong};
 
 mod find;
 mod has_name;
-mod prefix;
 
 use crate::entry::{EntryView, read_entry};
 use has_name::has_name;

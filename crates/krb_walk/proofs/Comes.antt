@@ -2,7 +2,7 @@
 use Rattle.krb_walk.proofs.Cited.{◌≡◌, ℕ, suc, ◌<◌, ◌≤◌, Bool, true, false, cond, List, [], ◌∷◌, ◌++◌, length, Option, Some, None, inl, inr, refl, sym, ap, ◌∙◌, subst, arith, ◌&&◌, ◌==◌, ◌⊎◌, nat_le, nat_lt, IsSome, list_any, option_to_list, nat_tests, Store, Record, live_at, live_places, Row, RecordName, WalkEvent, Track, names_after, carry_by, IsWalkEvent, IsTrack, row_of, rows_at_event, rows_at, OneRow, is_name, place_among, place_of, rows_at_some, rows_here, rows_of, goes_past_some, passes_record, turn_of, HasTurn}
 use Rattle.krb_walk.proofs.Places.{stop_forward, or_true}
 use Rattle.krb_walk.proofs.WalkEvents.{end_of_step, Advances, effect_of, carry_by-own}
-use Rattle.krb_walk.proofs.Names.{AreBorn, or_left, in_lives}
+use Rattle.krb_walk.proofs.Names.{AreBorn, or_left, in_lives, and_false}
 use Rattle.krb_walk.proofs.StepRows.{step_at}
 use Rattle.krb_walk.proofs.Carries.{le_or}
 use Rattle.krb_walk.proofs.Ranked.{Keeps, keeps_after, Still, still_after}
@@ -44,11 +44,7 @@ keeps_next n s names c x h k =
 pub place_here : (r : RecordName) (n : ℕ) (s : Store) (names : List RecordName) (c : Option ℕ) (x : WalkEvent) → IsWalkEvent n s names c x → place_of r x ≡ place_among r names (live_places s)
 place_here r n s names c x h = ap (λ (l : List RecordName). place_among r l (live_places x.before)) h.names ∙ ap (λ (z : Store). place_among r names (live_places z)) h.before
 
--- whether an event passes a record
-and_false : (a b : Bool) → b ≡ false → (a && b) ≡ false
-and_false true b e = e
-and_false false b e = refl
-
+-- an event that is no step passes no record
 pub passes_other : (r : RecordName) (x : WalkEvent) → x.stepped ≡ false → passes_record r x ≡ false
 passes_other r x e = ap (λ (b : Bool). b && goes_past_some (place_of r x) x.from x.to) e
 

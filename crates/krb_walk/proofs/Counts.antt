@@ -75,8 +75,7 @@ shift_count : (content : ReplyContent) (old new : Store) (c : ℕ) → IsSound o
 shift_count (Placed p) old new c sound h = let i = puts_insert old new p sound h in omega (arith, count_in (λ q. nat_le c q) i.front i.back p, ap (ahead_of c) i.lo_is, ap (ahead_of c) i.hi_is, ahead_places c (records old), ahead_places c (records new))
 shift_count (Gone p) old new c sound h = let i = cuts_insert old new p sound h in omega (arith, count_out (λ q. nat_le c q) i.front i.back p, ap (ahead_of c) i.lo_is, ap (ahead_of c) i.hi_is, ahead_places c (records old), ahead_places c (records new))
 shift_count (Rewritten p) old new c sound h =
-    let kept = carry_keeps_rank old new c h in
-    omega (arith, kept, h.as_many, ahead_below c (live_places old), ahead_below (carry old new c) (live_places new), ahead_places c (records old), ahead_places (carry old new c) (records new))
+    omega (arith, carry_keeps_rank old new c h, h.as_many, ahead_below c (live_places old), ahead_below (carry old new c) (live_places new), ahead_places c (records old), ahead_places (carry old new c) (records new))
 shift_count content old new c sound h = omega (arith, ap (λ (s : Store). length (records_from s c)) h)
 
 additions_cons : (x : WalkEvent) (xs : Track) (b : Bool) → is_placed x.reply ≡ b → additions (x ∷ xs) ≡ added x.reply + additions xs

@@ -2,6 +2,7 @@
 use Rattle.krb_walk.proofs.Cited.{◌≡◌, ℕ, ◌+◌, ◌<◌, ◌≤◌, true, false, List, [], ◌∷◌, ◌++◌, length, map, Option, Some, None, inl, inr, refl, sym, ap, ◌∙◌, subst, arith, nat_lt, filter, AllByRecursion, append-nil, nat_tests, Cell, Store, end_from, IsSound, Puts, Cuts, live_places, rank}
 use Rattle.krb_walk.proofs.Stops.{records_of, end_from-ge}
 use Rattle.krb_walk.proofs.Places.{sound_kept, puts-extends}
+use Rattle.krb_wire.proofs.Lists.{all_front, all_back}
 
 -- the places of the live cells among cells from a place on
 abbrev pub lives : ℕ → List Cell → List ℕ
@@ -66,22 +67,14 @@ inserts_of lo hi first p before ltail htail back lo_first hi_first lo_cells hi_c
       more = more;
     }
 
-all_front : (xs ys : List Cell) → AllByRecursion (λ c. 0 < c.width) (xs ++ ys) → AllByRecursion (λ c. 0 < c.width) xs
-all_front [] ys h = tt
-all_front (x ∷ xs) ys h = (h.0, all_front xs ys h.1)
-
-all_back : (xs ys : List Cell) → AllByRecursion (λ c. 0 < c.width) (xs ++ ys) → AllByRecursion (λ c. 0 < c.width) ys
-all_back [] ys h = h
-all_back (x ∷ xs) ys h = all_back xs ys h.1
-
 -- one cell that is free in the first store and live in the second
 cell_inserts : (lo hi : Store) (first p w : ℕ) (bytes : List ℕ) (before rest : List Cell) → lo.first ≡ first → hi.first ≡ first → p ≡ end_from first before
     → lo.cells ≡ before ++ record { width = w; live = None } ∷ rest → hi.cells ≡ before ++ record { width = w; live = Some bytes } ∷ rest → IsSound hi → Inserts lo hi p
 cell_inserts lo hi first p w bytes before rest lo_first hi_first place lo_cells hi_cells sound =
     let all = subst (AllByRecursion (λ c. 0 < c.width)) hi_cells sound in
-    let some : 0 < w = (all_back before (record { width = w; live = Some bytes } ∷ rest) all).0 in
+    let some : 0 < w = (all_back (λ (c : Cell). 0 < c.width) before (record { width = w; live = Some bytes } ∷ rest) all).0 in
     inserts_of lo hi first p before (record { width = w; live = None } ∷ rest) (record { width = w; live = Some bytes } ∷ rest) (lives (p + w) rest) lo_first hi_first lo_cells hi_cells place refl refl
-    (all_front before (record { width = w; live = Some bytes } ∷ rest) all) (all_weaken (λ q. p + w ≤ q) (λ q. p < q) _ (λ q h. omega (arith, some)) (lives_ge (p + w) rest))
+    (all_front (λ (c : Cell). 0 < c.width) before (record { width = w; live = Some bytes } ∷ rest) all) (all_weaken (λ q. p + w ≤ q) (λ q. p < q) _ (λ q h. omega (arith, some)) (lives_ge (p + w) rest))
 
 pub puts_insert : (old new : Store) (p : ℕ) → IsSound old → Puts old new p → Inserts old new p
 puts_insert old new p sound puts =

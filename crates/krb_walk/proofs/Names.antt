@@ -1,9 +1,10 @@
 -- The names of records follow the live cells.
-use Rattle.krb_walk.proofs.Cited.{◌≡◌, ℕ, zero, suc, ◌+◌, ◌<◌, ◌≤◌, Bool, true, false, List, [], ◌∷◌, ◌++◌, length, map, take, drop, Option, Some, None, inl, inr, refl, sym, ap, ◌∙◌, arith, ◌||◌, ◌==◌, insert, remove, AllByRecursion, list_any, take-map, drop-map, map-append, nat_tests, Cell, Store, Record, IsSound, Changes, ReplyContent, Placed, Gone, Rewritten, is_rewritten, live_places, rank, RecordName, first_names, names_after}
+use Rattle.krb_walk.proofs.Cited.{◌≡◌, ℕ, zero, suc, ◌+◌, ◌<◌, ◌≤◌, Bool, true, false, List, [], ◌∷◌, ◌++◌, length, map, take, drop, Option, Some, None, inl, inr, refl, sym, ap, ◌∙◌, arith, ◌&&◌, ◌||◌, ◌==◌, insert, remove, AllByRecursion, list_any, take-map, drop-map, map-append, nat_tests, Cell, Store, Record, IsSound, Changes, ReplyContent, Placed, Gone, Rewritten, is_rewritten, live_places, rank, RecordName, first_names, names_after}
 use Rattle.std.proofs.Math.Seq.{take-append_seam, drop-append_seam, drop-append-add}
 use Rattle.krb_walk.proofs.Cells.{live_from, find_head, find_tail}
 use Rattle.krb_walk.proofs.Places.{or_cases}
 use Rattle.krb_walk.proofs.Lives.{lives, lives_ge, puts_insert, cuts_insert}
+use Rattle.krb_wire.proofs.Lists.{all_join}
 
 -- the names have the places of the live cells, in order
 abbrev pub AreNamed : Store → List RecordName → Type 0
@@ -60,6 +61,11 @@ pub record LivesAt (at : ℕ) (cells : List Cell) (p : ℕ) : Type 0 where
   pub held : Record
   pub is : live_from at cells p ≡ Some held
 
+-- a test that fails, with another
+pub and_false : (a b : Bool) → b ≡ false → (a && b) ≡ false
+and_false true b e = e
+and_false false b e = refl
+
 pub or_rest : (b c : Bool) → b ≡ false → (b || c) ≡ true → c ≡ true
 or_rest true c e h = cc
 or_rest false c e h = h
@@ -98,10 +104,6 @@ all_drop P zero xs h = h
 all_drop P (suc k) [] h = tt
 all_drop P (suc k) (x ∷ xs) h = all_drop P k xs h.1
 
-all_both : {X : Type 0} (P : X → Type 0) (xs ys : List X) → AllByRecursion P xs → AllByRecursion P ys → AllByRecursion P (xs ++ ys)
-all_both P [] ys h k = k
-all_both P (x ∷ xs) ys h k = (h.0, all_both P xs ys h.1 k)
-
 born_later : (n : ℕ) (names : List RecordName) → AreBorn n names → AreBorn (suc n) names
 born_later n [] h = tt
 born_later n (x ∷ names) h = (omega (arith, h.0), born_later n names h.1)
@@ -110,11 +112,11 @@ pub born_after : (n : ℕ) (content : ReplyContent) (old new : Store) (names : L
 born_after n (Placed p) old new names h =
     let P : RecordName → Type 0 = λ x. x.birth < suc n in
     let all = born_later n names h in
-    all_both P (take (rank new p) names) _ (all_take P (rank new p) names all) (omega arith, all_drop P (rank new p) names all)
+    all_join P (take (rank new p) names) _ (all_take P (rank new p) names all) (omega arith, all_drop P (rank new p) names all)
 born_after n (Gone p) old new names h =
     let P : RecordName → Type 0 = λ x. x.birth < suc n in
     let all = born_later n names h in
-    all_both P (take (rank old p) names) _ (all_take P (rank old p) names all) (all_drop P (suc (rank old p)) names all)
+    all_join P (take (rank old p) names) _ (all_take P (rank old p) names all) (all_drop P (suc (rank old p)) names all)
 born_after n content old new names h = born_later n names h
 
 first_born_of : (ps : List ℕ) → AreBorn 1 (map {A = ℕ} {B = RecordName} (λ p. record { place = p; birth = 0 }) ps)

@@ -2,6 +2,7 @@
 use Rattle.krb_walk.proofs.Cited.{◌≡◌, ℕ, ◌+◌, ◌<◌, ◌≤◌, Bool, true, false, List, [], ◌∷◌, ◌++◌, map, Option, Some, None, inl, inr, refl, sym, ap, ◌∙◌, arith, append_assoc, ◌&&◌, ◌||◌, ◌==◌, ◌⊎◌, nat_le, is_some, AllByRecursion, map-append, append-nil, nat_tests, leb-true, Cell, Store, end_from, end_of, is_place_from, is_place, next_live, IsSound, OneCell, Appends, Puts, Cuts, stop_cursor}
 use Rattle.krb_walk.proofs.Stops.{next_stops, end_from-ge, is_place_from-first}
 use Rattle.krb_walk.proofs.Cells.{stop_from, stop_skips}
+use Rattle.krb_wire.proofs.Lists.{all_join}
 
 abbrev pub widths : List Cell → List ℕ
 widths cells = map (λ c. c.width) cells
@@ -16,16 +17,12 @@ pub record Extends (old new : Store) : Type 0 where
 pub extends_self : (s : Store) → Extends s s
 extends_self s = record { first = refl; more = []; widths_are = sym (append-nil (widths s.cells)); some = tt }
 
-all_append : (xs ys : List ℕ) → AllByRecursion (λ w. 0 < w) xs → AllByRecursion (λ w. 0 < w) ys → AllByRecursion (λ w. 0 < w) (xs ++ ys)
-all_append [] ys a b = b
-all_append (x ∷ xs) ys a b = (a.0, all_append xs ys a.1 b)
-
 pub extends_on : (a b c : Store) → Extends a b → Extends b c → Extends a c
 extends_on a b c e f = record {
   first = f.first ∙ e.first;
   more = e.more ++ f.more;
   widths_are = f.widths_are ∙ ap (λ ws. ws ++ f.more) e.widths_are ∙ append_assoc (widths a.cells) e.more f.more;
-  some = all_append e.more f.more e.some f.some;
+  some = all_join (λ w. 0 < w) e.more f.more e.some f.some;
 }
 
 one_cell : (old new : Store) (p : ℕ) (was is : Cell) → OneCell old new p was is → is.width ≡ was.width → Extends old new
@@ -64,7 +61,7 @@ widths-sound (c ∷ cells) h = (h.0, widths-sound cells h.1)
 
 pub sound_kept : (old new : Store) → Extends old new → IsSound old → IsSound new
 sound_kept old new e h =
-    let all = all_append (widths old.cells) e.more (sound-widths old.cells h) e.some in
+    let all = all_join (λ w. 0 < w) (widths old.cells) e.more (sound-widths old.cells h) e.some in
     widths-sound new.cells (rw (e.widths_are) all)
 
 -- places, by the widths

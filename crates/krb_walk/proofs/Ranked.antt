@@ -1,14 +1,10 @@
 -- Each record comes as it is due, along a track on which the store may be rewritten.
 use Rattle.krb_walk.proofs.Cited.{◌≡◌, ℕ, zero, suc, ◌<◌, ◌≤◌, Bool, true, false, cond, List, [], ◌∷◌, ◌++◌, length, map, take, drop, Option, Some, None, inl, inr, refl, sym, ap, ◌∙◌, subst, arith, ◌&&◌, ◌||◌, ◌==◌, ◌⊎◌, list_any, nat_tests, Store, end_of, IsSound, live_places, rank, Changes, ReplyContent, Placed, Gone, Rewritten, RecordName, first_names, names_after, carry_by, is_name, place_among}
 use Rattle.krb_walk.proofs.Lives.{puts_insert, cuts_insert}
-use Rattle.krb_walk.proofs.Names.{AreBorn, born_after, first_born}
+use Rattle.krb_walk.proofs.Names.{AreBorn, born_after, first_born, and_false}
 use Rattle.krb_walk.proofs.Carries.{Rises, places_rise, SameSide, carry_same_side, still_some}
 
--- tests
-and_false : (a b : Bool) → b ≡ false → (a && b) ≡ false
-and_false true b e = e
-and_false false b e = refl
-
+-- neither of two tests
 or_false : (a b : Bool) → a ≡ false → b ≡ false → (a || b) ≡ false
 or_false true b e f = cc
 or_false false b e f = f

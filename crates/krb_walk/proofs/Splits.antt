@@ -1,7 +1,8 @@
 -- Cells split at a place: lemmas for implementations of `Placed`.
-use Rattle.krb_walk.proofs.Cited.{◌≡◌, ℕ, ◌+◌, ◌<◌, ◌≤◌, Bool, true, false, List, [], ◌∷◌, ◌++◌, Option, Some, None, refl, sym, ap, ◌∙◌, arith, ◌&&◌, ◌==◌, nat_le, is_some, AllByRecursion, nat_tests, Cell, end_from, is_place_from, bytes_of_some}
+use Rattle.krb_walk.proofs.Cited.{◌≡◌, ℕ, ◌+◌, ◌<◌, ◌≤◌, Bool, true, false, List, [], ◌∷◌, ◌++◌, Option, Some, None, refl, sym, ap, ◌∙◌, arith, ◌&&◌, ◌==◌, nat_le, is_some, AllByRecursion, nat_tests, Cell, end_from, is_place_from, bytes_of_some, FaultKind}
 use Rattle.krb_walk.proofs.Stops.{next_from, bytes_from, next_skips, end_from-ge, is_place_from-first, is_place_from-cons}
 use Rattle.krb_walk.proofs.Cells.{find_head, find_tail}
+use Rattle.krb_walk.specs.Store.{fault_from}
 
 -- ---- from a split
 
@@ -19,9 +20,7 @@ split_is_place at (c ∷ before) after = is_place_from-cons at c.width (end_from
 pub next_ahead : (at p : ℕ) (before after : List Cell) → AllByRecursion (λ c. 0 < c.width) before → end_from at before ≤ p → next_from at (before ++ after) p ≡ next_from (end_from at before) after p
 next_ahead at p [] after sound le = refl
 next_ahead at p (c ∷ before) after sound le =
-    let ge = end_from-ge (at + c.width) before in
-    let some = sound.0 in
-    let behind : at < p = omega (arith, ge, some, le) in
+    let behind : at < p = omega (arith, end_from-ge (at + c.width) before, sound.0, le) in
     let skip : (nat_le p at && is_some c.live) ≡ false = grind (arith, nat_tests) in
     next_skips at p c.width c.live (before ++ after) skip ∙ next_ahead (at + c.width) p before after sound.1 le
 
@@ -29,9 +28,7 @@ next_ahead at p (c ∷ before) after sound le =
 pub bytes_ahead : (at p : ℕ) (before after : List Cell) → AllByRecursion (λ c. 0 < c.width) before → end_from at before ≤ p → bytes_from at (before ++ after) p ≡ bytes_from (end_from at before) after p
 bytes_ahead at p [] after sound le = refl
 bytes_ahead at p (c ∷ before) after sound le =
-    let ge = end_from-ge (at + c.width) before in
-    let some = sound.0 in
-    ap bytes_of_some (find_tail at c.width p c.live (before ++ after) (omega (arith, ge, some, le))) ∙ bytes_ahead (at + c.width) p before after sound.1 le
+    ap bytes_of_some (find_tail at c.width p c.live (before ++ after) (omega (arith, end_from-ge (at + c.width) before, sound.0, le))) ∙ bytes_ahead (at + c.width) p before after sound.1 le
 
 bytes_of_cell : (at w : ℕ) (live : Option (List ℕ)) (cells : List Cell) → bytes_from at (record { width = w; live = live } ∷ cells) at ≡ live
 bytes_of_cell at w None cells = ap bytes_of_some (find_head at w None cells)
@@ -41,6 +38,11 @@ bytes_of_cell at w (Some bytes) cells = ap bytes_of_some (find_head at w (Some b
 pub bytes_here : (at w : ℕ) (live : Option (List ℕ)) (before after : List Cell) → AllByRecursion (λ c. 0 < c.width) before → bytes_from at (before ++ record { width = w; live = live } ∷ after) (end_from at before) ≡ live
 bytes_here at w live before after sound =
     bytes_ahead at (end_from at before) before (record { width = w; live = live } ∷ after) sound (omega arith) ∙ bytes_of_cell (end_from at before) w live after
+
+-- there is no fault if none is reported
+pub whole_of : (place : ℕ) (kind : Option FaultKind) → is_some (fault_from place kind) ≡ false → kind ≡ None
+whole_of place None h = refl
+whole_of place (Some kind) h = absurd cc
 
 -- ---- to a split
 

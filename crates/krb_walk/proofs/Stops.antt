@@ -76,10 +76,8 @@ pub record Found (at : ℕ) (cells : List Cell) (p : ℕ) (r : Record) : Type 0 
 -- the record is found after a cell that is passed
 found_after : (at w p : ℕ) (live : Option (List ℕ)) (cells : List Cell) (r : Record) → 0 < w → left p (records_of at (record { width = w; live = live } ∷ cells)) ≡ left p (records_of (at + w) cells) → Found (at + w) cells p r → Found at (record { width = w; live = live } ∷ cells) p r
 found_after at w p live cells r some same rest =
-    let begins = rest.begins in
-    let lt : at < r.place = omega (arith, begins) in
-    let ahead = rest.ahead in
-    let next_lt : at < r.next = omega (arith, lt, ahead) in
+    let lt : at < r.place = omega (arith, rest.begins) in
+    let next_lt : at < r.next = omega (arith, lt, rest.ahead) in
     record {
       first = same ∙ rest.first ∙ ap (λ (rs : List Record). r ∷ rs) (sym (left_behind at w r.next live cells next_lt));
       bytes = bytes_behind at w r.place live cells lt ∙ rest.bytes;

@@ -3,7 +3,7 @@ use Rattle.krb_walk.proofs.Cited.{◌≡◌, ℕ, ◌<◌, ◌≤◌, true, List
 use Rattle.std.proofs.Math.Seq.{take-set-lt, take-append_seam}
 use Rattle.krb_walk.specs.declared.refusal.Refusal.{Refusal}
 use Rattle.krb_walk.specs.declared.refusal.Refusal.TheVariants.{Code as ByCode, NoMemory}
-use Rattle.krb_walk.specs.Kept.{IsKept, place_after}
+use Rattle.krb_walk.specs.History.{IsKept, place_after}
 use Rattle.krb_walk.proofs.Places.{Extends, puts-extends, cuts-extends, sound_kept, place_kept}
 use Rattle.krb_walk.proofs.Effects.{was_map, place_carried}
 

@@ -137,11 +137,10 @@ cursor_is_sound n s names c x d h at = elim (effect_of x h.effect) [
   }
   | inr goes ↦ (
       let same : goes.at ≡ d = cc (at, goes.stood) in
-      let forward = stop_forward x.before goes.at (h.here goes.at goes.stood) in
       record {
         place = h.here d at;
         to = subst (λ (o : Option ℕ). IsSomeAnd o (CursorMayGo x d)) (sym goes.is_there) (record {
-          forward = λ _. omega (arith, forward, same);
+          forward = λ _. omega (arith, stop_forward x.before goes.at (h.here goes.at goes.stood), same);
           moves = λ own. subst (λ (m : ℕ). AnswersStep x.before x.walk m x.reply (end_of_step x goes.at)) same goes.answered;
           stays = λ other. cc (other, goes.stepped);
         });

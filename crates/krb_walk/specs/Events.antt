@@ -1,5 +1,5 @@
 -- The reply to each event, and the state after it.
-use Rattle.std.specs.Prelude.{ℕ, cond, ◌&&◌, nat_lt, List, [], ◌∷◌, ◌++◌, length, map, Option, Some, None, Result, Ok, Err, slice_get, slice_set}
+use Rattle.std.specs.Prelude.{ℕ, cond, ◌&&◌, nat_lt, List, [], ◌∷◌, ◌++◌, length, map, Option, Some, None, Result, Ok, Err, slice_get, slice_set, ◌≡◌, true, false, IsErr}
 use Rattle.krb_walk.specs.declared.event.Event.{Event}
 use Rattle.krb_walk.specs.declared.event.Event.TheVariants.{Start, Resume, Step, Put, Cut, Rewrite}
 use Rattle.krb_walk.specs.declared.fault.FaultKind.{FaultKind}
@@ -8,8 +8,10 @@ use Rattle.krb_walk.specs.declared.refusal.Code.TheVariants.{NotAPlace, NoSuchWa
 use Rattle.krb_walk.specs.declared.stop.Stop.{Stop}
 use Rattle.krb_walk.specs.Store.{Store, Record, end_of, is_place, next_live, stop_at}
 use Rattle.krb_walk.specs.Ranks.{carry}
-use Rattle.krb_walk.specs.ReplyContent.{ReplyContent, Started, Gave, Ended, Faulted, Placed, Gone, Rewritten, Refused}
+use Rattle.krb_walk.specs.ReplyContent.{ReplyContent, Started, Gave, Ended, Faulted, Placed, Gone, Rewritten, Refused, is_gave}
 use Rattle.krb_walk.specs.Rules.{Rules}
+use Rattle.krb_walk.specs.declared.refusal.Refusal.{Refusal}
+use Rattle.krb_walk.specs.declared.refusal.Refusal.TheVariants.{NoMemory}
 
 -- a store, and the cursor of each walk
 pub record SessionState (S : Type 0) : Type 0 where
@@ -134,3 +136,17 @@ cursors_after r s Rewrite = rewrite_cursors r.seen s.store s.cursors (r.rewrite 
 -- the state after an event
 abbrev pub after : {S I : Type 0} → Rules S I → SessionState S → Event I → SessionState S
 after r s e = record { store = store_after r s e; cursors = cursors_after r s e }
+
+-- ---- what takes no memory
+
+-- an addition that did not run out of memory
+abbrev pub HadMemory : Result ℕ Refusal → Type 0
+HadMemory (Err NoMemory) = ⊥
+HadMemory result = Unit {0}
+
+-- an event that takes no memory: any but a step that gives a record, an addition not `takes_none`, an accepted rewrite
+abbrev pub TakesNone : {S I : Type 0} → Rules S I → SessionState S → Event I → Type 0
+TakesNone r s (Step w) = is_gave (reply_to r s (Step w)) ≡ false
+TakesNone r s (Put item) = r.takes_none s.store item ≡ true
+TakesNone r s Rewrite = IsErr (r.rewrite s.store)
+TakesNone r s e = Unit {0}

@@ -1,5 +1,5 @@
 -- Histories: events one after the other, each with its reply.
-use Rattle.std.specs.Prelude.{◌≡◌, ℕ, suc, Bool, false, cond, ◌&&◌, ◌==◌, List, [], ◌∷◌, ◌++◌, map, Some, is_some, slice_get}
+use Rattle.std.specs.Prelude.{◌≡◌, ℕ, suc, Bool, false, cond, ◌&&◌, ◌==◌, List, [], ◌∷◌, ◌++◌, map, Some, is_some, slice_get, ◌≤◌, length, take}
 use Rattle.krb_walk.specs.declared.event.Event.{Event}
 use Rattle.krb_walk.specs.declared.event.Event.TheVariants.{Step}
 use Rattle.krb_walk.specs.Store.{Store, Record, IsPlace, IsSound}
@@ -7,6 +7,8 @@ use Rattle.krb_walk.specs.Changes.{Changes}
 use Rattle.krb_walk.specs.ReplyContent.{ReplyContent, Gave, is_rewritten}
 use Rattle.krb_walk.specs.Rules.{Rules}
 use Rattle.krb_walk.specs.Events.{SessionState, reply_to, after}
+use Rattle.krb_walk.specs.declared.stop.Stop.{Stop}
+use Rattle.krb_walk.specs.declared.stop.Stop.TheVariants.{Live, End, Fault as AtFault}
 
 -- an event with its reply, between two states
 pub record Moment (S I : Type 0) : Type 0 where
@@ -88,3 +90,17 @@ is_step w e = false
 -- an event is a step of walk w, which exists
 abbrev pub steps_walk : {S I : Type 0} → SessionState S → Event I → ℕ → Bool
 steps_walk s e w = is_step w e && is_some (slice_get s.cursors w)
+
+-- ---- how a session keeps its state: for private contracts alone
+
+-- the place after a stop
+abbrev pub place_after : Stop → ℕ
+place_after (Live p next) = next
+place_after (End next) = next
+place_after (AtFault fault) = fault.place
+
+-- the cursors are the first `count` elements of a table of 1,024
+pub record IsKept {S I : Type 0} (r : Rules S I) (store : S) (table : List ℕ) (count : ℕ) : Type 0 where
+  pub few : count ≤ 1024
+  pub room : length table ≡ 1024
+  pub ready : IsReady r (record { store = store; cursors = take count table })

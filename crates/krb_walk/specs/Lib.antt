@@ -17,7 +17,6 @@ pub mod Rules
 pub mod ReplyContent
 pub mod Changes
 pub mod Events
-pub mod Memory
 pub mod History
 pub mod Track
 pub mod Due
@@ -26,4 +25,3 @@ pub mod Damage
 pub mod Fair
 pub mod Joins
 pub mod Ran
-pub mod Kept

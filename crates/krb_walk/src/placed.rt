@@ -6,7 +6,7 @@ ghost use Rattle.krb_walk.specs.Changes.{Cuts, Puts};
 ghost use Rattle.std.specs.List.{AllByRecursion};
 ghost use Rattle.krb_walk.specs.Ranks.{carry, Rewrites};
 ghost use Rattle.krb_walk.specs.Rules.{Rules, PutGives, CutGives, RewriteGives};
-ghost use Rattle.krb_walk.specs.Memory.{HadMemory};
+ghost use Rattle.krb_walk.specs.Events.{HadMemory};
 
 use crate::fault::Fault;
 use crate::refusal::{Code, Refusal};

@@ -4,9 +4,8 @@ ghost use Rattle.std.specs.Prelude.{◌≡◌, ◌<◌, [], ◌∷◌, length, s
 ghost use Rattle.krb_walk.specs.declared.event.Event.TheVariants.{Step};
 ghost use Rattle.krb_walk.specs.Store.{IsPlace, end_of, next_live, stop_at};
 ghost use Rattle.krb_walk.specs.Events.{SessionState, session_of, after, reply_to, stop_cursor, step_result};
-ghost use Rattle.krb_walk.specs.History.{IsReady};
+ghost use Rattle.krb_walk.specs.History.{IsReady, place_after};
 ghost use Rattle.krb_walk.specs.Ran.{Ran};
-ghost use Rattle.krb_walk.specs.Kept.{place_after};
 
 mod events;
 
@@ -29,7 +28,7 @@ impl<P: Placed, A: Allocator + Copy> Model for Session<P, A> {
     ghost use Rattle.std.specs.Prelude.{take};
     ghost use Rattle.krb_walk.specs.Events.{SessionState};
     ghost use Rattle.krb_walk.specs.Ran.{Ran};
-    ghost use Rattle.krb_walk.specs.Kept.{IsKept};
+    ghost use Rattle.krb_walk.specs.History.{IsKept};
 
     ghost Value = { SessionState P };
 

@@ -1,5 +1,6 @@
 -- What is read as a field is the encoding of that field, and an encoded field is read back.
-use Rattle.krb_wire.proofs.Cited.{◌≡◌, ℕ, ◌+◌, ◌^◌, ◌<◌, ◌≤◌, Bool, true, false, cond, ltb, List, ◌++◌, length, get_or, take, drop, Option, Some, None, refl, sym, ap, subst, ◌∙◌, append_assoc, arith, inl, inr, IsSome, Width, w16, w32, byte_len, cases_lt, ltb-false, le-ltb, Order, Big, Little, digits, number, counted, data16, data32, IsShort, IsLong, ◌>>=◌, number_at, counted_at, data16_at, data32_at}
+use Rattle.krb_wire.proofs.Cited.{◌≡◌, ℕ, suc, [], ◌∷◌, Result, Ok, ◌+◌, ◌^◌, ◌<◌, ◌≤◌, Bool, true, false, cond, ltb, List, ◌++◌, length, get_or, take, drop, Option, Some, None, refl, sym, ap, subst, ◌∙◌, append_assoc, arith, inl, inr, IsSome, Width, w16, w32, byte_len, cases_lt, ltb-false, le-ltb, Order, Big, Little, digits, number, counted, data16, data32, IsShort, IsLong, ◌>>=◌, number_at, counted_at, data16_at, data32_at}
+use Rattle.krb_wire.specs.Reading.{byte_at}
 use Rattle.std.proofs.lemmas.List.{take_at, drop_at, take-append-drop, length-append, length-take, get_or-drop, get_or-take, get_or_past}
 use Rattle.std.proofs.lemmas.Nat.{be_bytes_2, be_bytes_4, le_bytes_2, le_bytes_4, from_be_bytes-to_be_bytes_2, from_be_bytes-to_be_bytes_4, from_le_bytes-to_le_bytes_2, from_le_bytes-to_le_bytes_4}
 
@@ -15,6 +16,14 @@ IsBytes-take n bytes h i =
       | inl lt ↦ rw (get_or-take n bytes i 0 lt) (h i)
       | inr le ↦ rw (get_or_past (take n bytes) i 0 (omega (arith, length-take n bytes))) (omega arith)
     ]
+
+-- bytes joined are bytes in front
+pub IsBytes-front : (a b : List ℕ) → IsBytes (a ++ b) → IsBytes a
+IsBytes-front a b fits = subst IsBytes (take_at a b (length a) refl) (IsBytes-take (length a) (a ++ b) fits)
+
+-- and behind
+pub IsBytes-back : (a b : List ℕ) → IsBytes (a ++ b) → IsBytes b
+IsBytes-back a b fits = subst IsBytes (drop_at a b (length a) refl) (IsBytes-drop (length a) (a ++ b) fits)
 
 -- the value of a step that did not fail
 pub bind_some : {A B : Type 0} (o : Option A) (f : A → Option B) (y : B) → (o >>= f) ≡ Some y → (x : A) × (o ≡ Some x) × (f x ≡ Some y)
@@ -36,6 +45,10 @@ pub is_some_has : {A : Type 0} (o : Option A) → IsSome o → (x : A) × (o ≡
 is_some_has (Some x) h = (x, refl)
 is_some_has None h = absurd cc
 
+-- a result has one value
+pub ok_is : {X Y : Type 0} (a b : X) → ◌≡◌ {A = Result X Y} (Ok a) (Ok b) → a ≡ b
+ok_is a b e = cc
+
 -- what a reader took from the front of the bytes
 pub record Takes (bytes text rest : List ℕ) : Type 0 where
   pub parts : bytes ≡ text ++ rest
@@ -45,6 +58,11 @@ pub Takes-then : (a x b y c : List ℕ) → Takes a x b → Takes b y c → Take
 Takes-then a x b y c p q = record { parts = p.parts ∙ ap (λ (t : List ℕ). x ++ t) q.parts ∙ sym (append_assoc x y c); rest_fits = q.rest_fits }
 
 -- ---- numbers
+
+-- a byte that was read
+pub byte_takes : (bytes : List ℕ) (x : ℕ × List ℕ) → IsBytes bytes → byte_at bytes ≡ Some x → Takes bytes (x.0 ∷ []) x.1 × (x.0 < 256)
+byte_takes [] x fits e = absurd cc
+byte_takes (b ∷ bs) x fits e = subst (λ (y : ℕ × List ℕ). Takes (b ∷ bs) (y.0 ∷ []) y.1 × (y.0 < 256)) (some_is (b, bs) x e) (record { parts = refl; rest_fits = λ i. fits (suc i) }, fits 0)
 
 pub record IsWide (o : Order) (w : Width) (limit : ℕ) : Type 0 where
   pub len : (n : ℕ) → length (digits o w n) ≡ byte_len w

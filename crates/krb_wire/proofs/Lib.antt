@@ -1,5 +1,6 @@
 pub mod Cited
 pub mod Fields
+pub mod Lists
 pub mod ReadLists
 pub mod Places
 pub mod PenLemmas

@@ -19,7 +19,6 @@ splice-splice xs ys zs i j k le is_j lt =
 -- if one text was written and then the next, both were
 pub puts_then : {old mid new : Pen} {x y : List ℕ} → Puts old mid x → Puts mid new y → Puts old new (x ++ y)
 puts_then {old} {mid} {new} {x} {y} first second =
-    let one = first.place in
     let two = second.place in
     let end = second.within in
     let len = first.length in
@@ -28,7 +27,7 @@ puts_then {old} {mid} {new} {x} {y} first second =
       place = omega (arith, length-append x y);
       within = omega arith;
       length = second.length ∙ first.length;
-      bytes = second.bytes ∙ ap (λ (l : List ℕ). splice l mid.at new.at y) first.bytes ∙ splice-splice old.out.now x y old.at mid.at new.at (omega arith) one (omega arith);
+      bytes = second.bytes ∙ ap (λ (l : List ℕ). splice l mid.at new.at y) first.bytes ∙ splice-splice old.out.now x y old.at mid.at new.at (omega arith) first.place (omega arith);
     }
 
 -- writing nothing is writing the empty text
@@ -57,18 +56,14 @@ left_all {text} {left} {pen} is room = record {
 pub left_next : {text left piece others : List ℕ} {old now next : Pen} → Left text left old now → left ≡ piece ++ others → Puts now next piece → Left text others old next
 left_next {text} {left} {piece} {others} {old} {now} {next} h cut puts = record {
   room = (
-      let room = h.room in
-      let place = puts.place in
-      let same = puts.length in
-      omega (arith, ap length cut, length-append piece others));
+      omega (arith, puts.length, puts.place, h.room, ap length cut, length-append piece others));
   rest = λ new rest. h.rest new (subst (Puts now new) (sym cut) (puts_then puts rest));
 }
 
 -- the next piece fits, if it is left
 pub left_room : {text left : List ℕ} {old now : Pen} (piece others : List ℕ) → Left text left old now → left ≡ piece ++ others → HasRoom now piece
 left_room piece others h cut =
-    let room = h.room in
-    omega (arith, ap length cut, length-append piece others)
+    omega (arith, h.room, ap length cut, length-append piece others)
 
 -- if nothing is left, the text was written
 pub left_none : {text left : List ℕ} {old now : Pen} → Left text left old now → left ≡ [] → Puts old now text

@@ -3,6 +3,7 @@ use Rattle.krb_wire.proofs.Cited.{◌≡◌, ℕ, ◌<◌, false, List, [], ◌�
 use Rattle.std.proofs.lemmas.Bool.Decides.{nat_tests}
 use Rattle.krb_wire.specs.Names.{joined_components, name_text}
 use Rattle.krb_wire.proofs.TextLemmas.{joined_from, joined_is}
+use Rattle.krb_wire.proofs.PlainRuns.{after_at-plain}
 
 -- a quoted byte is one atom
 atoms-quoted_byte : (b : ℕ) (rest : List ℕ) → atoms (quoted_byte b ++ rest) ≡ Byte b ∷ atoms rest
@@ -80,28 +81,22 @@ components_again (c ∷ cs) = ap (λ (l : List ℕ). l ∷ map (map byte_of) (ma
 components-text : (c : List ℕ) (cs : List (List ℕ)) (realm : List ℕ) → components_of (text_atoms c cs realm) ≡ c ∷ cs
 components-text c cs realm = ap (map (map byte_of)) (split-bytes c (others_atoms cs (At ∷ map Byte realm)) (map (map Byte) cs) (split-others cs realm)) ∙ components_again (c ∷ cs)
 
--- no byte is an `@`
-after_at-bytes : (bs : List ℕ) (rest : List Atom) → after_at (map Byte bs ++ rest) ≡ after_at rest
-after_at-bytes [] rest = refl
-after_at-bytes (b ∷ bs) rest = after_at-bytes bs rest
-
 -- the realm comes after the components
 after_at-others : (cs : List (List ℕ)) (realm : List ℕ) → after_at (others_atoms cs (At ∷ map Byte realm)) ≡ Some (map Byte realm)
 after_at-others [] realm = refl
-after_at-others (c ∷ cs) realm = after_at-bytes c (others_atoms cs (At ∷ map Byte realm)) ∙ after_at-others cs realm
+after_at-others (c ∷ cs) realm = after_at-plain c (others_atoms cs (At ∷ map Byte realm)) ∙ after_at-others cs realm
 
 -- the realm of a name's text
 realm-text : (c : List ℕ) (cs : List (List ℕ)) (realm : List ℕ) (d : Option (List ℕ)) → realm_of (text_atoms c cs realm) d ≡ Some realm
 realm-text c cs realm d =
-    rw (after_at-bytes c (others_atoms cs (At ∷ map Byte realm)) ∙ after_at-others cs realm) (ap Some (bytes_again realm))
+    rw (after_at-plain c (others_atoms cs (At ∷ map Byte realm)) ∙ after_at-others cs realm) (ap Some (bytes_again realm))
 
 -- the text of a name with these components parses as that name
 named_again : (p : Parts) (d : Option (List ℕ)) (cs : List (List ℕ)) → p.components ≡ cs → 0 < length cs → name_of (name_text p) d ≡ Ok (record p { name_type = 1 })
 named_again p d [] e lt = absurd (omega arith)
 named_again p d (c ∷ cs) e lt =
-    let cut = atoms-name_text p c cs e in
     let fault : first_fault (faults_of (text_atoms c cs p.realm)) ≡ None = ap first_fault (faults_of-bytes c (others_atoms cs (At ∷ map Byte p.realm)) ∙ faults_of-others cs p.realm) in
-    rw (cut, fault, realm-text c cs p.realm d, components-text c cs p.realm ∙ sym e) refl
+    rw (atoms-name_text p c cs e, fault, realm-text c cs p.realm d, components-text c cs p.realm ∙ sym e) refl
 
 -- the text of a name with a component parses as that name
 pub name_of-name_text : (p : Parts) (d : Option (List ℕ)) → 0 < length p.components → name_of (name_text p) d ≡ Ok (record p { name_type = 1 })

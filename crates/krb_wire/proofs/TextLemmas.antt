@@ -40,11 +40,7 @@ left_fails text left piece rest old out new e f h is refused = record {
   capacity = (let before = h.capacity in let after = refused.capacity in omega (arith, before, after));
   full = (
       let all = ap length (h.parts ∙ ap (λ (t : List ℕ). out.items ++ t) is) in
-      let before = old.ok.0 in
-      let now = out.ok.0 in
-      let capacity = h.capacity in
-      let full = refused.full in
-      omega (arith, before, now, capacity, full, all, length-append old.items text, length-append out.items (piece ++ rest), length-append piece rest));
+      omega (arith, old.ok.0, out.ok.0, h.capacity, refused.full, all, length-append old.items text, length-append out.items (piece ++ rest), length-append piece rest));
 }
 
 -- if nothing is left, the text was appended

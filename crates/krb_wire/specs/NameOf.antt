@@ -1,5 +1,5 @@
 -- The name that a text parses as, or the fault of the text.
-use Rattle.std.specs.Prelude.{ℕ, List, [], ◌∷◌, ◌++◌, map, Option, Some, None, option_map, unwrap_or, Result, Ok, Err, codes, Bool, true, false}
+use Rattle.std.specs.Prelude.{ℕ, List, [], ◌∷◌, ◌++◌, map, Option, Some, None, option_map, unwrap_or, Result, Ok, Err, codes, Bool, true, false, ◌≡◌, ◌<◌, length}
 use Rattle.std.specs.List.{filter_map, slice_split}
 use Rattle.std.specs.Option.{option_or}
 use Rattle.krb_wire.specs.declared.name_fault.NameFault.{NameFault}
@@ -8,6 +8,7 @@ use Rattle.krb_wire.specs.declared.atom.Atom.{Atom}
 use Rattle.krb_wire.specs.declared.atom.Atom.TheVariants.{Byte, Slash, At, Lone}
 use Rattle.krb_wire.specs.Spelling.{Parts}
 use Rattle.krb_wire.specs.Atoms.{atoms, byte_of, is_slash, before_at, after_at}
+use Rattle.krb_wire.specs.Names.{name_text}
 
 -- the number of a fault
 abbrev pub name_fault_number : NameFault → ℕ
@@ -88,3 +89,8 @@ after_first (Lone ∷ rest) = after_first rest
 abbrev pub faults_from : Bool → List Atom → List NameFault
 faults_from false text = faults_of text
 faults_from true text = filter_map realm_fault text
+
+-- the text of a name with a component parses as that name again, with type 1, whatever the default realm is
+abbrev pub TextsNameTheirNames : Type 0
+TextsNameTheirNames = (p : Parts) (default_realm : Option (List ℕ)) → 0 < length p.components
+    → name_of (name_text p) default_realm ≡ Ok (record p { name_type = 1 })

@@ -51,6 +51,7 @@ fn plain_end(text: &[u8]) -> Option<usize>
 }
 
 // Splits off the plain bytes that a text begins with.
+#[tactic(auto, using(crate::proofs::PlainRuns::plain_before, crate::proofs::PlainRuns::plain_whole))]
 pub fn split_plain(text: &[u8]) -> (&[u8], &[u8])
     ensures cut { atoms text.now ≡ map Byte result.0.now ++ atoms result.1.now }
     ensures shorter { length result.1.now ≤ length text.now }

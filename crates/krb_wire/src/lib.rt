@@ -6,7 +6,6 @@ mod atom;
 mod components;
 mod counted;
 mod format;
-mod laws;
 mod limits;
 mod memory;
 mod name;
@@ -24,7 +23,6 @@ mod view;
 pub use components::Components;
 pub use counted::{read_data16, read_data32, split_data16, split_data32, tail};
 pub use format::{KtFormat, Lengths, Order};
-pub use laws::texts_name_their_names;
 pub use limits::{Limits, USUAL_LIMIT};
 pub use memory::NoMemory;
 pub use name::Name;
@@ -36,7 +34,7 @@ pub use principal::{Principal, copy_name};
 pub use same::same_name;
 pub use spelling::cache::{cc_principal_len, put_cc_principal};
 pub use spelling::keytab::{kt_principal_len, put_kt_principal};
-pub use text::{all_or_nothing, write_name};
+pub use text::{all_or_nothing, texts_name_their_names, write_name};
 pub use view::{
     PrincipalView, read_cc_principal, read_kt_principal, split_cc_principal, split_kt_principal,
 };

@@ -3,6 +3,7 @@
 ghost use Rattle.std.specs.Prelude.{◌≡◌, ◌++◌, ℕ, List, Vec, vec_len};
 ghost use Rattle.krb_wire.specs.Names.{quote, joined_components, name_text};
 ghost use Rattle.krb_wire.specs.Text.{separator, Appended, AppendedPart};
+ghost use Rattle.krb_wire.specs.NameOf.{TextsNameTheirNames};
 
 use crate::memory::NoMemory;
 use crate::name::Name;
@@ -71,3 +72,10 @@ pub fn write_name<N: Name, A: Allocator>(name: &N, out: &mut Vec<u8, A>) -> Resu
     let appended = push_name(name, out);
     all_or_nothing(appended, len, out)
 }
+
+/// The text of a name with a component parses as a name of type 1 with the same realm and components, whatever the
+/// default realm is.
+#[tactic(auto, using(crate::proofs::RoundTrip::round_trip))]
+pub fn texts_name_their_names()
+    ensures { TextsNameTheirNames }
+{}

@@ -2,7 +2,7 @@
 
 ghost use Rattle.std.specs.Prelude.{◌≡◌, [], true, None, Some, IsSome, is_some, IfOk, IfErr, OnOk, Ok};
 ghost use Rattle.krb_walk.specs.Rules.{PutGives, CutGives};
-ghost use Rattle.krb_walk.specs.Memory.{HadMemory};
+ghost use Rattle.krb_walk.specs.Events.{HadMemory};
 ghost use Rattle.krb_walk.specs.Changes.{Puts, Cuts};
 ghost use Rattle.krb_walk.specs.Store.{live_bytes};
 ghost use Rattle.krb_ccache.specs.Header.{offset_in};

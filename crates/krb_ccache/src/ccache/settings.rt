@@ -3,7 +3,7 @@
 ghost use Rattle.std.specs.Prelude.{◌≡◌, [], true, Ok, Err, Some, IfOk, IfErr, OnOk, option_copied};
 ghost use Rattle.krb_wire.specs.Reading.{items_of, principal_parts};
 ghost use Rattle.krb_walk.specs.Rules.{PutGives};
-ghost use Rattle.krb_walk.specs.Memory.{HadMemory};
+ghost use Rattle.krb_walk.specs.Events.{HadMemory};
 ghost use Rattle.krb_walk.specs.Store.{end_of};
 ghost use Rattle.krb_ccache.specs.declared.version.Version.TheVariants.{V4};
 ghost use Rattle.krb_ccache.specs.Store.{store_of, credential_at_place};

@@ -8,7 +8,7 @@ ghost use Rattle.krb_ccache.specs.declared.version.Version.TheVariants.{V4};
 ghost use Rattle.krb_ccache.specs.Credential.{credential};
 ghost use Rattle.krb_ccache.specs.SetConfig.{text_component, entry_of};
 
-use crate::lengths::sum_within;
+use crate::credential::spelling::sum_within;
 use krb_wire::{Name, cc_principal_len};
 use std::marker::Model;
 

@@ -1,6 +1,6 @@
 //! Writing credentials in version 4.
 
-ghost use Rattle.std.specs.Prelude.{◌≡◌, ◌≤◌, ◌<◌, ◌^◌, ◌+◌, length, IfSome, IfNone};
+ghost use Rattle.std.specs.Prelude.{◌≡◌, ◌≤◌, ◌<◌, ◌^◌, ◌+◌, length, IfSome, IfNone, sum};
 ghost use Rattle.std.specs.List.{flat_map, AllByRecursion};
 ghost use Rattle.krb_wire.specs.Text.{HasRoom, Puts};
 ghost use Rattle.krb_wire.specs.Spelling.{IsLong};
@@ -9,7 +9,6 @@ ghost use Rattle.krb_ccache.specs.Credential.{typed_data, typed_list, key, times
 
 use crate::credential::Cred;
 use crate::credential::times::Times;
-use crate::lengths::sum_within;
 use krb_wire::{Order, Pen, cc_principal_len};
 use std::alloc::Allocator;
 
@@ -175,4 +174,17 @@ impl<A: Allocator> Cred<A> {
         self.put_middle(pen);
         self.put_lists(pen);
     }
+}
+
+/// Returns the sum of the lengths, or `None` if it is more than `most`.
+pub fn sum_within(lens: &[usize], most: usize) -> Option<usize>
+    ensures some { IfSome result (λ n. n ≡ sum lens.now) }
+    ensures within { IfSome result (λ n. n ≤ most) }
+    ensures none { IfNone result (most < sum lens.now) }
+{
+    let mut room = most;
+    for len in lens {
+        room = room.checked_sub(*len)?;
+    }
+    Some(most - room)
 }

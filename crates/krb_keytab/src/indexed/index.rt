@@ -4,9 +4,8 @@ ghost use Rattle.std.specs.Prelude.{◌≡◌, ◌<◌, ◌≤◌, ◌+◌, ◌*
 ghost use Rattle.krb_keytab.specs.Slot.{free_size};
 ghost use Rattle.krb_keytab.specs.Tree.{IsHeightFor, HasRoomFor, IsGrown};
 
-use crate::indexed::height::height_for;
 use crate::indexed::slot::Slot;
-use crate::indexed::tree::Tree;
+use crate::indexed::tree::{Tree, height_for};
 use krb_wire::NoMemory;
 use std::alloc::{AllocError, Allocator};
 

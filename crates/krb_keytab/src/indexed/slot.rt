@@ -2,8 +2,7 @@
 
 ghost use Rattle.std.specs.Prelude.{◌≡◌, ◌<◌, ◌^◌};
 ghost use Rattle.krb_keytab.specs.Slot.{free_size, is_free, size, slot_of, negated};
-ghost use Rattle.krb_keytab.specs.Length.{length_of, HasField};
-ghost use Rattle.krb_keytab.specs.Cells.{length_of_cell};
+ghost use Rattle.krb_keytab.specs.Cells.{length_of_cell, length_of, HasField};
 ghost use Rattle.krb_keytab.specs.CellViews.{cell_of};
 
 use crate::cells::KtCell;

@@ -5,7 +5,6 @@ ghost use Rattle.krb_keytab.specs.Nodes.{AreNodes};
 ghost use Rattle.krb_keytab.specs.Slot.{free_size};
 ghost use Rattle.krb_keytab.specs.Tree.{first_fit, looks_for, IsHeightFor, HasRoomFor};
 
-use crate::indexed::height::height_for;
 use crate::indexed::nodes::{first_leaf, put_leaf, raise_all};
 use crate::indexed::slot::Slot;
 use krb_wire::NoMemory;
@@ -95,6 +94,7 @@ fn spread(nodes: &mut [u32], leaves: usize)
 
 impl<A: Allocator> Tree<A> {
     /// Returns the tree over the free size of each cell, with room for one more.
+    #[tactic(auto, using(crate::proofs::SizeLemmas::filled))]
     pub fn of(alloc: A, slots: &[Slot]) -> Result<Tree<A>, NoMemory>
         requires { length slots.now < 2 ^ 30 }
         ensures sizes { IfOk result (λ t. t.sizes
@@ -172,4 +172,28 @@ impl<A: Allocator> Tree<A> {
         spread(&mut self.nodes, leaves);
         self.height += 1;
     }
+}
+
+/// A number of levels, and how many leaves are under them.
+#[derive(Clone, Copy, Debug, PartialEq, Eq)]
+pub struct Height {
+    pub levels: u32,
+    pub leaves: usize,
+}
+
+/// Returns the least height with at least `count` leaves. Their number is a power of two.
+pub fn height_for(count: usize) -> Height
+    requires { count ≤ 2 ^ 30 }
+    ensures least { IsHeightFor count result.levels }
+    ensures leaves { result.leaves ≡ 2 ^ result.levels }
+    ensures few { 0 < count → result.leaves < 2 * count }
+    ensures low { result.levels ≤ 30 }
+{
+    let mut levels: u32 = 0;
+    let mut leaves: usize = 1;
+    while leaves < count {
+        levels += 1;
+        leaves *= 2;
+    }
+    Height { levels, leaves }
 }

@@ -3,13 +3,12 @@
 ghost use Rattle.std.specs.Prelude.{◌≡◌, ◌<◌, ◌^◌, true, length, Some, None, is_some, IsSome, IfOk, IfErr, OnOk, Ok, Err};
 ghost use Rattle.std.specs.Bool.{OnTrue, OnFalse};
 ghost use Rattle.krb_walk.specs.Rules.{PutGives, CutGives};
-ghost use Rattle.krb_walk.specs.Memory.{HadMemory};
+ghost use Rattle.krb_walk.specs.Events.{HadMemory};
 ghost use Rattle.krb_walk.specs.declared.refusal.Code.TheVariants.{Full};
 ghost use Rattle.krb_walk.specs.Store.{end_of, fault_of, live_bytes, IsPlace};
 ghost use Rattle.krb_keytab.specs.Store.{store_of, entry_at_place};
 ghost use Rattle.krb_keytab.specs.Form.{fits, read_back, IsEntry};
-ghost use Rattle.krb_keytab.specs.Changes.{AnswersRemove, append_result, cut_result, put_result, remove_result, takes_none, with_last, with_record_in, with_hole, hole_from, without};
-ghost use Rattle.krb_keytab.specs.Append.{AnswersAppend, KeepsRoom, IsFormOf};
+ghost use Rattle.krb_keytab.specs.Changes.{AnswersRemove, append_result, cut_result, put_result, remove_result, takes_none, with_last, with_record_in, with_hole, hole_from, without, AnswersAppend, KeepsRoom, IsFormOf};
 
 use super::Keytab;
 use crate::append::{append_record, len_with};

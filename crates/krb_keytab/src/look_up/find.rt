@@ -7,11 +7,10 @@ ghost use Rattle.krb_keytab.specs.LookUp.{IsFoundAmong, IsPrefix};
 use crate::cells::KtCell;
 use crate::entry::EntryView;
 use crate::keytab::Keytab;
-use crate::look_up::prefix::prefix_of;
 use crate::look_up::{LookUp, Query};
 use crate::put::bytes_fit;
 use krb_walk::Code;
-use krb_wire::{KtFormat, Name};
+use krb_wire::{KtFormat, Name, kt_principal_len, put_kt_principal};
 use std::alloc::Allocator;
 
 // A name spelled in more bytes is looked up without a prefix.
@@ -80,5 +79,20 @@ impl<A: Allocator> Keytab<A> {
         let mut room = [0; ROOM];
         let prefix = prefix_of(self.format(), name, &mut room);
         consider_all(self, &query, prefix).answer()
+    }
+}
+
+/// Returns the prefix of each entry of the name: the spelling of the name without its name type, which does not count.
+/// It is written into `room`, and is empty if the whole spelling does not fit, or there is none.
+pub fn prefix_of<'a, N: Name>(format: KtFormat, name: &N, room: &'a mut [u8]) -> &'a [u8]
+    ensures { IsPrefix format (N.parts name.now) result.now }
+{
+    match kt_principal_len(format, name) {
+        Some(len) if len <= room.len() as u64 => {
+            let end = put_kt_principal(format, name, room, 0);
+            let name_type = if format.has_name_type() { 4 } else { 0 };
+            &room[..end - name_type]
+        }
+        _ => &[],
     }
 }

@@ -14,6 +14,7 @@ use crate::placed::Placed;
 
 /// The track of a walk, extended over the next run in which the walk exists already or is resumed, is again that of one
 /// walk. So any number of runs join.
+#[tactic(auto, using(crate::proofs::Joins::walk_goes_on))]
 pub fn walks_go_on<Q: Placed>()
     ensures { (first : Store) (start : Option ℕ) (t : Track) (last : Store) (z : SessionState Q.State) (events : List (Event Q.Item)) (v c : ℕ)
         → IsWalk first start t last → Next first start t last Q.rules z events v c
@@ -22,6 +23,7 @@ pub fn walks_go_on<Q: Placed>()
 
 /// The rows of a walk in one run, followed by those of the walk that continues it in the next, are what is due to one
 /// walk over both.
+#[tactic(auto, using(crate::proofs::Fair::joined_gives))]
 pub fn joined_runs_give_what_is_due<P: Placed, Q: Placed>()
     ensures { (s : SessionState P.State) (events : List (Event P.Item)) (w : ℕ) (z : SessionState Q.State) (next : List (Event Q.Item)) (v c : ℕ)
         → Join P.rules s events w Q.rules z next v c

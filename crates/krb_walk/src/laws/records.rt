@@ -1,5 +1,6 @@
 //! Records: each comes exactly if it has a turn. These laws hold of each walk, over one run or over joined runs,
 //! rewrites included; only those about places assume that no event rewrites the store.
+#![tactic(auto, using(crate::proofs::Fair::walk_fair))]
 
 ghost use Rattle.std.specs.Prelude.{◌≡◌, ◌↔◌, ◌≤◌, ℕ, Option, filter, length, map};
 ghost use Rattle.std.specs.List.{AllByRecursion};

@@ -14,6 +14,7 @@ pub fn a_carried_cursor_keeps_its_rank()
 {}
 
 /// Each record comes as it is due, over any number of rewrites.
+#[tactic(auto, using(crate::proofs::ComeLaws::each_comes))]
 pub fn each_record_comes_as_due()
     ensures { (first : Store) (start : Option ℕ) (t : Track) (last : Store) → IsWalk first start t last → EachComesAsDue t }
 {}

@@ -7,9 +7,8 @@ ghost use Rattle.std.specs.List.{AllByRecursion};
 ghost use Rattle.krb_walk.specs.Ranks.{carry, Rewrites};
 ghost use Rattle.krb_walk.specs.Rules.{RewriteGives};
 ghost use Rattle.krb_walk.specs.ReplyContent.{content_of, Started, is_gave};
-ghost use Rattle.krb_walk.specs.Events.{session_of, reply_to, after, stop_reply};
+ghost use Rattle.krb_walk.specs.Events.{session_of, reply_to, after, stop_reply, TakesNone};
 ghost use Rattle.krb_walk.specs.History.{IsLawful, IsReady, moment};
-ghost use Rattle.krb_walk.specs.Memory.{TakesNone};
 ghost use Rattle.krb_walk.specs.Ran.{Ran, RanSome};
 
 use super::{Session, stop_from};
@@ -150,6 +149,7 @@ impl<P: Placed, A: Allocator + Copy> Session<P, A> {
     }
 
     /// Rewrites the store, which carries all cursors.
+    #[tactic(auto, using(crate::proofs::Table::rewrite_kept))]
     fn rewrite(&mut self) -> Result<Reply<A>, NoMemory>
         ensures reply { IfOk result (λ r. content_of r ≡ reply_to P.rules (session_of P.state_of self.old) Rewrite) }
         ensures state { OnOk result (session_of P.state_of self.new ≡ after P.rules (session_of P.state_of self.old) Rewrite) }

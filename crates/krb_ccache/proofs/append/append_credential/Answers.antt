@@ -16,6 +16,5 @@ returns-clause-ok g c =
     let room : length old + c.args.len ≤ h.limit = let ok = c.args.image.now.ok.0 in omega (arith, ok, c.requires.room) in
     let put : new ≡ old ++ text = put_last old new text c.args.len c.len-end.result (c.len-end.result + length text) (sym len) refl c.requires.len (c.put_into.ensures ∙ ap (λ (b : List ℕ). splice b c.len-end.result (c.len-end.result + length text) text) c.in_ok-grow.ensures.ok) in
     let parts = image_parts h old fits c.requires.kept in
-    let total = parts.total in
     let a = image_appendable h old (cache_of h old) fits c.requires.kept refl c.requires.whole c.requires.version in
-    last_holds h (cache_of h old) new x c.args.len (c.len-end.result + c.args.len) a new_fits c.requires.fits c.requires.len (omega (arith, room, total, ap length c.requires.whole)) (omega (arith, len, total, ap length c.requires.whole)) (put ∙ ap (λ (b : List ℕ). b ++ text) parts.spells)
+    last_holds h (cache_of h old) new x c.args.len (c.len-end.result + c.args.len) a new_fits c.requires.fits c.requires.len (omega (arith, room, parts.total, ap length c.requires.whole)) (omega (arith, len, parts.total, ap length c.requires.whole)) (put ∙ ap (λ (b : List ℕ). b ++ text) parts.spells)

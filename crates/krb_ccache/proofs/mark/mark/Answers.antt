@@ -27,13 +27,10 @@ put_time-requires-2 c =
     let s = is_some_has _ c.requires.there in
     let w = around c.args.version c.args.image.now c.args.place s.0.0 s.0.1 c.bytes_fit.ensures c.requires.within s.1 in
     let t = times_left c.args.version c.args.image.now c.tail.result.now c.in-Some.times.now c.args.place s.0.0 s.0.1 w c.tail.ensures c.in-Some.ensures in
-    let same = c.put_time.auto.image in
-    omega (arith, t.0, t.1, same)
+    omega (arith, t.0, t.1, c.put_time.auto.image)
 
 pub returns-clause-marked : goal.returns-clause-marked
 returns-clause-marked c = λ x rest read.
-    let v = c.args.version in
-    let image = c.args.image.now in
-    let w = around v image c.args.place x rest c.bytes_fit.ensures c.requires.within read in
-    let t = times_left v image c.tail.result.now c.in-Some.times.now c.args.place x rest w c.tail.ensures c.in-Some.ensures in
-    marked_is v image c.put_time.new.image c.put_time-2.new.image c.args.place _ _ _ _ x rest w c.requires.within (omega (arith, t.0)) refl refl refl c.put_time.ensures c.put_time-2.ensures
+    let w = around _ _ c.args.place x rest c.bytes_fit.ensures c.requires.within read in
+    let t = times_left _ _ c.tail.result.now c.in-Some.times.now c.args.place x rest w c.tail.ensures c.in-Some.ensures in
+    marked_is _ _ c.put_time.new.image c.put_time-2.new.image c.args.place _ _ _ _ x rest w c.requires.within (omega (arith, t.0)) refl refl refl c.put_time.ensures c.put_time-2.ensures

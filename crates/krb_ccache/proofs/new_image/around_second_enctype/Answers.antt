@@ -25,9 +25,7 @@ tail-requires c =
 pub returns-in-V4 : goal.returns-in-V4
 returns-in-V4 c = λ x read.
     let text = c.args.text.now in
-    let front = c.split_at.ensures.front in
-    let back = c.split_at.ensures.back in
-    ap (λ (b : List ℕ). b ++ c.split_at.result.1.now) front ∙ ap (λ (b : List ℕ). take (length text) text ++ b) back ∙ take-append-drop (length text) text
+    ap (λ (b : List ℕ). b ++ c.split_at.result.1.now) c.split_at.ensures.front ∙ ap (λ (b : List ℕ). take (length text) text ++ b) c.split_at.ensures.back ∙ take-append-drop (length text) text
     ∙ whole_same text x c.bytes_fit.ensures (ap (λ (v : Version). credential_at v text) (sym c.in-V4.is) ∙ read)
 
 pub returns-in-Some : goal.returns-in-Some

@@ -5,15 +5,13 @@ use Rattle.krb_ccache.proofs.new_image.put_texts.Goals as goal
 pub put_bytes-requires : goal.put_bytes-requires
 put_bytes-requires c =
     let s = new_texts_step c.args.version c.loop-first.rest.now _ c.in-Some.after.now c.loop-first.invariant.fits c.in-Some.ensures.some in
-    let room = c.loop-first.invariant.left.room in
-    omega (arith, room, s.len, length-append c.in-Some.first.now c.in-Some.second.now)
+    omega (arith, c.loop-first.invariant.left.room, s.len, length-append c.in-Some.first.now c.in-Some.second.now)
 
 pub put_bytes-requires-in-Some : goal.put_bytes-requires-in-Some
 put_bytes-requires-in-Some c =
     let s = new_texts_step c.args.version c.loop-first.rest.now _ c.in-Some.after.now c.loop-first.invariant.fits c.in-Some.ensures.some in
-    let room = c.loop-first.invariant.left.room in
     let first = c.put_bytes.ensures in
-    omega (arith, room, s.len, length-append c.in-Some.first.now c.in-Some.second.now, first.place, first.length)
+    omega (arith, c.loop-first.invariant.left.room, s.len, length-append c.in-Some.first.now c.in-Some.second.now, first.place, first.length)
 
 pub loop-first-smaller : goal.loop-first-smaller
 loop-first-smaller c =

@@ -5,9 +5,7 @@ use Rattle.krb_ccache.proofs.new_image.room_after_texts.Goals as goal
 pub returns-in_err-room-clause-none : goal.returns-in_err-room-clause-none
 returns-in_err-room-clause-none c =
     let s = new_texts_step c.args.version c.loop-first.rest.now _ c.in-Some.after.now c.loop-first.invariant.fits c.in-Some.ensures.some in
-    let left = c.loop-first.invariant.left in
-    let less = c.in_err-room.ensures in
-    rw c.from_residual.ensures (omega (arith, left, less, s.len, length-append c.in-Some.first.now c.in-Some.second.now))
+    rw c.from_residual.ensures (omega (arith, c.loop-first.invariant.left, c.in_err-room.ensures, s.len, length-append c.in-Some.first.now c.in-Some.second.now))
 
 pub loop-first-smaller : goal.loop-first-smaller
 loop-first-smaller c =
@@ -16,16 +14,13 @@ loop-first-smaller c =
 pub loop-first-preserved : goal.loop-first-preserved
 loop-first-preserved c =
     let s = new_texts_step c.args.version c.loop-first.rest.now _ c.in-Some.after.now c.loop-first.invariant.fits c.in-Some.ensures.some in
-    let left = c.loop-first.invariant.left in
-    let within = c.loop-first.invariant.within in
     let ok = c.in_ok-room.ensures in
     record {
-      within = omega (arith, within, ok);
-      left = omega (arith, left, ok, s.len, length-append c.in-Some.first.now c.in-Some.second.now);
+      within = omega (arith, c.loop-first.invariant.within, ok);
+      left = omega (arith, c.loop-first.invariant.left, ok, s.len, length-append c.in-Some.first.now c.in-Some.second.now);
       fits = s.fits;
     }
 
 pub returns-clause-some : goal.returns-clause-some
 returns-clause-some c =
-    let left = c.loop-first.invariant.left in
-    omega (arith, left, ap length (new_texts_none c.args.version c.loop-first.rest.now c.loop-first.invariant.fits c.in_default.ensures.none))
+    omega (arith, c.loop-first.invariant.left, ap length (new_texts_none c.args.version c.loop-first.rest.now c.loop-first.invariant.fits c.in_default.ensures.none))

@@ -13,17 +13,13 @@ pub loop-after-preserved : goal.loop-after-preserved
 loop-after-preserved c =
     let step = len_step c.args.version c.loop-after.rest.now _ c.in-Some.after.now c.loop-after.invariant.fits c.in-Some.ensures in
     let less = (read_left c.args.version c.loop-after.rest.now _ c.in-Some.after.now c.loop-after.invariant.fits c.in-Some.ensures).1 in
-    let all = c.loop-after.invariant.all in
-    let within = c.loop-after.invariant.within in
     record {
-      all = omega (arith, step, all);
-      within = omega (arith, less, within);
+      all = omega (arith, step, c.loop-after.invariant.all);
+      within = omega (arith, less, c.loop-after.invariant.within);
       fits = (read_left c.args.version c.loop-after.rest.now _ c.in-Some.after.now c.loop-after.invariant.fits c.in-Some.ensures).0;
     }
 
 pub returns-clause-value : goal.returns-clause-value
 returns-clause-value c =
     let none = len_end c.args.version c.loop-after.rest.now c.loop-after.invariant.fits c.in_default.ensures in
-    let all = c.loop-after.invariant.all in
-    let within = c.loop-after.invariant.within in
-    omega (arith, none, all, within)
+    omega (arith, none, c.loop-after.invariant.all, c.loop-after.invariant.within)

@@ -9,12 +9,11 @@ loop-cursor-preserved c =
     let i = c.loop-cursor.cursor-index in
     let v = c.place_given.result in
     let inv = c.loop-cursor.invariant in
-    let len = inv.len in
     let ly = c.loop-cursor-test.true in
-    let lx : i < length xs = omega (arith, ly, len) in
+    let lx : i < length xs = omega (arith, ly, inv.len) in
     let same = same_at xs ys i lx ly inv.behind in
     record {
-      len = length-set xs i v ∙ len;
+      len = length-set xs i v ∙ inv.len;
       behind = behind_more xs ys i v lx inv.behind;
       new_place = λ go all.
           let P = GoesBy c.args.image.now c.args.end c.args.last go in

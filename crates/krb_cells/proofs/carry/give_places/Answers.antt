@@ -7,8 +7,7 @@ cells-init g c = none_given (g.F.CellFormat.cells c.args.front) c.args.new c.arg
 
 pub cells-preserved : goal.cells-preserved
 cells-preserved g c =
-    let len = c.give_place.auto.image in
-    one_given _ _ _ _ _ _ _ _ _ _ _ _ _ _ _ c.cells.invariant c.part.ensures c.in-Some.ensures.some c.give_place.ensures refl (omega (arith, len)) c.first-to-in-Some.ensures.first
+    one_given _ _ _ _ _ _ _ _ _ _ _ _ _ _ _ c.cells.invariant c.part.ensures c.in-Some.ensures.some c.give_place.ensures refl (omega (arith, c.give_place.auto.image)) c.first-to-in-Some.ensures.first
 
 pub returns-clause-given : goal.returns-clause-given
 returns-clause-given g c = (all_given _ _ _ _ _ _ _ _ _ _ c.cells.invariant c.part.ensures c.in_default.ensures.none).given

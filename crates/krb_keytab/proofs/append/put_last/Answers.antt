@@ -12,6 +12,5 @@ returns g c =
     let zeros : List ℕ = replicate {A = ℕ} rest 0 in
     let both = puts_then c.put_form.ensures c.put_zeros.ensures in
     let puts : Puts c.new-pen.result c.put_zeros.new.self (cell o (Live x) ++ zeros) = rw c.len-need.ensures.len at both in
-    let room = c.requires.room in
-    let written = written_over c.args.image.now (cell o (Live x) ++ zeros) c.args.at (length c.args.image.now) c.new-pen.result c.put_zeros.new.self puts c.new-pen.ensures.bytes c.new-pen.ensures.place (omega (arith, room, length-append (cell o (Live x)) zeros, cell_len o (Live x), length-replicate {A = ℕ} rest 0)) in
+    let written = written_over c.args.image.now (cell o (Live x) ++ zeros) c.args.at (length c.args.image.now) c.new-pen.result c.put_zeros.new.self puts c.new-pen.ensures.bytes c.new-pen.ensures.place (omega (arith, c.requires.room, length-append (cell o (Live x)) zeros, cell_len o (Live x), length-replicate {A = ℕ} rest 0)) in
     search rules

@@ -5,8 +5,7 @@ use Rattle.krb_keytab.proofs.replace.fill_hole.Goals as goal
 pub put_record-requires : goal.put_record-requires
 put_record-requires g c =
     let i = hole_in c.args.form.now.format c.args.image.now (length c.args.form.now.bytes) c.args.hole c.args.end c.bytes_fit.ensures c.requires.known.ends c.requires.hole in
-    let room = i.room in
-    record { room = i.room; fits = i.large; some = i.some; small = omega (arith, room) }
+    record { room = i.room; fits = i.large; some = i.some; small = omega (arith, i.room) }
 
 pub returns : goal.returns
 returns g c =

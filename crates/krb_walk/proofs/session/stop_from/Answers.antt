@@ -1,5 +1,5 @@
 use Rattle.krb_walk.proofs.Cited.{ap, ◌∙◌, is_place}
-use Rattle.krb_walk.specs.Kept.{place_after}
+use Rattle.krb_walk.specs.History.{place_after}
 use Rattle.krb_walk.proofs.Places.{stop_place}
 use Rattle.krb_walk.proofs.Table.{place_after-stop_at}
 use Rattle.krb_walk.proofs.session.stop_from.Goals as goal

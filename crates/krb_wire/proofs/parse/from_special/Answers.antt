@@ -4,9 +4,8 @@ use Rattle.krb_wire.proofs.parse.from_special.Goals as goal
 
 pub returns-clause-faults : goal.returns-clause-faults
 returns-clause-faults c in_realm =
-    let run = c.split_plain.result.0.now in
     let rest = atoms c.split_plain.result.1.now in
-    ap first_fault (sym (faults_from-plain in_realm run rest) ∙ ap (λ (text : List Atom). faults_from in_realm text) (sym c.split_plain.ensures.cut))
+    ap first_fault (sym (faults_from-plain in_realm c.split_plain.result.0.now rest) ∙ ap (λ (text : List Atom). faults_from in_realm text) (sym c.split_plain.ensures.cut))
 
 pub returns-clause-realm : goal.returns-clause-realm
 returns-clause-realm c = sym (after_at-plain c.split_plain.result.0.now (atoms c.split_plain.result.1.now)) ∙ ap after_at (sym c.split_plain.ensures.cut)

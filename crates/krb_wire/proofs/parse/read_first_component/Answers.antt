@@ -24,19 +24,17 @@ loop-atom-init g c =
 
 pub loop-atom-preserved : goal.loop-atom-preserved
 loop-atom-preserved g c =
-    let old = c.loop-atom.bytes.items in
     let byte = c.match-atom.byte in
     let text = atoms c.loop-atom.rest.now in
     let more = atoms c.in-Some.more.now in
     let cut = c.in-Some.ensures.cut in
-    let shorter = c.in-Some.ensures.shorter in
     let inv = c.loop-atom.invariant in
     let first : (first_component text ≡ byte ∷ first_component more) × (after_first text ≡ after_first more) = elim c.match-atom.branch [
       | in-Byte w ↦ byte_first byte w.in-Byte.byte text more c.in-Some.atom cut w.in-Byte.is w.byte-is
       | in-Lone w ↦ lone_first byte text more c.in-Some.atom cut w.in-Lone.is w.byte-is
     ] in
     record {
-      bytes = kept old c.push.new.self.items _ (first_component text) (first_component more) byte c.in_ok-push.ensures.items first.0 inv.bytes;
+      bytes = kept c.loop-atom.bytes.items c.push.new.self.items _ (first_component text) (first_component more) byte c.in_ok-push.ensures.items first.0 inv.bytes;
       rest = sym first.1 ∙ inv.rest;
-      shorter = omega (arith, shorter, inv.shorter);
+      shorter = omega (arith, c.in-Some.ensures.shorter, inv.shorter);
     }

@@ -10,9 +10,7 @@ pub loop-byte-preserved : goal.loop-byte-preserved
 loop-byte-preserved g c =
     let put = c.put_quoted-len.ensures in
     let before = c.loop-byte.invariant in
-    let room = before.room in
-    let within = put.within in
     record {
       text = put.written ∙ ap (λ (t : List ℕ). t ++ quoted_byte (get_or c.args.batch.now c.loop-byte.byte-index 0)) before.text ∙ quote_step c.args.batch.now c.loop-byte.byte-index (omega arith);
-      room = omega (arith, room, within);
+      room = omega (arith, before.room, put.within);
     }

@@ -1,32 +1,23 @@
-use Rattle.krb_ccache.proofs.Cited.{◌≡◌, length, false, ap, ◌∙◌, arith, is_some, IsBytes, fault_of, V4, header, store_of, new_header, InMemory}
+use Rattle.krb_ccache.proofs.Cited.{◌≡◌, length, false, ap, ◌∙◌, arith, is_some, IsBytes, fault_of, V4, header, store_of, new_header, InMemory, subst}
 use Rattle.krb_ccache.proofs.Rewrites.{rewrite_fits, rewrites_store, new_image_held}
 use Rattle.krb_ccache.proofs.ccache.Ccache.new_cache.Goals as goal
 
 pub invariant_of-result : goal.invariant_of-result
 invariant_of-result g c =
-    let i = c.self.inside in
-    let fits : IsBytes i.image.items = rw c.deref.ensures.value at c.bytes_fit.ensures in
-    let new_fits : IsBytes c.in_ok-image.image.items = rw c.deref-2.ensures.value at c.bytes_fit-2.ensures in (
-      (new_image_held i.layout i.image.items c.in_ok-image.image.items c.args.self.now.state c.header_len.result c.in-Some.first c.in-Some.len fits c.self.invariant.0 (ap (λ (m : InMemory). m.state) c.self.view_is) new_fits c.in_ok-image.ensures
-          (c.header_len.ensures ∙ ap (λ o. length (header V4 (new_header o))) c.offset.ensures) c.in-Some.ensures.first c.in-Some.ensures.len c.in-Some.ensures.within).kept,
-      tt,
-    )
+    let held = new_image_held _ _ _ c.args.self.now.state c.header_len.result c.in-Some.first c.in-Some.len (subst IsBytes c.deref.ensures.value c.bytes_fit.ensures) c.self.invariant.0 (ap (λ (m : InMemory). m.state) c.self.view_is) (subst IsBytes c.deref-2.ensures.value c.bytes_fit-2.ensures) c.in_ok-image.ensures
+    (c.header_len.ensures ∙ ap (λ o. length (header V4 (new_header o))) c.offset.ensures) c.in-Some.ensures.first c.in-Some.ensures.len c.in-Some.ensures.within in
+    (held.kept, tt)
 
 pub returns-clause-ok : goal.returns-clause-ok
 returns-clause-ok g c =
-    let i = c.self.inside in
-    let fits : IsBytes i.image.items = rw c.deref.ensures.value at c.bytes_fit.ensures in
-    let new_fits : IsBytes c.in_ok-image.image.items = rw c.deref-2.ensures.value at c.bytes_fit-2.ensures in
-    (new_image_held i.layout i.image.items c.in_ok-image.image.items c.args.self.now.state c.header_len.result c.in-Some.first c.in-Some.len fits c.self.invariant.0 (ap (λ (m : InMemory). m.state) c.self.view_is) new_fits c.in_ok-image.ensures
+    (new_image_held _ _ _ c.args.self.now.state c.header_len.result c.in-Some.first c.in-Some.len (subst IsBytes c.deref.ensures.value c.bytes_fit.ensures) c.self.invariant.0 (ap (λ (m : InMemory). m.state) c.self.view_is) (subst IsBytes c.deref-2.ensures.value c.bytes_fit-2.ensures) c.in_ok-image.ensures
     (c.header_len.ensures ∙ ap (λ o. length (header V4 (new_header o))) c.offset.ensures) c.in-Some.ensures.first c.in-Some.ensures.len c.in-Some.ensures.within).state
 
 pub returns-clause-gives : goal.returns-clause-gives
 returns-clause-gives g c =
     let k = c.args.self.now.state in
     let whole : is_some (fault_of (store_of k)) ≡ false = let a = c.fault.ensures in let b = c.is_some.ensures in let d = c.if-is_some.false in cc in
-    let within = c.in-Some.ensures.within in
-    let len = c.in-Some.ensures.len in
-    rewrite_fits k whole (omega (arith, within, len))
+    rewrite_fits k whole (omega (arith, c.in-Some.ensures.within, c.in-Some.ensures.len))
 
 pub returns-clause-rewrites : goal.returns-clause-rewrites
 returns-clause-rewrites g c =

@@ -4,20 +4,10 @@ use Rattle.krb_ccache.proofs.ccache.Ccache.new_lens.Goals as goal
 
 pub returns-in_err-room-clause-none : goal.returns-in_err-room-clause-none
 returns-in_err-room-clause-none g c =
-    let i = c.self.inside in
-    let s = is_new_image i.layout i.image.items c.deref.result.now c.tail-cells.result.now c.default_principal.result c.offset.result c.args.self.now.state (ap (λ (m : InMemory). m.state) c.self.view_is) c.deref.ensures.value c.tail-cells.ensures c.default_principal.ensures c.offset.ensures in
-    let total = s.total in
-    let limit = s.limit in
-    let front = c.in_ok-front.ensures.some in
-    let none = c.in_err-room.ensures.none in
-    rw c.from_residual-in_err-room.ensures (omega (arith, total, limit, front, none))
+    let s = is_new_image c.self.inside.layout c.self.inside.image.items c.deref.result.now c.tail-cells.result.now c.default_principal.result c.offset.result c.args.self.now.state (ap (λ (m : InMemory). m.state) c.self.view_is) c.deref.ensures.value c.tail-cells.ensures c.default_principal.ensures c.offset.ensures in
+    rw c.from_residual-in_err-room.ensures (omega (arith, s.total, s.limit, c.in_ok-front.ensures.some, c.in_err-room.ensures.none))
 
 pub returns-clause-len : goal.returns-clause-len
 returns-clause-len g c =
-    let i = c.self.inside in
-    let s = is_new_image i.layout i.image.items c.deref.result.now c.tail-cells.result.now c.default_principal.result c.offset.result c.args.self.now.state (ap (λ (m : InMemory). m.state) c.self.view_is) c.deref.ensures.value c.tail-cells.ensures c.default_principal.ensures c.offset.ensures in
-    let total = s.total in
-    let front = c.in_ok-front.ensures.some in
-    let within = c.in_ok-front.ensures.within in
-    let room = c.in_ok-room.ensures.some in
-    omega (arith, total, front, within, room)
+    let s = is_new_image c.self.inside.layout c.self.inside.image.items c.deref.result.now c.tail-cells.result.now c.default_principal.result c.offset.result c.args.self.now.state (ap (λ (m : InMemory). m.state) c.self.view_is) c.deref.ensures.value c.tail-cells.ensures c.default_principal.ensures c.offset.ensures in
+    omega (arith, s.total, c.in_ok-front.ensures.some, c.in_ok-front.ensures.within, c.in_ok-room.ensures.some)

@@ -15,8 +15,7 @@ overflow_sub-self c =
 pub invariant_of-self : goal.invariant_of-self
 invariant_of-self c =
     let len = (read_one c.self.inside.version c.self.inside.bytes.now c.in_ok-credential.credential c.in_ok-credential.after.now c.bytes_fit.ensures c.in_ok-credential.ensures).len in
-    let small = c.self.invariant in
-    omega (arith, len, small)
+    omega (arith, len, c.self.invariant)
 
 pub returns-clause-steps : goal.returns-clause-steps
 returns-clause-steps c =

@@ -11,9 +11,7 @@ pub split_at-requires : goal.split_at-requires
 split_at-requires g c =
     let i = c.self.inside in
     let k = cut_held (g.F.CellFormat.cells i.front) i.place i.bytes.now i.fault c.args.self c.args.place c.self.invariant c.self.view_is c.requires in
-    let within = k.within in
-    let ahead = k.ahead in
-    omega (arith, within, ahead)
+    omega (arith, k.within, k.ahead)
 
 pub invariant_of-result : goal.invariant_of-result
 invariant_of-result g c =

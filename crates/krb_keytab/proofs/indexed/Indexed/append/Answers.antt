@@ -16,7 +16,6 @@ reserve_one-requires g c =
 pub returns-in_err-reserve_one-clause-appended : goal.returns-in_err-reserve_one-clause-appended
 returns-in_err-reserve_one-clause-appended g c =
     let i = c.self.inside in
-    let k = c.args.self.now.state in
     let x = c.args.form.now.bytes in
     let kept = subst (λ (y : KeytabState). IsKept y i.slots.items (vec_len i.slots) (vec_capacity i.slots) i.tree) (state_is c.self.view_is) c.self.invariant in
     let fits = subst (λ (y : KeytabState). append_result y x ≡ Ok (end_of (store_of y), with_last y x)) (state_is c.self.view_is) (OnTrue_at c.if-not-has_room.false c.has_room.ensures.fits) in
@@ -24,7 +23,7 @@ returns-in_err-reserve_one-clause-appended g c =
     let p = err_from_is_err_and c.from_residual.result c.from_residual.ensures.1 in
     rw (p.1 ∙ ap Err p.2) (
       fits,
-      longer_there k x (vec_len i.slots) (vec_capacity i.slots) i.tree some kept.1 (λ lt room. let ok = c.in_err-reserve_one.ensures.memory lt room in absurd (cc ok)),
+      longer_there c.args.self.now.state x (vec_len i.slots) (vec_capacity i.slots) i.tree some kept.1 (λ lt room. let ok = c.in_err-reserve_one.ensures.memory lt room in absurd (cc ok)),
       state_is c.self.view_is,
     )
 
@@ -36,7 +35,6 @@ push_live-requires-clause-few g c =
 pub invariant_of-self-2 : goal.invariant_of-self-2
 invariant_of-self-2 g c =
     let i = c.self.inside in
-    let k = c.args.self.now.state in
     let x = c.args.form.now.bytes in
     let s = c.push_live.new.slots in
     let u = c.push_live.new.tree in
@@ -44,8 +42,7 @@ invariant_of-self-2 g c =
     let kept = subst (λ (y : KeytabState). IsKept y i.slots.items (vec_len i.slots) (vec_capacity i.slots) i.tree) (state_is c.self.view_is) c.self.invariant in
     let fits = subst (λ (y : KeytabState). append_result y x ≡ Ok (end_of (store_of y), with_last y x)) (state_is c.self.view_is) (OnTrue_at c.if-not-has_room.false c.has_room.ensures.fits) in
     let gives = subst (λ (y : KeytabState). append_result y x ≡ Ok (c.in_ok-place.place, new)) (state_is c.self.view_is) c.in_ok-place.ensures.appended in
-    let few = OnTrue_at c.if-not-has_room.false c.has_room.ensures.small in
     let counts : vec_len c.reserve_one.new.slots ≡ length i.slots.items = omega (arith, c.reserve_one.ensures.len, i.slots.ok) in
-    let done = appended_kept k new x i.slots.items c.reserve_one.new.slots.items i.tree c.reserve_one.new.tree u c.in_ok-place.place c.len-need.result (vec_len i.slots) (vec_capacity i.slots) (vec_len s) (vec_capacity s) (vec_len c.reserve_one.new.slots)
-    kept c.requires.whole fits gives c.len-need.ensures.len (omega (arith, few)) c.reserve_one.ensures.slots c.reserve_one.ensures.sizes c.reserve_one.ensures.height counts c.push_live.ensures.grown in
+    let done = appended_kept c.args.self.now.state new x i.slots.items c.reserve_one.new.slots.items i.tree c.reserve_one.new.tree u c.in_ok-place.place c.len-need.result (vec_len i.slots) (vec_capacity i.slots) (vec_len s) (vec_capacity s) (vec_len c.reserve_one.new.slots)
+    kept c.requires.whole fits gives c.len-need.ensures.len (omega (arith, OnTrue_at c.if-not-has_room.false c.has_room.ensures.small)) c.reserve_one.ensures.slots c.reserve_one.ensures.sizes c.reserve_one.ensures.height counts c.push_live.ensures.grown in
     subst (λ (y : List Slot). IsKept new y (vec_len s) (vec_capacity s) u) (sym (rw c.field.ensures at c.push_live.ensures.slots)) done

@@ -5,12 +5,10 @@ use Rattle.krb_keytab.proofs.indexed.Indexed.fit.Goals as goal
 
 pub returns-clause-fit : goal.returns-clause-fit
 returns-clause-fit g c =
-    let i = c.self.inside in
-    let held = subst (λ (k : KeytabState). IsIndex k i.slots.items i.tree) (state_is c.self.view_is) c.self.invariant.0 in
-    fit_is c.args.self.now.state i.slots.items i.tree c.args.need c.first_fit.result.0 held c.image.ensures.sound c.requires c.first_fit.ensures.first
+    let held = subst (λ (k : KeytabState). IsIndex k c.self.inside.slots.items c.self.inside.tree) (state_is c.self.view_is) c.self.invariant.0 in
+    fit_is c.args.self.now.state _ _ c.args.need c.first_fit.result.0 held c.image.ensures.sound c.requires c.first_fit.ensures.first
 
 pub returns-clause-looks : goal.returns-clause-looks
 returns-clause-looks g c =
-    let i = c.self.inside in
-    let held = subst (λ (k : KeytabState). IsIndex k i.slots.items i.tree) (state_is c.self.view_is) c.self.invariant.0 in
-    looks_are c.args.self.now.state i.slots.items i.tree c.first_fit.result.0 c.first_fit.result.1 held c.first_fit.ensures.looks
+    let held = subst (λ (k : KeytabState). IsIndex k c.self.inside.slots.items c.self.inside.tree) (state_is c.self.view_is) c.self.invariant.0 in
+    looks_are c.args.self.now.state _ _ c.first_fit.result.0 c.first_fit.result.1 held c.first_fit.ensures.looks

@@ -4,5 +4,4 @@ use Rattle.krb_keytab.proofs.indexed.Indexed.number_for.Goals as goal
 
 pub returns-in_default : goal.returns-in_default
 returns-in_default g c =
-    let large = c.in_default.ensures in
-    none_so_large c.args.self.now.state.format 2 c.args.need c.args.self.now.state.contents.cells c.image.ensures.sound.cells (omega (arith, large))
+    none_so_large c.args.self.now.state.format 2 c.args.need c.args.self.now.state.contents.cells c.image.ensures.sound.cells (omega (arith, c.in_default.ensures))

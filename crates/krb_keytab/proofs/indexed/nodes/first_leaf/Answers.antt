@@ -1,7 +1,7 @@
 -- The descent from the root ends at the first leaf that is large enough.
-use Rattle.krb_keytab.proofs.Cited.{◌≡◌, ℕ, ◌-◌, ◌/◌, ◌^◌, length, ap, arith, subst, sym, ◌∙◌, Descends}
+use Rattle.krb_keytab.proofs.Cited.{◌≡◌, ℕ, ◌-◌, ◌/◌, ◌^◌, length, ap, arith, subst, sym, ◌∙◌}
 use Rattle.std.specs.Prelude.{Some}
-use Rattle.krb_keytab.proofs.NodeLemmas.{has_children, descends_from_root, descends_on, descends_to, none_fits}
+use Rattle.krb_keytab.proofs.NodeLemmas.{has_children, descends_from_root, descends_on, descends_to, none_fits, Descends}
 use Rattle.krb_keytab.proofs.indexed.nodes.first_leaf.Goals as goal
 
 pub returns-then-look-need-clause-first : goal.returns-then-look-need-clause-first

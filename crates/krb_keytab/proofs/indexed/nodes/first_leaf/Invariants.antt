@@ -1,6 +1,7 @@
 -- A leaf under the node is large enough, and none before those under it is; each level took one look.
-use Rattle.krb_keytab.proofs.Cited.{◌≡◌, ◌+◌, Descends}
+use Rattle.krb_keytab.proofs.Cited.{◌≡◌, ◌+◌}
 use Rattle.krb_keytab.proofs.indexed.nodes.first_leaf.Given as goal
+use Rattle.krb_keytab.proofs.NodeLemmas.{Descends}
 
 abbrev pub invariant-levels : goal.invariant-levels
 invariant-levels l = record {

@@ -3,5 +3,4 @@ use Rattle.krb_keytab.proofs.keytab.Keytab.cell_count.Goals as goal
 
 pub returns-clause-few : goal.returns-clause-few
 returns-clause-few g c =
-    let i = c.self.inside in
-    few_cells i.format i.limit i.image.items i.end i.count c.self.invariant.0 c.self.invariant.1 c.self.invariant.2
+    few_cells _ _ _ _ _ c.self.invariant.0 c.self.invariant.1 c.self.invariant.2

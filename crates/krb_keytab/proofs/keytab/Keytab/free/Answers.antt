@@ -4,18 +4,14 @@ use Rattle.krb_keytab.proofs.keytab.Keytab.free.Goals as goal
 
 pub free_cell-requires-clause-known : goal.free_cell-requires-clause-known
 free_cell-requires-clause-known g c =
-    let i = c.self.inside in
-    known_held i.format i.limit i.image.items c.deref_mut.result.now i.end c.deref_mut.ensures.value c.self.invariant.0 c.self.invariant.1
+    known_held _ _ _ c.deref_mut.result.now _ c.deref_mut.ensures.value c.self.invariant.0 c.self.invariant.1
 
 pub free_cell-requires-clause-live : goal.free_cell-requires-clause-live
 free_cell-requires-clause-live g c =
-    let i = c.self.inside in
-    let same = live_held i.format i.limit i.image.items c.deref_mut.result.now c.args.self.now.state c.args.place c.deref_mut.ensures.value (state_is c.self.view_is) in
+    let same = live_held _ _ _ c.deref_mut.result.now c.args.self.now.state c.args.place c.deref_mut.ensures.value (state_is c.self.view_is) in
     subst (λ (o : Option (List ℕ)). IsSome o) (sym same) c.requires
 
 pub free_cell-requires-clause-size : goal.free_cell-requires-clause-size
 free_cell-requires-clause-size g c =
-    let i = c.self.inside in
-    let same = live_held i.format i.limit i.image.items c.deref_mut.result.now c.args.self.now.state c.args.place c.deref_mut.ensures.value (state_is c.self.view_is) in
-    let bytes = c.bytes_at-size.ensures.bytes in
-    rw (same, bytes) refl
+    let same = live_held _ _ _ c.deref_mut.result.now c.args.self.now.state c.args.place c.deref_mut.ensures.value (state_is c.self.view_is) in
+    rw (same, c.bytes_at-size.ensures.bytes) refl

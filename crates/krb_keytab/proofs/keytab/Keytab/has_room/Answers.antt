@@ -5,22 +5,15 @@ use Rattle.krb_keytab.proofs.keytab.Keytab.has_room.Goals as goal
 
 pub returns-clause-fits : goal.returns-clause-fits
 returns-clause-fits g c =
-    let i = c.self.inside in
-    let x = c.args.form.now.bytes in
-    let k = c.args.self.now.state in
-    let a = appends i.format i.limit i.image.items x k i.end c.len_with.result c.len.result c.self.invariant.1 (state_is c.self.view_is) c.requires c.len_with.ensures c.len.ensures.len in
-    OnTrue_from _ _ (λ yes. append_fits i.format i.limit i.image.items x k i.end c.len_with.result a (leb-true _ _ yes))
+    let a = appends _ _ _ _ _ _ c.len_with.result c.len.result c.self.invariant.1 (state_is c.self.view_is) c.requires c.len_with.ensures c.len.ensures.len in
+    OnTrue_from _ _ (λ yes. append_fits _ _ _ _ _ _ c.len_with.result a (leb-true _ _ yes))
 
 pub returns-clause-full : goal.returns-clause-full
 returns-clause-full g c =
-    let i = c.self.inside in
-    let x = c.args.form.now.bytes in
-    let k = c.args.self.now.state in
-    let a = appends i.format i.limit i.image.items x k i.end c.len_with.result c.len.result c.self.invariant.1 (state_is c.self.view_is) c.requires c.len_with.ensures c.len.ensures.len in
-    OnFalse_from _ _ (λ no. append_full i.format i.limit i.image.items x k i.end c.len_with.result a (leb-false _ _ no))
+    let a = appends _ _ _ _ _ _ c.len_with.result c.len.result c.self.invariant.1 (state_is c.self.view_is) c.requires c.len_with.ensures c.len.ensures.len in
+    OnFalse_from _ _ (λ no. append_full _ _ _ _ _ _ c.len_with.result a (leb-false _ _ no))
 
 pub returns-clause-small : goal.returns-clause-small
 returns-clause-small g c = OnTrue_from _ _ (λ yes.
     let within : c.len_with.result ≤ c.self.inside.limit = leb-true _ _ yes in
-    let limit = c.self.invariant.0.limit_fits in
-    omega (arith, within, limit, c.len_with.ensures, c.len.ensures.len))
+    omega (arith, within, c.self.invariant.0.limit_fits, c.len_with.ensures, c.len.ensures.len))

@@ -6,25 +6,19 @@ use Rattle.krb_keytab.proofs.keytab.Keytab.store_from.Goals as goal
 
 pub part-cells-requires : goal.part-cells-requires
 part-cells-requires g c =
-    let i = c.self.inside in
-    let k = c.args.self.now.state in
-    let from = held_from i.format i.limit i.image.items c.deref-image.result.now (between c.args.place i.end.place c.deref-image.result.now) i.end k c.args.place c.deref-image.ensures.value (subst IsBytes c.deref-image.ensures.value c.bytes_fit.ensures) c.self.invariant.0 c.self.invariant.1 (state_is c.self.view_is) c.requires refl in
+    let from = held_from _ _ _ c.deref-image.result.now (between c.args.place _ c.deref-image.result.now) _ _ c.args.place c.deref-image.ensures.value (subst IsBytes c.deref-image.ensures.value c.bytes_fit.ensures) c.self.invariant.0 c.self.invariant.1 (state_is c.self.view_is) c.requires refl in
     record { ahead = from.ahead; within = from.within }
 
 pub of-requires : goal.of-requires
 of-requires g c =
-    let i = c.self.inside in
-    let k = c.args.self.now.state in
-    let from = held_from i.format i.limit i.image.items c.deref-image.result.now c.part-cells.result.now i.end k c.args.place c.deref-image.ensures.value (subst IsBytes c.deref-image.ensures.value c.bytes_fit.ensures) c.self.invariant.0 c.self.invariant.1 (state_is c.self.view_is) c.requires c.part-cells.ensures in
+    let from = held_from _ _ _ c.deref-image.result.now c.part-cells.result.now _ _ c.args.place c.deref-image.ensures.value (subst IsBytes c.deref-image.ensures.value c.bytes_fit.ensures) c.self.invariant.0 c.self.invariant.1 (state_is c.self.view_is) c.requires c.part-cells.ensures in
     record { cells = from.are; small = from.small }
 
 pub returns : goal.returns
 returns g c =
-    let i = c.self.inside in
-    let k = c.args.self.now.state in
-    let from = held_from i.format i.limit i.image.items c.deref-image.result.now c.part-cells.result.now i.end k c.args.place c.deref-image.ensures.value (subst IsBytes c.deref-image.ensures.value c.bytes_fit.ensures) c.self.invariant.0 c.self.invariant.1 (state_is c.self.view_is) c.requires c.part-cells.ensures in
+    let from = held_from _ _ _ c.deref-image.result.now c.part-cells.result.now _ _ c.args.place c.deref-image.ensures.value (subst IsBytes c.deref-image.ensures.value c.bytes_fit.ensures) c.self.invariant.0 c.self.invariant.1 (state_is c.self.view_is) c.requires c.part-cells.ensures in
     record {
       places = rw c.of.ensures from.places;
       bytes = rw c.of.ensures from.bytes;
-      all = λ first. c.of.ensures ∙ from.all c.kind.result first (c.kind.ensures ∙ kind_held i.format i.limit i.image.items i.end k c.self.invariant.1 (state_is c.self.view_is));
+      all = λ first. c.of.ensures ∙ from.all c.kind.result first (c.kind.ensures ∙ kind_held _ _ _ _ _ c.self.invariant.1 (state_is c.self.view_is));
     }

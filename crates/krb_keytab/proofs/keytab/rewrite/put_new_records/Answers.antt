@@ -15,11 +15,9 @@ put_new_record-requires-clause-room g c =
 pub entries-preserved : goal.entries-preserved
 entries-preserved g c =
     let puts = c.put_new_record.ensures in
-    let len = puts.length in
-    let small = c.entries.invariant.small in
     record {
       left = left_next c.entries.invariant.left (new_records_next c.entries.entry-iterator c.next.new.self (c.in-Some.field-0-0, c.in-Some.entry) c.in-Some.ensures.steps) puts;
-      small = omega (arith, len, small);
+      small = omega (arith, puts.length, c.entries.invariant.small);
     }
 
 pub returns : goal.returns

@@ -14,22 +14,20 @@ loop-place-init g c =
 
 pub loop-place-preserved-then-starts_with : goal.loop-place-preserved-then-starts_with
 loop-place-preserved-then-starts_with g c =
-    let old = c.loop-place.place-iterator in
-    let steps = subst (λ (d : KtCell). BeginsWith old c.in-Some.place (cell_of d) c.next.new.self) c.in-Live.is c.in-Some.ensures.steps in
+    let steps = subst (λ (d : KtCell). BeginsWith c.loop-place.place-iterator c.in-Some.place (cell_of d) c.next.new.self) c.in-Live.is c.in-Some.ensures.steps in
     let format = c.loop-place.invariant.format in
     record {
-      found = live_considered (g.N.Name.parts c.args.query.now.name.now) c.args.query.now.kvno c.args.query.now.enctype c.args.keytab.now.state old c.next.new.self c.in-Some.place c.in-Live.bytes.now _ _ _ _ steps c.loop-place.invariant.found
+      found = live_considered (g.N.Name.parts c.args.query.now.name.now) c.args.query.now.kvno c.args.query.now.enctype c.args.keytab.now.state _ c.next.new.self c.in-Some.place c.in-Live.bytes.now _ _ _ _ steps c.loop-place.invariant.found
           (λ xs e is so_far. c.consider.ensures xs e (ap (λ (f : KtFormat). entry_at f c.in-Live.bytes.now) (sym format) ∙ is) so_far);
       format = steps.format ∙ format;
     }
 
 pub loop-place-preserved-else-starts_with : goal.loop-place-preserved-else-starts_with
 loop-place-preserved-else-starts_with g c =
-    let old = c.loop-place.place-iterator in
-    let steps = subst (λ (d : KtCell). BeginsWith old c.in-Some.place (cell_of d) c.next.new.self) c.in-Live.is c.in-Some.ensures.steps in
+    let steps = subst (λ (d : KtCell). BeginsWith c.loop-place.place-iterator c.in-Some.place (cell_of d) c.next.new.self) c.in-Live.is c.in-Some.ensures.steps in
     let format = c.loop-place.invariant.format in
     record {
-      found = live_considered (g.N.Name.parts c.args.query.now.name.now) c.args.query.now.kvno c.args.query.now.enctype c.args.keytab.now.state old c.next.new.self c.in-Some.place c.in-Live.bytes.now _ _ _ _ steps c.loop-place.invariant.found
+      found = live_considered (g.N.Name.parts c.args.query.now.name.now) c.args.query.now.kvno c.args.query.now.enctype c.args.keytab.now.state _ c.next.new.self c.in-Some.place c.in-Live.bytes.now _ _ _ _ steps c.loop-place.invariant.found
           (λ xs e is so_far. passed_over c.args.keytab.now.state.format (g.N.Name.parts c.args.query.now.name.now) c.args.prefix.now c.in-Live.bytes.now c.args.query.now.kvno c.args.query.now.enctype c.in-Some.place _ _ c.requires.prefix c.bytes_fit.ensures (sym c.starts_with.ensures.value ∙ c.if-starts_with.false) xs e (ap (λ (f : KtFormat). entry_at f c.in-Live.bytes.now) (sym (format ∙ c.requires.format)) ∙ is) so_far);
       format = steps.format ∙ format;
     }

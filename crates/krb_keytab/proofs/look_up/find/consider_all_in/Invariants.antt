@@ -1,5 +1,6 @@
-use Rattle.krb_keytab.proofs.Cited.{◌≡◌, IsFoundUpTo}
+use Rattle.krb_keytab.proofs.Cited.{◌≡◌}
 use Rattle.krb_keytab.proofs.look_up.find.consider_all_in.Given as goal
+use Rattle.krb_keytab.proofs.EntryLists.{IsFoundUpTo}
 
 -- the entries so far were considered
 abbrev pub invariant-loop-place : goal.invariant-loop-place

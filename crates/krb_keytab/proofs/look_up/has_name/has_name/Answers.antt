@@ -11,21 +11,18 @@ returns-in_default-split_data16 g c = λ e read.
 
 pub returns-then-not-is_count : goal.returns-then-not-is_count
 returns-then-not-is_count g c = λ e read.
-    let count = c.count.ensures in
     other_count c.args.format c.in-Some.field c.in-Some-split_data16.realm.now c.in-Some-split_data16.components.now (g.N.Name.parts c.args.name.now) e.principal (begins c.args.format c.args.bytes.now c.order-order.result c.in-Some.field c.in-Some.rest.now c.in-Some-split_data16.realm.now c.in-Some-split_data16.components.now e (record { order = c.order-order.ensures; field_is = c.in-Some.ensures; realm_is = c.in-Some-split_data16.ensures }) read)
-    (λ is. let never : IsTrue false = c.if-not-is_count.ensures.1 (is ∙ ap Some (sym count)) in absurd cc)
+    (λ is. let never : IsTrue false = c.if-not-is_count.ensures.1 (is ∙ ap Some (sym c.count.ensures)) in absurd cc)
 
 pub returns-then-not-begin_with : goal.returns-then-not-begin_with
 returns-then-not-begin_with g c = λ e read.
-    let count = c.count.ensures in
     let n = g.N.Name.parts c.args.name.now in
-    let is : components_of_count c.args.format c.in-Some.field ≡ Some (length n.components) = c.if-not-is_count.ensures.0 refl ∙ ap Some count in
+    let is : components_of_count c.args.format c.in-Some.field ≡ Some (length n.components) = c.if-not-is_count.ensures.0 refl ∙ ap Some c.count.ensures in
     other_components n e.principal (sym (by_components c.args.format c.order-order.result c.in-Some.field c.in-Some-split_data16.realm.now c.in-Some-split_data16.components.now n e.principal c.order-order.ensures (begins c.args.format c.args.bytes.now c.order-order.result c.in-Some.field c.in-Some.rest.now c.in-Some-split_data16.realm.now c.in-Some-split_data16.components.now e (record { order = c.order-order.ensures; field_is = c.in-Some.ensures; realm_is = c.in-Some-split_data16.ensures }) read) is) ∙ sym c.if-not-begin_with.ensures)
 
 pub returns : goal.returns
 returns g c = λ e read.
-    let count = c.count.ensures in
     let n = g.N.Name.parts c.args.name.now in
     let b = (begins c.args.format c.args.bytes.now c.order-order.result c.in-Some.field c.in-Some.rest.now c.in-Some-split_data16.realm.now c.in-Some-split_data16.components.now e (record { order = c.order-order.ensures; field_is = c.in-Some.ensures; realm_is = c.in-Some-split_data16.ensures }) read) in
-    let is : components_of_count c.args.format c.in-Some.field ≡ Some (length n.components) = c.if-not-is_count.ensures.0 refl ∙ ap Some count in
+    let is : components_of_count c.args.format c.in-Some.field ≡ Some (length n.components) = c.if-not-is_count.ensures.0 refl ∙ ap Some c.count.ensures in
     same_by n e.principal c.in-Some-split_data16.realm.now _ (sym (by_components c.args.format c.order-order.result c.in-Some.field c.in-Some-split_data16.realm.now c.in-Some-split_data16.components.now n e.principal c.order-order.ensures b is) ∙ sym c.if-not-begin_with.ensures) b.realm_is (c.eq.ensures ∙ ap (λ (r : List ℕ). bytes_eq r c.in-Some-split_data16.realm.now) c.realm.ensures)

@@ -27,10 +27,9 @@ loop-event-preserved g c =
 
 pub returns-in_err-reply-clause-err : goal.returns-in_err-reply-clause-err
 returns-in_err-reply-clause-err g c =
-    let r = g.P.Placed.rules in
     let now = λ (s : SessionState g.row.P.Denot). session_of g.P.Placed.state_of s in
     let so_far = take c.loop-event.event-index c.args.events.now in
-    let content = λ (s : SessionState g.P.Placed.State). λ (content : List ReplyContent). Ran r (now c.args.self.now) s so_far (map content_of c.args.replies.now.items) content in
+    let content = λ (s : SessionState g.P.Placed.State). λ (content : List ReplyContent). Ran g.P.Placed.rules (now c.args.self.now) s so_far (map content_of c.args.replies.now.items) content in
     let same = sym c.in_err-reply.ensures.err in
     let kept = ap (map content_of) (sym c.reserve.ensures.items) in
     on_err c.from_residual-in_err-reply.result (record {

@@ -6,24 +6,18 @@ pub returns-then-component-clause-some : goal.returns-then-component-clause-some
 returns-then-component-clause-some g c =
     no_cc_len (g.N.Name.parts c.args.name.now) (λ l lt.
     let first = (subst (AllByRecursion IsLong) c.in-Some.ensures.steps (c.loop-component.invariant.long.0 l.components)).0 in
-    let long = c.if-component.true in
-    absurd (omega (arith, first, long)))
+    absurd (omega (arith, first, c.if-component.true)))
 
 pub returns-clause-some : goal.returns-clause-some
 returns-clause-some g c =
     let p = g.N.Name.parts c.args.name.now in
     let none = c.in-None.ensures.steps.0 in
-    let count = c.if-count.false in
-    let realm = c.if-realm.false in
-    let len = c.loop-component.invariant.len in
-    let small = c.loop-component.invariant.small in
     some_cc_len p (record {
-      count = omega (arith, count, c.count.ensures);
-      realm = omega (arith, realm, ap length c.realm-realm.ensures);
+      count = omega (arith, c.if-count.false, c.count.ensures);
+      realm = omega (arith, c.if-realm.false, ap length c.realm-realm.ensures);
       components = c.loop-component.invariant.long.1 (subst (AllByRecursion IsLong) (sym none) tt);
-    }) (let lt : length (cc_principal p) < 2 ^ 64 = omega (arith, len, small, ap (λ (cs : List (List ℕ)). length (flat_map (data32 Big) cs)) none) in lt)
+    }) (let lt : length (cc_principal p) < 2 ^ 64 = omega (arith, c.loop-component.invariant.len, c.loop-component.invariant.small, ap (λ (cs : List (List ℕ)). length (flat_map (data32 Big) cs)) none) in lt)
 
 pub returns-then-count-clause-none : goal.returns-then-count-clause-none
 returns-then-count-clause-none g c =
-    let long = c.if-count.true in
-    many_long (g.N.Name.parts c.args.name.now) (omega (arith, long, c.count.ensures))
+    many_long (g.N.Name.parts c.args.name.now) (omega (arith, c.if-count.true, c.count.ensures))

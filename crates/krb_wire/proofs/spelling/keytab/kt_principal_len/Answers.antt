@@ -7,9 +7,7 @@ pub returns-then-component-gt65535-clause-some : goal.returns-then-component-gt6
 returns-then-component-gt65535-clause-some g c =
     fits_not c.args.format (g.N.Name.parts c.args.name.now) (λ l.
     let left = subst (AllByRecursion IsShort) c.in-Some.ensures.steps (c.loop-component.invariant.short.0 l.components) in
-    let short = left.0 in
-    let long = c.if-component-gt65535.true in
-    absurd (omega (arith, short, long)))
+    absurd (omega (arith, left.0, c.if-component-gt65535.true)))
 
 pub loop-component-init : goal.loop-component-init
 loop-component-init g c =
@@ -20,11 +18,10 @@ loop-component-init g c =
     let own = c.name_type_len.ensures.len p.name_type in
     let all = flat_map (data16 o) p.components in
     let same = ap (λ (cs : List (List ℕ)). length (flat_map (data16 o) cs)) (c.into_iter-component-iterator.ensures.into_iter_gives ∙ c.components-component-items.ensures) in
-    let realm = ap length c.realm-realm.ensures in
     let field = digits o w16 (count_field f (length p.components)) in
     let len = digits o w16 (length p.realm) in
     record {
-      len = omega (arith, own, same, realm, length-append field (data16 o p.realm ++ (all ++ name_type)), length-append (data16 o p.realm) (all ++ name_type), length-append all name_type, length-append len p.realm, (wide16 o).len (count_field f (length p.components)), (wide16 o).len (length p.realm));
+      len = omega (arith, own, same, ap length c.realm-realm.ensures, length-append field (data16 o p.realm ++ (all ++ name_type)), length-append (data16 o p.realm) (all ++ name_type), length-append all name_type, length-append len p.realm, (wide16 o).len (count_field f (length p.components)), (wide16 o).len (length p.realm));
       small = search rules;
       short = search rules;
     }
@@ -39,9 +36,7 @@ loop-component-preserved g c = record {
       let was : c.loop-component.len + length (flat_map (data16 o) c.loop-component.component-iterator) ≡ length (kt_principal c.args.format (g.N.Name.parts c.args.name.now)) = c.loop-component.invariant.len in
       omega (arith, was, ap length cut, length-append (data16 o component) others, length-append (digits o w16 (length component)) component, (wide16 o).len (length component));
   small =
-      let was = c.loop-component.invariant.small in
-      let short = c.if-component-gt65535.false in
-      omega (arith, was, short, ap length c.in-Some.ensures.steps);
+      omega (arith, c.loop-component.invariant.small, c.if-component-gt65535.false, ap length c.in-Some.ensures.steps);
   short = (
     λ all. (subst (AllByRecursion IsShort) c.in-Some.ensures.steps (c.loop-component.invariant.short.0 all)).1,
     λ rest. c.loop-component.invariant.short.1 (subst (AllByRecursion IsShort) (sym c.in-Some.ensures.steps) (let short = c.if-component-gt65535.false in omega (arith, short), rest)),
@@ -52,10 +47,8 @@ pub returns-clause-some : goal.returns-clause-some
 returns-clause-some g c =
     let p = g.N.Name.parts c.args.name.now in
     let count : count_field c.args.format (length p.components) < 2 ^ 16 = search rules in
-    let long = c.if-realm-gt65535.false in
-    let none = c.in-None.ensures.steps.0 in
     sym (lengths_fit c.args.format p (record {
       count = count;
-      realm = omega (arith, long, ap length c.realm-realm.ensures);
-      components = c.loop-component.invariant.short.1 (subst (AllByRecursion IsShort) (sym none) tt);
+      realm = omega (arith, c.if-realm-gt65535.false, ap length c.realm-realm.ensures);
+      components = c.loop-component.invariant.short.1 (subst (AllByRecursion IsShort) (sym c.in-None.ensures.steps.0) tt);
     }))

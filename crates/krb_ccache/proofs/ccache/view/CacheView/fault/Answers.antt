@@ -4,10 +4,8 @@ use Rattle.krb_ccache.proofs.ccache.view.CacheView.fault.Goals as goal
 
 pub returns-then-self : goal.returns-then-self
 returns-then-self c =
-    let i = c.self.inside in
-    no_fault i.layout i.image.now (image_parts i.layout i.image.now c.bytes_fit.ensures c.self.invariant) c.if-self.true ∙ ap (λ (k : CacheState). fault_kind k.contents.end) c.self.view_is
+    no_fault _ _ (image_parts _ _ c.bytes_fit.ensures c.self.invariant) c.if-self.true ∙ ap (λ (k : CacheState). fault_kind k.contents.end) c.self.view_is
 
 pub returns : goal.returns
 returns c =
-    let i = c.self.inside in
-    some_fault i.layout i.image.now (image_parts i.layout i.image.now c.bytes_fit.ensures c.self.invariant) c.if-self.false ∙ ap (λ (k : CacheState). fault_kind k.contents.end) c.self.view_is
+    some_fault _ _ (image_parts _ _ c.bytes_fit.ensures c.self.invariant) c.if-self.false ∙ ap (λ (k : CacheState). fault_kind k.contents.end) c.self.view_is

@@ -1,6 +1,6 @@
 -- Lower trees have too few leaves.
 use Rattle.std.proofs.Common.{◌≡◌, ◌<◌, ◌≤◌, ◌-◌, ◌*◌, ◌^◌, ℕ}
-use Rattle.krb_keytab.proofs.indexed.height.height_for.Given as goal
+use Rattle.krb_keytab.proofs.indexed.tree.height_for.Given as goal
 
 abbrev pub invariant-loop-leaves : goal.invariant-loop-leaves
 invariant-loop-leaves l = record {

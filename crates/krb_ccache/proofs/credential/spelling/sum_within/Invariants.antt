@@ -1,5 +1,5 @@
 use Rattle.std.proofs.Common.{◌≡◌, ◌+◌, take, sum}
-use Rattle.krb_ccache.proofs.lengths.sum_within.Given as goal
+use Rattle.krb_ccache.proofs.credential.spelling.sum_within.Given as goal
 
 -- the room left by the lengths so far
 abbrev pub invariant-loop-len : goal.invariant-loop-len

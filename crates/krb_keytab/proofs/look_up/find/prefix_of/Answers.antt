@@ -1,7 +1,7 @@
 use Rattle.krb_keytab.proofs.Cited.{◌≡◌, ◌∙◌, ℕ, Bool, cond, [], length, sym, ap, w32, Big, digits, name_type_field}
 use Rattle.krb_keytab.proofs.PrefixLemmas.{cut_is_prefix}
-use Rattle.krb_keytab.proofs.look_up.prefix.prefix_of.Goals as goal
-use Rattle.krb_keytab.proofs.look_up.prefix.prefix_of.Goals.{then-has_name_type, else-has_name_type}
+use Rattle.krb_keytab.proofs.look_up.find.prefix_of.Goals as goal
+use Rattle.krb_keytab.proofs.look_up.find.prefix_of.Goals.{then-has_name_type, else-has_name_type}
 
 pub returns-after-has_name_type : goal.returns-after-has_name_type
 returns-after-has_name_type g c =

@@ -1,5 +1,0 @@
-use Rattle.krb_walk.proofs.Fair.{gives_due}
-use Rattle.krb_walk.proofs.laws.due.given_is_due.Goals as goal
-
-pub returns : goal.returns
-returns g c = λ s events w run. gives_due g.P.Placed.rules s events w run.ready run.lawful
