@@ -1,9 +1,9 @@
 /* Keytabs and credential caches (the FILE type) of MIT Kerberos, in memory: bytes in, bytes out. krbfile(3) says more.
  *
  * A caller owes what stands here, and each call then does what it says:
- * - A handle begins as KRBF_NONE. Open and create are given one of nothing: KRBF_NONE, or one that they refused or
- *   that was closed. Close is given any of these, and then does nothing, or an open one. Each other call is given one
- *   that open or create answered with KRBF_DONE and that is not closed.
+ * - A handle begins as KRBF_NONE. Open and create are given an empty one: KRBF_NONE, or one that they refused or that
+ *   was closed. Close is given an empty one, and then does nothing, or an open one. Each other call is given one that
+ *   open or create answered with KRBF_DONE and that is not closed.
  * - A handle is not copied. It may go to another thread, and is used by one call at a time. No call is made from a
  *   signal handler, or in the forked child of a process with threads.
  * - A pointer is not NULL, but beside a length of 0, and what a call writes to overlaps nothing else that it is given.
@@ -86,7 +86,7 @@ uint32_t krbf_kt_create(uint32_t limit, krbf_keytab *kt);
  * opens with the entries before its fault. KRBF_TOO_SHORT, KRBF_BAD_VERSION, KRBF_TOO_LARGE, before it is copied. */
 uint32_t krbf_kt_open(const uint8_t *image, size_t image_len, uint32_t v1_big, uint32_t limit, krbf_keytab *kt);
 
-/* krb5_kt_close: leaves a handle of nothing. One of nothing stays so. */
+/* krb5_kt_close: leaves the handle empty. An empty one stays so. */
 uint32_t krbf_kt_close(krbf_keytab *kt);
 
 /* krb5_kt_next_entry: the first entry at or after the cursor, which is then the place after it. KRBF_END,
@@ -160,7 +160,7 @@ uint32_t krbf_cc_create(const char *principal, size_t principal_len, uint32_t li
  * copied; KRBF_BAD_HEADER, KRBF_BAD_DEFAULT_PRINCIPAL. */
 uint32_t krbf_cc_open(const uint8_t *image, size_t image_len, uint32_t limit, krbf_ccache *cc);
 
-/* krb5_cc_close: leaves a handle of nothing. One of nothing stays so. */
+/* krb5_cc_close: leaves the handle empty. An empty one stays so. */
 uint32_t krbf_cc_close(krbf_ccache *cc);
 
 /* krb5_cc_get_principal, as text. */

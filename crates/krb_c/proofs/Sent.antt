@@ -8,7 +8,21 @@ use Rattle.krb_ccache.specs.contracts.ccache.Ccache as Ccache
 use Rattle.krb_ccache.proofs.ccache.Ccache.TheSendSync as ccache
 use Rattle.krb_c.proofs.walked.Walked.TheSendSync as walked
 use Rattle.krb_c.specs.contracts.held.Held as Held
-use Rattle.krb_c.specs.Handle.{heap_row, heap_ghosts}
+use Rattle.krb_c.proofs.Cited.{impl, tnil, dnil, RattleType}
+use mathlib.Core.List.{[]}
+use Rattle.std.specs.declared.alloc.Allocator.{Ghosts}
+use Rattle.std_heap.specs.contracts.Global as Global
+use Rattle.std_heap.specs.contracts.GlobalAllocator.TheImpl.{ghosts, dict}
+use Rattle.wiping.specs.contracts.allocator.Wiping as Wiping
+use Rattle.wiping.specs.contracts.allocator.WipingAllocator.TheImpl as wiping
+
+-- the type of the allocator of all that is behind a handle
+abbrev heap_row : RattleType
+heap_row = Wiping.the_row Global.the_row
+
+-- what it says of the right to free a block
+abbrev heap_ghosts : Ghosts heap_row.Denot
+heap_ghosts = wiping.ghosts Global.the_row ghosts dict (impl [] tnil dnil)
 
 sent : IsSend heap_row
 sent = search (sendable, heap.send) depth 20

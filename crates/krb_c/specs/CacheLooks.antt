@@ -6,9 +6,8 @@ use Rattle.krb_wire.specs.declared.name_fault.NameFault.{NameFault}
 use Rattle.krb_ccache.specs.Credential.{CredParts}
 use Rattle.krb_ccache.specs.Store.{CacheState, PlacedCredential, placed_credentials}
 use Rattle.krb_ccache.specs.Config.{is_config}
-use Rattle.krb_c.specs.declared.cache.ticket.KrbfTicket.{KrbfTicket}
-use Rattle.krb_c.specs.Text.{ByName}
-use Rattle.krb_c.specs.Shown.{AreShown}
+use Rattle.krb_c.specs.declared.cache.looks.KrbfTicket.{KrbfTicket}
+use Rattle.krb_c.specs.Text.{ByName, AreShown}
 
 -- ---- what C sees of a credential
 

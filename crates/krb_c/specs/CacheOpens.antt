@@ -7,7 +7,7 @@ use Rattle.krb_ccache.specs.declared.open.CcOpenFault.TheVariants.{TooLarge, Bad
 use Rattle.krb_ccache.specs.Store.{CacheState, open_result}
 use Rattle.krb_ccache.specs.Changes.{create_result}
 use Rattle.krb_c.specs.declared.handle.Handle.{Handle}
-use Rattle.krb_c.specs.Behind.{cache_of}
+use Rattle.krb_c.specs.Held.{cache_of}
 use Rattle.krb_c.specs.Opens.{OpensNone, OpensOr, Opens, limit_of}
 use Rattle.krb_c.specs.Status.{cc_open_status, code_status}
 use Rattle.krb_c.specs.Text.{ByName}

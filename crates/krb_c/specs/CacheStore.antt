@@ -5,7 +5,7 @@ use Rattle.krb_wire.specs.NameOf.{name_of}
 use Rattle.krb_ccache.specs.Credential.{CredParts, plain_key}
 use Rattle.krb_ccache.specs.Store.{CacheState}
 use Rattle.krb_ccache.specs.Changes.{put_result}
-use Rattle.krb_c.specs.declared.cache.numbers.KrbfNumbers.{KrbfNumbers}
+use Rattle.krb_c.specs.declared.cache.changes.KrbfNumbers.{KrbfNumbers}
 use Rattle.krb_c.specs.Status.{AddsOr, Refuses}
 use Rattle.krb_c.specs.Text.{ByName}
 

@@ -6,11 +6,10 @@ use Rattle.krb_walk.specs.declared.refusal.Code.{Code}
 use Rattle.krb_keytab.specs.Entry.{EntryParts}
 use Rattle.krb_keytab.specs.Store.{KeytabState, entry_at_place}
 use Rattle.krb_keytab.specs.Find.{find_result}
-use Rattle.krb_c.specs.declared.bytes.KrbfBytes.{KrbfBytes}
-use Rattle.krb_c.specs.declared.keytab.entry.KrbfEntry.{KrbfEntry}
-use Rattle.krb_c.specs.Shown.{ShowsBytes, AreShown}
+use Rattle.krb_c.specs.declared.text.KrbfBytes.{KrbfBytes}
+use Rattle.krb_c.specs.declared.keytab.looks.KrbfEntry.{KrbfEntry}
+use Rattle.krb_c.specs.Text.{ShowsBytes, AreShown, ByName}
 use Rattle.krb_c.specs.Status.{code_status, AddsOr, Refuses}
-use Rattle.krb_c.specs.Text.{ByName}
 use Rattle.krb_keytab.specs.Changes.{put_result}
 use Rattle.krb_keytab.specs.Form.{read_back}
 

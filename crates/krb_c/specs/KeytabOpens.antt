@@ -5,7 +5,7 @@ use Rattle.krb_wire.specs.declared.format.Order.TheVariants.{Big, Little}
 use Rattle.krb_wire.specs.declared.format.KtFormat.TheVariants.{V2}
 use Rattle.krb_keytab.specs.Store.{open_result, empty}
 use Rattle.krb_c.specs.declared.handle.Handle.{Handle}
-use Rattle.krb_c.specs.Behind.{keytab_of}
+use Rattle.krb_c.specs.Held.{keytab_of}
 use Rattle.krb_c.specs.Opens.{OpensNone, Opens}
 use Rattle.krb_c.specs.Status.{kt_open_status}
 

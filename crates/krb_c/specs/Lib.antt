@@ -2,11 +2,9 @@
 pub mod Status
 pub mod Held
 pub mod Handle
-pub mod Behind
 pub mod Opens
 pub mod Text
 pub mod Walks
-pub mod Shown
 pub mod CacheLooks
 pub mod CacheStore
 pub mod CacheOpens

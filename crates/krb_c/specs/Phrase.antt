@@ -10,8 +10,8 @@ use Rattle.krb_walk.specs.Phrases.{code_phrase}
 use Rattle.krb_ccache.specs.declared.open.CcOpenFault.{CcOpenFault}
 use Rattle.krb_ccache.specs.declared.open.CcOpenFault.TheVariants as opening
 use Rattle.krb_ccache.specs.Open.{open_fault_phrase}
-use Rattle.krb_c.specs.declared.bytes.KrbfBytes.{KrbfBytes}
-use Rattle.krb_c.specs.Shown.{AreShown}
+use Rattle.krb_c.specs.declared.text.KrbfBytes.{KrbfBytes}
+use Rattle.krb_c.specs.Text.{AreShown}
 
 -- the code of a refusal, by its status
 abbrev pub code_of : ℕ → Option Code

@@ -3,15 +3,12 @@
 mod calls;
 mod changes;
 mod looks;
-mod new_credential;
-mod numbers;
 mod opening;
-mod ticket;
 
 ghost use Rattle.std.specs.Prelude.{◌≡◌};
 ghost use Rattle.krb_ccache.specs.Store.{credential_at_place};
 
-use crate::cache::ticket::read_at;
+use crate::cache::looks::read_at;
 use crate::heap::Heap;
 use crate::walked::Walked;
 use krb_ccache::{Ccache, CredView};

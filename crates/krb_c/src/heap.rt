@@ -1,8 +1,10 @@
-//! The allocator of the library.
+//! The allocator of the library, and the limit on the length of an image.
 
 ghost use Rattle.std.specs.Prelude.{◌≡◌, IfOk, IfErr};
+ghost use Rattle.krb_c.specs.Opens.{limit_of};
 
 use crate::status::NO_MEMORY;
+use krb_wire::Limits;
 use std::alloc::Global;
 use wiping::Wiping;
 
@@ -23,4 +25,14 @@ pub fn copied(alloc: Global, bytes: &[u8]) -> Result<Vec<u8, Heap>, u32>
         Ok(copy) => Ok(copy),
         Err(_) => Err(NO_MEMORY),
     }
+}
+
+/// Returns the limits for a number from C, or `None` if it is no limit. 0 means the usual limit.
+pub fn limits_of(limit: u32) -> Option<Limits>
+    ensures { result ≡ limit_of limit }
+{
+    if limit == 0 {
+        return Some(Limits::usual());
+    }
+    Limits::of(limit)
 }

@@ -2,7 +2,6 @@
 
 mod calls;
 mod changes;
-mod entry;
 mod looks;
 mod opening;
 

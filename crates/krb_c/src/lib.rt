@@ -2,17 +2,13 @@
 //! and krb_ccache. c/krbfile.h declares them.
 #![tactic(auto)]
 
-mod bytes;
 mod cache;
-mod cursors;
 mod handle;
 mod heap;
 mod held;
 mod keytab;
-mod limit;
 mod parts;
 mod phrase;
-mod records;
 mod status;
 mod text;
 mod walked;

@@ -4,8 +4,8 @@ ghost use Rattle.std.specs.Prelude.{◌≡◌};
 ghost use Rattle.krb_wire.specs.Reading.{Gives};
 ghost use Rattle.krb_c.specs.Phrase.{ShowsPhrase, phrase_of, own_phrase, code_of, name_fault_of, open_fault_of};
 
-use crate::bytes::{KrbfBytes, bytes_of};
 use crate::status::{DONE, of_code};
+use crate::text::{KrbfBytes, bytes_of};
 use krb_ccache::CcOpenFault;
 use krb_walk::Code;
 use krb_wire::NameFault;

@@ -1,15 +1,39 @@
-//! Names as text: parsing those from C, and writing those into a buffer of C.
+//! Bytes that C reads in place, and names as text: parsing those from C, and writing those into a buffer of C.
 
 ghost use Rattle.std.specs.Prelude.{◌≡◌, ◌<◌, Ok, None, IfOk, IfErr};
 ghost use Rattle.krb_wire.specs.Reading.{principal_parts};
 ghost use Rattle.krb_wire.specs.NameOf.{name_of};
 ghost use Rattle.krb_wire.specs.Names.{name_text};
-ghost use Rattle.krb_c.specs.Text.{CopiesText, in_room, IsUnread};
+ghost use Rattle.krb_c.specs.Text.{CopiesText, in_room, IsUnread, AreShown};
 
 use crate::heap::{Heap, heap};
 use crate::status::{DONE, NO_MEMORY, of_name};
 use krb_wire::{Name, NoMemory, Principal, parse_name, write_name};
 use std::alloc::Global;
+use std::ptr;
+
+/// A pointer to the first byte, and the number of bytes. They are in the memory of a keytab or a cache, and valid until
+/// it is changed or closed.
+#[repr(C)]
+#[derive(Drop)]
+pub struct KrbfBytes {
+    pub at: *const u8,
+    pub len: usize,
+}
+
+/// Returns the pointer and the number of bytes. The pointer is null if there are none.
+pub fn bytes_of(bytes: &[u8]) -> KrbfBytes
+    ensures { AreShown result bytes.now }
+{
+    let at = match bytes.first() {
+        Some(first) => ptr::from_ref(first),
+        None => ptr::null(),
+    };
+    KrbfBytes {
+        at,
+        len: bytes.len(),
+    }
+}
 
 /// Returns the name of a text, or the status that says why it has none.
 #[tactic(auto, using(crate::proofs::NameLemmas::fault_is))]

@@ -1,15 +1,48 @@
-//! What is behind a handle: a store, and where a walk is in it.
+//! What is behind a handle: a store whose records C sees, and where a walk is in it.
 
-ghost use Rattle.std.specs.Prelude.{◌≡◌, ◌⊎◌, Ok, map};
+ghost use Rattle.std.specs.Prelude.{◌≡◌, ◌⊎◌, Ok, map, IsSome, IsSomeAnd};
 ghost use Rattle.krb_walk.specs.Ranks.{carry};
-ghost use Rattle.krb_c.specs.Walks.{with_cursors, StepsOver};
+ghost use Rattle.krb_walk.specs.Store.{live_bytes};
+ghost use Rattle.krb_c.specs.Walks.{with_cursors, StepsOver, are_places};
 ghost use Rattle.krb_c.specs.Status.{Adds, Changes, Rewrites};
 
-use crate::cursors::are_places;
-use crate::records::Records;
 use crate::status::{AT_END, DONE, of_code, of_refusal};
-use krb_walk::{Code, Stop};
+use krb_walk::{Code, Placed, Stop};
 use std::marker::Model;
+
+/// True if each cursor is a place of the store.
+pub fn are_places<P: Placed>(store: &P, cursors: &[u32]) -> bool
+    ensures { result ≡ are_places (P.rules.seen (P.state_of store.now)) cursors.now }
+{
+    for cursor in cursors {
+        if !store.is_place(*cursor) {
+            return false;
+        }
+    }
+    true
+}
+
+/// A store whose records C sees.
+pub trait Records: Placed {
+    ghost use Rattle.std.specs.Prelude.{ℕ, Option};
+
+    /// A record as C sees it.
+    type Shown: Drop;
+
+    /// A record as contracts see it.
+    ghost Record: { Type 0 };
+
+    /// The record at a place.
+    ghost record_at: { Self → ℕ → Option Record };
+
+    /// What C sees is the record at a place.
+    ghost Shows: { Self.Shown → ℕ → Record → Type 0 };
+
+    /// Returns the record of the live cell at `place`. Reads no other record.
+    fn shown_at(&self, place: u32) -> Self::Shown
+        requires { IsSome (live_bytes (Self.rules.seen (Self.state_of self.now)) place) }
+        ensures { IsSomeAnd (record_at self.now place) (Shows result place) };
+}
 
 /// A store in memory, and where a walk is in it, so that its next step need not search for its place. Contracts see the
 /// store.

@@ -2,7 +2,7 @@
 use Rattle.std.specs.Prelude.{⊤}
 use Rattle.krb_ccache.proofs.OnLiterals.{krb_ccache_on_literals}
 use Rattle.krb_text.proofs.OnLiterals.{krb_text_on_literals}
-use Rattle.krb_cache_text.specs.Credential.{ticket_line, renew_line, flags_line, etype_line, config_line}
+use Rattle.krb_cache_text.specs.Listing.{ticket_line, renew_line, flags_line, etype_line, config_line}
 
 unfoldable pub krb_cache_text_on_literals : ⊤
 unfolding krb_ccache_on_literals krb_text_on_literals ticket_line renew_line flags_line etype_line config_line

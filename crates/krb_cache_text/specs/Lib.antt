@@ -1,6 +1,5 @@
 -- The definitions that the contracts of this crate use.
 pub mod Escape
-pub mod Credential
 pub mod Listing
 pub mod Reply
 pub mod Script

@@ -3,7 +3,7 @@
 ghost use Rattle.std.specs.Prelude.{◌≡◌, ◌++◌, OnOk, option_copied};
 ghost use Rattle.krb_wire.specs.Text.{AppendedPart};
 ghost use Rattle.krb_ccache.specs.Config.{config_parts};
-ghost use Rattle.krb_cache_text.specs.Credential.{valid_from, instant, validity, ticket_line, renew_line, flags_line, etype_line, ticket_lines, about, config_line, credential_lines};
+ghost use Rattle.krb_cache_text.specs.Listing.{valid_from, instant, validity, ticket_line, renew_line, flags_line, etype_line, ticket_lines, about, config_line, credential_lines};
 
 use crate::columns::CcColumns;
 use crate::escape::append_escaped;
@@ -65,7 +65,7 @@ fn append_validity<A: Allocator>(
 }
 
 // Appends the line with the start time, the end time and the server of a ticket.
-#[tactic(auto, unfolding(crate::specs::Credential::ticket_line))]
+#[tactic(auto, unfolding(crate::specs::Listing::ticket_line))]
 fn append_ticket<A: Allocator>(
     last: &mut LastTimes,
     credential: &CredView<'_>,
@@ -79,7 +79,7 @@ fn append_ticket<A: Allocator>(
 }
 
 // Appends the line that says until when a ticket can be renewed, if it can be.
-#[tactic(auto, unfolding(crate::specs::Credential::renew_line))]
+#[tactic(auto, unfolding(crate::specs::Listing::renew_line))]
 fn append_renewal<A: Allocator>(
     last: &mut LastTime,
     seconds: u32,
@@ -96,7 +96,7 @@ fn append_renewal<A: Allocator>(
 }
 
 // Appends the line with the flags of a ticket, if they are shown.
-#[tactic(auto, unfolding(crate::specs::Credential::flags_line))]
+#[tactic(auto, unfolding(crate::specs::Listing::flags_line))]
 fn append_flags<A: Allocator>(
     is_shown: bool,
     flags: u32,
@@ -113,7 +113,7 @@ fn append_flags<A: Allocator>(
 }
 
 // Appends the line with the enctype of a session key, if that is shown.
-#[tactic(auto, unfolding(crate::specs::Credential::etype_line))]
+#[tactic(auto, unfolding(crate::specs::Listing::etype_line))]
 fn append_etype<A: Allocator>(
     is_shown: bool,
     etype: u16,
@@ -158,7 +158,7 @@ pub fn append_about<A: Allocator>(
     append_byte(b')', out)
 }
 
-#[tactic(auto, unfolding(crate::specs::Credential::config_line))]
+#[tactic(auto, unfolding(crate::specs::Listing::config_line))]
 fn append_config<A: Allocator>(
     name: ConfigName<'_>,
     value: &[u8],

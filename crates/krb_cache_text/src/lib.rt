@@ -4,15 +4,13 @@
 mod columns;
 mod credential;
 mod escape;
-mod line;
 mod listing;
 mod record;
 mod request;
 mod setting;
 
 pub use columns::CcColumns;
-pub use line::CacheLine;
 pub use listing::list_cache;
 pub use record::CcFormat;
-pub use request::Request;
+pub use request::{CacheLine, Request};
 pub use setting::OwnedSetting;

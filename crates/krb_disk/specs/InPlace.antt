@@ -1,9 +1,9 @@
 -- A model of a file that is saved in place: what the calls of a save do to it, also where they fail, and what a crash leaves.
 use Rattle.std.specs.Prelude.{◌≡◌, ◌⊎◌, ℕ, ◌<◌, ◌≤◌, nat_lt, Bool, true, false, List, [], ◌∷◌, length, slice_get, Option}
 use Rattle.krb_disk.specs.Content.{Content, Has, Writes, Cuts, CutsIf, IsPatch}
-use Rattle.krb_disk.specs.PlaceStages.{torn_to}
-use Rattle.krb_disk.specs.declared.place_stage.PlaceStage.{PlaceStage}
-use Rattle.krb_disk.specs.declared.place_stage.PlaceStage.TheVariants.{Untouched, Quiet, Same, Extended, Lengthened, Unlocked, Ready, Overwritten, Cut, Finished, Saved, Whole, Trimmed, Back, Left, Mixed, Torn, Refilled, Lacking, Cleared, Lost}
+use Rattle.krb_disk.specs.Stages.{torn_to}
+use Rattle.krb_disk.specs.declared.stage.PlaceStage.{PlaceStage}
+use Rattle.krb_disk.specs.declared.stage.PlaceStage.TheVariants.{Untouched, Quiet, Same, Extended, Lengthened, Unlocked, Ready, Overwritten, Cut, Finished, Saved, Whole, Trimmed, Back, Left, Mixed, Torn, Refilled, Lacking, Cleared, Lost}
 
 -- a save in place: the old bytes, the new ones, and the places from which and up to which old ones are written over
 pub record PlaceSave : Type 0 where

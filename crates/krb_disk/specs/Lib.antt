@@ -1,7 +1,6 @@
 -- What the contracts of this crate say.
 pub mod Aftermaths
 pub mod Content
-pub mod Device
 pub mod Disk
 pub mod DiskFiles
 pub mod Holding
@@ -9,5 +8,4 @@ pub mod InPlace
 pub mod Looks
 pub mod Mode
 pub mod NewFile
-pub mod PlaceStages
 pub mod Stages

@@ -14,14 +14,11 @@ mod old_file;
 pub mod stale_file;
 
 use crate::fault::DiskFault;
-use crate::lock::TakeLock;
 use crate::looks::device::Listed;
-use crate::looks::same::is_same_file;
-use crate::looks::{Found, Looks};
+use crate::looks::{Found, Looks, is_same_file};
 use crate::noted::Noted;
-use crate::owner::{SetOwner, set_owner};
-use crate::place_stage::PlaceStage;
-use crate::stage::Stage;
+use crate::open_file::{SetOwner, TakeLock, set_owner};
+use crate::stage::{PlaceStage, Stage};
 use krb_files::save;
 use log::Log;
 use std::fs::{self, OpenFile, OpenOptions, Permissions};

@@ -3,8 +3,8 @@
 ghost use Rattle.std.specs.Prelude.{◌≡◌, ◌⊎◌, ◌∷◌, length, IfErr, IfOk, IsFalse, IsTrue, OnOk, OnErr, string_bytes};
 ghost use Rattle.krb_disk.specs.Aftermaths.{IsDone, IsRefused};
 ghost use Rattle.krb_disk.specs.Content.{AtEach, IsPatch, Replaces, TurnsInto, Writes};
-ghost use Rattle.krb_disk.specs.PlaceStages.{HasFailed, IsAftermath, IsToWatch, looked, unlooked};
-ghost use Rattle.krb_disk.specs.declared.place_stage.PlaceStage.TheVariants.{Same, Ready, Finished, Saved, Whole};
+ghost use Rattle.krb_disk.specs.Stages.{HasFailed, IsAftermath, IsToWatch, looked, unlooked};
+ghost use Rattle.krb_disk.specs.declared.stage.PlaceStage.TheVariants.{Same, Ready, Finished, Saved, Whole};
 
 mod bring_back;
 
@@ -12,9 +12,9 @@ use crate::calls::{Calls, PlaceFile};
 use crate::deadline::{Deadline, MOST_TRIES};
 use crate::fault::{DiskFault, Unsaved};
 use crate::old::Old;
+use crate::open_file::WriteInPlace;
 use crate::patch::Patch;
 use crate::snapshot::Snapshot;
-use crate::write_in_place::WriteInPlace;
 use bring_back::bring_back;
 use krb_files::{Aftermath, Cause};
 use std::rt;

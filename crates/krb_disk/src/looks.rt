@@ -2,13 +2,12 @@
 
 ghost use Rattle.std.specs.Prelude.{◌≡◌, ◌↔◌, IsTrue, bit_and};
 ghost use Rattle.krb_disk.specs.DiskFiles.{permissions};
+ghost use Rattle.krb_disk.specs.Looks.{IsSameFile, IsUnchanged};
 
 pub mod device;
-pub mod limits;
 pub mod listed;
 pub mod locks;
-pub mod same;
-mod text;
+pub mod text;
 pub mod users;
 
 use std::fs::{self, Metadata, OpenFile};
@@ -164,4 +163,22 @@ impl<R: rt::Clock> Looks<'_, R> {
     pub fn now(&self) -> Option<Instant> {
         Instant::now(self.rt).ok()
     }
+}
+
+/// Returns whether both are the same file: one device and inode.
+pub fn is_same_file(one: &Found, other: &Found) -> bool
+    ensures { IsTrue result ↔ IsSameFile one.now other.now }
+{
+    one.device == other.device && one.inode == other.inode
+}
+
+/// Returns whether both are the same file, with the same type, mode, owner, group and size.
+pub fn is_unchanged(old: &Found, new: &Found) -> bool
+    ensures { IsTrue result ↔ IsUnchanged old.now new.now }
+{
+    is_same_file(old, new)
+        && old.mode == new.mode
+        && old.owner == new.owner
+        && old.group == new.group
+        && old.size == new.size
 }

@@ -8,11 +8,11 @@ use crate::calls::stale_file::StaleFile;
 use crate::calls::{Calls, NewFile};
 use crate::deadline::Deadline;
 use crate::fault::DiskFault;
-use crate::lock::TakeLock;
 use crate::looks::Found;
 use crate::looks::device::{Listed, Mounted};
 use crate::looks::locks::{LockKind, is_locked};
 use crate::looks::users::Users;
+use crate::open_file::TakeLock;
 use std::io::{self, ErrorKind};
 use std::rt;
 

@@ -8,11 +8,10 @@ ghost use Rattle.krb_disk.specs.declared.snapshot.Snapshot.TheVariants.{Nothing}
 use crate::calls::{Calls, OldFile};
 use crate::deadline::{Deadline, MOST_TRIES};
 use crate::fault::{DiskFault, ReadFault};
-use crate::lock::TakeLock;
 use crate::looks::Found;
 use crate::looks::device::Listed;
 use crate::looks::locks::LockKind;
-use crate::number::Numbered;
+use crate::open_file::{Numbered, TakeLock};
 use crate::snapshot::Snapshot;
 use crate::target::Target;
 use krb_files::Cause;

@@ -10,11 +10,9 @@ ghost use Rattle.krb_disk.specs.declared.stage.Stage.TheVariants.{Synced, Same, 
 use crate::calls::{Calls, NewFile};
 use crate::deadline::{Deadline, MOST_TRIES};
 use crate::fault::DiskFault;
-use crate::lock::TakeLock;
 use crate::new_file::{Attempt, make_locked, remove_own};
-use crate::number::Numbered;
 use crate::old::{Old, Way};
-use crate::owner::SetOwner;
+use crate::open_file::{Numbered, SetOwner, TakeLock};
 use crate::save::fill;
 use crate::target::Target;
 use krb_files::Cause;

@@ -11,7 +11,7 @@ use crate::fault::DiskFault;
 use crate::looks::Found;
 use crate::mode::{Inheritance, new_mode};
 use crate::new_file::PRIVATE;
-use crate::owner::SetOwner;
+use crate::open_file::SetOwner;
 use std::rt;
 
 // Sets the owner and the group of the new file to those of the old one, or the group alone, as far as that is allowed.

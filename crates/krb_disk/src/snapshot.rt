@@ -5,8 +5,7 @@ ghost use Rattle.krb_disk.specs.Looks.{IsPlain, IsPlainOrNone, IsUnchanged};
 ghost use Rattle.krb_disk.specs.Stages.{IsLoaded, snapshot_file};
 
 use crate::fault::DiskFault;
-use crate::looks::same::is_unchanged;
-use crate::looks::{Found, Looks, Opened};
+use crate::looks::{Found, Looks, Opened, is_unchanged};
 use crate::read::{Parts, has_bytes};
 use std::alloc::Allocator;
 use std::fs::OpenFile;

@@ -5,8 +5,7 @@ ghost use Rattle.std.specs.Path.{path_buf_bytes, path_parent};
 ghost use Rattle.krb_disk.specs.NewFile.{folder, new_path};
 
 use crate::fault::DiskFault;
-use crate::looks::same::is_same_file;
-use crate::looks::{Found, Looks};
+use crate::looks::{Found, Looks, is_same_file};
 use krb_files::Cause;
 use std::alloc::{AllocError, Allocator};
 use std::io::{self, ErrorKind};

@@ -9,8 +9,6 @@ mod mem_files;
 mod output;
 mod reader;
 mod watched;
-mod watched_reader;
-mod writer;
 
 pub use aftermath::Aftermath;
 pub use cause::Cause;
@@ -18,7 +16,5 @@ pub use files::{Files, LoadFault, SaveFault};
 pub use held_name::HeldName;
 pub use mem_files::MemFiles;
 pub use output::{OutFault, put};
-pub use reader::{append_read, load, next_read};
-pub use watched::Watched;
-pub use watched_reader::WatchedReader;
-pub use writer::save;
+pub use reader::{append_read, load, next_read, save};
+pub use watched::{Watched, WatchedReader};

@@ -1,13 +1,13 @@
-//! Reads from a watched reader.
+//! Loading from a watched reader, and saving to a watched writer.
 
 ghost use Rattle.std.specs.Prelude.{◌≢◌, ◌≡◌, ◌||◌, ◌+◌, ◌<◌, ◌≤◌, ◌*◌, ◌^◌, ◌++◌, ◌⊎◌, ℕ, List, length, max, min, take, drop, OnOk, OnErr, IfOk, IfErr, IfSome, IsErrOf, vec_capacity, vec_len};
-ghost use Rattle.std.specs.Io.KnownBytes.{Consumes, IsAtEnd, Keeps};
+ghost use Rattle.std.specs.Io.KnownBytes.{Consumes, IsAtEnd, Keeps, Appends};
 ghost use Rattle.krb_files.specs.Bytes.{ConsumesAtMost, is_read_fault};
 
 use crate::files::LoadFault;
-use crate::watched_reader::WatchedReader;
+use crate::watched::WatchedReader;
 use std::alloc::Allocator;
-use std::io::Read;
+use std::io::{Read, Write};
 
 // The most bytes that one read requests.
 const MOST_READ: usize = 128 * 1024;
@@ -133,4 +133,22 @@ pub fn load<A: Allocator, R: Read>(
             return Err(LoadFault::TooLarge);
         }
     }
+}
+
+/// Writes all the bytes. A write that fails or takes no bytes is the last: the error is how many bytes were written
+/// before it.
+pub fn save<W: Write>(writer: &mut W, bytes: &[u8]) -> Result<(), usize>
+    ensures ok { OnOk result (Appends (W.contents writer.old) (W.contents writer.new) bytes.now) }
+    ensures err { IfErr result (λ count. Appends (W.contents writer.old) (W.contents writer.new)
+        (take count bytes.now)) }
+    ensures short { IfErr result (λ count. count < length bytes.now) }
+{
+    let mut count = 0;
+    while count < bytes.len() {
+        match writer.write(&bytes[count..]) {
+            Ok(taken) if taken > 0 => count += taken,
+            _ => return Err(count),
+        }
+    }
+    Ok(())
 }

@@ -11,12 +11,9 @@ use Rattle.krb_json.proofs.EscapedLemmas.{escaped-plain, text_from, text_from-ap
 mutual
   -- after a value's tokens, a value has ended
   value_ends : (c : Bool) (v : Json) → fold (λ _ t. ends t) c (json_tokens v) ≡ true
-  value_ends c null = refl
-  value_ends c (boolean b) = refl
-  value_ends c (number s) = refl
-  value_ends c (string s) = refl
   value_ends c (array js) = items_end false js
   value_ends c (object ms) = members_end false ms
+  value_ends c _ = refl
 
   items_end : (c : Bool) (js : Items) → fold (λ _ t. ends t) c (items_tokens js) ≡ true
   items_end c no_items = refl
@@ -29,13 +26,9 @@ mutual
 -- after another value, a comma comes first
 comma_begins : (v : Json) → print_from true (json_tokens v) ≡ 44 ∷ print_from false (json_tokens v)
 unfolding print_from
-comma_begins null = refl
 comma_begins (boolean true) = refl
 comma_begins (boolean false) = refl
-comma_begins (number s) = refl
-comma_begins (string s) = refl
-comma_begins (array js) = refl
-comma_begins (object ms) = refl
+comma_begins _ = refl
 
 value_begins : (c : Bool) (v : Json) → text_from c (json_tokens v) ≡ element_text c v
 value_begins false v = refl

@@ -33,9 +33,7 @@ pub written_by_four : (a b : List Member) (m : Member) (d : List Member) (old t 
     → t ≡ old ++ begin_object ∷ [] → u ≡ t ++ tokens_of a → v ≡ u ++ tokens_of b → w ≡ v ++ member_tokens m → x ≡ w ++ tokens_of d → new ≡ x ++ end_object ∷ []
     → new ≡ old ++ json_tokens (object_of (a ++ (b ++ (m ∷ d))))
 written_by_four a b m d old t u v w x new e1 e2 e3 e4 e5 e6 =
-    chain old t new (begin_object ∷ []) _ e1
-    (chain t u new (tokens_of a) _ e2 (chain u v new (tokens_of b) _ e3 (chain v w new (member_tokens m) _ e4 (chain w x new (tokens_of d) (end_object ∷ []) e5 e6))))
-    ∙ ap (λ l. old ++ l) (sym (object_by_four a b m d))
+    rw (e6, e5, e4, e3, e2, e1, object_by_four a b m d) (simp append_assoc)
 
 object_by_five : (a b c d e : List Member)
     → json_tokens (object_of (a ++ (b ++ (c ++ (d ++ e))))) ≡ begin_object ∷ (tokens_of a ++ (tokens_of b ++ (tokens_of c ++ (tokens_of d ++ (tokens_of e ++ (end_object ∷ []))))))
@@ -51,9 +49,7 @@ pub written_by_five : (a b c d e : List Member) (old t u v w x y new : List Toke
     → t ≡ old ++ begin_object ∷ [] → u ≡ t ++ tokens_of a → v ≡ u ++ tokens_of b → w ≡ v ++ tokens_of c → x ≡ w ++ tokens_of d → y ≡ x ++ tokens_of e → new ≡ y ++ end_object ∷ []
     → new ≡ old ++ json_tokens (object_of (a ++ (b ++ (c ++ (d ++ e)))))
 written_by_five a b c d e old t u v w x y new e1 e2 e3 e4 e5 e6 e7 =
-    chain old t new (begin_object ∷ []) _ e1
-    (chain t u new (tokens_of a) _ e2 (chain u v new (tokens_of b) _ e3 (chain v w new (tokens_of c) _ e4 (chain w x new (tokens_of d) _ e5 (chain x y new (tokens_of e) (end_object ∷ []) e6 e7)))))
-    ∙ ap (λ l. old ++ l) (sym (object_by_five a b c d e))
+    rw (e7, e6, e5, e4, e3, e2, e1, object_by_five a b c d e) (simp append_assoc)
 
 -- the tokens before an array's first element
 pub head_written : (ms : List Member) (name : List ℕ) (none t u : List Token) → none ≡ [] → t ≡ none ++ begin_object ∷ tokens_of ms → u ≡ t ++ key name ∷ begin_array ∷ [] → u ≡ head_tokens ms name

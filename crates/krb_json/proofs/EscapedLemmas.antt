@@ -86,16 +86,9 @@ ended old out text true i is le h = absurd (false≢true (sym is))
 after_value : (text : List ℕ) (ts : List Token) → escaped (text ++ print_from true ts) ≡ escaped text ++ escaped (print_from true ts)
 unfolding print_from escaped
 after_value text [] = ap escaped (append-nil text) ∙ sym (append-nil (escaped text))
-after_value text (begin_object ∷ ts) = escaped-cut text 44 _ refl
 after_value text (end_object ∷ ts) = escaped-cut text 125 _ refl
-after_value text (begin_array ∷ ts) = escaped-cut text 44 _ refl
 after_value text (end_array ∷ ts) = escaped-cut text 93 _ refl
-after_value text (key s ∷ ts) = escaped-cut text 44 _ refl
-after_value text (string s ∷ ts) = escaped-cut text 44 _ refl
-after_value text (number s ∷ ts) = escaped-cut text 44 _ refl
-after_value text (boolean b ∷ ts) = escaped-cut text 44 _ refl
-after_value text (null ∷ ts) = escaped-cut text 44 _ refl
-after_value text (bad ∷ ts) = escaped-cut text 44 _ refl
+after_value text (_ ∷ ts) = escaped-cut text 44 _ refl
 
 -- so may any text after a byte that needs no escape
 after_plain : (text : List ℕ) (b : ℕ) (rest : List ℕ) → is_second b ≡ false → (b == 127) ≡ false → (b == 194) ≡ false → escaped ((text ++ b ∷ []) ++ rest) ≡ escaped (text ++ b ∷ []) ++ escaped rest
@@ -111,18 +104,12 @@ after_plain text b rest other delete first =
 -- the text of a token may be cut off from that of the next
 next_token : (c : Bool) (t : Token) (ts : List Token) → escaped ((separator c t ++ token_text t) ++ print_from (ends t) ts) ≡ escaped (separator c t ++ token_text t) ++ escaped (print_from (ends t) ts)
 next_token c begin_object ts = after_plain (separator c begin_object) 123 _ refl refl refl
-next_token c end_object ts = after_value _ ts
 next_token c begin_array ts = after_plain (separator c begin_array) 91 _ refl refl refl
-next_token c end_array ts = after_value _ ts
 next_token c (key s) ts =
     let text = separator c (key s) ++ quoted s in
     let front : separator c (key s) ++ (quoted s ++ 58 ∷ []) ≡ text ++ 58 ∷ [] = sym (append_assoc (separator c (key s)) (quoted s) (58 ∷ [])) in
     ap (λ l. escaped (l ++ print_from false ts)) front ∙ after_plain text 58 _ refl refl refl ∙ ap (λ l. escaped l ++ escaped (print_from false ts)) (sym front)
-next_token c (string s) ts = after_value _ ts
-next_token c (number s) ts = after_value _ ts
-next_token c (boolean b) ts = after_value _ ts
-next_token c null ts = after_value _ ts
-next_token c bad ts = after_value _ ts
+next_token c _ ts = after_value _ ts
 
 -- the text of tokens, after a value or not
 abbrev pub text_from : Bool → List Token → List ℕ

@@ -14,16 +14,9 @@ use Rattle.krb_json.proofs.EscapedStrings.{is_read}
 -- ---- a token
 
 abbrev token_lexemes : Token → List Lexeme
-token_lexemes begin_object = token begin_object ∷ []
-token_lexemes end_object = token end_object ∷ []
-token_lexemes begin_array = token begin_array ∷ []
-token_lexemes end_array = token end_array ∷ []
 token_lexemes (key s) = token (string s) ∷ colon ∷ []
-token_lexemes (string s) = token (string s) ∷ []
-token_lexemes (number s) = token (number s) ∷ []
-token_lexemes (boolean b) = token (boolean b) ∷ []
-token_lexemes null = token null ∷ []
 token_lexemes bad = []
+token_lexemes t = token t ∷ []
 
 -- the lexer reads a text as a token, before what ends a word if the token may be one
 abbrev IsReadAs : Token → List ℕ → Type 0
@@ -48,10 +41,6 @@ escaped_read s r =
 
 token_read : (t : Token) → IsPrintable t → IsReadAs t (token_text t)
 unfolding lex word
-token_read begin_object h = λ r ended. refl
-token_read end_object h = λ r ended. refl
-token_read begin_array h = λ r ended. refl
-token_read end_array h = λ r ended. refl
 token_read (key s) h = λ r ended. ap (lex between) (append_assoc (quoted s) (58 ∷ []) r) ∙ quoted_read s (58 ∷ r)
 token_read (string s) h = λ r ended. quoted_read s r
 token_read (number s) h = λ r ended. lex-number s r h (ended refl)
@@ -59,6 +48,7 @@ token_read (boolean true) h = λ r ended. ap₂ (λ b l. token (cond b (boolean 
 token_read (boolean false) h = λ r ended. ap₂ (λ b l. token (cond b (boolean false) bad) ∷ l) (ended refl) (in_word-ended r (ended refl))
 token_read null h = λ r ended. ap₂ (λ b l. token (cond b null bad) ∷ l) (ended refl) (in_word-ended r (ended refl))
 token_read bad h = absurd h
+token_read _ h = λ r ended. refl
 
 -- a token's text without such a byte is read as it is
 unescaped : (t : Token) → escaped (token_text t) ≡ token_text t → IsPrintable t → IsReadAs t (escaped (token_text t))
@@ -66,10 +56,6 @@ unescaped t e h = subst (IsReadAs t) (sym e) (token_read t h)
 
 token_escaped : (t : Token) → IsPrintable t → IsReadAs t (escaped (token_text t))
 unfolding lex
-token_escaped begin_object h = unescaped begin_object (escaped-none _ refl) h
-token_escaped end_object h = unescaped end_object (escaped-none _ refl) h
-token_escaped begin_array h = unescaped begin_array (escaped-none _ refl) h
-token_escaped end_array h = unescaped end_array (escaped-none _ refl) h
 token_escaped (key s) h = λ r ended.
     ap (λ l. lex between (l ++ r)) (escaped-cut (quoted s) 58 [] refl ∙ ap (λ l. escaped (quoted s) ++ l) (escaped-none (58 ∷ []) refl))
     ∙ ap (lex between) (append_assoc (escaped (quoted s)) (58 ∷ []) r)
@@ -78,8 +64,8 @@ token_escaped (string s) h = λ r ended. escaped_read s r
 token_escaped (number s) h = unescaped (number s) (escaped-none s (number_has_none s h)) h
 token_escaped (boolean true) h = unescaped (boolean true) (escaped-none _ refl) h
 token_escaped (boolean false) h = unescaped (boolean false) (escaped-none _ refl) h
-token_escaped null h = unescaped null (escaped-none _ refl) h
 token_escaped bad h = absurd h
+token_escaped t h = unescaped t (escaped-none _ refl) h
 
 -- ---- tokens
 
@@ -87,16 +73,8 @@ token_escaped bad h = absurd h
 print_ends : (ts : List Token) → ends_word (print_from true ts) ≡ true
 unfolding print_from
 print_ends [] = refl
-print_ends (begin_object ∷ ts) = refl
-print_ends (end_object ∷ ts) = refl
-print_ends (begin_array ∷ ts) = refl
-print_ends (end_array ∷ ts) = refl
-print_ends (key s ∷ ts) = refl
-print_ends (string s ∷ ts) = refl
-print_ends (number s ∷ ts) = refl
-print_ends (boolean b ∷ ts) = refl
 print_ends (null ∷ ts) = refl
-print_ends (bad ∷ ts) = refl
+print_ends (_ ∷ ts) = refl
 
 escaped-nil : escaped [] ≡ []
 unfolding escaped
@@ -105,16 +83,9 @@ escaped-nil = refl
 text_ends : (ts : List Token) → ends_word (text_from true ts) ≡ true
 unfolding print_from
 text_ends [] = ap ends_word escaped-nil
-text_ends (begin_object ∷ ts) = ap ends_word (escaped-plain 44 _ refl refl)
 text_ends (end_object ∷ ts) = ap ends_word (escaped-plain 125 _ refl refl)
-text_ends (begin_array ∷ ts) = ap ends_word (escaped-plain 44 _ refl refl)
 text_ends (end_array ∷ ts) = ap ends_word (escaped-plain 93 _ refl refl)
-text_ends (key s ∷ ts) = ap ends_word (escaped-plain 44 _ refl refl)
-text_ends (string s ∷ ts) = ap ends_word (escaped-plain 44 _ refl refl)
-text_ends (number s ∷ ts) = ap ends_word (escaped-plain 44 _ refl refl)
-text_ends (boolean b ∷ ts) = ap ends_word (escaped-plain 44 _ refl refl)
-text_ends (null ∷ ts) = ap ends_word (escaped-plain 44 _ refl refl)
-text_ends (bad ∷ ts) = ap ends_word (escaped-plain 44 _ refl refl)
+text_ends (_ ∷ ts) = ap ends_word (escaped-plain 44 _ refl refl)
 
 -- a comma, or none, is read before either text
 after_comma : (b : Bool) (text l r : List ℕ) → lex between (escaped text ++ l) ≡ lex between (text ++ r)

@@ -57,25 +57,7 @@ unfolding entry_value owner_members etype_members
 entry_is_plain shows_keys x place version enctype timestamp =
     let name = name_text x.1.principal in
     record {
-      numbers = (
-        IsNumber-decimal x.0 (omega arith),
-        (
-          text_numbers (codes "principal") name,
-          (
-            IsNumber-decimal x.1.version (omega arith),
-            (
-              IsNumber-decimal x.1.enctype (omega arith),
-              (
-                or_null_numbers (etype_name_of x.1.enctype),
-                (
-                  IsNumber-decimal x.1.timestamp (omega arith),
-                  key_numbers shows_keys x.1.key,
-                ),
-              ),
-            ),
-          ),
-        ),
-      );
+      numbers = search (arith, IsNumber-decimal, text_numbers, or_null_numbers, key_numbers);
       flat = omega (arith, text_depth (codes "principal") name, or_null_depth (etype_name_of x.1.enctype), key_depth shows_keys x.1.key);
     }
 
@@ -87,37 +69,7 @@ ticket_is_plain x place times flags enctype addresses ticket =
     let client = name_text x.1.client in
     let server = name_text x.1.server in
     record {
-      numbers = (
-        IsNumber-decimal x.0 (omega arith),
-        (
-          text_numbers (codes "client") client,
-          (
-            text_numbers (codes "server") server,
-            (
-              IsNumber-decimal x.1.times.authtime (omega (arith, times.authtime)),
-              (
-                IsNumber-decimal x.1.times.starttime (omega (arith, times.starttime)),
-                (
-                  IsNumber-decimal x.1.times.endtime (omega (arith, times.endtime)),
-                  (
-                    IsNumber-decimal x.1.times.renew_till (omega (arith, times.renew_till)),
-                    (
-                      tt,
-                      (
-                        IsNumber-decimal x.1.flags (omega arith),
-                        (
-                          IsNumber-decimal x.1.key.enctype (omega arith),
-                          (or_null_numbers (etype_name_of x.1.key.enctype), (tt, (IsNumber-decimal (length x.1.addresses) addresses, (IsNumber-decimal (length x.1.ticket) ticket, tt)))),
-                        ),
-                      ),
-                    ),
-                  ),
-                ),
-              ),
-            ),
-          ),
-        ),
-      );
+      numbers = search (arith, IsNumber-decimal, text_numbers, or_null_numbers, times.authtime, times.starttime, times.endtime, times.renew_till);
       flat = omega (arith, text_depth (codes "client") client, text_depth (codes "server") server, or_null_depth (etype_name_of x.1.key.enctype));
     }
 
@@ -140,9 +92,7 @@ config_is_plain place name value small = record {
 
 fault_number_small : (kind : FaultKind) → fault_number kind < 2 ^ 64
 fault_number_small CutLength = lit< tt
-fault_number_small Overrun = lit< tt
-fault_number_small BadEntry = lit< tt
-fault_number_small BadCredential = lit< tt
+fault_number_small _ = lit< tt
 
 pub fault_is_plain : (fault : Fault) → fault.place < 2 ^ 32 → IsPlain (fault_value (Some fault))
 fault_is_plain fault small = record {

@@ -7,8 +7,8 @@ use Rattle.json.specs.Value.{items_of}
 use Rattle.krb_walk.specs.declared.fault.Fault.{Fault}
 use Rattle.krb_walk.specs.Phrases.{fault_number}
 use Rattle.krb_text.specs.Etype.{etype_name_of}
-use Rattle.krb_json.specs.declared.label.Label.{Label}
-use Rattle.krb_json.specs.declared.label.Label.TheVariants.{Principal, DefaultPrincipal, Client, Server, Key, Value}
+use Rattle.krb_json.specs.declared.put.Label.{Label}
+use Rattle.krb_json.specs.declared.put.Label.TheVariants.{Principal, DefaultPrincipal, Client, Server, Key, Value}
 
 -- a member of an object: its name and its value
 abbrev pub Member : Type 0

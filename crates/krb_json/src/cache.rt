@@ -11,9 +11,9 @@ ghost use Rattle.krb_json.specs.Members.{file_members, text_member};
 ghost use Rattle.krb_json.specs.Cache.{shown_by, shown_values, ticket_values, config_values, cache_value, cache_json_text};
 ghost use Rattle.krb_json.specs.Pieces.{element_if, elements_text, head_tokens, between_tokens, arrays_text, IfPlain, ArePlain};
 
-use crate::label::Label;
+use crate::head::send_tail;
 use crate::piece::Piece;
-use crate::tail::send_tail;
+use crate::put::Label;
 use krb_ccache::{Ccache, CredView, Version, config_name};
 use krb_files::{OutFault, Watched};
 use krb_text::{room_to_gather, send_if_full};

@@ -1,14 +1,18 @@
-//! The object of a file before its first array and after its last.
+//! The object of a file before its first array and after its last, and the end of its text.
 
-ghost use Rattle.std.specs.Prelude.{◌≡◌, ◌++◌, [], ◌∷◌, OnOk, codes};
+ghost use Rattle.std.specs.Prelude.{◌≡◌, ◌++◌, [], ◌∷◌, OnOk, codes, IsFalse};
+ghost use Rattle.krb_text.specs.Gathered.{Prints};
 ghost use Rattle.json.specs.Token.{begin_object};
 ghost use Rattle.krb_json.specs.Members.{file_members, fault_value};
 ghost use Rattle.krb_json.specs.Pieces.{member_tokens, tokens_of, between_tokens, tail_tokens, IsPlain};
+ghost use Rattle.krb_json.specs.Escaped.{text_of};
 
 use crate::piece::Piece;
+use krb_files::{OutFault, Watched, put};
 use krb_walk::Fault;
 use krb_wire::NoMemory;
 use std::alloc::Allocator;
+use std::io::Write;
 
 impl<A: Allocator> Piece<A> {
     /// Begins the object of a file, and writes its name, its kind and its format version.
@@ -55,4 +59,37 @@ impl<A: Allocator> Piece<A> {
         self.fault(fault)?;
         self.end_object()
     }
+}
+
+// Appends the text after the last element of a file, and a newline.
+fn append_tail<A: Allocator + Copy>(
+    fault: Option<Fault>,
+    piece: &mut Piece<A>,
+    gathered: &mut Vec<u8, A>,
+) -> Result<(), NoMemory>
+    requires { piece.old ≡ [] }
+    ensures text { OnOk result (gathered.new.items ≡ gathered.old.items
+        ++ (text_of (tail_tokens ((codes "fault", fault_value fault) ∷ [])) ++ codes "\n")) }
+    ensures plain { OnOk result (IsPlain (fault_value fault)) }
+{
+    piece.end_file(fault)?;
+    piece.append_to(false, gathered)?;
+    Ok(gathered.push(b'\n')?)
+}
+
+/// Writes what is gathered, then the text after the last element of a file, and a newline.
+pub fn send_tail<A: Allocator + Copy, W: Write>(
+    fault: Option<Fault>,
+    piece: &mut Piece<A>,
+    gathered: &mut Vec<u8, A>,
+    out: &mut Watched<W>,
+) -> Result<(), OutFault>
+    requires well { IsFalse out.old.failed }
+    requires empty { piece.old ≡ [] }
+    ensures prints { Prints out.old out.new result (gathered.old.items
+        ++ (text_of (tail_tokens ((codes "fault", fault_value fault) ∷ [])) ++ codes "\n")) }
+    ensures plain { OnOk result (IsPlain (fault_value fault)) }
+{
+    append_tail(fault, piece, gathered)?;
+    put(out, gathered)
 }

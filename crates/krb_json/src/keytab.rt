@@ -1,22 +1,67 @@
 //! A keytab as JSON.
 
-ghost use Rattle.std.specs.Prelude.{◌≡◌, ◌++◌, [], Some, OnOk, IsFalse, false, codes};
-ghost use Rattle.json.specs.Json.{document};
+ghost use Rattle.std.specs.Prelude.{◌≡◌, ◌++◌, [], Some, OnOk, IsFalse, false, codes, ◌<◌, ◌^◌};
 ghost use Rattle.krb_wire.specs.Spelling.{version_byte};
 ghost use Rattle.krb_text.specs.Gathered.{Gathers, Prints};
+ghost use Rattle.json.specs.Json.{document};
 ghost use Rattle.krb_json.specs.Escaped.{json_text, text_of};
 ghost use Rattle.krb_json.specs.Members.{file_members};
-ghost use Rattle.krb_json.specs.Keytab.{entry_values, keytab_value, keytab_json_text};
-ghost use Rattle.krb_json.specs.Pieces.{elements_text, head_tokens, ArePlain};
+ghost use Rattle.krb_json.specs.Keytab.{entry_values, keytab_value, keytab_json_text, owner_members, key_members, entry_value};
+ghost use Rattle.krb_json.specs.Pieces.{elements_text, head_tokens, ArePlain, tokens_of, IsPlain};
+ghost use Rattle.json.specs.Tree.{json_tokens};
 
+use crate::head::send_tail;
 use crate::piece::Piece;
-use crate::tail::send_tail;
+use crate::put::Label;
 use krb_files::{OutFault, Watched};
-use krb_keytab::Keytab;
+use krb_keytab::{EntryView, Keytab};
 use krb_text::{room_to_gather, send_if_full};
 use krb_wire::{KtFormat, NoMemory};
 use std::alloc::Allocator;
 use std::io::Write;
+
+impl<A: Allocator> Piece<A> {
+    // Writes an entry's place, principal and kvno.
+    #[tactic(auto, unfolding(crate::specs::Keytab::owner_members))]
+    fn owner(&mut self, place: u32, entry: &EntryView<'_>) -> Result<(), NoMemory>
+        ensures tokens { OnOk result (self.new ≡ self.old ++ tokens_of (owner_members (place, entry.now))) }
+        ensures version { OnOk result (entry.now.version < 2 ^ 32) }
+    {
+        self.number("place", place as u64)?;
+        self.name(Label::Principal, entry.principal())?;
+        self.number("kvno", entry.kvno() as u64)
+    }
+
+    // Writes the key, if keys are shown.
+    #[tactic(auto, unfolding(crate::specs::Keytab::key_members))]
+    fn key(&mut self, is_shown: bool, key: &[u8]) -> Result<(), NoMemory>
+        ensures { OnOk result (self.new ≡ self.old ++ tokens_of (key_members is_shown key.now)) }
+    {
+        if !is_shown {
+            return Ok(());
+        }
+        self.digits("key_hex", key)
+    }
+
+    /// Writes an entry of a keytab as an object.
+    pub fn entry(
+        &mut self,
+        place: u32,
+        entry: &EntryView<'_>,
+        shows_keys: bool,
+    ) -> Result<(), NoMemory>
+        ensures tokens { OnOk result (self.new
+            ≡ self.old ++ json_tokens (entry_value shows_keys (place, entry.now))) }
+        ensures plain { OnOk result (IsPlain (entry_value shows_keys (place, entry.now))) }
+    {
+        self.begin_object()?;
+        self.owner(place, entry)?;
+        self.etype(entry.enctype())?;
+        self.number("timestamp", entry.timestamp() as u64)?;
+        self.key(shows_keys, entry.key())?;
+        self.end_object()
+    }
+}
 
 // Appends the text before the first entry.
 fn append_head<A: Allocator + Copy>(

@@ -2,15 +2,11 @@
 #![tactic(auto)]
 
 mod cache;
-mod config;
-mod entry;
 mod escape;
 mod head;
 mod keytab;
-mod label;
 mod piece;
 mod put;
-mod tail;
 mod ticket;
 
 pub use cache::cache_json;

@@ -9,8 +9,7 @@ ghost use Rattle.krb_json.specs.Members.{label_text, number_of, digits_of, text_
 ghost use Rattle.krb_json.specs.Pieces.{member_tokens, tokens_of, comma_after};
 
 use crate::escape::append_escaped;
-use crate::label::Label;
-use crate::put::{put_digits, put_text, text_in};
+use crate::put::{Label, put_digits, put_text, text_in};
 use json::Writer;
 use krb_text::{etype_name, flag_letters};
 use krb_wire::{Name, NoMemory, write_name};

@@ -1,17 +1,57 @@
-//! Members that hold bytes.
+//! Members that hold bytes, and the names of those that hold strings from a file.
 
-ghost use Rattle.std.specs.Prelude.{◌≡◌, ◌++◌, [], ◌∷◌, OnOk, MatchOption, true, false};
+ghost use Rattle.std.specs.Prelude.{◌≡◌, ◌++◌, [], ◌∷◌, OnOk, MatchOption, true, false, codes};
 ghost use Rattle.std.specs.Str.{is_utf8};
 ghost use Rattle.hex.specs.Hex.{encode_lower};
 ghost use Rattle.json.specs.Token.{key, string};
 ghost use Rattle.krb_json.specs.Members.{label_text, text_member};
 ghost use Rattle.krb_json.specs.Pieces.{member_tokens};
 
-use crate::label::Label;
 use json::Writer;
 use krb_wire::NoMemory;
 use std::alloc::Allocator;
 use std::str;
+
+/// A member that holds a string from a file.
+#[derive(Clone, Copy)]
+pub enum Label {
+    Principal,
+    DefaultPrincipal,
+    Client,
+    Server,
+    Key,
+    Value,
+}
+
+impl Label {
+    /// Returns the member's name if the string is UTF-8.
+    pub fn name(self) -> &'static str
+        ensures { result.now ≡ label_text self }
+    {
+        match self {
+            Label::Principal => "principal",
+            Label::DefaultPrincipal => "default_principal",
+            Label::Client => "client",
+            Label::Server => "server",
+            Label::Key => "key",
+            Label::Value => "value",
+        }
+    }
+
+    /// Returns the member's name if the string is not UTF-8.
+    pub fn hex_name(self) -> &'static str
+        ensures { result.now ≡ label_text self ++ codes "_hex" }
+    {
+        match self {
+            Label::Principal => "principal_hex",
+            Label::DefaultPrincipal => "default_principal_hex",
+            Label::Client => "client_hex",
+            Label::Server => "server_hex",
+            Label::Key => "key_hex",
+            Label::Value => "value_hex",
+        }
+    }
+}
 
 /// Returns the bytes as a `str`, or `None` if they are not UTF-8.
 #[tactic(auto, using(crate::proofs::Texts::utf8_is_text, crate::proofs::Texts::other_is_no_text))]

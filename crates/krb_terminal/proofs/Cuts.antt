@@ -2,7 +2,7 @@
 use Rattle.std.proofs.Common.{◌≡◌, ℕ, List, [], ◌∷◌, ◌++◌, refl, sym, ap, ◌∙◌, append_assoc, append-nil}
 use Rattle.std.specs.Prelude.{true, false, nat_eq}
 use Rattle.std.proofs.lemmas.Bool.{ne_eqb}
-use Rattle.krb_terminal.specs.Escaped.{cut_text, cuts, escape, escaped, is_control, is_second}
+use Rattle.krb_terminal.specs.Screen.{cut_text, cuts, escape, escaped, is_control, is_second}
 
 -- a byte that is no c2 is a cut
 escaped-single : (b : ℕ) (rest : List ℕ) → nat_eq b 194 ≡ false → escaped (b ∷ rest) ≡ cut_text (b ∷ []) ++ escaped rest

@@ -5,8 +5,7 @@ use Rattle.std.specs.Io.KnownBytes.{Appends, Keeps, append_known}
 use Rattle.std.proofs.lemmas.Bool.{true≢false}
 use Rattle.krb_files.specs.Bytes.{AppendsPrefix}
 use Rattle.krb_files.proofs.Prefixes.{AppendsPrefix-longer}
-use Rattle.krb_terminal.specs.Escaped.{cuts, escaped}
-use Rattle.krb_terminal.specs.Screen.{Fails, Shown, held, to_send}
+use Rattle.krb_terminal.specs.Screen.{cuts, escaped, Fails, Shown, held, to_send}
 
 -- what was appended is what the writer holds
 pub Keeps-appended : (a b : Option (List ℕ)) (text : List ℕ) → Appends a b text → Keeps (append_known a text) b

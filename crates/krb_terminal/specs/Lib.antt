@@ -1,3 +1,2 @@
 -- What a screen prints.
-pub mod Escaped
 pub mod Screen

@@ -2,8 +2,7 @@
 
 ghost use Rattle.std.specs.Prelude.{◌≡◌, ℕ, ◌+◌, ◌*◌, ◌≤◌, List, [], ◌∷◌, ◌++◌, length};
 ghost use Rattle.arrayvec.specs.ArrayVec.{array_vec_len};
-ghost use Rattle.krb_terminal.specs.Escaped.{escape, escaped, is_control, is_second};
-ghost use Rattle.krb_terminal.specs.Screen.{held};
+ghost use Rattle.krb_terminal.specs.Screen.{escape, escaped, is_control, is_second, held};
 
 use arrayvec::ArrayVec;
 

@@ -3,6 +3,5 @@
 
 mod escape;
 mod screen;
-mod sending;
 
 pub use screen::Screen;

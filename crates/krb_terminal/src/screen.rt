@@ -2,14 +2,30 @@
 
 ghost use Rattle.std.specs.Prelude.{◌≡◌, ◌&&◌, ◌≤◌, [], length, min, take, true, IsFalse, IsTrue, IfOk, OnOk, OnErr};
 ghost use Rattle.std.specs.Io.{WritesAtMost};
-ghost use Rattle.std.specs.Io.KnownBytes.{Keeps, WriteAppends};
+ghost use Rattle.std.specs.Io.KnownBytes.{Keeps, WriteAppends, Appends};
+ghost use Rattle.krb_files.specs.Bytes.{AppendsPrefix};
 ghost use Rattle.krb_terminal.specs.Screen.{Fails, Takes, finished, passed};
 
 use crate::escape::{FIRST, MOST, add};
-use crate::sending::send;
 use arrayvec::ArrayVec;
-use std::io::{self, Write};
+use std::io::{self, ErrorKind, Write};
 use std::marker::Model;
+
+/// Writes all the bytes. A write that fails or takes no bytes is the last: a prefix of the bytes was written.
+pub fn send<W: Write>(writer: &mut W, bytes: &[u8]) -> io::Result<()>
+    ensures ok { OnOk result (Appends (W.contents writer.old) (W.contents writer.new) bytes.now) }
+    ensures prefix { OnErr result (AppendsPrefix (W.contents writer.old) (W.contents writer.new) bytes.now) }
+{
+    let mut done = 0;
+    while done < bytes.len() {
+        match writer.write(&bytes[done..]) {
+            Ok(0) => return Err(ErrorKind::WriteZero.into()),
+            Ok(taken) => done += taken,
+            Err(error) => return Err(error),
+        }
+    }
+    Ok(())
+}
 
 /// A writer before another. It escapes what could change a terminal, or passes all on as it is. It holds back a c2
 /// until the next byte comes. Contracts see what the other holds, if known, whether it escapes, and whether a c2 is

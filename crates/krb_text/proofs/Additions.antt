@@ -4,7 +4,7 @@ use Rattle.krb_wire.specs.Spelling.{Parts}
 use Rattle.krb_text.specs.declared.line_fault.LineFault.TheVariants.{BadKey}
 use Rattle.krb_text.specs.declared.line_fault.LineRefusal.{LineRefusal}
 use Rattle.krb_text.specs.declared.line_fault.LineRefusal.TheVariants.{Fault, NoMemory}
-use Rattle.krb_text.specs.Key.{key_in}
+use Rattle.krb_text.specs.Etype.{key_in}
 use Rattle.krb_text.specs.Word.{number_word, etype_word, name_word}
 
 -- the entry made of what the words are read as

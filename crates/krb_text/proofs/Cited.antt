@@ -8,9 +8,8 @@ pub use Rattle.std.specs.Prelude.{IsFalse, IsOk, if◌then◌else◌, ok_or, is_
 pub use Rattle.std.specs.Result.{result_ok, OkIff, MatchResult}
 unfoldable pub use Rattle.krb_text.specs.Calendar.{day_number}
 pub use Rattle.krb_text.specs.Flags.{letters_among, flag_letters_of, is_set}
-pub use Rattle.krb_text.specs.Line.{entry_line, fault_text}
+pub use Rattle.krb_text.specs.Listing.{entry_line, fault_text, entry_lines, titles, underlines}
 pub use Rattle.krb_text.specs.LineFault.{Reads}
-pub use Rattle.krb_text.specs.Listing.{entry_lines, titles, underlines}
 pub use Rattle.krb_text.specs.Word.{pieces, joined, pieces_left}
 pub use Rattle.krb_text.specs.Script.{faults_of, commands_read, commands_from, entry_of, Addition, is_command, TakesMemory, entry_in, read_or_fault, ◌>>=◌, digits_of, RefusesScript, script_of, made}
 pub use Rattle.krb_text.specs.declared.line_fault.LineFault.{LineFault}

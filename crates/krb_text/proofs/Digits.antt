@@ -5,7 +5,7 @@ use Rattle.std.specs.Char.{is_ascii_hexdigit}
 use Rattle.std.proofs.lemmas.List.Sums.{AllPass-from_list_all, list_all-from_AllPass}
 use Rattle.hex.specs.declared.error.FromHexError.{FromHexError}
 use Rattle.hex.proofs.HexLemmas.{decode_of-ok, decode_of-digits}
-use Rattle.krb_text.specs.Key.{is_key_size, key_in, sized}
+use Rattle.krb_text.specs.Etype.{is_key_size, key_in, sized}
 
 -- two tests of three ranges, in different orders
 three_ranges : (a b c : Bool) (x y z : ℕ) → ((a || b) || c) ≡ is_some (cond b (Some x) (cond c (Some y) (cond a (Some z) None)))

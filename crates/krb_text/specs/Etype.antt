@@ -1,10 +1,12 @@
 -- Encryption types by IANA's numbers. Key sizes: RFC 3961 (16), 3962 (17, 18), 8009 (19, 20), 4757 (23), 6803 (25, 26).
--- The names are those that MIT Kerberos reads.
-use Rattle.std.specs.Prelude.{ℕ, List, [], ◌∷◌, ◌++◌, ◌==◌, codes, decimal, Option, None, Some, map, unwrap_or, Bool, true, false, slice_get}
+-- The names are those that MIT Kerberos reads. And keys as hexadecimal text.
+use Rattle.std.specs.Prelude.{ℕ, List, [], ◌∷◌, ◌++◌, ◌==◌, codes, decimal, Option, None, Some, map, unwrap_or, Bool, true, false, slice_get, length, if◌then◌else◌}
 use Rattle.std.specs.List.{find, list_any}
 use Rattle.std.specs.Option.{option_and_then, option_map_or}
 use Rattle.std.specs.Str.{str_eq_ignore_ascii_case}
+use Rattle.std.specs.Result.{result_ok}
 use Rattle.krb_text.specs.Numbers.{number_in}
+use Rattle.hex.specs.Hex.{encode_lower, decode_of}
 
 -- an enctype: its number, its names, the size of its keys in bytes if it has a name, and whether MIT calls it weak or
 -- deprecated. The first name is printed, all are read.
@@ -77,3 +79,27 @@ first_of None other = other
 -- the enctype that a text is: one of its names, or one to ten decimal digits with a value below 2 ^ 16
 unfoldable pub etype_in : List ℕ → Option ℕ
 etype_in text = first_of (number_named text) (number_in 16 text)
+
+-- ---- keys as hexadecimal text
+
+-- `0x` and the bytes in order, in lower-case hexadecimal
+abbrev pub key_text_of : List ℕ → List ℕ
+key_text_of key = codes "0x" ++ encode_lower key
+
+-- the size is the right one; any is right if none is given
+abbrev pub is_right : Option ℕ → ℕ → Bool
+is_right None size = true
+is_right (Some right) size = size == right
+
+-- a key of the enctype may have that many bytes: if the table names the enctype, it must be the size in the table
+abbrev pub is_key_size : ℕ → ℕ → Bool
+is_key_size etype size = is_right (key_size_of etype) size
+
+-- the bytes, if a key of the enctype may have that many
+abbrev pub sized : ℕ → Option (List ℕ) → Option (List ℕ)
+sized etype None = None
+sized etype (Some key) = if is_key_size etype (length key) then Some key else None
+
+-- the key of an enctype that an even number of hexadecimal digits encodes, in either case
+abbrev pub key_in : ℕ → List ℕ → Option (List ℕ)
+key_in etype digits = sized etype (result_ok (decode_of digits))

@@ -3,10 +3,8 @@ pub mod Gathered
 pub mod Numbers
 pub mod Etype
 pub mod LineFault
-pub mod Key
 pub mod Word
 pub mod Calendar
-pub mod Line
 pub mod Listing
 pub mod Flags
 pub mod Reply

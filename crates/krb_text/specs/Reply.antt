@@ -4,7 +4,7 @@ use Rattle.krb_wire.specs.declared.format.KtFormat.{KtFormat}
 use Rattle.krb_walk.specs.Phrases.{code_number}
 use Rattle.krb_walk.specs.ReplyContent.{ReplyContent, Started, Gave, Ended, Faulted, Placed, Gone, Rewritten, Refused}
 use Rattle.krb_keytab.specs.Entry.{EntryParts, entry_at}
-use Rattle.krb_text.specs.Line.{entry_tail, fault_text}
+use Rattle.krb_text.specs.Listing.{entry_tail, fault_text}
 
 -- a line about a walk: its number, and the rest
 abbrev pub walk_line : ℕ → List ℕ → List ℕ

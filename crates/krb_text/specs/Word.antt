@@ -6,8 +6,7 @@ use Rattle.krb_wire.specs.NameOf.{name_of}
 use Rattle.krb_text.specs.declared.line_fault.LineFault.{LineFault}
 use Rattle.krb_text.specs.declared.line_fault.LineFault.TheVariants.{BadNumber, BadEtype, BadKey, BadName}
 use Rattle.krb_text.specs.Numbers.{number_in}
-use Rattle.krb_text.specs.Etype.{etype_in}
-use Rattle.krb_text.specs.Key.{key_in}
+use Rattle.krb_text.specs.Etype.{etype_in, key_in}
 use Rattle.std.specs.List.{slice_split, join_with_byte}
 
 -- the 32-bit number that a word is

@@ -8,7 +8,7 @@ ghost use Rattle.krb_wire.specs.Text.{Appended};
 ghost use Rattle.krb_text.specs.Etype.{etype_name_of, etype_names, etype_text_of, etype_in, is_named, is_weak, key_size_of, number_named, unnamed};
 
 use crate::bytes::append;
-use crate::numbers::parse_u16;
+use crate::word::parse_u16;
 use itoa::Buffer;
 use krb_wire::NoMemory;
 use std::alloc::Allocator;

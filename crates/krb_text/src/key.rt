@@ -5,7 +5,7 @@ ghost use Rattle.std.specs.Char.{is_ascii_hexdigit};
 ghost use Rattle.std.specs.List.{list_all};
 ghost use Rattle.hex.specs.Hex.{decode_of};
 ghost use Rattle.krb_wire.specs.Text.{Appended};
-ghost use Rattle.krb_text.specs.Key.{key_text_of, key_in, is_key_size};
+ghost use Rattle.krb_text.specs.Etype.{key_text_of, key_in, is_key_size};
 ghost use Rattle.krb_text.specs.LineFault.{Reads};
 ghost use Rattle.krb_text.specs.Word.{key_word};
 

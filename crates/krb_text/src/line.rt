@@ -1,14 +1,16 @@
-//! Lines of entries and of faults. If an allocation fails, part of a line may have been appended.
+//! Lines of entries, with and without their places, and of faults. If an allocation fails, part of a line may have been
+//! appended.
 
+ghost use Rattle.std.specs.Prelude.{◌≡◌, IfOk};
 ghost use Rattle.krb_wire.specs.Text.{AppendedPart};
-ghost use Rattle.krb_text.specs.Line.{entry_line, time_column, etype_column, key_column, entry_tail, fault_text};
+ghost use Rattle.krb_text.specs.Listing.{entry_line, time_column, etype_column, key_column, entry_tail, fault_text, found_line, placed_line};
 
 use crate::bytes::{append, append_byte, append_labelled, append_right_in_4};
 use crate::columns::KtColumns;
 use crate::etype::etype_text;
 use crate::key::key_text;
 use crate::time::LastTime;
-use krb_keytab::Fields;
+use krb_keytab::{EntryView, Fields};
 use krb_walk::Fault;
 use krb_wire::{Name, NoMemory, write_name};
 use std::alloc::Allocator;
@@ -100,4 +102,30 @@ pub fn append_fault<A: Allocator>(fault: Fault, out: &mut Vec<u8, A>) -> Result<
     append_labelled(b"fault ", fault.kind.number(), out)?;
     append_labelled(b" at ", fault.place, out)?;
     append_byte(b'\n', out)
+}
+
+/// Appends the line of the entry at `place`, after `label`.
+pub fn append_placed<A: Allocator>(
+    label: &[u8],
+    place: u32,
+    entry: &EntryView<'_>,
+    out: &mut Vec<u8, A>,
+) -> Result<(), NoMemory>
+    ensures { AppendedPart (placed_line label.now (place, entry.now)) out.old out.new result }
+{
+    append_labelled(label, place, out)?;
+    append_tail(&entry.fields(), out)
+}
+
+/// Returns the line that reports the entry found at `place`.
+pub fn found_text<A: Allocator>(
+    alloc: A,
+    place: u32,
+    entry: &EntryView<'_>,
+) -> Result<Vec<u8, A>, NoMemory>
+    ensures { IfOk result (λ line. line.items ≡ found_line (place, entry.now)) }
+{
+    let mut line = Vec::new(alloc);
+    append_placed(b"found ", place, entry, &mut line)?;
+    Ok(line)
 }

@@ -1,21 +1,30 @@
 //! Scripts: text whose lines are commands.
 
-ghost use Rattle.std.specs.Prelude.{◌≡◌, ◌++◌, ◌∷◌, [], Ok, IfOk, IfErr, OnOk, IsOkAnd, IsErrOf};
+ghost use Rattle.std.specs.Prelude.{◌≡◌, ◌++◌, ◌∷◌, [], Ok, IfOk, IfErr, OnOk, IsOkAnd, IsErrOf, ℕ, List, Result};
 ghost use Rattle.krb_text.specs.declared.script.ScriptRefusal.TheVariants.{NoMemory as OutOfMemory};
 ghost use Rattle.krb_text.specs.Word.{pieces};
 ghost use Rattle.krb_text.specs.Script.{is_command, commands_from, script_of, script_by, refusal_text, RefusesScript, TakesMemory};
+ghost use Rattle.krb_text.specs.declared.line_fault.LineFault.{LineFault as FaultOfLine};
+ghost use Rattle.krb_text.specs.LineFault.{Reads};
 
-mod addition;
 pub(crate) mod command;
 mod event_line;
-pub(crate) mod line;
 
 use crate::line_fault::{LineFault, LineRefusal};
 use crate::pieces::Lines;
-use crate::script::line::ScriptLine;
 use std::alloc::{AllocFailed, Allocator};
 use std::fmt;
 use thiserror::Error;
+
+/// A parsed line of a script.
+pub trait ScriptLine<A: Allocator>: Sized + Drop {
+    /// What a line is parsed as, or its first fault.
+    ghost line_in: { List ℕ → Result Self FaultOfLine };
+
+    /// Parses a line. If it has a fault, that fault is returned, even when out of memory.
+    fn parse(alloc: A, line: &[u8]) -> Result<Self, LineRefusal>
+        ensures { Reads (λ read_lines. read_lines) (line_in line.now) result };
+}
 
 /// Why a script is refused.
 #[derive(Clone, Copy, Debug, PartialEq, Eq, Error)]

@@ -10,23 +10,18 @@ ghost use Rattle.krb_ccache.specs.Store.{credential_at_place, image_of, store_of
 ghost use Rattle.krb_ccache.specs.Changes.{cut_result};
 ghost use Rattle.krb_ccache.specs.SetConfig.{set_config_result};
 ghost use Rattle.krb_ccache.specs.Rewrite.{rewrite_result};
-ghost use Rattle.krb_c.specs.Behind.{cache_of, Looks, Over};
-ghost use Rattle.krb_c.specs.Text.{CopiesText, CopiesTextAt};
+ghost use Rattle.krb_c.specs.Held.{cache_of, Looks, Over};
+ghost use Rattle.krb_c.specs.Text.{CopiesText, CopiesTextAt, AreShown, LooksAt, ShowsBytes};
 ghost use Rattle.krb_c.specs.CacheLooks.{Finds, text_or_none, Shows};
 ghost use Rattle.krb_c.specs.Walks.{StepsOver, with_cursors};
-ghost use Rattle.krb_c.specs.Shown.{AreShown, LooksAt, ShowsBytes};
 ghost use Rattle.krb_c.specs.Status.{kind_number, Adds, Changes, Rewrites};
 ghost use Rattle.krb_c.specs.CacheStore.{Stores, new_credential_of};
 
-use crate::bytes::{KrbfBytes, bytes_of};
-use crate::cache::changes::store;
-use crate::cache::looks::{config, copy_client, copy_server, find, look_at};
-use crate::cache::new_credential::NewCredential;
-use crate::cache::numbers::KrbfNumbers;
-use crate::cache::ticket::KrbfTicket;
+use crate::cache::changes::{KrbfNumbers, NewCredential, store};
+use crate::cache::looks::{KrbfTicket, config, copy_client, copy_server, find, look_at};
 use crate::handle::{KrbfCcache, with_held};
 use crate::status::{DONE, kind_of};
-use crate::text::copy_name;
+use crate::text::{KrbfBytes, bytes_of, copy_name};
 use std::alloc::Global;
 
 /// Copies the default principal's text into the buffer `room`, as much as fits, and reports the length of the text.

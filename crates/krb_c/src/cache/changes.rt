@@ -1,19 +1,108 @@
 //! Changes to a cache, and the status that C gets.
 
+ghost use Rattle.std.specs.Prelude.{◌≡◌, ◌⊎◌, Ok, Err, IfOk, IfErr};
+ghost use Rattle.krb_wire.specs.Reading.{principal_parts};
 ghost use Rattle.krb_ccache.specs.SetConfig.{set_config_result};
 ghost use Rattle.krb_c.specs.CacheLooks.{text_or_none};
-ghost use Rattle.krb_c.specs.CacheStore.{Stores};
+ghost use Rattle.krb_c.specs.CacheStore.{Stores, with_parts, numbers_fit};
 ghost use Rattle.krb_c.specs.Status.{Adds};
 
 use crate::cache::HeldCache;
 use crate::cache::looks::some_text;
-use crate::cache::new_credential::NewCredential;
-use crate::heap::{Heap, copied};
-use crate::status::{DONE, NO_MEMORY, of_refusal};
+use crate::heap::{Heap, copied, heap};
+use crate::status::{DONE, NO_MEMORY, of_code, of_refusal};
 use crate::text::read_name;
 use crate::walked::Walked;
-use krb_ccache::Ccache;
+use krb_ccache::{Ccache, Cred};
+use krb_walk::Code;
+use krb_wire::Principal;
 use std::alloc::Global;
+use std::marker::Model;
+
+/// The numbers of a credential.
+#[repr(C)]
+#[derive(Clone, Copy)]
+pub struct KrbfNumbers {
+    pub enctype: u32,
+    pub authtime: u32,
+    pub starttime: u32,
+    pub endtime: u32,
+    pub renew_till: u32,
+    pub flags: u32,
+    pub is_skey: u32,
+}
+
+impl KrbfNumbers {
+    /// True if each fits its field: an enctype has sixteen bits, and `is_skey` is 0 or 1.
+    pub fn fit(&self) -> bool
+        ensures { result ≡ numbers_fit self.now }
+    {
+        self.enctype < 65_536 && self.is_skey < 2
+    }
+}
+
+/// The parts of a credential to store: the texts of its names, its key, its tickets and its numbers.
+#[derive(Drop)]
+pub struct NewCredential<'a> {
+    pub client: &'a [u8],
+    pub server: &'a [u8],
+    pub key: &'a [u8],
+    pub ticket: &'a [u8],
+    pub second_ticket: &'a [u8],
+    pub numbers: KrbfNumbers,
+}
+
+impl<'a> Model for NewCredential<'a> {
+    ghost use Rattle.krb_c.specs.CacheStore.{NewCredentialParts};
+
+    ghost Value = { NewCredentialParts };
+
+    ghost view = { λ a. record {
+      client = a.client.now;
+      server = a.server.now;
+      key = a.key.now;
+      ticket = a.ticket.now;
+      second_ticket = a.second_ticket.now;
+      numbers = a.numbers;
+    } };
+}
+
+impl<'a> NewCredential<'a> {
+    /// Returns the credential of this client and this server, or the status that says why there is none.
+    pub fn between(
+        &self,
+        alloc: Global,
+        client: Principal<Heap>,
+        server: Principal<Heap>,
+    ) -> Result<Cred<Heap>, u32>
+        ensures ok { IfOk result (λ c. with_parts self.now (principal_parts client) (principal_parts server) ≡ Ok c) }
+        ensures err { IfErr result (λ s. (with_parts self.now (principal_parts client) (principal_parts server) ≡ Err s) ⊎ (s ≡ 1)) }
+    {
+        let numbers = self.numbers;
+        if !numbers.fit() {
+            return Err(of_code(Code::TooLong));
+        }
+        let key = copied(alloc, self.key)?;
+        let ticket = copied(alloc, self.ticket)?;
+        let second_ticket = copied(alloc, self.second_ticket)?;
+        Ok(Cred {
+            client,
+            server,
+            enctype: numbers.enctype as u16,
+            key,
+            authtime: numbers.authtime,
+            starttime: numbers.starttime,
+            endtime: numbers.endtime,
+            renew_till: numbers.renew_till,
+            is_skey: numbers.is_skey as u8,
+            flags: numbers.flags,
+            addresses: Vec::new(heap(alloc)),
+            authdata: Vec::new(heap(alloc)),
+            ticket,
+            second_ticket,
+        })
+    }
+}
 
 /// Stores a credential of these parts, and reports its place.
 #[tactic(auto, using(crate::proofs::NameLemmas::unread))]

@@ -8,9 +8,8 @@ ghost use Rattle.krb_c.specs.Opens.{limit_of};
 
 use crate::cache::HeldCache;
 use crate::handle::KrbfCcache;
-use crate::heap::heap;
+use crate::heap::{heap, limits_of};
 use crate::held::Held;
-use crate::limit::limits_of;
 use crate::status::{DONE, NO_MEMORY, TOO_LARGE, of_cc_open, of_refusal};
 use crate::text::read_name;
 use krb_ccache::{CcOpenFault, Ccache, Version};

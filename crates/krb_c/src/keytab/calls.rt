@@ -8,19 +8,17 @@ ghost use Rattle.krb_walk.specs.Ranks.{carry};
 ghost use Rattle.krb_keytab.specs.Store.{entry_at_place, image_of, store_of, entries};
 ghost use Rattle.krb_keytab.specs.Changes.{cut_result};
 ghost use Rattle.krb_keytab.specs.Rewrite.{rewrite_result};
-ghost use Rattle.krb_c.specs.Behind.{keytab_of, Looks, Over};
+ghost use Rattle.krb_c.specs.Held.{keytab_of, Looks, Over};
 ghost use Rattle.krb_c.specs.KeytabLooks.{Shows, Finds, ShowsPart, AddsNamed, ReadsBack, entry_with};
 ghost use Rattle.krb_c.specs.Walks.{StepsOver, with_cursors};
-ghost use Rattle.krb_c.specs.Shown.{AreShown, LooksAt};
-ghost use Rattle.krb_c.specs.Text.{CopiesTextAt};
+ghost use Rattle.krb_c.specs.Text.{AreShown, LooksAt, CopiesTextAt};
 ghost use Rattle.krb_c.specs.Status.{kind_number, Changes, Rewrites};
 
-use crate::bytes::{KrbfBytes, bytes_of};
 use crate::handle::{KrbfKeytab, with_held};
 use crate::keytab::changes::{Numbers, add};
-use crate::keytab::entry::KrbfEntry;
-use crate::keytab::looks::{copy_name_at, find, look_at, show_component};
+use crate::keytab::looks::{KrbfEntry, copy_name_at, find, look_at, show_component};
 use crate::status::{DONE, kind_of};
+use crate::text::{KrbfBytes, bytes_of};
 use std::alloc::Global;
 
 /// Shows the first entry at or after the cursor, and moves the cursor past it. A walk starts at 2.

@@ -2,15 +2,14 @@
 
 ghost use Rattle.std.specs.Prelude.{◌≡◌, ◌≤◌, ◌⊎◌, length, Some, None, Err, IsOk, IfOk, IfErr};
 ghost use Rattle.krb_keytab.specs.Store.{format_of, open_result};
-ghost use Rattle.krb_c.specs.Behind.{keytab_of};
+ghost use Rattle.krb_c.specs.Held.{keytab_of};
 ghost use Rattle.krb_c.specs.KeytabOpens.{IsKeytab, Makes, OpensImage, order_of_flag};
 ghost use Rattle.krb_c.specs.Opens.{limit_of, OpensNone};
 
 use crate::handle::KrbfKeytab;
-use crate::heap::{Heap, heap};
+use crate::heap::{Heap, heap, limits_of};
 use crate::held::Held;
 use crate::keytab::HeldKeytab;
-use crate::limit::limits_of;
 use crate::status::{DONE, NO_MEMORY, TOO_LARGE, of_kt_open};
 use krb_keytab::{Indexed, Keytab, KtOpenFault};
 use krb_wire::{KtFormat, Limits, NoMemory, Order};

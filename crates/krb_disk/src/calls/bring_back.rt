@@ -2,14 +2,14 @@
 
 ghost use Rattle.std.specs.Prelude.{◌≡◌, ◌⊎◌, ◌↔◌, true, length, nat_lt, IsTrue, OnOk, OnErr};
 ghost use Rattle.krb_disk.specs.Content.{AtEach, Cuts, CutsIf, IsPatch, Writes};
-ghost use Rattle.krb_disk.specs.PlaceStages.{IsToRestore, recovered, torn_to, unrestored};
-ghost use Rattle.krb_disk.specs.declared.place_stage.PlaceStage.TheVariants.{Lengthened, Whole, Mixed, Torn, Refilled, Lacking, Cleared, Trimmed, Left, Lost};
+ghost use Rattle.krb_disk.specs.Stages.{IsToRestore, recovered, torn_to, unrestored};
+ghost use Rattle.krb_disk.specs.declared.stage.PlaceStage.TheVariants.{Lengthened, Whole, Mixed, Torn, Refilled, Lacking, Cleared, Trimmed, Left, Lost};
 
 use super::{Calls, PlaceFile, describe};
+use crate::open_file::WriteInPlace;
 use crate::patch::Patch;
-use crate::place_stage::PlaceStage;
 use crate::read::{Parts, has_bytes};
-use crate::write_in_place::WriteInPlace;
+use crate::stage::PlaceStage;
 use std::fs::OpenFile;
 use std::io::{self, Read, Seek, SeekFrom};
 use std::rt;

@@ -3,22 +3,21 @@
 ghost use Rattle.std.specs.Prelude.{◌≡◌, ◌≤◌, ◌⊎◌, ◌∷◌, false, length, nat_lt, IfOk, OnOk, OnErr, Some, string_bytes};
 ghost use Rattle.krb_disk.specs.Aftermaths.{IsDone};
 ghost use Rattle.krb_disk.specs.Content.{AtEach, CutsIf, IsPatch, Writes};
-ghost use Rattle.krb_disk.specs.PlaceStages.{IsToSync, IsToWatch, IsWatched, compared_in_place, synced_in_place, unlooked, unsynced, watched_in_place};
-ghost use Rattle.krb_disk.specs.declared.place_stage.PlaceStage.TheVariants.{Same, Extended, Ready, Overwritten, Cut, Finished, Saved, Whole, Mixed, Torn};
+ghost use Rattle.krb_disk.specs.Stages.{IsToSync, IsToWatch, IsWatched, compared_in_place, synced_in_place, unlooked, unsynced, watched_in_place};
+ghost use Rattle.krb_disk.specs.declared.stage.PlaceStage.TheVariants.{Same, Extended, Ready, Overwritten, Cut, Finished, Saved, Whole, Mixed, Torn};
 
 use super::log::Log;
 use super::{Calls, PlaceFile, describe};
 use crate::deadline::Deadline;
 use crate::fault::DiskFault;
-use crate::looks::Found;
 use crate::looks::locks::LockKind;
-use crate::looks::same::is_same_file;
+use crate::looks::{Found, is_same_file};
+use crate::open_file::WriteInPlace;
 use crate::patch::Patch;
-use crate::place_stage::PlaceStage;
 use crate::read::{Parts, has_bytes};
 use crate::snapshot::Snapshot;
+use crate::stage::PlaceStage;
 use crate::target::Target;
-use crate::write_in_place::WriteInPlace;
 use krb_files::{Aftermath, Cause};
 use std::alloc::Allocator;
 use std::fs::OpenFile;

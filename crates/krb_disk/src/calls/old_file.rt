@@ -1,18 +1,16 @@
 //! The old file, open: its lock, and what is read of it.
 
 ghost use Rattle.std.specs.Prelude.{◌≡◌, ◌≤◌, true, IfOk, vec_len};
-ghost use Rattle.krb_disk.specs.declared.place_stage.PlaceStage.TheVariants.{Untouched};
+ghost use Rattle.krb_disk.specs.declared.stage.PlaceStage.TheVariants.{Untouched};
 
 use super::{Calls, OldFile, PlaceFile, describe};
 use crate::fault::{DiskFault, ReadFault};
-use crate::lock::TakeLock;
-use crate::looks::Found;
 use crate::looks::device::Listed;
 use crate::looks::listed::find_listed;
-use crate::looks::same::is_same_file;
-use crate::number::Numbered;
-use crate::place_stage::PlaceStage;
+use crate::looks::{Found, is_same_file};
+use crate::open_file::{Numbered, TakeLock};
 use crate::read::{Parts, has_bytes, read_open};
+use crate::stage::PlaceStage;
 use krb_files::Cause;
 use std::alloc::Allocator;
 use std::fs::{self, OpenFile, OpenOptions};

@@ -4,9 +4,9 @@ ghost use Rattle.std.specs.Prelude.{◌≡◌, true, IfOk, IsSomeAnd, IsTrue};
 ghost use Rattle.krb_disk.specs.Looks.{MayBeLeft};
 
 use super::{Calls, describe, is_at_path};
-use crate::lock::TakeLock;
 use crate::looks::Found;
 use crate::looks::users::Users;
+use crate::open_file::TakeLock;
 use std::fs::{self, OpenOptions};
 use std::io::{self, ErrorKind};
 use std::rt;

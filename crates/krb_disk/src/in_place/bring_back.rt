@@ -3,12 +3,12 @@
 ghost use Rattle.std.specs.Prelude.{◌≡◌, ◌⊎◌, Some, OnOk, OnErr};
 ghost use Rattle.krb_disk.specs.Aftermaths.{IsUndone};
 ghost use Rattle.krb_disk.specs.Content.{IsPatch};
-ghost use Rattle.krb_disk.specs.PlaceStages.{HasFailed, IsAftermath};
-ghost use Rattle.krb_disk.specs.declared.place_stage.PlaceStage.TheVariants.{Whole, Mixed, Torn, Refilled, Lacking, Back, Left, Lost};
+ghost use Rattle.krb_disk.specs.Stages.{HasFailed, IsAftermath};
+ghost use Rattle.krb_disk.specs.declared.stage.PlaceStage.TheVariants.{Whole, Mixed, Torn, Refilled, Lacking, Back, Left, Lost};
 
 use crate::calls::{Calls, PlaceFile};
+use crate::open_file::WriteInPlace;
 use crate::patch::Patch;
-use crate::write_in_place::WriteInPlace;
 use krb_files::Aftermath;
 use std::io::{self, ErrorKind};
 use std::rt;

@@ -1,7 +1,7 @@
 //! Devices, and the files on them.
 
 ghost use Rattle.std.specs.Prelude.{◌≡◌};
-ghost use Rattle.krb_disk.specs.Device.{device_number, is_inode, is_on_device, is_place_of};
+ghost use Rattle.krb_disk.specs.Looks.{device_number, is_inode, is_on_device, is_place_of};
 
 use crate::looks::Found;
 

@@ -1,7 +1,7 @@
 use Rattle.krb_cache_text.proofs.Cited.{◌≡◌, List, ℕ, [], ◌∷◌, ◌++◌, codes, false, ap, ◌∙◌, append_assoc, ◌==◌, on_ok_weaker}
 use Rattle.std.proofs.lemmas.Bool.{ne_eqb}
 use Rattle.krb_text.specs.Calendar.{time_text_of}
-use Rattle.krb_cache_text.specs.Credential.{renew_line}
+use Rattle.krb_cache_text.specs.Listing.{renew_line}
 use Rattle.krb_cache_text.proofs.credential.append_renewal.Goals as goal
 
 pub returns : goal.returns

@@ -1,7 +1,6 @@
 use Rattle.std.proofs.Common.{◌≡◌, ℕ, ◌+◌, ◌*◌, ◌≤◌, List, ◌++◌, length, take}
 use Rattle.arrayvec.specs.ArrayVec.{array_vec_len}
-use Rattle.krb_terminal.specs.Escaped.{escaped}
-use Rattle.krb_terminal.specs.Screen.{held}
+use Rattle.krb_terminal.specs.Screen.{escaped, held}
 use Rattle.krb_terminal.proofs.escape.add.Given as goal
 
 abbrev pub invariant-bytes : goal.invariant-bytes

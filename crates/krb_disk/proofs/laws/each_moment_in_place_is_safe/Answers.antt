@@ -1,5 +1,0 @@
-use Rattle.krb_disk.proofs.PlaceMoments.{each_moment_in_place}
-use Rattle.krb_disk.proofs.laws.each_moment_in_place_is_safe.Goals as goal
-
-pub returns : goal.returns
-returns c = each_moment_in_place

@@ -1,5 +1,0 @@
-use Rattle.krb_disk.proofs.Moments.{each_moment}
-use Rattle.krb_disk.proofs.laws.each_moment_is_safe.Goals as goal
-
-pub returns : goal.returns
-returns c = each_moment
