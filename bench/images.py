@@ -3,8 +3,7 @@ krbfile reads."""
 
 from collections.abc import Iterator
 
-from makers.cache_images import Credential, Name, cache, offset
-from makers.images import Entry, keytab
+from makers.images import Credential, Entry, Name, cache, keytab, offset
 
 QUOTED = b"/@\\\n\t\b\0"  # the bytes that are quoted in a printed name
 SHORT = Entry((b"host", b"a"), b"R", version8=1, version32=1, key=bytes(16))

@@ -176,7 +176,6 @@ def edit_keytab(path: AnyPath | None = None, *, in_place: bool = False, v1_big: 
     return edited(Keytab, path, options, limit, v1_big=v1_big)
 
 
-def edit_cache(path: AnyPath | None = None, *, in_place: bool = False,
-               limit: int = 0) -> AbstractContextManager[Cache]:
+def edit_cache(path: AnyPath | None = None, *, in_place: bool = False, limit: int = 0) -> AbstractContextManager[Cache]:
     """Holds a file, by default the default cache, loads its cache, and saves it as `edit_keytab` does."""
     return edited(Cache, path, ["--in-place"] * bool(in_place), limit)

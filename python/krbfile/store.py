@@ -46,15 +46,12 @@ class Store(AbstractContextManager):
     def __reduce__(self) -> Any:
         raise TypeError(f"a {type(self).__name__} is neither copied nor pickled; its image can be")
 
-    def _ask(self, name: str, *words: Any) -> int:
-        """Makes a call on the handle and returns its status."""
+    def _do(self, name: str, *words: Any) -> None:
+        """Makes a call on the handle."""
         with self._lock:
             if not self._handle:
                 raise ValueError("it is closed")
-            return getattr(exports, f"krbf_{self._kind}_{name}")(byref(self._handle), *words)
-
-    def _do(self, name: str, *words: Any) -> None:
-        check(self._ask(name, *words))
+            check(getattr(exports, f"krbf_{self._kind}_{name}")(byref(self._handle), *words))
 
     def _change(self, name: str, *words: Any) -> None:
         """Makes a call that changes the image."""

@@ -1,4 +1,4 @@
-/* What the C tests share: a check that ends the program, and images from files and of both kinds. */
+/* What the C tests share: a check that ends the program, a key and numbers, and images from files and of both kinds. */
 #ifndef CHECK_H
 #define CHECK_H
 
@@ -20,6 +20,10 @@
 
 /* A text, and its length. */
 #define TEXT(text) (text), strlen(text)
+
+/* The key of all images of the tests, and the numbers of a ticket. */
+static const uint8_t KEY[16] = {0, 1, 2, 3, 4, 5, 6, 7, 8, 9, 10, 11, 12, 13, 14, 15};
+static const krbf_numbers NUMBERS = {17, 1, 0, 2, 0, 0, 0};
 
 static uint8_t image[1 << 24];
 

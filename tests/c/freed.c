@@ -1,6 +1,5 @@
-/* Preloaded: no block may hold a key when it is given back. The key is the bytes 0 to 15, as the
- * tests have them. The file that FREED_SEEN names is made where a block was looked at, since a
- * program may have a heap of its own. */
+/* Preloaded: no block may hold a key when it is given back. The key is the bytes 0 to 15, as the tests have them. The
+ * file that FREED_SEEN names is made where a block was looked at, since a program may have a heap of its own. */
 #include <fcntl.h>
 #include <malloc.h>
 #include <stdlib.h>
@@ -10,8 +9,7 @@
 extern void __libc_free(void *block);
 extern void *__libc_realloc(void *block, size_t size);
 
-/* Ends the program where a key stands in a block. Its bytes are made here, so that the search finds
- * no copy of them. */
+/* Ends the program where a key stands in a block. Its bytes are made here, so that the search finds no copy of them. */
 static void look(void *block) {
     static const char told[] = "a key is left in a block that is given back\n";
     unsigned char *byte = block;

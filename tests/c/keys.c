@@ -1,8 +1,5 @@
-/* keys KEYTAB CACHE: takes keys through each call that moves them; freed.c, preloaded, looks at
- * what is given back. */
+/* keys KEYTAB CACHE: takes keys through each call that moves them; freed.c, preloaded, looks at what is given back. */
 #include "check.h"
-
-static uint8_t key[16];
 
 static void keytab(const char *file) {
     krbf_keytab kt = KRBF_NONE;
@@ -10,8 +7,8 @@ static void keytab(const char *file) {
     uint32_t place, cursor = KRBF_FIRST;
     CHECK(krbf_kt_open(image, read_image(file), 0, 0, &kt) == KRBF_DONE);
     for (uint32_t kvno = 1; kvno <= 100; kvno++)
-        CHECK(krbf_kt_add(&kt, TEXT("host/a@R"), 0, kvno, 17, key, sizeof key, &place) == KRBF_DONE);
-    CHECK(krbf_kt_add(&kt, TEXT("a@b@R"), 0, 1, 17, key, sizeof key, &place) == KRBF_SECOND_AT);
+        CHECK(krbf_kt_add(&kt, TEXT("host/a@R"), 0, kvno, 17, KEY, sizeof KEY, &place) == KRBF_DONE);
+    CHECK(krbf_kt_add(&kt, TEXT("a@b@R"), 0, 1, 17, KEY, sizeof KEY, &place) == KRBF_SECOND_AT);
     CHECK(krbf_kt_find(&kt, TEXT("host/a@R"), 50, 17, &entry) == KRBF_DONE);
     CHECK(krbf_kt_next(&kt, &cursor, &entry) == KRBF_DONE);
     CHECK(krbf_kt_remove_at(&kt, entry.place) == KRBF_DONE);
@@ -21,15 +18,14 @@ static void keytab(const char *file) {
 }
 
 static void cache(const char *file) {
-    static const krbf_numbers numbers = {17, 1, 0, 2, 0, 0, 0};
     krbf_ccache cc = KRBF_NONE;
     krbf_ticket ticket;
     uint32_t place, cursor;
     CHECK(krbf_cc_open(image, read_image(file), 0, &cc) == KRBF_DONE);
     for (int count = 0; count < 100; count++)
-        CHECK(krbf_cc_store(&cc, TEXT("u@R"), TEXT("host/a@R"), key, sizeof key, key, sizeof key, key, 0, &numbers,
+        CHECK(krbf_cc_store(&cc, TEXT("u@R"), TEXT("host/a@R"), KEY, sizeof KEY, KEY, sizeof KEY, KEY, 0, &NUMBERS,
                             &place) == KRBF_DONE);
-    CHECK(krbf_cc_set_config(&cc, TEXT("k"), TEXT(""), key, sizeof key, &place) == KRBF_DONE);
+    CHECK(krbf_cc_set_config(&cc, TEXT("k"), TEXT(""), KEY, sizeof KEY, &place) == KRBF_DONE);
     krbf_cc_first(&cc, &cursor);
     CHECK(krbf_cc_next(&cc, &cursor, &ticket) == KRBF_DONE);
     CHECK(krbf_cc_remove_at(&cc, ticket.place) == KRBF_DONE);
@@ -39,8 +35,6 @@ static void cache(const char *file) {
 
 int main(int argc, char **argv) {
     CHECK(argc == 3);
-    for (uint8_t at = 0; at < sizeof key; at++)
-        key[at] = at;
     keytab(argv[1]);
     cache(argv[2]);
     return 0;

@@ -4,9 +4,8 @@
 
 #include <time.h>
 
-static const uint8_t KEY[16] = {0, 1, 2, 3, 4, 5, 6, 7, 8, 9, 10, 11, 12, 13, 14, 15};
 static const char NAME[] = "c/abi@EXAMPLE.ORG";
-static const krbf_numbers NUMBERS = {17, 1700000000, 0, 1700036000, 0, 0x40e00000, 0};
+static const krbf_numbers LASTING = {17, 1700000000, 0, 1700036000, 0, 0x40e00000, 0};
 
 static char room[1 << 17];
 static size_t len;
@@ -82,13 +81,13 @@ static uint32_t store_of(krbf_ccache *cc, const char *client, const krbf_numbers
 static void store(krbf_ccache *cc) {
     uint32_t at = 0;
     krbf_ticket ticket;
-    krbf_numbers wrong = NUMBERS;
+    krbf_numbers wrong = LASTING;
     wrong.enctype = 65536;
     CHECK(krbf_cc_find(cc, TEXT(NAME), &ticket) == KRBF_NOT_FOUND);
     CHECK(krbf_cc_find(cc, TEXT("a@b/c"), &ticket) == KRBF_SLASH_IN_REALM);
     CHECK(store_of(cc, "u@R", &wrong, &at) == KRBF_TOO_LONG);
-    CHECK(store_of(cc, "u", &NUMBERS, &at) == KRBF_NO_REALM && at == 0);
-    CHECK(store_of(cc, "u@R", &NUMBERS, &at) == KRBF_DONE);
+    CHECK(store_of(cc, "u", &LASTING, &at) == KRBF_NO_REALM && at == 0);
+    CHECK(store_of(cc, "u@R", &LASTING, &at) == KRBF_DONE);
     CHECK(krbf_cc_find(cc, TEXT(NAME), &ticket) == KRBF_DONE && ticket.place == at);
     CHECK(ticket.enctype == 17 && ticket.authtime == 1700000000 && ticket.endtime == 1700036000);
     CHECK(ticket.flags == 0x40e00000 && !ticket.is_skey && !ticket.is_config);

@@ -1,9 +1,6 @@
-/* NULL with a length of 0 is no bytes, in each call that takes some. A handle of nothing may be
- * closed. Run under gcc's sanitizers. */
+/* NULL with a length of 0 is no bytes, in each call that takes some. A handle of nothing may be closed. Run under gcc's
+ * sanitizers. */
 #include "check.h"
-
-static const uint8_t KEY[16] = {1};
-static const krbf_numbers NUMBERS = {17, 1, 0, 2, 0, 0, 0};
 
 static void keytabs(void) {
     krbf_keytab kt = KRBF_NONE;

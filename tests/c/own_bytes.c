@@ -2,8 +2,6 @@
  * them. Run under gcc's sanitizers, and under valgrind. */
 #include "check.h"
 
-static const krbf_numbers NUMBERS = {17, 1, 0, 2, 0, 0, 0};
-
 static krbf_keytab kt = KRBF_NONE;
 static krbf_ccache cc = KRBF_NONE;
 static uint32_t place;
@@ -100,13 +98,13 @@ static void make(void) {
     static const char *const VALUES[][3] = {
         {"key", "", "flag"}, {"client", "", "b@R"}, {"server", "", "host/a@R"}, {"flag", "b@R", "2"}};
     krbf_bytes of_keytab;
-    uint8_t key[16] = {1, 2, 3}, second[3] = {7, 8, 9}, ticket[200] = {10, 11, 12};
+    uint8_t second[3] = {7, 8, 9}, ticket[200] = {10, 11, 12};
     CHECK(krbf_kt_create(0, &kt) == KRBF_DONE && krbf_cc_create(TEXT("u@R"), 0, &cc) == KRBF_DONE);
-    CHECK(krbf_kt_add(&kt, TEXT("b\\@R@R"), 5, 7, 17, key, sizeof key, &place) == KRBF_DONE);
+    CHECK(krbf_kt_add(&kt, TEXT("b\\@R@R"), 5, 7, 17, KEY, sizeof KEY, &place) == KRBF_DONE);
     for (size_t at = 0; at < sizeof VALUES / sizeof *VALUES; at++)
         CHECK(krbf_cc_set_config(&cc, TEXT(VALUES[at][0]), TEXT(VALUES[at][1]), (const uint8_t *)TEXT(VALUES[at][2]),
                                  &place) == KRBF_DONE);
-    CHECK(krbf_cc_store(&cc, TEXT("u@R"), TEXT("host/a@R"), key, sizeof key, ticket, sizeof ticket, second,
+    CHECK(krbf_cc_store(&cc, TEXT("u@R"), TEXT("host/a@R"), KEY, sizeof KEY, ticket, sizeof ticket, second,
                         sizeof second, &NUMBERS, &place) == KRBF_DONE);
     CHECK(krbf_kt_image(&kt, &of_keytab) == KRBF_DONE);
     keytab_len = of_keytab.len;

@@ -1,5 +1,4 @@
-/* random_calls SEED COUNT KEYTAB.. -- CACHE..: random calls on damaged copies of files, under gcc's
- * sanitizers. */
+/* random_calls SEED COUNT KEYTAB.. -- CACHE..: random calls on damaged copies of files, under gcc's sanitizers. */
 #include "check.h"
 
 static const char *const NAMES[] = {"",        "@",  "a@R",   "host/a@R",   "host/a.example.com@EXAMPLE.COM",

@@ -1,9 +1,5 @@
-/* Refuses each request for memory in turn: the call says so, and all is as before. Linked with
- * --wrap=malloc,realloc. */
+/* Refuses each request for memory in turn: the call says so, all is as before. Linked with --wrap=malloc,realloc. */
 #include "check.h"
-
-static const uint8_t KEY[16] = {1};
-static const krbf_numbers NUMBERS = {17, 1, 0, 2, 0, 0, 0};
 
 /* The request that is refused, counted from 1; none where it is 0. */
 static unsigned refused;
@@ -44,6 +40,9 @@ static uint32_t set_config(void) {
     return krbf_cc_set_config(&cc, TEXT("k"), TEXT("b@R"), KEY, 4, &set);
 }
 
+static uint32_t (*const CALLS[])(void) = {create_kt, add,     find,    name_kt, rewrite_kt, create_cc,
+                                          store,     find_cc, server, set_config, rewrite_cc};
+
 /* Makes a call with each of its requests refused, until none is. */
 static void sweep(uint32_t (*call)(void)) {
     static uint8_t before[1 << 12];
@@ -79,17 +78,8 @@ static void open_none(void) {
 
 int main(void) {
     open_none();
-    sweep(create_kt);
-    sweep(add);
-    sweep(find);
-    sweep(name_kt);
-    sweep(rewrite_kt);
-    sweep(create_cc);
-    sweep(store);
-    sweep(find_cc);
-    sweep(server);
-    sweep(set_config);
-    sweep(rewrite_cc);
+    for (size_t at = 0; at < sizeof CALLS / sizeof *CALLS; at++)
+        sweep(CALLS[at]);
     krbf_kt_close(&kt);
     krbf_cc_close(&cc);
     return 0;

@@ -4,10 +4,8 @@ from dataclasses import replace
 
 from keytabs.edits import LINE_FAULTS, by_line, faulty_lines, refused
 from keytabs.file_names import LIMIT
-from makers.cache_images import Credential, Name, cache, config
-from makers.usual_caches import PA_TYPE, TICKET, USUAL, VERSION_3
-from runs.harness import Case, Outcome, message
-from runs.rows import over
+from makers.images import PA_TYPE, TICKET, USUAL, VERSION_3, Credential, Name, cache, config
+from runs.harness import Case, Outcome, message, over
 
 SET_3 = "config pa_type krbtgt/R@R 3"
 THREE = config(b"pa_type", b"3", b"krbtgt/R@R")

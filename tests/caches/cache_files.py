@@ -4,10 +4,8 @@ from dataclasses import replace
 
 from caches.cache_listings import TICKET_LINE, listed
 from keytabs.file_names import LIMIT, ODD, check_odd_files
-from makers.cache_images import Credential, Name, U, cache, config
-from makers.usual_caches import TICKET
-from runs.harness import Case, Outcome, Report, message
-from runs.rows import check_rows, over
+from makers.images import TICKET, U, Credential, Name, cache, config
+from runs.harness import Case, Outcome, Report, check_rows, message, over
 
 
 def sized(size: int) -> bytes:

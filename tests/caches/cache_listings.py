@@ -3,11 +3,9 @@
 from dataclasses import replace
 from functools import partial
 
-from keytabs.columns import KNOWN_TIMES
-from makers.cache_images import FLAGS, Name, cache, config, header_field, offset
-from makers.usual_caches import TICKET
-from runs.harness import Case, Outcome
-from runs.rows import over
+from keytabs.listings import KNOWN_TIMES
+from makers.images import FLAGS, TICKET, Name, cache, config, header_field, offset
+from runs.harness import Case, Outcome, over
 
 TIMES = b"2023-11-14T22:13:20Z 2023-11-15T08:13:20Z "
 TICKET_LINE = TIMES + b"krbtgt/R@R"

@@ -2,9 +2,8 @@
 
 from keytabs.file_names import LIMIT
 from keytabs.greatest import at_each
-from makers.cache_images import Credential, Name, cache, config
-from runs.harness import Case, Outcome
-from runs.rows import over, printed, text
+from makers.images import Credential, Name, cache, config
+from runs.harness import Case, Outcome, over, printed, text
 
 # The smallest ticket: empty names, and no byte that is not a length, a time or a flag.
 LEAST = Credential(Name((), b"", 0), Name((), b"", 0), 0, None, b"", 0, 0, 0, flags=0, ticket=b"")
@@ -71,8 +70,3 @@ def edits() -> list[Case]:
         ("the most steps", least(), b"start\n" + steps, Outcome(0, b"walk 0 at 22\n" + gave + ends), None),
         ("the most walks", least(), starts, Outcome(1, walks), None),
         ("the most comments", least(), b"#\n" * (LIMIT // 2), Outcome(0), None))]
-
-
-def cases() -> list[Case]:
-    """Returns all these cases."""
-    return [*reads(), *edits()]

@@ -6,10 +6,8 @@ Places are counted by hand: a ticket has 108 bytes or 106, pa_type's value 136.
 from dataclasses import replace
 
 from caches.cache_listings import of_host
-from makers.cache_images import cache
-from makers.usual_caches import FIELDS, OFFSET, PA_TYPE, TICKET
-from runs.harness import Case, Outcome, message
-from runs.rows import over
+from makers.images import FIELDS, OFFSET, PA_TYPE, TICKET, cache
+from runs.harness import Case, Outcome, message, over
 
 # A time that does not come during a test, and tickets that end then.
 FUTURE = 2**32 - 1

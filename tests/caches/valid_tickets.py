@@ -5,11 +5,8 @@ from dataclasses import replace
 
 from caches.cache_listings import of_host
 from keytabs.file_names import LIMIT, check_unreadable
-from makers.cache_images import Credential, Name, cache
-from makers.images import TWO
-from makers.usual_caches import PA_TYPE, TICKET, config_ticket
-from runs.harness import Case, Outcome, Report, differences, folder_of, run
-from runs.rows import words_of
+from makers.images import PA_TYPE, TICKET, TWO, Credential, Name, cache, config_ticket
+from runs.harness import Case, Outcome, Report, differences, folder_of, run, words_of
 from system.pipe_files import fed
 
 # A time that does not come during a test; the usual ticket ended before.

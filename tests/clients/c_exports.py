@@ -77,7 +77,6 @@ def statuses() -> dict[str, int]:
 
 
 def check(report: Report, _program: str) -> None:
-    """Runs this topic."""
     numbers = {name: int(number) for name, number in re.findall(r"^ +KRBF_(\w+) = (\d+)", read("c/krbfile.h"), re.M)}
     sources = statuses()
     others = [f"{name} is not {number}" for name, number in numbers.items() if sources.get(name) != number]

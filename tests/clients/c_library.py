@@ -9,17 +9,13 @@ import subprocess
 from dataclasses import replace
 
 from clients.c_exports import prototypes
-from clients.examples import folder_with
-from makers.cache_images import cache
-from makers.images import HOST, TWO, keytab
+from makers.images import HOST, PA_TYPE, TICKET, TWO, USUAL, cache, keytab
 from makers.samples import SAMPLES
-from makers.usual_caches import PA_TYPE, TICKET, USUAL
 from pages.documents import literals
-from pages.readme import surroundings
+from pages.readme import installed, no_library
 from peers import corpus
-from runs.harness import SECONDS, TOP, Outcome, Report, differences, files_in, folder_of, message, run
+from runs.harness import SECONDS, TOP, Outcome, Report, differences, every, files_in, folder_of, message, run
 from runs.random_runs import Rounds
-from runs.system_calls import check_traced
 from runs.undisturbed import frame
 from system.saving import owned, tree_faults
 
@@ -43,15 +39,9 @@ CALLS = 50
 ADDED = "add 200 17 1700000000 000102030405060708090a0b0c0d0e0f c/abi@EXAMPLE.ORG\n"
 
 
-def is_built(report: Report, what: str) -> bool:
-    """Whether the library and a C compiler are there; if not, reports that part as left out."""
-    if not os.path.exists(LIBRARY):
-        report.skip(what, "there is no C library: make lib builds it")
-    elif shutil.which("cc") is None:
-        report.skip(what, "there is no C compiler")
-    else:
-        return True
-    return False
+def lack() -> str:
+    """Returns that the library or a C compiler is not there, or nothing."""
+    return no_library() or ("" if shutil.which("cc") else "there is no C compiler")
 
 
 def build(folder: str, name: str, *words: str, sources: str = SOURCES) -> str:
@@ -70,7 +60,7 @@ def symbols(path: str, *words: str) -> set[str]:
     return {line[-1].split("@")[0] for line in fields if len(line) == 3 and line[1] != "A"}
 
 
-def check_symbols(report: Report) -> None:
+def check_symbols(report: Report, _program: str) -> None:
     """Checks that both libraries export the calls of the header only, and that the shared one has its name."""
     wanted = set(prototypes())
     for path, words in ((LIBRARY, ()), (SHARED, ("-D",))):
@@ -133,14 +123,14 @@ def check_edit(report: Report, program: str) -> None:
     rows = [((), fcntl.LOCK_UN, Outcome(0), new), ((), fcntl.LOCK_EX, message(1, "k: cannot write"), old)]
     rows += [(killed, fcntl.LOCK_UN, replace(message(1, "input is not whole"), status=-signal.SIGKILL), old)]
     source = (shown + MAIN).replace("\\e", "\\").encode()
-    with folder_of({"edit.c": source}) as folder, folder_with(program) as programs:
+    with folder_of({"edit.c": source}) as folder, installed(program) as env:
         built = build(folder, "edit", sources=folder)
         for front, lock, wanted, after in rows:
             with folder_of({"k": old}) as at, open(os.path.join(at, "k"), "rb") as file:
                 os.chmod(file.fileno(), 0o640)
                 fcntl.flock(file, lock)
                 first, *rest = [*front, built, "k"]
-                faults = differences(wanted, run(first, rest, at, env=surroundings(programs)))
+                faults = differences(wanted, run(first, rest, at, env=env))
                 faults += tree_faults({"k": after}, at)
                 faults += [] if owned(os.path.join(at, "k")).mode == 0o640 else ["another mode"]
             report.check(f"the edit of krbfile(3) ends with {wanted.status}", faults)
@@ -178,7 +168,8 @@ def check_keys(report: Report, program: str, folder: str) -> None:
 
 def check_calls(report: Report, _program: str, seeds: range) -> None:
     """Makes random calls over damaged files, those of all seeds in one run, under gcc's sanitizers."""
-    if not is_built(report, "random calls of C"):
+    if why := lack():
+        report.skip("random calls of C", why)
         return
     keytabs, caches = (dict(corpus.files(kind)) for kind in ("keytab", "ccache"))
     count = len(seeds) * CALLS
@@ -192,15 +183,14 @@ RANDOM = Rounds(check_calls, share=1, usual=2_000)
 check_long = RANDOM.check_long
 
 
-def check(report: Report, program: str) -> None:
-    """Runs this topic if the library was built."""
-    if not is_built(report, "the C library"):
-        return
-    check_symbols(report)
+def check_programs(report: Report, program: str) -> None:
+    """Makes the checks by the programs of tests/c, which are built in one folder."""
     with folder_of({}) as folder:
         check_lists(report, program, folder)
-        check_example(report, program)
-        check_traced(report, program, "the edit of krbfile(3)", check_edit)
         check_given(report, folder)
         check_keys(report, program, folder)
-    RANDOM.check(report, program)
+
+
+check = every(check_symbols, check_programs, check_example,
+              every(check_edit, of="the edit of krbfile(3)", needs=("strace",)), RANDOM.check,
+              of="the C library", lack=lack)

@@ -5,14 +5,13 @@ import re
 import shlex
 import shutil
 import signal
-from contextlib import contextmanager
 from dataclasses import replace
 from importlib import import_module, util
 
-from makers.cache_images import Name, cache, header_field, offset
+from makers.images import FIELDS, TICKET, Name, cache, header_field, offset
 from makers.samples import SAMPLES, make
-from makers.usual_caches import FIELDS, TICKET
 from pages.documents import read
+from pages.readme import installed
 from runs.harness import TOP, Outcome, Report, files_in, folder_of, run
 
 # The files of jobs, and lines that they print.
@@ -38,14 +37,6 @@ krbfile_ticket_end_seconds{file="odd",client="u@R",server="a\"\\\\?@R"} 17000360
 """}
 
 
-@contextmanager
-def folder_with(program: str):
-    """Yields a folder in which the program is named as installed."""
-    with folder_of({}) as programs:
-        os.symlink(program, os.path.join(programs, "krbfile"))
-        yield programs
-
-
 def commands(name: str, text: str) -> list[list[str]]:
     """Returns the words of a file's removal and check, over files of the working folder. cron has a shell."""
     text = text.replace("/etc/krb5.keytab", "rotated.keytab").replace("/etc /var/lib", ".").replace("\\\n", "")
@@ -55,9 +46,10 @@ def commands(name: str, text: str) -> list[list[str]]:
     return [["sh", "-c", line] if name == "keytabs.cron" else shlex.split(line) for line in lines]
 
 
-def check_jobs(report: Report, folder: str, programs: str, env: dict[str, str]) -> None:
+def check_jobs(report: Report, folder: str, env: dict[str, str]) -> None:
     """Runs the jobs, and README's line for cron."""
-    texts = {name: read(f"examples/{name}").replace("/usr/local/bin", programs) for name in (*JOBS, "keytabs.timer")}
+    texts = {name: read(f"examples/{name}").replace("/usr/local/bin", env["TMPDIR"])
+             for name in (*JOBS, "keytabs.timer")}
     with folder_of({name: text.encode() for name, text in texts.items()}) as units:
         got = run("systemd-analyze", ("verify", "./keytabs.service", "./keytabs.timer"), units)
     report.check("the units", [f"{got}"] if got.status or b"keytabs." in got.err else [])
@@ -79,10 +71,10 @@ def check(report: Report, program: str) -> None:
     if missing or util.find_spec("yaml") is None:
         report.skip("examples/", f"{', '.join(missing) or 'PyYAML'} is not there")
         return
-    with folder_with(program) as programs, folder_of({"odd": BEFORE}) as folder:
-        env = {**os.environ, "TMPDIR": programs, "PATH": f"{programs}:{TOP}/examples:{os.environ['PATH']}"}
+    with installed(program) as env, folder_of({"odd": BEFORE}) as folder:
+        env |= {"TMPDIR": os.path.dirname(env["KRBFILE"]), "PATH": f"{env['PATH']}:{TOP}/examples"}
         make(folder)
-        check_jobs(report, folder, programs, env)
+        check_jobs(report, folder, env)
         for words, wanted in SCRIPTS.items():
             report.compare(words, wanted, run("env", shlex.split(words), folder, env=env))
         after = files_in(folder)

@@ -2,9 +2,7 @@
 
 import os
 
-from makers.cache_images import cache
-from makers.images import TWO
-from makers.usual_caches import PA_TYPE, TICKET
+from makers.images import PA_TYPE, TICKET, TWO, cache
 from words.phrases import AFTERMATHS, BEGINS_AS_CACHE, BEGINS_AS_KEYTAB, CAUSES, LARGE, NOT_READ, SHORT
 
 # What is read, and what is refused, in the words of the program.

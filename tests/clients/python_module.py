@@ -1,17 +1,14 @@
 """Python's module over the C library: each of its calls, with the expected results written by hand."""
 
-import os
 import sys
 from collections.abc import Iterable
+from functools import partial
 
 from clients import python_files
-from keytabs.columns import BY_NAME, KEY_SIZES
-from makers.cache_images import Credential, Name, cache, config
-from makers.images import HOST, TWO, B, Entry, keytab, old
-from makers.usual_caches import PA_TYPE, TICKET
-from pages.readme import LIBRARY, surroundings
-from runs.harness import Outcome, Report, folder_of, run
-from runs.rows import text
+from keytabs.listings import BY_NAME, KEY_SIZES
+from makers.images import B, HOST, PA_TYPE, TICKET, TWO, Credential, Entry, Name, cache, config, keytab, old
+from pages.readme import no_library, surroundings
+from runs.harness import Outcome, Report, every, folder_of, run, text
 from words.phrases import LIBRARY_CODES, SHORT, code
 
 # A script's name, its text, its input, and the lines that it prints.
@@ -273,7 +270,7 @@ SCRIPTS: tuple[Script, ...] = (
 )
 
 
-def check_scripts(report: Report, scripts: Iterable[Script], program: str) -> None:
+def check_scripts(scripts: Iterable[Script], report: Report, program: str) -> None:
     """Runs each script, each in a folder of its own."""
     for name, script, image, wanted in scripts:
         with folder_of({}) as folder:
@@ -282,9 +279,4 @@ def check_scripts(report: Report, scripts: Iterable[Script], program: str) -> No
         report.compare(f"Python's module: {name}", Outcome(0, text(wanted)), got)
 
 
-def check(report: Report, program: str) -> None:
-    """Runs this topic if the library was built."""
-    if os.path.exists(LIBRARY):
-        check_scripts(report, (*SCRIPTS, *python_files.SCRIPTS), program)
-    else:
-        report.skip("Python's module", "there is no C library: make lib builds it")
+check = every(partial(check_scripts, (*SCRIPTS, *python_files.SCRIPTS)), of="Python's module", lack=no_library)

@@ -9,13 +9,13 @@ import time
 from collections.abc import Callable, Iterator
 from concurrent.futures import ThreadPoolExecutor
 from contextlib import contextmanager, suppress
+from functools import partial
+from pathlib import Path
 
 from clients.python_module import check_scripts
-from makers.cache_images import cache
-from makers.images import BIG, HOST, TWO, B, keytab, old
-from makers.usual_caches import PA_TYPE, TICKET
-from pages.readme import LIBRARY, surroundings
-from runs.harness import SECONDS, Report, folder_of
+from makers.images import B, BIG, HOST, PA_TYPE, TICKET, TWO, cache, keytab, old
+from pages.readme import no_library, surroundings
+from runs.harness import SECONDS, Report, every, folder_of
 from system.saving import NEW, OLD, edit, tree_faults
 
 # What is saved: also in place, of the other byte order, under strange names and default ones, and by threads.
@@ -127,8 +127,7 @@ def in_block(program: str, folder: str, does: str) -> Iterator[tuple[subprocess.
 
 def kill_program(started: subprocess.Popen[bytes]) -> None:
     """Kills the program that a Python has started."""
-    with open(f"/proc/{started.pid}/task/{started.pid}/children", encoding="ascii") as file:
-        os.kill(int(file.read()), signal.SIGKILL)
+    os.kill(int(Path(f"/proc/{started.pid}/task/{started.pid}/children").read_text()), signal.SIGKILL)
 
 
 def is_held(folder: str, seconds: float) -> bool:
@@ -140,7 +139,8 @@ def is_held(folder: str, seconds: float) -> bool:
 
 
 # What is done to a Python in the block before it gets the line, what it forked, what it prints, and the file then.
-ENDS: tuple[tuple[str, Callable[[subprocess.Popen[bytes]], object], str, bytes, bytes], ...] = (
+End = tuple[str, Callable[[subprocess.Popen[bytes]], object], str, bytes, bytes]
+ENDS: tuple[End, ...] = (
     ("the program is killed", kill_program, "", b"OSError [Errno 5] krbfile ended with status -9: 'k'\n", OLD),
     ("Ctrl-C", lambda it: os.killpg(it.pid, signal.SIGINT), "", b"KeyboardInterrupt \n", OLD),
     ("Python is killed", lambda it: it.kill(), "", b"", OLD),
@@ -151,9 +151,9 @@ ENDS: tuple[tuple[str, Callable[[subprocess.Popen[bytes]], object], str, bytes, 
 )
 
 
-def check_end(report: Report, program: str, end: int) -> None:
+def check_end(end: End, report: Report, program: str) -> None:
     """Checks an end of a block: the file is as it was or saved, and the program's next run leaves nothing else."""
-    what, deed, does, printed, image = ENDS[end]
+    what, deed, does, printed, image = end
     with folder_of({"k": OLD}) as folder:
         with in_block(program, folder, does) as (started, _):
             deed(started)
@@ -187,12 +187,5 @@ def check_holds(report: Report, program: str) -> None:
         report.check("the hold of an unknown worker", faults + tree_faults({"k": OLD}, folder))
 
 
-def check(report: Report, program: str) -> None:
-    """Runs this topic if the library was built."""
-    if not os.path.exists(LIBRARY):
-        report.skip("changes by Python's module", "there is no C library: make lib builds it")
-        return
-    check_scripts(report, SCRIPTS, program)
-    for end in range(len(ENDS)):
-        check_end(report, program, end)
-    check_holds(report, program)
+check = every(partial(check_scripts, SCRIPTS), *(partial(check_end, end) for end in ENDS), check_holds,
+              of="changes by Python's module", lack=no_library)

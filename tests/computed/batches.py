@@ -1,13 +1,12 @@
 """Batches of runs, which the prover compares with what the definitions compute."""
-from __future__ import annotations
 
-import os
 import re
 import subprocess
 import tempfile
 from collections.abc import Iterable
 from concurrent.futures import ThreadPoolExecutor
 from contextlib import suppress
+from pathlib import Path
 
 from computed.terms import NotComputed, row_of
 from proving import compiler
@@ -44,17 +43,13 @@ def days_of(case: Case) -> set[int]:
     return {seconds(moment) // 86_400 for moment in TIME.findall(case.wanted.out)}
 
 
-def is_small(case: Case) -> bool:
-    """Whether a run is about few bytes."""
-    return case.size() + len(case.wanted.out) + sum(map(len, (case.files_after or {}).values())) <= MOST
-
-
 def rows_of(seen: Iterable[Case]) -> dict[int, tuple[Case, str]]:
     """Returns the runs that the definitions compute, each once, with its theorem, by number."""
     found: dict[str, Case] = {}
     days: set[int] = set()
-    for case in filter(is_small, seen):
-        if case.wanted.status not in NOT_COMPUTED and len(days | days_of(case)) <= DAYS:
+    for case in seen:
+        size = case.size() + len(case.wanted.out) + sum(map(len, (case.files_after or {}).values()))
+        if size <= MOST and case.wanted.status not in NOT_COMPUTED and len(days | days_of(case)) <= DAYS:
             with suppress(NotComputed):
                 found.setdefault(row_of("row_N", case), case)
                 days |= days_of(case)
@@ -77,9 +72,8 @@ def write(folder: str, modules: list[Module]) -> None:
              "proofs/Lib.antt": "".join(f"mod {it.name}\n" for it in modules),
              **{f"proofs/{it.name}.antt": it.written() for it in modules}}
     for path, text in texts.items():
-        os.makedirs(os.path.join(folder, os.path.dirname(path)), exist_ok=True)
-        with open(os.path.join(folder, path), "w", encoding="utf-8") as file:
-            file.write(text)
+        Path(folder, path).parent.mkdir(exist_ok=True)
+        Path(folder, path).write_text(text, "utf-8")
 
 
 def refusals(rows: dict[int, tuple[Case, str]], are_sources: bool) -> dict[int, str]:

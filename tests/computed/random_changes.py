@@ -2,12 +2,13 @@
 
 import re
 from collections.abc import Callable, Iterator
+from functools import partial
 from random import Random
 
 from caches.cache_edits import FAULTS as CACHE_FAULTS
 from computed.random_listings import NOW, SERVERS, options, random_ticket
 from computed.topic import Topic
-from keytabs.columns import ETYPES, KEY_SIZES
+from keytabs.listings import ETYPES, KEY_SIZES
 from keytabs.edits import FAULTS
 from keytabs.ktutil_lines import FAULTS as KTUTIL_FAULTS
 from keytabs.ktutil_lines import NO_KEYS
@@ -117,12 +118,8 @@ def keytab_script(random: Random) -> Iterator[Undisturbed]:
     image = damaged(random, image, image) if random.random() < 0.2 else image
     image, big = None if random.random() < 0.1 else image, " --v1-big" * v1_big
     for _ in range(2):
-        places = places_in(f"klist -k --json{big} k", k=image)
-
-        def run(script: bytes) -> Undisturbed:
-            return undisturbed(f"ktedit{big} k", script, k=image)
-
-        made = run(script_over(random, run, LINES, places, FAULTS))
+        run = partial(undisturbed, f"ktedit{big} k", k=image)
+        made = run(script_over(random, run, LINES, places_in(f"klist -k --json{big} k", k=image), FAULTS))
         yield made
         image = made.files_after.get("k")
 
@@ -130,12 +127,8 @@ def keytab_script(random: Random) -> Iterator[Undisturbed]:
 def cache_script(random: Random) -> Iterator[Undisturbed]:
     """Yields a script over a cache."""
     image = with_damage(random, filled_cache(random, random.choice([3, 4, 4, 4]), [random_credential], 5), 0.35)
-    places = places_in("klist --json c", c=image)
-
-    def run(script: bytes) -> Undisturbed:
-        return undisturbed("ccedit c", script, c=image)
-
-    yield run(script_over(random, run, CACHE_LINES, places, CACHE_FAULTS))
+    run = partial(undisturbed, "ccedit c", c=image)
+    yield run(script_over(random, run, CACHE_LINES, places_in("klist --json c", c=image), CACHE_FAULTS))
 
 
 def ktutil_line(random: Random) -> bytes:

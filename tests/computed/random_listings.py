@@ -6,9 +6,8 @@ from dataclasses import replace
 from random import Random
 
 from computed.topic import Topic
-from keytabs.columns import KNOWN_TIMES
-from makers.cache_images import CONFIG_FIRST, CONFIG_REALM, Credential, Name, cache
-from makers.images import TWO, name_text
+from keytabs.listings import KNOWN_TIMES
+from makers.images import CONFIG_FIRST, CONFIG_REALM, TWO, Credential, Name, cache, name_text
 from makers.mutations import damaged, mutated
 from makers.random_caches import SAMPLES as CACHES
 from makers.random_caches import random_cache, random_credential, with_damage

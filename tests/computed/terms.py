@@ -1,11 +1,9 @@
 """Runs as terms of the definitions in crates/samples/proofs/Runs.antt."""
-from __future__ import annotations
 
 from getopt import GetoptError, gnu_getopt
 
-from runs.harness import Case
-from runs.terminal import EXPLAIN
-from theorems.antt import TIME, bytes_of_digits, seconds, text
+from runs.harness import EXPLAIN, Case
+from theorems.antt import bytes_of_digits, listed, proof_of, text
 
 # The letters of each command's options, each with its long name; one with a colon has a value.
 KEPT = {"n": "dry-run", "p:": "principal", "k:": "kvno", "e:": "enctype"}
@@ -32,11 +30,6 @@ TIMED, ADDING = {"silent", "age", "expired"}, (b"add_entry", b"addent")
 
 class NotComputed(Exception):
     """A run is none that the definitions compute."""
-
-
-def listed(items: list[str]) -> str:
-    """Returns a list."""
-    return "".join(f"{item} ∷ " for item in items) + "[]"
 
 
 def pairs(items: list[tuple[str, str]]) -> str:
@@ -71,28 +64,22 @@ class Words:
         self.values = [each for each in those if each[0] in takes]
         self.values += [(operand[min(nth, len(operand) - 1)], it) for nth, it in enumerate(operands)]
 
-    def is_timed(self, case: Case) -> bool:
-        """Whether the run asks for the time."""
-        names = {*self.flags, *(name for name, _ in self.values)}
-        return bool(names & TIMED) or (self.command == "ktutil" and any(word in case.stdin for word in ADDING))
-
-    def term(self) -> str:
-        """Returns them as the definitions have them."""
-        flags = listed([text(it.encode()) for it in self.flags])
-        return f"(words ({flags}) ({pairs([(name, text(value.encode())) for name, value in self.values])}))"
-
 
 def term_of(case: Case) -> str:
     """Returns what the definitions give for a run."""
     words = Words(case)
-    if case.clock is None and words.is_timed(case):
+    is_timed = TIMED & {*words.flags, *(name for name, _ in words.values)} or (
+        words.command == "ktutil" and any(word in case.stdin for word in ADDING))
+    if case.clock is None and is_timed:
         raise NotComputed
     command = "klist_silent" if "silent" in words.flags else words.command
     files = pairs([(name, bytes_of_digits(image)) for name, image in case.files.items()])
     parts = {"explains": str(words.explains).lower(), "mode": str(case.mode), "clock": str(case.clock or 0)}
     given = [command, *(parts[it] for it in GIVEN[command]), f"(given ({files}))"]
     given += [f"({bytes_of_digits(case.stdin)})"] * (command in READING)
-    return " ".join([*given, words.term()])
+    flags = listed([text(it.encode()) for it in words.flags])
+    values = pairs([(name, text(value.encode())) for name, value in words.values])
+    return " ".join([*given, f"(words ({flags}) ({values}))"])
 
 
 def images(names: list[str], files: dict[str, bytes]) -> str:
@@ -106,9 +93,6 @@ def row_of(name: str, case: Case) -> str:
     names, wanted = sorted({*case.files, *after}), case.wanted
     left = f"those ({listed([text(it.encode()) for it in names])}) ({term_of(case)})"
     ending = f"{text(wanted.err)}, {wanted.status}, {images(names, after)})"
-    parts, proof = TIME.split(wanted.out), "refl"
-    if len(parts) > 1:
-        shown = [f"time-{seconds(it)} i" if place % 2 else text(it) for place, it in enumerate(parts)]
-        proof = f"λ i. ({' ++ ('.join(shown)}{')' * (len(shown) - 1)}, {ending}"
+    proof = proof_of(wanted.out, "(", f", {ending}")
     return (f"pub {name} : {left}\n    ≡ ({text(wanted.out)}, {ending}\n"
             f"unfolding on_literals\n{name} = {proof}\n")

@@ -2,7 +2,7 @@
 
 import os
 from collections import Counter
-from collections.abc import Callable, Iterator
+from collections.abc import Callable, Iterable, Iterator
 from dataclasses import dataclass
 from random import Random
 
@@ -12,11 +12,6 @@ from runs import undisturbed
 from runs.harness import Case, Report
 from runs.random_runs import FEWEST, ONE_IN, kinds_of
 from runs.undisturbed import Undisturbed, explained
-
-
-def none(_: Case) -> Iterator[str]:
-    """Yields no kind."""
-    return iter(())
 
 
 @dataclass(frozen=True)
@@ -32,7 +27,7 @@ class Topic:
     usual: int
     share: int = 50
     # More kinds of a result.
-    more: Callable[[Case], Iterator[str]] = none
+    more: Callable[[Case], Iterable[str]] = lambda _: ()
 
     @property
     def name(self) -> str:

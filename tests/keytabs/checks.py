@@ -5,8 +5,7 @@ import os
 import stat
 
 from makers.images import TWO, Entry
-from runs.harness import Report, folder_of, run
-from runs.rows import printed
+from runs.harness import Report, folder_of, printed, run
 
 # The smallest length that MIT's reader takes for the end.
 LONG = 32_768

@@ -1,16 +1,17 @@
-"""ktutil with somebody at the other end: each line is handled before the next one arrives."""
+"""ktutil with somebody at the other end: each line is handled before the next one arrives, also if the run is stopped
+and continued meanwhile."""
 
 import os
 import pty
 import select
+import signal
 import subprocess
 import termios
 import time
 
 from keytabs.ktutil_lines import ADDENT, KEY, NO_SLOTS, TIMES, TWO_LISTED
 from makers.images import TWO
-from runs.harness import SECONDS, Outcome, Report, differences, folder_of, message, short
-from runs.rows import text
+from runs.harness import SECONDS, Outcome, Report, differences, every, folder_of, message, short, text
 
 LISTED = text(TWO_LISTED)
 
@@ -32,10 +33,8 @@ class Talk:
     def take(self, count: int, stream) -> bytes:
         """Waits for that many bytes of an output."""
         heard = b""
-        while len(heard) < count and select.select([stream], [], [], SECONDS)[0]:
-            piece = stream.read(count - len(heard))
-            if not piece:
-                break
+        while (len(heard) < count and select.select([stream], [], [], SECONDS)[0]
+               and (piece := stream.read(count - len(heard)))):
             heard += piece
         return heard
 
@@ -118,6 +117,31 @@ def terminal() -> tuple[int, int]:
     return slave, master
 
 
+# How long a run has to reach the point where it waits.
+MOMENT = 0.05
+
+
+def stop(pid: int) -> None:
+    """Stops a run for a moment, as a shell does."""
+    time.sleep(MOMENT)
+    os.kill(pid, signal.SIGSTOP)
+    os.waitid(os.P_PID, pid, os.WSTOPPED)
+    os.kill(pid, signal.SIGCONT)
+
+
+def check_stopped(report: Report, program: str) -> None:
+    """Stops ktutil while it waits for a line: it goes on as if nothing had happened."""
+    for name, opened in (("a pipe", os.pipe), ("a terminal", terminal)):
+        with folder_of({"k": TWO}) as folder:
+            talk = Talk(program, folder, *opened())
+            for line, wanted in ((b"l\n", NO_SLOTS), (b"rkt k\nl\n", LISTED), (b"clear\nl\n", NO_SLOTS)):
+                stop(talk.run.pid)
+                talk.send(line)
+                talk.hear(wanted)
+            talk_to_end(talk, b"q\n", Outcome(0))
+        report.check(f"ktutil is stopped and continued at {name}", talk.found)
+
+
 # Lines that are sent one by one, one in pieces, some faulty, each with what comes of it.
 LINES = [(b"l\n", NO_SLOTS), (b"rkt k\nl\n", LISTED), (b"frob\n", b"krbfile: line 4: fault 1\n"), (b"cle", b""),
          (b"ar\nl\n", NO_SLOTS)]
@@ -129,8 +153,8 @@ TALKS = [("up to quit", os.pipe, LINES, b"q\n", Outcome(1)),
          ("at a terminal", terminal, LINES[:2], b"\x04", Outcome(0))]
 
 
-def check(report: Report, program: str) -> None:
-    """Runs this topic."""
+def check_talks(report: Report, program: str) -> None:
+    """Sends the lines of each talk."""
     for name, opened, lines, last, wanted in TALKS:
         with folder_of({"k": TWO}) as folder:
             talk = Talk(program, folder, *opened())
@@ -141,4 +165,6 @@ def check(report: Report, program: str) -> None:
         talk = Talk(program, folder, *os.pipe())
         talk_to_nobody(talk)
     report.check("ktutil answers line by line, until nobody listens", talk.found)
-    check_start(report, program)
+
+
+check = every(check_talks, check_start, check_stopped)

@@ -5,13 +5,11 @@ A record of host/a@R takes 51 bytes with its length, one of b@R 45.
 
 from dataclasses import replace
 
-from keytabs import greatest
 from keytabs.file_names import LIMIT
-from keytabs.finds import AES256, DAMAGED, FIVE, NOT_FOUND, told
-from keytabs.removals import FOUR
+from keytabs.greatest import LEAST
+from keytabs.removals import AES256, DAMAGED, FIVE, FOUR, NOT_FOUND, told
 from makers.images import B, HOST, TWO, Entry, keytab, old, record
-from runs.harness import Case, Outcome, Report, message
-from runs.rows import check_rows, printed, words_of
+from runs.harness import Case, Outcome, Report, check_rows, message, printed, words_of
 
 X, Y = "kvno 3 etype 17 host/a@R", "kvno 3 etype 17 b@R"
 
@@ -101,6 +99,25 @@ def large() -> list[Case]:
     ]
 
 
+def of_many() -> list[Case]:
+    """Returns copies between keytabs in which many entries meet many: each pair of them would take too long."""
+    count = 400_000
+    names = keytab(*(Entry((b"x" * 200, b"%05d" % number)) for number in range(60_000)))
+    keys, line = [replace(LEAST, key=b"%07d" % number) for number in range(count)], b"kvno 0 etype 0 @\n"
+    one, size = replace(LEAST, key=b"another"), len(record(keys[0].spelled()))
+    many, places = keytab(*keys), range(2, 2 + count * size, size)
+    clashes = b"".join(b"clash %d 2 " % place + line for place in places)
+    replaced = b"".join(b"removed %d " % place + line for place in places) + b"copied 2 " + line
+
+    return [
+        copy("many names that are there", "", names, names, Outcome(0)),
+        copy("many keys of one name that are there", "", many, many, Outcome(0)),
+        copy("many keys of one name that clash", "", many, keytab(one), Outcome(1, clashes)),
+        copy("many keys of one name in place of which comes one", "--replace", keytab(one), many,
+             Outcome(0, replaced), keytab(one, *[size - 4] * (count - 1))),
+    ]
+
+
 def check(report: Report, program: str) -> None:
     """Checks large files."""
-    check_rows(report, program, [*large(), *greatest.copies()])
+    check_rows(report, program, [*large(), *of_many()])

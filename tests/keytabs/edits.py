@@ -4,8 +4,7 @@ from collections.abc import Callable
 
 from keytabs.file_names import LIMIT
 from makers.images import B, HOST, LITTLE, TWO, Entry, keytab, old, record
-from runs.harness import Case, Outcome, message
-from runs.rows import over, printed
+from runs.harness import Case, Outcome, message, over, printed
 
 # Lines that add host/a@R and b@R, as HOST and B have them, and c@R.
 ADD_HOST = "add 3 17 1700000000 000102030405060708090a0b0c0d0e0f host/a@R"

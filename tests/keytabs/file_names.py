@@ -6,8 +6,7 @@ from functools import partial
 
 from keytabs.listings import B_LINE, HOST_LINE, listed
 from makers.images import HOST, TWO, keytab
-from runs.harness import Case, Outcome, Report, folder_of, message, run
-from runs.rows import over
+from runs.harness import Case, Outcome, Report, folder_of, message, over, run
 
 # The greatest size of a file that is read.
 LIMIT = 16_777_216

@@ -3,14 +3,13 @@
 The expected results are computed by hand: most of them repeat one part.
 """
 
-import os
-from dataclasses import replace
+import stat
 
+from keytabs.edits import edit
 from keytabs.file_names import LIMIT, TOO_LARGE, sized
 from keytabs.listings import listed
 from makers.images import HOST, Entry, hole, keytab, record
-from runs.harness import Case, Outcome, message
-from runs.rows import over, printed, text
+from runs.harness import Case, Outcome, message, mode_of_files, over, printed, text
 from runs.undisturbed import frame
 
 # The smallest entry with a component: 23 bytes with its 32-bit version, in a record of 27.
@@ -54,27 +53,19 @@ def least() -> bytes:
     return keytab(LEAST_RECORD * COUNT)
 
 
-def most_holes() -> bytes:
-    """Returns the keytab of the most holes."""
-    return keytab(hole(b"x") * HOLES)
-
-
-def of_many() -> bytes:
-    """Returns a keytab of one entry whose components, all quoted in texts, fill a file."""
-    return keytab(Entry((b"/" * 253,) * MANY, key=b"", version32=None))
-
-
 def reads() -> list[Case]:
     """Returns listings, also as JSON, checks and look-ups. Counts of 0 and above 32,767 hide entries from MIT's
     programs."""
-    lists, image, many = listed(), filled(least()), filled(of_many())
+    # The components of the last one, all quoted in texts, fill a file.
+    lists, image = listed(), filled(least())
+    many = filled(keytab(Entry((b"/" * 253,) * MANY, key=b"", version32=None)))
     keys = keytab(*[Entry(key=bytes(LONGEST), version32=None)] * 255)
     front, end = b'{"file":"k","kind":"keytab","version":2,"entries":[', b'],"fault":null}\n'
     form = b'{"place":%d,"principal":"@","kvno":0,"etype":0,"etype_name":null,"timestamp":0}'
     long_entry = (b'{"place":2,"principal":"%s@R","kvno":3,"etype":17,"etype_name":"aes128-cts-hmac-sha1-96",'
                   b'"timestamp":1700000000}' % b"/".join([b"\\\\/" * 253] * MANY))
-    os.umask(mask := os.umask(0))
-    mode_line = b"mode %o\n" % (0o666 & ~mask) if mask & 0o66 != 0o66 else b""
+    mode = stat.S_IMODE(mode_of_files())
+    mode_line = b"mode %o\n" % mode if mode & 0o66 else b""
     same = at_each(b"same %d 2 kvno 0 etype 0 @\n", PLACES[1:])
     most = b"hidden 2 kvno 0 etype 0 @\n" + same + b"entries %d free %d holes 1\n" % (COUNT, LIMIT - END - 4)
     to_find, long = filled(keytab(LEAST_RECORD * (COUNT - 2), HOST)), "x" * LONGEST
@@ -108,35 +99,6 @@ def many_long_names() -> Case:
         *(Entry((b"x" * 200, b"%05d" % number), version32=None) for number in range(60_000))), [])
 
 
-def copies() -> list[Case]:
-    """Returns copies between keytabs in which many entries meet many: each pair of them would take too long."""
-    count = 400_000
-    names = keytab(*(Entry((b"x" * 200, b"%05d" % number)) for number in range(60_000)))
-    keys, line = [replace(LEAST, key=b"%07d" % number) for number in range(count)], b"kvno 0 etype 0 @\n"
-    one, size = replace(LEAST, key=b"another"), len(record(keys[0].spelled()))
-    many, places = keytab(*keys), range(2, 2 + count * size, size)
-    clashes = b"".join(b"clash %d 2 " % place + line for place in places)
-    replaced = b"".join(b"removed %d " % place + line for place in places) + b"copied 2 " + line
-
-    def copy(name: str, options: tuple[str, ...], source: bytes, target: bytes, wanted: Outcome,
-             after: bytes | None = None) -> Case:
-        return Case(f"ktcopy, {name}", ("ktcopy", *options, "k", "t"), wanted, {"k": source, "t": target},
-                    {"k": source, "t": after or target})
-
-    return [
-        copy("many names that are there", (), names, names, Outcome(0)),
-        copy("many keys of one name that are there", (), many, many, Outcome(0)),
-        copy("many keys of one name that clash", (), many, keytab(one), Outcome(1, clashes)),
-        copy("many keys of one name in place of which comes one", ("--replace",), keytab(one), many,
-             Outcome(0, replaced), keytab(one, *[size - 4] * (count - 1))),
-    ]
-
-
-def edit(name: str, image: bytes | None, script: bytes, wanted: Outcome, after: bytes | None = None) -> Case:
-    """Returns a script of `ktedit` over the file `k`, or over none; see `over`."""
-    return over(f"ktedit, {name}", "ktedit k", image, wanted, after, script)
-
-
 def edits() -> list[Case]:
     """Returns short scripts that change keytabs, and the longest of small lines, some over the most entries."""
     walked = ["walk 0 at 2", f"walk 0 gave 2 next {2 + SIZE} kvno 0 etype 0 @", f"gone {LAST}", f"placed {LAST}",
@@ -156,7 +118,7 @@ def edits() -> list[Case]:
     ends = b"walk 0 end %d\n" % END * (steps.count(b"\n") - COUNT)
     return [
         edit("the most entries", least(), script, printed(*walked, status=1), least()[:-SIZE]),
-        edit("the most holes", most_holes(), b"start\nstep 0\nrewrite\nadd 0 0 0 - @\n",
+        edit("the most holes", keytab(hole(b"x") * HOLES), b"start\nstep 0\nrewrite\nadd 0 0 0 - @\n",
              printed("walk 0 at 2", f"walk 0 end {2 + 5 * HOLES}", "rewritten 2", "placed 2"), keytab(LEAST)),
         edit("one entry as long as a script may be", None, long_name.encode(), printed("placed 2"),
              keytab(Entry((component.encode(),) * 65_534))),
@@ -185,8 +147,3 @@ def talks() -> list[Case]:
                 ("the most new entries", added * count + b"l\n", Outcome(0, new), {}, {}),
                 ("a file that is too large", b"rkt k\nwkt k\n", Outcome(1, b"", TOO_LARGE.err * 2),
                  {"k": sized(LIMIT + 1)}, {}))]
-
-
-def cases() -> list[Case]:
-    """Returns all these cases except removals and caches, which are elsewhere."""
-    return [*reads(), *edits(), *talks()]

@@ -3,8 +3,7 @@
 from keytabs.edits import by_line
 from keytabs.file_names import LIMIT
 from makers.images import B, HOST, TWO, Entry, keytab
-from runs.harness import Case, Outcome
-from runs.rows import text
+from runs.harness import Case, Outcome, text
 
 KEY = "000102030405060708090a0b0c0d0e0f"
 ADDENT = "addent -key -p host/a@R -k 3 -e aes128-cts-hmac-sha1-96"

@@ -1,8 +1,42 @@
-"""Listings of keytabs by `klist -k`. Each expected text is written by hand from the layout."""
+"""Listings of keytabs by `klist -k`, with times, enctypes and keys. Each expected text is written by hand from the
+layout. And texts in JSON: Python reads each as it is, and one that is no UTF-8 by its hexadecimal digits."""
 
-from makers.images import LITTLE, Entry, keytab, old, record
-from runs.harness import Case, Outcome
-from runs.rows import over
+import json
+import re
+
+from makers.images import LITTLE, Entry, cache, config, keytab, old, record
+from runs.harness import Case, Outcome, Report, over
+from runs.undisturbed import undisturbed
+
+# The enctypes that have names: the lengths of their keys, and the names, of which the first is printed.
+ETYPES = {
+    16: (24, "des3-cbc-sha1 des3-hmac-sha1 des3-cbc-sha1-kd"),
+    17: (16, "aes128-cts-hmac-sha1-96 aes128-cts aes128-sha1"),
+    18: (32, "aes256-cts-hmac-sha1-96 aes256-cts aes256-sha1"),
+    19: (16, "aes128-cts-hmac-sha256-128 aes128-sha2"),
+    20: (32, "aes256-cts-hmac-sha384-192 aes256-sha2"),
+    23: (16, "arcfour-hmac rc4-hmac arcfour-hmac-md5"),
+    25: (16, "camellia128-cts-cmac camellia128-cts"),
+    26: (32, "camellia256-cts-cmac camellia256-cts"),
+}
+KEY_SIZES = {number: size for number, (size, _) in ETYPES.items()}
+NAMES = {number: names.split()[0].encode() for number, (_, names) in ETYPES.items()}
+BY_NAME = {name: number for number, (_, names) in ETYPES.items() for name in names.split()}
+
+# The columns of an entry of TWO.
+TIME = b"2023-11-14T22:13:20Z "
+ETYPE = b" (aes128-cts-hmac-sha1-96)"
+HOST_KEY = b" (0x000102030405060708090a0b0c0d0e0f)"
+B_KEY = b" (0x101112131415161718191a1b1c1d1e1f)"
+
+# Times and their texts, among them the edges of a year, and of February in 2000 and 2100.
+KNOWN_TIMES = {
+    0: b"1970-01-01T00:00:00Z", 951_782_399: b"2000-02-28T23:59:59Z", 951_782_400: b"2000-02-29T00:00:00Z",
+    951_868_800: b"2000-03-01T00:00:00Z", 1_700_000_000: b"2023-11-14T22:13:20Z",
+    1_704_067_199: b"2023-12-31T23:59:59Z", 1_704_067_200: b"2024-01-01T00:00:00Z", 2**31 - 1: b"2038-01-19T03:14:07Z",
+    2**31: b"2038-01-19T03:14:08Z", 4_107_542_399: b"2100-02-28T23:59:59Z", 4_107_542_400: b"2100-03-01T00:00:00Z",
+    2**32 - 1: b"2106-02-07T06:28:15Z",
+}
 
 HOST_LINE = b"   3 host/a@R"
 B_LINE = b"   3 b@R"
@@ -21,6 +55,16 @@ def case(name: str, image: bytes, *lines: bytes, letters: str = "") -> Case:
     return over(name, f"klist -k{letters} k", image, Outcome(status, listed(*lines, letters=letters)))
 
 
+def sample(letters: str) -> bytes:
+    """Returns a listing of TWO with those columns."""
+    time = TIME if "t" in letters else b""
+    etype = ETYPE if "e" in letters else b""
+    host, b = (HOST_KEY, B_KEY) if "K" in letters else (b"", b"")
+    names = ((b"host/a@R", host), (b"b@R", b))
+    return listed(*(b"   3 " + time + name + etype + key for name, key in names), letters=letters)
+
+
+KEYS = [(bytes(range(256)) * 256)[:length] for length in (*range(70), 255, 256, 4_095, 4_096, 32_767, 32_768, 65_535)]
 NUMBERS = range(1, 2001)
 LONG = Entry((b"",) * 40_000 + (b"x" * 65_535,), b"r" * 40_000, key=bytes(40_000))
 
@@ -31,4 +75,31 @@ CASES = [
     case("lengths and a count that would be negative as signed numbers", keytab(LONG),
          b"   3 " + b"/" * 40_000 + b"x" * 65_535 + b"@" + b"r" * 40_000),
     case("a count of 0 in version 1", old(record(bytes(17), LITTLE)), b"fault 3 at 2"),
+    # All enctypes, with the names of those that have one.
+    lambda: case("enctypes", keytab(*(Entry((b"a",), enctype=each, key=b"") for each in range(65_536))),
+                 *(b"   3 a@R (%s)" % NAMES.get(each, b"etype %d" % each) for each in range(65_536)), letters="e"),
+    # Keys of several lengths, some of which have each byte.
+    case("keys", keytab(*(Entry((b"a",), key=key) for key in KEYS)),
+         *(b"   3 a@R (0x%s)" % key.hex().encode() for key in KEYS), letters="K"),
+    case("times", keytab(*(Entry((b"a",), timestamp=second) for second in KNOWN_TIMES)),
+         *(b"   3 " + text + b" a@R" for text in KNOWN_TIMES.values()), letters="t"),
 ]
+
+# Bytes that are escaped, bytes that are not, and bytes that are no UTF-8: one alone, an overlong form, a surrogate,
+# what is past the last letter, and a cut letter.
+TEXTS = (b"", bytes(range(32)), b'"\\/\x7f', b"\xc2\x80\xc2\x9f\xc2\xa0\xc3\x80", "é€\U0001f600".encode())
+NO_UTF_8 = tuple(map(bytes.fromhex, ("61ff", "c080", "eda080", "f4908080", "e282")))
+
+# What may change a terminal.
+WILD = re.compile("[\0-\x1f\x7f-\x9f]")
+
+
+def check(report: Report, _program: str) -> None:
+    """Lists each as a key, as a principal and as a value."""
+    image = cache(*(config(each, each, each) for each in (*TEXTS, *NO_UTF_8)))
+    out = undisturbed("klist --json c", name="odd texts", c=image).wanted.out.decode()
+    wanted = [[each.decode()] * 3 for each in TEXTS] + [[each.hex()] * 3 for each in NO_UTF_8]
+    read = [[one.get(name, one.get(f"{name}_hex")) for name in ("key", "principal", "value")]
+            for one in json.loads(out)["config"]]
+    report.check("texts as JSON", [] if read == wanted else [f"{read}"])
+    report.check("what JSON escapes", [] if TEXTS[-1].decode() in out and not WILD.search(out[:-1]) else [out])

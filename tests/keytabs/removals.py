@@ -1,19 +1,29 @@
-"""Removals by `ktremove`."""
+"""Removals by `ktremove`, and what look-ups and copies have in common with them: entries, the lines that tell of them,
+and refusals."""
 
 import os
 
 from keytabs import greatest
-from keytabs.finds import AES256, FIVE, NOT_FOUND, told
-from makers.images import HOST, Entry, keytab
-from runs.harness import Case, Report, folder_of, run
-from runs.rows import over
+from makers.images import HOST, Entry, keytab, name_text
+from runs.harness import Case, Report, folder_of, message, over, run
 
+NOT_FOUND = message(1, "k: refused 9")
+DAMAGED = message(1, "k: refused 1")
+
+AES256 = Entry(version8=5, version32=5, enctype=18, key=bytes(32))
+FIVE = Entry(version8=5, version32=5)
 B3 = Entry((b"b",))
 
 # host/a@R at 2, 53 and 120, versions 3, 5 and 5 of enctypes 17, 18 and 17; b@R at 171.
 THOSE = HOST, AES256, FIVE, B3
 FOUR = keytab(*THOSE)
 X = "removed 2 kvno 3 etype 17 host/a@R"
+
+
+def told(entry: Entry, *before: Entry) -> str:
+    """Returns the place of an entry after those, and the entry, as a line of output has them."""
+    name = name_text((*entry.components, entry.realm)).decode()
+    return f"{len(keytab(*before))} kvno {entry.version32} etype {entry.enctype} {name}"
 
 
 def versioned(kvno: int, seconds: int) -> Entry:

@@ -4,9 +4,9 @@ from collections.abc import Callable
 from dataclasses import replace
 from random import Random
 
-from keytabs.columns import NAMES
-from makers.cache_images import CONFIG_FIRST, CONFIG_REALM, FLAGS, Credential, Name, cache, config, header_field, offset
-from makers.images import number
+from keytabs.listings import NAMES
+from makers.images import (CONFIG_FIRST, CONFIG_REALM, FLAGS, Credential, Name, cache, config, header_field, number,
+                           offset)
 from makers.mutations import damaged, mutated
 from makers.random_keytabs import random_bytes
 from peers import corpus

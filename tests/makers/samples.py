@@ -1,12 +1,10 @@
 """The files of the examples in README and the manual page."""
 
-import os
 from contextlib import contextmanager
 from dataclasses import replace
+from pathlib import Path
 
-from makers.cache_images import Name, cache
-from makers.images import B, HOST, TWO, Entry, keytab, old
-from makers.usual_caches import PA_TYPE, TICKET
+from makers.images import B, HOST, PA_TYPE, TICKET, TWO, Entry, Name, cache, keytab, old
 from runs.harness import folder_of
 
 # A record with a length of 47, of which only 20 bytes are there.
@@ -30,10 +28,9 @@ SAMPLES = {
 def make(folder: str) -> None:
     """Makes the files, readable by their owner only, as the program makes keytabs."""
     for name, data in SAMPLES.items():
-        path = os.path.join(folder, name)
-        with open(path, "wb") as file:
-            os.chmod(path, 0o600)
-            file.write(data)
+        path = Path(folder, name)
+        path.write_bytes(data)
+        path.chmod(0o600)
 
 
 @contextmanager

@@ -10,10 +10,8 @@ from itertools import product
 from keytabs.file_names import NOBODY
 from makers.images import TWO
 from names.named_files import DEFAULTS, IMAGES, KLIST, KLIST_CACHE, NEITHER, FileName, Kind
-from runs.harness import Report, folder_of, run
-from runs.rows import Line, words_of
-from runs.namespaces import STATUS, can_mount, run_within
-from runs.terminal import EXPLAIN
+from runs.harness import EXPLAIN, Line, Report, every, folder_of, run, words_of
+from runs.namespaces import STATUS, no_mounts, run_within
 from system.saving import write
 from words.explaining import Explained, unchanged
 from words.command_lines import lines_of
@@ -165,9 +163,5 @@ def check_users(report: Report, program: str) -> None:
                 report.compare(f"the default cache of user {user}, {front}", row.wanted(False, row.out), got)
 
 
-def check(report: Report, program: str) -> None:
-    """Runs this topic."""
-    if can_mount(report, "default files beside other folders"):
-        check_defaults(report, program)
-        check_unknown(report, program)
-    check_users(report, program)
+check = every(check_users, every(check_defaults, check_unknown, of="default files beside other folders",
+                                 lack=no_mounts))

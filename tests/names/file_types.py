@@ -11,8 +11,7 @@ from itertools import product
 from keytabs.ktutil_lines import TWO_LISTED, lines
 from makers.images import TWO, keytab
 from names.named_files import (ALL, COMMANDS, DEFAULTS, FOLDER, KLIST, KLIST_CACHE, LARGE_FILE, NEITHER, Kind, named)
-from runs.harness import Report
-from runs.rows import check_rows
+from runs.harness import Report, check_rows
 from words.explaining import FINDS_NONE, Explained, copy, no_keytab, unchanged
 from words.phrases import BEGINS_AS_NO_KEYTAB, LEAVE_OUT, NAMED, NOT_READ, code, unknown
 

@@ -10,8 +10,7 @@ from functools import cache
 from keytabs.file_names import LIMIT
 from makers.images import TWO
 from runs.commands import CHANGES, MAKES, READS, SAVING, VALID, file_of
-from runs.harness import files_in, folder_of, run
-from runs.rows import Line, shown
+from runs.harness import Line, files_in, folder_of, run, shown
 from runs.undisturbed import PROGRAM, Undisturbed
 from words.explaining import Explained, Output, for_owner
 from words.phrases import BEGINS_AS_NO_CACHE, BEGINS_AS_NO_KEYTAB, CAUSES, LARGE, NOT_READ

@@ -4,10 +4,10 @@ ends the run."""
 import os
 from dataclasses import replace
 
-from keytabs.finds import FIVE
+from keytabs.removals import FIVE
 from makers.images import B, HOST, TWO, hole, keytab
 from names.named_files import NEITHER
-from runs.rows import Line, shown, text, words_of
+from runs.harness import Line, shown, text, words_of
 from words.explaining import Explained, Output
 from words.phrases import BEGINS_AS_NO_KEYTAB, CAUSES, FAULTS, FINDINGS, HINTS, NOT_READ
 

@@ -4,6 +4,7 @@ backticks. Each piece of code on a page is in the sources. The map has each crat
 import glob
 import os
 import re
+from pathlib import Path
 
 from runs.harness import TOP, Report
 
@@ -15,8 +16,7 @@ PROVED = "crates/library_tests/src/tests/readme.rt"
 
 def read(path: str) -> str:
     """Returns a file of the repository."""
-    with open(os.path.join(TOP, path), encoding="utf-8") as file:
-        return file.read()
+    return Path(TOP, path).read_text("utf-8")
 
 
 def literals(path: str) -> list[str]:

@@ -4,7 +4,9 @@ import os
 import re
 import shutil
 from collections.abc import Iterator
+from contextlib import contextmanager
 from itertools import takewhile
+from pathlib import Path
 
 from makers.samples import folder_of_samples
 from pages.documents import literals, read
@@ -27,13 +29,16 @@ def sessions() -> Iterator[tuple[str, bytes]]:
         yield parted("\n".join(line[4:] for line in lines).rstrip("\n") + "\n")
 
 
+def no_library() -> str:
+    """Returns that there is no C library, or nothing."""
+    return "" if os.path.exists(LIBRARY) else "there is no C library: make lib builds it"
+
+
 def lacks(command: str) -> str:
     """Returns what a session needs that is missing."""
     if "| jq " in command and shutil.which("jq") is None:
         return "jq is not there"
-    if not command.startswith(("krbfile ", "printf ")) and not os.path.exists(LIBRARY):
-        return "there is no C library: make lib builds it"
-    return ""
+    return "" if command.startswith(("krbfile ", "printf ")) else no_library()
 
 
 def surroundings(programs: str) -> dict[str, str]:
@@ -45,15 +50,22 @@ def surroundings(programs: str) -> dict[str, str]:
             "PYTHONDONTWRITEBYTECODE": "1", "KRBFILE": os.path.join(programs, "krbfile")}
 
 
+@contextmanager
+def installed(program: str) -> Iterator[dict[str, str]]:
+    """Yields the environment in which the program, in a folder of its own, and the library are as installed."""
+    with folder_of({}) as programs:
+        os.symlink(program, os.path.join(programs, "krbfile"))
+        yield surroundings(programs)
+
+
 def check_session(report: Report, program: str, folder: str, session: tuple[str, bytes]) -> None:
     """Runs a session in a folder. A fault, or a key that occurs twice, ends with status 1."""
     command, wanted = session
     if lack := lacks(command):
         report.skip(f"session: {command.splitlines()[0]}", lack)
         return
-    with folder_of({}) as programs:
-        os.symlink(program, os.path.join(programs, "krbfile"))
-        got = run("sh", ("-c", command), folder, env=surroundings(programs))
+    with installed(program) as env:
+        got = run("sh", ("-c", command), folder, env=env)
     status = 1 if b"\nfault " in wanted or wanted.startswith(b"same ") else 0
     report.compare(f"session: {command.splitlines()[0]}", Outcome(status, wanted), got)
 
@@ -65,8 +77,7 @@ def check(report: Report, program: str) -> None:
     report.check("the commands of the examples", sorted(wrong))
     report.check("README has sessions", [] if [*sessions()] else ["none"])
     with folder_of_samples() as folder:
-        with open(os.path.join(folder, "list.c"), "w", encoding="utf-8") as file:
-            file.writelines(re.findall(r"```c\n(.*?)```", read("README.md"), re.DOTALL))
+        Path(folder, "list.c").write_text("".join(re.findall(r"```c\n(.*?)```", read("README.md"), re.DOTALL)), "utf-8")
         for session in sessions():
             check_session(report, program, folder, session)
     for example in examples:

@@ -123,14 +123,20 @@ def as_ours(line: str) -> str:
     return entry_line("{} {} {} {}  {}".format(*found.groups())).removesuffix("\n") if found else line
 
 
-def are_there(report: Report, what: str, tools: tuple[str, ...] = ("klist", "ktutil")) -> bool:
-    """Whether MIT's programs are installed; if not, reports that part as left out."""
+def lack(*tools: str) -> str:
+    """Returns which of MIT's programs is missing, by default of klist and ktutil, or nothing."""
+    tools = tools or ("klist", "ktutil")
     missing = [name for name in tools if shutil.which(name, path=PATHS) is None]
     if not missing and "klist" in tools and not mit_klist("/", "-V").startswith(b"Kerberos 5 version"):
         missing = ["MIT's klist"]
-    if missing:
-        report.skip(what, f"{missing[0]} is not there (Debian: krb5-user, krb5-kdc, krb5-admin-server)")
-    return not missing
+    return f"{missing[0]} is not there (Debian: krb5-user, krb5-kdc, krb5-admin-server)" if missing else ""
+
+
+def are_there(report: Report, what: str, *tools: str) -> bool:
+    """Whether MIT's programs are installed; if not, reports that part as left out."""
+    if why := lack(*tools):
+        report.skip(what, why)
+    return not why
 
 
 def check_seeds(report: Report, what: str, faults_of: Callable[[Random], list[str]]) -> None:

@@ -12,14 +12,14 @@ from collections.abc import Callable, Iterator
 from contextlib import contextmanager
 from dataclasses import replace
 from functools import partial
+from pathlib import Path
 from random import Random
 
-from keytabs.columns import BY_NAME
-from makers.cache_images import cache, offset
-from makers.images import Entry, keytab
+from keytabs.listings import BY_NAME
+from makers.images import Entry, cache, keytab, offset
 from makers.random_caches import random_credential, random_name
-from peers.beside_mit import SURROUNDINGS, Mit, are_there, check_seeds, differences_of, mit_klist
-from runs.harness import SECONDS, Report, files_in, folder_of
+from peers.beside_mit import SURROUNDINGS, Mit, are_there, check_seeds, differences_of, lack, mit_klist
+from runs.harness import SECONDS, Check, Report, every, files_in, folder_of
 
 # MIT's programs.
 TOOLS = ("klist", "kinit", "kvno", "kdb5_util", "krb5kdc")
@@ -92,8 +92,7 @@ class Realm:
 
     def write(self, name: str, text: str) -> None:
         """Writes a file in the folder."""
-        with open(os.path.join(self.folder, name), "w", encoding="ascii") as file:
-            file.write(text)
+        Path(self.folder, name).write_text(text, "ascii")
 
     def surroundings(self, version: int = 4) -> dict[str, str]:
         """Returns the environment of a program that makes caches of that version."""
@@ -134,13 +133,6 @@ def principal_line(master: str, name: str) -> str:
     return "\t".join(map(str, [*front, 11, len(enctypes), enctypes.hex(), *key, fields[-1]]))
 
 
-def free_port() -> int:
-    """Returns a port that nobody listens on."""
-    with socket.socket() as listener:
-        listener.bind(("127.0.0.1", 0))
-        return listener.getsockname()[1]
-
-
 def wait_for(port: int, started: subprocess.Popen[bytes]) -> None:
     """Waits until the KDC accepts connections."""
     for _ in range(100):
@@ -157,7 +149,9 @@ def wait_for(port: int, started: subprocess.Popen[bytes]) -> None:
 def realm(more: tuple[str, ...] = ()) -> Iterator[Realm]:
     """Yields a realm with its principals and more of them; its KDC runs while it is used."""
     with folder_of({}) as folder:
-        port = free_port()
+        # A port that nobody listens on.
+        with socket.create_server(("127.0.0.1", 0)) as listener:
+            port = listener.getsockname()[1]
         made = Realm(folder, port)
         made.create((*PRINCIPALS, *more))
         with subprocess.Popen(["krb5kdc", "-n"], cwd=folder, env=made.surroundings(),
@@ -193,21 +187,22 @@ def faults_of_random(program: str, random: Random) -> list[str]:
         return [f"{image.hex()}: {fault}" for fault in differences_of(program, folder, "-f")]
 
 
-def check_in_realm(report: Report, program: str, what: str, *checks: Callable[[Report, str, Realm], None],
-                   more: tuple[str, ...] = ()) -> None:
-    """Makes checks in a realm with its principals and more of them, if MIT's programs are installed."""
-    if not are_there(report, what, TOOLS):
-        return
-    try:
-        with realm(more) as made:
-            for each in checks:
-                each(report, program, made)
-    except Failed as failed:
-        report.check(f"MIT's programs in a realm made here: {what}", [str(failed)])
+def in_realm(what: str, *checks: Callable[[Report, str, Realm], None], more: tuple[str, ...] = ()) -> Check:
+    """Returns a check that makes those in a realm with its principals and more of them, if MIT's programs are there."""
+
+    def check(report: Report, program: str) -> None:
+        try:
+            with realm(more) as made:
+                for each in checks:
+                    each(report, program, made)
+        except Failed as failed:
+            report.check(f"MIT's programs in a realm made here: {what}", [str(failed)])
+
+    return every(check, of=what, lack=lambda: lack(*TOOLS))
 
 
 def check(report: Report, program: str) -> None:
     """Runs this topic if MIT's programs are installed."""
-    check_in_realm(report, program, "caches beside MIT's programs", check_filled)
-    if are_there(report, "random caches beside MIT's klist", ("klist",)):
+    in_realm("caches beside MIT's programs", check_filled)(report, program)
+    if are_there(report, "random caches beside MIT's klist", "klist"):
         check_seeds(report, "MIT's klist and ours: random caches", partial(faults_of_random, program))

@@ -16,6 +16,7 @@ SET = ["config: fast_avail(krbtgt/R@R) = no\n", "config: mine = 1\n"]
 # A time at which some of the tickets have expired.
 NOW = 1_800_000_000
 
+
 @cache
 def listed(program: str, image: bytes) -> tuple[dict, list[str]]:
     """Returns what our klist says of a cache, and the credentials that MIT's shows."""
@@ -58,7 +59,7 @@ def faults_of(program: str, made: Undisturbed, those: list[str]) -> list[str]:
 
 def check(report: Report, program: str) -> None:
     """Changes each cache."""
-    if not are_there(report, "changed caches beside MIT's klist", ("klist",)):
+    if not are_there(report, "changed caches beside MIT's klist", "klist"):
         return
     for name, image in files("ccache"):
         for made, those in changes(image, listed(program, image)[0]):

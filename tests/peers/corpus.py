@@ -12,6 +12,7 @@ import json
 import os
 import re
 from functools import cache
+from pathlib import Path
 
 from runs.harness import TOP, Case, Outcome, Report
 
@@ -30,17 +31,11 @@ def given(value: dict) -> bytes:
     return value["text"].encode() if "text" in value else bytes.fromhex(value["hex"])
 
 
-def read(path: str) -> bytes:
-    """Returns the bytes of a file."""
-    with open(path, "rb") as file:
-        return file.read()
-
-
 def files(kind: str) -> list[tuple[str, bytes]]:
     """Returns the files of a kind, `keytab` or `ccache`, each with its name."""
     folder = os.path.join(FOLDER, kind)
     names = [name for name in sorted(os.listdir(folder)) if not name.endswith(".txt")]
-    return [(name, read(os.path.join(folder, name))) for name in names]
+    return [(name, Path(folder, name).read_bytes()) for name in names]
 
 
 def images(kind: str) -> list[bytes]:
@@ -56,26 +51,26 @@ def small_files(kind: str) -> list[tuple[str, bytes]]:
 @cache
 def writers() -> dict[str, str]:
     """Returns who wrote each file."""
-    return dict(ROW.findall(read(os.path.join(FOLDER, "README.md")).decode()))
+    return dict(ROW.findall(Path(FOLDER, "README.md").read_text("utf-8")))
 
 
 @cache
 def cases(command: str = "") -> tuple[dict, ...]:
     """Returns the cases, or those of a command."""
-    made = map(json.loads, read(os.path.join(FOLDER, "cases.jsonl")).splitlines())
+    made = map(json.loads, Path(FOLDER, "cases.jsonl").read_bytes().splitlines())
     return tuple(case for case in made if command in ("", case["argv"][0]))
 
 
 def case_of(fields: dict) -> Case:
     """Returns a case as it is run."""
-    source = os.path.join(FOLDER, fields["dir"])
+    source = Path(FOLDER, fields["dir"])
     stdin = fields.get("stdin") or ""
     name, to = fields.get("copy") or ("", "")
     copied = {to: name} if to else {}
     copied |= {word: word for word in (*fields["argv"], *stdin.split())
-               if word not in copied and "/" not in word and os.path.isfile(os.path.join(source, word))}
-    before = {to: read(os.path.join(source, name)) for to, name in copied.items()}
-    after = {name: read(os.path.join(source, value)) if isinstance(value, str) else given(value)
+               if word not in copied and "/" not in word and (source / word).is_file()}
+    before = {to: (source / name).read_bytes() for to, name in copied.items()}
+    after = {name: (source / value).read_bytes() if isinstance(value, str) else given(value)
              for name, value in (fields.get("result_file") or {}).items()}
     wanted = Outcome(fields["status"], given(fields["stdout"]), given(fields["stderr"]))
     return Case(fields["id"], tuple(fields["argv"]), wanted, before, before | after, stdin.encode())

@@ -6,15 +6,14 @@ from functools import partial
 from random import Random
 
 from keytabs.checks import EVEN, ODD
-from keytabs.columns import BY_NAME, KEY_SIZES
+from keytabs.listings import BY_NAME, KEY_SIZES
 from keytabs.copies import OTHER, THIRD
 from keytabs.edits import ADD_B, ADD_C, ADD_HOST
 from makers.images import B, BIG, END, HOST, LITTLE, TWO, Entry, keytab, old
-from peers.beside_mit import Mit, are_there, as_json, check_seeds, entries
-from peers.caches_beside_mit import REALM, Failed, Realm, check_in_realm
-from runs.harness import Report, files_in, folder_of, run
-from runs.rows import text
-from runs.undisturbed import clock_library, undisturbed
+from peers.beside_mit import Mit, are_there, as_json, check_seeds, entries, lack
+from peers.caches_beside_mit import REALM, Failed, Realm, in_realm
+from runs.harness import Report, every, files_in, folder_of, run, text
+from runs.undisturbed import preload_library, undisturbed
 
 # Entries of each enctype that has a name, with quoted names, and versions of more than 8 bits.
 EACH_ETYPE = [f"add {300 * number} {number} {number} {bytes(range(size)).hex()} a\\/b\\@/c d\\n\\\\/e@R\\/S"
@@ -96,8 +95,7 @@ def check_read(report: Report, program: str) -> None:
 
 def check_same(report: Report, _: str) -> None:
     """Checks that MIT's ktutil and ours leave the same bytes at the same time."""
-    library = clock_library()[0]
-    if library is None:
+    if (library := preload_library()) is None:
         report.skip("what MIT's ktutil saves", "no C compiler built preload.c")
         return
     for made, requests in SAME:
@@ -191,13 +189,10 @@ def faults_of_removal(program: str, realm: Realm, random: Random) -> list[str]:
 
 def check_old(report: Report, program: str, made: Realm) -> None:
     """Checks that kadmin.local and ktremove leave the same file without its old entries."""
-    check_seeds(report, "old entries that kadmin.local and ktremove remove", partial(faults_of_removal, program, made))
+    if are_there(report, "removals beside MIT's kadmin.local", "kadmin.local"):
+        check_seeds(report, "old entries that kadmin.local and ktremove remove",
+                    partial(faults_of_removal, program, made))
 
 
-def check(report: Report, program: str) -> None:
-    """Runs this topic if MIT's programs are installed."""
-    if are_there(report, "keytabs beside MIT's programs"):
-        for each in (check_read, check_same, check_hidden):
-            each(report, program)
-    has_admin = are_there(report, "removals beside MIT's kadmin.local", ("kadmin.local",))
-    check_in_realm(report, program, "copies used by MIT's programs", check_used, *[check_old] * has_admin)
+check = every(every(check_read, check_same, check_hidden, of="keytabs beside MIT's programs", lack=lack),
+              in_realm("copies used by MIT's programs", check_used, check_old))

@@ -5,12 +5,14 @@ import os
 import re
 import shutil
 from collections.abc import Mapping
+from functools import partial
+from itertools import product
 
 from makers.images import TWO
 from names.default_files import IMAGES, Kind, by_user, own_cache
 from names.file_types import ALL
-from peers.beside_mit import SURROUNDINGS, are_there
-from runs.harness import Outcome, Report, folder_of, message, run
+from peers.beside_mit import SURROUNDINGS, lack
+from runs.harness import Outcome, Report, every, folder_of, message, run
 
 # A user whose default cache no other topic makes.
 USER = 65_533
@@ -46,7 +48,7 @@ def taken(got: Outcome) -> tuple[bytes | None, bool]:
     return found[found.lastindex] if found else None, got.status == 0
 
 
-def check_values(report: Report, program: str, kind: Kind, word: str) -> None:
+def check_value(kind: Kind, word: str, report: Report, program: str) -> None:
     """Checks a value, where no file is there, and where all are that a program might take. Where MIT's refuses a
     type, ours takes no part of the value off."""
     names = {os.path.normpath(each) for each in (word, word.partition(":")[2], "k") if each}
@@ -76,7 +78,7 @@ def check_defaults(report: Report, program: str) -> None:
             report.check(f"MIT's klist is otherwise: it lists the keytab {value}", found)
 
 
-def check_another(report: Report) -> None:
+def check_another(report: Report, _program: str) -> None:
     """Checks the default cache of another user, if root runs the tests. With the rights of another than the real user
     MIT's looks at no environment."""
     what = "MIT's default cache of another user"
@@ -93,11 +95,6 @@ def check_another(report: Report) -> None:
             report.check(f"{what}, {front}", [] if taken(got) == (b"/tmp/krb5cc_%d" % USER, True) else [f"{got}"])
 
 
-def check(report: Report, program: str) -> None:
-    """Runs this topic if MIT's klist is installed."""
-    if are_there(report, "default files beside MIT's klist", ("klist",)):
-        for kind in Kind:
-            for word in {*ALL, " ", "-k", "k", "./k"} - {"", "MEMORY:k"}:
-                check_values(report, program, kind, word)
-        check_defaults(report, program)
-        check_another(report)
+VALUES = {*ALL, " ", "-k", "k", "./k"} - {"", "MEMORY:k"}
+check = every(*(partial(check_value, *each) for each in product(Kind, VALUES)), check_defaults, check_another,
+              of="default files beside MIT's klist", lack=lambda: lack("klist"))

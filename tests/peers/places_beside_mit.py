@@ -6,15 +6,12 @@ A key that MIT's ktutil adds while a run writes stays, and the run tells of it.
 from concurrent.futures import Future, ThreadPoolExecutor, wait
 
 from makers.images import HOST, Entry, keytab
-from peers.beside_mit import SURROUNDINGS, are_there, as_json
-from runs.harness import SECONDS, Outcome, Report, differences, folder_of, run
-from runs.preload import Line
-from runs.rows import printed
-from runs.system_calls import Halt, check_traced, halted
+from peers.beside_mit import SURROUNDINGS, as_json, lack
+from runs.harness import SECONDS, Outcome, Report, differences, every, folder_of, printed, run
+from runs.system_calls import Halt, halted
 from runs.undisturbed import IN_PLACE, Undisturbed, in_place, undisturbed
 from system.failing_system_calls import READINGS
-from system.placing import ADD_LONG, explained, message_of, told
-from system.saving import unsaved
+from system.saving import ADD_LONG, explained, message_of, told, unsaved
 
 # How long a run is watched that has to wait.
 MOMENT = 0.3
@@ -23,8 +20,8 @@ MOMENT = 0.3
 FIRST, MITS, OURS = "host/a@R", "b@R", "a/long/name@R"
 
 # MIT's programs, halted while they have the lock: one that reads the file, and one that begins to add what is in J.
-READS = ("klist", Line(("-k", "k")), Halt("read", paths=("k",)))
-ADDS = ("ktutil", Line((), b"rkt j\nwkt k\nq\n"), Halt("write", paths=("k",)))
+READS = ("klist", undisturbed("-k k"), Halt("read", paths=("k",)))
+ADDS = ("ktutil", undisturbed("", b"rkt j\nwkt k\nq\n"), Halt("write", paths=("k",)))
 J = keytab(Entry((b"b",)))
 
 # One of these, the options of a run beside it, whether that waits, where it puts its entry, and the names then.
@@ -39,7 +36,7 @@ def names_in(program: str, folder: str) -> list[str]:
     return [entry["principal"] for entry in listed["entries"]] if listed.get("fault", "none") is None else []
 
 
-def ended_beside(program: str, options: tuple[str, ...], folder: str, mits: tuple[str, Line, Halt],
+def ended_beside(program: str, options: tuple[str, ...], folder: str, mits: tuple[str, Undisturbed, Halt],
                  seconds: float) -> tuple[Outcome, bool, Outcome]:
     """Returns how a run ends that begins while one of MIT's programs is halted, whether it waits for so many seconds,
     and how MIT's program ends."""
@@ -51,8 +48,8 @@ def ended_beside(program: str, options: tuple[str, ...], folder: str, mits: tupl
             ours = pool.submit(run, program, ("ktedit", *options, "k"), folder, ADD_LONG)
             started.append((ours, ours in wait([ours], seconds).not_done))
 
-        peer, line, halt = mits
-        theirs = halted(peer, line, folder, halt, begin, SURROUNDINGS)
+        peer, one, halt = mits
+        theirs = halted(peer, one, folder, halt, begin, SURROUNDINGS)
         (ours, waits), = started
         return ours.result(), waits, theirs
 
@@ -73,11 +70,11 @@ def check_peers(report: Report, program: str) -> None:
 
 def added_while(program: str, made: Undisturbed, halt: Halt) -> tuple[Outcome, list[str], Outcome]:
     """Returns how a run ends that is halted while MIT's ktutil adds an entry, the names then, and how ktutil ends."""
-    peer, line, _ = ADDS
+    peer, one, _ = ADDS
     theirs: list[Outcome] = []
     with folder_of({**made.files, "j": J}) as folder:
-        ours = halted(program, Line(made.words, made.stdin), folder, halt, lambda folder: theirs.append(
-            run(peer, line.words, folder, line.stdin, env=SURROUNDINGS)))
+        ours = halted(program, made, folder, halt, lambda folder: theirs.append(
+            run(peer, one.words, folder, one.stdin, env=SURROUNDINGS)))
         return ours, names_in(program, folder), theirs[0]
 
 
@@ -98,7 +95,4 @@ def check_added(report: Report, program: str) -> None:
         report.check(f"MIT's ktutil adds behind {halt.calls} {halt.nth}: {made.name}", faults)
 
 
-def check(report: Report, program: str) -> None:
-    """Runs this topic."""
-    if are_there(report, "saves in place beside MIT's programs"):
-        check_traced(report, program, "saves in place beside MIT's programs", check_peers, check_added)
+check = every(check_peers, check_added, of="saves in place beside MIT's programs", needs=("strace",), lack=lack)

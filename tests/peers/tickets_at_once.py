@@ -1,7 +1,6 @@
 """Storms over one cache: runs of ccedit and of ccremove beside MIT's kvno, which stores tickets in it.
 
-What our runs report as saved is there afterwards, the cache is whole, and MIT's klist lists it as ours
-does.
+What our runs report as saved is there afterwards, the cache is whole, and MIT's klist lists it as ours does.
 """
 
 import os
@@ -9,7 +8,7 @@ from random import Random
 
 from makers.images import keytab
 from peers.beside_mit import as_json, differences_of
-from peers.caches_beside_mit import USER, Realm, check_in_realm
+from peers.caches_beside_mit import USER, Realm, in_realm
 from runs.harness import Report, folder_of, run
 from runs.random_runs import Rounds
 from runs.storms import Run, rage
@@ -71,7 +70,7 @@ def check_rounds(report: Report, program: str, seeds: range) -> None:
         for seed in seeds:
             report.check(f"ccedit and ccremove beside kvno, round {seed}", storm(program, made, seed)[:3])
 
-    check_in_realm(report, program, "changes of a cache beside MIT's kvno", check_storms, more=(*GOING, *COMING))
+    in_realm("changes of a cache beside MIT's kvno", check_storms, more=(*GOING, *COMING))(report, program)
 
 
 TOPIC = Rounds(check_rounds, usual=3, share=1_000)

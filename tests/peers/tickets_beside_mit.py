@@ -11,9 +11,8 @@ from dataclasses import replace
 
 from makers.images import keytab
 from peers.beside_mit import as_json, differences_of, mit_klist
-from peers.caches_beside_mit import HOST, KINIT, USER, Realm, check_in_realm
-from runs.harness import Outcome, Report, differences, files_in, folder_of, message, run
-from runs.rows import printed
+from peers.caches_beside_mit import HOST, KINIT, USER, Realm, in_realm
+from runs.harness import Outcome, Report, differences, files_in, folder_of, message, printed, run
 
 TGT = "krbtgt/CACHE.TEST@CACHE.TEST"
 HOST_TEXT = f"{HOST}@CACHE.TEST"
@@ -140,7 +139,4 @@ def check_version_3(*where: Report | str | Realm) -> None:
         one.remove(HOST_TEXT)
 
 
-def check(report: Report, program: str) -> None:
-    """Runs this topic if MIT's programs are installed."""
-    check_in_realm(report, program, "changes of caches beside MIT's programs", check_removed, check_expired,
-                   check_values, check_version_3)
+check = in_realm("changes of caches beside MIT's programs", check_removed, check_expired, check_values, check_version_3)

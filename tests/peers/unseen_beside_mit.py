@@ -8,8 +8,7 @@ from random import Random
 
 from makers.images import Entry, keytab
 from peers.beside_mit import Mit, are_there, as_json
-from runs.harness import Report, folder_of, run
-from runs.terminal import EXPLAIN
+from runs.harness import EXPLAIN, Report, folder_of, run
 
 # How many runs are made of each command: its words, and its input, if that is not a random script.
 RUNS = 30
@@ -59,7 +58,7 @@ def check_run(program: str, words: tuple[str, ...], given: bytes, random: Random
 
 def check(report: Report, program: str) -> None:
     """Runs this topic if MIT's programs are installed."""
-    if not are_there(report, "what is said of additions beside MIT's klist", ("klist",)):
+    if not are_there(report, "what is said of additions beside MIT's klist", "klist"):
         return
     seen: Counter[str] = Counter()
     for number, (words, given) in enumerate(COMMANDS * RUNS):

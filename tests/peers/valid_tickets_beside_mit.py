@@ -6,13 +6,13 @@ from functools import partial
 from random import Random
 
 from caches.valid_tickets import TICKETS
-from makers.cache_images import CONFIG_FIRST, CONFIG_REALM, Name, cache, header_field, number
+from makers.images import CONFIG_FIRST, CONFIG_REALM, TICKET, Name, cache, config_ticket, header_field, number
 from makers.random_caches import random_credential
-from makers.usual_caches import TICKET, config_ticket
 from peers.beside_mit import SURROUNDINGS, are_there, as_json, check_seeds
 from peers.corpus import files
 from runs.harness import Outcome, Report, folder_of, run
-from runs.preload import Line, Preloaded, preloaded
+from runs.system_calls import Preloaded, preloaded
+from runs.undisturbed import undisturbed
 
 # The end of the usual ticket, and another.
 END, LATER = TICKET.endtime, TICKET.endtime + 1_000
@@ -59,11 +59,11 @@ def faults_of(under: Preloaded, image: bytes, ahead: int = 0) -> list[str]:
     """Returns where the programs differ around each end of a ticket, and around the usual one's; ours may be asked that
     many seconds ahead."""
     found = []
-    words = ("klist", "-s", *(["--for", str(ahead)] if ahead else []), "c")
+    asked = undisturbed(f"klist -s --for {ahead} c" if ahead else "klist -s c")
     with folder_of({"c": image}) as folder:
         ends = {END, *(one["endtime"] for one in as_json(under.program, folder, "c").get("tickets", ()))}
         for now in sorted(end + more for end in ends for more in (-1, 0, 1) if 0 < end + more < 2**32):
-            theirs, ours = by_mit(under, folder, now), under.run_in(folder, Line(words), CLOCK=now - ahead).outcome
+            theirs, ours = by_mit(under, folder, now), under.run_in(folder, asked, CLOCK=now - ahead).outcome
             if ours != theirs:
                 found.append(f"at {now} ours is {ours}, MIT's {theirs}, the cache {image[:2000].hex()}")
     return found
@@ -75,7 +75,7 @@ def check_different(report: Report, under: Preloaded) -> None:
         with folder_of({"c": image}) as folder:
             found = []
             for now, is_left in ((1_700_000_000, True), (2**32 - 1, False)):
-                theirs, ours = by_mit(under, folder, now), under.run_in(folder, Line(("klist", "-s", "c")), CLOCK=now)
+                theirs, ours = by_mit(under, folder, now), under.run_in(folder, undisturbed("klist -s c"), CLOCK=now)
                 wanted = [Outcome(0 if is_left and is_valid else 1) for is_valid in (is_theirs, is_ours)]
                 found += [] if [theirs, ours.outcome] == wanted else [f"at {now} {theirs}, {ours}, not {wanted}"]
         report.check(f"MIT's klist -s is otherwise: {name}", found)
@@ -104,10 +104,9 @@ def faults_of_random(under: Preloaded, random: Random) -> list[str]:
 
 def check(report: Report, program: str) -> None:
     """Runs this topic if MIT's klist is installed."""
-    if not are_there(report, "valid tickets beside MIT's klist", ("klist",)):
+    if not are_there(report, "valid tickets beside MIT's klist", "klist"):
         return
-    with preloaded(report, program, "valid tickets beside MIT's klist", {}) as under:
-        if under:
-            check_different(report, under)
-            check_same(report, under)
-            check_seeds(report, "MIT's klist -s and ours: random caches", partial(faults_of_random, under))
+    if under := preloaded(report, program, "valid tickets beside MIT's klist"):
+        check_different(report, under)
+        check_same(report, under)
+        check_seeds(report, "MIT's klist -s and ours: random caches", partial(faults_of_random, under))

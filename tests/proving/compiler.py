@@ -10,6 +10,7 @@ import subprocess
 from collections.abc import Iterable
 from dataclasses import dataclass
 from functools import cache
+from pathlib import Path
 
 from proving.edited import TOP
 
@@ -19,7 +20,7 @@ MEMORY = 3_500_000
 # How a check names an open goal: in a function that returns a value, and in one that does not.
 OPEN_GOAL = re.compile(r"note: \S+: it is not proved that .*?\(`([\w-]+)`\)")
 NOT_FOUND = re.compile(r"; `search` did not prove (.*)")
-VERDICT = re.compile(r"fn \w+::(\S+): (.*)")
+VERDICT = re.compile(r"^fn \w+::(\S+): (.*)", re.M)
 # A function that is proved by hand has no open goals: its proof is refused.
 BY_HAND = re.compile(r"\./proofs/(\S+)/Proof\.antt:\S+ error: ")
 BAD_LEMMA = re.compile(r"\./proofs/(\w+)\.antt:\S+ error: `([\w-]+)`")
@@ -40,8 +41,7 @@ class Answer:
 
 def at_once(jobs: int) -> int:
     """Returns how many checks run at once: at most `jobs`, and as many as fit in memory."""
-    with open("/proc/meminfo", encoding="ascii") as file:
-        free = int(re.search(r"MemAvailable:\s+(\d+)", file.read())[1])
+    free = int(re.search(r"MemAvailable:\s+(\d+)", Path("/proc/meminfo").read_text("ascii"))[1])
     return max(1, min(jobs, free // MEMORY))
 
 
@@ -55,14 +55,8 @@ def kit() -> str:
 @cache
 def crates() -> dict[str, tuple[str, list[str]]]:
     """Returns the kind of each crate, empty or `staticlib`, and the libraries that it uses."""
-    found = {}
-    with open(os.path.join(TOP, "crates.txt"), encoding="utf-8") as file:
-        for line in file:
-            head, colon, uses = line.partition("#")[0].partition(":")
-            if colon:
-                name, *kind = head.split()
-                found[name] = "".join(kind), uses.split()
-    return found
+    rows = re.findall(r"^(\w+) ?(\w*):([^#\n]*)", Path(TOP, "crates.txt").read_text("utf-8"), re.M)
+    return {name: (kind, uses.split()) for name, kind, uses in rows}
 
 
 def library(crate: str) -> str:
@@ -89,19 +83,11 @@ def root_of(crate: str) -> str:
     return "src/main.rt" if is_program else "src/lib.rt"
 
 
-def is_library(crate: str) -> bool:
-    """Whether a crate is used by others only: nothing is linked from it."""
-    return not crates()[crate][0] and root_of(crate) == "src/lib.rt"
-
-
 def libraries(crate: str) -> list[str]:
     """Returns the options that name the libraries that a crate uses, as they were proved."""
-    words = []
-    for it in dict.fromkeys(["std", *crates()[crate][1]]):
-        words += ["--extern", f"{it}={library(it)}"]
-    for it in ["std", *sorted(below(crate))]:
-        words += ["-L", f"dependency={os.path.dirname(library(it))}"]
-    return words
+    own, all_below = dict.fromkeys(["std", *crates()[crate][1]]), ["std", *sorted(below(crate))]
+    return [*(word for it in own for word in ("--extern", f"{it}={library(it)}")),
+            *(word for it in all_below for word in ("-L", f"dependency={os.path.dirname(library(it))}"))]
 
 
 def sources(crate: str) -> list[str]:
@@ -111,9 +97,7 @@ def sources(crate: str) -> list[str]:
         uses = crates()[it][1]
         words += ["--lib", f"{it}:{','.join(['std', *uses])}={os.path.join(TOP, 'crates', it, 'src', 'lib.rt')}"]
         of_kit.update(set(uses) - set(crates()))
-    for it in sorted(of_kit):
-        words += ["--extern", f"{it}={library(it)}"]
-    return words
+    return [*words, *(word for it in sorted(of_kit) for word in ("--extern", f"{it}={library(it)}"))]
 
 
 def command(verb: str, crate: str, jobs: int, name: str = "", are_sources: bool = False) -> list[str]:
@@ -131,12 +115,6 @@ def clause_of(goal: str) -> str:
     """Returns the name of the clause that a goal belongs to. A loop's goals keep their names."""
     found = GOAL.fullmatch(goal)
     return found[1] + (found[2] or "") if found else goal
-
-
-def proved_in(output: str) -> set[str]:
-    """Returns the functions that are proved."""
-    verdicts = filter(None, map(VERDICT.match, output.splitlines()))
-    return {verdict[1] for verdict in verdicts if verdict[2] == "proved"}
 
 
 def clauses_of(output: str) -> dict[str, list[str]]:
@@ -173,4 +151,5 @@ def check_functions(crate: str, folder: str, only: Iterable[str], kept: str) -> 
     rejected = REJECTED.search(done.stdout)
     if not rejected and not ENDED.search(done.stdout):
         rejected = re.search(r".*\Z", done.stdout.rstrip())
-    return Answer(proved_in(done.stdout), clauses_of(done.stdout), rejected[0] if rejected else None)
+    proved = {function for function, verdict in VERDICT.findall(done.stdout) if verdict == "proved"}
+    return Answer(proved, clauses_of(done.stdout), rejected[0] if rejected else None)

@@ -16,6 +16,7 @@ import os
 import re
 import shutil
 from dataclasses import dataclass
+from pathlib import Path
 
 from runs.harness import TOP
 
@@ -88,8 +89,7 @@ def pairs_of(lines: list[tuple[str, str]]) -> tuple[Pair, ...]:
 
 def read(path: str) -> Edit:
     """Returns the edit in a file."""
-    with open(path, encoding="utf-8") as file:
-        split = [line.rstrip("\n").partition(":") for line in file]
+    split = [line.partition(":") for line in Path(path).read_text("utf-8").split("\n")]
     lines = [(word, text.removeprefix(" ")) for word, _, text in split]
     only = [FUNCTION.fullmatch(text) for word, text in lines if word == "only"]
     refused = [CLAUSE.fullmatch(text) for word, text in lines if word == "refused"]
@@ -110,10 +110,8 @@ def copy_crate(crate: str, folder: str) -> None:
 def apply(pairs: tuple[Pair, ...], folder: str) -> None:
     """Applies an edit to the copy of its crate in a folder."""
     for pair in pairs:
-        path = os.path.join(folder, pair.path)
-        with open(path, encoding="utf-8") as file:
-            text = file.read()
+        path = Path(folder, pair.path)
+        text = path.read_text("utf-8")
         if text.count(pair.old) != 1:
             raise BadEdit(f"{pair.path} has {text.count(pair.old)} times, not once: {pair.old}")
-        with open(path, "w", encoding="utf-8") as file:
-            file.write(text.replace(pair.old, pair.new))
+        path.write_text(text.replace(pair.old, pair.new), "utf-8")

@@ -7,14 +7,10 @@ from functools import partial
 
 from keytabs.edits import DAMAGED
 from keytabs.ktutil_lines import KEY
-from makers.cache_images import Name, cache, config, header_field
-from makers.images import B, END, HOST, TWO, Entry, hole, keytab, old, record
-from makers.usual_caches import OFFSET, PA_TYPE, TICKET, USUAL, VERSION_3
-from runs.harness import Case
-from runs.rows import text
-from runs.undisturbed import Undisturbed, frame, in_place, undisturbed
-
-Run = Case | Undisturbed
+from makers.images import (B, END, HOST, OFFSET, PA_TYPE, TICKET, TWO, USUAL, VERSION_3, Entry, Name, cache, config,
+                           header_field, hole, keytab, old, record)
+from runs.harness import Case, text
+from runs.undisturbed import Run, Undisturbed, frame, in_place, undisturbed
 
 # The script of most runs, the file before and after it, one that clashes with both its entries, and a walk.
 SCRIPT = b"add 3 17 1700000000 000102030405060708090a0b0c0d0e0f host/a@R\n"

@@ -1,12 +1,21 @@
-"""Runs the program on a case in a folder of its own, and reports what differs from the expected result."""
+"""Runs the program on a case in a folder of its own, and reports what differs from the expected result. How tables of
+cases are made, and run."""
 from __future__ import annotations
 
 import os
+import resource
+import shutil
+import signal
 import stat
 import subprocess
 import tempfile
+from collections.abc import Callable, Iterable
 from contextlib import contextmanager
 from dataclasses import dataclass, field, replace
+from pathlib import Path
+
+# The option by which messages are explained.
+EXPLAIN = "--explain"
 
 # The repository.
 TOP = os.path.dirname(os.path.dirname(os.path.dirname(os.path.abspath(__file__))))
@@ -76,9 +85,7 @@ class Report:
     def __init__(self, is_proved: bool = True, topic: str = "") -> None:
         self.is_proved = is_proved
         self.front = f"{topic}: " if topic else ""
-        self.passed = 0
-        self.failed = 0
-        self.large = 0
+        self.passed = self.failed = self.large = 0
         self.left_out: list[str] = []
         # What is compared with the definitions.
         self.seen: list[Case] = []
@@ -123,32 +130,19 @@ class Report:
 
 def short(data: bytes) -> str:
     """Returns bytes as a message shows them."""
-    if len(data) <= 300:
-        return repr(data)
-    return f"{data[:140]!r} ... {data[-140:]!r} ({len(data)} bytes)"
+    return repr(data) if len(data) <= 300 else f"{data[:140]!r} ... {data[-140:]!r} ({len(data)} bytes)"
 
 
 def differences(wanted: Outcome, got: Outcome) -> list[str]:
     """Returns what differs between two outcomes, one text each."""
-    found = []
-    if got.status != wanted.status:
-        found.append(f"status {got.status}, not {wanted.status}")
-    if got.out != wanted.out:
-        found.append(f"output {short(got.out)}, not {short(wanted.out)}")
-    if got.err != wanted.err:
-        found.append(f"error output {short(got.err)}, not {short(wanted.err)}")
-    return found
+    parts = (("status", got.status, wanted.status, str), ("output", got.out, wanted.out, short),
+             ("error output", got.err, wanted.err, short))
+    return [f"{what} {show(is_so)}, not {show(due)}" for what, is_so, due, show in parts if is_so != due]
 
 
 def files_in(folder: str) -> dict[str, bytes]:
     """Returns the files below a folder, by relative path."""
-    found = {}
-    for at, _, names in os.walk(folder):
-        for name in names:
-            path = os.path.join(at, name)
-            with open(path, "rb") as file:
-                found[os.path.relpath(path, folder)] = file.read()
-    return found
+    return {str(path.relative_to(folder)): path.read_bytes() for path in Path(folder).rglob("*") if not path.is_dir()}
 
 
 @contextmanager
@@ -156,8 +150,7 @@ def folder_of(files: dict[str, bytes]):
     """Yields a folder that has those files."""
     with tempfile.TemporaryDirectory(prefix="krbfile-") as folder:
         for name, data in files.items():
-            with open(os.path.join(folder, name), "wb") as file:
-                file.write(data)
+            Path(folder, name).write_bytes(data)
         yield folder
 
 
@@ -174,11 +167,104 @@ def run_case(program: str, case: Case, **options) -> tuple[Outcome, dict[str, by
         return run(program, case.words, folder, case.stdin, **options), files_in(folder)
 
 
+def limit(kind: int, most: int, is_spared: bool = True) -> Callable[[], None]:
+    """Returns a function that limits a resource. A write that would exceed the limit of a file is cut if the run is
+    spared the signal that would end it."""
+
+    def before_run() -> None:
+        signal.signal(signal.SIGXFSZ, signal.SIG_IGN if is_spared else signal.SIG_DFL)
+        resource.setrlimit(kind, (most, most))
+
+    return before_run
+
+
 def faults_of(case: Case, got: Outcome, after: dict[str, bytes]) -> list[str]:
     """Returns the faults of a run of a case, and of the files afterwards."""
-    found = differences(case.wanted, got)
     wanted = case.files if case.files_after is None else case.files_after
-    for name in sorted(set(after) | set(wanted)):
-        if after.get(name) != wanted.get(name):
-            found.append(f"file {name} is not as it should be")
-    return found
+    wrong = [name for name in sorted({*after, *wanted}) if after.get(name) != wanted.get(name)]
+    return differences(case.wanted, got) + [f"file {name} is not as it should be" for name in wrong]
+
+
+# What checks a program, and reports that.
+Check = Callable[[Report, str], None]
+
+
+def every(*checks: Check, of: str = "", needs: tuple[str, ...] = (), lack: Callable[[], str] = str) -> Check:
+    """Returns a check that makes those in turn. Where a tool that they need is missing, or something is lacking, it
+    reports the part OF as left out."""
+
+    def check(report: Report, program: str) -> None:
+        missing = [tool for tool in needs if shutil.which(tool) is None]
+        if why := f"{missing[0]} is not there" if missing else lack():
+            report.skip(of, why)
+            return
+        for each in checks:
+            each(report, program)
+
+    return check
+
+
+# A line is the words after the program's name. If blanks separate them, a row has it as one text.
+Line = tuple[str | bytes, ...]
+
+BAD_LINE = message(2, "bad command line")
+
+
+def words_of(line: str | Line) -> Line:
+    """Returns the words of a line."""
+    return tuple(line.split()) if isinstance(line, str) else line
+
+
+def shown(line: str | Line) -> str:
+    """Returns a line as a message shows it."""
+    return " ".join(word if isinstance(word, str) and word else repr(word) for word in ("krbfile", *words_of(line)))
+
+
+def text(lines: Iterable[str]) -> bytes:
+    """Returns lines, each with its end."""
+    return "".join(line + "\n" for line in lines).encode()
+
+
+def printed(*lines: str, status: int = 0) -> Outcome:
+    """Returns a run that prints those lines."""
+    return Outcome(status, text(lines))
+
+
+def over(name: str, line: str | Line, image: bytes | None, wanted: Outcome | list[str],
+         after: bytes | None = None, given: bytes | list[str] = b"") -> Case:
+    """Returns a run over the file that its last word names, or over none, with that input.
+
+    Wanted are lines that it prints, or an outcome. With no `after` the file stays as it is.
+    """
+    words = words_of(line)
+    files, files_after = ({} if each is None else {words[-1]: each} for each in (image, after))
+    return Case(name, words, wanted if isinstance(wanted, Outcome) else printed(*wanted), files,
+                files_after or files, given if isinstance(given, bytes) else text(given))
+
+
+@dataclass(frozen=True)
+class Help:
+    """A line that prints help, on the output, and words that it has."""
+
+    line: str
+    wanted_words: tuple[bytes, ...]
+
+    def check(self, report: Report, program: str) -> None:
+        """Runs it. Help ends with a newline."""
+        with folder_of({}) as folder:
+            got = run(program, self.line.split(), folder)
+        found = differences(Outcome(0, got.out), got)
+        found += [f"no word of {word.decode()}" for word in self.wanted_words if word not in got.out]
+        if not got.out.endswith(b"\n"):
+            found.append("the last line does not end")
+        report.check(f"help: {shown(self.line)}", found)
+
+
+# A row is checked as a case is. One of large files is a function, which makes it when it is run.
+Row = Case | Help | Callable[[], Case]
+
+
+def check_rows(report: Report, program: str, rows: Iterable[Row]) -> None:
+    """Runs a table."""
+    for row in rows:
+        (row() if callable(row) else row).check(report, program)

@@ -6,7 +6,7 @@ from collections.abc import Iterator
 from contextlib import contextmanager
 from shlex import quote
 
-from runs.harness import SECONDS, Outcome, Report, run
+from runs.harness import SECONDS, Outcome, run
 
 # Makes the mounts, and starts the words after it.
 UNSHARE = ("unshare", "--mount") if os.geteuid() == 0 else ("unshare", "--mount", "--user", "--map-root-user")
@@ -27,18 +27,14 @@ def run_within(program: str, words, folder: str, mounts: dict[str, str], **optio
     return run(first, rest, folder, **options)
 
 
-def can_mount(report: Report, what: str) -> bool:
-    """Whether such runs can be made; if not, reports that part as left out."""
-    why = "unshare is not there"
+def no_mounts() -> str:
+    """Returns why such runs cannot be made, or nothing."""
     try:
         done = subprocess.run([*front({"/etc": "/etc"}), "true"], capture_output=True, timeout=SECONDS, check=False)
-        why = done.stderr.decode(errors="replace").strip() or "mounts are not allowed"
-        if done.returncode == 0:
-            return True
+        why = done.returncode and (done.stderr.decode(errors="replace").strip() or "mounts are not allowed")
     except FileNotFoundError:
-        pass
-    report.skip(what, f"no folder can be mounted: {why}")
-    return False
+        why = "unshare is not there"
+    return f"no folder can be mounted: {why}" if why else ""
 
 
 @contextmanager

@@ -20,9 +20,9 @@
  *                        `locks`, `mountinfo` or `fdinfo` in that folder, and the Nth one of the list of locks `N`, if
  *                        that is there; and each file has the number 0 on the device 0:0
  *
- * Only calls from the start of main on count, and of malloc, calloc and realloc only those by the
- * program's own code. The counts stand in a shared mapping, so they outlive the program however it
- * ends. The program sees none of these variables.
+ * Only calls from the start of main on count, and of malloc, calloc and realloc only those by the program's own code.
+ * The counts stand in a shared mapping, so they outlive the program however it ends. The program sees none of these
+ * variables.
  */
 #define _GNU_SOURCE
 #include <dlfcn.h>
@@ -45,26 +45,18 @@ extern void *__libc_calloc(size_t, size_t);
 extern void *__libc_realloc(void *, size_t);
 
 /* A kind of calls: how many were made, and which of them is not granted. */
-struct calls {
-    uint64_t made;
-    uint64_t fail;
-    uint64_t take_none;
-};
+static struct calls {
+    uint64_t made, fail, take_none;
+} requests, inputs, reads, writes, saves;
 
-static struct calls requests, inputs, reads, writes, saves;
-static uint64_t refuse_lasts, error, most;
-
-static uint64_t clock_seconds, fail_clock, pace;
+static uint64_t refuse_lasts, error, most, clock_seconds, fail_clock, pace;
 static int is_paced;
 static char *proc;
 
+/* The requests for memory, the calls that were not granted, and how many milliseconds were slept, and how many passed,
+ * where time passes by itself. */
 static struct counts {
-    uint64_t requests;
-    /* The calls that were not granted. */
-    uint64_t failures;
-    /* How many milliseconds were slept, and how many passed, where time passes by itself. */
-    uint64_t slept;
-    uint64_t passed;
+    uint64_t requests, failures, slept, passed;
 } unshared, *counts = &unshared;
 
 /* Whether main has begun and not ended. */
@@ -72,46 +64,39 @@ static int in_main;
 static void *program_start;
 
 /* Returns where the object of an address begins. */
-static void *start_of(void *address)
-{
+static void *start_of(void *address) {
     Dl_info found = {0};
     dladdr(address, &found);
     return found.dli_fbase;
 }
 
 /* Counts a request for memory, and says whether it is refused. */
-static int refuses(void *caller)
-{
+static int refuses(void *caller) {
     if (!in_main || start_of(caller) != program_start)
         return 0;
     counts->requests++;
     requests.made++;
-    if (requests.fail == 0 || requests.made < requests.fail ||
-        (requests.made > requests.fail && !refuse_lasts))
+    if (requests.fail == 0 || requests.made < requests.fail || (requests.made > requests.fail && !refuse_lasts))
         return 0;
     counts->failures++;
     errno = ENOMEM;
     return 1;
 }
 
-void *malloc(size_t size)
-{
+void *malloc(size_t size) {
     return refuses(__builtin_return_address(0)) ? NULL : __libc_malloc(size);
 }
 
-void *calloc(size_t count, size_t size)
-{
+void *calloc(size_t count, size_t size) {
     return refuses(__builtin_return_address(0)) ? NULL : __libc_calloc(count, size);
 }
 
-void *realloc(void *old, size_t size)
-{
+void *realloc(void *old, size_t size) {
     return refuses(__builtin_return_address(0)) ? NULL : __libc_realloc(old, size);
 }
 
 /* Counts a call, and says whether it is granted; if not, what it answers instead. */
-static int grants(struct calls *calls, ssize_t *answer)
-{
+static int grants(struct calls *calls, ssize_t *answer) {
     calls->made++;
     if (calls->made != calls->fail && calls->made != calls->take_none)
         return 1;
@@ -121,20 +106,15 @@ static int grants(struct calls *calls, ssize_t *answer)
     return 0;
 }
 
-static size_t at_most(size_t size)
-{
-    return in_main && most != 0 && size > most ? most : size;
-}
+static size_t at_most(size_t size) { return in_main && most != 0 && size > most ? most : size; }
 
 /* Whether a file is one of those in which the system tells of itself. */
-static int is_of_system(int fd)
-{
+static int is_of_system(int fd) {
     struct statfs found;
     return fstatfs(fd, &found) == 0 && found.f_type == 0x9fa0;
 }
 
-ssize_t read(int fd, void *bytes, size_t size)
-{
+ssize_t read(int fd, void *bytes, size_t size) {
     ssize_t answer;
     if (is_of_system(fd))
         return syscall(SYS_read, fd, bytes, size);
@@ -143,8 +123,7 @@ ssize_t read(int fd, void *bytes, size_t size)
     return syscall(SYS_read, fd, bytes, at_most(size));
 }
 
-ssize_t write(int fd, const void *bytes, size_t size)
-{
+ssize_t write(int fd, const void *bytes, size_t size) {
     ssize_t answer;
     if (in_main && fd != STDERR_FILENO && !grants(fd == STDOUT_FILENO ? &writes : &saves, &answer))
         return answer;
@@ -152,22 +131,17 @@ ssize_t write(int fd, const void *bytes, size_t size)
 }
 
 /* A write to a place of a file, under both of its names. */
-ssize_t pwrite(int fd, const void *bytes, size_t size, off_t at)
-{
+ssize_t pwrite64(int fd, const void *bytes, size_t size, off64_t at) {
     ssize_t answer;
     if (in_main && !grants(&saves, &answer))
         return answer;
     return syscall(SYS_pwrite64, fd, bytes, at_most(size), at);
 }
 
-ssize_t pwrite64(int fd, const void *bytes, size_t size, off64_t at)
-{
-    return pwrite(fd, bytes, size, at);
-}
+ssize_t pwrite(int fd, const void *bytes, size_t size, off_t at) { return pwrite64(fd, bytes, size, at); }
 
 /* Reads the clock that advances only by sleeps and readings. */
-static int read_paced(struct timespec *time)
-{
+static int read_paced(struct timespec *time) {
     counts->passed += pace;
     time->tv_sec = (time_t)(counts->passed / 1000);
     time->tv_nsec = (long)(counts->passed % 1000 * 1000000);
@@ -175,8 +149,7 @@ static int read_paced(struct timespec *time)
     return pace ? 0 : -1;
 }
 
-int clock_gettime(clockid_t clock, struct timespec *time)
-{
+int clock_gettime(clockid_t clock, struct timespec *time) {
     if (in_main && is_paced && clock == CLOCK_MONOTONIC)
         return read_paced(time);
     if (!in_main || clock != CLOCK_REALTIME || (clock_seconds == 0 && !fail_clock))
@@ -189,8 +162,7 @@ int clock_gettime(clockid_t clock, struct timespec *time)
 }
 
 /* MIT's programs read the clock by this call. */
-time_t time(time_t *seconds)
-{
+time_t time(time_t *seconds) {
     struct timespec now;
     time_t found = clock_gettime(CLOCK_REALTIME, &now) == 0 ? now.tv_sec : -1;
     if (seconds)
@@ -198,8 +170,7 @@ time_t time(time_t *seconds)
     return found;
 }
 
-int nanosleep(const struct timespec *asked, struct timespec *left)
-{
+int nanosleep(const struct timespec *asked, struct timespec *left) {
     if (!in_main || !is_paced)
         return (int)syscall(SYS_nanosleep, asked, left);
     uint64_t slept = (uint64_t)asked->tv_sec * 1000 + (uint64_t)asked->tv_nsec / 1000000;
@@ -209,8 +180,7 @@ int nanosleep(const struct timespec *asked, struct timespec *left)
 }
 
 /* Returns the file that is opened for that of a path, whose name is written there if it is another. */
-static const char *file_for(const char *path, char other[4096])
-{
+static const char *file_for(const char *path, char other[4096]) {
     static uint64_t readings;
     int is_list = strcmp(path, "/proc/locks") == 0;
     int is_open_file = strncmp(path, "/proc/self/fdinfo/", 18) == 0;
@@ -222,8 +192,7 @@ static const char *file_for(const char *path, char other[4096])
     return other;
 }
 
-int open(const char *path, int flags, ...)
-{
+int open(const char *path, int flags, ...) {
     char other[4096];
     va_list more;
     va_start(more, flags);
@@ -232,8 +201,7 @@ int open(const char *path, int flags, ...)
     return (int)syscall(SYS_openat, AT_FDCWD, file_for(path, other), flags, mode);
 }
 
-int statx(int folder, const char *path, int flags, unsigned mask, struct statx *found)
-{
+int statx(int folder, const char *path, int flags, unsigned mask, struct statx *found) {
     int answer = (int)syscall(SYS_statx, folder, path, flags, mask, found);
     if (in_main && proc && answer == 0)
         found->stx_ino = found->stx_dev_major = found->stx_dev_minor = 0;
@@ -241,8 +209,7 @@ int statx(int folder, const char *path, int flags, unsigned mask, struct statx *
 }
 
 /* Takes a number out of the environment; 0 where it is not there. */
-static uint64_t taken(const char *name)
-{
+static uint64_t taken(const char *name) {
     const char *text = getenv(name);
     uint64_t value = text ? strtoull(text, NULL, 10) : 0;
     unsetenv(name);
@@ -250,8 +217,7 @@ static uint64_t taken(const char *name)
 }
 
 /* Lets the counts stand in that file. */
-static void share_counts(const char *file)
-{
+static void share_counts(const char *file) {
     int fd = open(file, O_RDWR | O_CREAT | O_CLOEXEC, 0600);
     if (fd < 0 || ftruncate(fd, sizeof *counts) != 0)
         _exit(125);
@@ -275,14 +241,12 @@ static const struct {
 
 typedef int main_function(int, char **, char **);
 typedef void plain_function(void);
-typedef int start_function(main_function *, int, char **, plain_function *, plain_function *,
-                           plain_function *, void *);
+typedef int start_function(main_function *, int, char **, plain_function *, plain_function *, plain_function *, void *);
 
 static main_function *program_main;
 
 /* The program's main, with its calls counted. */
-static int counted_main(int argc, char **argv, char **envp)
-{
+static int counted_main(int argc, char **argv, char **envp) {
     const char *file = getenv("PRELOAD_COUNTS");
     program_start = start_of((void *)program_main);
     if (file)
@@ -303,8 +267,7 @@ static int counted_main(int argc, char **argv, char **envp)
 
 /* Stands between the C library's start and the program's main. */
 int __libc_start_main(main_function *main, int argc, char **argv, plain_function *init,
-                      plain_function *fini, plain_function *rtld_fini, void *stack_end)
-{
+                      plain_function *fini, plain_function *rtld_fini, void *stack_end) {
     start_function *start = (start_function *)dlsym(RTLD_NEXT, "__libc_start_main");
     program_main = main;
     return start(counted_main, argc, argv, init, fini, rtld_fini, stack_end);

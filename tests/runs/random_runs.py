@@ -1,5 +1,4 @@
 """Random runs, each made from a number: what they have to meet, and rounds of checks of other kinds."""
-from __future__ import annotations
 
 import os
 import re
@@ -7,6 +6,7 @@ import shutil
 import tempfile
 from collections.abc import Callable, Iterator
 from dataclasses import dataclass
+from pathlib import Path
 from shlex import quote
 
 from runs.harness import Case, Outcome, Report
@@ -49,8 +49,7 @@ def keep(name: str, case: Case, program: str = "krbfile") -> str:
     files = {os.path.join("files", each): data for each, data in case.files.items()}
     again = os.fsencode(f"{front}{line} < {folder}/stdin\n")
     for path, data in {**files, "stdin": case.stdin, "again": again}.items():
-        with open(os.path.join(folder, path), "wb") as file:
-            file.write(data)
+        Path(folder, path).write_bytes(data)
     return f"sh {folder}/again"
 
 
@@ -63,6 +62,7 @@ class Rounds:
     share: int
     # How many numbers a short run takes.
     usual: int = 0
+    name: str = ""
 
     def check(self, report: Report, program: str) -> None:
         """Runs a few, the same in each run."""

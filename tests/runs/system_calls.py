@@ -1,9 +1,10 @@
-"""Runs of the program under strace, which lists its system calls and lets chosen ones fail."""
+"""Runs of the program under strace, which lists its system calls and lets chosen ones fail, and under a preloaded
+library (preload.c), which lets chosen calls of the C library fail and shows other lists of the system."""
 
 import os
 import re
-import shutil
 import signal
+import struct
 import subprocess
 import tempfile
 import time
@@ -11,8 +12,8 @@ from collections import Counter
 from collections.abc import Callable, Iterator
 from dataclasses import dataclass, replace
 
-from runs.harness import SECONDS, Case, Outcome, Report, run
-from runs.preload import Line
+from runs.harness import SECONDS, Case, Outcome, Report, files_in, folder_of, run
+from runs.undisturbed import Run, preload_library, undisturbed
 
 # A line of a trace that begins a system call.
 CALL = re.compile(r"(\w+)\(")
@@ -41,12 +42,11 @@ class Call:
         return f"{self.name} {self.nth}"
 
 
-def traced(program: str, line: Line, folder: str, *options: str) -> tuple[Outcome, list[str]]:
+def traced(program: str, one: Run, folder: str, *options: str) -> tuple[Outcome, list[str]]:
     """Makes a run under strace, and returns its outcome and the lines of its trace."""
     with tempfile.NamedTemporaryFile("r", errors="replace") as trace:
-        words = ("-o", trace.name, "-e", "quiet=all", "-e", f"trace={CALLS}", *options, program,
-                 *line.words)
-        outcome = run("strace", words, folder, line.stdin)
+        words = ("-o", trace.name, "-e", "quiet=all", "-e", f"trace={CALLS}", *options, program, *one.words)
+        outcome = run("strace", words, folder, one.stdin)
         return outcome, trace.read().splitlines()
 
 
@@ -60,14 +60,11 @@ def calls_of(lines: list[str], first: str) -> Iterator[Call]:
     """Yields the calls of a trace from the first that contains a text."""
     counts: Counter[str] = Counter()
     is_begun = False
-    for line in lines:
-        found = CALL.match(line)
-        if found is None:
-            continue
+    for found in filter(None, map(CALL.match, lines)):
         counts[found[1]] += 1
-        is_begun = is_begun or first in line
+        is_begun = is_begun or first in found.string
         if is_begun:
-            yield Call(found[1], counts[found[1]], line)
+            yield Call(found[1], counts[found[1]], found.string)
 
 
 @dataclass(frozen=True)
@@ -85,16 +82,14 @@ class Halt:
         return ["-e", "quiet=all", "-e", f"trace={self.calls}", "-e", inject, *paths]
 
 
-def halted(
-    program: str, line: Line, folder: str, halt: Halt, change: Callable[[str], None],
-    env: dict[str, str] | None = None
-) -> Outcome:
+def halted(program: str, one: Run, folder: str, halt: Halt, change: Callable[[str], None],
+           env: dict[str, str] | None = None) -> Outcome:
     """Makes a run that is halted somewhere until a change is made in its folder, and then goes on."""
     with tempfile.NamedTemporaryFile() as trace:
-        words = ["strace", "-f", "-o", trace.name, *halt.options(), program, *line.words]
+        words = ["strace", "-f", "-o", trace.name, *halt.options(), program, *one.words]
         with subprocess.Popen(words, cwd=folder, env=env, stdin=subprocess.PIPE, stdout=subprocess.PIPE,
                               stderr=subprocess.PIPE) as started:
-            started.stdin.write(line.stdin)
+            started.stdin.write(one.stdin)
             started.stdin.close()
             started.stdin = None
             seen = b""
@@ -108,12 +103,50 @@ def halted(
             return Outcome(started.returncode, out, err)
 
 
-def check_traced(
-    report: Report, program: str, what: str, *checks: Callable[[Report, str], None]
-) -> None:
-    """Makes checks that need strace. If it is not installed, reports them as left out."""
-    if shutil.which("strace") is None:
-        report.skip(what, "there is no strace")
-        return
-    for check in checks:
-        check(report, program)
+@dataclass(frozen=True)
+class Counted:
+    """A run, the files after it, its allocations, and the number of its calls that failed or moved nothing.
+
+    Where a pace is set also how many milliseconds it slept, and how many passed.
+    """
+
+    outcome: Outcome
+    files: dict[str, bytes]
+    requests: int
+    failures: int
+    slept: int = 0
+    passed: int = 0
+
+
+@dataclass(frozen=True)
+class Preloaded:
+    """Runs a program with some of its calls failing, each time over the files of the run."""
+
+    program: str
+    library: str
+
+    def run(self, one: Run, **settings: int | str) -> Counted | None:
+        """Makes a run with the settings that the source describes, and other variables; None if that was not loaded."""
+        with folder_of(one.files) as folder:
+            return self.run_in(folder, one, **settings)
+
+    def run_in(self, folder: str, one: Run, **settings: int | str) -> Counted | None:
+        """Makes a run in a folder, with those settings."""
+        with tempfile.NamedTemporaryFile() as counts:
+            env = {"LD_PRELOAD": self.library, "PRELOAD_COUNTS": counts.name}
+            env.update((name, str(value)) for name, value in settings.items())
+            outcome = run(self.program, one.words, folder, one.stdin, env=env)
+            if not (counted := counts.read(32)):
+                return None
+            requests, *others = struct.unpack("=4Q", counted)
+            return Counted(outcome, files_in(folder), requests, *others)
+
+
+def preloaded(report: Report, program: str, what: str) -> Preloaded | None:
+    """Returns the program with the library under it, or None, with a report, if that cannot be had."""
+    made = Preloaded(program, preload_library() or "")
+    if made.library and made.run(undisturbed("--help")):
+        return made
+    report.skip(what, "the program does not load a preloaded library" if made.library else
+                "no C compiler built preload.c")
+    return None

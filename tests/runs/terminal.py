@@ -1,12 +1,11 @@
 """Runs whose error output is a terminal, or which are given `--explain`."""
 
 import os
-import subprocess
+from concurrent.futures import ThreadPoolExecutor
 from contextlib import suppress
+from dataclasses import replace
 
-from runs.harness import SECONDS, Outcome, run
-
-EXPLAIN = "--explain"
+from runs.harness import EXPLAIN, Outcome, run
 
 
 def all_of(end: int) -> bytes:
@@ -18,18 +17,18 @@ def all_of(end: int) -> bytes:
     return b"".join(parts).replace(b"\r\n", b"\n")
 
 
-def run_on_terminal(program: str, words, folder: str, stdin: bytes = b"", **options) -> Outcome:
-    """Makes a run whose error output is a terminal. What it writes there has to fit the terminal's buffer."""
+def run_on_terminal(program: str, words, folder: str, stdin: bytes = b"", stream: str = "stderr",
+                    **options) -> Outcome:
+    """Makes a run with one output on a terminal, by default the error output."""
     ours, theirs = os.openpty()
-    try:
-        done = subprocess.run([program, *words], cwd=folder, input=stdin, stdout=subprocess.PIPE,
-                              stderr=theirs, timeout=SECONDS, check=False, **options)
-    finally:
-        os.close(theirs)
-    try:
-        return Outcome(done.returncode, done.stdout, all_of(ours))
-    finally:
-        os.close(ours)
+    with ThreadPoolExecutor(1) as pool:
+        shown = pool.submit(all_of, ours)
+        try:
+            got = run(program, words, folder, stdin, **options, **{stream: theirs})
+        finally:
+            os.close(theirs)
+    os.close(ours)
+    return replace(got, **{stream.removeprefix("std"): shown.result()})
 
 
 def run_explained(program: str, words, folder: str, stdin: bytes = b"", **options) -> Outcome:
@@ -39,10 +38,3 @@ def run_explained(program: str, words, folder: str, stdin: bytes = b"", **option
 
 # The ways to make a run, each with whether it explains messages.
 WAYS = {"on a pipe": (run, False), "on a terminal": (run_on_terminal, True), EXPLAIN: (run_explained, True)}
-
-
-def runs_with_words(program: str, words, folder: str, stdin: bytes = b""):
-    """Makes a run in both ways that explain messages, and yields each with its outcome."""
-    for way, (make, explains) in WAYS.items():
-        if explains:
-            yield way, make(program, words, folder, stdin)

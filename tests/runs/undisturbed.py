@@ -1,15 +1,15 @@
 """Runs that nothing disturbs. A test that disturbs a run compares it with the same run undisturbed; what such runs
 print and save is compared with the definitions by `computed`."""
-from __future__ import annotations
 
+import atexit
+import os
+import shutil
+import subprocess
 import tempfile
 from dataclasses import dataclass, field, replace
 from functools import cache, cached_property
 
-from runs.harness import Case, Outcome, mode_of_files, run_case
-from runs.preload import built_library
-from runs.rows import Line, shown, words_of
-from runs.terminal import EXPLAIN
+from runs.harness import EXPLAIN, Case, Line, Outcome, mode_of_files, run_case, shown, words_of
 
 # The option by which a file is saved in place.
 IN_PLACE = "--in-place"
@@ -25,10 +25,14 @@ def use(program: str) -> None:
 
 
 @cache
-def clock_library() -> tuple[str | None, object]:
-    """Returns the library under which a run has a given clock, or None, with the folder that it is in."""
-    folder = tempfile.TemporaryDirectory()
-    return built_library(folder.name), folder
+def preload_library() -> str | None:
+    """Returns the library of preload.c, built by the installed C compiler, or None if there is none."""
+    compilers = map(shutil.which, (os.environ.get("CC") or "cc", "gcc", "clang"))
+    folder = tempfile.mkdtemp(prefix="krbfile-")
+    atexit.register(shutil.rmtree, folder, ignore_errors=True)
+    library, source = os.path.join(folder, "preload.so"), os.path.join(os.path.dirname(__file__), "preload.c")
+    words = [next(filter(None, compilers), "false"), "-O2", "-Wall", "-shared", "-fPIC", "-o", library, source, "-ldl"]
+    return library if subprocess.run(words, check=False).returncode == 0 else None
 
 
 @dataclass(frozen=True)
@@ -47,7 +51,7 @@ class Undisturbed:
     def done(self) -> tuple[Outcome, dict[str, bytes]]:
         """How it ends, and the files afterwards."""
         case = Case(self.name, self.plain or self.words, Outcome(0), self.files, stdin=self.stdin)
-        library, _ = (None, None) if self.clock is None else clock_library()
+        library = None if self.clock is None else preload_library()
         options = {"env": {"LD_PRELOAD": library, "CLOCK": str(self.clock)}} if library else {}
         outcome, after = run_case(PROGRAM[0], case, **options)
         clock = self.clock if library else None
@@ -67,6 +71,10 @@ class Undisturbed:
     def as_case(self) -> Case:
         """Returns it as a case with its result."""
         return Case(self.name, self.words, self.wanted, self.files, self.files_after, self.stdin)
+
+
+# A run, with its result or with what nothing disturbs.
+Run = Case | Undisturbed
 
 
 def undisturbed(line: str | Line, stdin: bytes = b"", *, name: str = "", clock: int | None = None,

@@ -6,8 +6,9 @@ What each reports as saved is there afterwards, and readers meanwhile see a whol
 import os
 import tempfile
 import threading
-from dataclasses import dataclass
+from contextlib import suppress
 from functools import partial
+from pathlib import Path
 from random import Random
 
 from makers.images import Entry, keytab
@@ -63,17 +64,13 @@ class Storm:
     def look(self, path: str, is_over: threading.Event) -> None:
         """Reads the file repeatedly until all programs have ended."""
         while not is_over.wait(0.0002):
-            try:
-                with open(path, "rb") as file:
-                    self.seen.add(file.read())
-            except FileNotFoundError:
-                pass
+            with suppress(FileNotFoundError):
+                self.seen.add(Path(path).read_bytes())
 
     def rage(self, folder: str) -> None:
         """Lets the programs run to their ends, and reads the file meanwhile."""
         is_over = threading.Event()
-        looks = threading.Thread(target=self.look, args=(os.path.join(folder, "k"), is_over),
-                                 daemon=True)
+        looks = threading.Thread(target=self.look, args=(os.path.join(folder, "k"), is_over), daemon=True)
         looks.start()
         rage(self.runs, self.random, self.kind.with_mit)
         is_over.set()
@@ -118,15 +115,8 @@ def check_kinds(kinds: tuple[Kind, ...], report: Report, program: str, seeds: ra
                 report.check(f"{kind}, round {seed}", storm(program, kind, seed).found[:3])
 
 
-@dataclass(frozen=True)
-class Storms(Rounds):
-    """Storms of some kinds, under a name."""
-
-    name: str = ""
-
-
 # Storms in which no keytab is copied, and those in which some are; of hold; and those in which some runs save in place
 # and others replace the file, and some of those that replace it are killed.
-TOPICS = tuple(Storms(partial(check_kinds, kinds), usual=usual, share=2_000, name=f"{what}_at_once")
+TOPICS = tuple(Rounds(partial(check_kinds, kinds), usual=usual, share=2_000, name=f"{what}_at_once")
                for what, kinds, usual in (("changes", KINDS, 2), ("copies", COPIES, 2), ("holds", HOLDS, 1),
                                           ("places", PLACES, 1)))

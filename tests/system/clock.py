@@ -7,12 +7,9 @@ from itertools import chain, product
 
 from keytabs.ktutil_lines import ADDENT, KEY, TIMES
 from keytabs.removals import FOUR, X, versioned
-from makers.cache_images import cache, offset
-from makers.images import keytab
-from makers.usual_caches import OFFSET, PA_TYPE, TICKET, USUAL
-from runs.harness import Case, Outcome, Report, faults_of, message
-from runs.preload import preloaded
-from runs.rows import BAD_LINE, over, text, words_of
+from makers.images import OFFSET, PA_TYPE, TICKET, USUAL, cache, keytab, offset
+from runs.harness import BAD_LINE, Case, Outcome, Report, faults_of, message, over, text, words_of
+from runs.system_calls import preloaded
 from words.phrases import CLOCK
 
 # A run, and the settings of its clock.
@@ -117,7 +114,7 @@ def known() -> Iterator[Row]:
 
 def check(report: Report, program: str) -> None:
     """Makes each run."""
-    with preloaded(report, program, "the clock", {}) as under:
-        for case, setting in chain(expired(), aged(), valid(), unread(), known()) if under else ():
-            got = under.run(case, **setting)
-            report.check(case.name, faults_of(case, got.outcome, got.files))
+    under = preloaded(report, program, "the clock")
+    for case, setting in chain(expired(), aged(), valid(), unread(), known()) if under else ():
+        got = under.run(case, **setting)
+        report.check(case.name, faults_of(case, got.outcome, got.files))

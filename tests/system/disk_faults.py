@@ -10,13 +10,11 @@ from itertools import chain, product
 
 from makers.images import B, TWO, keytab
 from runs.commands import NEW, OLD, SCRIPT
-from runs.harness import Case, Outcome, Report, differences, folder_of, message
-from runs.preload import Line
-from runs.rows import printed
-from runs.system_calls import check_traced, traced, under_strace
-from runs.terminal import EXPLAIN
-from system.placing import explained
-from system.saving import (GROUP, SAVED, UNREAD, UNSAVED, USER, Owned, Place, at, check_over, tree_faults, write)
+from runs.harness import EXPLAIN, Case, Outcome, Report, differences, every, folder_of, message, printed
+from runs.system_calls import traced, under_strace
+from runs.undisturbed import undisturbed
+from system.saving import (GROUP, SAVED, UNREAD, UNSAVED, USER, Owned, Place, at, check_over, explained, tree_faults,
+                           write)
 from words.phrases import CAUSES
 
 # The calls that look at a path, and that open it, whichever the system has.
@@ -62,7 +60,7 @@ def check_handles(report: Report, program: str) -> None:
         with folder_of({}) as folder:
             os.mkdir(os.path.join(folder, "d"))
             write(os.path.join(folder, "d", "k"), TWO)
-            outcome, trace = traced("sh", Line(("-c", script, program)), folder)
+            outcome, trace = traced("sh", undisturbed(("-c", script, program)), folder)
             faults = differences(wanted, outcome) + tree_faults({"d": "d", "d/k": keytab(47, B)}, folder)
         faults += [] if SYNCED.search("\n".join(trace)) else ["the folder is not synced"]
         handles = [int(found[1]) for found in map(WRITTEN.match, trace) if found]
@@ -136,6 +134,4 @@ def check_rows(report: Report, program: str) -> None:
         check_over(report, "strace", under_strace(program, case, *options), *places, left=left)
 
 
-def check(report: Report, program: str) -> None:
-    """Runs this topic."""
-    check_traced(report, program, "system calls that fail", check_handles, check_rows)
+check = every(check_handles, check_rows, of="system calls that fail", needs=("strace",))

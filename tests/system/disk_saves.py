@@ -7,14 +7,11 @@ from itertools import product
 
 from makers.images import B, HOST, TWO, keytab
 from runs.commands import CHANGES, CLASH, LEAVES, MAKES, NEW, OLD, READS, SAVING, SCRIPT, WALK, Run, copies, file_of
-from runs.harness import Case, Outcome, Report, differences, folder_of, message, run
-from runs.rows import Line, printed, words_of
-from runs.terminal import EXPLAIN
+from runs.harness import EXPLAIN, Case, Line, Outcome, Report, differences, folder_of, message, printed, run, words_of
 from runs.undisturbed import IN_PLACE, in_place, undisturbed
 from system.pipe_files import fed
-from system.placing import PLACED, explained
-from system.saving import (ADD, GROUP, SAVED, UNREAD, UNSAVED, USER, Owned, Place, as_another, as_user, at, check_over,
-                           faults_over, link, tree_faults, unsaved, write)
+from system.saving import (ADD, GROUP, PLACED, SAVED, UNREAD, UNSAVED, USER, Owned, Place, as_another, as_user, at,
+                           check_over, explained, faults_over, link, tree_faults, unsaved, write)
 from words.phrases import CAUSES
 
 # Runs that change a file: the last one copies over a file of no bytes.
@@ -225,7 +222,6 @@ def check_pipe(report: Report, program: str) -> None:
 
 
 def check(report: Report, program: str) -> None:
-    """Runs this topic."""
     for each in (check_new_files, check_own_files, check_others_files, check_hard_links, check_removed,
                  check_locked_folder, check_pipe):
         each(report, program)

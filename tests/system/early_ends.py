@@ -4,8 +4,7 @@ from collections.abc import Iterator
 from dataclasses import dataclass, replace
 from functools import cached_property
 
-from runs.harness import Case, Outcome, message
-from runs.terminal import EXPLAIN
+from runs.harness import EXPLAIN, Case, Outcome, message
 from runs.undisturbed import Undisturbed
 
 NO_MEMORY = message(4, "out of memory")

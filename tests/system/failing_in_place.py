@@ -9,17 +9,14 @@ from functools import partial
 
 from makers.images import B, HOST, keytab
 from runs.commands import file_of
-from runs.harness import Case, Outcome, Report, differences
-from runs.rows import shown
-from runs.system_calls import Call, calls_of, check_traced, under_strace
-from runs.terminal import EXPLAIN
+from runs.harness import EXPLAIN, Case, Outcome, Report, differences, every, shown
+from runs.system_calls import Call, calls_of, under_strace
 from runs.undisturbed import IN_PLACE, Undisturbed, in_place, undisturbed
 from runs.undisturbed import explained as with_words
 from system.early_ends import Ends
 from system.failing_system_calls import (PRINT, READ, Step, calls_of_run, check_failure, held, killed, listed, lock,
                                          looked, needed, traced_run)
-from system.placing import CUT_OFF, EQUAL, LONGER, MIXED, SHORTER, explained, images, message_of
-from system.saving import check_over, unsaved
+from system.saving import CUT_OFF, EQUAL, LONGER, MIXED, SHORTER, check_over, explained, images, message_of, unsaved
 from words.phrases import AFTERMATHS, CAUSES
 
 # The place from which a call writes, or cuts.
@@ -147,7 +144,5 @@ def check_kills(report: Report, program: str) -> None:
                     program, placed, call, partial(faults_of_kill, placed)))
 
 
-def check(report: Report, program: str) -> None:
-    """Runs this topic."""
-    check_traced(report, program, "system calls of saves in place that fail", check_failures, check_talk,
-                 check_steps, check_kills)
+check = every(check_failures, check_talk, check_steps, check_kills, of="system calls of saves in place that fail",
+              needs=("strace",))

@@ -12,16 +12,16 @@ from random import Random
 
 from runs.commands import COMMANDS, NOW, SAVING, large_runs, small_runs
 from runs.harness import Report, differences, message
-from runs.preload import MOST_CALLS, WHOLE, Preloaded, preloaded
+from runs.system_calls import Preloaded, preloaded
 from runs.random_runs import Rounds
 from runs.undisturbed import IN_PLACE
 from system.early_ends import End, Ends, Stage
-from system.placing import told
+from system.saving import told
 
 ERRORS = (EINTR, EAGAIN, ENOSPC, ENOMEM, EACCES)
 
-# How few bytes one read or write moves.
-FEW = 60
+# More calls of one kind than any run makes, more bytes than any read or write moves, and few.
+MOST_CALLS, WHOLE, FEW = 10_000, 1_000_000, 60
 
 NO_OUTPUT = message(3, "cannot write output")
 
@@ -58,9 +58,8 @@ def are_met(ends: Ends, setting: str, given: int, end: End) -> bool:
     return end in ends.of_saves if setting in ("FAIL_SAVE", "ZERO_SAVE") else ends_in_output(ends, end)
 
 
-def faults_of_call(
-    under: Preloaded, ends: Ends, setting: str, nth: int, most: int, error: int
-) -> tuple[list[str], bool]:
+def faults_of_call(under: Preloaded, ends: Ends, setting: str, nth: int, most: int,
+                   error: int) -> tuple[list[str], bool]:
     """Returns the faults of a run where that call fails, and whether it was made."""
     got = under.run(ends.run, CLOCK=NOW, **{setting: nth, "MOST": most, "ERROR": error})
     end, is_made = (got.outcome, got.files), bool(got.failures)
@@ -91,30 +90,27 @@ def check_few_bytes(report: Report, under: Preloaded, ends: Ends, most: int) -> 
 
 
 def check(report: Report, program: str) -> None:
-    """Runs this topic."""
-    with preloaded(report, program, "failing streams", {}) as under:
-        if under is None:
-            return
-        for run, ways in (*product(small_runs(), [OF_SMALL]), *product(large_runs(), [OF_LARGE])):
-            ends = Ends(run)
-            for setting in settings(ends.command):
-                check_setting(report, under, ends, setting, ways)
-            for most in (1, 7, 4_095):
-                check_few_bytes(report, under, ends, most)
+    under = preloaded(report, program, "failing streams")
+    for run, ways in (*product(small_runs(), [OF_SMALL]), *product(large_runs(), [OF_LARGE])) if under else ():
+        ends = Ends(run)
+        for setting in settings(ends.command):
+            check_setting(report, under, ends, setting, ways)
+        for most in (1, 7, 4_095):
+            check_few_bytes(report, under, ends, most)
 
 
 def check_rounds(report: Report, program: str, seeds: range) -> None:
     """Lets calls fail that the seeds choose, of runs over larger files too."""
-    with preloaded(report, program, "failing streams", {}) as under:
-        those = [*small_runs(), *large_runs()] if under else []
-        for seed in seeds if under else ():
-            random = Random(seed)
-            ends = Ends(random.choice(those))
-            setting, error = random.choice(settings(ends.command)), random.choice(ERRORS)
-            nth, most = int(2 ** random.uniform(0, 7)), int(2 ** random.uniform(0, 17))
-            faults, _ = faults_of_call(under, ends, setting, nth, most, error)
-            name = f"{setting} {errorcode[error]}, at most {most} bytes, number {seed}"
-            report.check(f"{name}: {ends.run.name}", faults)
+    under = preloaded(report, program, "failing streams")
+    those = [*small_runs(), *large_runs()] if under else []
+    for seed in seeds if under else ():
+        random = Random(seed)
+        ends = Ends(random.choice(those))
+        setting, error = random.choice(settings(ends.command)), random.choice(ERRORS)
+        nth, most = int(2 ** random.uniform(0, 7)), int(2 ** random.uniform(0, 17))
+        faults, _ = faults_of_call(under, ends, setting, nth, most, error)
+        name = f"{setting} {errorcode[error]}, at most {most} bytes, number {seed}"
+        report.check(f"{name}: {ends.run.name}", faults)
 
 
 check_long = Rounds(check_rounds, share=4).check_long

@@ -13,14 +13,13 @@ from itertools import product
 
 from makers.images import B, TWO, keytab
 from runs.commands import CHANGES, MAKES, READS, file_of
-from runs.harness import Outcome, Report, differences, files_in, folder_of
-from runs.system_calls import Call, calls_of, check_traced, traced
+from runs.harness import Outcome, Report, differences, every, files_in, folder_of
+from runs.system_calls import Call, calls_of, traced
 from runs.undisturbed import IN_PLACE, Undisturbed, in_place, undisturbed
 from runs.undisturbed import explained as with_words
 from system.early_ends import End, Ends
 from system.failing_streams import NO_OUTPUT, ends_in_output
-from system.placing import explained, images, told
-from system.saving import ADD, UNREAD, UNSAVED, run_over, tree, tree_faults, write
+from system.saving import ADD, UNREAD, UNSAVED, explained, images, run_over, told, tree, tree_faults, write
 from words.phrases import CAUSES
 
 ERRORS = ("EIO", "ENOSPC", "EACCES", "EPERM", "EINTR", "ENOMEM")
@@ -293,6 +292,4 @@ def check_links(report: Report, program: str) -> None:
             report.check(f"{call} fails with {error}, at a link: {run.name}", faults_at_link(program, run, call, error))
 
 
-def check(report: Report, program: str) -> None:
-    """Runs this topic."""
-    check_traced(report, program, "system calls that fail", check_runs, check_links)
+check = every(check_runs, check_links, of="system calls that fail", needs=("strace",))

@@ -9,11 +9,11 @@ from dataclasses import replace
 
 from makers.images import TWO
 from runs.commands import CHANGES, LEAVES, OLD, READS, SAVING, SCRIPT, Run, both_ways, file_of
-from runs.harness import Case, Report, differences, faults_of, files_in, folder_of, run
-from runs.system_calls import Halt, check_traced, halted, traced, under_strace
+from runs.harness import Case, Report, differences, every, faults_of, files_in, folder_of, run
+from runs.system_calls import Halt, halted, traced, under_strace
 from runs.undisturbed import IN_PLACE, Undisturbed, in_place, undisturbed
-from system.placing import EQUAL, LONGER, PLACED, SHORTER, refused, with_words
-from system.saving import ADD, B_OLD, check_over, stands, tree_faults
+from system.saving import (ADD, B_OLD, EQUAL, LONGER, PLACED, SHORTER, check_over, refused, stands, tree_faults,
+                           with_words)
 from system.waits import AT_ONCE, LEAST_WAIT, LONGEST_WAIT, RUNS, faults_of_waiting, ofd_lock
 
 # Runs that change a file, that have nothing to save, and that take no lock, in both ways if there are two.
@@ -58,9 +58,8 @@ def check_waits(report: Report, program: str) -> None:
     rows += [(case, lock, file_of(case)) for case in CHANGES for lock in (TO_WRITE, OPEN_WRITE, PART)]
     rows += [(case, FLOCK, f"{file_of(case)}.krbfile") for case in CHANGES]
     with ThreadPoolExecutor(RUNS) as pool:
-        found = [pool.submit(waited_for, program, *row) for row in rows]
-    for (case, lock, name), faults in zip(rows, found):
-        report.check(f"{lock} of {name} is waited for: {case.name}", faults.result())
+        for (case, lock, name), faults in zip(rows, pool.map(lambda row: waited_for(program, *row), rows)):
+            report.check(f"{lock} of {name} is waited for: {case.name}", faults)
 
 
 def ended_beside(program: str, case: Run, lock: str, file: str) -> tuple[list[str], float]:
@@ -112,9 +111,8 @@ def check_given_up(report: Report, program: str) -> None:
     rows = [(case, file_of(case)) for case in (*BOTH_WAYS, *LEAVING[:2])]
     rows += map(beside, (*CHANGES, *LEAVES))
     with ThreadPoolExecutor(len(rows)) as pool:
-        found = [pool.submit(gives_up, program, case, file) for case, file in rows]
-    for (case, file), faults in zip(rows, found):
-        report.check(f"a flock of {file} that stays: {case.name}", faults.result())
+        for (case, file), faults in zip(rows, pool.map(lambda row: gives_up(program, *row), rows)):
+            report.check(f"a flock of {file} that stays: {case.name}", faults)
 
 
 def check_without(report: Report, program: str) -> None:
@@ -191,9 +189,5 @@ def check_held_to_end(report: Report, program: str) -> None:
                      faults_of_halt(program, case, halt, is_held))
 
 
-def check(report: Report, program: str) -> None:
-    """Runs this topic."""
-    check_waits(report, program)
-    check_no_waits(report, program)
-    check_given_up(report, program)
-    check_traced(report, program, "locks of files", check_without, check_other_handle, check_held_to_end)
+check = every(check_waits, check_no_waits, check_given_up,
+              every(check_without, check_other_handle, check_held_to_end, of="locks of files", needs=("strace",)))

@@ -9,19 +9,16 @@ import subprocess
 from contextlib import suppress
 from dataclasses import replace
 from itertools import product
+from pathlib import Path
 from shlex import quote
 
-from makers.images import HOST, TWO, Entry, keytab
-from makers.usual_caches import USUAL
+from makers.images import HOST, TWO, USUAL, Entry, keytab
 from runs.commands import CHANGES, COMMANDS, LEAVES, NEW, OLD, READS, SAVING, SCRIPT, Run, file_of, renamed
-from runs.harness import Case, Report, differences, faults_of, files_in, folder_of, run
-from runs.limits import limit
-from runs.namespaces import can_mount, mounted, run_within
-from runs.terminal import EXPLAIN
+from runs.harness import EXPLAIN, Case, Report, differences, every, faults_of, files_in, folder_of, limit, run
+from runs.namespaces import mounted, no_mounts, run_within
 from runs.undisturbed import IN_PLACE, Undisturbed, in_place, undisturbed
-from system.placing import EQUAL, LONGER, MIXED, PLACED, explained, kept, refused, with_words
-from system.saving import (ADD, B_OLD, GROUP, LINES, UNSAVED, USER, Owned, as_another, at, check_over, faults_over,
-                           tree_faults, write)
+from system.saving import (ADD, B_OLD, EQUAL, GROUP, LINES, LONGER, MIXED, PLACED, UNSAVED, USER, Owned, as_another, at,
+                           check_over, explained, faults_over, kept, refused, tree_faults, with_words, write)
 from words.explaining import FINDS_NONE, Explained, copy, no_keytab, unchanged
 from words.phrases import AFTERMATHS, BEGINS_AS_CACHE, CAUSES, LEAVE_OUT, NOT_READ, code, line_fault
 
@@ -95,8 +92,6 @@ def check_set_id(report: Report, program: str) -> None:
 
 def check_mounted(report: Report, program: str) -> None:
     """Checks a file over which another is mounted: that one is saved in place, and cannot be replaced."""
-    if not can_mount(report, "files that are mounted, saved in place"):
-        return
     for case in (EQUAL, MIXED):
         for row in (refused(case, "EBUSY"), with_words(in_place(case))):
             one = Case(f"a mount over the file: {row.name}", row.words, row.wanted,
@@ -160,18 +155,16 @@ def check_sparse(report: Report, program: str) -> None:
         if not is_mounted:
             report.skip("a sparse file on a full disk", "none can be mounted")
             return
-        path, fill = os.path.join(folder, "k"), os.path.join(folder, "fill")
-        write(path, SPARSE[:SPARSE_FROM])
-        with open(path, "r+b") as file:
-            file.truncate(len(SPARSE))
+        path, fill = Path(folder, "k"), Path(folder, "fill")
+        path.write_bytes(SPARSE[:SPARSE_FROM])
+        os.truncate(path, len(SPARSE))
         with suppress(OSError), open(fill, "wb", buffering=0) as file:
             while file.write(bytes(4096)):
                 pass
-        os.truncate(fill, os.path.getsize(fill) - ROOM)
+        os.truncate(fill, fill.stat().st_size - ROOM)
         got = run(program, (EXPLAIN, "ktedit", IN_PLACE, "k"), folder, INTO_BOTH)
         faults = differences(explained(UNSAVED, CAUSES["ENOSPC"], AFTERMATHS["restored"]), got)
-        with open(path, "rb") as file:
-            faults += [] if file.read() == SPARSE else ["the old bytes are not back"]
+        faults += [] if path.read_bytes() == SPARSE else ["the old bytes are not back"]
     report.check("a sparse file on a full disk", faults)
 
 
@@ -222,7 +215,5 @@ def check_all_kept(report: Report, program: str) -> None:
         check_kept(report, program, case, attributes)
 
 
-def check(report: Report, program: str) -> None:
-    """Runs this topic."""
-    for each in (check_missing, check_all_kept, check_set_id, check_mounted, check_disks, check_limit, check_sparse):
-        each(report, program)
+check = every(check_missing, check_all_kept, check_set_id, check_disks, check_limit, check_sparse,
+              every(check_mounted, of="files that are mounted, saved in place", lack=no_mounts))

@@ -8,15 +8,13 @@ from itertools import product
 
 from keytabs.file_names import LIMIT, sized
 from keytabs.listings import B_LINE, HOST_LINE, listed
-from makers.images import B, BIG, HOST, TWO, Entry, keytab, old, record
-from makers.usual_caches import USUAL, VERSION_3
-from runs.harness import SECONDS, Case, Outcome, Report, differences, folder_of, run
-from runs.terminal import EXPLAIN, all_of
+from makers.images import B, BIG, HOST, TWO, USUAL, VERSION_3, Entry, keytab, old, record
+from runs.harness import EXPLAIN, SECONDS, Case, Outcome, Report, differences, every, folder_of, run
+from runs.terminal import run_on_terminal
 from runs.undisturbed import IN_PLACE, frame
 from system.failing_streams import NO_OUTPUT
 from system.file_locks import is_locked
-from system.placing import explained
-from system.saving import as_another, check_over, stands, tree_faults
+from system.saving import as_another, check_over, explained, stands, tree_faults
 from words.explaining import CUT_CACHE, Explained, case, failed, in_the_way, link, no_keytab, unchanged
 from words.phrases import (BAD_DEFAULT, BAD_HEADER, BEGINS_AS_CACHE, BEGINS_AS_NO_CACHE, BEGINS_AS_NO_KEYTAB, CAUSES,
                            GIVEN_DAMAGED, HELD_AS_KEYTAB, LARGE, NOT_WHOLE, SHORT, TO_A_PROGRAM, code)
@@ -43,8 +41,8 @@ def given(line: str, image: bytes | None, data: bytes, *output: tuple[str, str],
                 out=frame(NONE if image is None else image), after={} if left is None else {"k": left}, **more)
 
 
-# A hold that leaves its file as it is, or none, prints nothing, and ends with status 1.
-refused = partial(unchanged, stdin=EMPTY)
+# A hold that leaves its file as it is, or none, prints nothing, and ends with status 1. And the message about no cache.
+refused, no_cache = partial(unchanged, stdin=EMPTY), partial(no_keytab, kind="cache")
 
 
 def unsaved(line: str, cause: str, image: bytes | None = TWO, **more) -> Explained:
@@ -52,11 +50,6 @@ def unsaved(line: str, cause: str, image: bytes | None = TWO, **more) -> Explain
     name = line.split()[-1]
     return failed(tuple(line.split()), "write", cause, image, file=name, out=b"", stdin=EMPTY,
                   after={} if image is None else {name: image}, **more)
-
-
-def no_cache(why: tuple[int, str], name: str = "k") -> tuple[str, str]:
-    """Returns the message about a file, or an input, that is no cache."""
-    return f"{name}: not a cache ({why[0]})", why[1]
 
 
 def damaged(fault: int, place: int) -> tuple[str, str]:
@@ -146,34 +139,25 @@ def check_outputs(report: Report, program: str) -> None:
                     replace(explained(NO_OUTPUT, CAUSES["ENOSPC"]), out=EMPTY), {"k": TWO}, stdin=EMPTY)
         check_over(report, "sh", case)
     for files in ({}, {"k": b"other"}, LEFT):
-        ours, theirs = os.openpty()
         with folder_of(files) as folder:
-            got = run(program, (EXPLAIN, *K.split()), folder, EMPTY, stdout=theirs)
-            os.close(theirs)
-            faults = differences(explained(NO_OUTPUT, TO_A_PROGRAM), replace(got, out=all_of(ours)))
-            faults += tree_faults(files, folder)
-        os.close(ours)
+            got = run_on_terminal(program, (EXPLAIN, *K.split()), folder, EMPTY, "stdout")
+            faults = differences(explained(NO_OUTPUT, TO_A_PROGRAM), got) + tree_faults(files, folder)
         report.check(f"a terminal, and {[*files]}", faults)
 
 
-def check_lasts(report: Report, program: str, *options: str) -> None:
+def check_lasts(report: Report, program: str) -> None:
     """Checks that the file is locked until the input ends, and not any more then, and that listings go on."""
-    with folder_of({"k": TWO}) as folder, subprocess.Popen(
-            [program, "hold", *options, "-k", "k"], cwd=folder, stdin=subprocess.PIPE, stdout=subprocess.PIPE) as held:
-        path = os.path.join(folder, "k")
-        faults = [] if held.stdout.read(len(frame(TWO))) == frame(TWO) else ["no frame"]
-        faults += [] if is_locked(path) else ["not locked"]
-        faults += differences(Outcome(0, listed(HOST_LINE, B_LINE)), run(program, ("klist", "-k", "k"), folder))
-        rest, _ = held.communicate(frame(keytab(B)), timeout=SECONDS)
-        faults += [] if (held.returncode, rest) == (0, b"") else [f"status {held.returncode}, {rest!r}"]
-        faults += tree_faults({"k": keytab(B)}, folder) + ["still locked"] * is_locked(path)
-    report.check(f"a hold lasts {options}", faults)
+    for line in (K, PLACED):
+        with folder_of({"k": TWO}) as folder, subprocess.Popen(
+                [program, *line.split()], cwd=folder, stdin=subprocess.PIPE, stdout=subprocess.PIPE) as held:
+            path = os.path.join(folder, "k")
+            faults = [] if held.stdout.read(len(frame(TWO))) == frame(TWO) else ["no frame"]
+            faults += [] if is_locked(path) else ["not locked"]
+            faults += differences(Outcome(0, listed(HOST_LINE, B_LINE)), run(program, ("klist", "-k", "k"), folder))
+            rest, _ = held.communicate(frame(keytab(B)), timeout=SECONDS)
+            faults += [] if (held.returncode, rest) == (0, b"") else [f"status {held.returncode}, {rest!r}"]
+            faults += tree_faults({"k": keytab(B)}, folder) + ["still locked"] * is_locked(path)
+        report.check(f"a hold lasts: {line}", faults)
 
 
-def check(report: Report, program: str) -> None:
-    """Runs this topic."""
-    check_left(report, program)
-    check_locked(report, program)
-    check_outputs(report, program)
-    check_lasts(report, program)
-    check_lasts(report, program, IN_PLACE)
+check = every(check_left, check_locked, check_outputs, check_lasts)

@@ -7,16 +7,14 @@ import os
 from itertools import product
 
 from runs.commands import OLD, SCRIPT, Run
-from runs.harness import Report, differences, folder_of
-from runs.preload import Counted, Line, Preloaded, preloaded
-from runs.terminal import EXPLAIN
-from runs.undisturbed import in_place
+from runs.harness import EXPLAIN, Report, differences, folder_of
+from runs.system_calls import Counted, Preloaded, preloaded
+from runs.undisturbed import in_place, undisturbed
 from system.failing_system_calls import READINGS
-from system.placing import EQUAL, explained
-from system.saving import ADD, UNSAVED
+from system.saving import ADD, EQUAL, UNSAVED, explained
 from words.phrases import CAUSES
 
-LINE = Line((EXPLAIN, "ktedit", "k"), SCRIPT, {"k": OLD})
+ADDING = undisturbed(f"{EXPLAIN} ktedit k", SCRIPT, k=OLD)
 
 
 def lock(file: str, kind: str = "POSIX  ADVISORY  WRITE 12") -> bytes:
@@ -66,16 +64,16 @@ ENDS = (
 
 
 def seen(under: Preloaded, lists: dict[str, bytes | None], pace: int = 0, is_taken: bool = False,
-         line: Line | Run = LINE) -> Counted:
+         one: Run = ADDING) -> Counted:
     """Makes a run to which the system shows those lists, and by whose clock time passes in that way."""
     lists = {"locks": b"", "fdinfo": OPEN_FILE, "mountinfo": MOUNTS, **lists}
     there = {name: data for name, data in lists.items() if data is not ENDLESS}
-    with folder_of(there) as proc, folder_of(line.files) as folder:
+    with folder_of(there) as proc, folder_of(one.files) as folder:
         for name in lists.keys() - there.keys():
             os.symlink("/dev/zero", os.path.join(proc, name))
         if is_taken:
             os.mkdir(os.path.join(folder, "k.krbfile"))
-        return under.run_in(folder, line, PROC=proc, PACE=pace)
+        return under.run_in(folder, one, PROC=proc, PACE=pace)
 
 
 def faults_of_save(got: Counted, is_waited: bool, case: Run = ADD) -> list[str]:
@@ -90,7 +88,7 @@ def check_readings(report: Report, under: Preloaded) -> None:
     for case, looks, locks in LOOKS:
         for lock in locks:
             for nth in range(1, looks * READINGS + 2):
-                faults = faults_of_save(seen(under, {str(nth): lock}, line=case), nth <= looks * READINGS, case)
+                faults = faults_of_save(seen(under, {str(nth): lock}, one=case), nth <= looks * READINGS, case)
                 report.check(f"a lock to {lock.split()[3].decode()} in reading {nth}: {case.name}", faults)
     got = seen(under, {str(2 * READINGS): ENDLESS})
     report.check("a list without an end, once", faults_of_save(got, True))
@@ -126,7 +124,6 @@ def check_two_waits(report: Report, under: Preloaded) -> None:
 
 
 def check(report: Report, program: str) -> None:
-    """Runs this topic."""
-    with preloaded(report, program, "lists of locks", {}) as under:
-        for each in (check_readings, check_lines, check_ends, check_two_waits) if under else ():
+    if under := preloaded(report, program, "lists of locks"):
+        for each in (check_readings, check_lines, check_ends, check_two_waits):
             each(report, under)

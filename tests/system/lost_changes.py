@@ -13,14 +13,12 @@ from typing import BinaryIO
 from makers.images import B, HOST, keytab
 from runs.commands import CHANGES as CHANGES_OF_ALL
 from runs.commands import file_of
-from runs.harness import Case, Report, differences, folder_of
-from runs.rows import shown
-from runs.system_calls import Halt, check_traced, halted
-from runs.terminal import EXPLAIN
+from runs.harness import EXPLAIN, Case, Report, differences, every, folder_of, shown
+from runs.system_calls import Halt, halted
 from runs.undisturbed import Undisturbed, in_place, undisturbed
 from system.failing_system_calls import READINGS
-from system.placing import CUT_OFF, EQUAL, LONGER, MIXED, SHORTER, explained, images, message_of, told, with_words
-from system.saving import ADD, tree_faults, unsaved
+from system.saving import (ADD, CUT_OFF, EQUAL, LONGER, MIXED, SHORTER, explained, images, message_of, told,
+                           tree_faults, unsaved, with_words)
 from words.phrases import AFTERMATHS, CAUSES
 
 # A run of each command, and lines of ktutil of which the last ones are at fault and refused.
@@ -50,13 +48,6 @@ CHANGES: dict[str, tuple[Change, bool]] = {
     "the same bytes": (lambda file: file.write(b"\x05"), False),
 }
 ADD_MORE, _ = CHANGES["bytes at the end"]
-
-
-def changed_while(program: str, case: Case, halt: Halt, change: Change) -> list[str]:
-    """Returns the faults of a run while which another program changes the file by a handle that it has."""
-    with folder_of(case.files) as folder, open(os.path.join(folder, file_of(case)), "r+b", buffering=0) as file:
-        got = halted(program, case, folder, halt, lambda folder: change(file))
-        return differences(case.wanted, got) + tree_faults(case.files_after, folder)
 
 
 def both_ways(case: Undisturbed, aftermath: str) -> list[Case]:
@@ -124,12 +115,12 @@ def of_later() -> Iterator[Row]:
 
 
 def check_rows(report: Report, program: str) -> None:
-    """Checks each of those runs."""
+    """Makes each of those runs while which another program changes the file by a handle that it has."""
     for case, halt, change in chain(of_each(), of_kinds(), of_refused(), of_later()):
-        name = f"{shown(case.words)} behind {halt.calls} {halt.nth}, {case.wanted.err}: {case.name}"
-        report.check(name, changed_while(program, case, halt, change))
+        with folder_of(case.files) as folder, open(os.path.join(folder, file_of(case)), "r+b", buffering=0) as file:
+            got = halted(program, case, folder, halt, lambda _, change=change, file=file: change(file))
+            faults = differences(case.wanted, got) + tree_faults(case.files_after, folder)
+        report.check(f"{shown(case.words)} behind {halt.calls} {halt.nth}, {case.wanted.err}: {case.name}", faults)
 
 
-def check(report: Report, program: str) -> None:
-    """Runs this topic."""
-    check_traced(report, program, "changes behind a comparison", check_rows)
+check = every(check_rows, of="changes behind a comparison", needs=("strace",))

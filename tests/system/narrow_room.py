@@ -9,13 +9,11 @@ import resource
 import subprocess
 from random import Random
 
-from caches import cache_files
-from caches import greatest_caches
+from caches import cache_files, greatest_caches
+from keytabs import copies, greatest
 from keytabs.file_names import LIMIT, sized
-from keytabs.greatest import cases, copies
 from runs.commands import CHANGES, COMMANDS, READS, SAVING, file_of
-from runs.harness import SECONDS, Case, Outcome, Report, faults_of, run_case
-from runs.limits import limit
+from runs.harness import SECONDS, Case, Outcome, Report, faults_of, limit, run_case
 from runs.random_runs import Rounds
 from runs.undisturbed import undisturbed
 from system.early_ends import NO_MEMORY
@@ -39,8 +37,7 @@ def is_early(case: Case, got: Outcome, after: dict[str, bytes]) -> bool:
     if got.status != NO_MEMORY.status or not got.err.endswith(NO_MEMORY.err):
         return False
     last = case.files_after or case.files
-    files_are_whole = all(after.get(name) in (case.files.get(name), last.get(name))
-                          for name in {*after, *last})
+    files_are_whole = all(after.get(name) in (case.files.get(name), last.get(name)) for name in {*after, *last})
     output = got.err.removesuffix(NO_MEMORY.err)
     is_front = case.wanted.out.startswith(got.out) and case.wanted.err.startswith(output)
     has_done_nothing = not got.out and after == case.files
@@ -49,7 +46,8 @@ def is_early(case: Case, got: Outcome, after: dict[str, bytes]) -> bool:
 
 def all_cases() -> list[Case]:
     """Returns the cases of keytabs, scripts and ktutil, and those of caches."""
-    return [*cases(), *cache_files.sizes(), *cache_files.large(), *greatest_caches.cases()]
+    return [*greatest.reads(), *greatest.edits(), *greatest.talks(), *cache_files.sizes(), *cache_files.large(),
+            *greatest_caches.reads(), *greatest_caches.edits()]
 
 
 def faults_in(program: str, case: Case, kind: int, most: int) -> list[str]:
@@ -78,13 +76,12 @@ def of_many() -> Case:
 
 
 def check(report: Report, program: str) -> None:
-    """Runs this topic."""
     for case, most in ((of_many(), ROOM), *((each, LIMIT) for each in without_room())):
         report.check(case.name, faults_of(case, *run_case(program, case, preexec_fn=limit(resource.RLIMIT_AS, most))))
     for case in all_cases():
         faults = faults_in(program, case, resource.RLIMIT_STACK, STACK)
         report.check(f"{case.name}, on a stack of 256 KB", faults)
-    for case in (*all_cases(), *copies()):
+    for case in (*all_cases(), *copies.of_many()):
         faults = faults_in(program, case, resource.RLIMIT_AS, SPACE)
         report.check(f"{case.name}, in 64 MB of memory", faults)
 

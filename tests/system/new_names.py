@@ -4,14 +4,13 @@ A stale file of a killed run is removed. Anything else stays as it is, and then 
 """
 
 import os
-from collections.abc import Callable, Iterator
+from collections.abc import Iterator
 from concurrent.futures import ThreadPoolExecutor
 
 from runs.commands import CHANGES, MAKES, NEW, OLD, SCRIPT, WALK, both_ways, file_of, renamed
-from runs.harness import Case, Report, message
-from runs.rows import printed
+from runs.harness import Case, Report, every, message, printed
 from runs.undisturbed import IN_PLACE, Undisturbed, in_place
-from system.saving import (ADD, SAVED, USER, as_another, at, check_over, faults_over, link, unsaved, write)
+from system.saving import ADD, SAVED, USER, Place, as_another, at, check_over, faults_over, link, unsaved, write
 from system.waits import RUNS
 from words.explaining import Explained, in_the_way_of, unchanged
 from words.phrases import CAUSES
@@ -19,10 +18,6 @@ from words.phrases import CAUSES
 # Another user who is not root.
 STRANGER = 1234
 
-NEW_FILE = "k.krbfile"
-
-# Makes something at a path.
-Make = Callable[[str], object]
 
 def own(path: str) -> str:
     """Returns the file whose new file has that path."""
@@ -35,13 +30,13 @@ def filled(path: str) -> None:
     write(os.path.join(path, "other"), b"other")
 
 
-def owned_by(owner: int, mode: int = 0o600) -> Make:
+def owned_by(owner: int, mode: int = 0o600) -> Place:
     """Returns a function that makes a file of that owner."""
     return lambda path: (write(path, b"strange", mode), os.chown(path, owner, -1))
 
 
 # What no killed run leaves.
-STRANGE: list[tuple[str, Make]] = [
+STRANGE: list[tuple[str, Place]] = [
     ("an empty folder", os.mkdir),
     ("a folder", filled),
     ("a link to a file", lambda path: os.symlink("other", path)),
@@ -54,7 +49,7 @@ STRANGE: list[tuple[str, Make]] = [
 ]
 
 
-def faults_beside(program: str, make: Make, owner: int | None, case: Undisturbed = ADD, mode: int = 0o777,
+def faults_beside(program: str, make: Place, owner: int | None, case: Undisturbed = ADD, mode: int = 0o777,
                   is_saved: bool = False, **options) -> list[str]:
     """Returns the faults of a run with something in place of its new file, in a folder of that mode. A save removes it,
     unless it is in place."""
@@ -70,7 +65,7 @@ def faults_beside(program: str, make: Make, owner: int | None, case: Undisturbed
 
 # What has the name of a new file, what makes it, who owns the file, if there is one, and how the run differs from one
 # that adds an entry and is refused.
-Row = tuple[str, Make, int | None, dict[str, object]]
+Row = tuple[str, Place, int | None, dict[str, object]]
 SAVES = {"is_saved": True}
 
 
@@ -113,15 +108,15 @@ def check_beside(report: Report, program: str) -> None:
     else:
         report.skip("new files of others", "none but root may make them, or start the program")
     with ThreadPoolExecutor(len(rows)) as pool:
-        found = [pool.submit(faults_beside, program, make, owner, **more) for _, make, owner, more in rows]
-    for (name, *_), faults in zip(rows, found):
-        report.check(f"{name} in the new file's place", faults.result())
+        found = pool.map(lambda row: faults_beside(program, row[1], row[2], **row[3]), rows)
+        for (name, *_), faults in zip(rows, found):
+            report.check(f"{name} in the new file's place", faults)
 
 
 # Names under which a file is saved, and is not; and those that a new file may have.
 LONGEST = "x" * (255 - len(".krbfile"))
 SAVED_AS, UNSAVED_AS = ("k", "./k", "k.krbfil", "krbfile", LONGEST), (f"{LONGEST}x", "no/k", "", "dangling")
-OWN_NAMES = (NEW_FILE, ".krbfile", "k.krbfile.krbfile", "./k.krbfile", "link")
+OWN_NAMES = ("k.krbfile", ".krbfile", "k.krbfile.krbfile", "./k.krbfile", "link")
 
 
 def check_places(report: Report, program: str) -> None:
@@ -136,7 +131,7 @@ def check_places(report: Report, program: str) -> None:
             check_over(report, program, case, link("link", "t.krbfile"), link("dangling", "no.krbfile"))
 
 
-def unsaved_as(run: Undisturbed, name: str, cause: str, setting: Make = lambda folder: None) -> Explained:
+def unsaved_as(run: Undisturbed, name: str, cause: str, setting: Place = lambda folder: None) -> Explained:
     """Returns a run over a file of another name, which is not saved for that cause."""
     one, line = renamed(run, name), "line 2: " * (run.words[0] == "ktutil")
     return unchanged(one.words, (f"{name}: cannot write", line + CAUSES[cause].replace("NAME", name)), files=one.files,
@@ -167,8 +162,4 @@ def check_names(report: Report, program: str) -> None:
             report.add(one)
 
 
-def check(report: Report, program: str) -> None:
-    """Runs this topic."""
-    check_beside(report, program)
-    check_places(report, program)
-    check_names(report, program)
+check = every(check_beside, check_places, check_names)

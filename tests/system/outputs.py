@@ -11,13 +11,13 @@ import socket
 import subprocess
 from dataclasses import replace
 from itertools import product
+from pathlib import Path
 
+from keytabs.conversations import stop
 from makers.images import B, HOST, TWO, Entry, keytab
 from runs.commands import CHANGES, COMMANDS, LEAVES, READS, both_ways, mixed_cache, mixed_keytab, small_runs
-from runs.harness import SECONDS, Outcome, Report, differences, folder_of, run, run_case
-from runs.limits import limit
-from runs.rows import shown, words_of
-from runs.terminal import EXPLAIN
+from runs.harness import (EXPLAIN, SECONDS, Outcome, Report, differences, every, folder_of, limit, run, run_case, shown,
+                          words_of)
 from runs.undisturbed import Undisturbed, undisturbed
 from system.early_ends import End, Ends
 from system.failing_streams import NO_OUTPUT, ends_in_output
@@ -67,8 +67,7 @@ def check_each_byte(report: Report, program: str, case: Undisturbed, stream: str
             with open(path, "wb") as file:
                 got = run(program, case.words, folder, case.stdin, preexec_fn=limit(resource.RLIMIT_FSIZE, most),
                           **{stream: file})
-            with open(path, "rb") as file:
-                got = replace(got, **{part: file.read()})
+            got = replace(got, **{part: Path(path).read_bytes()})
             report.compare(f"{stream} of {most} bytes: {case.name}", cut(case.wanted, part, most), got)
 
 
@@ -87,6 +86,14 @@ def check_closed_pipe(report: Report, program: str, taken: int, action: signal.H
             err = started.stderr.read()
             got = Outcome(started.wait(SECONDS), out, err)
     report.compare(f"pipe closed after {taken} bytes, {action.name}", cut(LONG.wanted, "out", taken), got)
+
+
+def check_stopped(report: Report, program: str) -> None:
+    """Stops klist while it waits for a reader of its output: it goes on as if nothing had happened."""
+    with folder_of(LONG.files) as folder, piped(program, LONG, folder) as started:
+        stop(started.pid)
+        out, err = started.communicate(timeout=SECONDS)
+    report.compare("klist is stopped and continued at a full pipe", LONG.wanted, Outcome(started.returncode, out, err))
 
 
 def is_met(ends: Ends, stream: str, end: End) -> bool:
@@ -159,8 +166,8 @@ def check_left(report: Report, program: str) -> None:
         report.compare(f"the input is left: {shown(words)}", Outcome(status, GIVEN), got)
 
 
-def check(report: Report, program: str) -> None:
-    """Runs this topic."""
+def check_cut(report: Report, program: str) -> None:
+    """Cuts outputs and messages at each byte, and listings in a pipe."""
     before = os.umask(0o077)
     try:
         for one in CUT:
@@ -169,9 +176,8 @@ def check(report: Report, program: str) -> None:
             check_each_byte(report, program, one, "stderr", "err")
     finally:
         os.umask(before)
-    for action in (signal.SIG_DFL, signal.SIG_IGN):
-        for taken in (0, 1, 20, 1000, 70_000):
-            check_closed_pipe(report, program, taken, action)
-    check_lost(report, program)
-    check_pieces(report, program)
-    check_left(report, program)
+    for action, taken in product((signal.SIG_DFL, signal.SIG_IGN), (0, 1, 20, 1000, 70_000)):
+        check_closed_pipe(report, program, taken, action)
+
+
+check = every(check_cut, check_stopped, check_lost, check_pieces, check_left)

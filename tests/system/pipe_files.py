@@ -9,8 +9,7 @@ from contextlib import contextmanager, suppress
 from itertools import product
 
 from runs.commands import CHANGES, OLD, file_of, renamed
-from runs.harness import Outcome, Report, differences, folder_of, run
-from runs.terminal import EXPLAIN
+from runs.harness import EXPLAIN, Outcome, Report, differences, folder_of, run
 from runs.undisturbed import IN_PLACE, Undisturbed
 from system.saving import tree_faults
 from words.phrases import CAUSES
@@ -58,6 +57,5 @@ def check_name(report: Report, program: str, case: Undisturbed, name: str) -> No
 
 
 def check(report: Report, program: str) -> None:
-    """Runs this topic."""
     for case, name in product(CHANGES, (*PIPES, *OTHERS)):
         check_name(report, program, case, name)

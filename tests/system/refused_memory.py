@@ -10,15 +10,11 @@ from collections.abc import Callable, Iterable
 from dataclasses import replace
 from random import Random
 
-from makers.cache_images import cache
-from makers.images import HOST, TWO, keytab
-from makers.usual_caches import TICKET
+from makers.images import HOST, TICKET, TWO, cache, keytab
 from runs.commands import COMMANDS, NOW, at_now, large_runs, rotated_keytab, small_runs
-from runs.harness import Outcome, Report, differences
-from runs.preload import Counted, Preloaded, preloaded
+from runs.harness import EXPLAIN, Outcome, Report, differences, words_of
+from runs.system_calls import Counted, Preloaded, preloaded
 from runs.random_runs import Rounds
-from runs.rows import words_of
-from runs.terminal import EXPLAIN
 from system.early_ends import NO_MEMORY, Ends
 
 # How many allocations of a run are refused: over small files all of them, and over larger ones some.
@@ -96,10 +92,7 @@ def check_defaults(report: Report, under: Preloaded) -> None:
 
 
 def check(report: Report, program: str) -> None:
-    """Runs this topic."""
-    with preloaded(report, program, "memory that is refused", {}) as under:
-        if under is None:
-            return
+    if under := preloaded(report, program, "memory that is refused"):
         check_defaults(report, under)
         for run in (*small_runs(), EXPLAINED):
             check_run(report, under, Ends(run), lambda requests: spread(requests, FEW))
@@ -110,10 +103,10 @@ def check(report: Report, program: str) -> None:
 def check_rounds(report: Report, program: str, seeds: range) -> None:
     """Refuses allocations over larger files, as many per run as there are seeds, chosen by the first seed."""
     random = Random(seeds.start)
-    with preloaded(report, program, "memory that is refused", {}) as under:
-        for run in large_runs() if under else ():
-            check_run(report, under, Ends(run),
-                      lambda requests: random.sample(range(1, requests + 1), min(requests, len(seeds))))
+    under = preloaded(report, program, "memory that is refused")
+    for run in large_runs() if under else ():
+        check_run(report, under, Ends(run),
+                  lambda requests: random.sample(range(1, requests + 1), min(requests, len(seeds))))
 
 
 check_long = Rounds(check_rounds, share=100).check_long

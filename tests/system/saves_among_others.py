@@ -7,14 +7,11 @@ from functools import partial
 
 from keytabs.edits import ADD_B
 from runs.commands import NEW, OLD, SCRIPT
-from runs.harness import Case, Outcome, Report, differences, folder_of, message
-from runs.preload import Line
-from runs.rows import text
-from runs.system_calls import Halt, check_traced, halted
-from runs.undisturbed import IN_PLACE, PROGRAM
-from system.placing import refused
-from system.saving import (B_NEW, B_OLD, B_SAVED, SAVED, UNSAVED, USER, Place, at, check_over, edit, link, tree,
-                           write)
+from runs.harness import Case, Outcome, Report, differences, every, folder_of, message, text
+from runs.system_calls import Halt, halted
+from runs.undisturbed import IN_PLACE, PROGRAM, undisturbed
+from system.saving import (B_NEW, B_OLD, B_SAVED, SAVED, UNSAVED, USER, Place, at, check_over, edit, link, refused,
+                           tree, write)
 
 # The calls after which a run is halted, each under a name.
 HALTS = {
@@ -27,11 +24,6 @@ HALTS = {
     "writing": Halt("write"),
     "syncing": Halt("fsync"),
 }
-
-
-def edited_while(program: str, folder: str, call: str, change: Place, *options: str) -> Outcome:
-    """Makes a run that adds an entry, and halts it after a system call while a change is made."""
-    return halted(program, Line(("ktedit", *options, "k"), SCRIPT), folder, HALTS[call], change)
 
 
 def named(name: str, make: Callable[[str], None]) -> Place:
@@ -94,7 +86,8 @@ def check_change(report: Report, program: str, call: str, of: tuple[str, bool, P
             change(folder)
             wanted.update(known(folder))
 
-        faults = differences(UNSAVED, edited_while(program, folder, call, change_and_look, *options))
+        adds = undisturbed(("ktedit", *options, "k"), SCRIPT)
+        faults = differences(UNSAVED, halted(program, adds, folder, HALTS[call], change_and_look))
         if known(folder) != wanted or NEW in tree(folder).values():
             faults.append(f"{[*tree(folder)]} are there, or are not as they were")
     report.check(f"{what}, behind the {call} of a run {' '.join(options)}", faults)
@@ -114,8 +107,6 @@ def check_changes(report: Report, program: str) -> None:
         check_change(report, program, "load", of, IN_PLACE)
     for of in replaced:
         check_change(report, program, "syncing", of, IN_PLACE)
-
-
 
 
 def check_while(report: Report, program: str, case: Case, call: str, change: Place, *places: Place) -> None:
@@ -173,6 +164,4 @@ def check_moved(report: Report, program: str) -> None:
         check_while(report, program, *row)
 
 
-def check(report: Report, program: str) -> None:
-    """Runs this topic."""
-    check_traced(report, program, "files that are changed meanwhile", check_changes, check_names, check_moved)
+check = every(check_changes, check_names, check_moved, of="files that are changed meanwhile", needs=("strace",))

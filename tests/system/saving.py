@@ -1,16 +1,18 @@
-"""Runs that save a file, and what they leave in its folder."""
-from __future__ import annotations
+"""Runs that save a file, in place too: what they tell, what they leave in its folder, and what is kept of the file."""
 
 import os
 import stat
 from collections.abc import Callable
-from dataclasses import dataclass
+from dataclasses import dataclass, replace
+from pathlib import Path
 
 from keytabs.ktutil_lines import ADDENT, KEY
-from makers.images import B, HOST, keytab
-from runs.commands import COMMANDS, NEW, OLD, SCRIPT, Run, file_of
-from runs.harness import Outcome, Report, differences, folder_of, message, run
-from runs.rows import text
+from makers.images import B, HOST, TWO, keytab
+from runs.commands import CHANGES, COMMANDS, NEW, OLD, SCRIPT, Run, file_of
+from runs.harness import EXPLAIN, Case, Outcome, Report, differences, folder_of, message, run, text
+from runs.undisturbed import explained as with_words
+from runs.undisturbed import undisturbed
+from words.phrases import AFTERMATHS, CAUSES
 
 # A run of that script, what it prints, and so over a file with another entry.
 (ADD,), SAVED = COMMANDS["ktedit"].changes, Outcome(0, b"placed 2\n")
@@ -23,7 +25,35 @@ LINES = text([ADDENT, KEY])
 # A user who is not root, and a group that user may be in.
 USER, GROUP = 65_534, 54_321
 
+# An entry that is longer than those of the keytab.
+ADD_LONG = b"add 3 17 1700000000 000102030405060708090a0b0c0d0e0f a/long/name@R\n"
+
+# Runs that make the file longer, that change old bytes too, and that keep its length or make it shorter.
+LONGER = undisturbed("ktedit k", ADD_LONG, k=TWO, name="adds at the end")
+MIXED = undisturbed("ktedit k", b"cut 2\n" + ADD_LONG, k=TWO, name="removes, and adds at the end")
+EQUAL = undisturbed("ktedit k", b"cut 2\n", k=TWO, name="removes")
+SHORTER = undisturbed("ktedit k", b"rewrite\n", k=keytab(60, HOST, 41, B), name="rewrites")
+CUT_OFF = undisturbed("ktedit k", b"rewrite\n", k=keytab(HOST, 41), name="drops the hole at the end")
+
+# Runs that can save in place, without that.
+PLACED = (LONGER, MIXED, EQUAL, SHORTER, CUT_OFF, *CHANGES)
+
+# What makes something in a folder.
 Place = Callable[[str], object]
+
+
+@dataclass(frozen=True)
+class Owned:
+    """A file's mode, owner and group."""
+
+    mode: int
+    owner: int
+    group: int
+
+    def give(self, path: str) -> None:
+        """Gives a file these."""
+        os.chown(path, self.owner, self.group)
+        os.chmod(path, self.mode)
 
 
 def run_over(program: str, case: Run, folder: str, **options: object) -> Outcome:
@@ -92,30 +122,24 @@ def as_another(program: str) -> dict[str, object] | None:
 
 def write(path: str, data: bytes, mode: int = 0o600) -> None:
     """Writes a file of that mode."""
-    with open(path, "wb") as file:
-        file.write(data)
+    Path(path).write_bytes(data)
     os.chmod(path, mode)
 
 
 def tree(folder: str) -> dict[str, object]:
     """Returns the contents of a folder, by path: bytes of files, texts of links, and the kind of all else."""
     found: dict[str, object] = {}
-    for top, folders, files in os.walk(folder):
-        for path in (os.path.join(top, name) for name in (*folders, *files)):
-            kind, where = stat.filemode(os.lstat(path).st_mode)[0], os.path.relpath(path, folder)
-            if kind == "-":
-                with open(path, "rb") as file:
-                    found[where] = file.read()
-            else:
-                found[where] = os.readlink(path) if kind == "l" else kind
+    for path in Path(folder).rglob("*"):
+        kind = stat.filemode(path.lstat().st_mode)[0]
+        left = path.read_bytes() if kind == "-" else os.readlink(path) if kind == "l" else kind
+        found[str(path.relative_to(folder))] = left
     return found
 
 
 def tree_faults(wanted: dict[str, object], folder: str) -> list[str]:
     """Returns what differs in a folder from the expected contents."""
     got = tree(folder)
-    names = sorted(set(wanted) | set(got))
-    return [f"{name} is {got.get(name)!r}" for name in names if got.get(name) != wanted.get(name)]
+    return [f"{name} is {got.get(name)!r}" for name in sorted({*wanted, *got}) if got.get(name) != wanted.get(name)]
 
 
 def stands(folder: str) -> dict[str, tuple[object, ...]]:
@@ -127,21 +151,42 @@ def stands(folder: str) -> dict[str, tuple[object, ...]]:
     return found
 
 
-@dataclass(frozen=True)
-class Owned:
-    """A file's mode, owner and group."""
-
-    mode: int
-    owner: int
-    group: int
-
-    def give(self, path: str) -> None:
-        """Gives a file these."""
-        os.chown(path, self.owner, self.group)
-        os.chmod(path, self.mode)
-
-
 def owned(path: str) -> Owned:
     """Returns the mode, owner and group of a file."""
     found = os.stat(path)
     return Owned(stat.S_IMODE(found.st_mode), found.st_uid, found.st_gid)
+
+
+def images(case: Run) -> tuple[bytes, bytes]:
+    """Returns the file that a run changes, before and after it."""
+    name = file_of(case)
+    return case.files[name], case.files_after[name]
+
+
+def explained(outcome: Outcome, *phrases: str) -> Outcome:
+    """Returns the outcome of a run that also prints those lines."""
+    return replace(outcome, err=outcome.err + "".join(f"krbfile: {each}\n" for each in phrases).encode())
+
+
+def refused(case: Run, cause: str, name: str = "") -> Case:
+    """Returns a run of which the file, by default its own, is not saved, for that cause, which is explained."""
+    line = "line 2: " if "ktutil" in case.words else ""
+    wanted = explained(unsaved(case, name), line + CAUSES[cause].replace("NAME", name or file_of(case)))
+    return Case(case.name, (EXPLAIN, *case.words), wanted, case.files, case.files, case.stdin)
+
+
+def message_of(case: Run, aftermath: str) -> str:
+    """Returns the message, with words or without, of what the first save of a run left."""
+    return f"{'line 2' if 'ktutil' in case.words else file_of(case)}: {AFTERMATHS[aftermath]}"
+
+
+def told(case: Run, aftermath: str) -> Outcome:
+    """Returns the outcome of a run that saves and tells what that left."""
+    front = explained(Outcome(case.wanted.status or 1, case.wanted.out), message_of(case, aftermath))
+    return replace(front, err=front.err + case.wanted.err)
+
+
+def kept(path: str) -> tuple[object, ...]:
+    """Returns what a save in place keeps of a file."""
+    own, attributes = os.stat(path), {name: os.getxattr(path, name) for name in os.listxattr(path)}
+    return own.st_ino, own.st_mode, own.st_uid, own.st_gid, own.st_nlink, attributes

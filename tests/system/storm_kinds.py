@@ -1,13 +1,11 @@
 """The kinds of storms: which commands run at the same time over a file, and what each of them does to it."""
 
-import json
 from dataclasses import dataclass, replace
 
-from makers.cache_images import Name, cache
-from makers.images import Entry, keytab
-from makers.usual_caches import TICKET
+from makers.images import TICKET, Entry, Name, cache, keytab
+from peers.beside_mit import as_json
 from runs.commands import COMMANDS
-from runs.harness import folder_of, run
+from runs.harness import folder_of
 from runs.undisturbed import PROGRAM
 
 # How many runs there are at once.
@@ -29,16 +27,16 @@ def change(command: str, name: str, path: str = "k", source: str = "") -> tuple[
     return line.split(), text
 
 
-def listed(option: str, image: bytes) -> dict[str, list[dict[str, str]]] | None:
-    """Returns what the program lists of a keytab or a cache as JSON, or None if the image is neither."""
+def listed(option: str, image: bytes) -> dict[str, list[dict[str, str]]]:
+    """Returns what the program lists of a keytab or a cache as JSON, or nothing if the image is neither."""
     with folder_of({"f": image}) as folder:
-        return json.loads(run(PROGRAM[0], ("klist", "--json", option, "f"), folder).out or b"null")
+        return as_json(PROGRAM[0], folder, option, "f")
 
 
 def names_of(option: str, image: bytes) -> list[str] | None:
     """Returns the names in a keytab, or the servers and the keys of values in a cache, or None if it is not whole."""
     found = listed(option, image)
-    if found is None or found["fault"]:
+    if not found or found["fault"]:
         return None
     return [each[member].split("@")[0] for part, member in NAMED.items() for each in found.get(part, ())]
 
@@ -74,7 +72,7 @@ class Kind:
     def is_bad(self, image: bytes) -> bool:
         """Whether an image may not be seen meanwhile. What MIT's write, or a save in place, may be half written."""
         found = listed(self.option, image)
-        return found is None or bool(found["fault"]) and not (self.with_mit or self.in_place)
+        return not found or bool(found["fault"]) and not (self.with_mit or self.in_place)
 
     def __str__(self) -> str:
         words = [f"{MANY} runs of {' and '.join(self.commands)}"]

@@ -12,7 +12,7 @@ from collections.abc import Callable
 from contextlib import ExitStack
 
 from runs.commands import OLD, Run
-from runs.harness import Report, differences, folder_of
+from runs.harness import Report, differences, every, folder_of
 from runs.namespaces import mounted
 from system.saving import ADD, SAVED, edit, run_over, tree_faults, write
 
@@ -88,9 +88,7 @@ def is_waited_for(path: str) -> bool:
 def check_other_disk(report: Report, program: str) -> None:
     """Checks that a lock counts only on the file's own disk, not on a file of the same number elsewhere."""
     with folder_of({}) as here, folder_of({}) as there, ExitStack() as stack:
-        are_mounted = [stack.enter_context(mounted(folder, "-t", "tmpfs", "krbfile"))
-                       for folder in (here, there)]
-        if not all(are_mounted):
+        if not all([stack.enter_context(mounted(folder, "-t", "tmpfs", "krbfile")) for folder in (here, there)]):
             report.skip("files of one number on two disks", "none can be mounted")
             return
         for where, what in ((there, "a file of the same number elsewhere"), (here, "the file")):
@@ -107,11 +105,5 @@ def check_other_disk(report: Report, program: str) -> None:
             report.check(f"a lock of {what} on a disk in memory", faults)
 
 
-def check(report: Report, program: str) -> None:
-    """Runs this topic."""
-    if os.path.exists("/proc/locks"):
-        check_many_locks(report, program)
-        check_waiting_locks(report, program)
-        check_other_disk(report, program)
-    else:
-        report.skip("locks that are waited for", "there is no list of locks")
+check = every(check_many_locks, check_waiting_locks, check_other_disk, of="locks that are waited for",
+              lack=lambda: "" if os.path.exists("/proc/locks") else "there is no list of locks")

@@ -48,6 +48,11 @@ def text(data: bytes) -> str:
     return bytes_of_digits(data)
 
 
+def listed(items: list[str]) -> str:
+    """Returns a list."""
+    return "".join(f"{item} ∷ " for item in items) + "[]"
+
+
 def identifier(word: str) -> str:
     """Returns a word as a name."""
     return re.sub(r"[^A-Za-z0-9]+", "-", word).strip("-")
@@ -68,18 +73,16 @@ def theorem(comment: str, name: str, left: str, right: str, proof: str = "refl")
     return f"-- {comment}\n{name} : {left}\n    ≡ {right}\nunfolding on_literals\n{name} = {proof}\n"
 
 
-def proof_of_listing(listing: bytes) -> str:
-    """Returns the proof of a listing. It uses the theorem of each time, since days are too many to count again."""
-    parts = TIME.split(listing)
-    if len(parts) == 1:
-        return "refl"
-    terms = [f"time-{seconds(part)} i" if place % 2 else text(part) for place, part in enumerate(parts)]
-    return "λ i. Ok (" + " ++ (".join(terms) + ")" * len(terms)
+def proof_of(printed: bytes, front: str, rest: str) -> str:
+    """Returns the proof of what is printed, with what stands before and after it. It uses the theorem of each time,
+    since days are too many to count again."""
+    parts = [f"time-{seconds(it)} i" if at % 2 else text(it) for at, it in enumerate(TIME.split(printed))]
+    return f"λ i. {front}{' ++ ('.join(parts)}{')' * (len(parts) - 1)}{rest}" if len(parts) > 1 else "refl"
 
 
 def theorem_of_listing(comment: str, name: str, listed: str, listing: bytes) -> str:
     """Returns the theorem that a file is listed so."""
-    return theorem(comment, name, listed, f"Ok ({text(listing)})", proof_of_listing(listing))
+    return theorem(comment, name, listed, f"Ok ({text(listing)})", proof_of(listing, "Ok (", ")"))
 
 
 def day_theorem(number: int, is_next: bool) -> str:

@@ -12,12 +12,12 @@ The text beside a file, `NAME.txt`, holds what MIT's klist printed of it, in UTC
 - The value of a configuration entry is not broken into lines, and a byte that does not print is `\\x0a`, not `\\012`.
 """
 
-import os
 import re
 from collections.abc import Iterator
 from datetime import datetime
+from pathlib import Path
 
-from peers.corpus import FOLDER, read
+from peers.corpus import FOLDER
 
 SECTION = re.compile(r"^== MIT 1\.20\.1: klist (.*) (\S+)   \(exit 0\)\n", re.M)
 ENTRY = re.compile(r" *(-?\d+) (?:(\d\d/\d\d/\d\d \d\d:\d\d:\d\d) )?(\S.*?)(?: \((\S+)\)  \((0x[0-9a-f]*)\))?")
@@ -36,7 +36,7 @@ NAMELESS = {"des-cbc-crc": "etype 1", "des-cbc-md5": "etype 3"}
 
 def sections(kind: str, name: str) -> dict[str, str]:
     """Returns what MIT's klist printed of a file, by the options."""
-    parts = SECTION.split(read(os.path.join(FOLDER, kind, f"{name}.txt")).decode())[1:]
+    parts = SECTION.split(Path(FOLDER, kind, f"{name}.txt").read_text("utf-8"))[1:]
     return dict(zip(parts[::3], parts[2::3]))
 
 
@@ -93,13 +93,9 @@ def credential_lines(text: str) -> Iterator[str]:
             yield from ticket_lines(TICKET.fullmatch(first), details)
 
 
-def is_in(line: str, has_all_columns: bool) -> bool:
-    """Whether a line is in a listing without columns too."""
-    return has_all_columns or not line.startswith(("config: ", "    Flags: ", "    Etype: "))
-
-
 def cache_listing(name: str, has_all_columns: bool) -> str:
     """Returns MIT's listing of a cache, with no columns or with flags, encryption types and configuration entries."""
     heading, _, rest = sections("ccache", name)["-C -f -e"].partition("\n\n")
+    left_out = () if has_all_columns else ("config: ", "    Flags: ", "    Etype: ")
     body = credential_lines(rest.partition("\n")[2].rstrip("\n"))
-    return f"{heading}\n\n{CACHE_HEAD}" + "".join(line for line in body if is_in(line, has_all_columns))
+    return f"{heading}\n\n{CACHE_HEAD}" + "".join(line for line in body if not line.startswith(left_out))

@@ -1,18 +1,14 @@
 """Command lines: bundled, repeated, late and long options, help, the version, and lines that are refused."""
 
-import shutil
 import subprocess
 from dataclasses import replace
 from itertools import permutations
 
-from keytabs.columns import sample
-from makers.cache_images import cache
-from makers.images import B, TWO, keytab
+from keytabs.listings import sample
+from makers.images import B, OFFSET, PA_TYPE, TWO, USUAL, cache, keytab
 from makers.samples import SAMPLES
-from makers.usual_caches import OFFSET, PA_TYPE, USUAL
 from runs.commands import CHANGES, COMMANDS, READS
-from runs.harness import Case, Outcome, Report, message, run_case
-from runs.rows import BAD_LINE, Help, Line, printed, shown, words_of
+from runs.harness import BAD_LINE, Case, Help, Line, Outcome, Report, every, message, printed, run_case, shown, words_of
 from runs.undisturbed import frame
 
 
@@ -151,17 +147,11 @@ def check_same(report: Report, program: str) -> None:
             case(other, wanted, **after).check(report, program)
 
 
-def check_toolchain(report: Report) -> None:
+def check_toolchain(report: Report, _program: str) -> None:
     """Compares the toolchain's name with what it prints of itself, after the name of its kit."""
-    if shutil.which("rt") is None:
-        report.skip("the toolchain of the version", "rt is not there")
-        return
     output = subprocess.run(["rt", "version"], capture_output=True, text=True, check=False).stdout
     named = output.strip().partition(" ")[2]
     report.check("the toolchain of the version", [] if named == TOOLCHAIN else [f"it is {output!r}"])
 
 
-def check(report: Report, program: str) -> None:
-    """Checks what is not in a table."""
-    check_same(report, program)
-    check_toolchain(report)
+check = every(check_same, every(check_toolchain, of="the toolchain of the version", needs=("rt",)))

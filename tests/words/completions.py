@@ -3,14 +3,13 @@ help ends: the statuses, a line each, and an example, which is run on sample fil
 
 import os
 import re
-import shutil
-from functools import cache
+from functools import cache, partial
 
-from keytabs.columns import BY_NAME
+from keytabs.listings import BY_NAME
 from makers.samples import folder_of_samples
-from pages.readme import surroundings
+from pages.readme import installed
 from runs.commands import CHANGES, COMMANDS
-from runs.harness import TOP, Report, folder_of, run
+from runs.harness import TOP, Report, every, folder_of, run
 from words.phrases import FINDINGS
 
 # Each completes the last word of each line of TYPED, and prints `found` and the words on a line; zsh on a terminal.
@@ -72,9 +71,8 @@ def offered(program: str, command: str) -> tuple[set[str], set[str]]:
 
 def check_example(report: Report, program: str, command: str, line: str) -> None:
     """Runs an example beside sample files: it calls its command, and ends with status 0 and without a message."""
-    with folder_of_samples() as folder, folder_of({}) as programs:
-        os.symlink(program, os.path.join(programs, "krbfile"))
-        got = run("sh", ("-c", line), folder, env=surroundings(programs))
+    with folder_of_samples() as folder, installed(program) as env:
+        got = run("sh", ("-c", line), folder, env=env)
     found = [] if f"krbfile {command} " in f"{line} " else ["it does not call its command"]
     if got.status != 0 or got.err:
         found.append(f"status {got.status}, error output {got.err!r}")
@@ -92,7 +90,7 @@ def check_ends(report: Report, program: str) -> None:
             check_example(report, program, command, end[3])
 
 
-def check_shell(report: Report, program: str, shell: str) -> None:
+def check_shell(shell: str, report: Report, program: str) -> None:
     """Compares what a shell completes with what help lists, and with the lines."""
     option, script, path = SHELLS[shell]
     commands, _ = offered(program, "")
@@ -109,11 +107,5 @@ def check_shell(report: Report, program: str, shell: str) -> None:
         report.check(f"{shell} completes {line!r}", sorted(words ^ those))
 
 
-def check(report: Report, program: str) -> None:
-    """Runs this topic."""
-    check_ends(report, program)
-    for shell in SHELLS:
-        if shutil.which(shell):
-            check_shell(report, program, shell)
-        else:
-            report.skip(f"completions of {shell}", f"{shell} is not there")
+check = every(check_ends, *(every(partial(check_shell, shell), of=f"completions of {shell}", needs=(shell,))
+                            for shell in SHELLS))

@@ -12,10 +12,9 @@ from itertools import product
 from keytabs.edits import ADD_HOST
 from keytabs.file_names import LIMIT
 from keytabs.ktutil_lines import KEY
-from makers.images import TWO
-from makers.usual_caches import USUAL
-from runs.harness import Report, folder_of, run
-from runs.terminal import EXPLAIN, WAYS, run_explained, run_on_terminal
+from makers.images import TWO, USUAL
+from runs.harness import EXPLAIN, Report, folder_of, run
+from runs.terminal import WAYS, run_explained, run_on_terminal
 from words.explaining import case, failed, link, no_keytab
 from words.phrases import BEGINS_AS_CACHE, CAUSES, LARGE, LISTED_AS_KEYTAB, SEE_HELP, SHORT, code, unknown
 

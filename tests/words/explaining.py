@@ -4,9 +4,8 @@ import os
 from collections.abc import Callable
 from dataclasses import dataclass, field
 
-from makers.usual_caches import USUAL
-from runs.harness import Outcome, Report, differences, files_in, folder_of
-from runs.rows import Line, shown, text, words_of
+from makers.images import USUAL
+from runs.harness import Line, Outcome, Report, differences, files_in, folder_of, shown, text, words_of
 from runs.terminal import WAYS
 from words.phrases import CAUSES, code
 
@@ -70,9 +69,9 @@ def unchanged(line: str | Line, *output: tuple[str, str], files: dict[str, bytes
     return Explained(name, words_of(line), output, files or {}, stdin, status, out, files or {}, **more)
 
 
-def no_keytab(why: tuple[int, str], name: str = "k") -> tuple[str, str]:
-    """Returns the message about a file that is not a keytab."""
-    return f"{name}: not a keytab ({why[0]})", why[1]
+def no_keytab(why: tuple[int, str], name: str = "k", kind: str = "keytab") -> tuple[str, str]:
+    """Returns the message about a file, or an input, that is not a keytab, or no other kind of file."""
+    return f"{name}: not a {kind} ({why[0]})", why[1]
 
 
 def failed(words: Line, does: str, cause: str, image: bytes | None, **more) -> Explained:

@@ -1,15 +1,12 @@
 """Hints of `ktcheck`: a shell runs the commands that show what can be done about findings."""
 
-import os
 import re
 from dataclasses import replace
 
-from keytabs.finds import FIVE
+from keytabs.removals import FIVE
 from makers.images import B, HOST, keytab
-from pages.readme import surroundings
-from runs.harness import Report, folder_of, run
-from runs.rows import printed
-from runs.terminal import EXPLAIN
+from pages.readme import installed
+from runs.harness import EXPLAIN, Report, folder_of, printed, run
 from words.explaining import Explained, for_owner
 from words.phrases import FINDINGS, HINTS
 
@@ -36,10 +33,9 @@ CASES = [
 def check(report: Report, program: str) -> None:
     """Has a shell run the commands of the hints, beside no other file."""
     for word in WORDS:
-        with folder_of({re.sub("^(WR)?FILE:", "", word): ALL}) as folder, folder_of({}) as programs:
-            os.symlink(program, os.path.join(programs, "krbfile"))
+        with folder_of({re.sub("^(WR)?FILE:", "", word): ALL}) as folder, installed(program) as env:
             told = run(program, (EXPLAIN, "ktcheck", "--", word), folder).err.decode()
             commands = re.findall(r"^krbfile: to .*: (krbfile (?s:.+?))\n(?=krbfile: to|\Z)", told, re.MULTILINE)
             report.check(f"the hints for {word!r}", [] if len(commands) == 3 else [f"{commands}"])
             for command, wanted in zip(commands, (REMOVED, REMOVED, COPIED)):
-                report.compare(command, wanted, run("sh", ("-c", command), folder, env=surroundings(programs)))
+                report.compare(command, wanted, run("sh", ("-c", command), folder, env=env))

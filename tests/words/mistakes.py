@@ -4,9 +4,8 @@ import re
 
 from makers.images import TWO
 from runs.commands import COMMANDS
-from runs.harness import Case, Outcome, Report, differences, folder_of, run
-from runs.rows import Line, shown, words_of
-from runs.terminal import EXPLAIN, run_on_terminal, runs_with_words
+from runs.harness import EXPLAIN, Case, Line, Outcome, Report, differences, every, folder_of, run, shown, words_of
+from runs.terminal import WAYS, run_on_terminal
 from words.command_lines import REFUSED, lines_of
 from words.explaining import Explained
 
@@ -144,13 +143,13 @@ def check_others(report: Report, program: str) -> None:
 
 
 def check_no_command(report: Report, program: str) -> None:
-    """Checks that the help follows where there is no command."""
+    """Checks that the help follows where there is no command, if messages are explained."""
     with folder_of({}) as folder:
         shown_help = run(program, ("--help",), folder).out
         wanted = Outcome(2, err=MESSAGE + b"krbfile: no command; see krbfile --help\n" + shown_help)
-        for way, got in runs_with_words(program, (), folder):
-            report.compare(f"{way}: no command", wanted, got)
-        report.compare("no command, on a pipe", Outcome(2, err=MESSAGE), run(program, (), folder))
+        for way, (make, explains) in WAYS.items():
+            report.compare(f"no command, {way}", wanted if explains else Outcome(2, err=MESSAGE),
+                           make(program, (), folder))
 
 
 def check_file(report: Report, program: str) -> None:
@@ -162,8 +161,4 @@ def check_file(report: Report, program: str) -> None:
         report.compare("a file called --explain, on a terminal", found, run_on_terminal(program, words, folder))
 
 
-def check(report: Report, program: str) -> None:
-    """Runs the lines of other topics."""
-    check_others(report, program)
-    check_no_command(report, program)
-    check_file(report, program)
+check = every(check_others, check_no_command, check_file)

@@ -5,6 +5,7 @@ A phrase is in lower case, without a full stop, and has at most 72 characters.
 """
 
 import re
+from functools import partial
 
 from pages.documents import read
 
@@ -108,14 +109,8 @@ def phrase_of(phrases: Numbered, number: int, command: str = "") -> str:
     return phrases.get((number, command)) or phrases[number, ""]
 
 
-def code(number: int, command: str = "") -> str:
-    """Returns what a refusal means."""
-    return phrase_of(CODES, number, command)
-
-
-def line_fault(number: int, command: str = "") -> str:
-    """Returns what is wrong with a line of a script, or of ktutil."""
-    return phrase_of(LINES, number, command)
+# What a refusal means, and what is wrong with a line of a script, or of ktutil.
+code, line_fault = partial(phrase_of, CODES), partial(phrase_of, LINES)
 
 
 def unknown(word: str) -> str:

@@ -5,9 +5,8 @@ import subprocess
 
 from keytabs.conversations import terminal
 from keytabs.ktutil_lines import KEY
-from makers.images import TWO, keytab
-from makers.usual_caches import USUAL
-from runs.harness import SECONDS, Outcome, Report, folder_of
+from makers.images import TWO, USUAL, keytab
+from runs.harness import SECONDS, Outcome, Report, files_in, folder_of
 from runs.terminal import all_of
 from words.phrases import NO_ENTRY, NO_PASSWORDS
 
@@ -61,5 +60,4 @@ def check(report: Report, program: str) -> None:
             report.check(f"{words}, {lines!r}: no prompt in a pipe", told)
     with folder_of({}) as folder:
         typed(program, "ktutil", "wkt n\nq\n", folder, True)
-        with open(os.path.join(folder, "n"), "rb") as file:
-            report.check("wkt of an empty list", [] if file.read() == keytab() else ["another file"])
+        report.check("wkt of an empty list", [] if files_in(folder) == {"n": keytab()} else ["another file"])

@@ -1,19 +1,14 @@
 """What is printed where an output is a terminal: what could change the terminal is escaped, a byte at a time."""
 
-import os
 import re
-import subprocess
-import tempfile
 from collections.abc import Iterator
 from dataclasses import dataclass, field, replace
 from functools import partial
 
-from makers.cache_images import Name, cache
-from makers.images import B, Entry, keytab
-from makers.usual_caches import TICKET
+from makers.images import B, TICKET, Entry, Name, cache, keytab
 from runs.commands import READS
-from runs.harness import Outcome, Report, differences, folder_of, run
-from runs.terminal import EXPLAIN, all_of
+from runs.harness import EXPLAIN, Report, differences, folder_of, run
+from runs.terminal import run_on_terminal
 
 # What is escaped: each byte below hexadecimal 20 but newlines, 7f, and pairs of c2 and 80 to 9f.
 ESCAPED = re.compile(rb"[\x00-\x09\x0b-\x1f\x7f]|\xc2[\x80-\x9f]")
@@ -88,23 +83,6 @@ def of_commands() -> Iterator[Printed]:
                           each.stdin, name=each.name)
 
 
-def on_terminal(program: str, words: tuple[str | bytes, ...], stream: str, printed: Printed) -> Outcome:
-    """Makes a run with one output on a terminal, and returns what it wrote."""
-    ours, theirs = os.openpty()
-    with folder_of(printed.files) as folder, tempfile.TemporaryFile() as given, tempfile.TemporaryFile() as other:
-        given.write(printed.stdin)
-        given.seek(0)
-        outputs = {"stdout": other, "stderr": other, stream: theirs}
-        with subprocess.Popen([program, *words], cwd=folder, stdin=given, **outputs) as process:
-            os.close(theirs)
-            shown = all_of(ours)
-        os.close(ours)
-        other.seek(0)
-        rest = other.read()
-    out, err = (shown, rest) if stream == "stdout" else (rest, shown)
-    return Outcome(process.returncode, out, err)
-
-
 def check_printed(report: Report, program: str, printed: Printed) -> None:
     """Makes a run with its outputs in pipes, and then with each on a terminal."""
     name = printed.name or " ".join(map(str, printed.words))
@@ -115,7 +93,8 @@ def check_printed(report: Report, program: str, printed: Printed) -> None:
     report.check(f"{name}: in a pipe", [] if raw in piped.out + piped.err else [f"{piped} has no {raw}"])
     out = piped.out if printed.is_json else escaped(piped.out)
     for stream, wanted in (("stdout", replace(piped, out=out)), ("stderr", replace(piped, err=escaped(piped.err)))):
-        got = on_terminal(program, words, stream, printed)
+        with folder_of(printed.files) as folder:
+            got = run_on_terminal(program, words, folder, printed.stdin, stream)
         shown = got.out if stream == "stdout" else got.err
         has_line = raw in (piped.out if stream == "stdout" else piped.err)
         missing = [f"no {tamed}"] if has_line and tamed not in shown else []
