@@ -17,28 +17,25 @@ use Rattle.krb_driver.specs.declared.file_name.NameSource.TheVariants.{Word}
 use Rattle.krb_driver.specs.declared.verdict.FileKind.{FileKind}
 use Rattle.krb_driver.specs.declared.verdict.FileKind.TheVariants.{Keytab, Cache}
 use Rattle.krb_driver.specs.declared.verdict.Verdict.TheVariants.{Well}
-use Rattle.krb_driver.specs.declared.world.World.{World}
+use Rattle.krb_driver.specs.declared.command.World.{World}
 use Rattle.krb_driver.specs.FileNames.{IsNamed, bare_name, is_other_type}
 use Rattle.krb_editors.specs.Ccedit.{ccedit_fairly, ccedit_plan}
 use Rattle.krb_editors.specs.Ccremove.{SpellsTickets, ccremove_plan, ended_by, ticket_mistake}
 use Rattle.krb_driver.specs.Commands.{Runs, RunsWith, always, any}
-use Rattle.krb_readers.specs.Klist.{file_kind, klist_plan, list_mistake, list_options}
-use Rattle.krb_readers.specs.TicketCheck.{RunsTicketCheck, check_mistake, check_of}
+use Rattle.krb_readers.specs.Klist.{file_kind, klist_plan, list_mistake, list_options, RunsTicketCheck, check_mistake, check_of}
 use Rattle.krb_readers.specs.declared.klist.ticket_check.TicketCheck.{TicketCheck}
 use Rattle.krb_readers.specs.declared.klist.words.KlistOptions.{KlistOptions}
 use Rattle.krb_readers.specs.declared.ktcheck.words.CheckOptions.{CheckOptions}
-use Rattle.krb_readers.specs.CheckWords.{bad_finding, check_options}
-use Rattle.krb_readers.specs.Ktcheck.{ChecksAll}
+use Rattle.krb_readers.specs.Ktcheck.{bad_finding, check_options, ChecksAll}
 use Rattle.krb_editors.specs.Hold.{RunsHold, file_kind as held_kind, hold_kind, hold_mistake}
 use Rattle.krb_editors.specs.Ktedit.{ktedit_fairly, ktedit_plan}
 use Rattle.krb_readers.specs.Ktfind.{SpellsEntry, find_mistake, ktfind_plan}
 use Rattle.krb_editors.specs.Ktcopy.{SpellsCopy, copy_mistake, ktcopy_plan}
 use Rattle.krb_editors.specs.Ktremove.{SpellsRemoval, ktremove_plan, needed_time, remove_mistake}
-use Rattle.krb_ktutil.specs.Ktutil.{RunsKtutil}
-use Rattle.krb_driver.specs.Matches.{Matched, first_mistake, first_value, v1_order}
-use Rattle.krb_driver.specs.Mistakes.{MistakeParts, word_status, word_text}
+use Rattle.krb_ktutil.specs.KtutilTalk.{RunsKtutil}
+use Rattle.krb_driver.specs.Mistakes.{Matched, first_mistake, first_value, v1_order, MistakeParts, word_status, word_text}
 use Rattle.krb_driver.specs.Runs.{Run, EndsRun, Writes, ends_by}
-use Rattle.krb_editors.specs.Scripted.{RunsScript}
+use Rattle.krb_editors.specs.Sessions.{RunsScript}
 use Rattle.krb_text.specs.Script.{event_in}
 use Rattle.krb_cache_text.specs.Script.{cache_line_in}
 

@@ -4,10 +4,9 @@ ghost use Rattle.std.specs.Prelude.{◌≡◌, codes, map, IfErr, IfOk, None, On
 ghost use Rattle.krb_commands.specs.Actions.{AreNamed, Asks, AsksHold, AsksKlist, AsksKtcheck, IsEdited, NamesFile, at_terminal, klist_mistake, line_mistake};
 ghost use Rattle.krb_driver.specs.FileNames.{IsNamed};
 ghost use Rattle.krb_driver.specs.declared.file_name.NameSource.TheVariants.{Word};
-ghost use Rattle.krb_readers.specs.CheckWords.{bad_finding};
+ghost use Rattle.krb_readers.specs.Ktcheck.{bad_finding};
 ghost use Rattle.krb_editors.specs.Hold.{hold_mistake};
-ghost use Rattle.krb_driver.specs.Matches.{first_mistake, first_value};
-ghost use Rattle.krb_driver.specs.Mistakes.{IsRefusal, Reads};
+ghost use Rattle.krb_driver.specs.Mistakes.{first_mistake, first_value, IsRefusal, Reads};
 
 use krb_driver::{
     CommandName, CommandWords, FileKind, FileName, Matches, NameSource, WordFault, first_value,

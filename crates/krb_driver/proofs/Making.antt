@@ -31,20 +31,13 @@ no_file (Err met) = Err met.1
 abbrev loads : {X : Type 0} → FileName → (Answer → Result X RunError) → (X → CommandPlan) → CommandPlan
 loads file gives then_ = Loads file.name.now (λ answer. goes_on file (gives answer) then_)
 
-opens-read : {X : Type 0} (file : FileName) (gives : Answer → Result X RunError) (then_ : X → CommandPlan) → file.is_other_type ≡ false → loads file gives then_ ≡ opens file gives then_
-opens-read file gives then_ read = rw read refl
-
 -- the effect of a name of another type
 abbrev other : FileName → Effect
 other file = Fails file.name.now (error.OtherType file.source)
 
-opens-other : {X : Type 0} (file : FileName) (gives : Answer → Result X RunError) (then_ : X → CommandPlan) → file.is_other_type ≡ true → Ends (other file) ≡ opens file gives then_
-opens-other file gives then_ is = rw is refl
-
 -- a name of another type ends a command
 makes-other : {F X : Type 0} (trait : Ghosts F) (old new : F) (file : FileName) (gives : Answer → Result X RunError) (then_ : X → CommandPlan) → file.is_other_type ≡ true → new ≡ old → Makes trait old (opens file gives then_) (other file) new
-makes-other trait old new file gives then_ is same =
-    subst (λ (p : CommandPlan). Makes trait old p (other file) new) (opens-other file gives then_ is) (record { answers = []; loads = (refl, same); made = inr refl })
+makes-other trait old new file gives then_ is same = rw is (record { answers = []; loads = (refl, same); made = inr refl })
 
 module _ {X : Type 0} (file : FileName) (then_ : X → CommandPlan) where
   -- how a command that opened a file goes on
@@ -77,7 +70,7 @@ module _ {X : Type 0} (file : FileName) (then_ : X → CommandPlan) where
     }
 
     pub makes-failed : (name : List ℕ) (why : RunError) (new : F) → GivesOf trait old file gives (Err (name, why)) new → Makes trait old (opens file gives then_) (Fails name why) new
-    makes-failed name why new (inl o) = subst (λ (p : CommandPlan). Makes trait old p (Fails name why) new) (opens-read file gives then_ o.read) (makes-unread name why new o)
+    makes-failed name why new (inl o) = rw o.read (makes-unread name why new o)
     makes-failed name why new (inr o) = subst (λ (e : Effect). Makes trait old (opens file gives then_) e new) (sym (ap fails_of o.2)) (makes-other trait old new file gives then_ o.0 o.1)
 
     makes-read : (x : X) (effect : Effect) (between new : F) → GivesLoaded trait old file gives (Ok x) between → Makes trait between (then_ x) effect new → Makes trait old (loads file gives then_) effect new
@@ -96,13 +89,13 @@ module _ {X : Type 0} (file : FileName) (then_ : X → CommandPlan) where
         }
 
     pub makes-opened : (x : X) (effect : Effect) (between new : F) → GivesOf trait old file gives (Ok x) between → Makes trait between (then_ x) effect new → Makes trait old (opens file gives then_) effect new
-    makes-opened x effect between new (inl o) m = subst (λ (p : CommandPlan). Makes trait old p effect new) (opens-read file gives then_ o.read) (makes-read x effect between new o m)
+    makes-opened x effect between new (inl o) m = rw o.read (makes-read x effect between new o m)
     makes-opened x effect between new (inr o) m = absurd (true≢false (ap is_ok o.2))
 
 -- a file was opened
-pub opens-by : {F X : Type 0} (trait : Ghosts F) (old : F) (file : FileName) (gives : Answer → Result X RunError) (given : Result X (List ℕ × RunError)) (new : F) → GivesOf trait old file gives given new → Opens trait old file gives given new
-opens-by trait old file gives (Ok x) new o = λ then_ effect end made. makes-opened file then_ trait old gives x effect new end o made
-opens-by trait old file gives (Err met) new o = λ then_. makes-failed file then_ trait old gives met.0 met.1 new o
+pub opens_by : {F X : Type 0} (trait : Ghosts F) (old : F) (file : FileName) (gives : Answer → Result X RunError) (given : Result X (List ℕ × RunError)) (new : F) → GivesOf trait old file gives given new → Opens trait old file gives given new
+opens_by trait old file gives (Ok x) new o = λ then_ effect end made. makes-opened file then_ trait old gives x effect new end o made
+opens_by trait old file gives (Err met) new o = λ then_. makes-failed file then_ trait old gives met.0 met.1 new o
 
 or-refused : {X : Type 0} (kind : FileKind) (file : FileName) (k : X) (o : Option Code) → or_refused (λ code. (file.name.now, error.Refused kind code)) k o ≡ of_file file (or_refused (error.Refused kind) k o)
 or-refused kind file k None = refl
@@ -148,17 +141,13 @@ gave-none : {X : Type 0} (Fair : X → Type 0) (file : FileName) (name : List �
 gave-none Fair file name why (Ok x) is = absurd (false≢true (ap is_ok is))
 gave-none Fair file name why (Err e) is = tt
 
--- the same with what holds of the results of the loads
-subst-fairly : {F : Type 0} (trait : Ghosts F) (old new : F) (plan other : CommandPlan) (Fairly : List Answer → Type 0) (effect : Effect) → plan ≡ other → MakesFairly trait old plan Fairly effect new → MakesFairly trait old other Fairly effect new
-subst-fairly trait old new plan other Fairly effect is m = subst (λ (p : CommandPlan). MakesFairly trait old p Fairly effect new) is m
-
 -- of what was opened the due effect was made, and `Fair` holds of it
 pub makes-fairly : {F X : Type 0} (trait : Ghosts F) (old : F) (file : FileName) (gives : Answer → Result X RunError) (due : X → Effect) (Fair : X → Type 0) (x : X) (effect : Effect) (new : F)
     → GivesOf trait old file gives (Ok x) new → IsMade (due x) effect → IsSpent effect ⊎ Fair x → MakesFairly trait old (opens file gives (λ y. Ends (due y))) (fair_first gives Fair) effect new
 unfolding makes-read
 makes-fairly {X = X} trait old file gives due Fair x effect new (inl o) made fair =
     let then_ : X → CommandPlan = λ y. Ends (due y) in
-    subst-fairly trait old new (loads file gives then_) (opens file gives then_) (fair_first gives Fair) effect (opens-read file gives then_ o.read) (record {
+    rw o.read (record {
       makes = makes-read file then_ trait old gives x effect new new o (makes-end trait new (due x) effect made);
       fair = elim fair [
         | inl spent ↦ inl spent
@@ -171,18 +160,16 @@ makes-fairly trait old file gives due Fair x effect new (inr o) made fair = absu
 pub fairly-failed : {F X : Type 0} (trait : Ghosts F) (old : F) (file : FileName) (gives : Answer → Result X RunError) (then_ : X → CommandPlan) (Fair : X → Type 0) (name : List ℕ) (why : RunError) (new : F)
     → GivesOf trait old file gives (Err (name, why)) new → MakesFairly trait old (opens file gives then_) (fair_first gives Fair) (Fails name why) new
 unfolding makes-unread
-fairly-failed trait old file gives then_ Fair name why new (inl o) =
-    subst-fairly trait old new (loads file gives then_) (opens file gives then_) (fair_first gives Fair) (Fails name why) (opens-read file gives then_ o.read) (record {
-      makes = makes-unread file then_ trait old gives name why new o;
-      fair = elim o.given_is [
-        | inl spent ↦ inl (file.name.now, ap fails_of spent)
-        | inr is ↦ inr (gave-none Fair file name why (gives o.answer) is)
-      ];
-    })
+fairly-failed trait old file gives then_ Fair name why new (inl o) = rw o.read (record {
+  makes = makes-unread file then_ trait old gives name why new o;
+  fair = elim o.given_is [
+    | inl spent ↦ inl (file.name.now, ap fails_of spent)
+    | inr is ↦ inr (gave-none Fair file name why (gives o.answer) is)
+  ];
+})
 fairly-failed trait old file gives then_ Fair name why new (inr o) =
     subst (λ (e : Effect). MakesFairly trait old (opens file gives then_) (fair_first gives Fair) e new) (sym (ap fails_of o.2))
-    (subst-fairly trait old new (Ends (other file)) (opens file gives then_) (fair_first gives Fair) (other file) (opens-other file gives then_ o.0)
-    (record { makes = record { answers = []; loads = (refl, o.1); made = inr refl }; fair = inr tt }))
+    (rw o.0 (record { makes = record { answers = []; loads = (refl, o.1); made = inr refl }; fair = inr tt }))
 
 pub fairly-holds : {F : Type 0} (trait : Ghosts F) (old new end : F) (held : Bool) (file : List ℕ) (plan : CommandPlan) (Fairly : List Answer → Type 0) (effect : Effect) → HeldIf trait held file old new → MakesFairly trait new plan Fairly effect end → MakesFairly trait old (Holds held file plan) Fairly effect end
 unfolding makes_holds

@@ -7,7 +7,7 @@ use Rattle.krb_files.specs.declared.files.Files.{Ghosts}
 use Rattle.krb_files.specs.Files.{SameFiles, CountsFailure}
 use Rattle.krb_driver.specs.declared.error.RunError.TheVariants as error
 use Rattle.krb_files.specs.Loading.{Answer, SavesFile, TurnsHold}
-use Rattle.krb_driver.specs.declared.world.World.{World}
+use Rattle.krb_driver.specs.declared.command.World.{World}
 use Rattle.krb_driver.specs.RunErrors.{Ending, is_spent}
 use Rattle.krb_driver.specs.declared.command.RunEnd.{RunEnd}
 use Rattle.krb_driver.specs.declared.verdict.Verdict.{Verdict}

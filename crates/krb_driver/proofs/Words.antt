@@ -1,10 +1,14 @@
--- Pieces and the text after them, and messages without words.
-use Rattle.krb_driver.proofs.Cited.{◌≡◌, ℕ, Bool, false, List, [], ◌∷◌, ◌++◌, refl, sym, ap, subst, ◌∙◌, append_assoc, codes, Watch, ErrorWatch, Writes, piece_text, pieces_text, pieces_before}
+-- Words and their texts: without a prefix, before what may be a key, and in pieces.
+use Rattle.krb_driver.proofs.Cited.{◌≡◌, ℕ, Bool, false, List, [], ◌∷◌, ◌++◌, refl, sym, ap, subst, ◌∙◌, append_assoc, codes, Watch, ErrorWatch, Writes, piece_text, pieces_text, pieces_before, Bor, map, length-map, ◌≢◌, true, Option, None, Some, cond, drop, eqb, MatchOption, option_map, eqb-true, eq-eqb, ◌+◌, ◌-◌, ◌<◌, ◌≤◌, take, get_or, length, length-drop, arith, drop_more, drop_all, take_all, ◌==◌, ◌&&◌, if◌then◌else◌, flat_map, has_key, hidden_word, key_from, key_start, may_be_key, quoted_word, shown_byte}
 use Rattle.krb_driver.specs.declared.reporting.piece.MessagePiece.{MessagePiece}
 use Rattle.krb_driver.specs.declared.command_line.mistake.BadLine.{BadLine}
 use Rattle.krb_driver.specs.declared.command_line.mistake.WordFault.TheVariants as word
 use Rattle.krb_driver.specs.Messages.{message}
 use Rattle.krb_driver.specs.Mistakes.{word_text}
+use Rattle.std.proofs.lemmas.Option.{slice_get-map}
+use Rattle.std.specs.Prelude.{slice_get}
+use Rattle.std.specs.Str.Pattern.{FindsTextPrefix, StripsPrefix}
+use Rattle.krb_driver.specs.FileNames.{stripped}
 
 pub pieces_text-append : (pieces : List MessagePiece) (rest : List ℕ) → pieces_text pieces ++ rest ≡ pieces_before pieces rest
 pieces_text-append [] rest = refl
@@ -13,3 +17,80 @@ pieces_text-append (p ∷ ps) rest = append_assoc (piece_text p) (pieces_text ps
 -- a bad command line is reported without words
 pub Writes-alone : (err : ErrorWatch) (to : Watch) (line : BadLine) → err.explains ≡ false → Writes err.to to (message (codes "bad command line") ++ []) → Writes err.to to (word_text err.explains (word.BadLine line))
 Writes-alone err to line hides other = subst (λ (b : Bool). Writes err.to to (word_text b (word.BadLine line))) (sym hides) other
+
+-- ---- words and their texts
+
+pub length_words : (words : List (Bor (List ℕ))) → length (map (λ w. w.now) words) ≡ length words
+length_words words = length-map words (λ w. w.now)
+
+pub first_word : (words : List (Bor (List ℕ))) → slice_get (map (λ w. w.now) words) 0 ≡ option_map (λ w. w.now) (slice_get words 0)
+first_word words = slice_get-map (λ w. w.now) words 0
+
+-- ---- words without a prefix
+
+-- a word that begins with the prefix
+stripped-some : (prefix rest : List ℕ) → stripped prefix (prefix ++ rest) ≡ Some rest
+stripped-some [] rest = refl
+stripped-some (p ∷ ps) rest = ap (λ (b : Bool). cond b (stripped ps (ps ++ rest)) None) (eq-eqb p p refl) ∙ stripped-some ps rest
+
+stripped-next : (b p : ℕ) (bs ps : List ℕ) (same : Bool) → eqb b p ≡ same → ((rest : List ℕ) → b ∷ bs ≢ p ∷ ps ++ rest) → (((rest : List ℕ) → bs ≢ ps ++ rest) → stripped ps bs ≡ None)
+    → cond same (stripped ps bs) None ≡ None
+stripped-next b p bs ps true is lacks others = others (λ rest e. lacks rest (ap (λ (c : ℕ). c ∷ bs) (eqb-true b p is) ∙ ap (λ (cs : List ℕ). p ∷ cs) e))
+stripped-next b p bs ps false is lacks others = refl
+
+-- a word that does not
+stripped-none : (prefix word : List ℕ) → ((rest : List ℕ) → word ≢ prefix ++ rest) → stripped prefix word ≡ None
+stripped-none [] word lacks = absurd (lacks word refl)
+stripped-none (p ∷ ps) [] lacks = refl
+stripped-none (p ∷ ps) (b ∷ bs) lacks = stripped-next b p bs ps (eqb b p) refl lacks (stripped-none ps bs)
+
+-- the word that `strip_prefix` returns
+pub strips : (prefix word : List ℕ) (r : Option (Bor (List ℕ))) → MatchOption r (FindsTextPrefix prefix word None) (λ x. StripsPrefix (FindsTextPrefix prefix) word x.now)
+    → option_map (λ x. x.now) r ≡ stripped prefix word
+strips prefix word None lacks = sym (stripped-none prefix word lacks)
+strips prefix word (Some x) found =
+    let n = found.0 in
+    let word_is : word ≡ prefix ++ drop n word = found.1.1 in
+    ap Some found.2 ∙ sym (ap (stripped prefix) word_is ∙ stripped-some prefix (drop n word))
+
+-- ---- where in a word what may be a key begins
+
+-- where it begins in a word that is not empty
+key_from-cons : (can_begin : Bool) (b : ℕ) (bs : List ℕ) (is : Bool) → (can_begin && may_be_key (b ∷ bs)) ≡ is → key_from can_begin (b ∷ bs) ≡ (if is then 0 else 1 + key_from (b == 61) bs)
+key_from-cons can_begin b bs is e = ap (λ (x : Bool). if x then 0 else 1 + key_from (b == 61) bs) e
+
+module _ (word : List ℕ) (i : ℕ) (can_begin : Bool) (before : key_start word ≡ i + key_from can_begin (drop i word)) where
+  -- the part of a word from there on is the word without what comes before
+  abbrev pub part : List ℕ
+  part = take (length word - i) (drop i word)
+
+  key_from-part : i < length word → (is : Bool) → (can_begin && may_be_key part) ≡ is → key_from can_begin (drop i word) ≡ (if is then 0 else 1 + key_from (get_or word i 0 == 61) (drop (i + 1) word))
+  key_from-part at is e =
+      let bs = drop (i + 1) word in
+      let b = get_or word i 0 in
+      let cons : drop i word ≡ b ∷ bs = drop_more word i 0 at in
+      let len = length-drop i word in
+      let all : part ≡ drop i word = take_all (length word - i) (drop i word) (omega (arith, len)) in
+      ap (key_from can_begin) cons ∙ key_from-cons can_begin b bs is (ap (λ (w : List ℕ). can_begin && may_be_key w) (sym cons) ∙ ap (λ (w : List ℕ). can_begin && may_be_key w) (sym all) ∙ e)
+
+  -- it begins here
+  pub key-here : i < length word → (can_begin && may_be_key part) ≡ true → i ≡ key_start word
+  key-here at is =
+      let here = key_from-part at true is in
+      omega (arith, before, here)
+
+  -- it begins later, if at all
+  pub key-later : i < length word → (can_begin && may_be_key part) ≡ false → key_start word ≡ (i + 1) + key_from (get_or word i 0 == 61) (drop (i + 1) word)
+  key-later at is =
+      let later = key_from-part at false is in
+      omega (arith, before, later)
+
+  -- it begins nowhere
+  pub key-nowhere : length word ≤ i → i ≤ length word → length word ≡ key_start word
+  key-nowhere past within =
+      let none : key_from can_begin (drop i word) ≡ 0 = ap (key_from can_begin) (drop_all i word past) in
+      omega (arith, before, none, past, within)
+
+-- what may be a key is not shown
+pub quoted-hidden : (word : List ℕ) → has_key word ≡ true → quoted_word word ≡ hidden_word
+quoted-hidden word is = ap (λ (hides : Bool). if hides then hidden_word else codes "\"" ++ (flat_map shown_byte word ++ codes "\"")) is

@@ -26,7 +26,7 @@ use Rattle.krb_driver.specs.declared.error.RunError.TheVariants as error
 use Rattle.krb_driver.specs.declared.verdict.FileKind.{FileKind}
 use Rattle.krb_driver.specs.declared.verdict.FileKind.TheVariants.{Keytab, Cache}
 use Rattle.krb_driver.specs.declared.reporting.details.Details.{Details}
-use Rattle.krb_driver.specs.declared.reporting.found_words.TheConstants.{LINES}
+use Rattle.krb_driver.specs.declared.reporting.ending_words.TheConstants.{LINES}
 use Rattle.krb_driver.specs.declared.reporting.reported.Failure.{Failure}
 use Rattle.krb_driver.specs.declared.reporting.reported.Failure.TheVariants.{Refused, Faulted}
 use Rattle.krb_driver.specs.declared.reporting.reported.Reported.{Reported}

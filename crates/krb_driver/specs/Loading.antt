@@ -1,22 +1,29 @@
--- What a load gives.
-use Rattle.std.specs.Prelude.{◌≡◌, ◌⊎◌, ℕ, nat_eq, Bool, true, false, ◌||◌, List, [], ◌∷◌, Result, Ok, Err}
+-- What files and the standard input give, and what is opened of it.
+use Rattle.std.specs.Prelude.{◌≡◌, ◌⊎◌, ℕ, nat_eq, Bool, true, false, ◌||◌, List, [], ◌∷◌, Result, Ok, Err, is_some, if◌then◌else◌, Option, None, Some, ◌≢◌, ◌+◌, ◌<◌, ◌≤◌, length, IfOk, IfErr, IfSome, IsErrOf}
 use Rattle.std.specs.List.{starts_with}
 use Rattle.krb_wire.specs.declared.format.KtFormat.TheVariants.{V2}
 use Rattle.krb_wire.specs.declared.format.Order.{Order}
 use Rattle.krb_keytab.specs.declared.open.KtOpenFault.{KtOpenFault}
-use Rattle.krb_keytab.specs.Store.{KeytabState, empty, open_result}
+use Rattle.krb_keytab.specs.Store.{KeytabState, empty, open_result, store_of}
 use Rattle.krb_ccache.specs.declared.open.CcOpenFault.{CcOpenFault}
-use Rattle.krb_ccache.specs.Store.{CacheState, open_result as cache_result}
+use Rattle.krb_ccache.specs.Store.{CacheState, open_result as cache_result, store_of as cache_store}
 use Rattle.krb_files.specs.declared.files.Files.{Ghosts}
 use Rattle.krb_files.specs.declared.files.LoadFault.{LoadFault}
 use Rattle.krb_files.specs.declared.files.LoadFault.TheVariants as load
-use Rattle.krb_files.specs.Loading.{LoadsFile, most_bytes}
+use Rattle.krb_files.specs.Loading.{LoadsFile, most_bytes, Answer}
 use Rattle.krb_driver.specs.declared.loading.NoKeytab.{NoKeytab}
 use Rattle.krb_driver.specs.declared.loading.NotCache.{NotCache}
 use Rattle.krb_driver.specs.declared.loading.NoKeytab.TheVariants.{Load, Open}
 use Rattle.krb_driver.specs.declared.error.RunError.{RunError}
-use Rattle.krb_driver.specs.declared.error.RunError.TheVariants.{NotACache}
-use Rattle.krb_driver.specs.RunErrors.{load_error}
+use Rattle.krb_driver.specs.declared.error.RunError.TheVariants.{NotACache, Refused}
+use Rattle.krb_driver.specs.RunErrors.{load_error, list_error, no_keytab_error}
+use Rattle.krb_walk.specs.Store.{fault_of}
+use Rattle.krb_walk.specs.declared.refusal.Code.{Code}
+use Rattle.krb_walk.specs.declared.refusal.Code.TheVariants.{Damaged, ReadOnly}
+use Rattle.krb_ccache.specs.Changes.{is_read_only}
+use Rattle.krb_driver.specs.declared.verdict.FileKind.TheVariants.{Keytab, Cache}
+use Rattle.krb_files.specs.declared.files.LoadFault.TheVariants.{Missing, TooLarge}
+use Rattle.krb_files.specs.Bytes.{Source, ConsumesAtMost, is_read_fault}
 
 -- ---- what a load gives
 
@@ -51,21 +58,20 @@ abbrev pub keytab_of : Order → Result (List ℕ) LoadFault → Result KeytabSt
 keytab_of order (Ok image) = result_map_err (not_keytab image) (open_result order most_bytes image)
 keytab_of order (Err fault) = Err (Load fault)
 
--- the same, but a missing file gives an empty keytab of version 2
-abbrev pub keytab_or_new : Order → Result (List ℕ) LoadFault → Result KeytabState NoKeytab
-keytab_or_new order (Err load.Missing) = Ok (empty V2 most_bytes)
-keytab_or_new order answer = keytab_of order answer
-
 -- what takes the place of a missing file: an empty keytab of version 2, unless the file is to be saved in place
 abbrev pub new_unless : Bool → Result KeytabState NoKeytab
 new_unless true = Err (Load load.Missing)
 new_unless false = Ok (empty V2 most_bytes)
 
--- the keytab of a file, where one of no bytes gives an empty keytab of version 2, and so does a missing one that is not to be saved in place
+-- the keytab of a file, or what takes the place of a missing one
+abbrev pub keytab_or_new : Order → Bool → Result (List ℕ) LoadFault → Result KeytabState NoKeytab
+keytab_or_new order in_place (Err load.Missing) = new_unless in_place
+keytab_or_new order in_place answer = keytab_of order answer
+
+-- the same, and a file of no bytes gives an empty keytab of version 2
 abbrev pub keytab_or_fresh : Order → Bool → Result (List ℕ) LoadFault → Result KeytabState NoKeytab
 keytab_or_fresh order in_place (Ok []) = Ok (empty V2 most_bytes)
-keytab_or_fresh order in_place (Err load.Missing) = new_unless in_place
-keytab_or_fresh order in_place answer = keytab_of order answer
+keytab_or_fresh order in_place answer = keytab_or_new order in_place answer
 
 -- the cache that a load gives, or why there is none
 abbrev pub cache_of : Result (List ℕ) LoadFault → Result CacheState RunError
@@ -86,3 +92,62 @@ module _ {F : Type 0} (trait : Ghosts F) (old : F) (name : List ℕ) where
     pub answer : Result (List ℕ) LoadFault
     pub loads : LoadsFile trait old name answer new
     pub gives : (due answer ≡ given) ⊎ (given ≡ Err (Load load.NoMemory))
+
+-- ---- what opened files give
+
+-- the keytab in a file, or the error: the file is missing or was not read, or it is no keytab
+abbrev pub keytab_in : Order → Answer → Result KeytabState RunError
+keytab_in order answer = result_map_err no_keytab_error (keytab_of order answer)
+
+-- the keytab in a file to list: if it is none, the error has its own words
+abbrev pub listed_in : Order → Answer → Result KeytabState RunError
+listed_in order answer = result_map_err list_error (keytab_of order answer)
+
+-- the keytab in a file, where a missing one that is not to be saved in place gives an empty keytab
+abbrev pub keytab_or_empty : Order → Bool → Answer → Result KeytabState RunError
+keytab_or_empty order in_place answer = result_map_err no_keytab_error (keytab_or_new order in_place answer)
+
+-- the keytab in a file, where one of no bytes gives an empty keytab, and so does a missing one that is not to be saved in place
+abbrev pub fresh_in : Order → Bool → Answer → Result KeytabState RunError
+fresh_in order in_place answer = result_map_err no_keytab_error (keytab_or_fresh order in_place answer)
+
+-- what was opened, or its refusal if there is one
+abbrev pub or_refused : {K E : Type 0} → (Code → E) → K → Option Code → Result K E
+or_refused why k None = Ok k
+or_refused why k (Some code) = Err (why code)
+
+-- what was opened, unless it refuses to be changed
+abbrev pub unless_refused : {K E : Type 0} → (Code → E) → (K → Option Code) → Result K E → Result K E
+unless_refused why refusal (Ok k) = or_refused why k (refusal k)
+unless_refused why refusal (Err e) = Err e
+
+-- why a keytab refuses to be changed: it is damaged
+abbrev pub keytab_refusal : KeytabState → Option Code
+keytab_refusal k = if is_some (fault_of (store_of k)) then Some Damaged else None
+
+-- why a cache refuses to be changed: version 3 is read-only, or it is damaged
+abbrev pub cache_refusal : CacheState → Option Code
+cache_refusal k = if is_read_only k.version then Some ReadOnly else (if is_some (fault_of (cache_store k)) then Some Damaged else None)
+
+-- the keytab of a file to change, which is not damaged
+unfoldable pub whole_in : Order → Answer → Result KeytabState RunError
+whole_in order answer = unless_refused (Refused Keytab) keytab_refusal (keytab_in order answer)
+
+-- the keytab of a file to change, which is not damaged, where one of no bytes or a missing one gives an empty keytab as above
+unfoldable pub whole_or_empty : Order → Bool → Answer → Result KeytabState RunError
+whole_or_empty order in_place answer = unless_refused (Refused Keytab) keytab_refusal (fresh_in order in_place answer)
+
+-- the cache of a file to change, which is not of version 3 and not damaged
+unfoldable pub writable_in : Answer → Result CacheState RunError
+writable_in answer = unless_refused (Refused Cache) cache_refusal (cache_of answer)
+
+-- ---- what the standard input gives
+
+-- a reader gave all that it had left; or it had more left than `most` bytes, or it failed, or memory ran out
+pub record GivesInput (most : ℕ) (reader reader' : Source) (input : Result (List ℕ) LoadFault) : Type 0 where
+  pub all : IfOk input (λ bytes. IfSome reader.left (λ left. bytes ≡ left))
+  pub within : IfOk input (λ bytes. length bytes ≤ most)
+  pub too_large : IsErrOf input TooLarge → IfSome reader.left (λ left. most < length left)
+  pub never : IfErr input (λ fault. fault ≢ Missing)
+  pub failed : reader'.failed ≡ (is_read_fault input || reader.failed)
+  pub taken : ConsumesAtMost reader.left reader'.left (most + 1)

@@ -1,13 +1,52 @@
 -- What a run of the program prints and reports, and its exit status.
-use Rattle.std.specs.Prelude.{◌≡◌, ℕ, List, [], ◌++◌, IsTrue, IsFalse, Option, Err}
-use Rattle.std.specs.Io.KnownBytes.{Appends}
+use Rattle.std.specs.Prelude.{Bool, ℕ, List, [], ◌++◌, true, false, ◌||◌, Option, None, Some, ◌≡◌, IsTrue, IsFalse, Err}
 use Rattle.krb_files.specs.Bytes.{Watch, AppendsPrefix}
+use Rattle.krb_files.specs.declared.aftermath.Aftermath.{Aftermath}
+use Rattle.krb_files.specs.declared.aftermath.Aftermath.TheVariants.{Restored}
+use Rattle.krb_files.specs.Phrases.{aftermath_phrase}
+use Rattle.krb_driver.specs.declared.reporting.details.Details.{Details}
+use Rattle.krb_driver.specs.EndingWords.{ending_words}
+use Rattle.krb_driver.specs.Messages.{file_message, phrase_line}
+use Rattle.krb_driver.specs.RunErrors.{Ending, ending_message, end_status}
+use Rattle.std.specs.Io.KnownBytes.{Appends}
 use Rattle.krb_driver.specs.declared.error.RunError.{RunError}
 use Rattle.krb_driver.specs.declared.error.RunError.TheVariants.{OutputNotWritten, NoMemory}
-use Rattle.krb_driver.specs.declared.reporting.details.Details.{Details}
-use Rattle.krb_driver.specs.ErrorOutput.{ErrorWatch}
-use Rattle.krb_driver.specs.RunErrors.{Ending, end_status}
-use Rattle.krb_driver.specs.Reports.{ending_text}
+use Rattle.krb_text.specs.Gathered.{Sent}
+
+-- a watched error output, and whether words that explain follow its messages
+pub record ErrorWatch : Type 0 where
+  pub to : Watch
+  pub explains : Bool
+
+-- ---- the text that reports the end of a run
+
+-- words, if they are shown
+abbrev pub words_if : Bool → List ℕ → List ℕ
+words_if true words = words
+words_if false words = []
+
+-- what a save left behind is told where no words are shown too: all but that the old bytes are back
+abbrev pub is_message : Aftermath → Bool
+is_message Restored = false
+is_message aftermath = true
+
+-- the line that tells it
+abbrev pub aftermath_line : List ℕ → Option ℕ → Aftermath → List ℕ
+aftermath_line file None Restored = phrase_line None (aftermath_phrase Restored)
+aftermath_line file None aftermath = file_message file (aftermath_phrase aftermath)
+aftermath_line file (Some line) aftermath = phrase_line (Some line) (aftermath_phrase aftermath)
+
+-- the same, if it is to be told
+abbrev pub aftermath_text : Bool → List ℕ → Option ℕ → Option Aftermath → List ℕ
+aftermath_text explains file line None = []
+aftermath_text explains file line (Some aftermath) = words_if (explains || is_message aftermath) (aftermath_line file line aftermath)
+
+-- the text that reports the end of a run: its message, the words that explain it, if they are shown, and what its save left behind
+abbrev pub ending_text : Bool → List ℕ → Option ℕ → Details → Ending → List ℕ
+ending_text explains file line details ending =
+    ending_message file ending ++ (words_if explains (ending_words file line details ending) ++ aftermath_text explains file line details.aftermath)
+
+-- ---- what a run of the program prints and reports, and its exit status
 
 -- what a run prints, and how it ends
 pub record Run : Type 0 where
@@ -56,3 +95,18 @@ pub record EndsRun (file : List ℕ) (line : Option ℕ) (due : Run) (out out' :
   pub details : Details
   pub shows : Shows due out out' ending
   pub reported : Reports file line details ending err err' status
+
+-- ---- a text on its way to a writer that ignores failures
+
+-- of a text that began when the writer had `start`, all is written or gathered; or the writer has failed, and a prefix is written
+pub record Underway (start : Option (List ℕ)) (err : Watch) (gathered text : List ℕ) : Type 0 where
+  pub whole : IsFalse err.failed → Sent start err.contents text gathered
+  pub prefix : AppendsPrefix start err.contents text
+
+-- a text was added to the one on its way
+abbrev pub Adds : Watch → List ℕ → Watch → List ℕ → List ℕ → Type 0
+Adds err gathered err' gathered' text = (start : Option (List ℕ)) (before : List ℕ) → Underway start err gathered before → Underway start err' gathered' (before ++ text)
+
+-- the text on its way was written
+abbrev pub Sends : Watch → List ℕ → Watch → Type 0
+Sends err gathered err' = (start : Watch) (text : List ℕ) → Underway start.contents err gathered text → Writes start err' text

@@ -1,21 +1,29 @@
-//! What a command is, and the driver that runs one.
+//! What a command is, the world that it runs in, and the driver that runs one.
 
 ghost use Rattle.std.specs.Prelude.{◌≡◌, ℕ, List};
-ghost use Rattle.krb_driver.specs.Commands.{EndsBefore, EndsCommand, Finishes, Runs, Settles, ShowsEnd, made_effect, ready_end, told_of};
-ghost use Rattle.krb_driver.specs.Effects.{Effect, Page, about, is_save};
+ghost use Rattle.krb_driver.specs.Commands.{EndsBefore, EndsCommand, Finishes, Runs, Settles, ShowsEnd, made_effect, ready_end, told_of, Effect, Page, about, is_save};
 
-use crate::error::RunError;
+use crate::error::{RunError, is_spent};
 use crate::file_name::FileName;
-use crate::holding::release;
+use crate::opening::release;
 use crate::reporting::details::{Details, details_of};
-use crate::reporting::{report, show};
-use crate::status::is_spent;
+use crate::reporting::{ErrorOutput, report, show};
 use crate::verdict::Verdict;
-use crate::world::World;
-use krb_files::{Cause, Files, Watched};
+use krb_files::{Cause, Files, Watched, WatchedReader};
 use krb_wire::NoMemory;
 use std::alloc::Allocator;
 use std::io::{Read, Write};
+
+/// The files and the streams of a run.
+#[derive(Drop)]
+pub struct World<F: Files, R: Read, W: Write, E: Write> {
+    pub files: F,
+    /// The input of scripts, and of the lines of ktutil.
+    pub input: WatchedReader<R>,
+    pub out: Watched<W>,
+    /// Where errors are reported.
+    pub err: ErrorOutput<E>,
+}
 
 /// An error, and the file that it is about.
 #[derive(Clone, Copy)]
@@ -75,6 +83,9 @@ pub enum Made<A: Allocator, S: Drop> {
     Saves(Vec<u8, A>, Output<A>),
 }
 
+/// What a command made, or the error that it met.
+pub type MakeResult<'a, A, S> = Result<Made<A, S>, FileError<'a>>;
+
 // What is left to show after the save.
 #[derive(Drop)]
 enum Ready<A: Allocator, S: Drop> {
@@ -85,8 +96,7 @@ enum Ready<A: Allocator, S: Drop> {
 /// What a run shows at its end.
 pub trait Show<A: Allocator + Copy>: Drop {
     ghost use Rattle.std.specs.Prelude.{ℕ, List, IsFalse};
-    ghost use Rattle.krb_driver.specs.Commands.{ShowsPage};
-    ghost use Rattle.krb_driver.specs.Effects.{Page};
+    ghost use Rattle.krb_driver.specs.Commands.{ShowsPage, Page};
 
     /// The page that it shows for the file of that name.
     ghost page: { Self → List ℕ → Page };
@@ -120,8 +130,7 @@ impl<A: Allocator + Copy> Show<A> for Output<A> {
 /// A command: a plan over files, what it shows, and the file that it saves.
 pub trait Command<A: Allocator + Copy> {
     ghost use Rattle.std.specs.Prelude.{◌≡◌, ℕ, List, Option};
-    ghost use Rattle.krb_driver.specs.Commands.{MakesFairly, any, made_effect};
-    ghost use Rattle.krb_driver.specs.Effects.{CommandPlan};
+    ghost use Rattle.krb_driver.specs.Commands.{MakesFairly, any, made_effect, CommandPlan};
     ghost use Rattle.krb_files.specs.Loading.{Answer};
 
     /// What it shows.
@@ -141,7 +150,7 @@ pub trait Command<A: Allocator + Copy> {
         ensures { result.now ≡ file self.now };
 
     /// Loads its files, holds those that it may change, and returns what to save and show.
-    fn make<F: Files>(&self, alloc: A, files: &mut F) -> Result<Made<A, Self::Shown>, FileError<'_>>
+    fn make<F: Files>(&self, alloc: A, files: &mut F) -> MakeResult<'_, A, Self::Shown>
         ensures { MakesFairly F.Files files.old (plan self.now (F.Files.mode files.new)) (fairly self.now)
             (made_effect Self.Shown.page (file self.now) result) files.new };
 }

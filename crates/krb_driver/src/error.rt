@@ -1,16 +1,16 @@
-//! The errors that end a run.
+//! The errors that end a run, and its exit status.
 
 ghost use Rattle.std.specs.Prelude.{◌≡◌};
 ghost use Rattle.krb_driver.specs.declared.error.RunError.TheVariants as error;
 ghost use Rattle.krb_driver.specs.declared.verdict.FileKind.TheVariants.{Keytab};
 ghost use Rattle.krb_driver.specs.FirstWords.{first_word, line_at, safe_word};
-ghost use Rattle.krb_driver.specs.RunErrors.{error_of_name, error_status, input_error, list_error, load_error, no_keytab_error, output_error, save_error, script_error, word_error};
+ghost use Rattle.krb_driver.specs.RunErrors.{error_of_name, error_status, input_error, list_error, load_error, no_keytab_error, output_error, save_error, script_error, word_error, aftermath_status, end_status, ending_status, is_spent};
 
 use crate::file_name::NameSource;
 use crate::first_word::FirstWord;
 use crate::loading::{NoKeytab, NotCache, NotKeytab};
-use crate::verdict::FileKind;
-use krb_files::{LoadFault, OutFault, SaveFault};
+use crate::verdict::{FileKind, Verdict};
+use krb_files::{Aftermath, LoadFault, OutFault, SaveFault};
 use krb_text::{LineFault, ScriptRefusal};
 use krb_walk::{Code, Fault};
 use krb_wire::NoMemory;
@@ -197,4 +197,38 @@ impl From<NoMemory> for RunError {
     fn from(_refused: NoMemory) -> RunError {
         RunError::NoMemory
     }
+}
+
+/// Returns whether a run ended because memory ran out.
+pub fn is_spent(ending: &Result<Verdict, RunError>) -> bool
+    ensures { result ≡ is_spent ending.now }
+{
+    matches!(ending, Err(RunError::NoMemory))
+}
+
+// Returns the exit status of a run that ended so, but for what its save left behind.
+fn ending_status(ending: Result<Verdict, RunError>) -> u8
+    ensures { result ≡ ending_status ending }
+{
+    match ending {
+        Ok(verdict) => verdict.status(),
+        Err(error) => error.status(),
+    }
+}
+
+// Returns the least exit status of a run whose save left that behind: not 0 if another program wrote beside it.
+fn aftermath_status(aftermath: Option<Aftermath>) -> u8
+    ensures { result ≡ aftermath_status aftermath }
+{
+    match aftermath {
+        Some(Aftermath::LostChange | Aftermath::Mixed) => 1,
+        _ => 0,
+    }
+}
+
+/// Returns the exit status of a run that ended so, and whose save left that behind.
+pub fn end_status(ending: Result<Verdict, RunError>, aftermath: Option<Aftermath>) -> u8
+    ensures { result ≡ end_status ending aftermath }
+{
+    ending_status(ending).max(aftermath_status(aftermath))
 }

@@ -6,17 +6,14 @@ mod command_line;
 mod error;
 mod file_name;
 mod first_word;
-mod holding;
-mod input;
 mod loading;
 mod opening;
 mod reporting;
-mod status;
 mod verdict;
-mod world;
 
 pub use command::{
-    Command, FileError, Made, Output, RunEnd, Show, end_before, finish, run, run_to_end,
+    Command, FileError, Made, MakeResult, Output, RunEnd, Show, World, end_before, finish, run,
+    run_to_end,
 };
 pub use command_line::matches::{Matches, first_value, refuse_twice, times_given, typed, v1_order};
 pub use command_line::mistake::{BadLine, Mistake, More, WordFault};
@@ -24,20 +21,17 @@ pub use command_line::spelled::{
     Spelled, spelled_etype, spelled_etypes, spelled_name, spelled_names, spelled_seconds,
 };
 pub use command_line::words::{CommandName, CommandWords, DRY_RUN, IN_PLACE, V1_BIG, Word};
-pub use error::RunError;
+pub use error::{RunError, is_spent};
 pub use file_name::{FileName, NameSource, append_name, type_of};
 pub use first_word::FirstWord;
-pub use holding::{hold, hold_if, release};
-pub use input::read_input;
-pub use loading::{NoKeytab, NotCache, NotKeytab, cache_of, keytab_of, load_keytab, load_or_new};
+pub use loading::{
+    NoKeytab, NotCache, NotKeytab, cache_of, keytab_of, load_keytab, load_or_new, read_input,
+};
 pub use opening::{
-    give_cache, give_or_empty, open_cache, open_keytab, open_listed, open_whole,
-    open_whole_or_empty, open_writable, other_type,
+    give_cache, give_or_empty, hold, hold_if, open_cache, open_keytab, open_listed, open_whole,
+    open_whole_or_empty, open_writable, other_type, release,
 };
 pub use reporting::details::{Details, details_of};
-pub use reporting::error_output::ErrorOutput;
 pub use reporting::reported::replied_verdict;
-pub use reporting::{report, report_word_fault, show};
-pub use status::is_spent;
+pub use reporting::{ErrorOutput, report, report_word_fault, show};
 pub use verdict::{FileKind, Findings, Verdict};
-pub use world::World;

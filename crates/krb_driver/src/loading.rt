@@ -1,21 +1,22 @@
-//! Loads the keytab or the cache of a file.
+//! Loads the keytab or the cache of a file, and reads the standard input.
 
 ghost use Rattle.std.specs.Prelude.{◌≡◌, ◌⊎◌, Err, IfOk, Ok};
 ghost use Rattle.krb_ccache.specs.Store.{image_of as cache_image, open_result as cache_result};
 ghost use Rattle.krb_files.specs.declared.files.LoadFault.TheVariants as load;
-ghost use Rattle.krb_keytab.specs.Store.{empty, image_of};
+ghost use Rattle.krb_keytab.specs.Store.{empty, image_of, open_result};
 ghost use Rattle.krb_wire.specs.declared.format.KtFormat.TheVariants.{V2};
-ghost use Rattle.krb_keytab.specs.Store.{open_result};
 ghost use Rattle.krb_driver.specs.declared.loading.NoKeytab.TheVariants.{Load};
 ghost use Rattle.krb_files.specs.Loading.{most_bytes};
-ghost use Rattle.krb_driver.specs.Loading.{Gives, GivesOrRunsOut, begins_as_cache, begins_as_keytab, cache_of, keytab_of, keytab_or_fresh, keytab_or_new, new_unless, not_cache, not_keytab, result_map, result_map_err};
+ghost use Rattle.krb_driver.specs.Loading.{Gives, GivesOrRunsOut, begins_as_cache, begins_as_keytab, cache_of, keytab_of, keytab_or_fresh, keytab_or_new, new_unless, not_cache, not_keytab, result_map, result_map_err, GivesInput};
+ghost use Rattle.krb_files.specs.Files.{answer_of};
 
 use crate::error::RunError;
 use krb_ccache::{CcOpenFault, Ccache};
-use krb_files::{Files, LoadFault};
+use krb_files::{Files, LoadFault, WatchedReader, load};
 use krb_keytab::{Keytab, KtOpenFault};
 use krb_wire::{KtFormat, Limits, Order, USUAL_LIMIT};
 use std::alloc::Allocator;
+use std::io::Read;
 
 /// Why a file gave no keytab.
 #[derive(Clone, Copy)]
@@ -100,22 +101,6 @@ fn new_keytab<A: Allocator + Copy>(alloc: A) -> Result<Keytab<A>, NoKeytab>
     }
 }
 
-/// Loads the keytab of a file, or returns an empty one of version 2 if the file is missing.
-pub fn load_or_new<A: Allocator + Copy, F: Files>(
-    alloc: A,
-    v1_order: Order,
-    files: &mut F,
-    name: &str,
-) -> Result<Keytab<A>, NoKeytab>
-    ensures { GivesOrRunsOut F.Files files.old name.now
-        (keytab_or_new v1_order) (result_map (λ k. k.state) result) files.new }
-{
-    match load_keytab(alloc, v1_order, files, name) {
-        Err(NoKeytab::Load(LoadFault::Missing)) => new_keytab(alloc),
-        given => given,
-    }
-}
-
 // Returns an empty keytab of version 2 in the place of a missing file, unless that is to be saved in place.
 fn new_unless<A: Allocator + Copy>(alloc: A, in_place: bool) -> Result<Keytab<A>, NoKeytab>
     ensures { (result_map (λ k. k.state) result ≡ new_unless in_place) ⊎ (result_map (λ k. k.state) result ≡ Err (Load load.NoMemory)) }
@@ -124,6 +109,23 @@ fn new_unless<A: Allocator + Copy>(alloc: A, in_place: bool) -> Result<Keytab<A>
         Err(NoKeytab::Load(LoadFault::Missing))
     } else {
         new_keytab(alloc)
+    }
+}
+
+/// Loads the keytab of a file, or returns an empty one of version 2 if the file is missing and not to be saved in place.
+pub fn load_or_new<A: Allocator + Copy, F: Files>(
+    alloc: A,
+    v1_order: Order,
+    in_place: bool,
+    files: &mut F,
+    name: &str,
+) -> Result<Keytab<A>, NoKeytab>
+    ensures { GivesOrRunsOut F.Files files.old name.now
+        (keytab_or_new v1_order in_place) (result_map (λ k. k.state) result) files.new }
+{
+    match load_keytab(alloc, v1_order, files, name) {
+        Err(NoKeytab::Load(LoadFault::Missing)) => new_unless(alloc, in_place),
+        given => given,
     }
 }
 
@@ -178,4 +180,15 @@ pub fn load_cache<A: Allocator, F: Files>(
 {
     let image = files.load(alloc, name, USUAL_LIMIT)?;
     cache_of(image).map_err(RunError::NotACache)
+}
+
+/// Reads the input to its end, if it has at most `most` bytes.
+pub fn read_input<A: Allocator, R: Read>(
+    alloc: A,
+    input: &mut WatchedReader<R>,
+    most: u32,
+) -> Result<Vec<u8, A>, LoadFault>
+    ensures { GivesInput most input.old input.new (answer_of result) }
+{
+    load(alloc, input, most, 0)
 }

@@ -1,10 +1,11 @@
-//! Opens the keytab or the cache of a file for a command. Each error names the file.
+//! Opens the keytab or the cache of a file for a command, and holds files. Each error names the file.
 
-ghost use Rattle.std.specs.Prelude.{◌≡◌, false, is_some};
+ghost use Rattle.std.specs.Prelude.{◌≡◌, false, is_some, None, Some};
 ghost use Rattle.krb_driver.specs.declared.error.RunError.TheVariants.{OtherType, Refused};
-ghost use Rattle.krb_driver.specs.Commands.{GivesOf, Opens, opened};
-ghost use Rattle.krb_driver.specs.Loading.{cache_of};
-ghost use Rattle.krb_driver.specs.Opening.{cache_refusal, fresh_in, keytab_in, keytab_or_empty, keytab_refusal, listed_in, unless_refused, whole_in, whole_or_empty, writable_in};
+ghost use Rattle.krb_driver.specs.Commands.{GivesOf, Opens, opened, HoldsIf, can_hold};
+ghost use Rattle.krb_driver.specs.Loading.{cache_of, cache_refusal, fresh_in, keytab_in, keytab_or_empty, keytab_refusal, listed_in, unless_refused, whole_in, whole_or_empty, writable_in};
+ghost use Rattle.krb_files.specs.Loading.{TurnsHold};
+ghost use Rattle.krb_files.specs.Plan.{HeldIf};
 
 use crate::command::FileError;
 use crate::error::RunError;
@@ -89,24 +90,6 @@ pub fn open_listed<'a, A: Allocator, F: Files>(
     give_listed(alloc, v1_order, files, file)
 }
 
-// Loads the keytab of a file, or returns an empty one of version 2 if the file is missing.
-fn give_or_new<'a, A: Allocator + Copy, F: Files>(
-    alloc: A,
-    v1_order: Order,
-    files: &mut F,
-    file: FileName<'a>,
-) -> Result<Keytab<A>, FileError<'a>>
-    ensures { GivesOf F.Files files.old file.entry (keytab_or_empty v1_order false) (opened (λ k. k.state) result) files.new }
-{
-    if file.is_other_type {
-        return Err(other_type(file));
-    }
-    match load_or_new(alloc, v1_order, files, file.name) {
-        Ok(keytab) => Ok(keytab),
-        Err(why) => Err(FileError::of(file, RunError::from(why))),
-    }
-}
-
 /// Loads the keytab of a file, or returns an empty one of version 2 if the file is missing and not to be saved in place.
 pub fn give_or_empty<'a, A: Allocator + Copy, F: Files>(
     alloc: A,
@@ -117,10 +100,12 @@ pub fn give_or_empty<'a, A: Allocator + Copy, F: Files>(
     ensures { GivesOf F.Files files.old file.entry (keytab_or_empty v1_order file.entry.in_place)
         (opened (λ k. k.state) result) files.new }
 {
-    if file.in_place {
-        give_keytab(alloc, v1_order, files, file)
-    } else {
-        give_or_new(alloc, v1_order, files, file)
+    if file.is_other_type {
+        return Err(other_type(file));
+    }
+    match load_or_new(alloc, v1_order, file.in_place, files, file.name) {
+        Ok(keytab) => Ok(keytab),
+        Err(why) => Err(FileError::of(file, RunError::from(why))),
     }
 }
 
@@ -249,4 +234,29 @@ pub fn open_writable<'a, A: Allocator, F: Files>(
 {
     let given = give_cache(alloc, files, file);
     writable(file, given)
+}
+
+/// Holds the file of that name.
+pub fn hold<F: Files>(files: &mut F, name: &str)
+    ensures { TurnsHold F.Files (Some name.now) files.old files.new }
+{
+    files.hold(name);
+}
+
+/// Releases the held file, if there is one.
+pub fn release<F: Files>(files: &mut F)
+    ensures { TurnsHold F.Files None files.old files.new }
+{
+    files.release();
+}
+
+/// Holds the file of that name if `held`, unless the name is of another type.
+#[tactic(auto, using(crate::proofs::Making::makes_holds))]
+pub fn hold_if<F: Files>(held: bool, files: &mut F, file: FileName<'_>)
+    ensures held { HeldIf F.Files (can_hold held file.entry) file.entry.name.now files.old files.new }
+    ensures plans { HoldsIf F.Files files.old (can_hold held file.entry) file.entry.name.now files.new }
+{
+    if held && !file.is_other_type {
+        hold(files, file.name);
+    }
 }

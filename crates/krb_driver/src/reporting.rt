@@ -1,10 +1,7 @@
 //! What a run prints, and how its end is reported.
 
-mod aftermath_words;
 pub(crate) mod details;
 mod ending_words;
-pub(crate) mod error_output;
-mod found_words;
 mod hints;
 mod key_start;
 mod lines;
@@ -13,33 +10,26 @@ mod name_words;
 mod operand;
 mod piece;
 pub(crate) mod reported;
-mod reported_words;
 mod words;
 mod writing;
 
 ghost use Rattle.std.specs.Prelude.{◌≡◌, IsFalse, codes};
 ghost use Rattle.krb_keytab.specs.Open.{open_fault_number};
 ghost use Rattle.krb_ccache.specs.Open.{open_fault_number as cache_fault_number};
-ghost use Rattle.krb_driver.specs.Messages.{file_number_message};
-ghost use Rattle.krb_driver.specs.PieceTexts.{pieces_text};
-ghost use Rattle.krb_driver.specs.Runs.{Writes, Shows, Reports};
-ghost use Rattle.krb_driver.specs.RunErrors.{ending_message, error_message};
-ghost use Rattle.krb_driver.specs.Verdicts.{verdict_message};
+ghost use Rattle.krb_driver.specs.Messages.{file_number_message, pieces_text};
+ghost use Rattle.krb_driver.specs.Runs.{Writes, Shows, Reports, aftermath_text, ending_text, words_if, Adds};
+ghost use Rattle.krb_driver.specs.RunErrors.{ending_message, error_message, verdict_message};
 ghost use Rattle.krb_driver.specs.EndingWords.{ending_words};
-ghost use Rattle.krb_driver.specs.Reports.{aftermath_text, ending_text, words_if};
-ghost use Rattle.krb_driver.specs.Underway.{Adds};
 
-use crate::error::RunError;
+use crate::error::{RunError, end_status};
 use crate::loading::{NotCache, NotKeytab};
-use crate::reporting::aftermath_words::{aftermath_line, is_message};
 use crate::reporting::details::Details;
 use crate::reporting::ending_words::add_ending_words;
-use crate::reporting::error_output::ErrorOutput;
 use crate::reporting::lines::{
-    Line, file_message, file_number_message, line_message, message, nothing,
+    Line, aftermath_line, file_message, file_number_message, is_message, line_message, message,
+    nothing,
 };
 use crate::reporting::writing::{Gathered, add_pieces, send};
-use crate::status::end_status;
 use crate::verdict::Verdict;
 use arrayvec::ArrayVec;
 use krb_files::{Aftermath, Watched, put};
@@ -47,6 +37,22 @@ use krb_text::LineFault;
 use krb_walk::Code;
 pub use mistake_words::report_word_fault;
 use std::io::Write;
+use std::marker::Model;
+
+/// An error output, and whether words that explain follow its messages.
+#[derive(Drop)]
+pub struct ErrorOutput<E: Write> {
+    pub to: Watched<E>,
+    pub explains: bool,
+}
+
+impl<E: Write> Model for ErrorOutput<E> {
+    ghost use Rattle.krb_driver.specs.Runs.{ErrorWatch};
+
+    ghost Value = { ErrorWatch };
+
+    ghost view = { λ e. record { to = e.to; explains = e.explains } };
+}
 
 /// Prints a text and returns `ending`, or the error of the output if that failed.
 pub fn show<W: Write>(

@@ -1,7 +1,7 @@
 //! The verdict of a run that did its work.
 
 ghost use Rattle.std.specs.Prelude.{◌≡◌};
-ghost use Rattle.krb_driver.specs.Verdicts.{hiding, verdict_status};
+ghost use Rattle.krb_driver.specs.RunErrors.{hiding, verdict_status};
 
 use crate::reporting::reported::Reported;
 use krb_walk::Fault;

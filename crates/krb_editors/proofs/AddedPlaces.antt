@@ -1,6 +1,10 @@
--- Where added entries stand, in lists and in sets.
-use Rattle.krb_editors.proofs.Cited.{◌≡◌, ◌⊎◌, inl, inr, ℕ, zero, suc, ◌<◌, ◌≤◌, Bool, true, false, List, [], ◌∷◌, ◌++◌, length, map, get_or, refl, sym, ap, ◌∙◌, subst, arith, list_any, Event, Store, carry, nth_or, ReplyContent, Started, Gave, Ended, Faulted, Placed, Gone, Rewritten, Refused, Rules, SessionState, after, history, moment, state_after, KeytabState, HaveSame, followed_past, followed_over, places_after}
-use Rattle.std.specs.Prelude.{◌||◌, ◌&&◌, ◌==◌, not, filter, nat_le, nat_lt, cond, if◌then◌else◌, Option, None, Some, option_and_then}
+-- Where live cells and added entries stand, in lists and in sets.
+use Rattle.krb_editors.proofs.Cited.{◌≡◌, ◌≢◌, ℕ, ◌<◌, ◌≤◌, true, List, [], ◌∷◌, map, Option, Some, None, refl, ap, arith, Store, Record, IsSound, end_of, is_place, next_live, stop_at, stop_of, ◌⊎◌, inl, inr, zero, suc, Bool, false, ◌++◌, length, get_or, sym, ◌∙◌, subst, list_any, Event, carry, nth_or, ReplyContent, Started, Gave, Ended, Faulted, Placed, Gone, Rewritten, Refused, Rules, SessionState, after, history, moment, state_after, KeytabState, HaveSame, followed_past, followed_over, places_after}
+use Rattle.krb_walk.specs.declared.stop.Stop.TheVariants.{Live}
+use Rattle.krb_walk.specs.Stops.{records_from}
+use Rattle.krb_walk.proofs.Cells.{stops_live}
+use Rattle.krb_walk.proofs.Stops.{stops_end, stops_give_records}
+use Rattle.std.specs.Prelude.{◌||◌, ◌&&◌, ◌==◌, not, filter, nat_le, nat_lt, cond, if◌then◌else◌, option_and_then}
 use Rattle.std.specs.List.Sorted.{IsNonDecreasing}
 use Rattle.std.specs.Ordering.{nat_cmp, is_eq, match_ordering}
 use Rattle.std.specs.declared.cmp.Ordering.TheVariants.{Less, Equal, Greater}
@@ -8,7 +12,43 @@ use Rattle.std.specs.BTreeMap.{is_at}
 use Rattle.std.specs.BTreeSet.{insert_key}
 use Rattle.std.proofs.lemmas.Bool.Decides.{nat_tests}
 use Rattle.krb_walk.proofs.Carries.{Rises}
+use Rattle.std.proofs.Math.Bool.{or_assoc}
+use Rattle.std.proofs.lemmas.Bool.{eq-eqb, eqb-true}
+use Rattle.std.proofs.lemmas.List.Folds.{Any-from_list_any, list_any-append, list_any-from_Any}
+use Rattle.std.proofs.lemmas.Map.Views.{any-filter_same}
+use Rattle.std.specs.Cmp.{both_ways}
+use Rattle.krb_text.proofs.Found.{any_of_map}
 use Rattle.krb_audit.specs.Findings.{hidden_at, hidden_from, hides_added}
+
+-- the places of the records at or after a place
+abbrev pub places_from : Store → ℕ → List ℕ
+places_from s p = map (λ r. r.place) (records_from s p)
+
+-- a stop at a live cell: its place is the first that is left, and the others are those from the next place on
+pub record Passes (s : Store) (p place next : ℕ) : Type 0 where
+  pub first : places_from s p ≡ place ∷ places_from s next
+  pub is_place : is_place s next ≡ true
+  pub ahead : p < next
+  pub within : next ≤ end_of s
+
+pub passes : (s : Store) (p place next : ℕ) → IsSound s → Live place next ≡ stop_at s p → Passes s p place next
+passes s p place next sound is =
+    let live = stops_live s p place next sound is in
+    let stop = stops_give_records s p (record { place = place; next = next; bytes = live.bytes }) sound live.next in
+    record {
+      first = ap (map (λ r. r.place)) stop.first;
+      is_place = stop.place;
+      ahead = (let after = stop.at_or_after in let ahead = stop.ahead in omega (arith, after, ahead));
+      within = stop.within;
+    }
+
+none_by : (s : Store) (p : ℕ) (found : Option Record) → next_live s p ≡ found → ((place next : ℕ) → stop_of s found ≢ Live place next) → places_from s p ≡ []
+none_by s p None found_is not_live = ap (map (λ r. r.place)) (stops_end s p found_is)
+none_by s p (Some r) found_is not_live = absurd (not_live r.place r.next refl)
+
+-- any other stop: no place is left
+pub passes_none : (s : Store) (p : ℕ) → ((place next : ℕ) → stop_at s p ≢ Live place next) → places_from s p ≡ []
+passes_none s p not_live = none_by s p (next_live s p) refl not_live
 
 -- ---- lists with the same numbers
 
@@ -18,12 +58,8 @@ same_refl xs = record { finds = λ test. refl }
 pub same_trans : (xs ys zs : List ℕ) → HaveSame xs ys → HaveSame ys zs → HaveSame xs zs
 same_trans xs ys zs h k = record { finds = λ test. h.finds test ∙ k.finds test }
 
-any_map : (f : ℕ → ℕ) (test : ℕ → Bool) (xs : List ℕ) → list_any test (map f xs) ≡ list_any (λ x. test (f x)) xs
-any_map f test [] = refl
-any_map f test (x ∷ xs) = ap (λ (b : Bool). test (f x) || b) (any_map f test xs)
-
 pub same_map : (f : ℕ → ℕ) (xs ys : List ℕ) → HaveSame xs ys → HaveSame (map f xs) (map f ys)
-same_map f xs ys h = record { finds = λ test. any_map f test xs ∙ h.finds (λ x. test (f x)) ∙ sym (any_map f test ys) }
+same_map f xs ys h = record { finds = λ test. any_of_map test f xs ∙ h.finds (λ x. test (f x)) ∙ sym (any_of_map test f ys) }
 
 any_kept : (test : ℕ → Bool) (x : ℕ) (b : Bool) (kept : List ℕ) (others : Bool) → list_any test kept ≡ others → list_any test (cond b (x ∷ kept) kept) ≡ (b && test x) || others
 any_kept test x true kept others is = ap (λ (c : Bool). test x || c) is
@@ -114,36 +150,6 @@ or_swap true true c = refl
 or_swap true false c = refl
 or_swap false b c = refl
 
-or_assoc : (a b c : Bool) → a || (b || c) ≡ (a || b) || c
-or_assoc true b c = refl
-or_assoc false b c = refl
-
-or_right : (a b : Bool) → b ≡ true → a || b ≡ true
-or_right true b e = refl
-or_right false b e = e
-
-cond_same : (b : Bool) → false ≡ cond b false false
-cond_same true = refl
-cond_same false = refl
-
-or_twice : (a c : Bool) → a || c ≡ a || (a || c)
-or_twice true c = refl
-or_twice false c = refl
-
-inserted_by : (test : ℕ → Bool) (k x : ℕ) (xs others : List ℕ) (lt same : Bool) → nat_lt k x ≡ lt → (k == x) ≡ same → list_any test others ≡ test k || list_any test xs
-    → list_any test (match_ordering (cond lt Less (cond same Equal Greater)) (k ∷ x ∷ xs) (x ∷ xs) (x ∷ others)) ≡ test k || (test x || list_any test xs)
-inserted_by test k x xs others true same e f ih = refl
-inserted_by test k x xs others false true e f ih = let is : k ≡ x = grind (arith, nat_tests) in rw is (or_twice (test x) (list_any test xs))
-inserted_by test k x xs others false false e f ih = ap (λ (b : Bool). test x || b) ih ∙ or_swap (test x) (test k) (list_any test xs)
-
-any_inserted : (test : ℕ → Bool) (k : ℕ) (xs : List ℕ) → list_any test (insert_key nat_cmp xs k) ≡ test k || list_any test xs
-any_inserted test k [] = refl
-any_inserted test k (x ∷ xs) = inserted_by test k x xs (insert_key nat_cmp xs k) (nat_lt k x) (k == x) refl refl (any_inserted test k xs)
-
--- a set with one more number
-pub same_inserted : (k : ℕ) (xs : List ℕ) → HaveSame (insert_key nat_cmp xs k) (k ∷ xs)
-same_inserted k xs = record { finds = λ test. any_inserted test k xs }
-
 is_at-eq_by : (q x : ℕ) (lt same : Bool) → nat_lt q x ≡ lt → (q == x) ≡ same → is_eq (cond lt Less (cond same Equal Greater)) ≡ same
 is_at-eq_by q x true true e f = absurd (grind (arith, nat_tests))
 is_at-eq_by q x true false e f = refl
@@ -158,74 +164,53 @@ is_at-eq q x = is_at-eq_by q x (nat_lt q x) (q == x) refl refl
 abbrev has : ℕ → List ℕ → Bool
 has q xs = list_any (is_at (nat_cmp q)) xs
 
-passes_by : (test : ℕ → Bool) (q x : ℕ) (b : Bool) (xs : List ℕ) → (q == x) ≡ b → test q ≡ true → (list_any test xs ≡ true) ⊎ (b ≡ true) → test x || list_any test xs ≡ true
-passes_by test q x true xs e passes h = let is : q ≡ x = grind (arith, nat_tests) in let p : test x ≡ true = rw (← is) passes in rw p refl
-passes_by test q x false xs e passes (inl h) = or_right (test x) _ h
-passes_by test q x false xs e passes (inr h) = cc
-
-or_cases : (a b : Bool) → a || b ≡ true → (b ≡ true) ⊎ (a ≡ true)
-or_cases true b e = inr refl
-or_cases false b e = inl e
-
--- a number that passes a test
-any_passes : (test : ℕ → Bool) (q : ℕ) (xs : List ℕ) → test q ≡ true → has q xs ≡ true → list_any test xs ≡ true
-any_passes test q [] passes is = cc
-any_passes test q (x ∷ xs) passes is =
-    let cases : (list_any test xs ≡ true) ⊎ ((q == x) ≡ true) = elim (or_cases (is_at (nat_cmp q) x) (has q xs) is) [
-      | inl later ↦ inl (any_passes test q xs passes later)
-      | inr here ↦ inr (sym (is_at-eq q x) ∙ here)
-    ] in
-    passes_by test q x (q == x) xs refl passes cases
-
-record Passing (test : ℕ → Bool) (xs : List ℕ) : Type 0 where
-  number : ℕ
-  passes : test number ≡ true
-  is_there : has number xs ≡ true
-
-found_by : (test : ℕ → Bool) (x : ℕ) (xs : List ℕ) (b : Bool) → test x ≡ b → b || list_any test xs ≡ true → (list_any test xs ≡ true → Passing test xs) → Passing test (x ∷ xs)
-found_by test x xs true e is ih = record { number = x; passes = e; is_there = (let same : (x == x) ≡ true = grind (arith, nat_tests) in rw (is_at-eq, same) refl) }
-found_by test x xs false e is ih = let p = ih is in record { number = p.number; passes = p.passes; is_there = or_right (is_at (nat_cmp p.number) x) _ p.is_there }
-
-any_found : (test : ℕ → Bool) (xs : List ℕ) → list_any test xs ≡ true → Passing test xs
-any_found test [] is = cc
-any_found test (x ∷ xs) is = found_by test x xs (test x) refl is (any_found test xs)
-
-same_bool : (a b : Bool) → (a ≡ true → b ≡ true) → (b ≡ true → a ≡ true) → a ≡ b
-same_bool true b h k = sym (h refl)
-same_bool false true h k = k refl
-same_bool false false h k = refl
-
+-- what a test finds in one list it finds in another that has the same numbers
 finds_in : (xs ys : List ℕ) → ((q : ℕ) → has q xs ≡ has q ys) → (test : ℕ → Bool) → list_any test xs ≡ true → list_any test ys ≡ true
-finds_in xs ys each test is = let p = any_found test xs is in any_passes test p.number ys p.passes (sym (each p.number) ∙ p.is_there)
+finds_in xs ys each test is =
+    let p = Any-from_list_any test xs is in
+    let self : is_at (nat_cmp p.1) p.1 ≡ true = is_at-eq p.1 p.1 ∙ eq-eqb p.1 p.1 refl in
+    let there : has p.1 xs ≡ true = list_any-from_Any (is_at (nat_cmp p.1)) xs (p.0, p.1, p.2, p.3, self) in
+    let r = Any-from_list_any (is_at (nat_cmp p.1)) ys (sym (each p.1) ∙ there) in
+    let same : p.1 ≡ r.1 = eqb-true p.1 r.1 (sym (is_at-eq p.1 r.1) ∙ r.4) in
+    list_any-from_Any test ys (r.0, r.1, r.2, r.3, ap test (sym same) ∙ p.4)
 
 -- lists that have the same numbers
 pub same_from_has : (xs ys : List ℕ) → ((q : ℕ) → has q xs ≡ has q ys) → HaveSame xs ys
-same_from_has xs ys each = record { finds = λ test. same_bool (list_any test xs) (list_any test ys) (finds_in xs ys each test) (finds_in ys xs (λ q. sym (each q)) test) }
+same_from_has xs ys each = record { finds = λ test. both_ways (list_any test xs) (list_any test ys) (finds_in xs ys each test) (finds_in ys xs (λ q. sym (each q)) test) }
 
-has_others_by : (q p x : ℕ) (at rest others : Bool) (same : Bool) → (p == q) ≡ same → at ≡ (q == x) → rest ≡ cond same false others → (not (x == p) && at) || rest ≡ cond same false (at || others)
-has_others_by q p x at rest others true e f ih = let none : (not (x == p) && (q == x)) ≡ false = grind (arith, nat_tests) in rw (f, none, ih) refl
-has_others_by q p x at rest others false e f ih = let all : (not (x == p) && (q == x)) ≡ (q == x) = grind (arith, nat_tests) in rw (f, all, ih) refl
+cond_not : (b c : Bool) → cond b false c ≡ (not b && c)
+cond_not true c = refl
+cond_not false c = refl
 
-has_others : (q p : ℕ) (xs : List ℕ) → list_any (λ x. not (x == p) && is_at (nat_cmp q) x) xs ≡ cond (p == q) false (has q xs)
-has_others q p [] = cond_same (p == q)
-has_others q p (x ∷ xs) = has_others_by q p x (is_at (nat_cmp q) x) _ (has q xs) (p == q) refl (is_at-eq q x) (has_others q p xs)
+-- what passes the test for q is another number than p, or not, as q is
+apart : (p q k : ℕ) → is_at (nat_cmp q) k ≡ true → not (k == p) ≡ not (p == q)
+apart p q k at = let same : q ≡ k = eqb-true q k (sym (is_at-eq q k) ∙ at) in rw (← same) (grind (arith, nat_tests))
 
 -- a set without a number
 pub same_removed : (p : ℕ) (old new : List ℕ) → ((q : ℕ) → has q new ≡ cond (is_at (nat_cmp p) q) false (has q old)) → HaveSame new (filter (λ q. not (q == p)) old)
 same_removed p old new each =
     same_from_has new (filter (λ q. not (q == p)) old)
-    (λ q. each q ∙ ap (λ (b : Bool). cond b false (has q old)) (is_at-eq p q) ∙ sym (any_filter (λ x. not (x == p)) (is_at (nat_cmp q)) old ∙ has_others q p old))
+    (λ q. each q ∙ ap (λ (b : Bool). cond b false (has q old)) (is_at-eq p q) ∙ cond_not (p == q) (has q old)
+    ∙ sym (any-filter_same (is_at (nat_cmp q)) (λ x. not (x == p)) (not (p == q)) (apart p q) old))
+
+cond_or : (b c : Bool) → cond b true c ≡ b || c
+cond_or true c = refl
+cond_or false c = refl
+
+-- the same test, the other way
+is_at-sym : (p q : ℕ) → is_at (nat_cmp p) q ≡ is_at (nat_cmp q) p
+is_at-sym p q = let same : (p == q) ≡ (q == p) = grind (arith, nat_tests) in is_at-eq p q ∙ same ∙ sym (is_at-eq q p)
+
+-- a set with one more number
+pub same_inserted : (p : ℕ) (old new : List ℕ) → ((q : ℕ) → has q new ≡ cond (is_at (nat_cmp p) q) true (has q old)) → HaveSame new (p ∷ old)
+same_inserted p old new each = same_from_has new (p ∷ old) (λ q. each q ∙ ap (λ (b : Bool). cond b true (has q old)) (is_at-sym p q) ∙ cond_or (is_at (nat_cmp q) p) (has q old))
 
 -- ---- a rewrite
 
-any_append : (test : ℕ → Bool) (xs ys : List ℕ) → list_any test (xs ++ ys) ≡ list_any test xs || list_any test ys
-any_append test [] ys = refl
-any_append test (x ∷ xs) ys = ap (λ (b : Bool). test x || b) (any_append test xs ys) ∙ or_assoc (test x) (list_any test xs) (list_any test ys)
-
 -- one more was carried
-pub same_turned : (xs ys : List ℕ) (k : ℕ) → HaveSame (insert_key nat_cmp xs k ++ ys) (xs ++ k ∷ ys)
-same_turned xs ys k = record {
+pub same_turned : (new xs ys : List ℕ) (k : ℕ) → HaveSame new (k ∷ xs) → HaveSame (new ++ ys) (xs ++ k ∷ ys)
+same_turned new xs ys k h = record {
   finds = λ test.
-      any_append test (insert_key nat_cmp xs k) ys ∙ ap (λ (b : Bool). b || list_any test ys) (any_inserted test k xs)
-      ∙ sym (or_assoc (test k) (list_any test xs) (list_any test ys)) ∙ or_swap (test k) (list_any test xs) (list_any test ys) ∙ sym (any_append test xs (k ∷ ys));
+      list_any-append test new ys ∙ ap (λ (b : Bool). b || list_any test ys) (h.finds test)
+      ∙ or_assoc (test k) (list_any test xs) (list_any test ys) ∙ or_swap (test k) (list_any test xs) (list_any test ys) ∙ sym (list_any-append test xs (k ∷ ys));
 }

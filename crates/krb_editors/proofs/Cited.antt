@@ -4,15 +4,13 @@ pub use Rattle.std.proofs.lemmas.List.{append-nil, take_more, take_all}
 pub use Rattle.std.proofs.lemmas.Result.{err_from_is_err_and}
 pub use Rattle.std.specs.List.{list_any, flat_map}
 pub use Rattle.std.specs.Prelude.{Err, Ok, Result, nat_lt, unwrap_or}
-pub use Rattle.krb_editors.specs.Added.{HaveSame, followed_over, carry_by, followed_past, places_after}
+pub use Rattle.krb_editors.specs.Sessions.{HaveSame, followed_over, carry_by, followed_past, places_after, new_session, replied, left, is_change, may_change, added, session_effect, RunsFairly, moments}
 pub use Rattle.krb_editors.specs.Ccedit.{cache_session, lines_events, is_refusal, line_events}
 pub use Rattle.krb_editors.specs.Hold.{held_in, LoadsImage}
-pub use Rattle.krb_editors.specs.Sessions.{new_session, replied, left, is_change, may_change, added, session_effect, RunsFairly, moments}
 pub use Rattle.krb_ccache.specs.Rewrite.{cache_rules}
 pub use Rattle.krb_ccache.specs.Store.{CacheState, image_of, PlacedCredential, placed_credentials}
 pub use Rattle.krb_driver.proofs.Making.{makes-fairly, fairly-failed, fairly-holds, makes-end}
-pub use Rattle.krb_driver.specs.Commands.{fair_first, of_file, GivesOf, Makes, text_effect}
-pub use Rattle.krb_driver.specs.Effects.{Fails, Effect, IsSpent, opens, can_hold, Displays, text, CommandPlan, Saves, faults, saves_unless}
+pub use Rattle.krb_driver.specs.Commands.{fair_first, of_file, GivesOf, Makes, text_effect, Fails, Effect, IsSpent, opens, can_hold, Displays, text, CommandPlan, Saves, faults, saves_unless}
 pub use Rattle.krb_driver.specs.declared.error.RunError.{RunError}
 pub use Rattle.krb_files.specs.Plan.{Ends}
 pub use Rattle.krb_keytab.specs.Store.{KeytabState}

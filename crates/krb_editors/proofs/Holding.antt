@@ -9,7 +9,7 @@ use Rattle.krb_files.specs.Loading.{Answer}
 use Rattle.krb_files.proofs.Prefixes.{AppendsPrefix-after, AppendsPrefix-longer}
 use Rattle.krb_driver.specs.declared.error.RunError.TheVariants as error
 use Rattle.krb_driver.specs.declared.file_name.FileName.{FileName}
-use Rattle.krb_editors.specs.Frame.{frame}
+use Rattle.krb_editors.specs.Hold.{frame}
 
 -- what holds after an error
 pub on-err : {T E P : Type 0} (r : Result T E) → P → OnErr r P

@@ -1,6 +1,12 @@
--- Runs one after the other.
-use Rattle.krb_editors.proofs.Cited.{◌≡◌, ◌<◌, ℕ, List, [], ◌∷◌, ◌++◌, length, take, refl, sym, ap, subst, ◌∙◌, append_assoc, take_more, Event, ReplyContent, Rules, SessionState, after, reply_to, AllLawful, history, replies, state_after, Ran, ran_of}
-use Rattle.std.specs.Prelude.{◌+◌, get_or}
+-- Runs one after the other, and what lines do to a cache.
+use Rattle.krb_editors.proofs.Cited.{◌≡◌, ◌<◌, ℕ, List, [], ◌∷◌, ◌++◌, length, take, refl, sym, ap, subst, ◌∙◌, append_assoc, take_more, Event, ReplyContent, Rules, SessionState, after, reply_to, AllLawful, history, replies, state_after, Ran, ran_of, Bool, true, false, map, append-nil, put_reply, cache_rules, CacheState, is_refusal, line_events, lines_events}
+use Rattle.std.specs.Prelude.{◌+◌, get_or, Result, Ok, Err, if◌then◌else◌}
+use Rattle.krb_walk.specs.declared.event.Event.TheVariants.{Put, Cut}
+use Rattle.krb_walk.specs.declared.refusal.Code.{Code}
+use Rattle.krb_ccache.specs.Changes.{is_refused, put_result}
+use Rattle.krb_ccache.specs.Credential.{CredParts}
+use Rattle.krb_ccache.specs.SetConfig.{SettingParts, entry_of, match_places, setting_events}
+use Rattle.krb_cache_text.specs.Script.{CacheLineParts}
 
 pub state_join : {S I : Type 0} (r : Rules S I) (s : SessionState S) (es fs : List (Event I)) → state_after r s (es ++ fs) ≡ state_after r (state_after r s es) fs
 state_join r s [] fs = refl
@@ -35,3 +41,54 @@ one_more {I} es i e below is = take_more es i e below ∙ ap (λ (x : Event I). 
 pub ran_event : {S I : Type 0} (r : Rules S I) (start old new : SessionState S) (es : List (Event I)) (i : ℕ) (e : Event I) (t u v : List ReplyContent) → i < length es → e ≡ get_or es i e
     → Ran r start old (take i es) t u → Ran r old new (e ∷ []) u v → Ran r start new (take (i + 1) es) t v
 ran_event r start old new es i e t u v below is first second = rw (one_more es i e below is) (ran_join r start old new (take i es) (e ∷ []) t u v first second)
+
+-- ---- a value
+
+-- an addition was refused iff its reply is a refusal
+refusal_reply : (given : Result (ℕ × CacheState) Code) → is_refused given ≡ is_refusal (put_reply given)
+refusal_reply (Ok given) = refl
+refusal_reply (Err refused) = refl
+
+-- the events of a setting, by whether its addition is refused
+events_by : (k : CacheState) (s : SettingParts) (entry : CredParts) (refused : Bool) → entry ≡ entry_of k.principal s → is_refusal (put_reply (put_result k entry)) ≡ refused
+    → setting_events k s ≡ Put entry ∷ (if refused then [] else map Cut (match_places k s))
+events_by k s entry refused is answered =
+    let removals : Bool → List (Event CredParts) = λ b. if b then [] else map Cut (match_places k s) in
+    sym (ap (λ (c : CredParts). Put c ∷ removals (is_refused (put_result k c))) is) ∙ ap (λ (b : Bool). Put entry ∷ removals b) (refusal_reply (put_result k entry) ∙ answered)
+
+-- if the addition was refused, a setting does nothing else
+pub set_refused : (old new : SessionState CacheState) (s : SettingParts) (entry : CredParts) (t u : List ReplyContent) → entry ≡ entry_of old.store.principal s → is_refusal (reply_to cache_rules old (Put entry)) ≡ true
+    → Ran cache_rules old new (Put entry ∷ []) t u → Ran cache_rules old new (setting_events old.store s) t u
+set_refused old new s entry t u is refused ran = rw (events_by old.store s entry true is refused) ran
+
+-- if it was not refused, the removals follow
+pub set_placed : (old mid new : SessionState CacheState) (s : SettingParts) (entry : CredParts) (removals : List (Event CredParts)) (t u v : List ReplyContent) → entry ≡ entry_of old.store.principal s → removals ≡ map Cut (match_places old.store s)
+    → is_refusal (reply_to cache_rules old (Put entry)) ≡ false → Ran cache_rules old mid (Put entry ∷ []) t u → Ran cache_rules mid new removals u v → Ran cache_rules old new (setting_events old.store s) t v
+set_placed old mid new s entry removals t u v is removals_are placed first second =
+    let joined : Ran cache_rules old new (Put entry ∷ removals) t v = ran_join cache_rules old mid new (Put entry ∷ []) removals t u v first second in
+    rw (events_by old.store s entry false is placed) (subst (λ (es : List (Event CredParts)). Ran cache_rules old new (Put entry ∷ es) t v) removals_are joined)
+
+-- ---- lines
+
+-- the events of lines and of one more
+lines_more : (s : SessionState CacheState) (lines : List CacheLineParts) (line : CacheLineParts)
+    → lines_events s (lines ++ line ∷ []) ≡ lines_events s lines ++ line_events (state_after cache_rules s (lines_events s lines)) line
+lines_more s [] line = append-nil (line_events s line)
+lines_more s (x ∷ xs) line =
+    let first = line_events s x in
+    let next = state_after cache_rules s first in
+    let more = lines_events next xs in
+    ap (λ (es : List (Event CredParts)). first ++ es) (lines_more next xs line)
+    ∙ sym (append_assoc first more (line_events (state_after cache_rules next more) line))
+    ∙ ap (λ (t : SessionState CacheState). (first ++ more) ++ line_events t line) (sym (state_join cache_rules s first more))
+
+-- a run of the first lines, and one of the next
+pub ran_line : (start old new : SessionState CacheState) (lines : List CacheLineParts) (i : ℕ) (line : CacheLineParts) (t u v : List ReplyContent) → i < length lines → line ≡ get_or lines i line
+    → Ran cache_rules start old (lines_events start (take i lines)) t u → Ran cache_rules old new (line_events old line) u v
+    → Ran cache_rules start new (lines_events start (take (i + 1) lines)) t v
+ran_line start old new lines i line t u v below is first second =
+    let es = lines_events start (take i lines) in
+    let fs = line_events (state_after cache_rules start es) line in
+    let next : Ran cache_rules old new fs u v = subst (λ (s : SessionState CacheState). Ran cache_rules old new (line_events s line) u v) first.state second in
+    let more : take (i + 1) lines ≡ take i lines ++ line ∷ [] = take_more lines i line below ∙ ap (λ (x : CacheLineParts). take i lines ++ x ∷ []) (sym is) in
+    rw more (rw (lines_more start (take i lines) line) (ran_join cache_rules start old new es fs t u v first next))

@@ -1,5 +1,6 @@
 -- What a session leaves and replies: the format after each event, and the text of the replies.
 use Rattle.krb_editors.proofs.Cited.{◌≡◌, ℕ, Bool, true, false, List, [], ◌∷◌, ◌++◌, refl, sym, ap, subst, ◌∙◌, flat_map, list_any, Event, Store, Record, end_of, fault_of, is_place, live_bytes, next_live, ReplyContent, Started, Refused, Rules, SessionState, reply_to, after, store_after, step_reply, stop_reply, end_reply, put_reply, put_store, cut_reply, cut_store, rewrite_reply, history, replies, state_after, Ran, KeytabState, cache_rules, CacheState, reply_text_by, reply_texts_by, format_after_by, text_effect, Effect, Displays, Saves, text, is_change, new_session, moments, left, replied, session_effect, RunsFairly}
+use Rattle.std.proofs.lemmas.Bool.{cond_both}
 use Rattle.std.specs.Prelude.{if◌then◌else◌, cond, is_some, nat_lt, length, slice_get, Option, None, Some, Result, Ok, Err, IfOk}
 use Rattle.krb_wire.specs.declared.format.KtFormat.{KtFormat}
 use Rattle.krb_wire.specs.declared.format.KtFormat.TheVariants.{V2}
@@ -22,7 +23,7 @@ use Rattle.krb_driver.specs.declared.command.Made.{Made}
 use Rattle.krb_driver.specs.declared.command.Output.{Output}
 use Rattle.krb_driver.specs.declared.verdict.FileKind.{FileKind}
 use Rattle.krb_driver.specs.declared.verdict.Verdict.{Verdict}
-use Rattle.krb_driver.specs.Verdicts.{hiding}
+use Rattle.krb_driver.specs.RunErrors.{hiding}
 use Rattle.krb_driver.specs.Reported.{replied_verdict}
 
 -- ---- the format after an event
@@ -42,18 +43,6 @@ module _ {S F : Type 0} (format : S → F) (rewritten : F) where
   abbrev pub RewriteSets : Result S Code → Type 0
   RewriteSets (Ok new) = format new ≡ rewritten
   RewriteSets (Err refused) = Unit {0}
-
-  put_if : (k : S) (b : Bool) (x y : Result (ℕ × S) Code) → PutKeeps k x → PutKeeps k y → PutKeeps k (if b then x else y)
-  put_if k true x y hx hy = hx
-  put_if k false x y hx hy = hy
-
-  cut_if : (k : S) (b : Bool) (x y : Result S Code) → CutKeeps k x → CutKeeps k y → CutKeeps k (if b then x else y)
-  cut_if k true x y hx hy = hx
-  cut_if k false x y hx hy = hy
-
-  rewrite_if : (b : Bool) (x y : Result S Code) → RewriteSets x → RewriteSets y → RewriteSets (if b then x else y)
-  rewrite_if true x y hx hy = hx
-  rewrite_if false x y hx hy = hy
 
   -- the format after a reply is that of the store after its event
   of_put : (k : S) (given : Result (ℕ × S) Code) → PutKeeps k given → format (put_store k given) ≡ format_after_by rewritten (format k) (put_reply given)
@@ -78,14 +67,6 @@ module _ {F : Type 0} (rewritten : F) where
   abbrev next_format : F → ReplyContent → F
   next_format f other = format_after_by rewritten f other
 
-  of_cond : (f : F) (b : Bool) (x y : ReplyContent) → next_format f x ≡ f → next_format f y ≡ f → f ≡ next_format f (cond b x y)
-  of_cond f true x y hx hy = sym hx
-  of_cond f false x y hx hy = sym hy
-
-  of_resume : (f : F) (a b : Bool) (x y z : ReplyContent) → next_format f x ≡ f → next_format f y ≡ f → next_format f z ≡ f → f ≡ next_format f (cond a (cond b x y) z)
-  of_resume f true b x y z hx hy hz = of_cond f b x y hx hy
-  of_resume f false b x y z hx hy hz = sym hz
-
   of_end : (f : F) (w end : ℕ) (fault : Option FaultKind) → f ≡ next_format f (end_reply w end fault)
   of_end f w end None = refl
   of_end f w end (Some kind) = refl
@@ -100,8 +81,10 @@ module _ {F : Type 0} (rewritten : F) where
 
 module _ {S I F : Type 0} (r : Rules S I) (format : S → F) (rewritten : F) (keeps : KeepsFormat format rewritten r) where
   format_of_event : (s : SessionState S) (e : Event I) → format (store_after r s e) ≡ format_after_by rewritten (format s.store) (reply_to r s e)
-  format_of_event s Start = of_cond rewritten (format s.store) (nat_lt (length s.cursors) 1024) (Started (length s.cursors) (r.seen s.store).first) (Refused code.TooManyWalks) refl refl
-  format_of_event s (Resume p) = of_resume rewritten (format s.store) (nat_lt (length s.cursors) 1024) (is_place (r.seen s.store) p) (Started (length s.cursors) p) (Refused code.NotAPlace) (Refused code.TooManyWalks) refl refl refl
+  format_of_event s Start = cond_both (nat_lt (length s.cursors) 1024) _ _ (λ reply. format s.store ≡ format_after_by rewritten (format s.store) reply) (λ _. refl) (λ _. refl)
+  format_of_event s (Resume p) =
+      let Keeps : ReplyContent → Type 0 = λ reply. format s.store ≡ format_after_by rewritten (format s.store) reply in
+      cond_both (nat_lt (length s.cursors) 1024) _ _ Keeps (λ _. cond_both (is_place (r.seen s.store) p) _ _ Keeps (λ _. refl) (λ _. refl)) (λ _. refl)
   format_of_event s (Step w) = of_step rewritten (format s.store) (r.seen s.store) w (slice_get s.cursors w)
   format_of_event s (Put item) = of_put format rewritten s.store (r.put s.store item) (keeps.put s.store item)
   format_of_event s (Cut p) = of_cut format rewritten s.store p (r.cut s.store p) (keeps.cut s.store p)
@@ -120,43 +103,42 @@ module _ {S I F : Type 0} (r : Rules S I) (format : S → F) (rewritten : F) (ke
 
 keytab_into : (k : KeytabState) (bytes : List ℕ) (hole : Option keytab.PlacedCell) → PutKeeps (λ (k : KeytabState). k.format) V2 k (keytab.put_result_into k bytes hole)
 keytab_into k bytes (Some hole) = refl
-keytab_into k bytes None = put_if (λ (k : KeytabState). k.format) V2 k (nat_lt k.limit (length (keytab_store.image_of (keytab.with_last k bytes)))) (Err code.Full) (Ok (end_of (keytab_store.store_of k), keytab.with_last k bytes)) tt refl
+keytab_into k bytes None = cond_both (nat_lt k.limit (length (keytab_store.image_of (keytab.with_last k bytes)))) _ _ (PutKeeps (λ (k : KeytabState). k.format) V2 k) (λ _. tt) (λ _. refl)
 
 pub keytab_keeps : KeepsFormat (λ (k : KeytabState). k.format) V2 keytab_rules
 keytab_keeps =
     let format : KeytabState → KtFormat = λ k. k.format in
+    let damaged : KeytabState → Bool = λ k. is_some (fault_of (keytab_store.store_of k)) in
     record {
       put = λ k e.
           let bytes = written_form k.format e in
-          put_if format V2 k (is_some (fault_of (keytab_store.store_of k))) (Err code.Damaged) (if fits k.format e then keytab.put_bytes_result k bytes else Err code.TooLong) tt
-          (put_if format V2 k (fits k.format e) (keytab.put_bytes_result k bytes) (Err code.TooLong) (keytab_into k bytes (keytab.first_hole 2 (length bytes) k.contents.cells)) tt);
+          cond_both (damaged k) _ _ (PutKeeps format V2 k) (λ _. tt)
+          (λ _. cond_both (fits k.format e) _ _ (PutKeeps format V2 k) (λ _. keytab_into k bytes (keytab.first_hole 2 (length bytes) k.contents.cells)) (λ _. tt));
       cut = λ k p.
-          cut_if format V2 k (is_some (fault_of (keytab_store.store_of k))) (Err code.Damaged) (if is_some (live_bytes (keytab_store.store_of k) p) then Ok (keytab.with_hole k p) else Err code.NotLive) tt
-          (cut_if format V2 k (is_some (live_bytes (keytab_store.store_of k) p)) (Ok (keytab.with_hole k p)) (Err code.NotLive) refl tt);
+          cond_both (damaged k) _ _ (CutKeeps format V2 k) (λ _. tt)
+          (λ _. cond_both (is_some (live_bytes (keytab_store.store_of k) p)) _ _ (CutKeeps format V2 k) (λ _. refl) (λ _. tt));
       rewrite = λ k.
-          let new = keytab_rewrite.rewrite_of k in
-          rewrite_if format V2 (is_some (fault_of (keytab_store.store_of k))) (Err code.Damaged) (if nat_lt k.limit (length (keytab_store.image_of new)) then Err code.Full else Ok new) tt
-          (rewrite_if format V2 (nat_lt k.limit (length (keytab_store.image_of new))) (Err code.Full) (Ok new) tt refl);
+          cond_both (damaged k) _ _ (RewriteSets format V2) (λ _. tt)
+          (λ _. cond_both (nat_lt k.limit (length (keytab_store.image_of (keytab_rewrite.rewrite_of k)))) _ _ (RewriteSets format V2) (λ _. tt) (λ _. refl));
     }
 
 pub cache_keeps : KeepsFormat (λ (k : CacheState). k.version) V4 cache_rules
 cache_keeps =
     let version : CacheState → Version = λ k. k.version in
+    let damaged : CacheState → Bool = λ k. is_some (fault_of (cache_store.store_of k)) in
     record {
       put = λ k c.
-          let full = nat_lt k.limit (length (cache_store.image_of (cache.with_last k c))) in
-          put_if version V4 k (cache.is_read_only k.version) (Err code.ReadOnly) (if is_some (fault_of (cache_store.store_of k)) then Err code.Damaged else (if is_marked c then Err code.Marked else cache.append_result k c)) tt
-          (put_if version V4 k (is_some (fault_of (cache_store.store_of k))) (Err code.Damaged) (if is_marked c then Err code.Marked else cache.append_result k c) tt
-          (put_if version V4 k (is_marked c) (Err code.Marked) (cache.append_result k c) tt
-          (put_if version V4 k full (Err code.Full) (Ok (end_of (cache_store.store_of k), cache.with_last k c)) tt refl)));
+          cond_both (cache.is_read_only k.version) _ _ (PutKeeps version V4 k) (λ _. tt)
+          (λ _. cond_both (damaged k) _ _ (PutKeeps version V4 k) (λ _. tt)
+          (λ _. cond_both (is_marked c) _ _ (PutKeeps version V4 k) (λ _. tt)
+          (λ _. cond_both (nat_lt k.limit (length (cache_store.image_of (cache.with_last k c)))) _ _ (PutKeeps version V4 k) (λ _. tt) (λ _. refl))));
       cut = λ k p.
-          cut_if version V4 k (cache.is_read_only k.version) (Err code.ReadOnly) (if is_some (fault_of (cache_store.store_of k)) then Err code.Damaged else (if is_some (live_bytes (cache_store.store_of k) p) then Ok (cache.with_mark k p) else Err code.NotLive)) tt
-          (cut_if version V4 k (is_some (fault_of (cache_store.store_of k))) (Err code.Damaged) (if is_some (live_bytes (cache_store.store_of k) p) then Ok (cache.with_mark k p) else Err code.NotLive) tt
-          (cut_if version V4 k (is_some (live_bytes (cache_store.store_of k) p)) (Ok (cache.with_mark k p)) (Err code.NotLive) refl tt));
+          cond_both (cache.is_read_only k.version) _ _ (CutKeeps version V4 k) (λ _. tt)
+          (λ _. cond_both (damaged k) _ _ (CutKeeps version V4 k) (λ _. tt)
+          (λ _. cond_both (is_some (live_bytes (cache_store.store_of k) p)) _ _ (CutKeeps version V4 k) (λ _. refl) (λ _. tt)));
       rewrite = λ k.
-          let new = cache_rewrite.rewrite_of k in
-          rewrite_if version V4 (is_some (fault_of (cache_store.store_of k))) (Err code.Damaged) (if nat_lt k.limit (length (cache_store.image_of new)) then Err code.Full else Ok new) tt
-          (rewrite_if version V4 (nat_lt k.limit (length (cache_store.image_of new))) (Err code.Full) (Ok new) tt refl);
+          cond_both (damaged k) _ _ (RewriteSets version V4) (λ _. tt)
+          (λ _. cond_both (nat_lt k.limit (length (cache_store.image_of (cache_rewrite.rewrite_of k)))) _ _ (RewriteSets version V4) (λ _. tt) (λ _. refl));
     }
 
 -- ---- what was made of a store

@@ -17,8 +17,7 @@ use Rattle.krb_cache_text.specs.Reply.{cache_reply_text}
 use Rattle.krb_cache_text.specs.Script.{CacheLineParts}
 use Rattle.krb_driver.specs.declared.file_name.FileName.{FileName}
 use Rattle.krb_driver.specs.declared.verdict.FileKind.TheVariants.{Cache}
-use Rattle.krb_driver.specs.Commands.{fair_first}
-use Rattle.krb_driver.specs.Effects.{CommandPlan, Effect, holds, opens}
+use Rattle.krb_driver.specs.Commands.{fair_first, CommandPlan, Effect, holds, opens}
 use Rattle.krb_driver.specs.Loading.{cache_of}
 use Rattle.krb_editors.specs.Sessions as session
 use Rattle.krb_editors.specs.Sessions.{may_change}

@@ -16,10 +16,9 @@ use Rattle.krb_driver.specs.declared.file_name.FileName.{FileName}
 use Rattle.krb_driver.specs.declared.verdict.FileKind.TheVariants.{Cache}
 use Rattle.krb_driver.specs.declared.verdict.Verdict.{Verdict}
 use Rattle.krb_driver.specs.declared.verdict.Verdict.TheVariants.{Well, NothingToRemove}
-use Rattle.krb_driver.specs.Effects.{CommandPlan, Effect, Displays, holds, opens, saves_unless, text}
-use Rattle.krb_driver.specs.Matches.{ArePrintedNames, Matched, bad_name, first_mistake, twice}
-use Rattle.krb_driver.specs.Mistakes.{MistakeParts, NothingSelects}
-use Rattle.krb_driver.specs.Opening.{writable_in}
+use Rattle.krb_driver.specs.Commands.{CommandPlan, Effect, Displays, holds, opens, saves_unless, text}
+use Rattle.krb_driver.specs.Mistakes.{ArePrintedNames, Matched, bad_name, first_mistake, twice, MistakeParts, NothingSelects}
+use Rattle.krb_driver.specs.Loading.{writable_in}
 
 -- the time at or before which the selected tickets end: that of the clock, if only expired ones are selected
 abbrev pub clock_time : Option ℕ → Result (Option ℕ) RunError

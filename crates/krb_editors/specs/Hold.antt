@@ -1,5 +1,7 @@
--- What hold does: it prints the image of a file that it holds, and saves the one that is given back.
-use Rattle.std.specs.Prelude.{◌≡◌, ◌⊎◌, ℕ, nat_lt, Bool, true, false, bytes_eq, if◌then◌else◌, List, [], ◌∷◌, length, codes, Option, None, Some, Result, Ok, Err, OnOk}
+-- What hold does with an image, and how it is handed on.
+use Rattle.std.specs.Prelude.{ℕ, ◌+◌, ◌-◌, List, ◌++◌, length, drop, take, codes, decimal, ◌==◌, if◌then◌else◌, option_map, Option, None, Some, ◌≡◌, ◌⊎◌, nat_lt, Bool, true, false, bytes_eq, [], ◌∷◌, Result, Ok, Err, OnOk}
+use Rattle.std.specs.List.{position_from}
+use Rattle.krb_text.specs.Numbers.{number_in}
 use Rattle.krb_walk.specs.declared.fault.Fault.{Fault}
 use Rattle.krb_walk.specs.declared.refusal.Code.TheVariants.{Damaged}
 use Rattle.krb_walk.specs.Store.{fault_of}
@@ -22,19 +24,39 @@ use Rattle.krb_driver.specs.declared.reporting.details.Details.{Details}
 use Rattle.krb_driver.specs.declared.verdict.FileKind.{FileKind}
 use Rattle.krb_driver.specs.declared.verdict.FileKind.TheVariants as kind
 use Rattle.krb_driver.specs.declared.verdict.Verdict.TheVariants.{Well}
-use Rattle.krb_driver.specs.declared.world.World.{World}
-use Rattle.krb_driver.specs.Commands.{GivesOf}
-use Rattle.krb_driver.specs.Effects.{can_hold}
-use Rattle.krb_driver.specs.Input.{GivesInput}
-use Rattle.krb_driver.specs.Loading.{not_cache, result_map, result_map_err}
-use Rattle.krb_driver.specs.Matches.{Matched, v1_order}
-use Rattle.krb_driver.specs.Mistakes.{MistakeParts, ForKeytabs}
-use Rattle.krb_driver.specs.Opening.{keytab_in}
+use Rattle.krb_driver.specs.declared.command.World.{World}
+use Rattle.krb_driver.specs.Commands.{GivesOf, can_hold}
+use Rattle.krb_driver.specs.Loading.{GivesInput, not_cache, result_map, result_map_err, keytab_in}
+use Rattle.krb_driver.specs.Mistakes.{Matched, v1_order, MistakeParts, ForKeytabs}
 use Rattle.krb_driver.specs.RunErrors.{Ending, input_error, load_error, save_error}
 use Rattle.krb_driver.specs.Runs.{Reports, Shows}
 use Rattle.krb_editors.specs.declared.hold.words.HoldKind.{HoldKind}
 use Rattle.krb_editors.specs.declared.hold.words.HoldKind.TheVariants.{Keytab, Cache}
-use Rattle.krb_editors.specs.Frame.{frame, framed, most_frame}
+
+-- the most bytes of the frame of an image of 16 MiB: ten digits and a newline before it
+abbrev pub most_frame : ℕ
+most_frame = 16777227
+
+-- the frame of an image: its length, a newline, and its bytes
+abbrev pub frame : List ℕ → List ℕ
+frame image = decimal (length image) ++ (codes "\n" ++ image)
+
+-- what stands before an image of that length, if it is the length and a newline
+abbrev pub head_if : ℕ → ℕ → Option ℕ → Option ℕ
+head_if end len None = None
+head_if end len (Some n) = if len == n then Some (end + 1) else None
+
+abbrev pub head_of : List ℕ → Option ℕ → Option ℕ
+head_of text None = None
+head_of text (Some end) = head_if end (length text - (end + 1)) (number_in 32 (take end text))
+
+-- the length of what stands before the image, if the text is just one frame: one to ten digits and a newline before as many bytes
+abbrev pub head_len : List ℕ → Option ℕ
+head_len text = head_of text (position_from (λ b. b == 10) 0 text)
+
+-- the image in a text that is just one frame
+abbrev pub framed : List ℕ → Option (List ℕ)
+framed text = option_map (λ head. drop head text) (head_len text)
 
 -- ---- the words
 

@@ -17,11 +17,10 @@ use Rattle.krb_driver.specs.declared.verdict.FileKind.TheVariants.{Keytab}
 use Rattle.krb_driver.specs.declared.file_name.FileName.{FileName}
 use Rattle.krb_driver.specs.declared.verdict.Verdict.{Verdict}
 use Rattle.krb_driver.specs.declared.verdict.Verdict.TheVariants.{Clashed, Well}
-use Rattle.krb_driver.specs.Effects.{CommandPlan, Effect, Displays, Fails, holds, opens, saves_unless, text}
-use Rattle.krb_driver.specs.Matches.{ArePrintedNames, AreSpelled, Matched, first_value, twice, v1_order}
-use Rattle.krb_driver.specs.Mistakes.{MistakeParts}
-use Rattle.krb_driver.specs.Opening.{whole_in, whole_or_empty}
-use Rattle.krb_driver.specs.Verdicts.{hiding}
+use Rattle.krb_driver.specs.Commands.{CommandPlan, Effect, Displays, Fails, holds, opens, saves_unless, text}
+use Rattle.krb_driver.specs.Mistakes.{ArePrintedNames, AreSpelled, Matched, first_value, twice, v1_order, MistakeParts}
+use Rattle.krb_driver.specs.Loading.{whole_in, whole_or_empty}
+use Rattle.krb_driver.specs.RunErrors.{hiding}
 use Rattle.krb_editors.specs.declared.ktcopy.CopyOptions.{CopyOptions}
 use Rattle.krb_editors.specs.Selecting.{IsSpelledKvno, asks_for_any, bad_criteria, bad_kvno}
 

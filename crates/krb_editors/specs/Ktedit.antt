@@ -12,9 +12,8 @@ use Rattle.krb_text.specs.Reply.{reply_text}
 use Rattle.krb_audit.specs.Findings.{hides_added}
 use Rattle.krb_driver.specs.declared.file_name.FileName.{FileName}
 use Rattle.krb_driver.specs.declared.verdict.FileKind.TheVariants.{Keytab}
-use Rattle.krb_driver.specs.Commands.{fair_first}
-use Rattle.krb_driver.specs.Effects.{CommandPlan, Effect, holds, opens}
-use Rattle.krb_driver.specs.Opening.{keytab_or_empty}
+use Rattle.krb_driver.specs.Commands.{fair_first, CommandPlan, Effect, holds, opens}
+use Rattle.krb_driver.specs.Loading.{keytab_or_empty}
 use Rattle.krb_editors.specs.Sessions as session
 use Rattle.krb_editors.specs.Sessions.{may_change}
 

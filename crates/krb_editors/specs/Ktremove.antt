@@ -21,10 +21,9 @@ use Rattle.krb_driver.specs.declared.file_name.FileName.{FileName}
 use Rattle.krb_driver.specs.declared.verdict.FileKind.TheVariants.{Keytab}
 use Rattle.krb_driver.specs.declared.verdict.Verdict.{Verdict}
 use Rattle.krb_driver.specs.declared.verdict.Verdict.TheVariants.{Well, NothingToRemove}
-use Rattle.krb_driver.specs.Effects.{CommandPlan, Effect, Displays, holds, opens, saves_unless, text}
-use Rattle.krb_driver.specs.Matches.{ArePrintedNames, AreSpelled, Matched, bad_seconds, first_value, twice, v1_order}
-use Rattle.krb_driver.specs.Mistakes.{MistakeParts, NothingSelects, OnlyWith}
-use Rattle.krb_driver.specs.Opening.{whole_in}
+use Rattle.krb_driver.specs.Commands.{CommandPlan, Effect, Displays, holds, opens, saves_unless, text}
+use Rattle.krb_driver.specs.Mistakes.{ArePrintedNames, AreSpelled, Matched, bad_seconds, first_value, twice, v1_order, MistakeParts, NothingSelects, OnlyWith}
+use Rattle.krb_driver.specs.Loading.{whole_in}
 use Rattle.krb_editors.specs.Selecting.{IsSpelledKvno, asks_for_any, bad_criteria, bad_kvno}
 
 -- old entries are selected

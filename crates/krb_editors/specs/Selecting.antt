@@ -7,8 +7,7 @@ use Rattle.krb_text.specs.Numbers.{number_in}
 use Rattle.krb_audit.specs.declared.selection.SelectedKvno.{SelectedKvno}
 use Rattle.krb_audit.specs.declared.selection.SelectedKvno.TheVariants.{Any, Exactly}
 use Rattle.krb_audit.specs.declared.selection.Selection.{Selection}
-use Rattle.krb_driver.specs.Matches.{Matched, bad_etype, bad_name, first_mistake}
-use Rattle.krb_driver.specs.Mistakes.{MistakeParts, NoVersion}
+use Rattle.krb_driver.specs.Mistakes.{Matched, bad_etype, bad_name, first_mistake, MistakeParts, NoVersion}
 
 -- neither a name nor an enctype is given
 abbrev pub asks_for_any : {A : Type 0} → Selection A → Bool

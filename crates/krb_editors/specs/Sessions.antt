@@ -1,18 +1,64 @@
--- What a new session does to a store, and what is saved and printed after it.
-use Rattle.std.specs.Prelude.{ℕ, Bool, true, false, List, [], if◌then◌else◌, Option}
-use Rattle.std.specs.List.{flat_map, list_any}
+-- What a session does to a store, what is saved and printed after it, and what a script asks for.
+use Rattle.std.specs.Prelude.{◌≡◌, ℕ, Bool, true, false, List, [], ◌∷◌, ◌==◌, nat_lt, not, length, filter, map, if◌then◌else◌, Option, ◌⊎◌, Result, Ok, Err}
+use Rattle.std.specs.List.{list_any, flat_map}
 use Rattle.krb_walk.specs.declared.event.Event.{Event}
-use Rattle.krb_walk.specs.declared.event.Event.TheVariants as event
+use Rattle.krb_walk.specs.declared.event.Event.TheVariants.{Rewrite}
+use Rattle.krb_walk.specs.History.{Moment, history, replies, state_after}
+use Rattle.krb_walk.specs.Ranks.{carry, nth_or}
 use Rattle.krb_walk.specs.ReplyContent.{ReplyContent, Placed, Gone, Rewritten}
 use Rattle.krb_walk.specs.Rules.{Rules}
+use Rattle.krb_walk.specs.Store.{Store}
+use Rattle.krb_walk.specs.declared.event.Event.TheVariants as event
 use Rattle.krb_walk.specs.Events.{SessionState}
-use Rattle.krb_walk.specs.History.{Moment, history, replies, state_after}
 use Rattle.krb_walk.specs.Ran.{Ran}
 use Rattle.krb_driver.specs.declared.verdict.FileKind.{FileKind}
-use Rattle.krb_driver.specs.Effects.{Effect, Displays, Saves, text}
+use Rattle.krb_driver.specs.Commands.{Effect, Displays, Saves, text, RunsWith, CommandPlan}
 use Rattle.krb_driver.specs.Reported.{replied_verdict}
-use Rattle.krb_driver.specs.Verdicts.{hiding}
-use Rattle.krb_editors.specs.Added.{followed_over}
+use Rattle.krb_driver.specs.RunErrors.{hiding, input_error, line_error}
+use Rattle.krb_files.specs.declared.files.Files.{Ghosts}
+use Rattle.krb_files.specs.declared.files.LoadFault.{LoadFault}
+use Rattle.krb_files.specs.Loading.{Answer, most_bytes}
+use Rattle.krb_files.specs.Bytes.{Source}
+use Rattle.krb_text.specs.declared.line_fault.LineFault.{LineFault}
+use Rattle.krb_text.specs.Script.{script_by}
+use Rattle.krb_driver.specs.declared.error.RunError.{RunError}
+use Rattle.krb_driver.specs.declared.error.RunError.TheVariants.{NoMemory}
+use Rattle.krb_driver.specs.declared.command.World.{World}
+use Rattle.krb_driver.specs.Loading.{GivesInput, result_map_err}
+
+-- the places of added entries after a reply, between two stores: an addition adds its place, a removal takes its place away, and a rewrite moves each place as it moves the entries
+abbrev pub places_after : Store → Store → ReplyContent → List ℕ → List ℕ
+places_after old new (Placed p) places = p ∷ places
+places_after old new (Gone p) places = filter (λ q. not (q == p)) places
+places_after old new (Rewritten end) places = map (carry old new) places
+places_after old new other places = places
+
+module _ {S I : Type 0} (rules : Rules S I) where
+  -- the places past a moment
+  abbrev pub followed_past : Moment S I → List ℕ → List ℕ
+  followed_past m places = places_after (rules.seen m.before.store) (rules.seen m.after.store) m.reply places
+
+  -- the places past the moments of a history, one after the other
+  abbrev pub followed_over : List ℕ → List (Moment S I) → List ℕ
+  followed_over places [] = places
+  followed_over places (m ∷ ms) = followed_over (followed_past m places) ms
+
+-- ---- for private contracts
+
+-- an event that asks for a rewrite
+abbrev pub is_rewrite : {I : Type 0} → Event I → Bool
+is_rewrite Rewrite = true
+is_rewrite event = false
+
+-- where a rewrite carries a place, by the live places before and after it, and its end
+abbrev pub carry_by : List ℕ → List ℕ → ℕ → ℕ → ℕ
+carry_by before after end p = nth_or end after (length (filter (λ q. nat_lt q p) before))
+
+-- the same numbers are in two lists: what a test finds in one of them, it finds in the other
+pub record HaveSame (xs ys : List ℕ) : Type 0 where
+  pub finds : (test : ℕ → Bool) → list_any test xs ≡ list_any test ys
+
+-- ---- what a new session does to a store, and what is saved and printed after it
 
 -- an event that may change a store
 abbrev pub may_change : {I : Type 0} → Event I → Bool
@@ -63,3 +109,24 @@ module _ {S I : Type 0} (kind : FileKind) (rules : Rules S I) (image : S → Lis
   -- what a session saves and prints: the store is saved if a reply reports a change, and the lines are printed
   abbrev pub session_effect : Effect
   session_effect = replied kind file hidden (replies (moments rules store events)) (image (left rules store events)) reply_lines
+
+-- ---- a run whose lines come from a script
+
+module _ {L : Type 0} (reads : List ℕ → Result L LineFault) where
+  -- the lines of an input, or why there are none
+  abbrev pub lines_in : Result (List ℕ) LoadFault → Result (List L) RunError
+  lines_in (Ok text) = result_map_err (λ fault. line_error text fault.line fault.kind) (script_by reads text)
+  lines_in (Err fault) = Err (input_error fault)
+
+  -- these are the lines that a reader gave, or memory ran out
+  pub record GivesLines (reader reader' : Source) (given : Result (List L) RunError) : Type 0 where
+    pub input : Result (List ℕ) LoadFault
+    pub read : GivesInput most_bytes reader reader' input
+    pub given_is : (given ≡ Err NoMemory) ⊎ (given ≡ lines_in input)
+
+-- a run whose lines come from a script: the command is run with them
+pub record RunsScript {F R W E L : Type 0} (trait : Ghosts F) (old new : World F R W E) (status : ℕ) (plan : List L → CommandPlan) (fairly : List L → List Answer → Type 0) (reads : List ℕ → Result L LineFault) : Type 0 where
+  pub input : Source
+  pub lines : Result (List L) RunError
+  pub given : GivesLines reads old.input input lines
+  pub runs : RunsWith trait (record old { input = input }) new status plan fairly lines

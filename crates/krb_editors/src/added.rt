@@ -8,7 +8,7 @@ ghost use Rattle.krb_walk.specs.Ran.{Ran};
 ghost use Rattle.krb_walk.specs.Ranks.{live_places, nth_or};
 ghost use Rattle.krb_walk.specs.ReplyContent.{content_of, is_rewritten};
 ghost use Rattle.krb_walk.specs.Store.{Store};
-ghost use Rattle.krb_editors.specs.Added.{HaveSame, carry_by, is_rewrite, followed_past, followed_over, places_after};
+ghost use Rattle.krb_editors.specs.Sessions.{HaveSame, carry_by, is_rewrite, followed_past, followed_over, places_after};
 
 use krb_walk::{Event, Placed, Reply, Session, Stop};
 use krb_wire::NoMemory;

@@ -12,16 +12,14 @@ ghost use Rattle.krb_ccache.specs.SetConfig.{setting_events};
 ghost use Rattle.krb_cache_text.specs.Script.{cache_line_in};
 ghost use Rattle.krb_editors.specs.Ccedit.{RunsFairly, cache_events, cache_session, ccedit_fairly, ccedit_plan, edits, is_refusal, line_events, line_may_change};
 ghost use Rattle.krb_driver.specs.Commands.{text_effect};
-ghost use Rattle.krb_editors.specs.Scripted.{RunsScript};
-ghost use Rattle.krb_editors.specs.Sessions.{left, new_session};
+ghost use Rattle.krb_editors.specs.Sessions.{RunsScript, left, new_session};
 
-use crate::edited::{may_change, replied};
-use crate::scripted::read_script;
+use crate::edited::{may_change, read_script, replied};
 use krb_cache_text::{CacheLine, CcFormat, Request};
 use krb_ccache::{Ccache, Cred, Setting};
 use krb_driver::{
-    Command, CommandName, CommandWords, FileError, FileKind, FileName, IN_PLACE, Made, Output,
-    Word, World, end_before, give_cache, hold_if, run,
+    Command, CommandName, CommandWords, FileError, FileKind, FileName, IN_PLACE, Made, MakeResult,
+    Output, Word, World, end_before, give_cache, hold_if, run,
 };
 use krb_files::Files;
 use krb_walk::{Event, Reply, Session};
@@ -204,11 +202,7 @@ impl<'f, A: Allocator + Copy> Command<A> for EditCache<'f, A> {
         self.file.name
     }
 
-    fn make<F: Files>(
-        &self,
-        alloc: A,
-        files: &mut F,
-    ) -> Result<Made<A, Self::Shown>, FileError<'_>> {
+    fn make<F: Files>(&self, alloc: A, files: &mut F) -> MakeResult<'_, A, Self::Shown> {
         hold_if(may_any_change(&self.lines), files, self.file);
         let cache = give_cache(alloc, files, self.file)?;
         Ok(edit(alloc, cache, &self.lines)?)

@@ -5,16 +5,15 @@ ghost use Rattle.std.specs.Vec.{vec_items};
 ghost use Rattle.krb_ccache.specs.Store.{image_of};
 ghost use Rattle.krb_audit.specs.Tickets.{SelectsTickets, selected_tickets};
 ghost use Rattle.krb_editors.specs.Ccremove.{SpellsTickets, cache_after, ccremove_plan, ended_by, none_verdict, removes, ticket_mistake};
-ghost use Rattle.krb_driver.specs.Commands.{RunsWith, any, text_effect};
-ghost use Rattle.krb_driver.specs.Effects.{IsMade};
+ghost use Rattle.krb_driver.specs.Commands.{RunsWith, any, text_effect, IsMade};
 ghost use Rattle.krb_driver.specs.Mistakes.{Reads};
 
 use krb_audit::{SelectedTickets, select_tickets};
 use krb_ccache::Ccache;
 use krb_driver::{
     Command, CommandName, CommandWords, DRY_RUN, FileError, FileKind, FileName, IN_PLACE, Made,
-    Matches, Mistake, Output, RunError, Verdict, Word, WordFault, World, end_before, hold_if,
-    open_writable, refuse_twice, run, spelled_names, times_given,
+    MakeResult, Matches, Mistake, Output, RunError, Verdict, Word, WordFault, World, end_before,
+    hold_if, open_writable, refuse_twice, run, spelled_names, times_given,
 };
 use krb_files::Files;
 use krb_walk::Refusal;
@@ -181,11 +180,7 @@ impl<'f, A: Allocator + Copy, B: Allocator> Command<A> for RemoveTickets<'f, B> 
         self.file.name
     }
 
-    fn make<F: Files>(
-        &self,
-        alloc: A,
-        files: &mut F,
-    ) -> Result<Made<A, Self::Shown>, FileError<'_>> {
+    fn make<F: Files>(&self, alloc: A, files: &mut F) -> MakeResult<'_, A, Self::Shown> {
         hold_if(!self.options.dry_run, files, self.file);
         let cache = open_writable(alloc, files, self.file)?;
         remove(alloc, self, cache)

@@ -1,17 +1,20 @@
-//! What to save and print after a session.
+//! Reads a script, and tells what to save and print after its session.
 
 ghost use Rattle.std.specs.Prelude.{◌≡◌, ℕ, List, IfOk, Ok, map};
 ghost use Rattle.std.specs.List.{list_any};
 ghost use Rattle.krb_walk.specs.ReplyContent.{content_of};
 ghost use Rattle.krb_text.specs.Reply.{reply_texts_by};
 ghost use Rattle.krb_driver.specs.Commands.{text_effect};
-ghost use Rattle.krb_editors.specs.Sessions.{is_change, may_change, replied};
+ghost use Rattle.krb_editors.specs.Sessions.{is_change, may_change, replied, GivesLines};
+ghost use Rattle.krb_driver.specs.Loading.{result_map};
 
-use krb_driver::{FileKind, Made, Output, replied_verdict};
-use krb_text::{RecordFormat, reply_lines};
+use krb_driver::{FileKind, Made, Output, RunError, read_input, replied_verdict};
+use krb_files::WatchedReader;
+use krb_text::{RecordFormat, ScriptLine, parse_script, reply_lines};
 use krb_walk::{Event, Reply};
-use krb_wire::NoMemory;
+use krb_wire::{NoMemory, USUAL_LIMIT};
 use std::alloc::Allocator;
+use std::io::Read;
 
 /// Returns whether an event may change a file.
 pub fn may_change<I>(event: &Event<I>) -> bool
@@ -69,5 +72,22 @@ pub fn replied<A: Allocator + Copy, F: RecordFormat>(
         Ok(Made::Saves(image, output))
     } else {
         Ok(Made::Shows(output))
+    }
+}
+
+/// Reads the input to its end and returns the lines of the script.
+pub fn read_script<A: Allocator + Copy, L: ScriptLine<A>, R: Read>(
+    alloc: A,
+    input: &mut WatchedReader<R>,
+) -> Result<Vec<L, A>, RunError>
+    ensures { GivesLines L.line_in input.old input.new (result_map (λ lines. lines.items) result) }
+{
+    let text = match read_input(alloc, input, USUAL_LIMIT) {
+        Ok(text) => text,
+        Err(fault) => return Err(RunError::of_input(fault)),
+    };
+    match parse_script(alloc, &text) {
+        Ok(lines) => Ok(lines),
+        Err(refusal) => Err(RunError::of_script(refusal, &text)),
     }
 }

@@ -5,10 +5,9 @@ ghost use Rattle.krb_copy.specs.Copying.{Run, copy_run};
 ghost use Rattle.krb_copy.specs.Made.{IsMade as IsRunOf};
 ghost use Rattle.krb_audit.specs.Findings.{hides_added};
 ghost use Rattle.krb_audit.specs.Selection.{selected_in};
-ghost use Rattle.krb_driver.specs.Commands.{Makes, Runs, always, any, text_effect};
-ghost use Rattle.krb_driver.specs.Effects.{IsMade};
+ghost use Rattle.krb_driver.specs.Commands.{Makes, Runs, always, any, text_effect, IsMade};
 ghost use Rattle.krb_driver.specs.Mistakes.{Reads};
-ghost use Rattle.krb_driver.specs.Verdicts.{hiding};
+ghost use Rattle.krb_driver.specs.RunErrors.{hiding};
 ghost use Rattle.krb_driver.specs.declared.verdict.Verdict.TheVariants.{Clashed, Well};
 ghost use Rattle.krb_editors.specs.Ktcopy.{SpellsCopy, asks_for_some, copied_effect, copies_from, copies_to, copy_mistake, finds_none, ktcopy_plan};
 
@@ -16,9 +15,9 @@ use crate::selecting::{OF_ENCTYPE, OF_PRINCIPAL, spelled_kvno};
 use krb_audit::{SelectedKvno, Selection, hides_added, selected_entries};
 use krb_copy::{Copied, copy_into};
 use krb_driver::{
-    Command, CommandName, CommandWords, FileError, FileName, IN_PLACE, Made, Matches, Output,
-    RunError, V1_BIG, Verdict, Word, WordFault, World, hold_if, open_whole, open_whole_or_empty,
-    refuse_twice, run, spelled_etypes, spelled_names, v1_order,
+    Command, CommandName, CommandWords, FileError, FileName, IN_PLACE, Made, MakeResult, Matches,
+    Output, RunError, V1_BIG, Verdict, Word, WordFault, World, hold_if, open_whole,
+    open_whole_or_empty, refuse_twice, run, spelled_etypes, spelled_names, v1_order,
 };
 use krb_files::Files;
 use krb_keytab::{EntryView, Keytab};
@@ -243,11 +242,7 @@ impl<'f, A: Allocator + Copy, B: Allocator> Command<A> for CopyEntries<'f, B> {
         self.to.name
     }
 
-    fn make<F: Files>(
-        &self,
-        alloc: A,
-        files: &mut F,
-    ) -> Result<Made<A, Self::Shown>, FileError<'_>> {
+    fn make<F: Files>(&self, alloc: A, files: &mut F) -> MakeResult<'_, A, Self::Shown> {
         let from = open_whole(alloc, self.options.v1_order, files, self.from)?;
         copy_from(alloc, self, &from, files)
     }

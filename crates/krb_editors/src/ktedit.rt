@@ -5,15 +5,14 @@ ghost use Rattle.krb_text.specs.Script.{event_in};
 ghost use Rattle.krb_audit.specs.Findings.{hides_added};
 ghost use Rattle.krb_driver.specs.Commands.{text_effect};
 ghost use Rattle.krb_editors.specs.Ktedit.{RunsFairly, edits, ktedit_fairly, ktedit_plan};
-ghost use Rattle.krb_editors.specs.Scripted.{RunsScript};
+ghost use Rattle.krb_editors.specs.Sessions.{RunsScript};
 
 use crate::added::run_following;
-use crate::edited::{may_any_change, replied};
-use crate::scripted::read_script;
+use crate::edited::{may_any_change, read_script, replied};
 use krb_audit::hides_added;
 use krb_driver::{
-    Command, CommandName, CommandWords, FileError, FileKind, FileName, IN_PLACE, Made, Output,
-    V1_BIG, Word, World, end_before, give_or_empty, hold_if, run,
+    Command, CommandName, CommandWords, FileError, FileKind, FileName, IN_PLACE, Made, MakeResult,
+    Output, V1_BIG, Word, World, end_before, give_or_empty, hold_if, run,
 };
 use krb_files::Files;
 use krb_keytab::{Indexed, Keytab, NewEntry};
@@ -115,11 +114,7 @@ impl<'f, A: Allocator + Copy> Command<A> for EditKeytab<'f, A> {
         self.file.name
     }
 
-    fn make<F: Files>(
-        &self,
-        alloc: A,
-        files: &mut F,
-    ) -> Result<Made<A, Self::Shown>, FileError<'_>> {
+    fn make<F: Files>(&self, alloc: A, files: &mut F) -> MakeResult<'_, A, Self::Shown> {
         hold_if(may_any_change(&self.events), files, self.file);
         let keytab = give_or_empty(alloc, self.v1_order, files, self.file)?;
         Ok(edit(alloc, keytab, &self.events)?)

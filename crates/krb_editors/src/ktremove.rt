@@ -2,8 +2,7 @@
 
 ghost use Rattle.std.specs.Prelude.{◌≡◌};
 ghost use Rattle.krb_audit.specs.Selection.{selected_in};
-ghost use Rattle.krb_driver.specs.Commands.{RunsWith, any, text_effect};
-ghost use Rattle.krb_driver.specs.Effects.{IsMade};
+ghost use Rattle.krb_driver.specs.Commands.{RunsWith, any, text_effect, IsMade};
 ghost use Rattle.krb_editors.specs.Ktremove.{SpellsKvno, SpellsRemoval, kvno_mistake, ktremove_plan, needed_time, none_verdict, odd_selection, remove_mistake, removes, with_age};
 ghost use Rattle.krb_driver.specs.Mistakes.{Reads, Refuses, Spells};
 
@@ -11,8 +10,8 @@ use crate::selecting::{OF_ENCTYPE, OF_PRINCIPAL, spelled_kvno};
 use krb_audit::{SelectedKvno, Selection, select};
 use krb_driver::{
     Command, CommandName, CommandWords, DRY_RUN, FileError, FileKind, FileName, IN_PLACE, Made,
-    Matches, Mistake, Output, RunError, V1_BIG, Verdict, Word, WordFault, World, end_before,
-    first_value, hold_if, open_whole, refuse_twice, run, spelled_etypes, spelled_names,
+    MakeResult, Matches, Mistake, Output, RunError, V1_BIG, Verdict, Word, WordFault, World,
+    end_before, first_value, hold_if, open_whole, refuse_twice, run, spelled_etypes, spelled_names,
     spelled_seconds, times_given, v1_order,
 };
 use krb_files::Files;
@@ -202,11 +201,7 @@ impl<'f, A: Allocator + Copy, B: Allocator> Command<A> for RemoveEntries<'f, B> 
         self.file.name
     }
 
-    fn make<F: Files>(
-        &self,
-        alloc: A,
-        files: &mut F,
-    ) -> Result<Made<A, Self::Shown>, FileError<'_>> {
+    fn make<F: Files>(&self, alloc: A, files: &mut F) -> MakeResult<'_, A, Self::Shown> {
         hold_if(!self.options.dry_run, files, self.file);
         let keytab = open_whole(alloc, self.options.v1_order, files, self.file)?;
         remove(alloc, self, keytab)

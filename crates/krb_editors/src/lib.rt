@@ -9,7 +9,6 @@ mod hold;
 mod ktcopy;
 mod ktedit;
 mod ktremove;
-mod scripted;
 mod selecting;
 
 pub use ccedit::{CCEDIT, run_ccedit};

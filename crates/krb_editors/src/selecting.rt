@@ -1,8 +1,7 @@
 //! Which entries the words of a command select.
 
 ghost use Rattle.std.specs.Prelude.{codes};
-ghost use Rattle.krb_driver.specs.Matches.{first_value};
-ghost use Rattle.krb_driver.specs.Mistakes.{Spells};
+ghost use Rattle.krb_driver.specs.Mistakes.{first_value, Spells};
 ghost use Rattle.krb_editors.specs.Selecting.{IsSpelledKvno, bad_kvno};
 
 use krb_audit::SelectedKvno;

@@ -1,5 +1,6 @@
 -- What a line of ktutil comes to: what it leaves, and that it is what is due over honest files.
 use Rattle.krb_ktutil.proofs.Cited.{◌≡◌, ◌⊎◌, inl, inr, ◌∙◌, ℕ, ◌≤◌, Bool, true, false, List, [], ◌∷◌, length, refl, sym, ap, subst, arith, Option, Result, Ok, Err, Code, KeytabState, Ghosts, Watch, Ends, LineFault, Effect, Fails, ErrorWatch, Awaited, words, Awaiting, Nothing, KtutilState, Came, Added, fails, line_faults, none_added, with_added, plan_of, EndsAt, IsCame, is_some, cond, store_of, Answer, Holds, Loads, by, follow, bare_name, has_type, is_other_type, keytab_of, keytab_or_new, is_spent, no_keytab_error, Command, Skip, ListSlots, ReadFile, WriteFile, AwaitKey, DeleteSlot, ClearList, Quit, asks_for_password, command_of, Key, Password, LinePlan, after_fault, with_entries, saved_as, written_to, key_line, with_key, command_plan, plan_by, words_plan, MakesLine, Spares}
+use Rattle.std.proofs.lemmas.Bool.{cond_both}
 use Rattle.krb_walk.specs.Store.{fault_of}
 use Rattle.krb_files.specs.declared.files.LoadFault.TheVariants as load
 use Rattle.krb_files.specs.Files.{CountsFailure}
@@ -10,10 +11,9 @@ use Rattle.krb_driver.specs.declared.error.RunError.{RunError}
 use Rattle.krb_driver.specs.declared.error.RunError.TheVariants as error
 use Rattle.krb_driver.specs.declared.loading.NoKeytab.{NoKeytab}
 use Rattle.krb_driver.specs.declared.verdict.FileKind.TheVariants.{Keytab}
-use Rattle.krb_driver.specs.Commands.{Finishes, Keeps}
-use Rattle.krb_driver.specs.Effects.{IsSpent}
+use Rattle.krb_driver.specs.Commands.{Finishes, Keeps, IsSpent}
 use Rattle.krb_driver.proofs.Running.{finishes-keeps, finishes-lasts}
-use Rattle.krb_ktutil.specs.FaultyLines.{asks_for_help, fault_error}
+use Rattle.krb_ktutil.specs.KtutilCommand.{asks_for_help, fault_error}
 
 -- ---- what lines leave
 
@@ -26,18 +26,13 @@ AllCareful s (Ends came) = Careful s came
 AllCareful s (Holds held name plan) = AllCareful s plan
 AllCareful s (Loads name then_) = (answer : Answer) → AllCareful s (then_ answer)
 
--- what holds of both holds of one of them
-either : {X : Type 0} (P : X → Type 0) (b : Bool) (x y : X) → P x → P y → P (cond b x y)
-either P true x y first second = first
-either P false x y first second = second
-
 -- the error of a fault is not that memory ran out
 abbrev IsOther : RunError → Type 0
 IsOther why = is_spent (Err why) ≡ false
 
 fault-other : (number : ℕ) (line : List (List ℕ)) (fault : LineFault) → IsOther (fault_error number line fault)
-fault-other number line fault.UnknownWord = either IsOther (asks_for_help line) _ _ refl refl
-fault-other number line fault.WordCount = either IsOther (asks_for_password line) _ _ refl refl
+fault-other number line fault.UnknownWord = cond_both (asks_for_help line) _ _ IsOther (λ _. refl) (λ _. refl)
+fault-other number line fault.WordCount = cond_both (asks_for_password line) _ _ IsOther (λ _. refl) (λ _. refl)
 fault-other number line fault.BadNumber = refl
 fault-other number line fault.BadEtype = refl
 fault-other number line fault.BadKey = refl
@@ -54,7 +49,7 @@ module _ (s : KtutilState) where
   fails-careful file why = (refl, λ is. refl)
 
   entries-careful : (number : ℕ) (name : List ℕ) (given : Result KeytabState NoKeytab) → Careful s (with_entries s number name given)
-  entries-careful number name (Ok k) = either (Careful s) (is_some (fault_of (store_of k))) _ _ (fails-careful name _) refl
+  entries-careful number name (Ok k) = cond_both (is_some (fault_of (store_of k))) _ _ (Careful s) (λ _. fails-careful name _) (λ _. refl)
   entries-careful number name (Err why) = fails-careful name (no_keytab_error why)
 
   saved-careful : (number : ℕ) (name : List ℕ) (added : Result Added Code) → Careful s (saved_as s number name added)
@@ -68,8 +63,8 @@ module _ (s : KtutilState) where
   command-careful : (number : ℕ) (command : Command) → AllCareful s (command_plan s number command)
   command-careful number Skip = refl
   command-careful number (ListSlots columns) = refl
-  command-careful number (ReadFile word) = either (AllCareful s) (is_other_type Keytab word) _ _ (fails-careful (bare_name Keytab word) _) (λ answer. entries-careful number (bare_name Keytab word) (keytab_of s.order answer))
-  command-careful number (WriteFile word) = either (AllCareful s) (has_type word) _ _ (fails-careful word error.TypedName) (λ answer. written-careful number word (keytab_or_new s.order answer))
+  command-careful number (ReadFile word) = cond_both (is_other_type Keytab word) _ _ (AllCareful s) (λ _. fails-careful (bare_name Keytab word) _) (λ _ answer. entries-careful number (bare_name Keytab word) (keytab_of s.order answer))
+  command-careful number (WriteFile word) = cond_both (has_type word) _ _ (AllCareful s) (λ _. fails-careful word error.TypedName) (λ _ answer. written-careful number word (keytab_or_new s.order false answer))
   command-careful number (AwaitKey awaited) = refl
   command-careful number (DeleteSlot slot) = refl
   command-careful number ClearList = refl

@@ -1,5 +1,12 @@
--- A line was made by its plan, from its steps.
-use Rattle.krb_ktutil.proofs.Cited.{◌≡◌, inl, inr, ℕ, Bool, true, false, List, [], ◌∷◌, length, refl, sym, ap, subst, ◌∙◌, Option, Result, Ok, Err, false≢true, EntryParts, KeytabState, Ghosts, Ends, LineFault, words, Effect, Fails, Code, Awaited, Awaiting, Nothing, KtutilState, Came, Added, plan_of, fails, line_faults, none_added, with_added, EndsAt, IsCame, line_effect, Answer, LoadsFile, Holds, Loads, by, has_type, keytab_of, keytab_or_new, Gives, GivesOrRunsOut, AwaitKey, Command, WriteFile, after, asks_for_password, command_by, command_of, verb_of, Password, LinePlan, after_fault, becomes, plan_by, command_plan, reading_plan, saved_as, with_entries, words_plan, writing_plan, written_to, Attempts, Comes, MakesLine, RunsOut, Tries}
+-- A line was made by its plan, from its steps, and with the entries of a keytab.
+use Rattle.krb_ktutil.proofs.Cited.{◌≡◌, ◌∙◌, sym, ℕ, List, [], ◌∷◌, Option, Some, None, refl, ap, Result, Ok, Err, EntryParts, KeytabState, Code, Added, with_added, map, option_map, filter_map, cons_option, entry_at, store_of, entries, result_map, more_added, RefusesAdded, inl, inr, Bool, true, false, length, subst, false≢true, Ghosts, Ends, LineFault, words, Effect, Fails, Awaited, Awaiting, Nothing, KtutilState, Came, plan_of, fails, line_faults, none_added, EndsAt, IsCame, line_effect, Answer, LoadsFile, Holds, Loads, by, has_type, keytab_of, keytab_or_new, Gives, GivesOrRunsOut, AwaitKey, Command, WriteFile, after, asks_for_password, command_by, command_of, verb_of, Password, LinePlan, after_fault, becomes, plan_by, command_plan, reading_plan, saved_as, with_entries, words_plan, writing_plan, written_to, Attempts, Comes, MakesLine, RunsOut, Tries}
+use Rattle.krb_wire.specs.declared.format.KtFormat.{KtFormat}
+use Rattle.krb_walk.specs.Store.{Record, records}
+use Rattle.krb_keytab.specs.Find.{PlacedEntry, placed_entries}
+use Rattle.krb_keytab.specs.Changes.{put_result}
+use Rattle.krb_walk.specs.Rules.{PutGives}
+use Rattle.krb_walk.specs.declared.refusal.Refusal.{Refusal}
+use Rattle.krb_walk.specs.declared.refusal.Refusal.TheVariants.{Code as ByCode, NoMemory}
 use Rattle.krb_wire.specs.declared.format.Order.{Order}
 use Rattle.krb_files.specs.declared.files.LoadFault.TheVariants as load
 use Rattle.krb_text.specs.declared.line_fault.LineRefusal.{LineRefusal}
@@ -9,7 +16,36 @@ use Rattle.krb_driver.specs.declared.error.RunError.TheVariants as error
 use Rattle.krb_driver.specs.declared.loading.NoKeytab.{NoKeytab}
 use Rattle.krb_ktutil.specs.declared.ktutil.verb.Verb.{Verb}
 use Rattle.krb_ktutil.specs.declared.ktutil.line.Line.{Line}
-use Rattle.krb_ktutil.specs.FaultyLines.{fault_error}
+use Rattle.krb_ktutil.specs.KtutilCommand.{fault_error}
+
+-- placed entries without their places
+abbrev pub entries_of : List PlacedEntry → List EntryParts
+entries_of xs = map (λ x. x.1) xs
+
+entries_first : (place : ℕ) (o : Option EntryParts) (es : List EntryParts) (xs : List PlacedEntry) → entries_of xs ≡ es → entries_of (cons_option (option_map (λ (e : EntryParts). (place, e)) o) xs) ≡ cons_option o es
+entries_first place None es xs others = others
+entries_first place (Some e) es xs others = ap (λ (t : List EntryParts). e ∷ t) others
+
+entries_placed : (f : KtFormat) (rs : List Record) → entries_of (filter_map (λ (r : Record). option_map (λ (e : EntryParts). (r.place, e)) (entry_at f r.bytes)) rs) ≡ filter_map (λ (r : Record). entry_at f r.bytes) rs
+entries_placed f [] = refl
+entries_placed f (r ∷ rs) = entries_first r.place (entry_at f r.bytes) _ _ (entries_placed f rs)
+
+-- the entries of a keytab are its placed entries without their places
+pub all_entries : (k : KeytabState) → entries_of (placed_entries k) ≡ entries k
+all_entries k = entries_placed k.format (records (store_of k))
+
+-- after a refusal no entry is added
+with_added-err : (es : List EntryParts) (refused : Code) → with_added es (Err refused) ≡ Err refused
+with_added-err [] refused = refl
+with_added-err (e ∷ es) refused = refl
+
+-- the refusal of the first entry is that of all entries
+pub refuses_added : (e : EntryParts) (es : List EntryParts) (x : Added) (k' : KeytabState) (r : Refusal) (all : Result Added Code) → PutGives (put_result x.keytab e) x.keytab (Err r) k' → with_added (e ∷ es) (Ok x) ≡ all → RefusesAdded all r
+refuses_added e es x k' (ByCode refused) all gives is =
+    sym is ∙ ap (λ (put : Result (ℕ × KeytabState) Code). with_added es (result_map (more_added x) put)) gives.0 ∙ with_added-err es refused
+refuses_added e es x k' NoMemory all gives is = tt
+
+-- ---- a line was made by its plan, from its steps
 
 -- the words after the command are refused
 pub attempts_refused : (A : Type 0) (s : KtutilState) (number : ℕ) (given : Result Awaited LineFault) (refused : LineRefusal) → Reads (λ (x : Awaited). x) given (Err refused) → Attempts {A = A} s number (after (λ awaited. Ok (AwaitKey awaited)) given) s (Err refused)
@@ -61,11 +97,11 @@ module _ {F : Type 0} (trait : Ghosts F) where
 
   -- a load whose keytab is to be written, or that gave none
   pub makes_written : (s : KtutilState) (number : ℕ) (name : List ℕ) (files between : F) (given : Result KeytabState NoKeytab) (effect : Effect) (quits : Bool)
-      → (order : Order) → order ≡ s.order → GivesOrRunsOut trait files name (keytab_or_new order) given between → Comes (written_to s number name given) s s effect quits → MakesLine trait (writing_plan s number name) files between s s effect quits
+      → (order : Order) → order ≡ s.order → GivesOrRunsOut trait files name (keytab_or_new order false) given between → Comes (written_to s number name given) s s effect quits → MakesLine trait (writing_plan s number name) files between s s effect quits
   makes_written s number name files between given effect quits order same_order gives comes =
       let Due : Result KeytabState NoKeytab → Type 0 = λ r. Comes (written_to s number name r) s s effect quits in
-      makes_loaded s s name (λ answer. written_to s number name (keytab_or_new s.order answer)) refl refl gives.answer files between effect quits gives.loads (elim gives.gives [
-        | inl is ↦ subst Due (sym (subst (λ (o : Order). keytab_or_new o gives.answer ≡ given) same_order is)) comes
+      makes_loaded s s name (λ answer. written_to s number name (keytab_or_new s.order false answer)) refl refl gives.answer files between effect quits gives.loads (elim gives.gives [
+        | inl is ↦ subst Due (sym (subst (λ (o : Order). keytab_or_new o false gives.answer ≡ given) same_order is)) comes
         | inr none ↦ elim (subst Due none comes) [ inl is ↦ inr (record { state_is = is.state_is; spent = (name, is.effect_is); goes_on = is.quits_is }) | inr out ↦ inr out ]
       ])
 

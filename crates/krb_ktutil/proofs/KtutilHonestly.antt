@@ -10,10 +10,10 @@ use Rattle.krb_files.proofs.PlanLaws.{count-more, count-trans, same-trans}
 use Rattle.krb_files.proofs.Prefixes.{Appends-nil, Appends-trans}
 use Rattle.krb_driver.specs.declared.error.RunError.TheVariants.{NoMemory}
 use Rattle.krb_driver.specs.declared.reporting.details.Details.{Details}
-use Rattle.krb_driver.specs.Commands.{Keeps, Settles, ShowsEnd}
-use Rattle.krb_driver.specs.Effects.{Displays, IsSpent, Saves, about, files_after, is_save, settled}
+use Rattle.krb_driver.specs.Commands.{Keeps, Settles, ShowsEnd, Displays, IsSpent, Saves, about, files_after, is_save, settled}
 use Rattle.krb_driver.proofs.Running.{finishes-lasts}
-use Rattle.krb_ktutil.specs.KtutilDue.{TalkDue, DueReport, ReportsDue, quiet_run, final_report, line_report, last_due, due_after, run_of, talk_due, GivesLines, LeavesDue, LeavesDueUnlessFailed, TalksHonestly}
+use Rattle.krb_ktutil.specs.KtutilTalk.{TalkDue, DueReport, ReportsDue, quiet_run, final_report, line_report, last_due, due_after, run_of, talk_due, GivesLines, LeavesDue, LeavesDueUnlessFailed, TalksHonestly}
+use Rattle.krb_ktutil.proofs.InputLemmas.{AreLines, are_first, lines_after}
 use Rattle.krb_ktutil.proofs.KtutilDue.{Came-due, line_lasts, makes_due, makes_lasts}
 
 -- ---- what is left
@@ -224,20 +224,6 @@ module _ {F : Type 0} (trait : Ghosts F) (prompts : Bool) (now : ℕ) (final : R
       ]
 
 -- ---- an input
-
--- it has these lines and no more
-abbrev pub AreLines : Option (List ℕ) → List (List ℕ) → Type 0
-AreLines given lines = IfSome given (λ bytes. lines_of bytes ≡ lines)
-
--- the lines after its first ones
-lines_after : (given : Option (List ℕ)) (lines : List (List ℕ)) → AreFirst lines given → (more : List (List ℕ)) × AreLines given (lines ++ more)
-lines_after None lines first = ([], tt)
-lines_after (Some bytes) lines first = first
-
--- without the lines that follow these
-pub are_first : (given : Option (List ℕ)) (lines more : List (List ℕ)) → AreLines given (lines ++ more) → AreFirst lines given
-are_first None lines more is = tt
-are_first (Some bytes) lines more is = (more, is)
 
 module _ {F : Type 0} (trait : Ghosts F) (prompts : Bool) (now : ℕ) (given : Option (List ℕ)) (lines : List (List ℕ)) (first last : Talk F) (talked : TalksOver trait now prompts 1 lines first last) where
   -- what was due after the lines was left

@@ -1,15 +1,38 @@
--- The lines of ktutil, one after the other.
-use Rattle.krb_ktutil.proofs.Cited.{◌≡◌, inl, inr, ℕ, ◌⊎◌, ◌+◌, ◌-◌, ◌<◌, ◌≤◌, Bool, true, false, List, [], ◌∷◌, ◌++◌, length, length-append, take, take-add, drop, refl, sym, ap, subst, ◌∙◌, append_assoc, append-nil, arith, max, not, slice_range, ◌&&◌, Option, None, Some, IfSome, Err, Ghosts, ErrorWatch, input_error, error_status, lines_of, HasNone, Grows, Talk, first_talk, goes_on, HandlesLine, Prompts, ◌≢◌, ◌||◌, drop_all, take-append-le, Consumes, InputParts, with_newlines, HasLines, KeepsLines, TakesLine, EndsInNewline, IsSpent, HasNoMore, CutsOff, IsWithin, most_bytes, AreFirst, Continues, EndsTalk, Stops, TalksOver, prompt_of, last_prompt, Reports, Source, is_failed}
+-- The lines of ktutil, one after the other, and their prompts.
+use Rattle.krb_ktutil.proofs.Cited.{◌≡◌, ℕ, Bool, true, false, List, [], ◌++◌, refl, sym, ◌∙◌, Result, Ok, Err, false≢true, Watch, ErrorWatch, Prompts, OnOk, OnErr, is_err, IsFalse, Appends, AppendsPrefix, WritesOn, Writes-nothing, PromptsOn, inl, inr, ◌⊎◌, ◌+◌, ◌-◌, ◌<◌, ◌≤◌, ◌∷◌, length, length-append, take, take-add, drop, ap, subst, append_assoc, append-nil, arith, max, not, slice_range, ◌&&◌, Option, None, Some, IfSome, Ghosts, input_error, error_status, lines_of, HasNone, Grows, Talk, first_talk, goes_on, HandlesLine, ◌≢◌, ◌||◌, drop_all, take-append-le, Consumes, InputParts, with_newlines, HasLines, KeepsLines, TakesLine, EndsInNewline, IsSpent, HasNoMore, CutsOff, IsWithin, most_bytes, AreFirst, Continues, EndsTalk, Stops, TalksOver, prompt_of, last_prompt, Reports, Source, is_failed}
+use Rattle.krb_files.proofs.Prefixes.{Appends-trans, AppendsPrefix-after, AppendsPrefix-all}
 use Rattle.std.proofs.lemmas.Grind.{flat_map-append}
 use Rattle.krb_wire.specs.declared.format.Order.{Order}
 use Rattle.krb_files.specs.declared.files.LoadFault.{LoadFault}
 use Rattle.krb_files.specs.declared.files.LoadFault.TheVariants.{Missing, TooLarge}
-use Rattle.krb_driver.specs.declared.world.World.{World}
-use Rattle.krb_ktutil.specs.Ktutil.{HandlesNext, RunsKtutil}
-use Rattle.krb_ktutil.specs.KtutilDue.{TalksHonestly}
-use Rattle.krb_ktutil.proofs.KtutilHonestly.{AreLines, are_first, honest_after, honest_in_line, honest_unread}
+use Rattle.krb_driver.specs.declared.command.World.{World}
+use Rattle.krb_ktutil.specs.KtutilTalk.{HandlesNext, RunsKtutil, TalksHonestly}
+use Rattle.krb_ktutil.proofs.InputLemmas.{AreLines, are_first}
+use Rattle.krb_ktutil.proofs.KtutilHonestly.{honest_after, honest_in_line, honest_unread}
 use Rattle.krb_driver.specs.declared.reporting.details.Details.{Details}
 use Rattle.krb_files.proofs.Reading.{Consumes-trans}
+
+-- a text was put after what was written
+pub WritesOn-put : {T E : Type 0} (old new : Watch) (text : List ℕ) (put : Result T E) → IsFalse old.failed → OnOk put (Appends old.contents new.contents text) → OnErr put (AppendsPrefix old.contents new.contents text)
+    → new.failed ≡ is_err put → WritesOn old new text
+WritesOn-put old new text (Ok x) well all prefix failed = λ start before writes.
+    let whole = Appends-trans start.contents old.contents new.contents before text (writes.whole well) all in
+    record { prefix = AppendsPrefix-all start.contents new.contents (before ++ text) whole; whole = λ _. whole }
+WritesOn-put old new text (Err e) well all prefix failed = λ start before writes. record {
+  prefix = AppendsPrefix-after start.contents old.contents new.contents before text (writes.whole well) prefix;
+  whole = λ well'. absurd (false≢true (sym well' ∙ failed));
+}
+
+-- no prompt was written yet
+Prompts-none : (prompts : Bool) (err : ErrorWatch) → Prompts prompts [] err err
+Prompts-none true err = record { writes = Writes-nothing err.to; still = refl }
+Prompts-none false err = refl
+
+-- a prompt was written
+pub Prompts-first : (prompts : Bool) (prompt : List ℕ) (old new : ErrorWatch) → PromptsOn prompts prompt old new → Prompts prompts prompt old new
+Prompts-first prompts prompt old new on = on old [] (Prompts-none prompts old)
+
+-- ---- the lines of ktutil, one after the other
 
 -- the input has these lines, which were run, and those that are to come
 abbrev ToCome : Option (List ℕ) → List (List ℕ) → InputParts → Option (List ℕ) → Type 0

@@ -1,11 +1,7 @@
 pub mod Cited
-pub mod NewlineLemmas
 pub mod InputLemmas
 pub mod WordLemmas
-pub mod PromptLemmas
-pub mod KtutilLists
 pub mod KtutilHandles
-pub mod KtutilOptions
 pub mod KtutilDue
 pub mod KtutilHonestly
 pub mod KtutilLemmas

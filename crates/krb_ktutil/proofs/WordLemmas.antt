@@ -1,35 +1,24 @@
--- The first word of a line, and the words after it.
-use Rattle.krb_ktutil.proofs.Cited.{◌≡◌, ℕ, ◌<◌, ◌≤◌, Bool, true, false, not, List, [], ◌∷◌, ◌++◌, length, take, drop, refl, sym, ap, subst, ◌∙◌, arith, ◌&&◌, words, unindented, zero, suc, get_or, map, cond, filter, ◌==◌, concat, slice_split, onto_first, eqb-true, is_blank, pieces, is_gap, parts, is_word, size_from, word_size}
+-- The first word of a line, the words after it, and the options among them.
+use Rattle.krb_ktutil.proofs.Cited.{◌≡◌, ℕ, ◌<◌, ◌≤◌, Bool, true, false, not, List, [], ◌∷◌, ◌++◌, length, take, drop, refl, sym, ap, subst, ◌∙◌, arith, ◌&&◌, words, unindented, zero, suc, get_or, map, cond, filter, ◌==◌, concat, slice_split, onto_first, eqb-true, is_blank, pieces, is_gap, parts, is_word, size_from, word_size, Some, options_in, AddOptions, is_new_key, with_option}
+use Rattle.std.proofs.lemmas.List.{nil_from_length}
+use Rattle.std.proofs.lemmas.List.Splits.{length-slice_split}
 
 -- a backslash is not a blank
 backslash_is_no_blank : (b : ℕ) → (b == 92) ≡ true → is_blank b ≡ true → false ≡ true
 backslash_is_no_blank b e blank = let same : b ≡ 92 = eqb-true b 92 e in rw same at blank
-
--- a split has a first part
-data HasFirst {X : Type 0} : List (List X) → Type 0 where
-  first : (part : List X) (parts : List (List X)) → HasFirst (part ∷ parts)
-
-split_cons : {X : Type 0} (b : Bool) (x : X) (ys : List (List X)) → HasFirst ys → HasFirst (cond b ([] ∷ ys) (onto_first x ys))
-split_cons true x ys h = first [] ys
-split_cons false x (y ∷ ys) h = first (x ∷ y) ys
-split_cons false x [] h = first (x ∷ []) []
-
-split_has_first : {X : Type 0} (p : X → Bool) (xs : List X) → HasFirst (slice_split p xs)
-split_has_first p [] = first [] []
-split_has_first p (x ∷ xs) = split_cons (p x) x (slice_split p xs) (split_has_first p xs)
 
 -- parts, with bytes before the first one
 abbrev pub onto : List ℕ → List (List ℕ) → List (List ℕ)
 onto bytes [] = bytes ∷ []
 onto bytes (part ∷ others) = (bytes ++ part) ∷ others
 
-concat_onto : (x : List ℕ) (ys : List (List (List ℕ))) → HasFirst ys → map concat (onto_first x ys) ≡ onto x (map concat ys)
-concat_onto x (y ∷ ys) h = refl
-concat_onto x [] h = elim h [ ]
+concat_onto : (x : List ℕ) (ys : List (List (List ℕ))) → 0 < length ys → map concat (onto_first x ys) ≡ onto x (map concat ys)
+concat_onto x (y ∷ ys) some = refl
+concat_onto x [] some = absurd (omega arith)
 
 -- a piece that is not a gap is at the front of the first part
 parts_more : (x : List ℕ) (xs : List (List ℕ)) → is_gap x ≡ false → map concat (slice_split is_gap (x ∷ xs)) ≡ onto x (map concat (slice_split is_gap xs))
-parts_more x xs e = rw e (concat_onto x (slice_split is_gap xs) (split_has_first is_gap xs))
+parts_more x xs e = rw e (concat_onto x (slice_split is_gap xs) (omega (arith, length-slice_split is_gap xs)))
 
 -- a blank at the front ends an empty part
 parts_blank : (b : ℕ) (bs : List ℕ) → is_blank b ≡ true → parts (b ∷ bs) ≡ [] ∷ parts bs
@@ -70,10 +59,6 @@ first_part [] = record { parts_are = refl; ends = refl; within = omega arith }
 first_part (b ∷ []) = first_of_one b (is_blank b) refl
 first_part (b ∷ c ∷ rest) = first_of_more b c rest (is_blank b) (b == 92) refl refl (first_part rest) (first_part (c ∷ rest))
 
--- a text that does not begin with a blank begins with a word
-begins : (b : ℕ) (bs : List ℕ) → is_blank b ≡ false → 0 < word_size (b ∷ bs)
-begins b bs e = rw e (omega arith)
-
 -- the first n bytes of a text are a word, if there are any
 some_is_word : (text : List ℕ) (n : ℕ) → 0 < n → 0 < length text → is_word (take n text) ≡ true
 some_is_word text zero p q = absurd (omega arith)
@@ -107,7 +92,7 @@ unindented_begins (b ∷ bs) = unindented_begins-cons (is_blank b) b bs refl (un
 
 plain_has_size : (text : List ℕ) → BeginsPlain text → 0 < length text → 0 < word_size text
 plain_has_size [] plain p = absurd (omega arith)
-plain_has_size (b ∷ bs) plain p = begins b bs plain
+plain_has_size (b ∷ bs) plain p = rw plain (omega arith)
 
 -- the first n bytes of a text are the first word of a line
 pub record FirstWord (line text : List ℕ) (n : ℕ) : Type 0 where
@@ -133,12 +118,8 @@ first_word line text n same size some =
     rw size (first_word-of line text (ap words same ∙ words-unindented line) (subst BeginsPlain (sym same) (unindented_begins line)) some)
 
 -- a line of blanks has no words
-no_words-of : (line text : List ℕ) → words text ≡ words line → length text ≡ 0 → words line ≡ []
-no_words-of line [] e none = sym e
-no_words-of line (b ∷ bs) e none = absurd (omega arith)
-
 pub no_words : (line text : List ℕ) → text ≡ unindented line → length text ≡ 0 → words line ≡ []
-no_words line text same none = no_words-of line text (ap words same ∙ words-unindented line) none
+no_words line text same none = sym (words-unindented line) ∙ ap words (sym same ∙ nil_from_length text none)
 
 -- one more byte before the first blank that is not quoted
 size_from-cons : (b : ℕ) (bs : List ℕ) (quoted : Bool) → (not quoted && is_blank b) ≡ false → size_from (b ∷ bs) quoted ≡ suc (size_from bs (not quoted && b == 92))
@@ -150,3 +131,14 @@ pub size_from-step : (text : List ℕ) (i : ℕ) (quoted : Bool) → i < length 
 size_from-step [] i quoted lt e = absurd (omega arith)
 size_from-step (b ∷ bs) zero quoted lt e = size_from-cons b bs quoted e
 size_from-step (b ∷ bs) (suc i) quoted lt e = size_from-step bs i quoted (omega arith) e
+
+-- ---- one more option of an addition
+
+-- `-key`
+pub options_in_key : (given : AddOptions) (option : List ℕ) (words : List (List ℕ)) → is_new_key given option ≡ true → options_in given (option ∷ words) ≡ options_in (record given { key = true }) words
+options_in_key given option [] is = rw is refl
+options_in_key given option (word ∷ others) is = rw is refl
+
+-- an option with a value
+pub options_in_word : (given more : AddOptions) (option word : List ℕ) (others : List (List ℕ)) → is_new_key given option ≡ false → with_option given option word ≡ Some more → options_in given (option ∷ word ∷ others) ≡ options_in more others
+options_in_word given more option word others differ is = rw (differ, is) refl

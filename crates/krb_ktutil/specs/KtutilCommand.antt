@@ -1,6 +1,6 @@
--- The command of a line of ktutil.
-use Rattle.std.specs.Prelude.{ℕ, List, [], ◌∷◌, Bool, true, false, not, ◌||◌, ◌&&◌, nat_lt, nat_le, codes, Option, None, Some, is_none, ok_or, Result, Ok, Err, if◌then◌else◌}
-use Rattle.std.specs.List.{list_any}
+-- The words of a line, the command that they ask for, and their faults.
+use Rattle.std.specs.Prelude.{ℕ, zero, suc, List, [], ◌∷◌, map, filter, reverse, Bool, true, false, ◌||◌, ◌==◌, if◌then◌else◌, not, ◌&&◌, nat_lt, nat_le, codes, Option, None, Some, is_none, ok_or, Result, Ok, Err}
+use Rattle.std.specs.List.{concat, slice_split, list_any}
 use Rattle.std.specs.Str.{bytes_eq, is_utf8}
 use Rattle.krb_wire.specs.Spelling.{Parts}
 use Rattle.krb_wire.specs.Reading.{◌>>=◌}
@@ -10,7 +10,58 @@ use Rattle.krb_text.specs.declared.line_fault.LineFault.TheVariants.{UnknownWord
 use Rattle.krb_ktutil.specs.declared.ktutil.verb.Verb.{Verb}
 use Rattle.krb_ktutil.specs.declared.ktutil.verb.Verb.TheVariants as verb
 use Rattle.krb_text.specs.Word.{number_word, etype_word, name_word}
-use Rattle.krb_ktutil.specs.KtutilWords.{words}
+use Rattle.krb_driver.specs.declared.error.RunError.{RunError}
+use Rattle.krb_driver.specs.declared.error.RunError.TheVariants.{AsksForHelp, FaultyLine, FromPassword}
+
+-- a space or a tab
+abbrev pub is_blank : ℕ → Bool
+is_blank b = b == 32 || b == 9
+
+-- a line split into pieces, from the left: a backslash with the byte after it, or one other byte
+abbrev pub pieces : List ℕ → List (List ℕ)
+pieces [] = []
+pieces (b ∷ []) = (b ∷ []) ∷ []
+pieces (b ∷ c ∷ rest) = if b == 92 then (b ∷ c ∷ []) ∷ pieces rest else (b ∷ []) ∷ pieces (c ∷ rest)
+
+-- a piece is a blank
+abbrev pub is_gap : List ℕ → Bool
+is_gap [] = false
+is_gap (b ∷ []) = is_blank b
+is_gap (b ∷ c ∷ rest) = false
+
+-- the parts before, between and after the blanks that are not quoted
+abbrev pub parts : List ℕ → List (List ℕ)
+parts line = map concat (slice_split is_gap (pieces line))
+
+-- a part is not empty
+abbrev pub is_word : List ℕ → Bool
+is_word [] = false
+is_word (b ∷ bs) = true
+
+-- the words: the parts that are not empty
+abbrev pub words : List ℕ → List (List ℕ)
+words line = filter is_word (parts line)
+
+-- a text without its leading blanks
+abbrev pub unindented : List ℕ → List ℕ
+unindented [] = []
+unindented (b ∷ bs) = if is_blank b then unindented bs else b ∷ bs
+
+-- a text without the blanks at its ends
+abbrev pub trimmed : List ℕ → List ℕ
+trimmed text = reverse (unindented (reverse (unindented text)))
+
+-- the number of bytes before the first blank that is not quoted, by whether the first byte is: for a private contract
+abbrev pub size_from : List ℕ → Bool → ℕ
+size_from [] quoted = zero
+size_from (b ∷ bs) true = suc (size_from bs false)
+size_from (b ∷ bs) false = if is_blank b then zero else suc (size_from bs (b == 92))
+
+-- the number of bytes before the first blank that is not quoted
+abbrev pub word_size : List ℕ → ℕ
+word_size text = size_from text false
+
+-- ---- the command of a line of ktutil
 
 -- an entry whose key and time are still to come
 pub record Awaited : Type 0 where
@@ -200,3 +251,16 @@ command_in count (word ∷ words) = command_by count (verb_of word) words
 -- the command of a line, over `count` slots
 abbrev pub command_of : List ℕ → ℕ → Result Command LineFault
 command_of line count = command_in count (words line)
+
+-- ---- the errors for lines that have a fault
+
+-- the words of a line ask for help, or for the commands
+abbrev pub asks_for_help : List (List ℕ) → Bool
+asks_for_help [] = false
+asks_for_help (command ∷ others) = is_either command (codes "?") (codes "help") || is_either command (codes "lr") (codes "list_requests")
+
+-- the error for a line of that number, with these words and that fault
+abbrev pub fault_error : ℕ → List (List ℕ) → LineFault → RunError
+fault_error number words WordCount = if asks_for_password words then FromPassword number else FaultyLine number WordCount
+fault_error number words UnknownWord = if asks_for_help words then AsksForHelp number else FaultyLine number UnknownWord
+fault_error number words fault = FaultyLine number fault

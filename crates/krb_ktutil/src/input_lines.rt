@@ -48,7 +48,7 @@ fn newline_from(bytes: &[u8], from: usize) -> Option<usize>
 }
 
 // Reads until there is a newline from `next` on, or the input ends. Returns the place of the newline, if any.
-#[tactic(auto, using(crate::proofs::NewlineLemmas::newlines))]
+#[tactic(auto, using(crate::proofs::InputLemmas::newlines))]
 fn read_to_newline<A: Allocator, R: Read>(
     bytes: &mut Vec<u8, A>,
     reader: &mut WatchedReader<R>,

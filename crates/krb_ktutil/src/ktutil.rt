@@ -1,30 +1,24 @@
-//! ktutil: runs the lines of the input.
+//! ktutil: runs the lines of the input, each after its prompt.
 
-ghost use Rattle.std.specs.Prelude.{◌≡◌, ◌&&◌, [], not};
-ghost use Rattle.krb_ktutil.specs.Ktutil.{HandlesNext, RunsKtutil};
-ghost use Rattle.krb_ktutil.specs.KtutilTalk.{goes_on};
-ghost use Rattle.krb_ktutil.specs.declared.ktutil.awaiting.Awaiting.TheVariants.{Nothing};
-
-mod addition;
 mod awaiting;
 mod command;
-mod entries;
-mod faulty_lines;
-mod key;
 mod line;
 mod options;
-mod prompts;
 mod state;
 mod verb;
 mod words;
 
+ghost use Rattle.std.specs.Prelude.{◌≡◌, ◌&&◌, [], not};
+ghost use Rattle.krb_ktutil.specs.KtutilTalk.{HandlesNext, RunsKtutil, goes_on, PromptsOn};
+ghost use Rattle.krb_ktutil.specs.declared.ktutil.awaiting.Awaiting.TheVariants.{Nothing};
+ghost use Rattle.krb_driver.specs.Runs.{WritesOn};
+
 use crate::input_lines::InputLines;
-use crate::ktutil::prompts::show_prompt;
 use krb_driver::{
-    CommandName, CommandWords, Details, IN_PLACE, RunError, V1_BIG, Verdict, World, finish,
-    is_spent, report,
+    CommandName, CommandWords, Details, ErrorOutput, IN_PLACE, RunError, V1_BIG, Verdict, World,
+    finish, is_spent, report,
 };
-use krb_files::Files;
+use krb_files::{Files, Watched, put};
 use krb_wire::Order;
 pub use line::Line;
 pub use state::Ktutil;
@@ -148,5 +142,24 @@ pub fn run_ktutil<A: Allocator + Copy, F: Files, R: Read, W: Write, E: Write>(
         if !talk.handle(number, lines.line(), world) {
             return talk.status;
         }
+    }
+}
+
+// Writes a text; nothing if a write failed. Ignores a failure.
+fn write_text<E: Write>(text: &str, to: &mut Watched<E>)
+    ensures { WritesOn to.old to.new text.now }
+{
+    if to.has_failed() {
+        return;
+    }
+    let _ = put(to, text.as_bytes());
+}
+
+// Writes a text, if there are prompts. Ignores a failure.
+fn show_prompt<E: Write>(prompts: bool, text: &str, err: &mut ErrorOutput<E>)
+    ensures { PromptsOn prompts text.now err.old err.new }
+{
+    if prompts {
+        write_text(text, &mut err.to);
     }
 }

@@ -12,8 +12,7 @@ use Rattle.krb_files.specs.declared.output.OutFault.TheVariants.{Write, NoMemory
 use Rattle.krb_text.specs.declared.columns.KtColumns.{KtColumns}
 use Rattle.krb_cache_text.specs.declared.columns.CcColumns.{CcColumns}
 use Rattle.krb_readers.specs.Klist.{cache_shown, keytab_shown}
-use Rattle.krb_driver.specs.Commands.{ShowsPage}
-use Rattle.krb_driver.specs.Effects.{Page}
+use Rattle.krb_driver.specs.Commands.{ShowsPage, Page}
 use Rattle.krb_driver.specs.RunErrors.{Ending, output_error}
 
 -- a list is empty

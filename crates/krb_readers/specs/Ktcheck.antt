@@ -1,5 +1,5 @@
--- What ktcheck does.
-use Rattle.std.specs.Prelude.{◌≡◌, ◌⊎◌, ℕ, max, List, [], ◌∷◌, ◌++◌, length, codes, Bool, not, ◌&&◌, ◌||◌, nat_lt, IsTrue, IsFalse, if◌then◌else◌, Option, is_some, Ok}
+-- What ktcheck does, and what its words ask for.
+use Rattle.std.specs.Prelude.{◌≡◌, ◌⊎◌, ℕ, max, List, [], ◌∷◌, ◌++◌, length, codes, Bool, not, ◌&&◌, ◌||◌, nat_lt, IsTrue, IsFalse, if◌then◌else◌, Option, is_some, Ok, fold, None, Some}
 use Rattle.krb_walk.specs.Store.{fault_of}
 use Rattle.krb_keytab.specs.Find.{placed_entries}
 use Rattle.krb_keytab.specs.Store.{KeytabState, store_of}
@@ -11,15 +11,16 @@ use Rattle.krb_audit.specs.Report.{has_words, joined, report, without, words_fou
 use Rattle.krb_driver.specs.declared.command.RunEnd.{RunEnd}
 use Rattle.krb_driver.specs.declared.file_name.FileName.{FileName}
 use Rattle.krb_driver.specs.declared.verdict.Findings.{Findings}
-use Rattle.krb_driver.specs.declared.world.World.{World}
+use Rattle.krb_driver.specs.declared.command.World.{World}
 use Rattle.krb_driver.specs.declared.verdict.Verdict.{Verdict}
 use Rattle.krb_driver.specs.declared.verdict.Verdict.TheVariants.{Well, Found}
-use Rattle.krb_driver.specs.Commands.{EndsCommand, any}
-use Rattle.krb_driver.specs.Effects.{CommandPlan, Displays, Page, opens, text}
-use Rattle.krb_driver.specs.Opening.{keytab_in}
+use Rattle.krb_driver.specs.Commands.{EndsCommand, any, CommandPlan, Displays, Page, opens, text}
+use Rattle.krb_driver.specs.Loading.{keytab_in}
 use Rattle.krb_driver.specs.FileNames.{shown_name}
 use Rattle.krb_driver.specs.RunErrors.{Ending, is_spent}
 use Rattle.krb_readers.specs.declared.ktcheck.words.CheckOptions.{CheckOptions}
+use Rattle.std.specs.Str.{bytes_eq}
+use Rattle.krb_driver.specs.Mistakes.{Matched, v1_order, MistakeParts, NoFinding}
 
 -- ---- a file
 
@@ -97,3 +98,28 @@ first_round world = record { world = world; explained = words_of []; status = 0 
 pub record ChecksAll {F R W E : Type 0} (trait : Ghosts F) (o : CheckOptions) (names : List FileName) (old new : World F R W E) (status : ℕ) : Type 0 where
   pub explained : FindingWords
   pub over : ChecksOver trait o (nat_lt 1 (length names)) names (first_round old) (record { world = new; explained = explained; status = status })
+
+-- ---- what the words of ktcheck ask for
+
+-- the finding of that name, if there is one
+abbrev pub finding : List ℕ → FindingWords
+finding word = record {
+  weak = bytes_eq word (codes "weak");
+  hidden = bytes_eq word (codes "hidden");
+  same = bytes_eq word (codes "same");
+  clash = bytes_eq word (codes "clash");
+  old = bytes_eq word (codes "old");
+  mode = bytes_eq word (codes "mode");
+}
+
+-- the mistake in a word that is no finding
+abbrev pub bad_finding : List ℕ → Option MistakeParts
+bad_finding word = if has_words (finding word) then None else Some (NoFinding word)
+
+-- the findings of those names
+abbrev pub findings : List (List ℕ) → FindingWords
+findings words = fold (λ found word. joined found (finding word)) (words_of []) words
+
+-- the options of ktcheck
+abbrev pub check_options : Matched → CheckOptions
+check_options words = record { v1_order = v1_order words; quiet = words.flag (codes "quiet"); allowed = findings (words.values (codes "allow")) }

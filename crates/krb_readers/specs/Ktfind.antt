@@ -14,10 +14,9 @@ use Rattle.krb_driver.specs.declared.error.RunError.TheVariants.{Refused}
 use Rattle.krb_driver.specs.declared.verdict.FileKind.TheVariants.{Keytab}
 use Rattle.krb_driver.specs.declared.verdict.Verdict.TheVariants.{Well}
 use Rattle.krb_driver.specs.declared.file_name.FileName.{FileName}
-use Rattle.krb_driver.specs.Effects.{CommandPlan, Effect, Fails, Displays, opens, text}
-use Rattle.krb_driver.specs.Matches.{IsSpelledName, Matched, bad_etype, bad_name, v1_order}
-use Rattle.krb_driver.specs.Mistakes.{MistakeParts, NoVersion}
-use Rattle.krb_driver.specs.Opening.{keytab_in}
+use Rattle.krb_driver.specs.Commands.{CommandPlan, Effect, Fails, Displays, opens, text}
+use Rattle.krb_driver.specs.Mistakes.{IsSpelledName, Matched, bad_etype, bad_name, v1_order, MistakeParts, NoVersion}
+use Rattle.krb_driver.specs.Loading.{keytab_in}
 
 -- the line of an entry that was found, or why none was
 abbrev pub found : List ℕ → Result PlacedEntry Code → Effect

@@ -1,22 +1,20 @@
 //! klist: lists a keytab or a credential cache.
 
-pub(crate) mod seen_tickets;
 pub(crate) mod ticket_check;
 pub(crate) mod words;
 
 ghost use Rattle.std.specs.Prelude.{◌≡◌, IsFalse};
 ghost use Rattle.krb_text.specs.Gathered.{Prints};
-ghost use Rattle.krb_driver.specs.Commands.{Runs, always, any, made_effect};
-ghost use Rattle.krb_driver.specs.Effects.{Displays, IsMade};
+ghost use Rattle.krb_driver.specs.Commands.{Runs, always, any, made_effect, Displays, IsMade};
 ghost use Rattle.krb_readers.specs.Klist.{cache_shown, keytab_shown, klist_plan, listing_page};
-ghost use Rattle.krb_driver.specs.Verdicts.{listing_verdict};
+ghost use Rattle.krb_driver.specs.RunErrors.{listing_verdict};
 
 use crate::klist::words::{KlistOptions, ListKind};
 use krb_cache_text::{CcColumns, list_cache};
 use krb_ccache::Ccache;
 use krb_driver::{
-    Command, FileError, FileName, Made, RunError, Show, Verdict, World, open_cache, open_listed,
-    run,
+    Command, FileError, FileName, Made, MakeResult, RunError, Show, Verdict, World, open_cache,
+    open_listed, run,
 };
 use krb_files::{Files, OutFault, Watched};
 use krb_json::{cache_json, keytab_json};
@@ -146,11 +144,7 @@ impl<'f, A: Allocator + Copy> Command<A> for ListFile<'f> {
         self.file.name
     }
 
-    fn make<F: Files>(
-        &self,
-        alloc: A,
-        files: &mut F,
-    ) -> Result<Made<A, Self::Shown>, FileError<'_>> {
+    fn make<F: Files>(&self, alloc: A, files: &mut F) -> MakeResult<'_, A, Self::Shown> {
         match self.options.kind {
             ListKind::Keytab(columns) => {
                 let keytab = open_listed(alloc, self.options.v1_order, files, self.file)?;

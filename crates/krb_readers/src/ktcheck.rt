@@ -8,16 +8,15 @@ ghost use Rattle.krb_keytab.specs.Find.{placed_entries};
 ghost use Rattle.krb_keytab.specs.Store.{KeytabState, store_of};
 ghost use Rattle.krb_audit.specs.Findings.{weak_among};
 ghost use Rattle.krb_audit.specs.Report.{joined, report, words_found, wrong_words};
-ghost use Rattle.krb_driver.specs.Commands.{output_page, text_effect};
-ghost use Rattle.krb_driver.specs.Effects.{Displays, IsMade};
+ghost use Rattle.krb_driver.specs.Commands.{output_page, text_effect, Displays, IsMade};
 ghost use Rattle.krb_driver.specs.RunErrors.{is_spent};
 ghost use Rattle.krb_readers.specs.Ktcheck.{ChecksAll, explained_by, found_verdict, is_well, label_of, page_of};
 
 use crate::ktcheck::words::CheckOptions;
 use krb_audit::{CheckUp, FindingWords, check_up};
 use krb_driver::{
-    Command, FileError, FileName, Findings, Made, Output, RunEnd, RunError, Verdict, World,
-    append_name, is_spent, open_keytab, run_to_end,
+    Command, FileError, FileName, Findings, Made, MakeResult, Output, RunEnd, RunError, Verdict,
+    World, append_name, is_spent, open_keytab, run_to_end,
 };
 use krb_files::Files;
 use krb_keytab::Keytab;
@@ -129,11 +128,7 @@ impl<'f, A: Allocator + Copy> Command<A> for CheckFile<'f> {
         self.file.name
     }
 
-    fn make<F: Files>(
-        &self,
-        alloc: A,
-        files: &mut F,
-    ) -> Result<Made<A, Self::Shown>, FileError<'_>> {
+    fn make<F: Files>(&self, alloc: A, files: &mut F) -> MakeResult<'_, A, Self::Shown> {
         let keytab = open_keytab(alloc, self.options.v1_order, files, self.file)?;
         check(alloc, self, files, &keytab)
     }

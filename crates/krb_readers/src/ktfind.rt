@@ -1,14 +1,13 @@
 //! ktfind: looks up an entry in a keytab.
 
 ghost use Rattle.std.specs.Prelude.{◌≡◌};
-ghost use Rattle.krb_driver.specs.Commands.{Runs, always, any, text_effect};
-ghost use Rattle.krb_driver.specs.Effects.{IsMade};
+ghost use Rattle.krb_driver.specs.Commands.{Runs, always, any, text_effect, IsMade};
 ghost use Rattle.krb_readers.specs.Ktfind.{SpellsEntry, find_mistake, finds, ktfind_plan};
 ghost use Rattle.krb_driver.specs.Mistakes.{Reads};
 
 use krb_driver::{
-    Command, CommandName, CommandWords, FileError, FileName, Made, Matches, Mistake, Output,
-    RunError, V1_BIG, Verdict, Word, WordFault, World, open_keytab, run, spelled_etype,
+    Command, CommandName, CommandWords, FileError, FileName, Made, MakeResult, Matches, Mistake,
+    Output, RunError, V1_BIG, Verdict, Word, WordFault, World, open_keytab, run, spelled_etype,
     spelled_name, v1_order,
 };
 use krb_files::Files;
@@ -119,11 +118,7 @@ impl<'f, A: Allocator + Copy, B: Allocator> Command<A> for FindEntry<'f, B> {
         self.file.name
     }
 
-    fn make<F: Files>(
-        &self,
-        alloc: A,
-        files: &mut F,
-    ) -> Result<Made<A, Self::Shown>, FileError<'_>> {
+    fn make<F: Files>(&self, alloc: A, files: &mut F) -> MakeResult<'_, A, Self::Shown> {
         let keytab = open_keytab(alloc, self.options.v1_order, files, self.file)?;
         find(alloc, self, &keytab)
     }

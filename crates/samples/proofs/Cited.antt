@@ -4,7 +4,7 @@ pub use Rattle.std.specs.List.{flat_map, filter_map, list_any}
 pub use Rattle.std.specs.Prelude.{codes, true, ◌≡◌, false, Some, Ok, None, ◌++◌, Err, [], ◌∷◌, ℕ, map, List, option_map, replicate, Result, ◌+◌, length, Bool, if◌then◌else◌, Option, nat_lt, filter, option_and_then, unwrap_or, pos, negsuc, fold, ◌*◌, ◌-◌, Vec, drop, ◌^◌, slice_get, ◌≤◌, ◌<◌, max}
 pub use Rattle.krb_audit.specs.declared.selection.SelectedKvno.TheVariants.{Old, OldFor, Newest, Any}
 pub use Rattle.krb_ccache.specs.Credential.{marked_times, credential_at, CredParts}
-pub use Rattle.krb_driver.specs.Effects.{Saves, CommandPlan, Displays, Effect, Fails, files_after}
+pub use Rattle.krb_driver.specs.Commands.{Saves, CommandPlan, Displays, Effect, Fails, files_after}
 pub use Rattle.krb_driver.specs.Loading.{result_map}
 pub use Rattle.krb_driver.specs.declared.verdict.Verdict.TheVariants.{Well}
 pub use Rattle.krb_editors.specs.Ccremove.{cache_after, ended_by, ccremove_plan}

@@ -13,8 +13,8 @@ use Rattle.krb_audit.specs.Report.{report}
 use Rattle.krb_audit.specs.Tickets.{removed_ticket_line, selected_tickets}
 use Rattle.krb_audit.specs.Selection.{has_selected_kvno, is_young}
 use Rattle.krb_copy.specs.Copying.{copy_run}
-use Rattle.krb_readers.specs.TicketCheck.{has_ticket}
-use Rattle.krb_editors.specs.Frame.{frame, framed}
+use Rattle.krb_readers.specs.Klist.{has_ticket}
+use Rattle.krb_editors.specs.Hold.{frame, framed}
 use Rattle.krb_editors.specs.Ktedit as ktedit
 use Rattle.samples.proofs.Given.{hex, keytab, cache, name, found, old, events, printed, host, b, two, front, ticket, pa_type, worked}
 use Rattle.samples.proofs.Unfolded.{on_literals}

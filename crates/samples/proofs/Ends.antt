@@ -10,16 +10,15 @@ use Rattle.krb_files.specs.Bytes.{Watch}
 use Rattle.krb_driver.specs.declared.error.RunError.TheVariants as error
 use Rattle.krb_driver.specs.declared.file_name.FileName.{FileName}
 use Rattle.krb_driver.specs.declared.file_name.NameSource.TheVariants.{Word, Default}
-use Rattle.krb_driver.specs.declared.world.World.{World}
+use Rattle.krb_driver.specs.declared.command.World.{World}
 use Rattle.krb_driver.specs.Commands.{always, of_file}
-use Rattle.krb_driver.specs.ErrorOutput.{ErrorWatch}
+use Rattle.krb_driver.specs.Runs.{ErrorWatch}
 use Rattle.krb_driver.specs.RunErrors.{end_status, error_status, save_error}
 use Rattle.krb_readers.specs.declared.ktcheck.words.CheckOptions.{CheckOptions}
 use Rattle.krb_readers.specs.Ktcheck.{Round, first_round, is_last}
 use Rattle.krb_editors.specs.declared.ccremove.TicketOptions.{TicketOptions}
 use Rattle.krb_editors.specs.declared.hold.words.HoldKind.TheVariants.{Keytab, Cache}
-use Rattle.krb_editors.specs.Frame.{frame, most_frame}
-use Rattle.krb_editors.specs.Hold.{about_end, ending_of, held_in, received}
+use Rattle.krb_editors.specs.Hold.{frame, most_frame, about_end, ending_of, held_in, received}
 use Rattle.krb_editors.specs.Ktremove.{needed_time}
 use Rattle.krb_ktutil.specs.KtutilTalk.{first_talk}
 use Rattle.samples.proofs.Given.{hex, two}

@@ -21,23 +21,21 @@ use Rattle.krb_driver.specs.declared.reporting.details.Details.{Details}
 use Rattle.krb_driver.specs.declared.verdict.FileKind.{FileKind}
 use Rattle.krb_driver.specs.declared.verdict.FileKind.TheVariants.{Keytab, Cache}
 use Rattle.krb_driver.specs.FileNames.{bare_name, is_other_type}
-use Rattle.krb_driver.specs.Matches.{Matched, first_value, printed_name, v1_order}
+use Rattle.krb_driver.specs.Mistakes.{Matched, first_value, printed_name, v1_order}
 use Rattle.krb_driver.specs.RunErrors.{Ending, ending_status}
-use Rattle.krb_driver.specs.Reports.{ending_text}
-use Rattle.krb_readers.specs.CheckWords.{check_options}
-use Rattle.krb_readers.specs.Klist.{file_kind, klist_plan, list_kind, list_options}
-use Rattle.krb_readers.specs.Ktcheck.{explained_by, plan_of as check_plan}
+use Rattle.krb_driver.specs.Runs.{ending_text}
+use Rattle.krb_readers.specs.Ktcheck.{check_options, explained_by, plan_of as check_plan}
+use Rattle.krb_readers.specs.Klist.{file_kind, klist_plan, list_kind, list_options, check_of, check_status}
 use Rattle.krb_readers.specs.Ktfind.{ktfind_plan}
-use Rattle.krb_readers.specs.TicketCheck.{check_of, check_status}
 use Rattle.krb_editors.specs.Ccedit.{ccedit_plan}
 use Rattle.krb_editors.specs.Ktcopy.{ktcopy_plan}
 use Rattle.krb_editors.specs.Ktedit.{ktedit_plan}
 use Rattle.krb_editors.specs.Ktremove.{ktremove_plan, with_age}
-use Rattle.krb_editors.specs.Scripted.{lines_in}
+use Rattle.krb_editors.specs.Sessions.{lines_in}
 use Rattle.krb_editors.specs.Selecting.{kvno_in}
 use Rattle.krb_ktutil.specs.declared.ktutil.awaiting.Awaiting.TheVariants.{Nothing}
 use Rattle.krb_ktutil.specs.InputLines.{lines_of}
-use Rattle.krb_ktutil.specs.KtutilDue.{TalkDue, quiet_run, talk_due}
+use Rattle.krb_ktutil.specs.KtutilTalk.{TalkDue, quiet_run, talk_due}
 
 -- ---- values of the code's types
 

@@ -3,7 +3,7 @@ use Rattle.std.specs.Prelude.{⊤}
 use Rattle.krb_cache_text.proofs.OnLiterals.{krb_cache_text_on_literals}
 use Rattle.krb_json.proofs.OnLiterals.{krb_json_on_literals}
 use Rattle.krb_copy.proofs.OnLiterals.{krb_copy_on_literals}
-use Rattle.krb_driver.specs.Opening.{whole_in, whole_or_empty, writable_in}
+use Rattle.krb_driver.specs.Loading.{whole_in, whole_or_empty, writable_in}
 
 unfoldable pub on_literals : ⊤
 unfolding krb_cache_text_on_literals krb_json_on_literals krb_copy_on_literals whole_in whole_or_empty writable_in

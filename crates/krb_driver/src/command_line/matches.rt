@@ -1,8 +1,7 @@
 //! A command line after it was matched against its command's words.
 
 ghost use Rattle.std.specs.Prelude.{◌≡◌, length, option_map};
-ghost use Rattle.krb_driver.specs.Matches.{first_value, twice, typed, v1_order};
-ghost use Rattle.krb_driver.specs.Mistakes.{Refuses};
+ghost use Rattle.krb_driver.specs.Mistakes.{first_value, twice, typed, v1_order, Refuses};
 
 use crate::command_line::mistake::Mistake;
 use krb_wire::Order;
@@ -10,7 +9,7 @@ use krb_wire::Order;
 /// The flags, operands and option values of a command line, by the names of its command's words.
 pub trait Matches<'a> {
     ghost use Rattle.std.specs.Prelude.{map};
-    ghost use Rattle.krb_driver.specs.Matches.{Matched};
+    ghost use Rattle.krb_driver.specs.Mistakes.{Matched};
 
     ghost matched: { Self → Matched };
 
@@ -39,7 +38,7 @@ pub fn typed<'a, M: Matches<'a>>(matches: &M, letter: &'a str, name: &'a str) ->
 }
 
 /// Returns how many times an option is given.
-#[tactic(auto, using(crate::proofs::MatchLemmas::length_words))]
+#[tactic(auto, using(crate::proofs::Words::length_words))]
 pub fn times_given<'a, M: Matches<'a>>(matches: &M, name: &str) -> usize
     ensures { result ≡ length ((M.matched matches.now).values name.now) }
 {
@@ -62,7 +61,7 @@ pub fn refuse_twice<'a, M: Matches<'a>>(
 }
 
 /// Returns the first value of an option or an operand.
-#[tactic(auto, using(crate::proofs::MatchLemmas::first_word))]
+#[tactic(auto, using(crate::proofs::Words::first_word))]
 pub fn first_value<'a, M: Matches<'a>>(matches: &M, name: &str) -> Option<&'a str>
     ensures { option_map (λ word. word.now) result ≡ first_value (M.matched matches.now) name.now }
 {

@@ -4,8 +4,7 @@ ghost use Rattle.std.specs.Prelude.{◌≡◌, ◌++◌, ◌∷◌, [], IfOk, Is
 ghost use Rattle.krb_wire.specs.Names.{name_text};
 ghost use Rattle.krb_wire.specs.Reading.{principal_parts};
 ghost use Rattle.krb_text.specs.Etype.{etype_in};
-ghost use Rattle.krb_driver.specs.Matches.{ArePrintedNames, AreSpelled, AreSpelledSeconds, IsSpelled, IsSpelledName, bad_etype, bad_name, bad_seconds, first_mistake, first_value};
-ghost use Rattle.krb_driver.specs.Mistakes.{Spells, SpellsInMemory};
+ghost use Rattle.krb_driver.specs.Mistakes.{ArePrintedNames, AreSpelled, AreSpelledSeconds, IsSpelled, IsSpelledName, bad_etype, bad_name, bad_seconds, first_mistake, first_value, Spells, SpellsInMemory};
 
 use crate::command_line::matches::{Matches, first_value};
 use crate::command_line::mistake::Mistake;

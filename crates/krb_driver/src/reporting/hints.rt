@@ -3,9 +3,8 @@
 ghost use Rattle.std.specs.Prelude.{◌≡◌, ◌<◌, ◌++◌, codes};
 ghost use Rattle.std.specs.List.{flat_map, range_with_len};
 ghost use Rattle.krb_driver.specs.Hints.{etype_option, etype_word, hint_words, hints_for, order_flag, remove_command, weak_hint};
-ghost use Rattle.krb_driver.specs.Messages.{line_if};
-ghost use Rattle.krb_driver.specs.PieceTexts.{piece_text, pieces_text};
-ghost use Rattle.krb_driver.specs.Underway.{Adds};
+ghost use Rattle.krb_driver.specs.Messages.{line_if, piece_text, pieces_text};
+ghost use Rattle.krb_driver.specs.Runs.{Adds};
 
 use crate::reporting::operand::{are_alike, operand_of};
 use crate::reporting::piece::MessagePiece::{self, Number, Text};

@@ -3,7 +3,7 @@
 ghost use Rattle.std.specs.Prelude.{◌≡◌, ◌≤◌, ◌&&◌, length};
 ghost use Rattle.std.specs.List.{list_all};
 ghost use Rattle.std.specs.Char.{is_ascii_hexdigit};
-ghost use Rattle.krb_driver.specs.PieceTexts.{has_key, key_start, may_be_key};
+ghost use Rattle.krb_driver.specs.Messages.{has_key, key_start, may_be_key};
 
 // Returns whether all bytes are hexadecimal digits.
 fn are_digits(bytes: &[u8]) -> bool

@@ -1,11 +1,12 @@
 //! Lines for the error output, made of pieces.
 
 ghost use Rattle.std.specs.Prelude.{◌≡◌, [], ◌++◌, codes};
-ghost use Rattle.krb_driver.specs.Messages.{file_message, file_number_message, line_message, message, numbered_line, phrase_line, words_line};
-ghost use Rattle.krb_driver.specs.PieceTexts.{piece_text, pieces_text};
+ghost use Rattle.krb_driver.specs.Messages.{file_message, file_number_message, line_message, message, numbered_line, phrase_line, words_line, piece_text, pieces_text};
+ghost use Rattle.krb_driver.specs.Runs.{aftermath_line, is_message};
 
 use crate::reporting::piece::MessagePiece::{self, Name, Number, Text};
 use crate::reporting::piece::{COLON, END, HEAD, LINE, NONE};
+use krb_files::Aftermath;
 
 /// The pieces of a line, or of two. Unused ones are empty.
 pub type Line<'a> = [MessagePiece<'a>; 9];
@@ -104,4 +105,22 @@ pub fn phrase<'a>(line: Option<u64>, text: &'static str) -> Line<'a>
     ensures { pieces_text result ≡ phrase_line line text.now }
 {
     words(line, Text(text), NONE)
+}
+
+/// Returns whether that is told where no words are shown too.
+pub fn is_message(aftermath: Aftermath) -> bool
+    ensures { result ≡ is_message aftermath }
+{
+    !matches!(aftermath, Aftermath::Restored)
+}
+
+/// Returns the line for what a save of `file`, or of line `line` of ktutil, left behind.
+pub fn aftermath_line(aftermath: Aftermath, file: &[u8], line: Option<u64>) -> Line<'_>
+    ensures { pieces_text result ≡ aftermath_line file.now line aftermath }
+{
+    match (line, aftermath) {
+        (None, Aftermath::Restored) => phrase(None, Aftermath::Restored.phrase()),
+        (None, aftermath) => file_message(file, aftermath.phrase()),
+        (line, aftermath) => phrase(line, aftermath.phrase()),
+    }
 }

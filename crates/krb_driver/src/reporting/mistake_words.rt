@@ -1,13 +1,12 @@
 //! The messages for a command line that was not read.
 
 ghost use Rattle.std.specs.Prelude.{◌≡◌, ℕ, List, [], ◌++◌, codes, option_map};
-ghost use Rattle.krb_driver.specs.Messages.{message};
+ghost use Rattle.krb_driver.specs.Messages.{message, pieces_before, pieces_text, quoted_word, shown_word};
 ghost use Rattle.krb_driver.specs.Mistakes.{help_of, mistake_head, mistake_line, mistake_parts, mistake_words, more_words, word_status, word_text};
-ghost use Rattle.krb_driver.specs.PieceTexts.{pieces_before, pieces_text, quoted_word, shown_word};
 ghost use Rattle.krb_driver.specs.Runs.{Writes};
 
 use crate::command_line::mistake::{BadLine, Mistake, More, WordFault};
-use crate::reporting::error_output::ErrorOutput;
+use crate::reporting::ErrorOutput;
 use crate::reporting::piece::MessagePiece::{self, Quoted, Text, Word};
 use crate::reporting::piece::NONE;
 use crate::reporting::writing::{add, add_pieces, send};

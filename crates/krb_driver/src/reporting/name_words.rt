@@ -2,7 +2,7 @@
 
 ghost use Rattle.std.specs.Prelude.{◌≡◌, ◌++◌, codes, decimal, is_some};
 ghost use Rattle.krb_driver.specs.FileNames.{shown_name, untyped};
-ghost use Rattle.krb_driver.specs.PieceTexts.{piece_text, pieces_text};
+ghost use Rattle.krb_driver.specs.Messages.{piece_text, pieces_text};
 ghost use Rattle.krb_driver.specs.EndingWords.{hidden_words, missing_words, source_words, type_in, type_words, typed_words};
 ghost use Rattle.krb_driver.specs.declared.verdict.FileKind.TheVariants.{Keytab};
 

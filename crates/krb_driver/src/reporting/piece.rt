@@ -2,7 +2,7 @@
 
 ghost use Rattle.std.specs.Prelude.{◌≡◌};
 ghost use Rattle.krb_cache_text.specs.Escape.{escaped};
-ghost use Rattle.krb_driver.specs.PieceTexts.{shown_byte};
+ghost use Rattle.krb_driver.specs.Messages.{shown_byte};
 
 use crate::first_word::FirstWord;
 use arrayvec::ArrayVec;

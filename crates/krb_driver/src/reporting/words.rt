@@ -1,8 +1,7 @@
 //! The words that explain what ended a run.
 
 ghost use Rattle.std.specs.Prelude.{◌≡◌, option_map};
-ghost use Rattle.krb_driver.specs.Messages.{phrase_line, words_line};
-ghost use Rattle.krb_driver.specs.PieceTexts.{piece_text, pieces_text};
+ghost use Rattle.krb_driver.specs.Messages.{phrase_line, words_line, piece_text, pieces_text};
 ghost use Rattle.krb_driver.specs.EndingWords.{cache_phrase, cause_words, error_words, fault_with, hold_phrase, keytab_phrase, line_fault_phrase, list_phrase, listed_words, no_cache_phrase, no_keytab_phrase, nothing_phrase, refusal_phrase, unknown_words, verdict_words, way_words};
 
 use crate::error::RunError;

@@ -2,8 +2,8 @@
 
 ghost use Rattle.std.specs.Prelude.{◌≡◌, [], ◌++◌, if◌then◌else◌};
 ghost use Rattle.std.specs.List.{flat_map};
-ghost use Rattle.krb_driver.specs.PieceTexts.{byte_text, hidden_word, piece_text, pieces_text, quoted_word, shown_word};
-ghost use Rattle.krb_driver.specs.Underway.{Adds, Sends};
+ghost use Rattle.krb_driver.specs.Messages.{byte_text, hidden_word, piece_text, pieces_text, quoted_word, shown_word};
+ghost use Rattle.krb_driver.specs.Runs.{Adds, Sends};
 
 use crate::file_name::name_byte;
 use crate::reporting::key_start::{has_key, key_start};

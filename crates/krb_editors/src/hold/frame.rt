@@ -6,7 +6,7 @@ ghost use Rattle.std.specs.Io.KnownBytes.{Appends};
 ghost use Rattle.krb_files.specs.Bytes.{AppendsPrefix};
 ghost use Rattle.krb_driver.specs.declared.verdict.Verdict.TheVariants.{Well};
 ghost use Rattle.krb_driver.specs.Runs.{Shows};
-ghost use Rattle.krb_editors.specs.Frame.{framed, frame, head_len};
+ghost use Rattle.krb_editors.specs.Hold.{framed, frame, head_len};
 
 use itoa::Buffer;
 use krb_driver::{RunError, Verdict};

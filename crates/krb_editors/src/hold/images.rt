@@ -4,8 +4,7 @@ ghost use Rattle.std.specs.Prelude.{◌≡◌, IfOk};
 ghost use Rattle.krb_walk.specs.declared.refusal.Code.TheVariants.{Damaged};
 ghost use Rattle.krb_driver.specs.declared.error.RunError.TheVariants.{Refused};
 ghost use Rattle.krb_driver.specs.Loading.{result_map};
-ghost use Rattle.krb_editors.specs.Frame.{framed};
-ghost use Rattle.krb_editors.specs.Hold.{fault_in, file_kind, given_by, whole_in};
+ghost use Rattle.krb_editors.specs.Hold.{framed, fault_in, file_kind, given_by, whole_in};
 
 use crate::hold::frame::image_in;
 use crate::hold::words::HoldKind;

@@ -1,9 +1,12 @@
-//! What the next line of ktutil is.
+//! What the next line of ktutil is, and an entry whose key is still to come.
 
 ghost use Rattle.std.specs.Prelude.{◌≡◌};
 ghost use Rattle.krb_ktutil.specs.KtutilPlan.{awaited_entry, is_pending};
-ghost use Rattle.krb_ktutil.specs.KtutilPrompts.{prompt_of};
+ghost use Rattle.krb_ktutil.specs.KtutilTalk.{prompt_of};
 
+use krb_wire::Principal;
+use std::alloc::Allocator;
+use std::marker::Model;
 use std::mem;
 
 /// What the next line is: a command, the key of an entry, or a password, which is passed over.
@@ -43,4 +46,25 @@ impl<K: Drop> Awaiting<K> {
             Awaiting::Password => "password (not used): ",
         }
     }
+}
+
+/// An entry without its key and its time.
+#[derive(Drop)]
+pub struct Addition<A: Allocator> {
+    pub principal: Principal<A>,
+    pub kvno: u32,
+    pub enctype: u16,
+}
+
+impl<A: Allocator> Model for Addition<A> {
+    ghost use Rattle.krb_wire.specs.Reading.{principal_parts};
+    ghost use Rattle.krb_ktutil.specs.KtutilCommand.{Awaited};
+
+    ghost Value = { Awaited };
+
+    ghost view = { λ x. record {
+      principal = principal_parts x.principal;
+      version = x.kvno;
+      enctype = x.enctype;
+    } };
 }

@@ -2,8 +2,7 @@
 
 ghost use Rattle.std.specs.Prelude.{◌≡◌};
 ghost use Rattle.krb_driver.specs.Loading.{result_map};
-ghost use Rattle.krb_ktutil.specs.KtutilWords.{words};
-ghost use Rattle.krb_ktutil.specs.KtutilCommand.{after, are_none, only, file_word, slot_of, plain_columns, with_column, columns_in};
+ghost use Rattle.krb_ktutil.specs.KtutilCommand.{words, after, are_none, only, file_word, slot_of, plain_columns, with_column, columns_in};
 ghost use Rattle.krb_text.specs.Word.{number_word};
 
 use crate::ktutil::words::next_word;

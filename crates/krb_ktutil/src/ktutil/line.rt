@@ -1,9 +1,9 @@
 //! What a line of ktutil comes to.
 
 ghost use Rattle.std.specs.Prelude.{◌≡◌, [], true, false};
-ghost use Rattle.krb_driver.specs.Effects.{Displays, Fails, text};
+ghost use Rattle.krb_driver.specs.Commands.{Displays, Fails, text};
 ghost use Rattle.krb_driver.specs.declared.verdict.Verdict.TheVariants.{Well};
-ghost use Rattle.krb_ktutil.specs.KtutilFiles.{line_effect};
+ghost use Rattle.krb_ktutil.specs.KtutilPlan.{line_effect};
 
 use krb_driver::{FileError, Made, Output, RunError, Verdict};
 use std::alloc::Allocator;

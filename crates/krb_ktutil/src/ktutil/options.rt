@@ -1,11 +1,10 @@
 //! Parses the options of `add_entry`.
 
 ghost use Rattle.std.specs.Prelude.{◌≡◌, ◌<◌, ◌+◌, ◌∷◌, None, IfSome, MatchOption, length};
-ghost use Rattle.krb_ktutil.specs.KtutilWords.{words};
-ghost use Rattle.krb_ktutil.specs.KtutilCommand.{after, no_options, is_new_key, with_option, options_in, add_words, awaited_of, has_password};
+ghost use Rattle.krb_ktutil.specs.KtutilCommand.{words, after, no_options, is_new_key, with_option, options_in, add_words, awaited_of, has_password};
 ghost use Rattle.krb_text.specs.LineFault.{Reads};
 
-use crate::ktutil::addition::Addition;
+use crate::ktutil::awaiting::Addition;
 use crate::ktutil::words::next_word;
 use krb_text::{LineFault, LineRefusal, etype_word, name_word, number_word};
 use std::alloc::Allocator;
@@ -67,7 +66,7 @@ impl<'a> AddOptions<'a> {
     }
 
     // Returns the options with one more, and the rest of the line after it.
-    #[tactic(auto, using(crate::proofs::KtutilOptions::options_in_key))]
+    #[tactic(auto, using(crate::proofs::WordLemmas::options_in_key))]
     fn take(self, option: &[u8], after: &'a [u8]) -> Option<(AddOptions<'a>, &'a [u8])>
         ensures more { MatchOption result (options_in self.entry (option.now ∷ words after.now) ≡ None)
             (λ x. options_in self.entry (option.now ∷ words after.now) ≡ options_in x.0 (words x.1.now)) }

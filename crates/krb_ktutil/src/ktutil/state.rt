@@ -4,18 +4,14 @@ mod additions;
 mod transfer;
 
 ghost use Rattle.std.specs.Prelude.{Some, ◌≡◌, [], ℕ, length};
-ghost use Rattle.krb_ktutil.specs.KtutilWords.{words};
-ghost use Rattle.krb_ktutil.specs.KtutilCommand.{ClearList, Quit, alone, asks_for_password, listing, deletion, command_by, command_of};
-ghost use Rattle.krb_ktutil.specs.KtutilPlan.{KtutilState, after_fault, is_pending, plan_of, words_plan};
-ghost use Rattle.krb_ktutil.specs.KtutilPrompts.{prompt_of};
-ghost use Rattle.krb_ktutil.specs.KtutilFiles.{Attempts, MakesLine, Spares, Tries, line_effect};
+ghost use Rattle.krb_ktutil.specs.KtutilCommand.{words, ClearList, Quit, alone, asks_for_password, listing, deletion, command_by, command_of};
+ghost use Rattle.krb_ktutil.specs.KtutilPlan.{KtutilState, after_fault, is_pending, plan_of, words_plan, Attempts, MakesLine, Spares, Tries, line_effect};
+ghost use Rattle.krb_ktutil.specs.KtutilTalk.{prompt_of};
 
-use crate::ktutil::addition::Addition;
-use crate::ktutil::awaiting::Awaiting;
+use crate::ktutil::awaiting::{Addition, Awaiting};
 use crate::ktutil::command::{columns, file_name, is_bare, slot};
-use crate::ktutil::faulty_lines::{asks_for_password, fault_error};
 use crate::ktutil::line::Line;
-use crate::ktutil::verb::{Verb, verb_of};
+use crate::ktutil::verb::{Verb, asks_for_password, fault_error, verb_of};
 use crate::ktutil::words::next_word;
 use krb_driver::RunError;
 use krb_files::Files;
@@ -82,27 +78,19 @@ impl<A: Allocator + Copy> Ktutil<A> {
     fn list<'l>(&self, rest: &[u8]) -> Result<Line<'l, A>, LineRefusal>
         ensures { (number : ℕ) → Attempts self.now number (listing (words rest.now)) self.now result }
     {
-        let Some(columns) = columns(rest) else {
-            return Err(LineRefusal::Fault(LineFault::WordCount));
-        };
+        let columns = columns(rest).ok_or(LineFault::WordCount)?;
         let mut text = Vec::new(self.alloc);
-        match list_slots(self.alloc, &self.entries, columns, &mut text) {
-            Ok(()) => Ok(Line::prints(text)),
-            Err(_) => Err(LineRefusal::NoMemory),
-        }
+        list_slots(self.alloc, &self.entries, columns, &mut text)?;
+        Ok(Line::prints(text))
     }
 
     // Deletes a slot.
     fn delete<'l>(&mut self, rest: &[u8]) -> Result<Line<'l, A>, LineRefusal>
         ensures { (number : ℕ) → Attempts self.old number (deletion (length self.old.entries) (words rest.now)) self.new result }
     {
-        match slot(rest, self.entries.len()) {
-            Ok(slot) => {
-                let _ = self.entries.remove(slot as usize - 1);
-                Ok(Line::done(self.alloc))
-            }
-            Err(fault) => Err(LineRefusal::Fault(fault)),
-        }
+        let slot = slot(rest, self.entries.len())?;
+        let _ = self.entries.remove(slot as usize - 1);
+        Ok(Line::done(self.alloc))
     }
 
     // Empties the list.
@@ -141,14 +129,8 @@ impl<A: Allocator + Copy> Ktutil<A> {
     {
         match verb {
             Verb::List => self.list(rest),
-            Verb::Read => match file_name(rest) {
-                Ok(word) => Ok(self.read(files, number, word)),
-                Err(fault) => Err(LineRefusal::Fault(fault)),
-            },
-            Verb::Write => match file_name(rest) {
-                Ok(word) => Ok(self.write(files, number, word)),
-                Err(fault) => Err(LineRefusal::Fault(fault)),
-            },
+            Verb::Read => Ok(self.read(files, number, file_name(rest)?)),
+            Verb::Write => Ok(self.write(files, number, file_name(rest)?)),
             Verb::Add => self.add(rest),
             Verb::Delete => self.delete(rest),
             Verb::Clear => self.clear(rest),

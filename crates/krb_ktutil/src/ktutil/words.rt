@@ -1,7 +1,7 @@
 //! The words of a line. Runs of spaces and tabs separate them; a backslash keeps the byte after it in its word.
 
 ghost use Rattle.std.specs.Prelude.{◌≡◌, ◌==◌, ◌&&◌, not, ◌<◌, ◌≤◌, ◌∷◌, [], length, MatchOption};
-ghost use Rattle.krb_ktutil.specs.KtutilWords.{is_blank, unindented, trimmed, word_size, words};
+ghost use Rattle.krb_ktutil.specs.KtutilCommand.{is_blank, unindented, trimmed, word_size, words};
 
 fn is_blank(byte: u8) -> bool
     ensures { result ≡ is_blank byte }

@@ -1,9 +1,8 @@
 //! The words of ktcheck, and its options.
 
 ghost use Rattle.std.specs.Prelude.{◌≡◌, codes, map};
-ghost use Rattle.krb_readers.specs.CheckWords.{bad_finding, check_options, finding, findings};
-ghost use Rattle.krb_driver.specs.Matches.{first_mistake};
-ghost use Rattle.krb_driver.specs.Mistakes.{Spells};
+ghost use Rattle.krb_readers.specs.Ktcheck.{bad_finding, check_options, finding, findings};
+ghost use Rattle.krb_driver.specs.Mistakes.{first_mistake, Spells};
 
 use krb_audit::FindingWords;
 use krb_driver::{CommandName, CommandWords, Matches, Mistake, V1_BIG, Word, v1_order};

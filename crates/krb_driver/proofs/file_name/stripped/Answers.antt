@@ -1,4 +1,4 @@
-use Rattle.krb_driver.proofs.FileNameLemmas.{strips}
+use Rattle.krb_driver.proofs.Words.{strips}
 use Rattle.krb_driver.proofs.file_name.stripped.Goals as goal
 
 pub returns : goal.returns

@@ -1,6 +1,6 @@
 use Rattle.krb_driver.specs.Loading.{cache_of}
-use Rattle.krb_driver.proofs.Making.{opens-by}
+use Rattle.krb_driver.proofs.Making.{opens_by}
 use Rattle.krb_driver.proofs.opening.open_cache.Goals as goal
 
 pub returns : goal.returns
-returns g c = opens-by g.F.Files c.args.files.now c.args.file cache_of _ c.give_cache.new.files c.give_cache.ensures
+returns g c = opens_by g.F.Files c.args.files.now c.args.file cache_of _ c.give_cache.new.files c.give_cache.ensures

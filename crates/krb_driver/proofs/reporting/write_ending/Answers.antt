@@ -1,4 +1,4 @@
-use Rattle.krb_driver.proofs.Pieces.{Adds-then, Writes-two}
+use Rattle.krb_driver.proofs.Shown.{Adds-then, Writes-two}
 use Rattle.krb_driver.proofs.reporting.write_ending.Goals as goal
 
 pub returns : goal.returns

@@ -4,8 +4,7 @@ use Rattle.krb_editors.proofs.added.follow.Goals as goal
 -- an addition
 pub returns-in_ok-insert-in-Placed : goal.returns-in_ok-insert-in-Placed
 returns-in_ok-insert-in-Placed g c =
-    let keys = c.in_ok-insert-in-Placed.ensures.keys in
-    λ old before. rw (c.in-Placed.is, keys) (same_inserted c.in-Placed.place c.args.added.now.keys)
+    λ old before. rw c.in-Placed.is (same_inserted c.in-Placed.place c.args.added.now.keys c.insert.new.self.keys c.in_ok-insert-in-Placed.ensures.updates.0)
 
 -- a removal
 pub returns-in-Gone : goal.returns-in-Gone

@@ -2,8 +2,7 @@ use Rattle.krb_editors.proofs.Cited.{map, subst, ap, sym, ◌∙◌, ◌≡◌, 
 use Rattle.std.specs.List.Sorted.{IsNonDecreasing}
 use Rattle.krb_walk.proofs.Carries.{places_rise}
 use Rattle.krb_walk.proofs.Stops.{walks_begin_with_all}
-use Rattle.krb_editors.proofs.AddedPlaces.{rises-non_decreasing}
-use Rattle.krb_editors.proofs.LivePlaces.{passes, passes_none, places_from}
+use Rattle.krb_editors.proofs.AddedPlaces.{rises-non_decreasing, passes, passes_none, places_from}
 use Rattle.krb_editors.proofs.added.live_places.Goals as goal
 
 -- all places are left

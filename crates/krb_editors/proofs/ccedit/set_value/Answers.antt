@@ -1,5 +1,5 @@
 use Rattle.krb_editors.proofs.Cited.{sym, ◌∙◌, cache_session}
-use Rattle.krb_editors.proofs.CacheEdits.{set_placed, set_refused}
+use Rattle.krb_editors.proofs.RunJoins.{set_placed, set_refused}
 use Rattle.krb_editors.proofs.ccedit.set_value.Goals as goal
 
 -- the addition was refused

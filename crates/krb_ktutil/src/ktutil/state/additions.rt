@@ -2,20 +2,19 @@
 
 ghost use Rattle.std.specs.Prelude.{[], ℕ, Ok, IsSome, IfSome};
 ghost use Rattle.krb_files.specs.Plan.{Ends};
-ghost use Rattle.krb_ktutil.specs.KtutilWords.{words};
-ghost use Rattle.krb_ktutil.specs.KtutilCommand.{addition};
-ghost use Rattle.krb_ktutil.specs.KtutilPlan.{awaited_entry, becomes, with_key, plan_of};
-ghost use Rattle.krb_ktutil.specs.KtutilFiles.{Attempts, EndsAt, line_effect};
+ghost use Rattle.krb_ktutil.specs.KtutilCommand.{words, addition};
+ghost use Rattle.krb_ktutil.specs.KtutilPlan.{awaited_entry, becomes, with_key, plan_of, Attempts, EndsAt, line_effect, key_line};
+ghost use Rattle.krb_text.specs.LineFault.{Reads};
 
 use super::Ktutil;
 use crate::ktutil::awaiting::Awaiting;
-use crate::ktutil::faulty_lines::fault_error;
-use crate::ktutil::key::key_of;
 use crate::ktutil::line::Line;
 use crate::ktutil::options::addition;
+use crate::ktutil::verb::fault_error;
+use crate::ktutil::words::trimmed;
 use krb_driver::RunError;
 use krb_keytab::NewEntry;
-use krb_text::LineRefusal;
+use krb_text::{LineFault, LineRefusal, parse_key};
 use std::alloc::Allocator;
 
 impl<A: Allocator + Copy> Ktutil<A> {
@@ -67,13 +66,9 @@ impl<A: Allocator + Copy> Ktutil<A> {
     pub(crate) fn add<'l>(&mut self, rest: &[u8]) -> Result<Line<'l, A>, LineRefusal>
         ensures { (number : ℕ) → Attempts self.old number (addition (words rest.now)) self.new result }
     {
-        match addition(self.alloc, rest) {
-            Ok(addition) => {
-                self.awaiting = Awaiting::Key(addition);
-                Ok(Line::done(self.alloc))
-            }
-            Err(refusal) => Err(refusal),
-        }
+        let addition = addition(self.alloc, rest)?;
+        self.awaiting = Awaiting::Key(addition);
+        Ok(Line::done(self.alloc))
     }
 
     // Passes over a line, which is a password.
@@ -83,4 +78,15 @@ impl<A: Allocator + Copy> Ktutil<A> {
         self.awaiting = Awaiting::Nothing;
         Line::done(self.alloc)
     }
+}
+
+// Parses a line as a key of at least one byte: hexadecimal, with blanks at its ends allowed.
+fn key_of<A: Allocator>(alloc: A, enctype: u16, line: &[u8]) -> Result<Vec<u8, A>, LineRefusal>
+    ensures { Reads (λ key. key.items) (key_line enctype line.now) result }
+{
+    let digits = trimmed(line);
+    if digits.is_empty() {
+        return Err(LineRefusal::Fault(LineFault::BadKey));
+    }
+    parse_key(alloc, enctype, digits)
 }

@@ -1,14 +1,13 @@
 //! Reads entries from a file into the list, and adds the list to a file.
 
-ghost use Rattle.std.specs.Prelude.{◌≡◌, ℕ, true, Ok};
+ghost use Rattle.std.specs.Prelude.{◌≡◌, ℕ, true, Ok, IfOk, IfErr};
 ghost use Rattle.krb_driver.specs.FileNames.{has_type};
 ghost use Rattle.krb_ktutil.specs.KtutilCommand.{ReadFile, WriteFile};
-ghost use Rattle.krb_ktutil.specs.KtutilPlan.{KtutilState, with_entries, reading_plan, writing_plan, saved_as, saved_verdict, written_to, command_plan};
-ghost use Rattle.krb_ktutil.specs.KtutilFiles.{Comes, MakesLine, line_effect};
+ghost use Rattle.krb_ktutil.specs.KtutilPlan.{KtutilState, with_entries, reading_plan, writing_plan, saved_as, saved_verdict, written_to, command_plan, Comes, MakesLine, line_effect, none_added, with_added, RefusesAdded};
 ghost use Rattle.krb_files.specs.Plan.{Holds};
+ghost use Rattle.krb_keytab.specs.Store.{entries};
 
 use super::Ktutil;
-use crate::ktutil::entries::{add_all, copy_entries};
 use crate::ktutil::line::Line;
 use krb_audit::hides_added;
 use krb_driver::{
@@ -18,6 +17,7 @@ use krb_driver::{
 use krb_files::Files;
 use krb_keytab::{Indexed, Keytab, NewEntry};
 use krb_walk::{Code, Refusal};
+use krb_wire::NoMemory;
 use std::alloc::Allocator;
 
 // Returns the verdict of the save of a keytab to which entries were added at these places.
@@ -141,7 +141,7 @@ impl<A: Allocator + Copy> Ktutil<A> {
         ensures { MakesLine F.Files (writing_plan self.now number name.now)
             files.old files.new self.now self.now (line_effect result) result.quits }
     {
-        match load_or_new(self.alloc, self.v1_order, files, name) {
+        match load_or_new(self.alloc, self.v1_order, false, files, name) {
             Ok(keytab) => write_to(self.alloc, &self.entries, number, name, keytab),
             Err(why) => Line::fails(name, RunError::from(why)),
         }
@@ -172,4 +172,36 @@ impl<A: Allocator + Copy> Ktutil<A> {
         }
         self.write_file(files, number, word)
     }
+}
+
+// Copies the entries of a keytab.
+fn copy_entries<A: Allocator + Copy, B: Allocator>(
+    alloc: A,
+    keytab: &Keytab<B>,
+) -> Result<Vec<NewEntry<A>, A>, NoMemory>
+    ensures { IfOk result (λ copies. copies.items ≡ entries keytab.now.state) }
+{
+    let mut copies = Vec::new(alloc);
+    'entries: for (_, entry) in keytab.entries() {
+        copies.push(entry.copy(alloc)?)?;
+    }
+    Ok(copies)
+}
+
+// Adds entries to a keytab in order, up to the first that is refused, and returns their places.
+fn add_all<A: Allocator, B: Allocator>(
+    alloc: B,
+    keytab: &mut Indexed<B>,
+    entries: &[NewEntry<A>],
+) -> Result<Vec<u32, B>, Refusal>
+    ensures ok { IfOk result (λ places. with_added entries.now (Ok (none_added keytab.old.state))
+        ≡ Ok (record { keytab = keytab.new.state; places = places.items })) }
+    ensures err { IfErr result (RefusesAdded (with_added entries.now (Ok (none_added keytab.old.state)))) }
+{
+    let mut places = Vec::new(alloc);
+    'entries: for entry in entries {
+        let place = keytab.add(entry)?;
+        places.push(place)?;
+    }
+    Ok(places)
 }

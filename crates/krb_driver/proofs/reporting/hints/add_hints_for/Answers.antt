@@ -1,6 +1,6 @@
 use Rattle.std.proofs.Common.{ap, ◌∙◌}
 use Rattle.krb_driver.specs.Messages.{line_if}
-use Rattle.krb_driver.proofs.Pieces.{Adds-then}
+use Rattle.krb_driver.proofs.Shown.{Adds-then}
 use Rattle.krb_driver.proofs.reporting.hints.add_hints_for.Goals as goal
 
 pub returns : goal.returns

@@ -1,4 +1,4 @@
-use Rattle.krb_driver.proofs.Pieces.{Adds-then}
+use Rattle.krb_driver.proofs.Shown.{Adds-then}
 use Rattle.krb_driver.proofs.reporting.hints.add_weak_hint.Goals as goal
 
 pub returns : goal.returns

@@ -1,5 +1,5 @@
 use Rattle.std.proofs.Common.{◌∙◌, sym}
-use Rattle.krb_driver.proofs.KeyStarts.{key-here, key-later, key-nowhere}
+use Rattle.krb_driver.proofs.Words.{key-here, key-later, key-nowhere}
 use Rattle.krb_driver.proofs.reporting.key_start.key_start.Goals as goal
 
 pub returns-then-begins-clause-start : goal.returns-then-begins-clause-start

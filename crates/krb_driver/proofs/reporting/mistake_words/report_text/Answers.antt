@@ -1,4 +1,4 @@
-use Rattle.krb_driver.proofs.Pieces.{Adds-none, Writes-two}
+use Rattle.krb_driver.proofs.Shown.{Adds-none, Writes-two}
 use Rattle.krb_driver.proofs.reporting.mistake_words.report_text.Goals as goal
 
 pub returns : goal.returns

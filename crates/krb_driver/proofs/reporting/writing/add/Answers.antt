@@ -1,5 +1,5 @@
 use Rattle.std.proofs.Common.{sym, ◌∙◌}
-use Rattle.krb_driver.proofs.Pieces.{Adds-sent}
+use Rattle.krb_driver.proofs.Shown.{Adds-sent}
 use Rattle.krb_driver.proofs.reporting.writing.add.Goals as goal
 
 -- what was gathered is written, and then the text

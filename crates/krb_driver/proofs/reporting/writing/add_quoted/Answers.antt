@@ -1,5 +1,5 @@
 use Rattle.std.proofs.Common.{sym}
-use Rattle.krb_driver.proofs.KeyStarts.{quoted-hidden}
+use Rattle.krb_driver.proofs.Words.{quoted-hidden}
 use Rattle.krb_driver.proofs.reporting.writing.add_quoted.Goals as goal
 
 -- what may be a key is not shown

@@ -1,5 +1,5 @@
 use Rattle.std.proofs.Common.{sym, ◌∙◌}
-use Rattle.krb_driver.proofs.Pieces.{Sends-put}
+use Rattle.krb_driver.proofs.Shown.{Sends-put}
 use Rattle.krb_driver.proofs.reporting.writing.send.Goals as goal
 
 pub returns : goal.returns

@@ -2,7 +2,7 @@ use Rattle.std.proofs.Common.{refl, ap, ◌∙◌}
 use Rattle.std.specs.Prelude.{Ok, Err}
 use Rattle.std.proofs.lemmas.Result.{err_from_is_err_and}
 use Rattle.krb_readers.specs.Klist.{cache_page, keytab_page}
-use Rattle.krb_driver.specs.Verdicts.{listing_verdict}
+use Rattle.krb_driver.specs.RunErrors.{listing_verdict}
 use Rattle.krb_readers.proofs.Listed.{ShowsPage-done, ShowsPage-failed, cache_shown-some, keytab_shown-some}
 use Rattle.krb_readers.proofs.klist.ListingShow.show.Goals as goal
 

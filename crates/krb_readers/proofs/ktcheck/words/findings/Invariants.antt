@@ -1,8 +1,8 @@
 use Rattle.std.proofs.Common.{◌≡◌, drop, map}
 use Rattle.std.specs.Prelude.{fold}
 use Rattle.krb_audit.specs.Report.{joined}
-use Rattle.krb_driver.specs.Matches.{first_mistake}
-use Rattle.krb_readers.specs.CheckWords.{bad_finding, finding, findings}
+use Rattle.krb_driver.specs.Mistakes.{first_mistake}
+use Rattle.krb_readers.specs.Ktcheck.{bad_finding, finding, findings}
 use Rattle.krb_readers.proofs.ktcheck.words.findings.Given as goal
 
 -- no word so far has a mistake, and the findings so far with those of the other words are those of all

@@ -1,5 +1,5 @@
 use Rattle.krb_ktutil.proofs.Cited.{sym, ap, ◌∙◌, List, ℕ, ◌∷◌, words, options_in}
-use Rattle.krb_ktutil.proofs.KtutilOptions.{options_in_word}
+use Rattle.krb_ktutil.proofs.WordLemmas.{options_in_word}
 use Rattle.krb_ktutil.proofs.ktutil.options.AddOptions.take.Goals as goal
 
 pub returns-clause-more : goal.returns-clause-more
