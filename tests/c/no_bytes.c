@@ -1,4 +1,4 @@
-/* NULL with a length of 0 is no bytes, in each call that takes some. A handle of nothing may be closed. Run under gcc's
+/* NULL with a length of 0 is no bytes, in each call that takes some. An empty handle may be closed. Run under gcc's
  * sanitizers. */
 #include "check.h"
 

@@ -20,7 +20,7 @@ pub record NewCredentialParts : Type 0 where
   pub second_ticket : List ℕ
   pub numbers : KrbfNumbers
 
--- the same, from the arguments of a call
+-- the parts of the credential that the arguments of a call describe
 abbrev pub new_credential_of : List ℕ → List ℕ → List ℕ → List ℕ → List ℕ → KrbfNumbers → NewCredentialParts
 new_credential_of client server key ticket second_ticket numbers = record { client = client; server = server; key = key; ticket = ticket; second_ticket = second_ticket; numbers = numbers }
 
@@ -43,7 +43,7 @@ credential_between a client server = record {
   second_ticket = a.second_ticket;
 }
 
--- the same, or 32 if a number does not fit
+-- the credential between two names, or 32 if a number does not fit
 abbrev pub with_parts : NewCredentialParts → Parts → Parts → Result CredParts ℕ
 with_parts a client server = if numbers_fit a.numbers then Ok (credential_between a client server) else Err 32
 

@@ -11,7 +11,7 @@ abbrev pub OpensOr : {S E : Type 0} → (E → ℕ) → Result S E → ℕ → O
 OpensOr of (Ok given) status held handle = (status ≡ 0) × (held ≡ Some given)
 OpensOr of (Err why) status held handle = OpensNone (of why) status handle
 
--- the same, or it is out of memory
+-- a call returns 0, and C then holds the result; or it is refused, or out of memory
 abbrev pub Opens : {S E : Type 0} → (E → ℕ) → Result S E → ℕ → Option S → Handle → Type 0
 Opens of given status held handle = OpensOr of given status held handle ⊎ OpensNone 1 status handle
 

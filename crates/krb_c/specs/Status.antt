@@ -56,7 +56,7 @@ abbrev pub AddsOr : {S : Type 0} → Result (ℕ × S) Code → S → ℕ → �
 AddsOr (Ok given) old status place new_place new = (status ≡ 0) × (given ≡ (new_place, new))
 AddsOr (Err why) old status place new_place new = Refuses (code_status why) old status place new_place new
 
--- the same, or it is out of memory
+-- an addition returns 0 and reports the place; or it is refused, or out of memory
 abbrev pub Adds : {S : Type 0} → Result (ℕ × S) Code → S → ℕ → ℕ → ℕ → S → Type 0
 Adds given old status place new_place new = AddsOr given old status place new_place new ⊎ Refuses 1 old status place new_place new
 

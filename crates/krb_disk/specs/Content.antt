@@ -20,7 +20,7 @@ pub record Cuts (len i : ℕ) (before after : Option ℕ) : Type 0 where
   pub kept : i < len → after ≡ before
   pub gone : len ≤ i → after ≡ None
 
--- the same, if it is to be cut
+-- what a cut to a length does at a place, if the file is to be cut
 abbrev pub CutsIf : Bool → ℕ → ℕ → Option ℕ → Option ℕ → Type 0
 CutsIf true len i before after = Cuts len i before after
 CutsIf false len i before after = after ≡ before

@@ -56,7 +56,7 @@ abbrev pub CountsLoad : Disk → ReadFault → Disk → Type 0
 CountsLoad old (read.Disk (disk.Failed cause)) new = Fails old new × (new.mode ≡ old.mode) × (old.failures ≤ new.failures) × (new.aftermath ≡ old.aftermath)
 CountsLoad old _ new = new ≡ old
 
--- likewise for a save that was not made
+-- a save that was not made counts the failed call, if there was one, and changes nothing else
 abbrev pub CountsSave : Disk → DiskFault → Disk → Type 0
 CountsSave old (disk.Failed cause) new = Fails old new × (new.mode ≡ old.mode) × (old.failures ≤ new.failures) × (new.aftermath ≡ old.aftermath)
 CountsSave old disk.NoMemory new = new ≡ old

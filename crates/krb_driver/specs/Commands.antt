@@ -108,8 +108,6 @@ IsMade due effect = IsSpent effect ⊎ (effect ≡ due)
 abbrev pub IsFailure : Effect → Type 0
 IsFailure effect = (file : List ℕ) × ((effect ≡ Fails file error.FileNotRead) ⊎ (effect ≡ Fails file error.FileNotWritten))
 
--- ---- what a run of a command does
-
 -- ---- what is made of the files
 
 -- what a file gave, or the error with that file's name
@@ -137,7 +135,7 @@ module _ {F : Type 0} (trait : Ghosts F) (old : F) where
     pub spent : gives (Err load.NoMemory) ≡ Err error.NoMemory
     pub read : file.is_other_type ≡ false
 
-  -- the same; or nothing was loaded, as the name is of another type
+  -- a file was loaded and gave this, or memory ran out, or nothing was loaded, as the name is of another type
   abbrev pub GivesOf : {X : Type 0} → FileName → (Answer → Result X RunError) → Result X (List ℕ × RunError) → F → Type 0
   GivesOf file gives given new =
       GivesLoaded file gives given new
@@ -149,7 +147,7 @@ module _ {F : Type 0} (trait : Ghosts F) (old : F) where
     pub loads : Loaded trait plan old answers new
     pub made : IsSpent effect ⊎ (effect ≡ by faults plan answers)
 
-  -- the same, and `Fairly` holds of the results of the loads, unless memory ran out
+  -- the files of a plan were loaded, and `Fairly` holds of the results, unless memory ran out
   pub record MakesFairly (plan : CommandPlan) (Fairly : List Answer → Type 0) (effect : Effect) (new : F) : Type 0 where
     pub makes : Makes plan effect new
     pub fair : IsSpent effect ⊎ Fairly makes.answers
@@ -265,7 +263,7 @@ made_effect page file (Ok (made.Shows shown)) = Displays file (page shown file)
 made_effect page file (Ok (made.Saves image shown)) = Saves file image.items shown.text.items shown.verdict
 made_effect page file (Err met) = Fails met.file.now met.error
 
--- the same for a command that prints a text
+-- the effect that `Command::make` returns, of a command that prints a text
 abbrev pub text_effect : {A : Type 0} → List ℕ → Result (Made A (Output A)) FileError → Effect
 text_effect file made = made_effect (λ shown _. output_page shown) file made
 

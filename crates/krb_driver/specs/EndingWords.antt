@@ -76,7 +76,7 @@ abbrev pub no_keytab_phrase : KtOpenFault → Bool → List ℕ
 no_keytab_phrase kt.BadVersion true = codes "it begins as a credential cache"
 no_keytab_phrase fault is_cache = kt_phrase fault
 
--- the same for a file that is listed as a keytab
+-- why a file that is listed as a keytab is none, by whether it begins as a cache
 abbrev pub list_phrase : KtOpenFault → Bool → List ℕ
 list_phrase kt.BadVersion true = codes "it begins as a credential cache; list it without -k"
 list_phrase fault is_cache = no_keytab_phrase fault is_cache
@@ -86,7 +86,7 @@ abbrev pub no_cache_phrase : CcOpenFault → Bool → List ℕ
 no_cache_phrase cc.BadVersion true = codes "a keytab (list it with -k), or a cache of version 1 or 2 (not read)"
 no_cache_phrase fault is_keytab = cc_phrase fault
 
--- the same for a file that is held as a cache
+-- why a file that is held as a cache is none, by whether it begins as a keytab
 abbrev pub hold_phrase : CcOpenFault → Bool → List ℕ
 hold_phrase cc.BadVersion true = codes "a keytab (hold it with -k), or a cache of version 1 or 2 (not read)"
 hold_phrase fault is_keytab = no_cache_phrase fault is_keytab
@@ -157,7 +157,7 @@ abbrev pub hidden_words : List ℕ → Option ℕ → ℕ → List ℕ
 hidden_words file None place = codes "krbfile: " ++ (shown_name file ++ (codes ": MIT's programs see no entry from " ++ (decimal place ++ codes " on\n")))
 hidden_words file (Some line) place = codes "krbfile: line " ++ (decimal line ++ (codes ": MIT's programs see no entry from " ++ (decimal place ++ codes " on\n")))
 
--- the same, if there is such an entry
+-- the words for an added entry that MIT's programs do not see, if there is one
 abbrev pub hidden_words_of : List ℕ → Option ℕ → List ℕ
 hidden_words_of file None = []
 hidden_words_of file (Some place) = hidden_words file None place

@@ -87,7 +87,7 @@ module _ {F : Type 0} (trait : Ghosts F) (old : F) (name : List ℕ) where
     pub loads : LoadsFile trait old name answer new
     pub gives : due answer ≡ given
 
-  -- the same, or memory ran out for the keytab that takes the place of a missing file
+  -- a file was loaded, and `given` is what is due, or memory ran out for the keytab in place of a missing file
   pub record GivesOrRunsOut {X : Type 0} (due : Result (List ℕ) LoadFault → Result X NoKeytab) (given : Result X NoKeytab) (new : F) : Type 0 where
     pub answer : Result (List ℕ) LoadFault
     pub loads : LoadsFile trait old name answer new

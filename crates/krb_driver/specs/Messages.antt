@@ -80,7 +80,7 @@ hidden_word = codes "a word of hexadecimal digits"
 abbrev pub shown_word : List ℕ → List ℕ
 shown_word word = flat_map shown_byte (take (key_start word) word) ++ (if has_key word then hidden_word else [])
 
--- the same in quotes, unless it has what may be a key
+-- a word of the command line in quotes, unless it has what may be a key
 abbrev pub quoted_word : List ℕ → List ℕ
 quoted_word word = if has_key word then hidden_word else codes "\"" ++ (flat_map shown_byte word ++ codes "\"")
 
@@ -98,7 +98,7 @@ piece_text (Escaped word) = escaped_text (word_text word)
 abbrev pub pieces_text : List MessagePiece → List ℕ
 pieces_text pieces = flat_map piece_text pieces
 
--- the same, and a text after them
+-- pieces one after the other, and a text after them
 abbrev pub pieces_before : List MessagePiece → List ℕ → List ℕ
 pieces_before [] rest = rest
 pieces_before (piece ∷ others) rest = piece_text piece ++ pieces_before others rest

@@ -142,7 +142,7 @@ abbrev pub Reads : {X : Type 0} → Option MistakeParts → (X → Type 0) → R
 Reads found Writes (Ok x) = (found ≡ None) × Writes x
 Reads found Writes (Err fault) = IsOf found fault
 
--- the same of words that take no memory
+-- words that take no memory have no mistake, and `Writes` holds of what they give; or the mistake is the first of theirs
 abbrev pub Spells : {X : Type 0} → Option MistakeParts → (X → Type 0) → Result X Mistake → Type 0
 Spells found Writes (Ok x) = (found ≡ None) × Writes x
 Spells found Writes (Err mistake) = found ≡ Some (mistake_parts mistake)
@@ -152,7 +152,7 @@ abbrev pub Refuses : Option MistakeParts → Result (Unit {0}) Mistake → Type 
 Refuses found (Ok done) = found ≡ None
 Refuses found (Err mistake) = found ≡ Some (mistake_parts mistake)
 
--- the same of words that have no mistake even if memory runs out
+-- words have no mistake, and `Writes` holds of what they give unless memory ran out; or the mistake is the first of theirs
 abbrev pub SpellsInMemory : {X : Type 0} → Option MistakeParts → (X → Type 0) → Result (Result X NoMemory) Mistake → Type 0
 SpellsInMemory found Writes (Ok x) = (found ≡ None) × IfOk x Writes
 SpellsInMemory found Writes (Err mistake) = found ≡ Some (mistake_parts mistake)

@@ -54,9 +54,7 @@ verdict_status NoEntry = 0
 verdict_status (Found findings) = if findings.is_wrong then 1 else 0
 verdict_status verdict = 1
 
--- ---- the errors that end a run: where they come from, their messages, and the exit status
-
--- ---- where it comes from
+-- ---- where an error that ends a run comes from
 
 -- the error for an input that was not read; a reader is never missing
 abbrev pub input_error : LoadFault → RunError

@@ -36,7 +36,7 @@ aftermath_line file None Restored = phrase_line None (aftermath_phrase Restored)
 aftermath_line file None aftermath = file_message file (aftermath_phrase aftermath)
 aftermath_line file (Some line) aftermath = phrase_line (Some line) (aftermath_phrase aftermath)
 
--- the same, if it is to be told
+-- the line of what a save left, if there is one and it is to be shown
 abbrev pub aftermath_text : Bool → List ℕ → Option ℕ → Option Aftermath → List ℕ
 aftermath_text explains file line None = []
 aftermath_text explains file line (Some aftermath) = words_if (explains || is_message aftermath) (aftermath_line file line aftermath)

@@ -62,6 +62,6 @@ RunsFairly lines cache = session.RunsFairly cache_rules cache (cache_events line
 abbrev pub ccedit_plan : FileName → List CacheLineParts → CommandPlan
 ccedit_plan file lines = holds (list_any line_may_change lines) file (opens file cache_of (λ k. Ends (edits lines file.name.now k)))
 
--- the same holds of the cache that the file gave
+-- the walks of the lines are fair over the cache that the file gave
 abbrev pub ccedit_fairly : List CacheLineParts → List Answer → Type 0
 ccedit_fairly lines = fair_first cache_of (RunsFairly lines)

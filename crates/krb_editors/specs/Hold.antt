@@ -125,7 +125,7 @@ abbrev pub about_end : List ℕ → HoldEnd → List ℕ
 about_end file (Ok done) = file
 about_end file (Err met) = met.0
 
--- the same of what a function returned
+-- the end that what a function returned comes to
 abbrev pub end_of : {X : Type 0} → Result X FileError → Result X (List ℕ × RunError)
 end_of result = result_map_err (λ met. (met.file.now, met.error)) result
 

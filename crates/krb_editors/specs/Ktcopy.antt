@@ -52,7 +52,7 @@ copied_effect dry_run to (Ok run) =
 abbrev pub copies_to : {A : Type 0} → CopyOptions A → FileName → List PlacedEntry → CommandPlan
 copies_to o to xs = holds (not o.dry_run) to (opens to (whole_or_empty o.v1_order to.in_place) (λ k. Ends (copied_effect o.dry_run to.name.now (copy_run o.replace xs k))))
 
--- the same, unless entries are asked for and there are none
+-- the entries are copied to TO, unless some are asked for and there are none
 abbrev pub copies_from : {A : Type 0} → CopyOptions A → FileName → FileName → List PlacedEntry → CommandPlan
 copies_from o from to xs = if finds_none o.selection xs then Ends (Fails from.name.now NothingToCopy) else copies_to o to xs
 

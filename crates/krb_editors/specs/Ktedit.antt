@@ -33,6 +33,6 @@ RunsFairly events keytab = session.RunsFairly keytab_rules keytab events
 abbrev pub ktedit_plan : Order → FileName → List (Event EntryParts) → CommandPlan
 ktedit_plan order file events = holds (list_any may_change events) file (opens file (keytab_or_empty order file.in_place) (λ k. Ends (edits events file.name.now k)))
 
--- the same holds of the keytab that the file gave
+-- the walks of the events are fair over the keytab that the file gave
 abbrev pub ktedit_fairly : Order → FileName → List (Event EntryParts) → List Answer → Type 0
 ktedit_fairly order file events = fair_first (keytab_or_empty order file.in_place) (RunsFairly events)

@@ -71,7 +71,7 @@ prints s out = record { state = s; effect = Displays [] (text out Well); quits =
 abbrev pub becomes : KtutilState → Came
 becomes s = prints s []
 
--- the same for a line that takes memory
+-- the line prints nothing, takes memory, and `s` is the list
 abbrev pub grows_to : KtutilState → Came
 grows_to s = record (becomes s) { takes = true }
 
@@ -111,7 +111,7 @@ saved_verdict x = verdict_by (placed_entries x.keytab) (hides_added x.keytab x.p
 abbrev pub none_added : KeytabState → Added
 none_added k = record { keytab = k; places = [] }
 
--- the same after one more addition, which gave a place and a keytab
+-- a keytab after one more addition, which gave a place and a keytab
 abbrev pub more_added : Added → ℕ × KeytabState → Added
 more_added x given = record { keytab = given.1; places = x.places ++ given.0 ∷ [] }
 
@@ -174,7 +174,7 @@ command_plan s number (DeleteSlot slot) = Ends (becomes (record s { entries = re
 command_plan s number ClearList = Ends (becomes (record s { entries = [] }))
 command_plan s number Quit = Ends (record (becomes s) { quits = true })
 
--- the same of a line with these words, or what its fault comes to
+-- all that a line with these words does, or what its fault comes to
 abbrev pub words_plan : KtutilState → ℕ → List (List ℕ) → Result Command LineFault → LinePlan
 words_plan s number line (Ok command) = command_plan s number command
 words_plan s number line (Err fault) = Ends (fails (after_fault (asks_for_password line) s) [] (fault_error number line fault))
@@ -221,7 +221,7 @@ pub record RunsOut (old new : KtutilState) (effect : Effect) (quits : Bool) : Ty
 abbrev pub Comes : Came → KtutilState → KtutilState → Effect → Bool → Type 0
 Comes came old new effect quits = IsCame came new effect quits ⊎ RunsOut old new effect quits
 
--- the same for a line that loads no file: memory ran out only if it takes some
+-- a line that loads no file made what is due, or memory ran out if it takes some
 abbrev pub EndsAt : LinePlan → KtutilState → KtutilState → Effect → Bool → Type 0
 EndsAt (Ends came) old new effect quits = IsCame came new effect quits ⊎ (IsTrue came.takes × RunsOut old new effect quits)
 EndsAt plan old new effect quits = ⊥
@@ -247,7 +247,7 @@ Attempts old number (Ok command) new (Err line.NoMemory) = EndsAt (command_plan 
 Attempts old number (Ok command) new (Err (line.Fault fault)) = ⊥
 Attempts old number (Err fault) new made = (new ≡ old) × (made ≡ Err (line.Fault fault))
 
--- the same for each command
+-- a command was done, or memory ran out of it, or its words have a fault
 abbrev pub Tries : {F A : Type 0} → Ghosts F → F → F → KtutilState → ℕ → Result Command LineFault → KtutilState → Result (Line A) LineRefusal → Type 0
 Tries trait files files' old number (Ok command) new (Ok made) = MakesLine trait (command_plan old number command) files files' old new (line_effect made) made.quits
 Tries trait files files' old number (Ok command) new (Err line.NoMemory) = MakesLine trait (command_plan old number command) files files' old new (Fails [] error.NoMemory) false

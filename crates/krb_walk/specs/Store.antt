@@ -50,7 +50,7 @@ is_place_from at (c ∷ cs) p = (at == p) || is_place_from (at + c.width) cs p
 abbrev pub is_place : Store → ℕ → Bool
 is_place s p = is_place_from s.first s.cells p
 
--- the same, as a fact
+-- that a number is a place, as a fact
 abbrev pub IsPlace : Store → ℕ → Type 0
 IsPlace s p = is_place s p ≡ true
 

@@ -21,6 +21,6 @@ zeros n p = lies_at (Array u8 n) full_share p (replicate n 0)
 abbrev pub cleared : Ty → ℕ → Ptr → Fml
 cleared ty n p = fsep (zeros n p) (fwand (zeros n p) (room_for ty p))
 
--- the same, with the right to free the block
+-- the first n bytes of the room at p are 0, and the block may be freed
 abbrev pub cleared_block : (Ty → Ptr → Fml) → Ty → ℕ → Ptr → Fml
 cleared_block holds ty n p = fsep (cleared ty n p) (holds ty p)
