@@ -12,8 +12,8 @@ one. If it is damaged, iteration raises an error at the fault, which `fault` has
 The program is `PROGRAM`, if that is set, or KRBFILE in the environment, or the one of the archive that this module
 is a part of, or the one on PATH.
 
-Names are text. Bytes of one that are not UTF-8 are in it as in the name of a file: `os.fsencode` gives them
-back. Calls take a name as text or bytes, and an encryption type as its number or its name in `ETYPES`. Keys are
+Principal names are `str`; bytes that are not UTF-8 are kept as surrogate escapes, so `os.fsencode(name)`
+restores them. Calls take a name as text or bytes, and an encryption type as its number or its name in `ETYPES`. Keys are
 bytes, and no `repr` shows one.
 
 If the library refuses a call, or the file is damaged or of another kind, `KrbfileError` is raised: its `status` is
