@@ -81,5 +81,4 @@ mapped_few h (x ∷ xs) = mapped_head (h x) (filter_map h xs) (length xs) (mappe
 
 pub entries_few : (k : KeytabState) → length (placed_entries k) ≤ length k.contents.cells
 entries_few k =
-    let of_cells = mapped_few (entry_in k.format) (placed_cells 2 k.contents.cells) in
-    omega (arith, ap length (entries_of_cells k (cells_of k) refl), of_cells, placed_len 2 k.contents.cells)
+    omega (arith, ap length (entries_of_cells k (cells_of k) refl), mapped_few (entry_in k.format) (placed_cells 2 k.contents.cells), placed_len 2 k.contents.cells)

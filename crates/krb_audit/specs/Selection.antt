@@ -1,5 +1,5 @@
 -- Which entries of a keytab are selected.
-use Rattle.std.specs.Prelude.{◌≡◌, ℕ, ◌+◌, List, [], ◌∷◌, Bool, true, not, ◌&&◌, ◌||◌, ◌==◌, nat_eq, nat_lt, filter, map}
+use Rattle.std.specs.Prelude.{◌≡◌, ℕ, ◌+◌, List, [], ◌∷◌, ◌++◌, Bool, true, not, ◌&&◌, ◌||◌, ◌==◌, nat_eq, nat_lt, filter, map}
 use Rattle.std.specs.List.{flat_map, list_any}
 use Rattle.std.specs.Str.{bytes_eq}
 use Rattle.std.specs.Vec.{vec_items}
@@ -57,13 +57,13 @@ selected_of s now xs = filter (λ x. is_named s x.1 && has_selected_kvno s.kvno 
 abbrev pub selected_in : {A : Type 0} → Selection A → ℕ → KeytabState → List PlacedEntry
 selected_in s now k = selected_of s now (placed_entries k)
 
--- the result is these entries: their places, their lines, and whether some entry has the name and enctype
-pub record Selects {A B : Type 0} (s : Selection A) (now : ℕ) (k : KeytabState) (selected : Selected B) : Type 0 where
+-- the result is these entries: their places, their lines, each after a label, and whether some entry has the name and enctype
+pub record Selects {A B : Type 0} (label : List ℕ) (s : Selection A) (now : ℕ) (k : KeytabState) (selected : Selected B) : Type 0 where
   pub places : selected.places.items ≡ map (λ x. x.0) (selected_in s now k)
-  pub text : selected.text.items ≡ flat_map removed_line (selected_in s now k)
+  pub text : selected.text.items ≡ flat_map (λ x. label ++ removed_line x) (selected_in s now k)
   pub is_named : selected.is_named ≡ list_any (λ x. is_named s x.1) (placed_entries k)
 
--- those entries were added: their places and their lines
-pub record AreAdded {A : Type 0} (selected : Selected A) (xs : List PlacedEntry) : Type 0 where
+-- those entries were added: their places, and their lines after a label
+pub record AreAdded {A : Type 0} (label : List ℕ) (selected : Selected A) (xs : List PlacedEntry) : Type 0 where
   pub places : selected.places.items ≡ map (λ x. x.0) xs
-  pub text : selected.text.items ≡ flat_map removed_line xs
+  pub text : selected.text.items ≡ flat_map (λ x. label ++ removed_line x) xs

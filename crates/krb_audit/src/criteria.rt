@@ -5,12 +5,13 @@ ghost use Rattle.krb_audit.specs.Selection.{has_selected_enctype, is_named, has_
 ghost use Rattle.std.specs.List.{list_any};
 ghost use Rattle.std.specs.Str.{bytes_eq};
 ghost use Rattle.std.specs.Vec.{vec_items};
-ghost use Rattle.krb_audit.specs.Tickets.{has_ended_by, names_ticket};
+ghost use Rattle.krb_audit.specs.Tickets.{has_ended_by, is_service, names_ticket};
 
 use crate::selection::Selection;
+use crate::tickets::TicketCriteria;
 use krb_ccache::{CredView, is_config};
 use krb_keytab::EntryView;
-use krb_wire::{NoMemory, PrincipalView, write_name};
+use krb_wire::{Name, NoMemory, PrincipalView, write_name};
 use std::alloc::Allocator;
 
 // Returns whether a text is one of those.
@@ -67,19 +68,31 @@ pub fn is_named_if_it_matters<A: Allocator, B: Allocator>(
     has_text(&selection.names, entry.principal(), printed)
 }
 
-/// Returns whether a credential is a ticket whose server prints as one of `servers`, if any are given. Prints its
-/// server over `printed`.
+// Returns whether a server's first component is not `krbtgt`. True if it has none.
+fn is_service(server: &PrincipalView<'_>) -> bool
+    ensures { result ≡ is_service server.now }
+{
+    server
+        .component(0)
+        .is_none_or(|first| first != b"krbtgt".as_slice())
+}
+
+/// Returns whether a credential is a ticket that meets the criteria, whatever its end time. Prints its server over
+/// `printed` if that matters.
 pub fn names_ticket<A: Allocator, B: Allocator>(
-    servers: &[Vec<u8, B>],
+    criteria: &TicketCriteria<'_, B>,
     credential: &CredView<'_>,
     printed: &mut Vec<u8, A>,
 ) -> Result<bool, NoMemory>
-    ensures { IfOk result (λ b. b ≡ names_ticket (map vec_items servers.now) credential.now) }
+    ensures { IfOk result (λ b. b ≡ names_ticket (map vec_items criteria.now.servers.now) criteria.now.all_services credential.now) }
 {
     if is_config(credential) {
         return Ok(false);
     }
-    has_text(servers, credential.server(), printed)
+    if criteria.all_services && !is_service(credential.server()) {
+        return Ok(false);
+    }
+    has_text(criteria.servers, credential.server(), printed)
 }
 
 /// Returns whether a credential's end time is at or before the given second. True if none is given.

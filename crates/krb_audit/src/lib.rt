@@ -26,5 +26,5 @@ pub use laws::{each_name_keeps_an_entry, hints_name_each_weak_etype};
 pub use mit::hides_added;
 pub use names::hash_of;
 pub use selection::{Selected, SelectedKvno, Selection, select, selected_entries};
-pub use tickets::{SelectedTickets, select_tickets};
+pub use tickets::{SelectedTickets, TicketCriteria, select_tickets};
 pub use weak_etypes::WeakEtypes;

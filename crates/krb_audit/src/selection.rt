@@ -1,6 +1,6 @@
 //! Selections of entries of a keytab.
 
-ghost use Rattle.std.specs.Prelude.{◌≡◌, ◌++◌, ◌∷◌, [], if◌then◌else◌, List, IfOk, OnOk};
+ghost use Rattle.std.specs.Prelude.{◌≡◌, ◌++◌, ◌∷◌, [], if◌then◌else◌, ℕ, List, IfOk, OnOk};
 ghost use Rattle.std.specs.List.{list_any};
 ghost use Rattle.krb_keytab.specs.Find.{PlacedEntry, placed_entries};
 ghost use Rattle.krb_audit.specs.Selection.{Selects, is_named, selected_in};
@@ -8,7 +8,7 @@ ghost use Rattle.krb_audit.specs.Selection.{Selects, is_named, selected_in};
 use crate::criteria::is_named_if_it_matters;
 use crate::kvno_marks::SelectedVersions;
 use krb_keytab::{EntryView, Keytab};
-use krb_text::append_placed;
+use krb_text::{append, append_placed};
 use krb_wire::NoMemory;
 use std::alloc::Allocator;
 
@@ -40,7 +40,7 @@ pub struct Selection<A: Allocator> {
 pub struct Selected<A: Allocator> {
     /// The places of their records, in file order.
     pub places: Vec<u32, A>,
-    /// A line for each that reports its removal.
+    /// A line for each that reports its removal, after the label.
     pub text: Vec<u8, A>,
     /// True if some entry has the selected name and enctype, whatever its kvno.
     pub is_named: bool,
@@ -48,24 +48,25 @@ pub struct Selected<A: Allocator> {
 
 // What takes the selected entries of a keytab, in file order.
 trait Taker<'k> {
-    ghost use Rattle.std.specs.Prelude.{List};
+    ghost use Rattle.std.specs.Prelude.{ℕ, List};
     ghost use Rattle.krb_keytab.specs.Find.{PlacedEntry};
 
-    /// It has taken these entries.
-    ghost HasTaken: { Self → List PlacedEntry → Type 0 };
+    /// It has taken these entries, each with that label.
+    ghost HasTaken: { List ℕ → Self → List PlacedEntry → Type 0 };
 
     /// Takes one more.
-    fn take(&mut self, place: u32, entry: EntryView<'k>) -> Result<(), NoMemory>
-        ensures { (xs : List PlacedEntry) → HasTaken self.old xs → OnOk result (HasTaken self.new (xs ++ (place, entry.entry) ∷ [])) };
+    fn take(&mut self, label: &[u8], place: u32, entry: EntryView<'k>) -> Result<(), NoMemory>
+        ensures { (xs : List PlacedEntry) → HasTaken label.now self.old xs → OnOk result (HasTaken label.now self.new (xs ++ (place, entry.entry) ∷ [])) };
 }
 
 impl<'k, A: Allocator> Taker<'k> for Selected<A> {
     ghost use Rattle.krb_audit.specs.Selection.{AreAdded};
 
-    ghost HasTaken = { λ selected xs. AreAdded selected xs };
+    ghost HasTaken = { λ label selected xs. AreAdded label selected xs };
 
-    fn take(&mut self, place: u32, entry: EntryView<'k>) -> Result<(), NoMemory> {
+    fn take(&mut self, label: &[u8], place: u32, entry: EntryView<'k>) -> Result<(), NoMemory> {
         self.places.push(place)?;
+        append(label, &mut self.text)?;
         append_placed(b"removed ", place, &entry, &mut self.text)
     }
 }
@@ -73,9 +74,9 @@ impl<'k, A: Allocator> Taker<'k> for Selected<A> {
 impl<'k, A: Allocator> Taker<'k> for Vec<(u32, EntryView<'k>), A> {
     ghost use Rattle.std.specs.Prelude.{◌≡◌};
 
-    ghost HasTaken = { λ entries xs. entries.items ≡ xs };
+    ghost HasTaken = { λ label entries xs. entries.items ≡ xs };
 
-    fn take(&mut self, place: u32, entry: EntryView<'k>) -> Result<(), NoMemory> {
+    fn take(&mut self, _label: &[u8], place: u32, entry: EntryView<'k>) -> Result<(), NoMemory> {
         self.push((place, entry))?;
         Ok(())
     }
@@ -84,15 +85,16 @@ impl<'k, A: Allocator> Taker<'k> for Vec<(u32, EntryView<'k>), A> {
 // Hands an entry on if it is selected.
 fn take_if<'k, T: Taker<'k>>(
     is_selected: bool,
+    label: &[u8],
     place: u32,
     entry: EntryView<'k>,
     taker: &mut T,
 ) -> Result<(), NoMemory>
-    ensures { (xs : List PlacedEntry) → T.HasTaken taker.old xs
-        → OnOk result (T.HasTaken taker.new (if is_selected then xs ++ (place, entry.entry) ∷ [] else xs)) }
+    ensures { (xs : List PlacedEntry) → T.HasTaken label.now taker.old xs
+        → OnOk result (T.HasTaken label.now taker.new (if is_selected then xs ++ (place, entry.entry) ∷ [] else xs)) }
 {
     if is_selected {
-        return taker.take(place, entry);
+        return taker.take(label, place, entry);
     }
     Ok(())
 }
@@ -101,13 +103,14 @@ fn take_if<'k, T: Taker<'k>>(
 // whatever its kvno. Takes time n log n in the bytes of the keytab.
 fn take_selected<'k, A: Allocator + Copy, B: Allocator, T: Taker<'k>>(
     alloc: A,
+    label: &[u8],
     keytab: &'k Keytab<A>,
     selection: &Selection<B>,
     now: u32,
     taker: &mut T,
 ) -> Result<bool, NoMemory>
-    requires { T.HasTaken taker.old [] }
-    ensures taken { OnOk result (T.HasTaken taker.new (selected_in selection.now now keytab.now.state)) }
+    requires { T.HasTaken label.now taker.old [] }
+    ensures taken { OnOk result (T.HasTaken label.now taker.new (selected_in selection.now now keytab.now.state)) }
     ensures named { IfOk result (λ b. b ≡ list_any (λ x. is_named selection.now x.1) (placed_entries keytab.now.state)) }
 {
     let mut printed = Vec::new(alloc);
@@ -123,7 +126,7 @@ fn take_selected<'k, A: Allocator + Copy, B: Allocator, T: Taker<'k>>(
             &mut printed,
         )?;
         is_any_named |= is_named;
-        take_if(is_named & has_kvno, place, entry, taker)?;
+        take_if(is_named & has_kvno, label, place, entry, taker)?;
     }
     Ok(is_any_named)
 }
@@ -132,18 +135,19 @@ fn take_selected<'k, A: Allocator + Copy, B: Allocator, T: Taker<'k>>(
 /// alone. Takes time n log n in the bytes of the keytab.
 pub fn select<A: Allocator + Copy, B: Allocator>(
     alloc: A,
+    label: &[u8],
     keytab: &Keytab<A>,
     selection: &Selection<B>,
     now: u32,
 ) -> Result<Selected<A>, NoMemory>
-    ensures { IfOk result (Selects selection.now now keytab.now.state) }
+    ensures { IfOk result (Selects label.now selection.now now keytab.now.state) }
 {
     let mut selected = Selected {
         places: Vec::new(alloc),
         text: Vec::new(alloc),
         is_named: false,
     };
-    selected.is_named = take_selected(alloc, keytab, selection, now, &mut selected)?;
+    selected.is_named = take_selected(alloc, label, keytab, selection, now, &mut selected)?;
     Ok(selected)
 }
 
@@ -157,6 +161,6 @@ pub fn selected_entries<'k, A: Allocator + Copy, B: Allocator>(
     ensures { IfOk result (λ entries. entries.items ≡ selected_in selection.now 0 keytab.now.state) }
 {
     let mut entries = Vec::new(alloc);
-    let _ = take_selected(alloc, keytab, selection, 0, &mut entries)?;
+    let _ = take_selected(alloc, b"", keytab, selection, 0, &mut entries)?;
     Ok(entries)
 }

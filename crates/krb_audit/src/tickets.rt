@@ -7,7 +7,7 @@ ghost use Rattle.krb_audit.specs.Tickets.{SelectsSoFar, SelectsTickets, removed_
 
 use crate::criteria::{has_ended_by, names_ticket};
 use krb_ccache::{Ccache, CredView};
-use krb_text::{append_byte, append_labelled};
+use krb_text::{append, append_byte, append_labelled};
 use krb_wire::{NoMemory, write_name};
 use std::alloc::Allocator;
 
@@ -25,62 +25,73 @@ fn append_removed<A: Allocator>(
     append_byte(b'\n', out)
 }
 
+/// Which tickets of a cache are selected: those that meet all criteria given.
+#[derive(Clone, Copy)]
+pub struct TicketCriteria<'s, B: Allocator> {
+    /// The servers as they are printed; an empty list selects any.
+    pub servers: &'s [Vec<u8, B>],
+    /// Only tickets of services: not those of the ticket-granting service.
+    pub all_services: bool,
+    /// Only tickets that end at or before this second.
+    pub ended_by: Option<u32>,
+}
+
 /// The selected tickets of a cache.
 #[derive(Drop)]
 pub struct SelectedTickets<A: Allocator> {
     /// Their places, in file order.
     pub places: Vec<u32, A>,
-    /// A line for each that reports its removal.
+    /// A line for each that reports its removal, after the label.
     pub text: Vec<u8, A>,
-    /// True if some ticket's server prints as a given one, or if none is given and there is a ticket.
+    /// True if some ticket meets the criteria, whatever its end time.
     pub is_named: bool,
 }
 
 impl<A: Allocator> SelectedTickets<A> {
     // Adds a ticket.
-    fn add(&mut self, place: u32, ticket: &CredView<'_>) -> Result<(), NoMemory>
+    fn add(&mut self, label: &[u8], place: u32, ticket: &CredView<'_>) -> Result<(), NoMemory>
         ensures places { OnOk result (self.new.places.items ≡ self.old.places.items ++ place ∷ []) }
         ensures text { OnOk result (self.new.text.items
-            ≡ self.old.text.items ++ removed_ticket_line (place, ticket.now)) }
+            ≡ self.old.text.items ++ (label.now ++ removed_ticket_line (place, ticket.now))) }
         ensures named { self.new.is_named ≡ self.old.is_named }
     {
         self.places.push(place)?;
+        append(label, &mut self.text)?;
         append_removed(place, ticket, &mut self.text)
     }
 
     // Adds the next credential if it is a selected ticket.
     fn consider<B: Allocator>(
         &mut self,
-        servers: &[Vec<u8, B>],
-        ended_by: Option<u32>,
+        label: &[u8],
+        criteria: &TicketCriteria<'_, B>,
         printed: &mut Vec<u8, A>,
         place: u32,
         credential: &CredView<'_>,
     ) -> Result<(), NoMemory>
         ensures { (rest all : List PlacedCredential)
-            → SelectsSoFar (map vec_items servers.now) ended_by ((place, credential.now) ∷ rest) all self.old
-            → OnOk result (SelectsSoFar (map vec_items servers.now) ended_by rest all self.new) }
+            → SelectsSoFar label.now (map vec_items criteria.now.servers.now) criteria.now.all_services criteria.now.ended_by ((place, credential.now) ∷ rest) all self.old
+            → OnOk result (SelectsSoFar label.now (map vec_items criteria.now.servers.now) criteria.now.all_services criteria.now.ended_by rest all self.new) }
     {
-        if !names_ticket(servers, credential, printed)? {
+        if !names_ticket(criteria, credential, printed)? {
             return Ok(());
         }
         self.is_named = true;
-        if !has_ended_by(ended_by, credential) {
+        if !has_ended_by(criteria.ended_by, credential) {
             return Ok(());
         }
-        self.add(place, credential)
+        self.add(label, place, credential)
     }
 }
 
-/// Returns the tickets of a cache whose server prints as one of `servers`, if any are given, and whose end time is at
-/// or before `ended_by`, if it is given. Takes one pass.
+/// Returns the tickets of a cache that meet the criteria, with a line for each after the label. Takes one pass.
 pub fn select_tickets<A: Allocator + Copy, B: Allocator>(
     alloc: A,
+    label: &[u8],
     cache: &Ccache<A>,
-    servers: &[Vec<u8, B>],
-    ended_by: Option<u32>,
+    criteria: &TicketCriteria<'_, B>,
 ) -> Result<SelectedTickets<A>, NoMemory>
-    ensures { IfOk result (SelectsTickets (map vec_items servers.now) ended_by cache.now.state) }
+    ensures { IfOk result (SelectsTickets label.now (map vec_items criteria.now.servers.now) criteria.now.all_services criteria.now.ended_by cache.now.state) }
 {
     let mut printed = Vec::new(alloc);
     let mut selected = SelectedTickets {
@@ -89,7 +100,7 @@ pub fn select_tickets<A: Allocator + Copy, B: Allocator>(
         is_named: false,
     };
     'credentials: for (place, credential) in cache.credentials() {
-        selected.consider(servers, ended_by, &mut printed, place, &credential)?;
+        selected.consider(label, criteria, &mut printed, place, &credential)?;
     }
     Ok(selected)
 }

@@ -9,8 +9,7 @@ overflow_add-holes g c =
     let cells = c.cells.cell-iterator.contents.cells in
     let rest = c.next.new.self.contents.cells in
     let is : cells ≡ Free c.in-Free.bytes.now ∷ rest = c.in-Some.ensures.steps.cells ∙ ap (λ (d : KtCell). cell_of d ∷ rest) c.in-Free.is in
-    let counted = hole_counted c.cells.holes.count (length (holes all)) cells rest c.in-Free.bytes.now is c.cells.invariant.count in
-    omega (arith, counted, holes_few all, c.cell_count-count.ensures.count, c.cell_count-count.ensures.few)
+    omega (arith, hole_counted c.cells.holes.count (length (holes all)) cells rest c.in-Free.bytes.now is c.cells.invariant.count, holes_few all, c.cell_count-count.ensures.count, c.cell_count-count.ensures.few)
 
 pub overflow_add-holes-in-Free : goal.overflow_add-holes-in-Free
 overflow_add-holes-in-Free g c =
@@ -18,6 +17,4 @@ overflow_add-holes-in-Free g c =
     let cells = c.cells.cell-iterator.contents.cells in
     let rest = c.next.new.self.contents.cells in
     let is : cells ≡ Free c.in-Free.bytes.now ∷ rest = c.in-Some.ensures.steps.cells ∙ ap (λ (d : KtCell). cell_of d ∷ rest) c.in-Free.is in
-    let sum = hole_added c.cells.holes.size (sum_by size (holes all)) cells rest c.in-Free.bytes.now is c.cells.invariant.size in
-    let least = added_ge (c.cells.holes.size + length c.in-Free.bytes.now) (holes rest) in
-    omega (arith, sum, least, holes_small all, c.end-end.ensures, c.end-end.type_inv)
+    omega (arith, hole_added c.cells.holes.size (sum_by size (holes all)) cells rest c.in-Free.bytes.now is c.cells.invariant.size, added_ge (c.cells.holes.size + length c.in-Free.bytes.now) (holes rest), holes_small all, c.end-end.ensures, c.end-end.type_inv)

@@ -7,8 +7,7 @@ pub overflow_cast-count : goal.overflow_cast-count
 overflow_cast-count g c =
     let k = c.args.keytab.now.state in
     let rows = c.in_ok-rows.rows in
-    let count = c.len-count.ensures ∙ rows.ok.0 ∙ row_count (placed_entries k) (placed_entries k) rows.items c.in_ok-rows.ensures in
-    omega (arith, count, c.cell_count-few.ensures.few, c.cell_count-few.ensures.count, entries_few k)
+    omega (arith, c.len-count.ensures ∙ rows.ok.0 ∙ row_count (placed_entries k) (placed_entries k) rows.items c.in_ok-rows.ensures, c.cell_count-few.ensures.few, c.cell_count-few.ensures.count, entries_few k)
 
 pub returns-clause-count : goal.returns-clause-count
 returns-clause-count g c =

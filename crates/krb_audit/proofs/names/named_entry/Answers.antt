@@ -7,13 +7,11 @@ returns-in_err-rest-clause-entry c = absurd (is_read c.args.format c.in_ok-entry
 
 pub overflow_sub-end : goal.overflow_sub-end
 overflow_sub-end c =
-    let len = lengths c.args.format c.in_ok-entry.entry c.args.bytes.now _ c.in_ok-rest.rest.now c.in_ok-entry.ensures.found c.in_ok-rest.ensures in
-    omega (arith, len)
+    omega (arith, lengths c.args.format c.in_ok-entry.entry c.args.bytes.now _ c.in_ok-rest.rest.now c.in_ok-entry.ensures.found c.in_ok-rest.ensures)
 
 pub overflow_sub-end-2 : goal.overflow_sub-end-2
 overflow_sub-end-2 c =
-    let len = lengths c.args.format c.in_ok-entry.entry c.args.bytes.now _ c.in_ok-rest.rest.now c.in_ok-entry.ensures.found c.in_ok-rest.ensures in
-    omega (arith, len, c.name_type_len.ensures)
+    omega (arith, lengths c.args.format c.in_ok-entry.entry c.args.bytes.now _ c.in_ok-rest.rest.now c.in_ok-entry.ensures.found c.in_ok-rest.ensures, c.name_type_len.ensures)
 
 pub returns : goal.returns
 returns c =

@@ -9,13 +9,14 @@ entries-preserved g c =
     let all = placed_entries c.args.keytab.now.state in
     let named : PlacedEntry → Bool = λ x. is_named s x.1 in
     let has_kvno : PlacedEntry → Bool = λ x. has_selected_kvno s.kvno c.args.now all x.1 in
+    let has_taken = g.T.Taker.HasTaken c.args.label.now in
     let rest = c.next.new.self in
     let x : PlacedEntry = (c.in-Some.place, c.in-Some.entry) in
     let h = c.entries.invariant in
     let versions = subst (λ (xs : List PlacedEntry). AreVersions s.kvno c.args.now all xs c.entries.versions) c.in-Some.ensures.steps h.versions in
     let version = c.next-has_kvno.ensures s.kvno c.args.now all rest x versions (sym c.kvno.ensures) in
-    let on = subst (λ (xs : List PlacedEntry). IsOnTheWay g.T.Taker.HasTaken named has_kvno all xs c.entries.is_any_named c.entries.taker) c.in-Some.ensures.steps h.taken in
+    let on = subst (λ (xs : List PlacedEntry). IsOnTheWay has_taken named has_kvno all xs c.entries.is_any_named c.entries.taker) c.in-Some.ensures.steps h.taken in
     record {
       versions = version.1;
-      taken = one_further g.T.Taker.HasTaken named has_kvno all rest x c.entries.is_any_named c.next-has_kvno.result c.in_ok-is_named.is_named c.entries.taker c.take_if.new.taker on version.0 c.in_ok-is_named.ensures c.in_ok-take_if.ensures;
+      taken = one_further has_taken named has_kvno all rest x c.entries.is_any_named c.next-has_kvno.result c.in_ok-is_named.is_named c.entries.taker c.take_if.new.taker on version.0 c.in_ok-is_named.ensures c.in_ok-take_if.ensures;
     }

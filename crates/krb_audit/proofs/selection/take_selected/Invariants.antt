@@ -6,5 +6,5 @@ use Rattle.krb_audit.proofs.selection.take_selected.Given as goal
 abbrev pub invariant-entries : goal.invariant-entries
 invariant-entries g l = record {
   versions : AreVersions l.selection.kvno l.fn.now (placed_entries l.keytab.state) l.place-iterator l.versions;
-  taken : IsOnTheWay g.T.Taker.HasTaken (λ x. is_named l.selection x.1) (λ x. has_selected_kvno l.selection.kvno l.fn.now (placed_entries l.keytab.state) x.1) (placed_entries l.keytab.state) l.place-iterator l.is_any_named l.taker;
+  taken : IsOnTheWay (g.T.Taker.HasTaken l.label) (λ x. is_named l.selection x.1) (λ x. has_selected_kvno l.selection.kvno l.fn.now (placed_entries l.keytab.state) x.1) (placed_entries l.keytab.state) l.place-iterator l.is_any_named l.taker;
 }

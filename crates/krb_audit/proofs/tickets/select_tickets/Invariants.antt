@@ -5,4 +5,4 @@ use Rattle.krb_audit.proofs.tickets.select_tickets.Given as goal
 
 -- the selected ones of the credentials so far were added
 abbrev pub invariant-credentials : goal.invariant-credentials
-invariant-credentials g l = SelectsSoFar (map vec_items l.servers) l.fn.ended_by l.place-iterator (placed_credentials l.cache.state) l.selected
+invariant-credentials g l = SelectsSoFar l.label (map vec_items l.criteria.servers.now) l.criteria.all_services l.criteria.ended_by l.place-iterator (placed_credentials l.cache.state) l.selected
