@@ -1,5 +1,5 @@
 -- Tokens and values are read back from their escaped text.
-use Rattle.krb_json.proofs.Cited.{◌≡◌, ℕ, ◌≤◌, Bool, true, false, cond, List, [], ◌∷◌, ◌++◌, Some, option_and_then, refl, sym, ap, ap₂, ◌∙◌, subst, append_assoc, Token, begin_object, end_object, begin_array, end_array, key, string, number, boolean, null, bad, Json, document, if_last, max_depth, value, json_tokens, depth, HasNumbers, escaped, json_text}
+use Rattle.krb_json.proofs.Cited.{◌≡◌, ℕ, ◌≤◌, Bool, true, false, cond, List, [], ◌∷◌, ◌++◌, Some, option_and_then, refl, sym, ap, ap₂, ◌∙◌, subst, append_assoc, Token, end_object, end_array, key, string, number, boolean, null, bad, Json, document, if_last, max_depth, value, json_tokens, depth, HasNumbers, escaped, json_text}
 use Rattle.std.specs.Prelude.{◌&&◌}
 use Rattle.json.specs.Word.{ends_word, word}
 use Rattle.json.specs.Lex.{Lexeme, lex, between, token, comma, colon, string_token, punctuate, fresh}

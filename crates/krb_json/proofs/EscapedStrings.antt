@@ -208,8 +208,7 @@ within_delete s = rw (large 127 (omega arith)) (escaped-single 127 (json_escape 
 
 within_pair : (b : ℕ) (s : List ℕ) → is_second b ≡ true → text_within (194 ∷ b ∷ s) ≡ escape b ++ text_within s
 within_pair b s second =
-    let le = leb-true 128 b (and_parts (nat_le 128 b) (nat_le b 159) second).0 in
-    rw (large 194 (omega arith), large b (omega (arith, le))) (escaped-pair b (json_escape s) second)
+    rw (large 194 (omega arith), large b (omega (arith, leb-true 128 b (and_parts (nat_le 128 b) (nat_le b 159) second).0))) (escaped-pair b (json_escape s) second)
 
 -- a whole string, up to its closing quote
 pub record IsRead (s : List ℕ) : Type 0 where
@@ -233,9 +232,7 @@ pair_more : (x b : ℕ) (s : List ℕ) → is_pair x b ≡ true → IsRead s →
 pair_more x b s pair h =
     let parts = and_parts (x == 194) (is_second b) pair in
     let bounds = and_parts (nat_le 128 b) (nat_le b 159) parts.1 in
-    let low = leb-true 128 b bounds.0 in
-    let high = leb-true b 159 bounds.1 in
-    let stands = subst (Stands (escape b)) (second_bytes b (omega (arith, low))) (escape_stands b (omega (arith, high))) in
+    let stands = subst (Stands (escape b)) (second_bytes b (omega (arith, leb-true 128 b bounds.0))) (escape_stands b (omega (arith, leb-true b 159 bounds.1))) in
     subst (λ y. IsRead (y ∷ b ∷ s)) (sym (eqb-true x 194 parts.0)) (is_read-front (escape b) (194 ∷ b ∷ []) s stands (within_pair b s parts.1) h)
 
 pub is_read : (s : List ℕ) → IsRead s

@@ -8,7 +8,7 @@ use Rattle.krb_wire.specs.declared.format.KtFormat.TheVariants.{V1, V2}
 use Rattle.krb_wire.specs.Spelling.{version_byte}
 use Rattle.krb_walk.specs.declared.fault.Fault.{Fault}
 use Rattle.krb_walk.specs.declared.fault.FaultKind.{FaultKind}
-use Rattle.krb_walk.specs.declared.fault.FaultKind.TheVariants.{CutLength, Overrun, BadEntry, BadCredential}
+use Rattle.krb_walk.specs.declared.fault.FaultKind.TheVariants.{CutLength}
 use Rattle.krb_walk.specs.Phrases.{fault_number}
 use Rattle.krb_walk.specs.Store.{fault_of}
 use Rattle.krb_keytab.specs.Find.{PlacedEntry}

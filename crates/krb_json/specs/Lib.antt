@@ -3,4 +3,5 @@ pub mod Members
 pub mod Escaped
 pub mod Keytab
 pub mod Cache
+pub mod Summary
 pub mod Pieces

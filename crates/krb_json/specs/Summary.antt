@@ -1,0 +1,30 @@
+-- A cache in an overview as a JSON value, and as its line.
+use Rattle.std.specs.Prelude.{ℕ, List, [], ◌∷◌, ◌++◌, codes, Option, None, Some}
+use Rattle.json.specs.Json.{Json, null, boolean, string}
+use Rattle.krb_wire.specs.Names.{name_text}
+use Rattle.krb_wire.specs.Spelling.{Parts}
+use Rattle.krb_json.specs.declared.summary.CacheSummary.{CacheSummary}
+use Rattle.krb_json.specs.Escaped.{json_text}
+use Rattle.krb_json.specs.Members.{object_of, number_of, text_member}
+
+-- a number, or null if there is none
+abbrev pub number_or_null : Option ℕ → Json
+number_or_null None = null
+number_or_null (Some n) = number_of n
+
+-- a cache: the name of its file, its default principal, its number of tickets, the endtime, and whether it is expired
+unfoldable pub summary_value : List ℕ → Parts → CacheSummary → Json
+summary_value file principal summary =
+    object_of (
+    (codes "file", string file)
+    ∷ (codes "kind", string (codes "ccache"))
+    ∷ text_member (codes "default_principal") (name_text principal)
+    ∷ (codes "tickets", number_of summary.tickets)
+    ∷ (codes "endtime", number_or_null summary.endtime)
+    ∷ (codes "expired", boolean summary.is_expired)
+    ∷ []
+    )
+
+-- its text, and a newline
+abbrev pub summary_text : List ℕ → Parts → CacheSummary → List ℕ
+summary_text file principal summary = json_text (summary_value file principal summary) ++ codes "\n"

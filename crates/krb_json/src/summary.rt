@@ -1,0 +1,74 @@
+//! A cache in an overview, as one line of JSON.
+
+ghost use Rattle.std.specs.Prelude.{◌≡◌, ◌++◌, OnOk, codes};
+ghost use Rattle.json.specs.Tree.{json_tokens};
+ghost use Rattle.krb_json.specs.Summary.{number_or_null, summary_value, summary_text};
+ghost use Rattle.krb_json.specs.Pieces.{member_tokens};
+
+use crate::piece::Piece;
+use crate::put::Label;
+use krb_wire::{Name, NoMemory};
+use std::alloc::Allocator;
+
+/// What an overview tells of a cache, beside its file name and its default principal.
+#[derive(Clone, Copy)]
+pub struct CacheSummary {
+    /// The number of tickets.
+    pub tickets: u64,
+    /// When the last of the tickets that count ends, or `None` if none counts.
+    pub endtime: Option<u32>,
+    /// Whether no ticket is left to go on with.
+    pub is_expired: bool,
+}
+
+impl<A: Allocator> Piece<A> {
+    // Writes the endtime, or null if there is none.
+    fn endtime(&mut self, endtime: Option<u32>) -> Result<(), NoMemory>
+        ensures { OnOk result (self.new
+            ≡ self.old ++ member_tokens (codes "endtime", number_or_null endtime)) }
+    {
+        match endtime {
+            Some(seconds) => self.number("endtime", seconds as u64),
+            None => self.null("endtime"),
+        }
+    }
+
+    // Writes a cache in an overview as an object.
+    #[tactic(auto, unfolding(crate::specs::Summary::summary_value))]
+    fn summary<N: Name>(
+        &mut self,
+        file: &str,
+        principal: &N,
+        summary: CacheSummary,
+    ) -> Result<(), NoMemory>
+        ensures { OnOk result (self.new
+            ≡ self.old ++ json_tokens (summary_value file.now (N.parts principal.now) summary)) }
+    {
+        self.begin_object()?;
+        self.string("file", file)?;
+        self.string("kind", "ccache")?;
+        self.name(Label::DefaultPrincipal, principal)?;
+        self.number("tickets", summary.tickets)?;
+        self.endtime(summary.endtime)?;
+        self.boolean("expired", summary.is_expired)?;
+        self.end_object()
+    }
+}
+
+/// Appends a cache in an overview as one JSON object (RFC 8259) and a newline: its file name, its default principal and
+/// its summary.
+pub fn append_summary<A: Allocator + Copy, N: Name>(
+    alloc: A,
+    file: &str,
+    principal: &N,
+    summary: CacheSummary,
+    out: &mut Vec<u8, A>,
+) -> Result<(), NoMemory>
+    ensures { OnOk result (out.new.items
+        ≡ out.old.items ++ summary_text file.now (N.parts principal.now) summary) }
+{
+    let mut piece = Piece::new(alloc);
+    piece.summary(file, principal, summary)?;
+    piece.append_to(false, out)?;
+    Ok(out.push(b'\n')?)
+}
