@@ -40,6 +40,7 @@ pub struct DiskFiles<'a, R: rt::Files + Alloc> {
     /// The path at which something is in the way of the last save.
     in_the_way: Option<String<R::A>>,
     only_plain: bool,
+    no_pipes: bool,
     way: Way,
     /// What the last save left behind.
     aftermath: Option<Aftermath>,
@@ -79,6 +80,7 @@ impl<'a, R: rt::Files + Alloc> DiskFiles<'a, R> {
             not_held: None,
             in_the_way: None,
             only_plain: false,
+            no_pipes: false,
             way: Way::Replace,
             aftermath: None,
         }
@@ -90,6 +92,13 @@ impl<'a, R: rt::Files + Alloc> DiskFiles<'a, R> {
         ensures { self.new ≡ record self.old { only_plain = true } }
     {
         self.only_plain = true;
+    }
+
+    /// From now on loads refuse a pipe before they open it.
+    pub fn refuse_pipes(&mut self)
+        ensures { self.new ≡ self.old }
+    {
+        self.no_pipes = true;
     }
 
     /// From now on files are saved in place: the file keeps all that is not its bytes, and a missing one is not made.

@@ -51,12 +51,27 @@ pub fn read_file<R: rt::Files, A: Allocator>(
     Ok((found, bytes))
 }
 
-// Returns whether `path` leads to a plain file, links followed.
-fn is_plain<R: rt::Files>(looks: &Looks<'_, R>, path: &str) -> Result<bool, ReadFault> {
+// Returns the fault of what is not read.
+fn not_read(cause: Cause) -> ReadFault {
+    ReadFault::Disk(DiskFault::Failed(cause))
+}
+
+// Refuses what is not a plain file, links followed.
+fn refuse_others<R: rt::Files>(looks: &Looks<'_, R>, path: &str) -> Result<(), ReadFault> {
     match looks.come_to(path) {
-        Ok(found) => Ok(found.is_file()),
+        Ok(found) if found.is_file() => Ok(()),
+        Ok(found) if found.is_directory() => Err(not_read(Cause::IsADirectory)),
+        Ok(_) => Err(not_read(Cause::NotAPlainFile)),
         Err(error) if error.kind() == ErrorKind::NotFound => Err(ReadFault::Missing),
         Err(error) => Err(ReadFault::from(error)),
+    }
+}
+
+/// Refuses a pipe, links followed, since to open one may block.
+pub fn refuse_pipe<R: rt::Files>(looks: &Looks<'_, R>, path: &str) -> Result<(), ReadFault> {
+    match looks.come_to(path) {
+        Ok(found) if found.is_pipe() => Err(not_read(Cause::NotAPlainFile)),
+        _ => Ok(()),
     }
 }
 
@@ -71,13 +86,13 @@ pub fn read_plain<R: rt::Files, A: Allocator>(
     ensures within { IfOk result (λ read. vec_len read.1 ≤ limit) }
     ensures plain { IfOk result (λ read. IsPlain read.0) }
 {
-    if is_plain(looks, path)? {
-        let (found, bytes) = read_file(looks, alloc, path, limit)?;
-        if found.is_file() {
-            return Ok((found, bytes));
-        }
+    refuse_others(looks, path)?;
+    let (found, bytes) = read_file(looks, alloc, path, limit)?;
+    if found.is_file() {
+        Ok((found, bytes))
+    } else {
+        Err(not_read(Cause::NotAPlainFile))
     }
-    Err(ReadFault::Disk(DiskFault::Failed(Cause::NotAPlainFile)))
 }
 
 // Returns what follows the prefix `front` in `bytes`, or `None` if `bytes` does not begin with it.

@@ -13,7 +13,7 @@ use crate::held::{Held, NotHeld, save_anew};
 use crate::looks::Found;
 use crate::looks::text::check_len;
 use crate::open_file::{Numbered, SetOwner, TakeLock, WriteInPlace};
-use crate::read::{read_file, read_plain};
+use crate::read::{read_file, read_plain, refuse_pipe};
 use crate::target::new_path_of;
 use krb_files::{Aftermath, Cause, HeldName};
 use std::alloc::Allocator;
@@ -23,7 +23,8 @@ impl<R: rt::Files + rt::Clock + Alloc> DiskFiles<'_, R>
 where
     R::File: SetOwner + TakeLock + Numbered + WriteInPlace,
 {
-    /// Reads a file: through the hold, if one is held, unless only plain files are loaded.
+    /// Reads a file: through the hold, if one is held, unless only plain files are loaded. Refuses a pipe, if pipes are
+    /// not opened.
     pub(super) fn read<A: Allocator>(
         &mut self,
         alloc: A,
@@ -37,6 +38,9 @@ where
         let looks = self.calls.looks();
         if self.only_plain {
             return read_plain(looks, alloc, name, limit);
+        }
+        if self.no_pipes {
+            refuse_pipe(looks, name)?;
         }
         match (&mut self.held, &self.not_held) {
             (Some(held), _) => held.load(&self.calls, alloc, name, limit),
