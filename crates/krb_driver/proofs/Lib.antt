@@ -5,3 +5,4 @@ pub mod Making
 pub mod Running
 pub mod Words
 pub mod Failures
+mod Rounds

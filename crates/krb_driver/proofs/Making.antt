@@ -33,7 +33,7 @@ loads file gives then_ = Loads file.name.now (λ answer. goes_on file (gives ans
 
 -- the effect of a name of another type
 abbrev other : FileName → Effect
-other file = Fails file.name.now (error.OtherType file.source)
+other file = Fails file.name.now (error.OtherType file.kind file.source)
 
 -- a name of another type ends a command
 makes-other : {F X : Type 0} (trait : Ghosts F) (old new : F) (file : FileName) (gives : Answer → Result X RunError) (then_ : X → CommandPlan) → file.is_other_type ≡ true → new ≡ old → Makes trait old (opens file gives then_) (other file) new

@@ -86,8 +86,7 @@ module _ {F O : Type 0} (trait : Ghosts F) (outcomes : Faults O) (due : Effect) 
 keeps-left : {F : Type 0} (trait : Ghosts F) (due : Effect) (old done new : F) (left : Effect) → TurnsHold trait None done new → Keeps trait due old done left → Keeps trait due old new left
 keeps-left trait due old done new left turns (inl is) = inl (is.0, same-trans (files_after (trait.file old) due) (trait.file done) (trait.file new) is.1 turns.same)
 keeps-left trait due old done new left turns (inr (inl failed)) =
-    let is = turns.count in
-    let counted = count-more (trait.failure_count old) (trait.failure_count done) (trait.failure_count new) (omega (arith, is)) failed.0 in
+    let counted = count-more (trait.failure_count old) (trait.failure_count done) (trait.failure_count new) (omega (arith, turns.count)) failed.0 in
     inr (inl (counted, (same-trans (trait.file old) (trait.file done) (trait.file new) failed.1.0 turns.same, failed.1.1)))
 keeps-left trait due old done new left turns (inr (inr spent)) = inr (inr (same-trans (trait.file old) (trait.file done) (trait.file new) spent.0 turns.same, spent.1))
 
@@ -105,9 +104,7 @@ module _ {F O : Type 0} (trait : Ghosts F) (outcomes : Faults O) (line : Option 
   pub finishes-lasts : (trait.is_honest mid → trait.is_honest new) × (trait.failure_count mid ≤ trait.failure_count new)
   finishes-lasts =
       let first = settles-lasts effect f.settles in
-      let le = first.1 in
-      let is = f.released.count in
-      (λ h. f.released.honest (first.0 h), omega (arith, le, is))
+      (λ h. f.released.honest (first.0 h), omega (arith, first.1, f.released.count))
 
 -- a command was made, and then finished
 module _ {F R W E : Type 0} (trait : Ghosts F) (plan : Option ℕ → CommandPlan) (Fairly : List Answer → Type 0) (old new : World F R W E) (made : F) (effect : Effect) (end : RunEnd)

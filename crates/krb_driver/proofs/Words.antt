@@ -69,21 +69,18 @@ module _ (word : List ℕ) (i : ℕ) (can_begin : Bool) (before : key_start word
       let bs = drop (i + 1) word in
       let b = get_or word i 0 in
       let cons : drop i word ≡ b ∷ bs = drop_more word i 0 at in
-      let len = length-drop i word in
-      let all : part ≡ drop i word = take_all (length word - i) (drop i word) (omega (arith, len)) in
+      let all : part ≡ drop i word = take_all (length word - i) (drop i word) (omega (arith, length-drop i word)) in
       ap (key_from can_begin) cons ∙ key_from-cons can_begin b bs is (ap (λ (w : List ℕ). can_begin && may_be_key w) (sym cons) ∙ ap (λ (w : List ℕ). can_begin && may_be_key w) (sym all) ∙ e)
 
   -- it begins here
   pub key-here : i < length word → (can_begin && may_be_key part) ≡ true → i ≡ key_start word
   key-here at is =
-      let here = key_from-part at true is in
-      omega (arith, before, here)
+      omega (arith, before, key_from-part at true is)
 
   -- it begins later, if at all
   pub key-later : i < length word → (can_begin && may_be_key part) ≡ false → key_start word ≡ (i + 1) + key_from (get_or word i 0 == 61) (drop (i + 1) word)
   key-later at is =
-      let later = key_from-part at false is in
-      omega (arith, before, later)
+      omega (arith, before, key_from-part at false is)
 
   -- it begins nowhere
   pub key-nowhere : length word ≤ i → i ≤ length word → length word ≡ key_start word

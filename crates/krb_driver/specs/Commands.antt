@@ -22,7 +22,7 @@ use Rattle.krb_driver.specs.declared.command.Ready.{Ready}
 use Rattle.krb_driver.specs.declared.command.Ready.TheVariants as ready
 use Rattle.krb_driver.specs.declared.reporting.details.Details.{Details}
 use Rattle.krb_driver.specs.declared.command.World.{World}
-use Rattle.krb_driver.specs.Runs.{ErrorWatch, Run, Shows, BreaksOff, Reports, ends_by}
+use Rattle.krb_driver.specs.Runs.{ErrorWatch, Run, EndsRun, Shows, BreaksOff, Reports, ends_by}
 
 -- what is printed, how the run then ends, and whether printing it takes memory
 pub record Page : Type 0 where
@@ -66,7 +66,7 @@ goes_on file (Err why) then_ = Ends (Fails file.name.now (error_of_name file.sou
 -- a file is loaded and opened, and the command goes on with what it gave; if its name is of another type, there is none
 abbrev pub opens : {X : Type 0} → FileName → (Answer → Result X RunError) → (X → CommandPlan) → CommandPlan
 opens file gives then_ =
-    if file.is_other_type then Ends (Fails file.name.now (error.OtherType file.source))
+    if file.is_other_type then Ends (Fails file.name.now (error.OtherType file.kind file.source))
     else Loads file.name.now (λ answer. goes_on file (gives answer) then_)
 
 -- whether a file is held that is to be held: not if its name is of another type
@@ -139,7 +139,7 @@ module _ {F : Type 0} (trait : Ghosts F) (old : F) where
   abbrev pub GivesOf : {X : Type 0} → FileName → (Answer → Result X RunError) → Result X (List ℕ × RunError) → F → Type 0
   GivesOf file gives given new =
       GivesLoaded file gives given new
-      ⊎ ((file.is_other_type ≡ true) × (new ≡ old) × (given ≡ Err (file.name.now, error.OtherType file.source)))
+      ⊎ ((file.is_other_type ≡ true) × (new ≡ old) × (given ≡ Err (file.name.now, error.OtherType file.kind file.source)))
 
   -- the files of a plan were loaded, and this is its effect by the results of the loads; or memory ran out
   pub record Makes (plan : CommandPlan) (effect : Effect) (new : F) : Type 0 where
@@ -194,9 +194,9 @@ abbrev pub Takes : Effect → Type 0
 Takes (Displays file page) = IsTrue page.takes
 Takes effect = ⊥
 
--- what is told of a save: what the last one left behind; of a line of ktutil, which others come before, only if it was its own, and memory did not run out
+-- what is told of a save: what it left behind, if it is the run's own; and of a line of ktutil only if memory did not run out
 abbrev pub told_of : Option ℕ → Effect → Ending → Option Aftermath → Option Aftermath
-told_of None effect ending left = left
+told_of None effect ending left = if is_save effect then left else None
 told_of (Some number) effect ending left = if is_save effect && not (is_spent ending) then left else None
 
 -- an effect was done, at the end of a run or of that line of ktutil: what was to be saved was saved or its save failed, what was held was released, what was left to show was shown, and the end was reported
@@ -232,6 +232,10 @@ module _ {F R W E : Type 0} (trait : Ghosts F) (old new : World F R W E) (status
   -- an error ends a run before it does anything; there is no save that left something behind
   abbrev pub EndsBefore : RunError → Type 0
   EndsBefore why = (new ≡ record old { err = new.err }) × ((details : Details) × ((details.aftermath ≡ None) × Reports [] None details (Err why) old.err new.err status))
+
+  -- a run that uses no file prints and reports what is due
+  abbrev pub Prints : Run → Type 0
+  Prints due = (new ≡ record old { out = new.out; err = new.err }) × EndsRun [] None due old.out new.out old.err new.err status
 
   -- a command is run with what it needs first, or the error that there is none ends the run
   abbrev pub RunsWith : {X : Type 0} → (X → CommandPlan) → (X → List Answer → Type 0) → Result X RunError → Type 0

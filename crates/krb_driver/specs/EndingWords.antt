@@ -1,8 +1,8 @@
 -- The words that explain how a run ended: what follows its message where words are shown.
-use Rattle.std.specs.Prelude.{ℕ, List, [], ◌∷◌, ◌++◌, zip, Bool, true, if◌then◌else◌, Option, None, Some, is_some, option_map, unwrap_or, Ok, Err, codes, decimal, unsigned_abs}
+use Rattle.std.specs.Prelude.{ℕ, List, [], ◌∷◌, ◌++◌, zip, Bool, true, false, nat_eq, if◌then◌else◌, Option, None, Some, is_some, option_map, unwrap_or, Ok, Err, codes, decimal, unsigned_abs}
 use Rattle.krb_walk.specs.declared.refusal.Code.{Code}
 use Rattle.krb_walk.specs.declared.refusal.Code.TheVariants.{Damaged, Full, NotAPlace, NotLive}
-use Rattle.std.specs.List.{flat_map}
+use Rattle.std.specs.List.{flat_map, starts_with}
 use Rattle.krb_walk.specs.declared.fault.Fault.{Fault}
 use Rattle.krb_walk.specs.Phrases.{code_number, fault_number, code_phrase, fault_phrase}
 use Rattle.krb_keytab.specs.declared.open.KtOpenFault.{KtOpenFault}
@@ -118,6 +118,15 @@ type_in name = unwrap_or (type_of name) []
 abbrev pub type_words : Option ℕ → List ℕ → List ℕ
 type_words line name = words_line line (codes "only files are read, and this is " ++ (shown_name (type_in name) ++ codes "\n"))
 
+-- a name is that of a collection of caches
+abbrev pub is_collection : FileKind → List ℕ → Bool
+is_collection Keytab name = false
+is_collection Cache name = starts_with nat_eq name (codes "DIR:")
+
+-- the words for a name of a type that is not read, of a file that is to be of that kind
+abbrev pub other_type_words : Option ℕ → FileKind → List ℕ → List ℕ
+other_type_words line kind name = if is_collection kind name then phrase_line line (codes "a collection; give one of its caches, DIR::FILE") else type_words line name
+
 -- the words for a name that begins with a type where a file is to be written
 abbrev pub typed_words : Option ℕ → List ℕ → List ℕ
 typed_words line name =
@@ -195,7 +204,7 @@ error_words file line details (error.FromPassword number) = phrase_line line (co
 error_words file line details (error.AsksForHelp number) = phrase_line line (codes "see krbfile ktutil --help")
 error_words file line details (error.LineRefused number code) = phrase_line line (keytab_phrase code)
 error_words file line details (error.NoSuchFile source) = missing_words line source
-error_words file line details (error.OtherType source) = type_words line file ++ source_words source
+error_words file line details (error.OtherType kind source) = other_type_words line kind file ++ source_words source
 error_words file line details error.TypedName = typed_words line file
 error_words file line details error.FileTooLarge = phrase_line line too_large
 error_words file line details error.FileNotRead = cause_words file line details
@@ -206,6 +215,7 @@ error_words file line details (error.NotACache why) = phrase_line line (no_cache
 error_words file line details (error.NotACacheToHold why) = phrase_line line (hold_phrase why.fault why.is_keytab)
 error_words file line details (error.Refused kind code) = phrase_line line (refusal_phrase kind code)
 error_words file line details error.NothingToCopy = phrase_line line (nothing_phrase Keytab)
+error_words file line details (error.NothingSelected kind) = phrase_line line (nothing_phrase kind)
 error_words file line details error.OutputNotWritten = cause_words file line details
 error_words file line details error.OutputIsTerminal = phrase_line line (codes "the image is for a program; give it a pipe")
 error_words file line details error.ClockNotRead = phrase_line line (codes "the clock is before 1970 or after 2106, or failed")

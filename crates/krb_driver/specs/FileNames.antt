@@ -35,10 +35,10 @@ stripped [] word = Some word
 stripped (p ∷ ps) [] = None
 stripped (p ∷ ps) (b ∷ bs) = if b == p then stripped ps bs else None
 
--- a word without the type of files that are read, if it begins with that
+-- a word without the type of files that are read, if it begins with that: one cache of a collection is such a file too
 abbrev pub untyped : FileKind → List ℕ → Option (List ℕ)
 untyped Keytab word = option_or (stripped (codes "FILE:") word) (stripped (codes "WRFILE:") word)
-untyped Cache word = stripped (codes "FILE:") word
+untyped Cache word = option_or (stripped (codes "FILE:") word) (stripped (codes "DIR::") word)
 
 -- the name of the file that a word names; or, of a type that is not read, the word
 abbrev pub bare_name : FileKind → List ℕ → List ℕ
@@ -50,6 +50,7 @@ is_other_type kind word = is_none (untyped kind word) && has_type word
 
 -- a file name is the one that a word of a command line gives
 pub record IsNamed (kind : FileKind) (word : List ℕ) (source : NameSource) (file : FileName) : Type 0 where
+  pub kind_is : file.kind ≡ kind
   pub name : file.name.now ≡ bare_name kind word
   pub other : file.is_other_type ≡ is_other_type kind word
   pub from : file.source ≡ source

@@ -10,3 +10,4 @@ pub mod Runs
 pub mod Mistakes
 pub mod Loading
 pub mod Commands
+pub mod Several

@@ -36,6 +36,7 @@ pub data MistakeParts : Type 0 where
   LeftOver : List ℕ → MistakeParts
   NeedsValue : List ℕ → MistakeParts
   Twice : List ℕ → MistakeParts
+  TakesOneFile : List ℕ → MistakeParts
   DoNotGoTogether : List ℕ → List ℕ → MistakeParts
   ForKeytabs : List ℕ → MistakeParts
   OnlyWith : List ℕ → List ℕ → MistakeParts
@@ -58,6 +59,7 @@ mistake_parts (mistake.Missing operand) = Missing operand.now
 mistake_parts (mistake.LeftOver word) = LeftOver word.now
 mistake_parts (mistake.NeedsValue option) = NeedsValue option.now
 mistake_parts (mistake.Twice option) = Twice option.now
+mistake_parts (mistake.TakesOneFile option) = TakesOneFile option.now
 mistake_parts (mistake.DoNotGoTogether option other) = DoNotGoTogether option.now other.now
 mistake_parts (mistake.ForKeytabs option) = ForKeytabs option.now
 mistake_parts (mistake.OnlyWith option other) = OnlyWith option.now other.now
@@ -81,6 +83,7 @@ mistake_line (Missing operand) rest = codes "no " ++ (shown_word operand ++ rest
 mistake_line (LeftOver word) rest = codes "left over: " ++ (shown_word word ++ rest)
 mistake_line (NeedsValue option) rest = shown_word option ++ (codes " needs a value" ++ rest)
 mistake_line (Twice option) rest = shown_word option ++ (codes " is given twice" ++ rest)
+mistake_line (TakesOneFile option) rest = shown_word option ++ (codes " takes one FILE" ++ rest)
 mistake_line (DoNotGoTogether option other) rest = shown_word option ++ (codes " does not go with " ++ (shown_word other ++ rest))
 mistake_line (ForKeytabs option) rest = shown_word option ++ (codes " is for keytabs; give -k" ++ rest)
 mistake_line (OnlyWith option other) rest = shown_word option ++ (codes " goes with " ++ (shown_word other ++ (codes " alone" ++ rest)))

@@ -4,7 +4,7 @@ use Rattle.krb_walk.specs.declared.fault.Fault.{Fault}
 use Rattle.krb_walk.specs.declared.refusal.Code.TheVariants.{NotFound, Damaged}
 use Rattle.krb_walk.specs.Phrases.{code_number}
 use Rattle.krb_driver.specs.declared.verdict.Verdict.{Verdict}
-use Rattle.krb_driver.specs.declared.verdict.Verdict.TheVariants.{Well, HiddenFrom, NoEntry, Listed, Replied, Found, NothingToRemove}
+use Rattle.krb_driver.specs.declared.verdict.Verdict.TheVariants.{Well, HiddenFrom, NoEntry, Without, Listed, Replied, Found, NothingToRemove}
 use Rattle.krb_driver.specs.Messages.{file_number_message, message, file_message, line_message}
 use Rattle.krb_keytab.specs.Open.{open_fault_number}
 use Rattle.krb_ccache.specs.Open.{open_fault_number as cache_fault_number}
@@ -51,6 +51,7 @@ abbrev pub verdict_status : Verdict → ℕ
 verdict_status Well = 0
 verdict_status (HiddenFrom place) = 0
 verdict_status NoEntry = 0
+verdict_status Without = 0
 verdict_status (Found findings) = if findings.is_wrong then 1 else 0
 verdict_status verdict = 1
 
@@ -123,7 +124,7 @@ error_message file (error.FromPassword line) = line_message line (codes "fault "
 error_message file (error.AsksForHelp line) = line_message line (codes "fault ") (line_fault_number UnknownWord)
 error_message file (error.LineRefused line code) = line_message line (codes "refused ") (code_number code)
 error_message file (error.NoSuchFile source) = file_message file (codes "no such file")
-error_message file (error.OtherType source) = file_message file (codes "no such file")
+error_message file (error.OtherType kind source) = file_message file (codes "no such file")
 error_message file error.TypedName = file_message file (codes "cannot write")
 error_message file error.FileTooLarge = file_message file (codes "file too large")
 error_message file error.FileNotRead = file_message file (codes "cannot read")
@@ -134,6 +135,7 @@ error_message file (error.NotACache why) = file_number_message file (codes "not 
 error_message file (error.NotACacheToHold why) = file_number_message file (codes "not a cache (") (cache_fault_number why.fault) (codes ")")
 error_message file (error.Refused kind code) = file_number_message file (codes "refused ") (code_number code) []
 error_message file error.NothingToCopy = file_number_message file (codes "refused ") (code_number NotFound) []
+error_message file (error.NothingSelected kind) = message (codes "refused 9")
 error_message file error.OutputNotWritten = message (codes "cannot write output")
 error_message file error.OutputIsTerminal = message (codes "cannot write output")
 error_message file error.ClockNotRead = message (codes "cannot read the clock")

@@ -1,7 +1,7 @@
 //! What a command is, the world that it runs in, and the driver that runs one.
 
 ghost use Rattle.std.specs.Prelude.{◌≡◌, ℕ, List};
-ghost use Rattle.krb_driver.specs.Commands.{EndsBefore, EndsCommand, Finishes, Runs, Settles, ShowsEnd, made_effect, ready_end, told_of, Effect, Page, about, is_save};
+ghost use Rattle.krb_driver.specs.Commands.{EndsBefore, EndsCommand, Finishes, Prints, Runs, Settles, ShowsEnd, made_effect, ready_end, told_of, Effect, Page, about, is_save};
 
 use crate::error::{RunError, is_spent};
 use crate::file_name::FileName;
@@ -184,7 +184,7 @@ fn is_save<A: Allocator, S: Drop>(made: &Result<Made<A, S>, FileError<'_>>) -> b
     matches!(made, Ok(Made::Saves(_, _)))
 }
 
-// Returns what to tell of a run, or of that line of ktutil, which tells only what its own save left behind.
+// Returns what to tell of a run, or of that line of ktutil, which tell only what their own save left behind.
 fn details_to_tell<'a>(
     line: Option<u64>,
     saves: bool,
@@ -193,7 +193,7 @@ fn details_to_tell<'a>(
 ) -> Details<'a>
     ensures { (effect : Effect) → saves ≡ is_save effect → result.aftermath ≡ told_of line effect ending.now details.entry.aftermath }
 {
-    if line.is_none() || saves && !is_spent(ending) {
+    if saves && (line.is_none() || !is_spent(ending)) {
         return details;
     }
     Details {
@@ -259,8 +259,8 @@ pub fn finish<A: Allocator + Copy, S: Show<A>, F: Files, R: Read, W: Write, E: W
     RunEnd { ending, status }
 }
 
-/// Runs a command, and returns how it ended and its exit status.
-pub fn run_to_end<A: Allocator + Copy, C: Command<A>, F: Files, R: Read, W: Write, E: Write>(
+// Runs a command, and returns how it ended and its exit status.
+fn run_to_end<A: Allocator + Copy, C: Command<A>, F: Files, R: Read, W: Write, E: Write>(
     alloc: A,
     command: &C,
     world: &mut World<F, R, W, E>,
@@ -271,7 +271,7 @@ pub fn run_to_end<A: Allocator + Copy, C: Command<A>, F: Files, R: Read, W: Writ
     finish(alloc, command.file(), None, made, world)
 }
 
-/// Runs a command like `run_to_end`, and returns its exit status.
+/// Runs a command, and returns its exit status.
 pub fn run<A: Allocator + Copy, C: Command<A>, F: Files, R: Read, W: Write, E: Write>(
     alloc: A,
     command: &C,
@@ -280,6 +280,19 @@ pub fn run<A: Allocator + Copy, C: Command<A>, F: Files, R: Read, W: Write, E: W
     ensures { Runs F.Files (C.plan command.now) (C.fairly command.now) world.old world.new result }
 {
     run_to_end(alloc, command, world).status
+}
+
+/// Prints a text, without a file, and reports how that ended. Returns the exit status.
+pub fn print<F: Files, R: Read, W: Write, E: Write>(
+    text: &[u8],
+    ending: Result<Verdict, RunError>,
+    world: &mut World<F, R, W, E>,
+) -> u8
+    ensures { Prints F.Files world.old world.new result (record { out = text.now; ending = ending }) }
+{
+    let ending = show(text, ending, &mut world.out);
+    let details = Details::unsaved(world.out.cause());
+    report(ending, b"", None, details, &mut world.err)
 }
 
 /// Ends a run, before it does anything, with an error that has that cause. Returns the exit status.

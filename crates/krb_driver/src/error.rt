@@ -34,8 +34,8 @@ pub enum RunError {
     /// A keytab refused what a line read from it or added to it.
     LineRefused { line: u64, code: Code },
     NoSuchFile(NameSource),
-    /// There is no such file, as its name is of a type that is not read.
-    OtherType(NameSource),
+    /// There is no such file of that kind, as its name is of a type that is not read.
+    OtherType(FileKind, NameSource),
     /// Nothing is written under a name that begins with a type.
     TypedName,
     FileTooLarge,
@@ -51,6 +51,8 @@ pub enum RunError {
     Refused(FileKind, Code),
     /// No entry of the file is selected, so there is nothing to copy.
     NothingToCopy,
+    /// Nothing is selected in any of several files of that kind.
+    NothingSelected(FileKind),
     OutputNotWritten,
     /// The output is a terminal, and an image is not for people.
     OutputIsTerminal,

@@ -24,6 +24,8 @@ pub enum NameSource {
 /// The name of a file without its type; or, of a type that is not read, the whole word, such as `KCM:0`.
 #[derive(Clone, Copy)]
 pub struct FileName<'a> {
+    /// What the file is to be.
+    pub kind: FileKind,
     pub name: &'a str,
     pub is_other_type: bool,
     pub source: NameSource,
@@ -90,24 +92,27 @@ fn untyped(kind: FileKind, word: &str) -> Option<&str>
 {
     match (stripped(word, "FILE:"), kind) {
         (None, FileKind::Keytab) => stripped(word, "WRFILE:"),
+        (None, FileKind::Cache) => stripped(word, "DIR::"),
         (name, _) => name,
     }
 }
 
 impl<'a> FileName<'a> {
-    /// Returns the name that a word gives: without `FILE:`, of a keytab also without `WRFILE:`.
+    /// Returns the name that a word gives: without `FILE:`, of a keytab also without `WRFILE:`, of a cache without `DIR::`.
     pub fn of(kind: FileKind, word: &'a str, source: NameSource) -> FileName<'a>
         ensures named { IsNamed kind word.now source result }
         ensures in_place { result.in_place ≡ false }
     {
         match untyped(kind, word) {
             Some(name) => FileName {
+                kind,
                 name,
                 is_other_type: false,
                 source,
                 in_place: false,
             },
             None => FileName {
+                kind,
                 name: word,
                 is_other_type: has_type(word.as_bytes()),
                 source,
@@ -118,6 +123,7 @@ impl<'a> FileName<'a> {
 
     /// Returns the same name of a file that is to be saved in place if `in_place`.
     pub fn saved(self, in_place: bool) -> FileName<'a>
+        ensures kind { result.kind ≡ self.entry.kind }
         ensures name { result.name.now ≡ self.entry.name.now }
         ensures other { result.is_other_type ≡ self.entry.is_other_type }
         ensures source { result.source ≡ self.entry.source }

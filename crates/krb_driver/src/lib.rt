@@ -9,11 +9,12 @@ mod first_word;
 mod loading;
 mod opening;
 mod reporting;
+mod several;
 mod verdict;
 
 pub use command::{
-    Command, FileError, Made, MakeResult, Output, RunEnd, Show, World, end_before, finish, run,
-    run_to_end,
+    Command, FileError, Made, MakeResult, Output, RunEnd, Show, World, end_before, finish, print,
+    run,
 };
 pub use command_line::matches::{Matches, first_value, refuse_twice, times_given, typed, v1_order};
 pub use command_line::mistake::{BadLine, Mistake, More, WordFault};
@@ -34,4 +35,5 @@ pub use opening::{
 pub use reporting::details::{Details, details_of};
 pub use reporting::reported::replied_verdict;
 pub use reporting::{ErrorOutput, report, report_word_fault, show};
+pub use several::{OverFiles, Ran, label_of, run_over};
 pub use verdict::{FileKind, Findings, Verdict};

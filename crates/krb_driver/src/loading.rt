@@ -179,7 +179,10 @@ pub fn load_cache<A: Allocator, F: Files>(
         cache_of (result_map (λ k. k.state) result) files.new }
 {
     let image = files.load(alloc, name, USUAL_LIMIT)?;
-    cache_of(image).map_err(RunError::NotACache)
+    match cache_of(image) {
+        Ok(cache) => Ok(cache),
+        Err(why) => Err(RunError::NotACache(why)),
+    }
 }
 
 /// Reads the input to its end, if it has at most `most` bytes.

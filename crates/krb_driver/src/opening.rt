@@ -22,11 +22,11 @@ use std::alloc::Allocator;
 /// Returns the error for a name of another type.
 pub fn other_type(file: FileName<'_>) -> FileError<'_>
     ensures file { result.file.now ≡ file.entry.name.now }
-    ensures error { result.error ≡ OtherType file.entry.source }
+    ensures error { result.error ≡ OtherType file.entry.kind file.entry.source }
 {
     FileError {
         file: file.name,
-        error: RunError::OtherType(file.source),
+        error: RunError::OtherType(file.kind, file.source),
     }
 }
 

@@ -101,7 +101,7 @@ fn error_message(error: RunError, file: &[u8]) -> Line<'_>
             line_message(line, "fault ", LineFault::UnknownWord.number())
         }
         RunError::LineRefused { line, code } => line_message(line, "refused ", code.number()),
-        RunError::NoSuchFile(_) | RunError::OtherType(_) => file_message(file, "no such file"),
+        RunError::NoSuchFile(_) | RunError::OtherType(..) => file_message(file, "no such file"),
         RunError::FileTooLarge => file_message(file, "file too large"),
         RunError::FileNotRead => file_message(file, "cannot read"),
         RunError::FileNotWritten | RunError::TypedName => file_message(file, "cannot write"),
@@ -113,6 +113,7 @@ fn error_message(error: RunError, file: &[u8]) -> Line<'_>
         RunError::NothingToCopy => {
             file_number_message(file, "refused ", Code::NotFound.number(), "")
         }
+        RunError::NothingSelected(_) => message("refused 9"),
         RunError::OutputNotWritten | RunError::OutputIsTerminal => message("cannot write output"),
         RunError::ClockNotRead => message("cannot read the clock"),
         RunError::NoMemory => message("out of memory"),

@@ -41,6 +41,8 @@ pub enum Verdict {
     Found(Findings),
     /// No entry, or no ticket, is selected.
     NothingToRemove(FileKind),
+    /// The same, of one of several files, which is told at their end.
+    Without,
     /// An entry to copy has the name, kvno and enctype of one that is there, with another key.
     Clashed,
 }
@@ -66,7 +68,7 @@ impl Verdict {
         ensures { result ≡ verdict_status self }
     {
         match self {
-            Verdict::Well | Verdict::HiddenFrom(_) | Verdict::NoEntry => 0,
+            Verdict::Well | Verdict::HiddenFrom(_) | Verdict::NoEntry | Verdict::Without => 0,
             Verdict::Found(findings) => u8::from(findings.is_wrong),
             _ => 1,
         }

@@ -172,13 +172,11 @@ take_more xs ys b n is =
 up_to_newline : (xs : List ℕ) (a end : ℕ) → IsFirst xs a end → take (end + 1) xs ≡ take a xs ++ (slice_range xs a end ++ 10 ∷ [])
 up_to_newline xs a end first =
     let ahead = first.ahead in
-    let within = first-within xs a end first in
     let sum : end + 1 ≡ a + (end + 1 - a) = omega (arith, ahead) in
-    let long : end - a ≤ length (drop a xs) = omega (arith, ahead, within, length-drop a xs) in
-    let len = length-take-le (end - a) (drop a xs) long in
+    let long : end - a ≤ length (drop a xs) = omega (arith, ahead, first-within xs a end first, length-drop a xs) in
     ap (λ (n : ℕ). take n xs) sum ∙ take-add a (end + 1 - a) xs
     ∙ ap (λ (bs : List ℕ). take a xs ++ take (end + 1 - a) bs) (first_parts xs a end first)
-    ∙ ap (λ (bs : List ℕ). take a xs ++ bs) (take_more (slice_range xs a end) (drop (end + 1) xs) 10 (end + 1 - a) (omega (arith, ahead, len)))
+    ∙ ap (λ (bs : List ℕ). take a xs ++ bs) (take_more (slice_range xs a end) (drop (end + 1) xs) 10 (end + 1 - a) (omega (arith, ahead, length-take-le (end - a) (drop a xs) long)))
 
 -- the line that was read ended at the newline
 pub EndsInNewline-first : (old new : InputParts) (left left' : Option (List ℕ)) (end : ℕ) → old.next ≤ length old.read → IsFirst new.read old.next end → Grows old.read new.read left left'

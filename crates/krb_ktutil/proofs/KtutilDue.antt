@@ -145,6 +145,4 @@ module _ {F : Type 0} (trait : Ghosts F) (old new : KtutilState) (files made : F
       line_lasts =
           let first = makes_lasts in
           let rest = finishes-lasts trait (line_faults old) number effect effect files made after out out' err err' end f in
-          let le = first.count in
-          let le' = rest.1 in
-          (λ h. rest.0 (first.honest h), omega (arith, le, le'))
+          (λ h. rest.0 (first.honest h), omega (arith, first.count, rest.1))

@@ -32,26 +32,23 @@ module _ {F : Type 0} (trait : Ghosts F) (prompts : Bool) where
     -- what is due after the following lines was left
     leaves_first : (due : TalkDue) (new : Talk F) → LeavesDue trait prompts due mid new → LeavesDue trait prompts (due_after out report due) old new
     leaves_first due new leaves =
-        let worst = told.worst in
-        let after = leaves.status in
         record {
           files = leaves.files;
           out = Appends-trans old.out.contents mid.out.contents new.out.contents out due.out told.printed leaves.out;
           worst = max told.status leaves.worst;
           err = (told.asked, mid.err, told.status, leaves.worst, (told.prompted, (told.reported, (leaves.err, refl))));
-          status = omega (arith, worst, after);
+          status = omega (arith, told.worst, leaves.status);
         }
 
     -- no line follows
     leaves_last : (files : FileMap) → SameFiles files (trait.file mid.files) → LeavesDue trait prompts (last_due out report files) old mid
     leaves_last files same =
-        let worst = told.worst in
         record {
           files = same;
           out = told.printed;
           worst = max told.status 0;
           err = (told.asked, mid.err, told.status, 0, (told.prompted, (told.reported, ((refl, refl), refl))));
-          status = omega (arith, worst);
+          status = omega (arith, told.worst);
         }
 
   -- the output may have failed
@@ -171,9 +168,7 @@ talk_lasts {F = F} trait prompts now number [] old new talked = subst (λ (t : T
 talk_lasts trait prompts now number (line ∷ lines) old new talked =
     let first = handles_lasts trait prompts now number line old talked.1 talked.0 talked.2 talked.3.handles in
     let others = talk_lasts trait prompts now (number + 1) lines talked.1 new talked.4 in
-    let le = first.1 in
-    let le' = others.1 in
-    (λ h. others.0 (first.0 h), omega (arith, le, le'))
+    (λ h. others.0 (first.0 h), omega (arith, first.1, others.1))
 
 module _ {F : Type 0} (trait : Ghosts F) (prompts : Bool) (now : ℕ) (final : Run) where
   -- a line was run and goes on
@@ -206,8 +201,7 @@ module _ {F : Type 0} (trait : Ghosts F) (prompts : Bool) (now : ℕ) (final : R
   talk_honestly (line ∷ lines) number more old last new talked honest le rest =
       let mid = talked.1 in
       let handles = talked.3.handles in
-      let others = (talk_lasts trait prompts now (number + 1) lines mid last talked.4).1 in
-      line_honestly number line (lines ++ more) old mid new talked.0 talked.2 talked.3 (omega (arith, others, le)) (line_comes trait prompts now number line old mid talked.0 talked.2 handles honest)
+      line_honestly number line (lines ++ more) old mid new talked.0 talked.2 talked.3 (omega (arith, (talk_lasts trait prompts now (number + 1) lines mid last talked.4).1, le)) (line_comes trait prompts now number line old mid talked.0 talked.2 handles honest)
       (talk_honestly lines (number + 1) more mid last new talked.4 ((handles_lasts trait prompts now number line old mid talked.0 talked.2 handles).0 honest) le (λ next is. rest next (omega (arith, is))))
 
   -- a line was the last

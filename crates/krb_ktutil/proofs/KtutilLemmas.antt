@@ -149,8 +149,6 @@ module _ {F : Type 0} (trait : Ghosts F) (prompts : Bool) (now : ℕ) (given : O
       → Underway trait prompts now given first new left' (number + 1) talk'
   Underway-line first old new left left' number talk talk' asked u takes ends grows within prompted continues =
       let counted = u.counted in
-      let below = u.below in
-      let further = takes.further in
       record {
         lines = u.lines ++ new.line ∷ [];
         talked = TalksOver-line trait prompts now 1 u.lines (number + 1) new.line first talk talk' asked u.talked (omega (arith, counted)) prompted continues;
@@ -158,7 +156,7 @@ module _ {F : Type 0} (trait : Ghosts F) (prompts : Bool) (now : ℕ) (given : O
         to_come = ToCome-line given u.lines old new left left' u.to_come takes;
         consumes = grown given left left' old.read new.read u.consumes grows;
         within = within;
-        below = omega (arith, below, further);
+        below = omega (arith, u.below, takes.further);
         ended = elim ends [
           | inl newline ↦ elim u.ended [
             | inl before ↦ inl (record {
@@ -174,8 +172,7 @@ module _ {F : Type 0} (trait : Ghosts F) (prompts : Bool) (now : ℕ) (given : O
 -- of what was read each line that has its newline was run
 due_of : (lines : List (List ℕ)) (old new : InputParts) (left left' : Option (List ℕ)) → IsWithin old → Grows old.read new.read left left' → HasNoMore old new → AreEnded lines old → CutsOff lines (take most_bytes new.read)
 due_of lines old new left left' within grows no_more ended =
-    let most = ended.within in
-    let sum : most_bytes ≡ old.next + (most_bytes - old.next) = omega (arith, most) in
+    let sum : most_bytes ≡ old.next + (most_bytes - old.next) = omega (arith, ended.within) in
     let front : take old.next new.read ≡ take old.next old.read = ap (take old.next) grows.read ∙ take-append-le old.next old.read grows.given within.next in
     record {
       rest = slice_range new.read old.next most_bytes;

@@ -166,7 +166,7 @@ abbrev pub command_plan : KtutilState → ℕ → Command → LinePlan
 command_plan s number Skip = Ends (becomes s)
 command_plan s number (ListSlots columns) = Ends (record (prints s (slot_text columns s.entries)) { takes = true })
 command_plan s number (ReadFile word) =
-    if is_other_type Keytab word then Ends (fails s (bare_name Keytab word) (error.OtherType Word)) else reading_plan s number (bare_name Keytab word)
+    if is_other_type Keytab word then Ends (fails s (bare_name Keytab word) (error.OtherType Keytab Word)) else reading_plan s number (bare_name Keytab word)
 command_plan s number (WriteFile word) =
     if has_type word then Ends (fails s word error.TypedName) else Holds true word (writing_plan s number word)
 command_plan s number (AwaitKey awaited) = Ends (grows_to (record s { awaiting = Key awaited }))

@@ -20,6 +20,8 @@ pub enum Mistake<'a> {
     LeftOver(&'a str),
     NeedsValue(&'a str),
     Twice(&'a str),
+    /// An option of a run over one file, with several.
+    TakesOneFile(&'a str),
     DoNotGoTogether(&'a str, &'a str),
     ForKeytabs(&'a str),
     /// An option that goes with another one only.

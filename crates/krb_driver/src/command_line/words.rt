@@ -13,6 +13,8 @@ pub enum Word {
     OptionalOperand(&'static str, &'static str),
     /// It may be left out, and given as often as wanted.
     Operands(&'static str, &'static str),
+    /// It is given at least once.
+    RequiredOperands(&'static str, &'static str),
 }
 
 /// The commands.

@@ -92,6 +92,7 @@ fn mistake_pieces(mistake: Mistake<'_>) -> Line<'_>
         Mistake::LeftOver(word) => before("left over: ", word),
         Mistake::NeedsValue(option) => after(option, " needs a value"),
         Mistake::Twice(option) => after(option, " is given twice"),
+        Mistake::TakesOneFile(option) => after(option, " takes one FILE"),
         Mistake::DoNotGoTogether(option, other) => apart(option, other),
         Mistake::ForKeytabs(option) => after(option, " is for keytabs; give -k"),
         Mistake::OnlyWith(option, other) => only_with(option, other),

@@ -3,13 +3,16 @@
 ghost use Rattle.std.specs.Prelude.{◌≡◌, ◌++◌, codes, decimal, is_some};
 ghost use Rattle.krb_driver.specs.FileNames.{shown_name, untyped};
 ghost use Rattle.krb_driver.specs.Messages.{piece_text, pieces_text};
-ghost use Rattle.krb_driver.specs.EndingWords.{hidden_words, missing_words, source_words, type_in, type_words, typed_words};
+ghost use Rattle.krb_driver.specs.EndingWords.{hidden_words, missing_words, other_type_words, source_words, type_in, type_words, typed_words};
 ghost use Rattle.krb_driver.specs.declared.verdict.FileKind.TheVariants.{Keytab};
 
 use crate::file_name::{NameSource, type_of};
 use crate::reporting::lines::{Line, alone, phrase, words, words_before};
 use crate::reporting::piece::MessagePiece::{self, Name, Number, Text};
 use crate::reporting::piece::{HEAD, LINE, NONE};
+use crate::verdict::FileKind;
+
+const COLLECTION: &str = "a collection; give one of its caches, DIR::FILE";
 
 // Returns the words that tell where a file's name comes from, if no word of a line gave it.
 fn source_line(source: NameSource) -> &'static str
@@ -50,6 +53,23 @@ pub fn type_words(line: Option<u64>, name: &[u8], source: NameSource) -> Line<'_
 {
     let first = Text("only files are read, and this is ");
     words_before(line, first, type_in(name), source_line(source))
+}
+
+/// Returns the words for a name of a type that is not read, of a file that is to be of that kind.
+pub fn other_type_words(
+    line: Option<u64>,
+    kind: FileKind,
+    name: &[u8],
+    source: NameSource,
+) -> Line<'_>
+    ensures { pieces_text result ≡ other_type_words line kind name.now ++ source_words source }
+{
+    match kind {
+        FileKind::Cache if name.starts_with(b"DIR:") => {
+            words_before(line, Text(COLLECTION), NONE, source_line(source))
+        }
+        _ => type_words(line, name, source),
+    }
 }
 
 // Returns whether a name begins with the type of files that are read.

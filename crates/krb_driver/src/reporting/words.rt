@@ -9,7 +9,9 @@ use crate::first_word::FirstWord;
 use crate::loading::{NotCache, NotKeytab};
 use crate::reporting::details::Details;
 use crate::reporting::lines::{Line, nothing, phrase, words, words_before};
-use crate::reporting::name_words::{hidden_words, missing_words, type_words, typed_words};
+use crate::reporting::name_words::{
+    hidden_words, missing_words, other_type_words, type_words, typed_words,
+};
 use crate::reporting::piece::MessagePiece::{Escaped, Name, Number, Text};
 use crate::reporting::piece::{COLON, END, HEAD, NONE};
 use crate::verdict::{FileKind, Verdict};
@@ -195,8 +197,9 @@ pub fn error_words<'a>(
         RunError::LineRefused { code, .. } => phrase(line, keytab_phrase(code)),
         RunError::Refused(kind, code) => phrase(line, refusal_phrase(kind, code)),
         RunError::NothingToCopy => phrase(line, nothing_phrase(FileKind::Keytab)),
+        RunError::NothingSelected(kind) => phrase(line, nothing_phrase(kind)),
         RunError::NoSuchFile(source) => missing_words(line, source),
-        RunError::OtherType(source) => type_words(line, file, source),
+        RunError::OtherType(kind, source) => other_type_words(line, kind, file, source),
         RunError::TypedName => typed_words(line, file),
         RunError::InputNotRead
         | RunError::FileNotRead
@@ -227,6 +230,6 @@ pub fn verdict_words(verdict: Verdict, file: &[u8], line: Option<u64>) -> Line<'
             "krbfile: --replace takes FROM's key\n",
         ),
         Verdict::Listed(fault) => listed_words(file, fault),
-        Verdict::Well | Verdict::Replied(_) | Verdict::Found(_) => nothing(),
+        Verdict::Well | Verdict::Without | Verdict::Replied(_) | Verdict::Found(_) => nothing(),
     }
 }

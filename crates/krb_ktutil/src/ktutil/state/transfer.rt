@@ -131,7 +131,10 @@ impl<A: Allocator + Copy> Ktutil<A> {
     {
         let file = FileName::of(FileKind::Keytab, word, NameSource::Word);
         if file.is_other_type {
-            return Line::fails(file.name, RunError::OtherType(NameSource::Word));
+            return Line::fails(
+                file.name,
+                RunError::OtherType(FileKind::Keytab, NameSource::Word),
+            );
         }
         self.read_file(files, number, file.name)
     }

@@ -18,5 +18,8 @@ returns-in-NeedsValue c = λ rest. rw c.in-NeedsValue.is (c.after.ensures rest)
 pub returns-in-Twice : goal.returns-in-Twice
 returns-in-Twice c = λ rest. rw c.in-Twice.is (c.after-in-Twice.ensures rest)
 
+pub returns-in-TakesOneFile : goal.returns-in-TakesOneFile
+returns-in-TakesOneFile c = λ rest. rw c.in-TakesOneFile.is (c.after-in-TakesOneFile.ensures rest)
+
 pub returns-in-VariableNotText : goal.returns-in-VariableNotText
 returns-in-VariableNotText c = λ rest. rw c.in-VariableNotText.is (c.after-in-VariableNotText.ensures rest)

@@ -8,9 +8,5 @@ returns-in_err-append c =
     let name = c.args.name.now in
     let i = c.bytes.byte-index in
     let below : i < length name = omega arith in
-    let now = ap length c.bytes.invariant in
-    let parts = length-append c.args.operand.now.items (flat_map quoted_byte (take i name)) in
-    let up_to_here = length-flat_map-take quoted_byte name i 0 below in
     let here = ap (λ (bytes : List ℕ). length bytes) c.quoted_byte.ensures in
-    let too_many = c.in_err-append.ensures {u = tt} in
-    rw c.from_residual.ensures (omega (arith, now, parts, up_to_here, here, too_many))
+    rw c.from_residual.ensures (omega (arith, ap length c.bytes.invariant, length-append c.args.operand.now.items (flat_map quoted_byte (take i name)), length-flat_map-take quoted_byte name i 0 below, here, c.in_err-append.ensures {u = tt}))
