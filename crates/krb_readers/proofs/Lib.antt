@@ -1,2 +1,1 @@
 pub mod Listed
-mod Checking

@@ -1,17 +1,16 @@
 -- What klist prints of a file if its output fails.
 use Rattle.std.proofs.Common.{◌≡◌, ℕ, List, [], ◌∷◌, ◌++◌, inl, inr, refl, sym, ap, ◌∙◌}
-use Rattle.std.specs.Prelude.{Bool, true, false, IsFalse, Ok, Err, codes}
+use Rattle.std.specs.Prelude.{Bool, true, false, IsFalse, Result, Ok, Err, codes}
 use Rattle.std.proofs.lemmas.Bool.{false≢true, true≢false}
-use Rattle.krb_keytab.specs.Store.{KeytabState}
-use Rattle.krb_ccache.specs.Store.{CacheState}
 use Rattle.std.specs.Io.KnownBytes.{Appends}
 use Rattle.krb_files.specs.Bytes.{Watch, AppendsPrefix, is_write_fault}
-use Rattle.krb_files.proofs.Prefixes.{AppendsPrefix-all}
+use Rattle.krb_files.proofs.Prefixes.{Appends-nil, Appends-trans, AppendsPrefix-after, AppendsPrefix-all, AppendsPrefix-longer}
 use Rattle.krb_files.specs.declared.output.OutFault.{OutFault}
 use Rattle.krb_files.specs.declared.output.OutFault.TheVariants.{Write, NoMemory}
-use Rattle.krb_text.specs.declared.columns.KtColumns.{KtColumns}
-use Rattle.krb_cache_text.specs.declared.columns.CcColumns.{CcColumns}
-use Rattle.krb_readers.specs.Klist.{cache_shown, keytab_shown}
+use Rattle.krb_text.specs.Gathered.{Prints}
+use Rattle.krb_readers.specs.declared.klist.Listed.{Listed}
+use Rattle.krb_readers.specs.declared.klist.Listed.TheVariants as listed
+use Rattle.krb_readers.specs.Klist.{gap, listed_text}
 use Rattle.krb_driver.specs.Commands.{ShowsPage, Page}
 use Rattle.krb_driver.specs.RunErrors.{Ending, output_error}
 
@@ -29,15 +28,31 @@ line-some : (text : List ℕ) → text ++ codes "\n" ≡ [] → ⊥
 line-some [] is = cons-some 10 [] is
 line-some (x ∷ xs) is = cons-some x (xs ++ codes "\n") is
 
--- what is printed of a keytab is not empty
-pub keytab_shown-some : (json : Bool) (columns : KtColumns) (file : List ℕ) (k : KeytabState) → keytab_shown json columns file k ≡ [] → ⊥
-keytab_shown-some true columns file k is = line-some _ is
-keytab_shown-some false columns file k is = cons-some 75 _ is
+-- what is printed of a file is not empty
+pub listed_text-some : {A : Type 0} (json : Bool) (file : List ℕ) (of : Listed A) → listed_text json file of ≡ [] → ⊥
+listed_text-some true file (listed.Keytab columns keytab) is = line-some _ is
+listed_text-some false file (listed.Keytab columns keytab) is = cons-some 75 _ is
+listed_text-some true file (listed.Cache columns cache) is = line-some _ is
+listed_text-some false file (listed.Cache columns cache) is = cons-some 84 _ is
 
--- nor what is printed of a cache
-pub cache_shown-some : (json : Bool) (columns : CcColumns) (file : List ℕ) (k : CacheState) → cache_shown json columns file k ≡ [] → ⊥
-cache_shown-some true columns file k is = line-some _ is
-cache_shown-some false columns file k is = cons-some 84 _ is
+-- nor is it after a gap
+pub gap-some : (json is_after : Bool) (text : List ℕ) → (text ≡ [] → ⊥) → gap json is_after ++ text ≡ [] → ⊥
+gap-some true is_after text some is = some is
+gap-some false true text some is = cons-some 10 _ is
+gap-some false false text some is = some is
+
+-- nothing was printed
+pub prints_none : (out : Watch) → IsFalse out.failed → Prints {T = Unit {0}} out out (Ok tt) []
+prints_none out well = record { ok = Appends-nil out.contents; prefix = tt; failed = well }
+
+-- one text was printed, and then another
+pub Prints-then : {T U : Type 0} (a b c : Watch) (first second : List ℕ) (x : T) (result : Result U OutFault) → Prints a b (Ok x) first → Prints b c result second → Prints a c result (first ++ second)
+Prints-then a b c first second x (Ok y) p q = record { ok = Appends-trans a.contents b.contents c.contents first second p.ok q.ok; prefix = tt; failed = q.failed }
+Prints-then a b c first second x (Err fault) p q = record { ok = tt; prefix = AppendsPrefix-after a.contents b.contents c.contents first second p.ok q.prefix; failed = q.failed }
+
+-- the first of two texts was not printed as a whole
+pub Prints-longer : {T : Type 0} (a b : Watch) (first second : List ℕ) (fault : OutFault) → Prints {T = T} a b (Err fault) first → Prints {T = T} a b (Err fault) (first ++ second)
+Prints-longer a b first second fault p = record { ok = tt; prefix = AppendsPrefix-longer a.contents b.contents first second p.prefix; failed = p.failed }
 
 -- the whole page was printed
 pub ShowsPage-done : (page : Page) (out out' : Watch) (ending : Ending) → IsFalse out.failed → IsFalse out'.failed → Appends out.contents out'.contents page.out → ending ≡ Ok page.verdict → ShowsPage out out' ending page

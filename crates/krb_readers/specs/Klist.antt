@@ -1,8 +1,10 @@
 -- What klist does, and `klist -s`.
-use Rattle.std.specs.Prelude.{ℕ, List, length, Bool, true, not, ◌&&◌, nat_lt, if◌then◌else◌, codes, Option, None, Some, ◌≡◌, ◌⊎◌, ◌+◌, [], ◌∷◌, false, unwrap_or, option_and_then, Result, Ok, Err, ◌||◌}
-use Rattle.std.specs.Option.{option_or}
+use Rattle.std.specs.Prelude.{ℕ, ◌-◌, ◌^◌, List, length, filter, max, min, Bool, true, not, ◌&&◌, nat_lt, if◌then◌else◌, codes, Option, None, Some, ◌≡◌, ◌⊎◌, ◌+◌, [], ◌∷◌, ◌++◌, false, unwrap_or, option_and_then, Result, Ok, Err, is_ok, ◌||◌}
+use Rattle.std.specs.Option.{option_map_or, option_or}
 use Rattle.krb_wire.specs.declared.format.Order.{Order}
 use Rattle.krb_walk.specs.Store.{fault_of}
+use Rattle.krb_walk.specs.declared.fault.Fault.{Fault}
+use Rattle.krb_driver.specs.declared.verdict.Verdict.{Verdict}
 use Rattle.krb_keytab.specs.Store.{KeytabState, store_of}
 use Rattle.krb_ccache.specs.Store.{CacheState, store_of as cache_store, PlacedCredential, open_result, placed_credentials}
 use Rattle.krb_files.specs.Plan.{Ends}
@@ -16,15 +18,18 @@ use Rattle.krb_readers.specs.declared.klist.words.KlistOptions.{KlistOptions}
 use Rattle.krb_readers.specs.declared.klist.words.ListKind.{ListKind}
 use Rattle.krb_readers.specs.declared.klist.words.ListKind.TheVariants.{Keytab, Cache}
 use Rattle.krb_readers.specs.declared.klist.Listing.{Listing}
-use Rattle.krb_readers.specs.declared.klist.Listing.TheVariants as listing
+use Rattle.krb_readers.specs.declared.klist.Listed.{Listed}
+use Rattle.krb_readers.specs.declared.klist.Listed.TheVariants as listed
 use Rattle.krb_driver.specs.declared.file_name.FileName.{FileName}
 use Rattle.krb_driver.specs.declared.verdict.FileKind.{FileKind}
 use Rattle.krb_driver.specs.declared.verdict.FileKind.TheVariants as file
-use Rattle.krb_driver.specs.Commands.{CommandPlan, Displays, Page, opens}
+use Rattle.krb_driver.specs.Commands.{CommandPlan, Displays, Page, always, opens}
 use Rattle.krb_driver.specs.Loading.{cache_of, listed_in}
-use Rattle.krb_driver.specs.Mistakes.{Matched, twice, typed, v1_order, MistakeParts, DoNotGoTogether, ForKeytabs, OnlyWith, bad_seconds, first_value}
+use Rattle.krb_driver.specs.Mistakes.{Matched, twice, typed, v1_order, MistakeParts, DoNotGoTogether, ForKeytabs, OnlyWith, TakesOneFile, bad_seconds, first_value}
 use Rattle.krb_driver.specs.RunErrors.{listing_verdict}
-use Rattle.std.specs.List.{list_any}
+use Rattle.krb_driver.specs.Several.{RunsOver, first_round}
+use Rattle.krb_driver.specs.declared.command.RunEnd.{RunEnd}
+use Rattle.krb_driver.specs.declared.command.World.{World}
 use Rattle.krb_wire.specs.Names.{have_same_name}
 use Rattle.krb_wire.specs.Spelling.{Parts}
 use Rattle.krb_ccache.specs.declared.open.CcOpenFault.{CcOpenFault}
@@ -36,36 +41,65 @@ use Rattle.krb_text.specs.Numbers.{seconds_in}
 use Rattle.krb_readers.specs.declared.klist.ticket_check.TicketCheck.{TicketCheck}
 use Rattle.krb_readers.specs.declared.klist.ticket_check.SeenTickets.{SeenTickets as Seen}
 
--- what is printed of a keytab: one JSON object, or its listing
+-- what comes before a listing, but not before JSON: an empty line, if it is after another one
+abbrev pub gap : Bool → Bool → List ℕ
+gap json is_after = if json then [] else (if is_after then codes "\n" else [])
+
+-- what is printed of a file: one JSON object, or its listing
 abbrev pub keytab_shown : Bool → KtColumns → List ℕ → KeytabState → List ℕ
 keytab_shown json columns file k = if json then keytab_json_text file columns.keys k else list_text columns file k
 
--- what is printed of a cache: one JSON object, or its listing
 abbrev pub cache_shown : Bool → CcColumns → List ℕ → CacheState → List ℕ
 cache_shown json columns file k = if json then cache_json_text file k else cache_text columns file k
 
--- the page of a keytab; if it is damaged, the listing reports the fault
-abbrev pub keytab_page : Bool → KtColumns → List ℕ → KeytabState → Page
-keytab_page json columns file k = record { out = keytab_shown json columns file k; verdict = listing_verdict (fault_of (store_of k)); takes = true }
-
--- the page of a cache, in the same way
-abbrev pub cache_page : Bool → CcColumns → List ℕ → CacheState → Page
-cache_page json columns file k = record { out = cache_shown json columns file k; verdict = listing_verdict (fault_of (cache_store k)); takes = true }
-
--- the page of a listing
-abbrev pub listing_page : {A : Type 0} → Listing A → List ℕ → Page
-listing_page (listing.Keytab l) file = keytab_page l.json l.columns file l.keytab.state
-listing_page (listing.Cache l) file = cache_page l.json l.columns file l.cache.state
+-- the page of what is printed, after others or not; the listing of a damaged file reports the fault
+abbrev pub page : Bool → Bool → List ℕ → Option Fault → Page
+page json is_after shown fault = record { out = gap json is_after ++ shown; verdict = listing_verdict fault; takes = true }
 
 -- the file is opened as that kind and printed
-abbrev pub listing_plan : ListKind → Bool → Order → FileName → CommandPlan
-listing_plan (Keytab columns) json order file = opens file (listed_in order) (λ k. Ends (Displays file.name.now (keytab_page json columns file.name.now k)))
-listing_plan (Cache columns) json order file = opens file cache_of (λ k. Ends (Displays file.name.now (cache_page json columns file.name.now k)))
+abbrev pub listing_plan : ListKind → Bool → Order → Bool → FileName → CommandPlan
+listing_plan (Keytab columns) json order is_after file =
+    opens file (listed_in order) (λ k. Ends (Displays file.name.now (page json is_after (keytab_shown json columns file.name.now k) (fault_of (store_of k)))))
+listing_plan (Cache columns) json order is_after file =
+    opens file cache_of (λ k. Ends (Displays file.name.now (page json is_after (cache_shown json columns file.name.now k) (fault_of (cache_store k)))))
 
-abbrev pub klist_plan : KlistOptions → FileName → CommandPlan
-klist_plan o file = listing_plan o.kind o.json o.v1_order file
+abbrev pub klist_plan : KlistOptions → Bool → FileName → CommandPlan
+klist_plan o is_after file = listing_plan o.kind o.json o.v1_order is_after file
+
+-- something was printed, once a file's listing has ended so
+abbrev pub printed_after : Bool → RunEnd → Bool
+printed_after printed end = is_ok end.ending || printed
+
+-- files are listed one after the other, with the greatest status
+pub record ListsAll {F R W E : Type 0} (trait : Ghosts F) (o : KlistOptions) (old new : World F R W E) (status : ℕ) (names : List FileName) : Type 0 where
+  pub printed : Bool
+  pub over : RunsOver trait (λ is_after file. always (klist_plan o is_after file)) printed_after names (first_round false old) (record { world = new; state = printed; status = status })
+
+-- ---- the page, in code
+
+-- what is printed of a file that was opened, and its fault
+abbrev pub listed_text : {A : Type 0} → Bool → List ℕ → Listed A → List ℕ
+listed_text json file (listed.Keytab columns keytab) = keytab_shown json columns file keytab.state
+listed_text json file (listed.Cache columns cache) = cache_shown json columns file cache.state
+
+abbrev pub listed_fault : {A : Type 0} → Listed A → Option Fault
+listed_fault (listed.Keytab columns keytab) = fault_of (store_of keytab.state)
+listed_fault (listed.Cache columns cache) = fault_of (cache_store cache.state)
+
+abbrev pub listed_verdict : {A : Type 0} → Listed A → Verdict
+listed_verdict of = listing_verdict (listed_fault of)
+
+abbrev pub page_of : {A : Type 0} → Bool → Bool → List ℕ → Listed A → Page
+page_of json is_after file of = page json is_after (listed_text json file of) (listed_fault of)
+
+abbrev pub listing_page : {A : Type 0} → Listing A → List ℕ → Page
+listing_page l file = page_of l.json l.is_after file l.of
 
 -- ---- what the words ask for
+
+-- an option that is given does not go with another one, both as they were typed
+abbrev pub apart : Matched → List ℕ → List ℕ → List ℕ → List ℕ → Option MistakeParts
+apart words own name letter long = if words.flag name then Some (DoNotGoTogether own (typed words letter long)) else None
 
 -- an option does not go with `-k`, both as they were typed
 abbrev pub not_with_keytab : Matched → List ℕ → List ℕ → MistakeParts
@@ -128,16 +162,24 @@ is_ticket x = not (is_config x.1)
 abbrev pub is_tgt : List ℕ → PlacedCredential → Bool
 is_tgt realm x = is_ticket x && have_same_name x.1.server (tgs_of realm)
 
--- it ends after that second
-abbrev pub ends_after : ℕ → PlacedCredential → Bool
-ends_after time x = nat_lt time x.1.times.endtime
+-- the later of two times, where there are both
+abbrev pub later : Option ℕ → Option ℕ → Option ℕ
+later None other = other
+later (Some time) None = Some time
+later (Some time) (Some other) = Some (max time other)
 
--- a ticket of a cache ends after that second; if there are ticket-granting tickets of the default principal's realm, one of those
+-- the latest end of those credentials that a rule holds of
+abbrev pub latest : (PlacedCredential → Bool) → List PlacedCredential → Option ℕ
+latest of [] = None
+latest of (x ∷ xs) = later (if of x then Some x.1.times.endtime else None) (latest of xs)
+
+-- the end of what a cache has to go on with: the latest of the ticket-granting tickets of the default principal's realm, or of all tickets if there are none of those
+abbrev pub last_end : CacheState → Option ℕ
+last_end k = option_or (latest (is_tgt k.principal.realm) (placed_credentials k)) (latest is_ticket (placed_credentials k))
+
+-- a cache has a ticket to go on with after that second
 abbrev pub has_ticket : ℕ → CacheState → Bool
-has_ticket time k =
-    if list_any (is_tgt k.principal.realm) (placed_credentials k)
-    then list_any (λ x. is_tgt k.principal.realm x && ends_after time x) (placed_credentials k)
-    else list_any (λ x. is_ticket x && ends_after time x) (placed_credentials k)
+has_ticket time k = option_map_or (λ end. nat_lt time end) (last_end k) false
 
 -- ---- the run
 
@@ -171,24 +213,31 @@ module _ {F : Type 0} (trait : Ghosts F) (file : FileName) (old new : F) (status
 
 -- ---- what the words ask for
 
--- an option does not go with `-s`, both as they were typed
-abbrev pub not_with_silent : Matched → List ℕ → List ℕ → MistakeParts
-not_with_silent words letter name = DoNotGoTogether (typed words (codes "-s") (codes "--silent")) (typed words letter name)
+-- the first option of how a cache is listed that does not go with another one
+abbrev pub odd_columns : Matched → List ℕ → Option MistakeParts
+odd_columns words own =
+    option_or (apart words own (codes "enctypes") (codes "-e") (codes "--enctypes"))
+    (option_or (apart words own (codes "flags") (codes "-f") (codes "--flags")) (apart words own (codes "config") (codes "-C") (codes "--config")))
+
+-- `-s` as it was typed
+abbrev pub silent : Matched → List ℕ
+silent words = typed words (codes "-s") (codes "--silent")
 
 -- the first option that does not go with `-s`
 abbrev pub odd_with_silent : Matched → Option MistakeParts
 odd_with_silent words =
-    if words.flag (codes "keytab") then Some (not_with_silent words (codes "-k") (codes "--keytab"))
-    else (if words.flag (codes "json") then Some (DoNotGoTogether (typed words (codes "-s") (codes "--silent")) (codes "--json"))
-    else (if words.flag (codes "enctypes") then Some (not_with_silent words (codes "-e") (codes "--enctypes"))
-    else (if words.flag (codes "flags") then Some (not_with_silent words (codes "-f") (codes "--flags"))
-    else (if words.flag (codes "config") then Some (not_with_silent words (codes "-C") (codes "--config"))
-    else None))))
+    option_or (apart words (silent words) (codes "keytab") (codes "-k") (codes "--keytab"))
+    (option_or (apart words (silent words) (codes "json") (codes "--json") (codes "--json")) (odd_columns words (silent words)))
+
+-- several files are given to `-s`
+abbrev pub odd_files : Matched → Option MistakeParts
+odd_files words = if nat_lt 1 (length (words.values (codes "FILE"))) then Some (TakesOneFile (silent words)) else None
 
 -- the first mistake of the words
 abbrev pub check_mistake : Matched → Option MistakeParts
 check_mistake words =
-    option_or (odd_seconds words) (option_or (odd_with_silent words) (option_or (odd_with_cache words) (bad_seconds (first_value words (codes "for")))))
+    option_or (odd_seconds words)
+    (option_or (odd_with_silent words) (option_or (odd_with_cache words) (option_or (odd_files words) (bad_seconds (first_value words (codes "for"))))))
 
 -- the seconds are those that the word spells, or 0 if there is none
 abbrev pub check_of : Matched → TicketCheck
@@ -197,7 +246,7 @@ check_of words = record { seconds = unwrap_or (option_and_then seconds_in (first
 -- ---- what a pass over the credentials of a cache has seen
 
 -- what was seen so far, with what the rest shows, is what all show
-pub record SeesSoFar (realm : List ℕ) (time : ℕ) (rest all : List PlacedCredential) (seen : Seen) : Type 0 where
-  pub has_tgt : (seen.has_tgt || list_any (is_tgt realm) rest) ≡ list_any (is_tgt realm) all
-  pub good_tgt : (seen.good_tgt || list_any (λ x. is_tgt realm x && ends_after time x) rest) ≡ list_any (λ x. is_tgt realm x && ends_after time x) all
-  pub good_ticket : (seen.good_ticket || list_any (λ x. is_ticket x && ends_after time x) rest) ≡ list_any (λ x. is_ticket x && ends_after time x) all
+pub record SeesSoFar (realm : List ℕ) (rest all : List PlacedCredential) (seen : Seen) : Type 0 where
+  pub count : min (2 ^ 64 - 1) (seen.count + length (filter is_ticket rest)) ≡ min (2 ^ 64 - 1) (length (filter is_ticket all))
+  pub tgt_end : later seen.tgt_end (latest (is_tgt realm) rest) ≡ latest (is_tgt realm) all
+  pub ticket_end : later seen.ticket_end (latest is_ticket rest) ≡ latest is_ticket all

@@ -1,5 +1,5 @@
 -- What ktcheck does, and what its words ask for.
-use Rattle.std.specs.Prelude.{◌≡◌, ◌⊎◌, ℕ, max, List, [], ◌∷◌, ◌++◌, length, codes, Bool, not, ◌&&◌, ◌||◌, nat_lt, IsTrue, IsFalse, if◌then◌else◌, Option, is_some, Ok, fold, None, Some}
+use Rattle.std.specs.Prelude.{ℕ, List, [], length, codes, Bool, not, ◌&&◌, ◌||◌, nat_lt, if◌then◌else◌, Option, is_some, Ok, fold, None, Some}
 use Rattle.krb_walk.specs.Store.{fault_of}
 use Rattle.krb_keytab.specs.Find.{placed_entries}
 use Rattle.krb_keytab.specs.Store.{KeytabState, store_of}
@@ -14,10 +14,10 @@ use Rattle.krb_driver.specs.declared.verdict.Findings.{Findings}
 use Rattle.krb_driver.specs.declared.command.World.{World}
 use Rattle.krb_driver.specs.declared.verdict.Verdict.{Verdict}
 use Rattle.krb_driver.specs.declared.verdict.Verdict.TheVariants.{Well, Found}
-use Rattle.krb_driver.specs.Commands.{EndsCommand, any, CommandPlan, Displays, Page, opens, text}
+use Rattle.krb_driver.specs.Commands.{CommandPlan, Displays, Page, opens, text}
 use Rattle.krb_driver.specs.Loading.{keytab_in}
-use Rattle.krb_driver.specs.FileNames.{shown_name}
-use Rattle.krb_driver.specs.RunErrors.{Ending, is_spent}
+use Rattle.krb_driver.specs.RunErrors.{Ending}
+use Rattle.krb_driver.specs.Several.{RunsOver, first_round, label_of}
 use Rattle.krb_readers.specs.declared.ktcheck.words.CheckOptions.{CheckOptions}
 use Rattle.std.specs.Str.{bytes_eq}
 use Rattle.krb_driver.specs.Mistakes.{Matched, v1_order, MistakeParts, NoFinding}
@@ -50,54 +50,26 @@ found_verdict o explained mode k = if is_well mode k then Well else Found (findi
 abbrev pub page_of : CheckOptions → List ℕ → FindingWords → Option ℕ → KeytabState → Page
 page_of o label explained mode k = text (printed o label mode k) (found_verdict o explained mode k)
 
--- the label of a file's lines: its name, as it is shown in a line, if there are several files
-abbrev pub label_of : Bool → List ℕ → List ℕ
-label_of is_named name = if is_named then shown_name name ++ codes ": " else []
-
 -- a file is opened, and what is found about its keytab is printed
 abbrev pub plan_of : CheckOptions → Bool → FindingWords → FileName → Option ℕ → CommandPlan
-plan_of o is_named explained file mode =
-    opens file (keytab_in o.v1_order) (λ k. Ends (Displays file.name.now (page_of o (label_of is_named file.name.now) explained mode k)))
+plan_of o are_several explained file mode =
+    opens file (keytab_in o.v1_order) (λ k. Ends (Displays file.name.now (page_of o (label_of are_several file.name.now) explained mode k)))
 
 -- ---- several files
-
--- a run between two files: the world, the findings that were explained, and the greatest status so far
-pub record Round (F R W E : Type 0) : Type 0 where
-  pub world : World F R W E
-  pub explained : FindingWords
-  pub status : ℕ
 
 -- the findings that the end of a file's check explains
 abbrev pub explained_by : Ending → FindingWords
 explained_by (Ok (Found findings)) = findings.words
 explained_by ending = words_of []
 
-module _ {F R W E : Type 0} (trait : Ghosts F) (o : CheckOptions) (is_named : Bool) where
-  -- a file was checked, and this is how that ended
-  pub record ChecksFile (file : FileName) (old new : Round F R W E) (end : RunEnd) : Type 0 where
-    pub runs : EndsCommand trait (plan_of o is_named old.explained file) any old.world new.world end
-    pub explained : new.explained ≡ joined old.explained (explained_by end.ending)
-    pub worst : new.status ≡ max old.status end.status
-
-  -- no file comes after one if memory ran out, or the output failed
-  abbrev pub is_last : Ending → Round F R W E → Bool
-  is_last ending round = is_spent ending || round.world.out.failed
-
-  -- files were checked one after the other, up to the last
-  abbrev pub ChecksOver : List FileName → Round F R W E → Round F R W E → Type 0
-  ChecksOver [] old new = new ≡ old
-  ChecksOver (file ∷ files) old new =
-      (between : Round F R W E) × (end : RunEnd) × ChecksFile file old between end
-      × ((IsTrue (is_last end.ending between) × (new ≡ between)) ⊎ (IsFalse (is_last end.ending between) × ChecksOver files between new))
-
--- a run before its first file
-abbrev pub first_round : {F R W E : Type 0} → World F R W E → Round F R W E
-first_round world = record { world = world; explained = words_of []; status = 0 }
+-- the findings that were explained once a file's check has ended so
+abbrev pub explained_after : FindingWords → RunEnd → FindingWords
+explained_after explained end = joined explained (explained_by end.ending)
 
 -- a run over files: it ends with the greatest status
-pub record ChecksAll {F R W E : Type 0} (trait : Ghosts F) (o : CheckOptions) (names : List FileName) (old new : World F R W E) (status : ℕ) : Type 0 where
+pub record ChecksAll {F R W E : Type 0} (trait : Ghosts F) (o : CheckOptions) (old new : World F R W E) (status : ℕ) (names : List FileName) : Type 0 where
   pub explained : FindingWords
-  pub over : ChecksOver trait o (nat_lt 1 (length names)) names (first_round old) (record { world = new; explained = explained; status = status })
+  pub over : RunsOver trait (plan_of o (nat_lt 1 (length names))) explained_after names (first_round (words_of []) old) (record { world = new; state = explained; status = status })
 
 -- ---- what the words of ktcheck ask for
 

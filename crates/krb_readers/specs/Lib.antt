@@ -1,5 +1,6 @@
 -- What the contracts of this crate say.
 pub mod Klist
+pub mod Overview
 pub mod Ktfind
 pub mod Ktcheck
 

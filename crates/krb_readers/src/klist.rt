@@ -1,97 +1,102 @@
 //! klist: lists a keytab or a credential cache.
 
+pub(crate) mod overview;
 pub(crate) mod ticket_check;
 pub(crate) mod words;
 
 ghost use Rattle.std.specs.Prelude.{◌≡◌, IsFalse};
 ghost use Rattle.krb_text.specs.Gathered.{Prints};
-ghost use Rattle.krb_driver.specs.Commands.{Runs, always, any, made_effect, Displays, IsMade};
-ghost use Rattle.krb_readers.specs.Klist.{cache_shown, keytab_shown, klist_plan, listing_page};
-ghost use Rattle.krb_driver.specs.RunErrors.{listing_verdict};
+ghost use Rattle.krb_driver.specs.Commands.{made_effect, Displays, IsMade};
+ghost use Rattle.krb_readers.specs.Klist.{ListsAll, gap, listed_text, listed_verdict, listing_page, page_of};
 
 use crate::klist::words::{KlistOptions, ListKind};
 use krb_cache_text::{CcColumns, list_cache};
 use krb_ccache::Ccache;
 use krb_driver::{
-    Command, FileError, FileName, Made, MakeResult, RunError, Show, Verdict, World, open_cache,
-    open_listed, run,
+    FileError, FileName, Made, MakeResult, OverFiles, RunEnd, RunError, Show, Verdict, World,
+    open_cache, open_listed, run_over,
 };
-use krb_files::{Files, OutFault, Watched};
+use krb_files::{Files, OutFault, Watched, put};
 use krb_json::{cache_json, keytab_json};
 use krb_keytab::Keytab;
 use krb_text::{KtColumns, list_keytab};
-use krb_walk::Fault;
 use std::alloc::Allocator;
 use std::io::{Read, Write};
 
 /// The command klist.
 #[derive(Clone, Copy)]
-struct ListFile<'f> {
+struct ListFiles<'f> {
     options: &'f KlistOptions,
-    file: FileName<'f>,
 }
 
-/// A keytab that was opened, and what to show of it.
+/// A file that was opened, and the columns that are shown of it.
 #[derive(Drop)]
-pub struct KeytabListing<A: Allocator> {
-    json: bool,
-    columns: KtColumns,
-    keytab: Keytab<A>,
-}
-
-/// A cache that was opened, and what to show of it.
-#[derive(Drop)]
-pub struct CacheListing<A: Allocator> {
-    json: bool,
-    columns: CcColumns,
-    cache: Ccache<A>,
+pub enum Listed<A: Allocator> {
+    Keytab(KtColumns, Keytab<A>),
+    Cache(CcColumns, Ccache<A>),
 }
 
 /// A listing of the file that was opened, or its JSON.
 #[derive(Drop)]
-pub enum Listing<A: Allocator> {
-    Keytab(KeytabListing<A>),
-    Cache(CacheListing<A>),
+pub struct Listing<A: Allocator> {
+    json: bool,
+    /// Another listing was printed before.
+    is_after: bool,
+    of: Listed<A>,
 }
 
-// Prints a keytab with its columns, or as JSON.
-fn show_keytab<A: Allocator + Copy, W: Write>(
-    alloc: A,
-    listing: &KeytabListing<A>,
-    file: &str,
-    out: &mut Watched<W>,
-) -> Result<(), OutFault>
+// Prints what comes before a listing, but not before JSON: an empty line, if it is after another one.
+#[tactic(auto, using(crate::proofs::Listed::prints_none))]
+fn show_gap<W: Write>(json: bool, is_after: bool, out: &mut Watched<W>) -> Result<(), OutFault>
     requires { IsFalse out.old.failed }
-    ensures { Prints out.old out.new result (keytab_shown listing.now.json listing.now.columns file.now listing.now.keytab.state) }
+    ensures { Prints out.old out.new result (gap json is_after) }
 {
-    if listing.json {
-        keytab_json(alloc, file, &listing.keytab, listing.columns.keys, out)
-    } else {
-        list_keytab(alloc, file, &listing.keytab, listing.columns, out)
+    if json {
+        return Ok(());
     }
+    if is_after {
+        return put(out, b"\n");
+    }
+    Ok(())
 }
 
-// Prints a cache with its columns, or as JSON.
-fn show_cache<A: Allocator + Copy, W: Write>(
+// Prints a file with its columns, or as JSON.
+fn show_file<A: Allocator + Copy, W: Write>(
     alloc: A,
-    listing: &CacheListing<A>,
+    json: bool,
+    of: &Listed<A>,
     file: &str,
     out: &mut Watched<W>,
 ) -> Result<(), OutFault>
     requires { IsFalse out.old.failed }
-    ensures { Prints out.old out.new result (cache_shown listing.now.json listing.now.columns file.now listing.now.cache.state) }
+    ensures { Prints out.old out.new result (listed_text json file.now of.now) }
 {
-    if listing.json {
-        cache_json(alloc, file, &listing.cache, out)
-    } else {
-        list_cache(alloc, file, &listing.cache, listing.columns, out)
+    match of {
+        Listed::Keytab(columns, keytab) => {
+            if json {
+                keytab_json(alloc, file, keytab, columns.keys, out)
+            } else {
+                list_keytab(alloc, file, keytab, *columns, out)
+            }
+        }
+        Listed::Cache(columns, cache) => {
+            if json {
+                cache_json(alloc, file, cache, out)
+            } else {
+                list_cache(alloc, file, cache, *columns, out)
+            }
+        }
     }
 }
 
 // Returns the verdict of a listing, which reports the fault if there is one.
-fn listing_verdict(fault: Option<Fault>) -> Verdict
-    ensures { result ≡ listing_verdict fault }
+fn listed_verdict<A: Allocator>(of: &Listed<A>) -> Verdict
+    ensures { result ≡ listed_verdict of.now }
 {
+    let fault = match of {
+        Listed::Keytab(_, keytab) => keytab.fault(),
+        Listed::Cache(_, cache) => cache.fault(),
+    };
     match fault {
         Some(fault) => Verdict::Listed(fault),
         None => Verdict::Well,
@@ -107,76 +112,78 @@ impl<A: Allocator + Copy> Show<A> for Listing<A> {
         file: &str,
         out: &mut Watched<W>,
     ) -> Result<Verdict, RunError> {
-        match self {
-            Listing::Keytab(listing) => {
-                show_keytab(alloc, listing, file, out)?;
-                Ok(listing_verdict(listing.keytab.fault()))
-            }
-            Listing::Cache(listing) => {
-                show_cache(alloc, listing, file, out)?;
-                Ok(listing_verdict(listing.cache.fault()))
-            }
-        }
+        show_gap(self.json, self.is_after, out)?;
+        show_file(alloc, self.json, &self.of, file, out)?;
+        Ok(listed_verdict(&self.of))
     }
 }
 
 // Returns what klist makes of the file that was opened.
 fn shown<'a, A: Allocator>(
-    command: &ListFile<'a>,
-    listing: Listing<A>,
+    command: &ListFiles<'_>,
+    is_after: bool,
+    file: FileName<'a>,
+    of: Listed<A>,
 ) -> Result<Made<A, Listing<A>>, FileError<'a>>
-    ensures { IsMade (Displays command.now.file.name.now (listing_page listing command.now.file.name.now))
-        (made_effect listing_page command.now.file.name.now result) }
+    ensures { IsMade (Displays file.entry.name.now (page_of command.now.options.now.json is_after file.entry.name.now of))
+        (made_effect listing_page file.entry.name.now result) }
 {
-    Ok(Made::Shows(listing))
+    Ok(Made::Shows(Listing {
+        json: command.options.json,
+        is_after,
+        of,
+    }))
 }
 
-impl<'f, A: Allocator + Copy> Command<A> for ListFile<'f> {
-    ghost use Rattle.krb_readers.specs.Klist.{klist_plan};
+impl<A: Allocator + Copy> OverFiles<A> for ListFiles<'_> {
+    ghost use Rattle.krb_driver.specs.Commands.{always};
+    ghost use Rattle.krb_readers.specs.Klist.{klist_plan, printed_after};
+
+    /// Another listing was printed before.
+    type State = bool;
 
     type Shown = Listing<A>;
 
-    ghost file = { λ c. c.file.name.now };
+    ghost plan = { λ c is_after file. always (klist_plan c.options.now is_after file) };
 
-    ghost plan = { λ c mode. klist_plan c.options.now c.file };
+    ghost after = { printed_after };
 
-    fn file(&self) -> &str {
-        self.file.name
-    }
-
-    fn make<F: Files>(&self, alloc: A, files: &mut F) -> MakeResult<'_, A, Self::Shown> {
+    #[tactic(auto, unfolding(krb_driver::specs::Commands::always))]
+    fn make<'f, F: Files>(
+        &'f self,
+        alloc: A,
+        is_after: bool,
+        file: FileName<'f>,
+        files: &mut F,
+    ) -> MakeResult<'f, A, Listing<A>> {
         match self.options.kind {
             ListKind::Keytab(columns) => {
-                let keytab = open_listed(alloc, self.options.v1_order, files, self.file)?;
-                let listing = KeytabListing {
-                    json: self.options.json,
-                    columns,
-                    keytab,
-                };
-                shown(self, Listing::Keytab(listing))
+                let keytab = open_listed(alloc, self.options.v1_order, files, file)?;
+                shown(self, is_after, file, Listed::Keytab(columns, keytab))
             }
             ListKind::Cache(columns) => {
-                let cache = open_cache(alloc, files, self.file)?;
-                let listing = CacheListing {
-                    json: self.options.json,
-                    columns,
-                    cache,
-                };
-                shown(self, Listing::Cache(listing))
+                let cache = open_cache(alloc, files, file)?;
+                shown(self, is_after, file, Listed::Cache(columns, cache))
             }
         }
     }
+
+    fn after(printed: bool, end: RunEnd) -> bool
+        ensures { result ≡ printed_after printed end }
+    {
+        end.ending.is_ok() || printed
+    }
 }
 
-/// Lists `file` and returns the exit status.
-#[tactic(auto, unfolding(krb_driver::specs::Commands::always))]
+/// Lists files, one after the other, with an empty line between two listings, and returns the greatest status. JSON is a
+/// line each. Ends early if memory runs out or the output fails.
 pub fn run_klist<A: Allocator + Copy, F: Files, R: Read, W: Write, E: Write>(
     alloc: A,
     options: &KlistOptions,
-    file: FileName<'_>,
+    names: &[FileName<'_>],
     world: &mut World<F, R, W, E>,
 ) -> u8
-    ensures { Runs F.Files (always (klist_plan options.now file.entry)) any world.old world.new result }
+    ensures { ListsAll F.Files options.now world.old world.new result names.now }
 {
-    run(alloc, &ListFile { options, file }, world)
+    run_over(alloc, &ListFiles { options }, false, names, world).status
 }

@@ -5,6 +5,7 @@ mod klist;
 mod ktcheck;
 mod ktfind;
 
+pub use klist::overview::{overview_json, run_overview};
 pub use klist::run_klist;
 pub use klist::ticket_check::{TicketCheck, run_ticket_check, ticket_check};
 pub use klist::words::{KLIST, KlistOptions, ListKind, klist_options};

@@ -1,15 +1,15 @@
 //! klist -s: checks that a cache has a ticket to go on with, and prints nothing.
 
-ghost use Rattle.std.specs.Prelude.{◌≡◌, ℕ, [], ◌∷◌, List};
-ghost use Rattle.krb_ccache.specs.Store.{open_result, CacheState, PlacedCredential, placed_credentials};
+ghost use Rattle.std.specs.Prelude.{◌≡◌, [], ◌∷◌, List, Some};
+ghost use Rattle.krb_ccache.specs.Store.{CacheState, open_result, PlacedCredential, placed_credentials};
 ghost use Rattle.krb_files.specs.Loading.{most_bytes};
-ghost use Rattle.krb_readers.specs.Klist.{RunsTicketCheck, check_mistake, check_of, odd_with_silent, opened_status, SeesSoFar, has_ticket, tgs_of};
+ghost use Rattle.krb_readers.specs.Klist.{RunsTicketCheck, check_mistake, check_of, odd_files, odd_with_silent, opened_status, SeesSoFar, has_ticket, last_end, later, tgs_of};
 ghost use Rattle.krb_driver.specs.Mistakes.{Refuses, Spells};
 ghost use Rattle.krb_wire.specs.Names.{have_same_name};
 
-use crate::klist::words::{refuse_odd_seconds, refuse_with_cache};
+use crate::klist::words::{refuse_columns, refuse_odd_seconds, refuse_with, refuse_with_cache};
 use krb_ccache::{Ccache, CredView, is_config};
-use krb_driver::{FileName, Matches, Mistake, spelled_seconds, typed};
+use krb_driver::{FileName, Matches, Mistake, spelled_seconds, times_given, typed};
 use krb_files::{Files, LoadFault};
 use krb_wire::{Limits, Name, USUAL_LIMIT};
 use std::alloc::Allocator;
@@ -26,28 +26,30 @@ fn refuse_with_silent<'a, M: Matches<'a>>(matches: &M) -> Result<(), Mistake<'a>
     ensures { Refuses (odd_with_silent (M.matched matches.now)) result }
 {
     let silent = typed(matches, "-s", "--silent");
-    if matches.flag("keytab") {
-        Err(Mistake::DoNotGoTogether(silent, typed(matches, "-k", "--keytab")))
-    } else if matches.flag("json") {
-        Err(Mistake::DoNotGoTogether(silent, "--json"))
-    } else if matches.flag("enctypes") {
-        Err(Mistake::DoNotGoTogether(silent, typed(matches, "-e", "--enctypes")))
-    } else if matches.flag("flags") {
-        Err(Mistake::DoNotGoTogether(silent, typed(matches, "-f", "--flags")))
-    } else if matches.flag("config") {
-        Err(Mistake::DoNotGoTogether(silent, typed(matches, "-C", "--config")))
-    } else {
-        Ok(())
-    }
+    refuse_with(matches, silent, "keytab", "-k", "--keytab")?;
+    refuse_with(matches, silent, "json", "--json", "--json")?;
+    refuse_columns(matches, silent)
 }
 
-/// Returns what `klist -s` asks for. Refuses options that do not go together, and a time that cannot be read.
+// Refuses several files.
+fn refuse_several<'a, M: Matches<'a>>(matches: &M) -> Result<(), Mistake<'a>>
+    ensures { Refuses (odd_files (M.matched matches.now)) result }
+{
+    if times_given(matches, "FILE") > 1 {
+        return Err(Mistake::TakesOneFile(typed(matches, "-s", "--silent")));
+    }
+    Ok(())
+}
+
+/// Returns what `klist -s` asks for. Refuses options that do not go together, several files, and a time that cannot be
+/// read.
 pub fn ticket_check<'a, M: Matches<'a>>(matches: &M) -> Result<TicketCheck, Mistake<'a>>
     ensures { Spells (check_mistake (M.matched matches.now)) (λ check. check ≡ check_of (M.matched matches.now)) result }
 {
     refuse_odd_seconds(matches)?;
     refuse_with_silent(matches)?;
     refuse_with_cache(matches)?;
+    refuse_several(matches)?;
     let seconds = spelled_seconds(matches, "for")?;
     Ok(TicketCheck {
         seconds: seconds.unwrap_or(0),
@@ -95,13 +97,13 @@ const KRBTGT: &[u8] = b"krbtgt";
 
 /// What was seen of the tickets of a cache.
 #[derive(Clone, Copy)]
-struct SeenTickets {
-    /// There is a ticket-granting ticket of the realm.
-    has_tgt: bool,
-    /// One of those ends late enough.
-    good_tgt: bool,
-    /// A ticket of any kind ends late enough.
-    good_ticket: bool,
+pub struct SeenTickets {
+    /// The number of tickets, up to the greatest u64.
+    pub count: u64,
+    /// The latest end of its ticket-granting tickets of a realm.
+    tgt_end: Option<u32>,
+    /// The latest end of all.
+    ticket_end: Option<u32>,
 }
 
 // Returns whether a server is the ticket-granting service of that realm.
@@ -119,51 +121,75 @@ fn is_tgs<N: Name>(realm: &[u8], server: &N) -> bool
     server.realm() == realm && first == KRBTGT && second == realm
 }
 
+// Returns the later of a time, if there is one, and another.
+fn later(time: Option<u32>, other: u32) -> Option<u32>
+    ensures { result ≡ later time (Some other) }
+{
+    match time {
+        Some(time) => Some(time.max(other)),
+        None => Some(other),
+    }
+}
+
 impl SeenTickets {
     // Takes in the next credential.
-    fn see(&mut self, realm: &[u8], time: u64, place: u32, credential: &CredView<'_>)
+    fn see(&mut self, realm: &[u8], place: u32, credential: &CredView<'_>)
         ensures { (rest all : List PlacedCredential)
-            → SeesSoFar realm.now time ((place, credential.now) ∷ rest) all self.old
-            → SeesSoFar realm.now time rest all self.new }
+            → SeesSoFar realm.now ((place, credential.now) ∷ rest) all self.old
+            → SeesSoFar realm.now rest all self.new }
     {
         if is_config(credential) {
             return;
         }
-        let is_good = u64::from(credential.endtime()) > time;
-        self.good_ticket = self.good_ticket || is_good;
+        let end = credential.endtime();
+        self.count = self.count.saturating_add(1);
+        self.ticket_end = later(self.ticket_end, end);
         if is_tgs(realm, credential.server()) {
-            self.has_tgt = true;
-            self.good_tgt = self.good_tgt || is_good;
-        }
-    }
-
-    // Returns whether there is a ticket to go on with, if no credential is left to see.
-    fn are_enough(self) -> bool
-        ensures { (time : ℕ) (k : CacheState)
-            → SeesSoFar k.principal.realm time [] (placed_credentials k) self → result ≡ has_ticket time k }
-    {
-        if self.has_tgt {
-            self.good_tgt
-        } else {
-            self.good_ticket
+            self.tgt_end = later(self.tgt_end, end);
         }
     }
 }
 
-/// Returns whether a cache has a ticket that ends after that second: if it has ticket-granting tickets of the default
-/// principal's realm, one of those. Takes one pass.
+impl SeenTickets {
+    /// Returns what is seen of the tickets of a cache. Takes one pass.
+    pub fn of<A: Allocator>(cache: &Ccache<A>) -> SeenTickets
+        ensures { SeesSoFar cache.now.state.principal.realm [] (placed_credentials cache.now.state) result }
+    {
+        let principal = cache.default_principal();
+        let realm = principal.realm();
+        let mut seen = SeenTickets {
+            count: 0,
+            tgt_end: None,
+            ticket_end: None,
+        };
+        'credentials: for (place, credential) in cache.credentials() {
+            seen.see(realm, place, &credential);
+        }
+        seen
+    }
+
+    /// Returns the end of what the cache has to go on with, if there is that.
+    pub fn last_end(self) -> Option<u32>
+        ensures { (k : CacheState) → SeesSoFar k.principal.realm [] (placed_credentials k) self → result ≡ last_end k }
+    {
+        self.tgt_end.or(self.ticket_end)
+    }
+
+    /// Returns whether the cache has a ticket to go on with after that second: if it has ticket-granting tickets of the
+    /// default principal's realm, one of those.
+    pub fn are_enough(self, time: u64) -> bool
+        ensures { (k : CacheState) → SeesSoFar k.principal.realm [] (placed_credentials k) self → result ≡ has_ticket time k }
+    {
+        match self.last_end() {
+            Some(end) => u64::from(end) > time,
+            None => false,
+        }
+    }
+}
+
+/// Returns whether a cache has a ticket to go on with after that second. Takes one pass.
 pub fn has_ticket<A: Allocator>(cache: &Ccache<A>, time: u64) -> bool
     ensures { result ≡ has_ticket time cache.now.state }
 {
-    let principal = cache.default_principal();
-    let realm = principal.realm();
-    let mut seen = SeenTickets {
-        has_tgt: false,
-        good_tgt: false,
-        good_ticket: false,
-    };
-    'credentials: for (place, credential) in cache.credentials() {
-        seen.see(realm, time, place, &credential);
-    }
-    seen.are_enough()
+    SeenTickets::of(cache).are_enough(time)
 }

@@ -1,7 +1,7 @@
 //! The words of klist, and its options.
 
 ghost use Rattle.std.specs.Prelude.{◌≡◌};
-ghost use Rattle.krb_readers.specs.Klist.{list_kind, list_mistake, list_options, odd_option, odd_seconds, odd_with_cache};
+ghost use Rattle.krb_readers.specs.Klist.{apart, list_kind, list_mistake, list_options, odd_columns, odd_option, odd_seconds, odd_with_cache};
 ghost use Rattle.krb_driver.specs.Mistakes.{Refuses, Spells};
 
 use krb_cache_text::CcColumns;
@@ -18,18 +18,19 @@ pub const KLIST: CommandWords = CommandWords {
     name: "klist",
     about: "Lists a keytab or a credential cache",
     usage: "\
-krbfile klist [-c] [-e] [-f] [-C] [--json] [FILE]
-       krbfile klist -k [-t] [-K] [-e] [--v1-big] [--json] [FILE]
+krbfile klist [-c] [-e] [-f] [-C] [--json] [FILE..]
+       krbfile klist -k [-t] [-K] [-e] [--v1-big] [--json] [FILE..]
+       krbfile klist -l [-c] [--json] [FILE..]
        krbfile klist -s [--for SECONDS] [-c] [FILE]",
     after_help: Some(
         "\
 Without FILE it lists the cache that KRB5CCNAME names, else /tmp/krb5cc_UID; with -k
 the keytab that KRB5_KTNAME names, else /etc/krb5.keytab.
 Statuses:
-  0  The file was listed; with -s: there is a ticket to go on with
-  1  The file is missing, too large, damaged or of another kind; with -s: there is no such ticket
+  0  The files were listed; with -s: there is a ticket to go on with
+  1  A file is missing, too large, damaged or of another kind; with -s: there is no such ticket
   2  The command line is bad
-  3  The file, the output or the clock failed
+  3  A file, the output or the clock failed
   4  Out of memory
 Example: the entries of a keytab, with encryption types
   krbfile klist -k -e host.keytab",
@@ -43,7 +44,11 @@ Example: the entries of a keytab, with encryption types
         Word::Flag("keys", 'K', "Show the keys of entries"),
         Word::Flag("enctypes", 'e', "Show encryption types"),
         V1_BIG,
-        Word::LongFlag("json", "Print all as one JSON object; keys only with -K"),
+        Word::LongFlag(
+            "json",
+            "Print each file as one JSON object; keys only with -K",
+        ),
+        Word::Flag("list", 'l', "Print a line for each cache"),
         Word::Flag(
             "silent",
             's',
@@ -54,7 +59,7 @@ Example: the entries of a keytab, with encryption types
             "SECONDS",
             "With -s: the ticket is valid for so many seconds more",
         ),
-        Word::OptionalOperand("FILE", "The file to list"),
+        Word::Operands("FILE", "The files to list"),
     ],
 };
 
@@ -85,7 +90,7 @@ pub struct KlistOptions {
     pub kind: ListKind,
     /// The byte order of version 1 keytabs.
     pub v1_order: Order,
-    /// Print all as one JSON object, whatever the columns; the keys of a keytab only with their column.
+    /// Print each file as one JSON object, whatever the columns; the keys of a keytab only with their column.
     pub json: bool,
 }
 
@@ -98,6 +103,31 @@ pub fn refuse_odd_seconds<'a, M: Matches<'a>>(matches: &M) -> Result<(), Mistake
         return Err(Mistake::OnlyWith("--for", "-s"));
     }
     Ok(())
+}
+
+/// Refuses an option that does not go with `own`.
+pub fn refuse_with<'a, M: Matches<'a>>(
+    matches: &M,
+    own: &'a str,
+    name: &str,
+    letter: &'a str,
+    long: &'a str,
+) -> Result<(), Mistake<'a>>
+    ensures { Refuses (apart (M.matched matches.now) own.now name.now letter.now long.now) result }
+{
+    if matches.flag(name) {
+        return Err(Mistake::DoNotGoTogether(own, typed(matches, letter, long)));
+    }
+    Ok(())
+}
+
+/// Refuses an option of how a cache is listed, which does not go with `own`.
+pub fn refuse_columns<'a, M: Matches<'a>>(matches: &M, own: &'a str) -> Result<(), Mistake<'a>>
+    ensures { Refuses (odd_columns (M.matched matches.now) own.now) result }
+{
+    refuse_with(matches, own, "enctypes", "-e", "--enctypes")?;
+    refuse_with(matches, own, "flags", "-f", "--flags")?;
+    refuse_with(matches, own, "config", "-C", "--config")
 }
 
 /// Refuses an option that goes only with `-k`.

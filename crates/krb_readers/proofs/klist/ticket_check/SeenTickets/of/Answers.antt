@@ -1,0 +1,11 @@
+use Rattle.std.proofs.Common.{List, subst}
+use Rattle.krb_ccache.specs.Store.{PlacedCredential, placed_credentials}
+use Rattle.krb_readers.specs.Klist.{SeesSoFar}
+use Rattle.krb_readers.proofs.klist.ticket_check.SeenTickets.of.Goals as goal
+
+-- the next credential was seen too
+pub credentials-preserved : goal.credentials-preserved
+credentials-preserved g c =
+    let all = placed_credentials c.args.cache.now.state in
+    let so_far = λ (xs : List PlacedCredential). SeesSoFar c.realm-realm.result.now xs all c.credentials.seen in
+    c.see.ensures c.next.new.self all (subst so_far c.in-Some.ensures.steps c.credentials.invariant)
