@@ -1,7 +1,6 @@
 -- What ccremove does.
-use Rattle.std.specs.Prelude.{◌≡◌, ℕ, Bool, not, List, [], ◌&&◌, ◌||◌, ◌==◌, map, length, codes, if◌then◌else◌, Option, None, Some, Result, Ok, Err}
+use Rattle.std.specs.Prelude.{◌≡◌, ℕ, Bool, not, List, [], ◌++◌, ◌&&◌, ◌||◌, ◌==◌, map, length, codes, if◌then◌else◌, Option, None, Some, Result, Ok, Err}
 use Rattle.std.specs.List.{flat_map, list_any}
-use Rattle.std.specs.Option.{option_or}
 use Rattle.std.specs.Vec.{vec_items}
 use Rattle.krb_walk.specs.Events.{cut_store}
 use Rattle.krb_ccache.specs.Changes.{without}
@@ -15,10 +14,11 @@ use Rattle.krb_driver.specs.declared.error.RunError.TheVariants.{ClockNotRead}
 use Rattle.krb_driver.specs.declared.file_name.FileName.{FileName}
 use Rattle.krb_driver.specs.declared.verdict.FileKind.TheVariants.{Cache}
 use Rattle.krb_driver.specs.declared.verdict.Verdict.{Verdict}
-use Rattle.krb_driver.specs.declared.verdict.Verdict.TheVariants.{Well, NothingToRemove}
+use Rattle.krb_driver.specs.declared.verdict.Verdict.TheVariants.{Well, NothingToRemove, Without}
 use Rattle.krb_driver.specs.Commands.{CommandPlan, Effect, Displays, holds, opens, saves_unless, text}
-use Rattle.krb_driver.specs.Mistakes.{ArePrintedNames, Matched, bad_name, first_mistake, twice, MistakeParts, NothingSelects}
+use Rattle.krb_driver.specs.Mistakes.{ArePrintedNames, Matched, bad_name, first_mistake, MistakeParts, NothingSelects}
 use Rattle.krb_driver.specs.Loading.{writable_in}
+use Rattle.krb_driver.specs.Several.{label_of}
 
 -- the time at or before which the selected tickets end: that of the clock, if only expired ones are selected
 abbrev pub clock_time : Option ℕ → Result (Option ℕ) RunError
@@ -32,35 +32,39 @@ ended_by o now = if o.expired then clock_time now else Ok None
 abbrev pub cache_after : CacheState → List ℕ → CacheState
 cache_after k places = cut_store (without k places) (rewrite_result (without k places))
 
--- the verdict if no ticket is selected: no failure with `--expired`, if no server is given or it has tickets
-abbrev pub none_verdict : {A : Type 0} → TicketOptions A → Bool → Verdict
-none_verdict o named = if o.expired && ((length o.servers.items == 0) || named) then Well else NothingToRemove Cache
+-- the verdict if no ticket is selected: no failure with `--expired`, if nothing else is asked for or some ticket is that; told at the end of several files
+abbrev pub none_verdict : {A : Type 0} → Bool → TicketOptions A → Bool → Verdict
+none_verdict are_several o named =
+    if o.expired && (((length o.servers.items == 0) && not o.all_services) || named) then Well
+    else (if are_several then Without else NothingToRemove Cache)
 
 -- the places of tickets
 abbrev pub places : List PlacedCredential → List ℕ
 places xs = map (λ x. x.0) xs
 
 -- the tickets are removed, if there are any, and a line is printed for each
-abbrev pub removes : {A : Type 0} → TicketOptions A → List ℕ → CacheState → List PlacedCredential → Effect
-removes o file k xs =
-    if length (places xs) == 0 then Displays file (text [] (none_verdict o (list_any (λ x. names_ticket (map vec_items o.servers.items) x.1) (placed_credentials k))))
-    else saves_unless o.dry_run file (image_of (cache_after k (places xs))) (flat_map removed_ticket_line xs) Well
+abbrev pub removes : {A : Type 0} → TicketOptions A → Bool → List ℕ → CacheState → List PlacedCredential → Effect
+removes o are_several file k xs =
+    if length (places xs) == 0 then Displays file (text [] (none_verdict are_several o (list_any (λ x. names_ticket (map vec_items o.servers.items) o.all_services x.1) (placed_credentials k))))
+    else saves_unless o.dry_run file (image_of (cache_after k (places xs))) (flat_map (λ x. label_of are_several file ++ removed_ticket_line x) xs) Well
 
--- the file is held, unless it is a dry run, and opened; the selected tickets of its cache are removed
-abbrev pub ccremove_plan : {A : Type 0} → TicketOptions A → FileName → Option ℕ → CommandPlan
-ccremove_plan o file ended = holds (not o.dry_run) file (opens file writable_in (λ k. Ends (removes o file.name.now k (selected_tickets (map vec_items o.servers.items) ended k))))
+-- the file, one of several or not, is held, unless it is a dry run, and opened; the selected tickets of its cache are removed
+abbrev pub ccremove_plan : {A : Type 0} → TicketOptions A → Option ℕ → Bool → FileName → CommandPlan
+ccremove_plan o ended are_several file =
+    holds (not o.dry_run) file (opens file writable_in (λ k. Ends (removes o are_several file.name.now k (selected_tickets (map vec_items o.servers.items) o.all_services ended k))))
 
 -- ---- what the words ask for
 
 -- the first mistake of the words
 abbrev pub ticket_mistake : Matched → Option MistakeParts
 ticket_mistake words =
-    option_or (twice words (codes "service") (codes "-p") (codes "--service"))
-    (if (length (words.values (codes "service")) == 0) && not (words.flag (codes "expired")) then Some (NothingSelects (codes "-p or --expired"))
-    else first_mistake bad_name (words.values (codes "service")))
+    if (length (words.values (codes "service")) == 0) && (not (words.flag (codes "all-services")) && not (words.flag (codes "expired")))
+    then Some (NothingSelects (codes "-p, --all-services or --expired"))
+    else first_mistake bad_name (words.values (codes "service"))
 
 -- each option is what its own word spells
 pub record SpellsTickets {A : Type 0} (words : Matched) (options : TicketOptions A) : Type 0 where
   pub servers : ArePrintedNames (words.values (codes "service")) options.servers
+  pub all_services : options.all_services ≡ words.flag (codes "all-services")
   pub expired : options.expired ≡ words.flag (codes "expired")
   pub dry_run : options.dry_run ≡ words.flag (codes "dry-run")

@@ -1,5 +1,5 @@
 -- What ktremove does.
-use Rattle.std.specs.Prelude.{◌≡◌, ℕ, Bool, true, false, not, List, [], ◌&&◌, ◌||◌, map, nat_lt, length, ◌==◌, if◌then◌else◌, codes, Option, None, Some, option_and_then, Result, Ok, Err}
+use Rattle.std.specs.Prelude.{◌≡◌, ℕ, Bool, true, false, not, List, [], ◌++◌, ◌&&◌, ◌||◌, map, nat_lt, length, ◌==◌, if◌then◌else◌, codes, Option, None, Some, option_and_then, Result, Ok, Err}
 use Rattle.std.specs.List.{flat_map, list_any}
 use Rattle.std.specs.Option.{option_or}
 use Rattle.std.specs.Str.{bytes_eq}
@@ -20,10 +20,11 @@ use Rattle.krb_driver.specs.declared.error.RunError.TheVariants.{ClockNotRead}
 use Rattle.krb_driver.specs.declared.file_name.FileName.{FileName}
 use Rattle.krb_driver.specs.declared.verdict.FileKind.TheVariants.{Keytab}
 use Rattle.krb_driver.specs.declared.verdict.Verdict.{Verdict}
-use Rattle.krb_driver.specs.declared.verdict.Verdict.TheVariants.{Well, NothingToRemove}
+use Rattle.krb_driver.specs.declared.verdict.Verdict.TheVariants.{Well, NothingToRemove, Without}
 use Rattle.krb_driver.specs.Commands.{CommandPlan, Effect, Displays, holds, opens, saves_unless, text}
 use Rattle.krb_driver.specs.Mistakes.{ArePrintedNames, AreSpelled, Matched, bad_seconds, first_value, twice, v1_order, MistakeParts, NothingSelects, OnlyWith}
 use Rattle.krb_driver.specs.Loading.{whole_in}
+use Rattle.krb_driver.specs.Several.{label_of}
 use Rattle.krb_editors.specs.Selecting.{IsSpelledKvno, asks_for_any, bad_criteria, bad_kvno}
 
 -- old entries are selected
@@ -32,23 +33,25 @@ asks_for_old Old = true
 asks_for_old (OldFor seconds) = true
 asks_for_old kvno = false
 
--- the verdict if no entry is selected: `refused 9`; with `-k old` all is well if no name or enctype is given, or some entry has them
-abbrev pub none_verdict : {A : Type 0} → Selection A → Bool → Verdict
-none_verdict s has_named = if asks_for_old s.kvno && (asks_for_any s || has_named) then Well else NothingToRemove Keytab
+-- the verdict if no entry is selected: `refused 9`, told at the end of several files; with `-k old` all is well if no name or enctype is given, or some entry has them
+abbrev pub none_verdict : {A : Type 0} → Bool → Selection A → Bool → Verdict
+none_verdict are_several s has_named =
+    if asks_for_old s.kvno && (asks_for_any s || has_named) then Well else (if are_several then Without else NothingToRemove Keytab)
 
 -- the places of entries
 abbrev pub places : List PlacedEntry → List ℕ
 places xs = map (λ x. x.0) xs
 
 -- the entries are removed, if there are any, and a line is printed for each
-abbrev pub removes : {A : Type 0} → RemoveOptions A → List ℕ → KeytabState → List PlacedEntry → Effect
-removes o file k xs =
-    if length (places xs) == 0 then Displays file (text [] (none_verdict o.selection (list_any (λ x. is_named o.selection x.1) (placed_entries k))))
-    else saves_unless o.dry_run file (image_of (without k (places xs))) (flat_map removed_line xs) Well
+abbrev pub removes : {A : Type 0} → RemoveOptions A → Bool → List ℕ → KeytabState → List PlacedEntry → Effect
+removes o are_several file k xs =
+    if length (places xs) == 0 then Displays file (text [] (none_verdict are_several o.selection (list_any (λ x. is_named o.selection x.1) (placed_entries k))))
+    else saves_unless o.dry_run file (image_of (without k (places xs))) (flat_map (λ x. label_of are_several file ++ removed_line x) xs) Well
 
--- the file is held, unless it is a dry run, and opened; the selected entries of its keytab are removed
-abbrev pub ktremove_plan : {A : Type 0} → RemoveOptions A → FileName → ℕ → CommandPlan
-ktremove_plan o file now = holds (not o.dry_run) file (opens file (whole_in o.v1_order) (λ k. Ends (removes o file.name.now k (selected_in o.selection now k))))
+-- the file, one of several or not, is held, unless it is a dry run, and opened; the selected entries of its keytab are removed
+abbrev pub ktremove_plan : {A : Type 0} → RemoveOptions A → ℕ → Bool → FileName → CommandPlan
+ktremove_plan o now are_several file =
+    holds (not o.dry_run) file (opens file (whole_in o.v1_order) (λ k. Ends (removes o are_several file.name.now k (selected_in o.selection now k))))
 
 -- the time that the selection needs: that of the clock, if an age is given
 abbrev pub needed_time : SelectedKvno → Option ℕ → Result ℕ RunError

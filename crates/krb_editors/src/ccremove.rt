@@ -4,16 +4,20 @@ ghost use Rattle.std.specs.Prelude.{◌≡◌, IfOk, map};
 ghost use Rattle.std.specs.Vec.{vec_items};
 ghost use Rattle.krb_ccache.specs.Store.{image_of};
 ghost use Rattle.krb_audit.specs.Tickets.{SelectsTickets, selected_tickets};
+ghost use Rattle.krb_driver.specs.Several.{label_of};
 ghost use Rattle.krb_editors.specs.Ccremove.{SpellsTickets, cache_after, ccremove_plan, ended_by, none_verdict, removes, ticket_mistake};
-ghost use Rattle.krb_driver.specs.Commands.{RunsWith, any, text_effect, IsMade};
+ghost use Rattle.krb_driver.specs.Commands.{text_effect, IsMade};
+ghost use Rattle.krb_driver.specs.declared.verdict.FileKind.TheVariants.{Cache as OfCache};
+ghost use Rattle.krb_editors.specs.Removing.{RemovesWith};
 ghost use Rattle.krb_driver.specs.Mistakes.{Reads};
 
-use krb_audit::{SelectedTickets, select_tickets};
+use crate::removing::{FilesSeen, end_removals};
+use krb_audit::{SelectedTickets, TicketCriteria, select_tickets};
 use krb_ccache::Ccache;
 use krb_driver::{
-    Command, CommandName, CommandWords, DRY_RUN, FileError, FileKind, FileName, IN_PLACE, Made,
-    MakeResult, Matches, Mistake, Output, RunError, Verdict, Word, WordFault, World, end_before,
-    hold_if, open_writable, refuse_twice, run, spelled_names, times_given,
+    CommandName, CommandWords, DRY_RUN, FileError, FileKind, FileName, IN_PLACE, Made, MakeResult,
+    Matches, Mistake, Output, OverFiles, RunEnd, RunError, Verdict, Word, WordFault, World,
+    end_before, hold_if, label_of, open_writable, run_over, spelled_names, times_given,
 };
 use krb_files::Files;
 use krb_walk::Refusal;
@@ -25,15 +29,15 @@ use std::io::{Read, Write};
 pub const CCREMOVE: CommandWords = CommandWords {
     command: CommandName::Ccremove,
     name: "ccremove",
-    about: "Removes tickets from a credential cache",
-    usage: "krbfile ccremove [--in-place] [-n] [-p SERVICE] [--expired] FILE",
+    about: "Removes tickets from credential caches",
+    usage: "krbfile ccremove [--in-place] [-n] [-p SERVICE].. [--all-services] [--expired] FILE..",
     after_help: Some(
         "\
 Statuses:
   0  The tickets were removed; with --expired: also where there are none
-  1  No ticket is selected, or the file is missing, too large, damaged or no cache
+  1  No ticket is selected, or a file is missing, too large, damaged or no cache
   2  The command line is bad
-  3  The file, the output or the clock failed
+  3  A file, the output or the clock failed
   4  Out of memory
 Example: remove the tickets that have ended
   krbfile ccremove --expired krb5cc_1",
@@ -44,11 +48,15 @@ Example: remove the tickets that have ended
             "service",
             'p',
             "SERVICE",
-            "Tickets for that service, with its realm",
+            "Tickets for that service, with its realm; may be repeated",
+        ),
+        Word::LongFlag(
+            "all-services",
+            "Tickets for any service but the ticket-granting service",
         ),
         Word::LongFlag("expired", "Tickets that have ended"),
         IN_PLACE,
-        Word::Operand("FILE", "The file to remove from"),
+        Word::RequiredOperands("FILE", "The files to remove from"),
     ],
 };
 
@@ -57,27 +65,32 @@ Example: remove the tickets that have ended
 pub struct TicketOptions<A: Allocator> {
     /// Only those for one of these servers, as they are printed, if there are any.
     pub servers: Vec<Vec<u8, A>, A>,
+    /// Only those for services, not for the ticket-granting service.
+    pub all_services: bool,
     /// Only those that have ended.
     pub expired: bool,
     /// Print what would be removed, and save nothing.
     pub dry_run: bool,
 }
 
-/// Returns the options of ccremove. Refuses a line that selects nothing, `-p` given twice, and a bad name.
+/// Returns the options of ccremove. Refuses a line that selects nothing, and a bad name.
 pub fn ticket_options<'a, M: Matches<'a>>(
     alloc: Global,
     matches: &M,
 ) -> Result<TicketOptions<Global>, WordFault<'a>>
     ensures { Reads (ticket_mistake (M.matched matches.now)) (SpellsTickets (M.matched matches.now)) result }
 {
-    refuse_twice(matches, "service", "-p", "--service")?;
-    if times_given(matches, "service") == 0 && !matches.flag("expired") {
-        return Err(WordFault::from(Mistake::NothingSelects("-p or --expired")));
+    let all_services = matches.flag("all-services");
+    let expired = matches.flag("expired");
+    if times_given(matches, "service") == 0 && !all_services && !expired {
+        let options = "-p, --all-services or --expired";
+        return Err(WordFault::from(Mistake::NothingSelects(options)));
     }
     let servers = spelled_names(alloc, matches, "service")?;
     Ok(TicketOptions {
         servers: servers?,
-        expired: matches.flag("expired"),
+        all_services,
+        expired,
         dry_run: matches.flag("dry-run"),
     })
 }
@@ -87,7 +100,7 @@ pub fn ticket_options<'a, M: Matches<'a>>(
 struct RemoveTickets<'f, B: Allocator> {
     options: &'f TicketOptions<B>,
     ended_by: Option<u32>,
-    file: FileName<'f>,
+    are_several: bool,
 }
 
 // Returns the time at or before which the selected tickets end, if only expired ones are selected.
@@ -116,12 +129,20 @@ fn cut<A: Allocator + Copy>(mut cache: Ccache<A>, places: &[u32]) -> Result<Vec<
     }
 }
 
-// Returns the verdict if no ticket is selected: no failure with `--expired`, if no server is given or it has tickets.
-fn none_verdict<B: Allocator>(options: &TicketOptions<B>, is_named: bool) -> Verdict
-    ensures { result ≡ none_verdict options.now is_named }
+// Returns the verdict if no ticket is selected: no failure with `--expired`, if nothing else is asked for or some ticket
+// is that.
+fn none_verdict<B: Allocator>(
+    are_several: bool,
+    options: &TicketOptions<B>,
+    is_named: bool,
+) -> Verdict
+    ensures { result ≡ none_verdict are_several options.now is_named }
 {
-    if options.expired && (options.servers.is_empty() || is_named) {
+    let is_any = options.servers.is_empty() && !options.all_services;
+    if options.expired && (is_any || is_named) {
         Verdict::Well
+    } else if are_several {
+        Verdict::Without
     } else {
         Verdict::NothingToRemove(FileKind::Cache)
     }
@@ -131,29 +152,43 @@ fn none_verdict<B: Allocator>(options: &TicketOptions<B>, is_named: bool) -> Ver
 fn select<A: Allocator + Copy, B: Allocator>(
     alloc: A,
     command: &RemoveTickets<'_, B>,
+    file: FileName<'_>,
     cache: &Ccache<A>,
 ) -> Result<SelectedTickets<A>, NoMemory>
-    ensures { IfOk result (SelectsTickets (map vec_items command.now.options.now.servers.items) command.now.ended_by cache.now.state) }
+    ensures { IfOk result (SelectsTickets (label_of command.now.are_several file.entry.name.now)
+        (map vec_items command.now.options.now.servers.items) command.now.options.now.all_services command.now.ended_by cache.now.state) }
 {
-    select_tickets(alloc, cache, &command.options.servers, command.ended_by)
+    let RemoveTickets {
+        options,
+        ended_by,
+        are_several,
+    } = *command;
+    let label = label_of(alloc, are_several, file)?;
+    let criteria = TicketCriteria {
+        servers: &options.servers,
+        all_services: options.all_services,
+        ended_by,
+    };
+    select_tickets(alloc, &label, cache, &criteria)
 }
 
 // Removes the selected tickets from a cache, or only lists them in a dry run.
 fn remove<'a, A: Allocator + Copy, B: Allocator>(
     alloc: A,
-    command: &RemoveTickets<'a, B>,
+    command: &RemoveTickets<'_, B>,
+    file: FileName<'a>,
     cache: Ccache<A>,
 ) -> Result<Made<A, Output<A>>, FileError<'a>>
-    ensures { IsMade (removes command.now.options.now command.now.file.name.now cache.state
-        (selected_tickets (map vec_items command.now.options.now.servers.items) command.now.ended_by cache.state))
-        (text_effect command.now.file.name.now result) }
+    ensures { IsMade (removes command.now.options.now command.now.are_several file.entry.name.now cache.state
+        (selected_tickets (map vec_items command.now.options.now.servers.items) command.now.options.now.all_services command.now.ended_by cache.state))
+        (text_effect file.entry.name.now result) }
 {
     let options = command.options;
-    let selected = select(alloc, command, &cache)?;
+    let selected = select(alloc, command, file, &cache)?;
     if selected.places.is_empty() {
         return Ok(Made::Shows(Output {
             text: Vec::new(alloc),
-            verdict: none_verdict(options, selected.is_named),
+            verdict: none_verdict(command.are_several, options, selected.is_named),
         }));
     }
     let text = Output {
@@ -167,36 +202,47 @@ fn remove<'a, A: Allocator + Copy, B: Allocator>(
     Ok(Made::Saves(image, text))
 }
 
-impl<'f, A: Allocator + Copy, B: Allocator> Command<A> for RemoveTickets<'f, B> {
+impl<A: Allocator + Copy, B: Allocator> OverFiles<A> for RemoveTickets<'_, B> {
+    ghost use Rattle.krb_driver.specs.Commands.{always};
     ghost use Rattle.krb_editors.specs.Ccremove.{ccremove_plan};
+    ghost use Rattle.krb_editors.specs.Removing.{seen_after};
+
+    type State = FilesSeen;
 
     type Shown = Output<A>;
 
-    ghost file = { λ c. c.file.name.now };
+    ghost plan = { λ c seen file. always (ccremove_plan c.options.now c.ended_by c.are_several file) };
 
-    ghost plan = { λ c mode. ccremove_plan c.options.now c.file c.ended_by };
+    ghost after = { seen_after };
 
-    fn file(&self) -> &str {
-        self.file.name
+    #[tactic(auto, unfolding(krb_driver::specs::Commands::always))]
+    fn make<'f, F: Files>(
+        &'f self,
+        alloc: A,
+        _seen: FilesSeen,
+        file: FileName<'f>,
+        files: &mut F,
+    ) -> MakeResult<'f, A, Output<A>> {
+        hold_if(!self.options.dry_run, files, file);
+        let cache = open_writable(alloc, files, file)?;
+        remove(alloc, self, file, cache)
     }
 
-    fn make<F: Files>(&self, alloc: A, files: &mut F) -> MakeResult<'_, A, Self::Shown> {
-        hold_if(!self.options.dry_run, files, self.file);
-        let cache = open_writable(alloc, files, self.file)?;
-        remove(alloc, self, cache)
+    fn after(seen: FilesSeen, end: RunEnd) -> FilesSeen {
+        seen.after(end)
     }
 }
 
-/// Removes the selected tickets from the cache `file` and rewrites it, prints a line for each ticket, and returns the
-/// exit status. `now` is in seconds, or `None` if the clock was not read.
+/// Removes the selected tickets from caches, one after the other, prints a line for each ticket, after the file's name if
+/// there are several, and returns the greatest status. `now` is in seconds, or `None` if the clock was not read.
 pub fn run_ccremove<A: Allocator + Copy, B: Allocator, F: Files, R: Read, W: Write, E: Write>(
     alloc: A,
     options: &TicketOptions<B>,
     now: Option<u32>,
-    file: FileName<'_>,
+    names: &[FileName<'_>],
     world: &mut World<F, R, W, E>,
 ) -> u8
-    ensures { RunsWith F.Files world.old world.new result (ccremove_plan options.now file.entry) (λ ended. any)
+    ensures { RemovesWith F.Files OfCache names.now world.old world.new result (ccremove_plan options.now)
         (ended_by options.now now) }
 {
     match ended_by(options, now) {
@@ -204,9 +250,10 @@ pub fn run_ccremove<A: Allocator + Copy, B: Allocator, F: Files, R: Read, W: Wri
             let command = RemoveTickets {
                 options,
                 ended_by,
-                file,
+                are_several: names.len() > 1,
             };
-            run(alloc, &command, world)
+            let ran = run_over(alloc, &command, FilesSeen::None, names, world);
+            end_removals(FileKind::Cache, ran, world)
         }
         Err(error) => end_before(error, None, world),
     }

@@ -1,22 +1,26 @@
 //! ktremove: removes entries from a keytab.
 
-ghost use Rattle.std.specs.Prelude.{◌≡◌};
-ghost use Rattle.krb_audit.specs.Selection.{selected_in};
-ghost use Rattle.krb_driver.specs.Commands.{RunsWith, any, text_effect, IsMade};
+ghost use Rattle.std.specs.Prelude.{◌≡◌, IfOk};
+ghost use Rattle.krb_audit.specs.Selection.{Selects, selected_in};
+ghost use Rattle.krb_driver.specs.Several.{label_of};
+ghost use Rattle.krb_driver.specs.Commands.{text_effect, IsMade};
+ghost use Rattle.krb_driver.specs.declared.verdict.FileKind.TheVariants.{Keytab as OfKeytab};
+ghost use Rattle.krb_editors.specs.Removing.{RemovesWith};
 ghost use Rattle.krb_editors.specs.Ktremove.{SpellsKvno, SpellsRemoval, kvno_mistake, ktremove_plan, needed_time, none_verdict, odd_selection, remove_mistake, removes, with_age};
 ghost use Rattle.krb_driver.specs.Mistakes.{Reads, Refuses, Spells};
 
+use crate::removing::{FilesSeen, end_removals};
 use crate::selecting::{OF_ENCTYPE, OF_PRINCIPAL, spelled_kvno};
-use krb_audit::{SelectedKvno, Selection, select};
+use krb_audit::{Selected, SelectedKvno, Selection, select};
 use krb_driver::{
-    Command, CommandName, CommandWords, DRY_RUN, FileError, FileKind, FileName, IN_PLACE, Made,
-    MakeResult, Matches, Mistake, Output, RunError, V1_BIG, Verdict, Word, WordFault, World,
-    end_before, first_value, hold_if, open_whole, refuse_twice, run, spelled_etypes, spelled_names,
-    spelled_seconds, times_given, v1_order,
+    CommandName, CommandWords, DRY_RUN, FileError, FileKind, FileName, IN_PLACE, Made, MakeResult,
+    Matches, Mistake, Output, OverFiles, RunEnd, RunError, V1_BIG, Verdict, Word, WordFault, World,
+    end_before, first_value, hold_if, label_of, open_whole, refuse_twice, run_over, spelled_etypes,
+    spelled_names, spelled_seconds, times_given, v1_order,
 };
 use krb_files::Files;
 use krb_keytab::Keytab;
-use krb_wire::Order;
+use krb_wire::{NoMemory, Order};
 use std::alloc::{Allocator, Global};
 use std::io::{Read, Write};
 
@@ -24,16 +28,16 @@ use std::io::{Read, Write};
 pub const KTREMOVE: CommandWords = CommandWords {
     command: CommandName::Ktremove,
     name: "ktremove",
-    about: "Removes entries from a keytab",
+    about: "Removes entries from keytabs",
     usage: "\
-krbfile ktremove [--v1-big] [--in-place] [-n] [-p NAME].. [-k KVNO|old [--age SECONDS]] [-e ETYPE].. FILE",
+krbfile ktremove [--v1-big] [--in-place] [-n] [-p NAME].. [-k KVNO|old [--age SECONDS]] [-e ETYPE].. FILE..",
     after_help: Some(
         "\
 Statuses:
   0  The entries were removed; with -k old: also where there are none
-  1  No entry is selected, or the file is missing, too large, damaged or no keytab
+  1  No entry is selected, or a file is missing, too large, damaged or no keytab
   2  The command line is bad
-  3  The file, the output or the clock failed
+  3  A file, the output or the clock failed
   4  Out of memory
 Example: which keys have been replaced by a newer version
   krbfile ktremove -n -k old rotated.keytab",
@@ -55,7 +59,7 @@ Example: which keys have been replaced by a newer version
         OF_ENCTYPE,
         V1_BIG,
         IN_PLACE,
-        Word::Operand("FILE", "The file to remove from"),
+        Word::RequiredOperands("FILE", "The files to remove from"),
     ],
 };
 
@@ -133,7 +137,7 @@ pub fn remove_options<'a, M: Matches<'a>>(
 struct RemoveEntries<'f, B: Allocator> {
     options: &'f RemoveOptions<B>,
     time: u32,
-    file: FileName<'f>,
+    are_several: bool,
 }
 
 // Returns the time, if the selection needs it, and otherwise 0.
@@ -148,33 +152,60 @@ fn needed_time(kvno: SelectedKvno, now: Option<u32>) -> Result<u32, RunError>
 }
 
 // Returns the verdict if no entry is selected: no failure with `-k old`, if `-p` and `-e`, if given, match an entry.
-fn none_verdict<B: Allocator>(selection: &Selection<B>, is_named: bool) -> Verdict
-    ensures { result ≡ none_verdict selection.now is_named }
+fn none_verdict<B: Allocator>(
+    are_several: bool,
+    selection: &Selection<B>,
+    is_named: bool,
+) -> Verdict
+    ensures { result ≡ none_verdict are_several selection.now is_named }
 {
     let is_any = selection.names.is_empty() && selection.enctypes.is_empty();
     let is_old = matches!(selection.kvno, SelectedKvno::Old | SelectedKvno::OldFor(_));
     if is_old && (is_any || is_named) {
         Verdict::Well
+    } else if are_several {
+        Verdict::Without
     } else {
         Verdict::NothingToRemove(FileKind::Keytab)
     }
 }
 
+// Returns the selected entries of a keytab.
+fn selected<A: Allocator + Copy, B: Allocator>(
+    alloc: A,
+    command: &RemoveEntries<'_, B>,
+    file: FileName<'_>,
+    keytab: &Keytab<A>,
+) -> Result<Selected<A>, NoMemory>
+    ensures { IfOk result (Selects (label_of command.now.are_several file.entry.name.now)
+        command.now.options.now.selection command.now.time keytab.now.state) }
+{
+    let RemoveEntries {
+        options,
+        time,
+        are_several,
+    } = *command;
+    let label = label_of(alloc, are_several, file)?;
+    select(alloc, &label, keytab, &options.selection, time)
+}
+
 // Removes the selected entries from a keytab, or only lists them in a dry run.
 fn remove<'a, A: Allocator + Copy, B: Allocator>(
     alloc: A,
-    command: &RemoveEntries<'a, B>,
+    command: &RemoveEntries<'_, B>,
+    file: FileName<'a>,
     mut keytab: Keytab<A>,
 ) -> Result<Made<A, Output<A>>, FileError<'a>>
-    ensures { IsMade (removes command.now.options.now command.now.file.name.now keytab.state (selected_in command.now.options.now.selection command.now.time keytab.state))
-        (text_effect command.now.file.name.now result) }
+    ensures { IsMade (removes command.now.options.now command.now.are_several file.entry.name.now keytab.state
+        (selected_in command.now.options.now.selection command.now.time keytab.state))
+        (text_effect file.entry.name.now result) }
 {
     let options = command.options;
-    let selected = select(alloc, &keytab, &options.selection, command.time)?;
+    let selected = selected(alloc, command, file, &keytab)?;
     if selected.places.is_empty() {
         return Ok(Made::Shows(Output {
             text: Vec::new(alloc),
-            verdict: none_verdict(&options.selection, selected.is_named),
+            verdict: none_verdict(command.are_several, &options.selection, selected.is_named),
         }));
     }
     let text = Output {
@@ -188,36 +219,47 @@ fn remove<'a, A: Allocator + Copy, B: Allocator>(
     Ok(Made::Saves(keytab.into_image(), text))
 }
 
-impl<'f, A: Allocator + Copy, B: Allocator> Command<A> for RemoveEntries<'f, B> {
+impl<A: Allocator + Copy, B: Allocator> OverFiles<A> for RemoveEntries<'_, B> {
+    ghost use Rattle.krb_driver.specs.Commands.{always};
     ghost use Rattle.krb_editors.specs.Ktremove.{ktremove_plan};
+    ghost use Rattle.krb_editors.specs.Removing.{seen_after};
+
+    type State = FilesSeen;
 
     type Shown = Output<A>;
 
-    ghost file = { λ c. c.file.name.now };
+    ghost plan = { λ c seen file. always (ktremove_plan c.options.now c.time c.are_several file) };
 
-    ghost plan = { λ c mode. ktremove_plan c.options.now c.file c.time };
+    ghost after = { seen_after };
 
-    fn file(&self) -> &str {
-        self.file.name
+    #[tactic(auto, unfolding(krb_driver::specs::Commands::always))]
+    fn make<'f, F: Files>(
+        &'f self,
+        alloc: A,
+        _seen: FilesSeen,
+        file: FileName<'f>,
+        files: &mut F,
+    ) -> MakeResult<'f, A, Output<A>> {
+        hold_if(!self.options.dry_run, files, file);
+        let keytab = open_whole(alloc, self.options.v1_order, files, file)?;
+        remove(alloc, self, file, keytab)
     }
 
-    fn make<F: Files>(&self, alloc: A, files: &mut F) -> MakeResult<'_, A, Self::Shown> {
-        hold_if(!self.options.dry_run, files, self.file);
-        let keytab = open_whole(alloc, self.options.v1_order, files, self.file)?;
-        remove(alloc, self, keytab)
+    fn after(seen: FilesSeen, end: RunEnd) -> FilesSeen {
+        seen.after(end)
     }
 }
 
-/// Removes the selected entries from the keytab `file`, prints a line for each entry, and returns the exit status.
-/// `now` is in seconds, or `None` if the clock was not read.
+/// Removes the selected entries from keytabs, one after the other, prints a line for each entry, after the file's name
+/// if there are several, and returns the greatest status. `now` is in seconds, or `None` if the clock was not read.
 pub fn run_ktremove<A: Allocator + Copy, B: Allocator, F: Files, R: Read, W: Write, E: Write>(
     alloc: A,
     options: &RemoveOptions<B>,
     now: Option<u32>,
-    file: FileName<'_>,
+    names: &[FileName<'_>],
     world: &mut World<F, R, W, E>,
 ) -> u8
-    ensures { RunsWith F.Files world.old world.new result (ktremove_plan options.now file.entry) (λ time. any)
+    ensures { RemovesWith F.Files OfKeytab names.now world.old world.new result (ktremove_plan options.now)
         (needed_time options.now.selection.kvno now) }
 {
     match needed_time(options.selection.kvno, now) {
@@ -225,9 +267,10 @@ pub fn run_ktremove<A: Allocator + Copy, B: Allocator, F: Files, R: Read, W: Wri
             let command = RemoveEntries {
                 options,
                 time,
-                file,
+                are_several: names.len() > 1,
             };
-            run(alloc, &command, world)
+            let ran = run_over(alloc, &command, FilesSeen::None, names, world);
+            end_removals(FileKind::Keytab, ran, world)
         }
         Err(error) => end_before(error, None, world),
     }

@@ -9,6 +9,7 @@ mod hold;
 mod ktcopy;
 mod ktedit;
 mod ktremove;
+mod removing;
 mod selecting;
 
 pub use ccedit::{CCEDIT, run_ccedit};

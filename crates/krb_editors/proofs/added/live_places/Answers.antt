@@ -19,9 +19,7 @@ pub loop-place-smaller : goal.loop-place-smaller
 loop-place-smaller g c =
     let s = g.P.Placed.rules.seen (g.P.Placed.state_of c.args.store.now) in
     let stop = passes s c.loop-place.from c.in-Live.place c.in-Live.next c.first-from.ensures.sound c.in-Live.ensures in
-    let ahead = stop.ahead in
-    let within = stop.within in
-    omega (arith, ahead, within)
+    omega (arith, stop.ahead, stop.within)
 
 -- one place more
 pub loop-place-preserved : goal.loop-place-preserved

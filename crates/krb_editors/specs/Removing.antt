@@ -1,0 +1,65 @@
+-- What removals from several files do.
+use Rattle.std.specs.Prelude.{◌≡◌, ◌⊎◌, ℕ, max, List, length, Bool, true, false, nat_lt, IsTrue, IsFalse, Result, Ok, Err}
+use Rattle.krb_files.specs.declared.files.Files.{Ghosts}
+use Rattle.krb_driver.specs.declared.command.RunEnd.{RunEnd}
+use Rattle.krb_driver.specs.declared.command.World.{World}
+use Rattle.krb_driver.specs.declared.error.RunError.{RunError}
+use Rattle.krb_driver.specs.declared.error.RunError.TheVariants as error
+use Rattle.krb_driver.specs.declared.file_name.FileName.{FileName}
+use Rattle.krb_driver.specs.declared.verdict.FileKind.{FileKind}
+use Rattle.krb_driver.specs.declared.verdict.Verdict.TheVariants.{Without}
+use Rattle.krb_driver.specs.Commands.{CommandPlan, EndsBefore, Prints, always}
+use Rattle.krb_driver.specs.RunErrors.{Ending}
+use Rattle.krb_driver.specs.Runs.{ends_by}
+use Rattle.krb_driver.specs.Several.{RunsOver, first_round}
+use Rattle.krb_editors.specs.declared.removing.FilesSeen.{FilesSeen}
+use Rattle.krb_editors.specs.declared.removing.FilesSeen.TheVariants as seen
+
+-- what is seen of a file whose run ended so: it is without what is asked for, or it was asked, unless a message was told before; what ends the runs counts as asked
+abbrev pub seen_of : Ending → FilesSeen
+seen_of (Ok Without) = seen.Without
+seen_of (Ok verdict) = seen.Asked
+seen_of (Err error.FileNotWritten) = seen.Asked
+seen_of (Err error.OutputNotWritten) = seen.Asked
+seen_of (Err error.NoMemory) = seen.Asked
+seen_of (Err other) = seen.None
+
+-- the more of two
+abbrev pub more : FilesSeen → FilesSeen → FilesSeen
+more seen.None other = other
+more seen.Without seen.None = seen.Without
+more seen.Without other = other
+more seen.Asked other = seen.Asked
+
+-- the most that is seen once a run has ended so
+abbrev pub seen_after : FilesSeen → RunEnd → FilesSeen
+seen_after most end = more most (seen_of end.ending)
+
+-- a file is without what is asked for, and no other one was asked
+abbrev pub is_none : FilesSeen → Bool
+is_none seen.Without = true
+is_none other = false
+
+module _ {F R W E : Type 0} (trait : Ghosts F) (old new : World F R W E) (status : ℕ) where
+  -- at the end it is reported if what is asked for is in no file
+  pub record TellsNone (kind : FileKind) (worst : ℕ) : Type 0 where
+    pub told : ℕ
+    pub prints : Prints trait old new told (ends_by (error.NothingSelected kind))
+    pub status_is : status ≡ max worst told
+
+  abbrev pub EndsRemovals : FileKind → FilesSeen → ℕ → Type 0
+  EndsRemovals kind most worst = (IsTrue (is_none most) × TellsNone kind worst) ⊎ (IsFalse (is_none most) × (new ≡ old) × (status ≡ worst))
+
+module _ {F R W E : Type 0} (trait : Ghosts F) (kind : FileKind) (names : List FileName) (old new : World F R W E) (status : ℕ) where
+  -- what is asked for is removed from files, one after the other: `plan` is what is done with each
+  pub record Removes (plan : Bool → FileName → CommandPlan) : Type 0 where
+    pub most : FilesSeen
+    pub between : World F R W E
+    pub worst : ℕ
+    pub over : RunsOver trait (λ state file. always (plan (nat_lt 1 (length names)) file)) seen_after names (first_round seen.None old) (record { world = between; state = most; status = worst })
+    pub ends : EndsRemovals trait between new status kind most worst
+
+  -- the same with what it needs first, or the error that there is none ends the run
+  abbrev pub RemovesWith : {X : Type 0} → (X → Bool → FileName → CommandPlan) → Result X RunError → Type 0
+  RemovesWith plan (Ok x) = Removes (plan x)
+  RemovesWith plan (Err why) = EndsBefore trait old new status why
