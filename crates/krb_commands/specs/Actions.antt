@@ -1,11 +1,12 @@
 -- The action of a command line, and what it does.
-use Rattle.std.specs.Prelude.{unwrap_or, ◌≡◌, ℕ, List, [], ◌∷◌, codes, map, length, not, ◌==◌, is_some, Bool, true, false, IsTrue, IsFalse, if◌then◌else◌, Option, None, Some, Result, Ok, Err, string_bytes}
+use Rattle.std.specs.Prelude.{unwrap_or, ◌≡◌, ℕ, List, [], ◌∷◌, codes, map, length, nat_lt, not, ◌==◌, is_some, Bool, true, false, if◌then◌else◌, Option, None, Some, Result, Ok, Err, string_bytes}
+use Rattle.std.specs.List.{list_any}
 use Rattle.krb_files.specs.declared.files.Files.{Ghosts}
 use Rattle.krb_audit.specs.declared.selection.SelectedKvno.{SelectedKvno}
 use Rattle.krb_audit.specs.declared.selection.SelectedKvno.TheVariants.{OldFor}
 use Rattle.krb_commands.specs.declared.action.Action.{Action}
 use Rattle.krb_commands.specs.declared.needs.Needs.{Needs}
-use Rattle.krb_commands.specs.declared.action.Action.TheVariants.{CheckTicket, Ccedit, Ccremove, Klist, Ktcheck, Ktcopy, Ktedit, Ktfind, Ktremove, Ktutil, Hold, HoldOnTerminal, Help}
+use Rattle.krb_commands.specs.declared.action.Action.TheVariants.{CheckTicket, Overview, Ccedit, Ccremove, Klist, Ktcheck, Ktcopy, Ktedit, Ktfind, Ktremove, Ktutil, Hold, HoldOnTerminal, Help}
 use Rattle.krb_driver.specs.declared.command_line.mistake.WordFault.{WordFault}
 use Rattle.krb_driver.specs.declared.command_line.mistake.WordFault.TheVariants as word
 use Rattle.krb_driver.specs.declared.command_line.words.CommandName.{CommandName}
@@ -21,20 +22,21 @@ use Rattle.krb_driver.specs.declared.command.World.{World}
 use Rattle.krb_driver.specs.FileNames.{IsNamed, bare_name, is_other_type}
 use Rattle.krb_editors.specs.Ccedit.{ccedit_fairly, ccedit_plan}
 use Rattle.krb_editors.specs.Ccremove.{SpellsTickets, ccremove_plan, ended_by, ticket_mistake}
-use Rattle.krb_driver.specs.Commands.{Runs, RunsWith, always, any}
-use Rattle.krb_readers.specs.Klist.{file_kind, klist_plan, list_mistake, list_options, RunsTicketCheck, check_mistake, check_of}
+use Rattle.krb_driver.specs.Commands.{Prints, Runs, always, any}
+use Rattle.krb_driver.specs.Loading.{result_map}
+use Rattle.krb_readers.specs.Klist.{file_kind, list_mistake, list_options, ListsAll, RunsTicketCheck, check_mistake, check_of}
+use Rattle.krb_readers.specs.Overview.{SurveysAll, overview_mistake}
 use Rattle.krb_readers.specs.declared.klist.ticket_check.TicketCheck.{TicketCheck}
-use Rattle.krb_readers.specs.declared.klist.words.KlistOptions.{KlistOptions}
-use Rattle.krb_readers.specs.declared.ktcheck.words.CheckOptions.{CheckOptions}
 use Rattle.krb_readers.specs.Ktcheck.{bad_finding, check_options, ChecksAll}
 use Rattle.krb_editors.specs.Hold.{RunsHold, file_kind as held_kind, hold_kind, hold_mistake}
 use Rattle.krb_editors.specs.Ktedit.{ktedit_fairly, ktedit_plan}
 use Rattle.krb_readers.specs.Ktfind.{SpellsEntry, find_mistake, ktfind_plan}
 use Rattle.krb_editors.specs.Ktcopy.{SpellsCopy, copy_mistake, ktcopy_plan}
+use Rattle.krb_editors.specs.Removing.{RemovesWith}
 use Rattle.krb_editors.specs.Ktremove.{SpellsRemoval, ktremove_plan, needed_time, remove_mistake}
 use Rattle.krb_ktutil.specs.KtutilTalk.{RunsKtutil}
 use Rattle.krb_driver.specs.Mistakes.{Matched, first_mistake, first_value, v1_order, MistakeParts, word_status, word_text}
-use Rattle.krb_driver.specs.Runs.{Run, EndsRun, Writes, ends_by}
+use Rattle.krb_driver.specs.Runs.{Run, Writes, ends_by}
 use Rattle.krb_editors.specs.Sessions.{RunsScript}
 use Rattle.krb_text.specs.Script.{event_in}
 use Rattle.krb_cache_text.specs.Script.{cache_line_in}
@@ -46,25 +48,46 @@ NamesFile kind None file = file ≡ None
 NamesFile kind (Some word) None = ⊥
 
 -- the parts of a file name, and those of the one that a word gives
-abbrev pub parts_of : FileName → List ℕ × Bool × NameSource
-parts_of file = (file.name.now, file.is_other_type, file.source)
+abbrev pub parts_of : FileName → FileKind × List ℕ × Bool × NameSource × Bool
+parts_of file = (file.kind, file.name.now, file.is_other_type, file.source, file.in_place)
 
-abbrev pub keytab_parts : List ℕ → List ℕ × Bool × NameSource
-keytab_parts word = (bare_name Keytab word, is_other_type Keytab word, Word)
+abbrev pub word_parts : FileKind → Bool → List ℕ → FileKind × List ℕ × Bool × NameSource × Bool
+word_parts kind in_place word = (kind, bare_name kind word, is_other_type kind word, Word, in_place)
 
--- keytabs are those that words name
-abbrev pub AreNamed : List (List ℕ) → List FileName → Type 0
-AreNamed words names = map parts_of names ≡ map keytab_parts words
+-- files are those that words name, to be saved in place or not
+abbrev pub AreNamed : FileKind → Bool → List (List ℕ) → List FileName → Type 0
+AreNamed kind in_place words names = map parts_of names ≡ map (word_parts kind in_place) words
 
--- the action is the one that the words of klist ask for: with `-s` a check, otherwise a listing
+-- files are those that a line names, to be saved in place if the words ask for that
+abbrev pub AreFiles : FileKind → Matched → List FileName → Type 0
+AreFiles kind words names = AreNamed kind (words.flag (codes "in-place")) (words.values (codes "FILE")) names
+
+-- the action is the overview, or the listing, that the words of klist ask for
+abbrev pub AsksOverview : Matched → Action → Type 0
+AsksOverview words (Overview json names) = (json ≡ words.flag (codes "json")) × AreFiles Cache words names.items
+AsksOverview words action = ⊥
+
+abbrev pub AsksListing : Matched → Action → Type 0
+AsksListing words (Klist options names) = (options ≡ list_options words) × AreFiles (file_kind options.kind) words names.items
+AsksListing words action = ⊥
+
+-- or the check of a file's tickets
+abbrev pub AsksCheck : Matched → Action → Type 0
+AsksCheck words (CheckTicket check file) = (check ≡ check_of words) × NamesFile Cache (first_value words (codes "FILE")) file
+AsksCheck words action = ⊥
+
+-- the action is the one that the words of klist ask for: with `-l` an overview, with `-s` a check, otherwise a listing
+abbrev pub AsksBy : Bool → Bool → Matched → Action → Type 0
+AsksBy true silent = AsksOverview
+AsksBy false true = AsksCheck
+AsksBy false false = AsksListing
+
 abbrev pub AsksKlist : Matched → Action → Type 0
-AsksKlist words (CheckTicket check file) = IsTrue (words.flag (codes "silent")) × (check ≡ check_of words) × NamesFile Cache (first_value words (codes "FILE")) file
-AsksKlist words (Klist options file) = IsFalse (words.flag (codes "silent")) × (options ≡ list_options words) × NamesFile (file_kind options.kind) (first_value words (codes "FILE")) file
-AsksKlist words action = ⊥
+AsksKlist words = AsksBy (words.flag (codes "list")) (words.flag (codes "silent")) words
 
 -- the action is the one that the words of ktcheck ask for
 abbrev pub AsksKtcheck : Matched → Action → Type 0
-AsksKtcheck words (Ktcheck options names) = (options ≡ check_options words) × AreNamed (words.values (codes "FILE")) names.items
+AsksKtcheck words (Ktcheck options names) = (options ≡ check_options words) × AreFiles Keytab words names.items
 AsksKtcheck words action = ⊥
 
 -- a file is the keytab, or the cache, that the word of that operand names, and is to be saved in place if the words ask for that
@@ -81,18 +104,18 @@ abbrev pub Asks : CommandName → Matched → Action → Type 0
 Asks name.Klist words action = AsksKlist words action
 Asks name.Ktedit words (Ktedit order file) = (order ≡ v1_order words) × IsEdited Keytab words (codes "FILE") file
 Asks name.Ktfind words (Ktfind options file) = SpellsEntry words options × IsNamed Keytab (words.operand (codes "FILE")) Word file
-Asks name.Ktremove words (Ktremove options file) = SpellsRemoval words options × IsEdited Keytab words (codes "FILE") file
+Asks name.Ktremove words (Ktremove options names) = SpellsRemoval words options × AreFiles Keytab words names.items
 Asks name.Ktcopy words (Ktcopy options from to) = SpellsCopy words options × IsNamed Keytab (words.operand (codes "FROM")) Word from × IsEdited Keytab words (codes "TO") to
 Asks name.Ktcheck words action = AsksKtcheck words action
 Asks name.Ccedit words (Ccedit file) = IsEdited Cache words (codes "FILE") file
-Asks name.Ccremove words (Ccremove options file) = SpellsTickets words options × IsEdited Cache words (codes "FILE") file
+Asks name.Ccremove words (Ccremove options names) = SpellsTickets words options × AreFiles Cache words names.items
 Asks name.Ktutil words (Ktutil options) = (options.v1_order ≡ v1_order words) × (options.in_place ≡ words.flag (codes "in-place"))
 Asks name.Hold words action = AsksHold words action
 Asks command words action = ⊥
 
 -- the first mistake in the words of klist
 abbrev pub klist_mistake : Matched → Option MistakeParts
-klist_mistake words = if words.flag (codes "silent") then check_mistake words else list_mistake words
+klist_mistake words = if words.flag (codes "list") then overview_mistake words else (if words.flag (codes "silent") then check_mistake words else list_mistake words)
 
 -- the first mistake in the words of that command
 abbrev pub line_mistake : CommandName → Matched → Option MistakeParts
@@ -112,11 +135,19 @@ is_timed kvno = false
 
 -- what a line needs beside its files: nothing
 abbrev pub nothing : Needs
-nothing = record { clock = false; plain = false; in_place = false; script = false; json = false; left_out = None }
+nothing = record { clock = false; plain = false; no_pipes = false; in_place = false; script = false; json = false; left_out = None }
 
--- a line that edits a file needs what its words say of saves, and perhaps a script or the time
-abbrev pub edits : FileName → Bool → Bool → Needs
-edits file script clock = record nothing { clock = clock; script = script; in_place = file.in_place }
+-- a line that edits a file needs what its words say of saves, and perhaps a script
+abbrev pub edits : FileName → Bool → Needs
+edits file script = record nothing { script = script; in_place = file.in_place }
+
+-- several files are named: a pipe among them is then refused before it is opened
+abbrev pub are_several : List FileName → Bool
+are_several names = nat_lt 1 (length names)
+
+-- a line that edits files without a script needs that of each, and perhaps the time
+abbrev pub edits_all : List FileName → Bool → Needs
+edits_all names clock = record nothing { clock = clock; no_pipes = are_several names; in_place = list_any (λ file. file.in_place) names }
 
 -- a file of that kind is left out by that command, unless the line names one
 abbrev pub left_out : Bool → FileKind → CommandName → Option (FileKind × CommandName)
@@ -124,15 +155,20 @@ left_out is_named kind command = if is_named then None else Some (kind, command)
 
 -- what an action needs
 abbrev pub needs : Action → Needs
-needs (Klist options file) = record nothing { json = options.json; left_out = left_out (is_some file) (file_kind options.kind) name.Klist }
+needs (Klist options names) = record nothing {
+  no_pipes = are_several names.items;
+  json = options.json;
+  left_out = left_out (not (length names.items == 0)) (file_kind options.kind) name.Klist;
+}
+needs (Overview json names) = record nothing { clock = true; plain = true; json = json; left_out = left_out (not (length names.items == 0)) Cache name.Klist }
 needs (CheckTicket check file) = record nothing { clock = true; plain = true; left_out = left_out (is_some file) Cache name.Klist }
-needs (Ktcheck options names) = record nothing { left_out = left_out (not (length names.items == 0)) Keytab name.Ktcheck }
-needs (Ktedit order file) = edits file true false
-needs (Ccedit file) = edits file true false
-needs (Ktremove options file) = edits file false (is_timed options.selection.kvno)
-needs (Ccremove options file) = edits file false options.expired
-needs (Ktcopy options from to) = edits to false false
-needs (Hold kind file) = edits file false false
+needs (Ktcheck options names) = record nothing { no_pipes = are_several names.items; left_out = left_out (not (length names.items == 0)) Keytab name.Ktcheck }
+needs (Ktedit order file) = edits file true
+needs (Ccedit file) = edits file true
+needs (Ktremove options names) = edits_all names.items (is_timed options.selection.kvno)
+needs (Ccremove options names) = edits_all names.items options.expired
+needs (Ktcopy options from to) = edits to false
+needs (Hold kind file) = edits file false
 needs (Ktutil options) = record nothing { clock = true; in_place = options.in_place }
 needs action = nothing
 
@@ -160,6 +196,11 @@ abbrev pub file_or : Option FileName → DefaultName → DefaultName
 file_or (Some file) default = Ok file
 file_or None default = default
 
+-- the files of a line, or else the default one
+abbrev pub files_or : List FileName → DefaultName → Result (List FileName) WordFault
+files_or (file ∷ files) default = Ok (file ∷ files)
+files_or [] default = result_map (λ file. file ∷ []) default
+
 module _ {F R W E : Type 0} (trait : Ghosts F) (old new : World F R W E) (status : ℕ) where
   -- it is reported why the command line was not read, and nothing else is done
   pub record EndsByWords (fault : WordFault) : Type 0 where
@@ -168,10 +209,10 @@ module _ {F R W E : Type 0} (trait : Ghosts F) (old new : World F R W E) (status
     pub still : new.err.explains ≡ old.err.explains
     pub status_is : status ≡ word_status fault
 
-  -- a file is listed
-  abbrev pub Lists : KlistOptions → DefaultName → Type 0
-  Lists options (Ok file) = Runs trait (always (klist_plan options file)) any old new status
-  Lists options (Err fault) = EndsByWords fault
+  -- a command is run over files, or it is reported why there are none
+  abbrev pub RunsOn : (List FileName → Type 0) → Result (List FileName) WordFault → Type 0
+  RunsOn OfFiles (Ok names) = OfFiles names
+  RunsOn OfFiles (Err fault) = EndsByWords fault
 
   -- the tickets of a file are checked, which prints nothing; without memory for its name neither
   abbrev pub ChecksTickets : TicketCheck → Option ℕ → DefaultName → Type 0
@@ -179,33 +220,20 @@ module _ {F R W E : Type 0} (trait : Ghosts F) (old new : World F R W E) (status
   ChecksTickets check now (Err word.NoMemory) = (new ≡ old) × (status ≡ 4)
   ChecksTickets check now (Err fault) = EndsByWords fault
 
-  -- the default keytab is checked
-  abbrev pub ChecksDefault : CheckOptions → DefaultName → Type 0
-  ChecksDefault options (Ok file) = ChecksAll trait options (file ∷ []) old new status
-  ChecksDefault options (Err fault) = EndsByWords fault
-
-  -- keytabs are checked: the default one if none is named
-  abbrev pub ChecksKeytabs : CheckOptions → DefaultName → List FileName → Type 0
-  ChecksKeytabs options default [] = ChecksDefault options default
-  ChecksKeytabs options default (file ∷ files) = ChecksAll trait options (file ∷ files) old new status
-
-  -- a run that uses no file prints and reports what is due
-  abbrev pub Prints : Run → Type 0
-  Prints due = (new ≡ record old { out = new.out; err = new.err }) × EndsRun [] None due old.out new.out old.err new.err status
-
 module _ {F R W E : Type 0} (trait : Ghosts F) (old new : World F R W E) (status : ℕ) (now : Option ℕ) (default : DefaultName) where
   -- what an action does over a world: only scripts, the lines of ktutil and what is given back to hold are read from its input
   abbrev pub EndsAction : Action → Type 0
-  EndsAction (Klist options file) = Lists trait old new status options (file_or file default)
+  EndsAction (Klist options names) = RunsOn trait old new status (ListsAll trait options old new status) (files_or names.items default)
+  EndsAction (Overview json names) = RunsOn trait old new status (SurveysAll trait json now old new status) (files_or names.items default)
   EndsAction (CheckTicket check file) = ChecksTickets trait old new status check now (file_or file default)
   EndsAction (Ktfind options file) = Runs trait (always (ktfind_plan options file)) any old new status
   EndsAction (Ktedit order file) = RunsScript trait old new status (ktedit_plan order file) (ktedit_fairly order file) event_in
-  EndsAction (Ktcheck options names) = ChecksKeytabs trait old new status options default names.items
-  EndsAction (Ktremove options file) = RunsWith trait old new status (ktremove_plan options file) (λ time. any) (needed_time options.selection.kvno now)
+  EndsAction (Ktcheck options names) = RunsOn trait old new status (ChecksAll trait options old new status) (files_or names.items default)
+  EndsAction (Ktremove options names) = RemovesWith trait Keytab names.items old new status (ktremove_plan options) (needed_time options.selection.kvno now)
   EndsAction (Ktcopy options from to) = Runs trait (always (ktcopy_plan options from to)) any old new status
   EndsAction (Ktutil options) = RunsKtutil trait options.v1_order options.prompts (unwrap_or now 0) old new status
   EndsAction (Ccedit file) = RunsScript trait old new status (ccedit_plan file) ccedit_fairly cache_line_in
-  EndsAction (Ccremove options file) = RunsWith trait old new status (ccremove_plan options file) (λ ended. any) (ended_by options now)
+  EndsAction (Ccremove options names) = RemovesWith trait Cache names.items old new status (ccremove_plan options) (ended_by options now)
   EndsAction (Hold kind file) = RunsHold trait old new status kind file
   EndsAction HoldOnTerminal = Prints trait old new status (ends_by OutputIsTerminal)
   EndsAction (Help text) = Prints trait old new status (help_run (string_bytes text))

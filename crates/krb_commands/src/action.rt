@@ -1,10 +1,12 @@
 //! The commands, and the actions of their command lines.
 
 ghost use Rattle.std.specs.Prelude.{◌≡◌, codes, map, IfErr, IfOk, None, OnOk};
-ghost use Rattle.krb_commands.specs.Actions.{AreNamed, Asks, AsksHold, AsksKlist, AsksKtcheck, IsEdited, NamesFile, at_terminal, klist_mistake, line_mistake};
+ghost use Rattle.krb_commands.specs.Actions.{AreNamed, Asks, AsksHold, AsksKlist, AsksKtcheck, AsksListing, AsksOverview, IsEdited, NamesFile, at_terminal, klist_mistake, line_mistake};
 ghost use Rattle.krb_driver.specs.FileNames.{IsNamed};
 ghost use Rattle.krb_driver.specs.declared.file_name.NameSource.TheVariants.{Word};
 ghost use Rattle.krb_readers.specs.Ktcheck.{bad_finding};
+ghost use Rattle.krb_readers.specs.Klist.{list_mistake};
+ghost use Rattle.krb_readers.specs.Overview.{overview_mistake};
 ghost use Rattle.krb_editors.specs.Hold.{hold_mistake};
 ghost use Rattle.krb_driver.specs.Mistakes.{first_mistake, first_value, IsRefusal, Reads};
 
@@ -19,7 +21,7 @@ use krb_editors::{
 use krb_ktutil::KTUTIL;
 use krb_readers::{
     CheckOptions, FindOptions, KLIST, KTCHECK, KTFIND, KlistOptions, ListKind, TicketCheck,
-    check_options, find_options, klist_options, ticket_check,
+    check_options, find_options, klist_options, overview_json, ticket_check,
 };
 use krb_wire::Order;
 use std::alloc::{AllocError, Global};
@@ -63,20 +65,22 @@ pub struct KtutilOptions {
     pub prompts: bool,
 }
 
-/// What a command line says to do. Commands over a file carry its name, or none if the line leaves it out.
+/// What a command line says to do. Commands over files carry their names, or none if the line leaves them out.
 #[derive(Drop)]
 pub enum Action<'a> {
-    Klist(KlistOptions, Option<FileName<'a>>),
+    Klist(KlistOptions, Vec<FileName<'a>>),
+    /// As JSON or not.
+    Overview(bool, Vec<FileName<'a>>),
     CheckTicket(TicketCheck, Option<FileName<'a>>),
     Ktfind(FindOptions<Global>, FileName<'a>),
     /// With the byte order of version 1 keytabs.
     Ktedit(Order, FileName<'a>),
     Ktcheck(CheckOptions, Vec<FileName<'a>>),
-    Ktremove(RemoveOptions<Global>, FileName<'a>),
+    Ktremove(RemoveOptions<Global>, Vec<FileName<'a>>),
     /// From the first keytab into the second.
     Ktcopy(CopyOptions<Global>, FileName<'a>, FileName<'a>),
     Ccedit(FileName<'a>),
-    Ccremove(TicketOptions<Global>, FileName<'a>),
+    Ccremove(TicketOptions<Global>, Vec<FileName<'a>>),
     Ktutil(KtutilOptions),
     Hold(HoldKind, FileName<'a>),
     /// Refuses to print an image to a terminal.
@@ -128,28 +132,73 @@ fn edited_file<'a, M: Matches<'a>>(matches: &M, kind: FileKind, operand: &str) -
     file_of(matches, kind, operand).saved(matches.flag("in-place"))
 }
 
-// Returns the keytabs that words name.
-fn keytabs_of<'a>(alloc: Global, words: &[&'a str]) -> Result<Vec<FileName<'a>>, AllocError>
-    ensures { IfOk result (λ names. AreNamed (map (λ word. word.now) words.now) names.items) }
+// Returns the files that words name, to be saved in place or not.
+fn files_of<'a>(
+    alloc: Global,
+    kind: FileKind,
+    in_place: bool,
+    words: &[&'a str],
+) -> Result<Vec<FileName<'a>>, AllocError>
+    ensures { IfOk result (λ names. AreNamed kind in_place (map (λ word. word.now) words.now) names.items) }
 {
     let mut names = Vec::new(alloc);
     'words: for word in words {
-        names.push(FileName::of(FileKind::Keytab, *word, NameSource::Word))?;
+        names.push(FileName::of(kind, *word, NameSource::Word).saved(in_place))?;
     }
     Ok(names)
 }
 
-// Returns the action for the words of klist: with `-s` a check, otherwise a listing.
-fn parsed_klist<'a, M: Matches<'a>>(matches: &M) -> Result<Action<'a>, WordFault<'a>>
+// Returns the files that a line names, to be saved in place if the words ask for that.
+fn files_named<'a, M: Matches<'a>>(
+    alloc: Global,
+    matches: &M,
+    kind: FileKind,
+) -> Result<Vec<FileName<'a>>, AllocError>
+    ensures { IfOk result (λ names. AreNamed kind ((M.matched matches.now).flag (codes "in-place"))
+        ((M.matched matches.now).values (codes "FILE")) names.items) }
+{
+    files_of(
+        alloc,
+        kind,
+        matches.flag("in-place"),
+        matches.values("FILE"),
+    )
+}
+
+// Returns the action for the words of `klist -l`.
+fn parsed_overview<'a, M: Matches<'a>>(
+    alloc: Global,
+    matches: &M,
+) -> Result<Action<'a>, WordFault<'a>>
+    ensures { Reads (overview_mistake (M.matched matches.now)) (AsksOverview (M.matched matches.now)) result }
+{
+    let json = overview_json(matches)?;
+    Ok(Action::Overview(json, files_named(alloc, matches, FileKind::Cache)?))
+}
+
+// Returns the action for the words of a listing.
+fn parsed_listing<'a, M: Matches<'a>>(
+    alloc: Global,
+    matches: &M,
+) -> Result<Action<'a>, WordFault<'a>>
+    ensures { Reads (list_mistake (M.matched matches.now)) (AsksListing (M.matched matches.now)) result }
+{
+    let options = klist_options(matches)?;
+    let kind = options.kind.file_kind();
+    Ok(Action::Klist(options, files_named(alloc, matches, kind)?))
+}
+
+// Returns the action for the words of klist: with `-l` an overview, with `-s` a check, otherwise a listing.
+fn parsed_klist<'a, M: Matches<'a>>(alloc: Global, matches: &M) -> Result<Action<'a>, WordFault<'a>>
     ensures { Reads (klist_mistake (M.matched matches.now)) (AsksKlist (M.matched matches.now)) result }
 {
-    if matches.flag("silent") {
+    if matches.flag("list") {
+        parsed_overview(alloc, matches)
+    } else if matches.flag("silent") {
         let check = ticket_check(matches)?;
         Ok(Action::CheckTicket(check, file_named(matches, FileKind::Cache)))
     } else {
-        let options = klist_options(matches)?;
-        let kind = options.kind.file_kind();
-        Ok(Action::Klist(options, file_named(matches, kind)))
+        parsed_listing(alloc, matches)
     }
 }
 
@@ -161,7 +210,7 @@ fn parsed_ktcheck<'a, M: Matches<'a>>(
     ensures { Reads (first_mistake bad_finding ((M.matched matches.now).values (codes "allow"))) (AsksKtcheck (M.matched matches.now)) result }
 {
     let options = check_options(matches)?;
-    let names = keytabs_of(alloc, matches.values("FILE"))?;
+    let names = files_named(alloc, matches, FileKind::Keytab)?;
     Ok(Action::Ktcheck(options, names))
 }
 
@@ -184,13 +233,16 @@ fn parsed<'a, M: Matches<'a>>(
     let keytab = edited_file(matches, FileKind::Keytab, "FILE");
     let cache = edited_file(matches, FileKind::Cache, "FILE");
     match command {
-        CommandName::Klist => parsed_klist(matches),
+        CommandName::Klist => parsed_klist(alloc, matches),
         CommandName::Ktedit => Ok(Action::Ktedit(v1_order(matches), keytab)),
         CommandName::Ktfind => Ok(Action::Ktfind(
             find_options(alloc, matches)?,
             file_of(matches, FileKind::Keytab, "FILE"),
         )),
-        CommandName::Ktremove => Ok(Action::Ktremove(remove_options(alloc, matches)?, keytab)),
+        CommandName::Ktremove => Ok(Action::Ktremove(
+            remove_options(alloc, matches)?,
+            files_named(alloc, matches, FileKind::Keytab)?,
+        )),
         CommandName::Ktcopy => Ok(Action::Ktcopy(
             copy_options(alloc, matches)?,
             file_of(matches, FileKind::Keytab, "FROM"),
@@ -198,7 +250,10 @@ fn parsed<'a, M: Matches<'a>>(
         )),
         CommandName::Ktcheck => parsed_ktcheck(alloc, matches),
         CommandName::Ccedit => Ok(Action::Ccedit(cache)),
-        CommandName::Ccremove => Ok(Action::Ccremove(ticket_options(alloc, matches)?, cache)),
+        CommandName::Ccremove => Ok(Action::Ccremove(
+            ticket_options(alloc, matches)?,
+            files_named(alloc, matches, FileKind::Cache)?,
+        )),
         CommandName::Ktutil => Ok(Action::Ktutil(KtutilOptions {
             v1_order: v1_order(matches),
             in_place: matches.flag("in-place"),

@@ -1,7 +1,8 @@
 //! What the run of a command line needs.
 
 ghost use Rattle.std.specs.Prelude.{◌≡◌};
-ghost use Rattle.krb_commands.specs.Actions.{edits, left_out, needs, needs_of, nothing};
+ghost use Rattle.std.specs.List.{list_any};
+ghost use Rattle.krb_commands.specs.Actions.{are_several, edits, edits_all, left_out, needs, needs_of, nothing};
 
 use crate::action::Action;
 use krb_audit::SelectedKvno;
@@ -15,6 +16,8 @@ pub struct Needs {
     pub clock: bool,
     /// Only plain files are loaded: any other is refused before it is opened.
     pub plain: bool,
+    /// A pipe is refused before it is opened, since others come after it.
+    pub no_pipes: bool,
     /// Files are saved in place.
     pub in_place: bool,
     /// A script is read.
@@ -33,6 +36,7 @@ impl Needs {
         Needs {
             clock: false,
             plain: false,
+            no_pipes: false,
             in_place: false,
             script: false,
             json: false,
@@ -41,15 +45,39 @@ impl Needs {
     }
 
     // Returns those of a line that edits a file, by a script or not.
-    fn edits(file: &FileName<'_>, script: bool, clock: bool) -> Needs
-        ensures { result ≡ edits file.now script clock }
+    fn edits(file: &FileName<'_>, script: bool) -> Needs
+        ensures { result ≡ edits file.now script }
     {
         Needs {
-            clock,
             script,
             in_place: file.in_place,
             ..Needs::nothing()
         }
+    }
+}
+
+// Returns whether a line names several files.
+fn are_several(names: &[FileName<'_>]) -> bool
+    ensures { result ≡ are_several names.now }
+{
+    names.len() > 1
+}
+
+fn are_in_place(names: &[FileName<'_>]) -> bool
+    ensures { result ≡ list_any (λ file. file.in_place) names.now }
+{
+    names.iter().any(|file| file.in_place)
+}
+
+// Returns what a line needs that edits files without a script.
+fn edits_all(names: &[FileName<'_>], clock: bool) -> Needs
+    ensures { result ≡ edits_all names.now clock }
+{
+    Needs {
+        clock,
+        no_pipes: are_several(names),
+        in_place: are_in_place(names),
+        ..Needs::nothing()
     }
 }
 
@@ -69,9 +97,21 @@ fn action_needs(action: &Action<'_>) -> Needs
     ensures { result ≡ needs action.now }
 {
     match action {
-        Action::Klist(options, file) => Needs {
+        Action::Klist(options, names) => Needs {
+            no_pipes: are_several(names),
             json: options.json,
-            left_out: left_out(file.is_some(), options.kind.file_kind(), CommandName::Klist),
+            left_out: left_out(
+                !names.is_empty(),
+                options.kind.file_kind(),
+                CommandName::Klist,
+            ),
+            ..Needs::nothing()
+        },
+        Action::Overview(json, names) => Needs {
+            clock: true,
+            plain: true,
+            json: *json,
+            left_out: left_out(!names.is_empty(), FileKind::Cache, CommandName::Klist),
             ..Needs::nothing()
         },
         Action::CheckTicket(_, file) => Needs {
@@ -81,16 +121,17 @@ fn action_needs(action: &Action<'_>) -> Needs
             ..Needs::nothing()
         },
         Action::Ktcheck(_, names) => Needs {
+            no_pipes: are_several(names),
             left_out: left_out(!names.is_empty(), FileKind::Keytab, CommandName::Ktcheck),
             ..Needs::nothing()
         },
-        Action::Ktedit(_, file) | Action::Ccedit(file) => Needs::edits(file, true, false),
-        Action::Ktremove(options, file) => {
+        Action::Ktedit(_, file) | Action::Ccedit(file) => Needs::edits(file, true),
+        Action::Ktremove(options, names) => {
             let is_timed = matches!(options.selection.kvno, SelectedKvno::OldFor(_));
-            Needs::edits(file, false, is_timed)
+            edits_all(names, is_timed)
         }
-        Action::Ccremove(options, file) => Needs::edits(file, false, options.expired),
-        Action::Ktcopy(_, _, file) | Action::Hold(_, file) => Needs::edits(file, false, false),
+        Action::Ccremove(options, names) => edits_all(names, options.expired),
+        Action::Ktcopy(_, _, file) | Action::Hold(_, file) => Needs::edits(file, false),
         Action::Ktutil(options) => Needs {
             clock: true,
             in_place: options.in_place,

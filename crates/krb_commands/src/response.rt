@@ -1,20 +1,20 @@
 //! Runs the action of a command line.
 
 ghost use Rattle.std.specs.Prelude.{◌≡◌};
-ghost use Rattle.krb_commands.specs.Actions.{ChecksKeytabs, ChecksTickets, EndsParsed, Lists, Prints, file_or};
+ghost use Rattle.krb_commands.specs.Actions.{ChecksTickets, EndsParsed, file_or, files_or};
+ghost use Rattle.krb_driver.specs.Loading.{result_map};
 
-use crate::action::{Action, KtutilOptions};
-use krb_driver::{
-    Details, FileName, RunError, Verdict, WordFault, World, report, report_word_fault, show,
-};
+use crate::action::Action;
+use krb_driver::{FileName, RunError, Verdict, WordFault, World, print, report_word_fault};
 use krb_editors::{run_ccedit, run_ccremove, run_hold, run_ktcopy, run_ktedit, run_ktremove};
 use krb_files::Files;
 use krb_ktutil::run_ktutil;
 use krb_readers::{
-    CheckOptions, KlistOptions, TicketCheck, run_klist, run_ktcheck, run_ktfind, run_ticket_check,
+    TicketCheck, run_klist, run_ktcheck, run_ktfind, run_overview, run_ticket_check,
 };
 use std::alloc::Allocator;
 use std::io::{Read, Write};
+use std::slice;
 
 /// The name of a file that a command line leaves out, or why there is none.
 pub type DefaultName<'a> = Result<FileName<'a>, WordFault<'a>>;
@@ -29,18 +29,19 @@ fn file_or<'a>(file: Option<FileName<'a>>, default: DefaultName<'a>) -> DefaultN
     }
 }
 
-// Lists a file.
-fn list<A: Allocator + Copy, F: Files, R: Read, W: Write, E: Write>(
-    alloc: A,
-    options: &KlistOptions,
-    file: DefaultName<'_>,
-    world: &mut World<F, R, W, E>,
-) -> u8
-    ensures { Lists F.Files world.old world.new result options.now file.entry }
+// Returns the files of a line, or else the default.
+fn files_or<'n, 'a>(
+    names: &'n [FileName<'a>],
+    default: &'n DefaultName<'a>,
+) -> Result<&'n [FileName<'a>], WordFault<'a>>
+    ensures { result_map (λ names. names.now) result ≡ files_or names.now default.now }
 {
-    match file {
-        Ok(file) => run_klist(alloc, options, file, world),
-        Err(fault) => report_word_fault(fault, &mut world.err),
+    if !names.is_empty() {
+        return Ok(names);
+    }
+    match default {
+        Ok(file) => Ok(slice::from_ref(file)),
+        Err(fault) => Err(*fault),
     }
 }
 
@@ -61,38 +62,6 @@ fn check_tickets<A: Allocator + Copy, F: Files, R: Read, W: Write, E: Write>(
     }
 }
 
-// Checks keytabs: the default one if none is named.
-fn check_keytabs<A: Allocator + Copy, F: Files, R: Read, W: Write, E: Write>(
-    alloc: A,
-    options: &CheckOptions,
-    names: &[FileName<'_>],
-    default: DefaultName<'_>,
-    world: &mut World<F, R, W, E>,
-) -> u8
-    ensures { ChecksKeytabs F.Files world.old world.new result options.now default.entry names.now }
-{
-    if !names.is_empty() {
-        return run_ktcheck(alloc, options, names, world);
-    }
-    match default {
-        Ok(file) => run_ktcheck(alloc, options, &[file], world),
-        Err(fault) => report_word_fault(fault, &mut world.err),
-    }
-}
-
-// Prints a text, without a file, and reports how that ended.
-fn print<F: Files, R: Read, W: Write, E: Write>(
-    text: &[u8],
-    ending: Result<Verdict, RunError>,
-    world: &mut World<F, R, W, E>,
-) -> u8
-    ensures { Prints F.Files world.old world.new result (record { out = text.now; ending = ending }) }
-{
-    let ending = show(text, ending, &mut world.out);
-    let details = Details::unsaved(world.out.cause());
-    report(ending, b"", None, details, &mut world.err)
-}
-
 /// Runs an action, or reports why the command line was not read, and returns the exit status. `default` is the name of
 /// the file if the line leaves it out. ktutil adds entries with the time `now`, in seconds, or 0 if the clock was not
 /// read. A failure of `err` changes nothing else. A check of tickets prints and reports nothing.
@@ -106,27 +75,31 @@ pub fn respond<A: Allocator + Copy, F: Files, R: Read, W: Write, E: Write>(
     ensures { EndsParsed F.Files world.old world.new result now default.entry parsed.now }
 {
     match parsed {
-        Ok(Action::Klist(options, file)) => list(alloc, options, file_or(*file, default), world),
+        Ok(Action::Klist(options, names)) => match files_or(names, &default) {
+            Ok(names) => run_klist(alloc, options, names, world),
+            Err(fault) => report_word_fault(fault, &mut world.err),
+        },
+        Ok(Action::Overview(json, names)) => match files_or(names, &default) {
+            Ok(names) => run_overview(alloc, *json, now, names, world),
+            Err(fault) => report_word_fault(fault, &mut world.err),
+        },
         Ok(Action::CheckTicket(check, file)) => {
             check_tickets(alloc, *check, now, file_or(*file, default), world)
         }
         Ok(Action::Ktfind(options, file)) => run_ktfind(alloc, options, *file, world),
         Ok(Action::Ktedit(v1_order, file)) => run_ktedit(alloc, *v1_order, *file, world),
-        Ok(Action::Ktcheck(options, names)) => {
-            check_keytabs(alloc, options, names, default, world)
-        }
-        Ok(Action::Ktremove(options, file)) => run_ktremove(alloc, options, now, *file, world),
+        Ok(Action::Ktcheck(options, names)) => match files_or(names, &default) {
+            Ok(names) => run_ktcheck(alloc, options, names, world),
+            Err(fault) => report_word_fault(fault, &mut world.err),
+        },
+        Ok(Action::Ktremove(options, names)) => run_ktremove(alloc, options, now, names, world),
         Ok(Action::Ktcopy(options, from, to)) => run_ktcopy(alloc, options, *from, *to, world),
         Ok(Action::Ktutil(options)) => {
-            let KtutilOptions {
-                v1_order,
-                prompts,
-                ..
-            } = *options;
-            run_ktutil(alloc, v1_order, prompts, now.unwrap_or(0), world)
+            let now = now.unwrap_or(0);
+            run_ktutil(alloc, options.v1_order, options.prompts, now, world)
         }
         Ok(Action::Ccedit(file)) => run_ccedit(alloc, *file, world),
-        Ok(Action::Ccremove(options, file)) => run_ccremove(alloc, options, now, *file, world),
+        Ok(Action::Ccremove(options, names)) => run_ccremove(alloc, options, now, names, world),
         Ok(Action::Hold(kind, file)) => run_hold(alloc, *kind, *file, world),
         Ok(Action::HoldOnTerminal) => print(b"", Err(RunError::OutputIsTerminal), world),
         Ok(Action::Help(text)) => print(text.as_bytes(), Ok(Verdict::Well), world),

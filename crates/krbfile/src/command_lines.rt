@@ -7,6 +7,13 @@ use std::alloc::{AllocError, Global};
 /// The version, and the toolchain that proves and compiles it.
 const VERSION: &str = "1.0 (rattle logic dac8208d650f15bf)";
 
+fn operands<'a>(alloc: Global, name: &'static str, help: &'static str) -> Arg<'a> {
+    Arg::new(alloc, name)
+        .num_args(1..)
+        .action(ArgAction::Append)
+        .help(help)
+}
+
 fn arg_of<'a>(alloc: Global, word: Word) -> Arg<'a> {
     match word {
         Word::Flag(name, letter, help) => Arg::new(alloc, name)
@@ -31,10 +38,8 @@ fn arg_of<'a>(alloc: Global, word: Word) -> Arg<'a> {
             .help(help),
         Word::Operand(name, help) => Arg::new(alloc, name).required(true).help(help),
         Word::OptionalOperand(name, help) => Arg::new(alloc, name).help(help),
-        Word::Operands(name, help) => Arg::new(alloc, name)
-            .num_args(1..)
-            .action(ArgAction::Append)
-            .help(help),
+        Word::Operands(name, help) => operands(alloc, name, help),
+        Word::RequiredOperands(name, help) => operands(alloc, name, help).required(true),
     }
 }
 

@@ -5,7 +5,6 @@ ghost use Rattle.std.specs.Prelude.{◌≡◌};
 
 mod bad_line;
 mod bundle;
-mod clock;
 mod command_lines;
 mod default_name;
 mod equals;
@@ -13,7 +12,6 @@ mod nearest;
 mod options;
 mod place;
 mod run;
-mod silent;
 mod words;
 
 use krb_commands::{ErrorOutput, Needs, World, at_terminal, needs_of};
@@ -21,9 +19,9 @@ use krb_disk::DiskFiles;
 use krb_files::{Watched, WatchedReader};
 use krb_terminal::Screen;
 use run::{
-    announce_script, asks_to_explain, is_out_of_memory, is_told_to_explain, parsed, run, words_of,
+    announce_script, asks_for_silence, asks_to_explain, is_out_of_memory, is_told_to_explain,
+    parsed, run, words_of,
 };
-use silent::asks_for_silence;
 use std::io::IsTerminal;
 use std::process::ExitCode;
 use std::rt;
@@ -36,6 +34,9 @@ fn files_for<R: rt::Files + Alloc>(rt: &R, needs: Needs) -> DiskFiles<'_, R>
     let mut files = DiskFiles::new(rt);
     if needs.plain {
         files.only_plain();
+    }
+    if needs.no_pipes {
+        files.refuse_pipes();
     }
     if needs.in_place {
         files.save_in_place();

@@ -1,9 +1,9 @@
 //! The command line, and its run.
 
-ghost use Rattle.std.specs.Prelude.{◌≡◌, ◌↔◌, ℕ, IsTrue, Option};
+ghost use Rattle.std.specs.Prelude.{◌≡◌, ◌↔◌, ℕ, IsTrue, Option, bytes_eq, codes};
 ghost use Rattle.krb_commands.specs.Actions.{DefaultName, EndsParsed};
+ghost use Rattle.krbfile.specs.Words.{is_silent};
 
-use crate::clock::seconds_now;
 use crate::default_name::{FoundName, found_name};
 use crate::words::parse_words;
 use krb_commands::{Action, Mistake, Needs, WordFault, World, respond, words_of as command_words};
@@ -11,6 +11,7 @@ use krb_files::{Files, Watched, put};
 use std::alloc::Global;
 use std::env::FillError;
 use std::io::{Read, Write};
+use std::time::{Clock, SystemTime, UNIX_EPOCH};
 use std::{env, io, rt};
 use wiping::Wiping;
 
@@ -28,6 +29,43 @@ pub fn is_told_to_explain<R: rt::Env>(rt: &R) -> bool {
 pub fn asks_to_explain<R: rt::Env>(rt: &R) -> bool {
     let mut word = [0; 9];
     matches!(rt.arg(1, &mut word), Ok(9)) && word == *b"--explain"
+}
+
+/// The most words that are looked at.
+const MOST: usize = 64;
+
+fn is_klist(word: &[u8]) -> bool
+    ensures { result ≡ bytes_eq word.now (codes "klist") }
+{
+    word == b"klist".as_slice()
+}
+
+// Returns whether a word is `--silent`, or a bundle of letters with `s` among them.
+fn is_silent(word: &[u8]) -> bool
+    ensures { result ≡ is_silent word.now }
+{
+    match word {
+        [first, letters @ ..] if !letters.is_empty() => {
+            word == b"--silent".as_slice()
+                || *first == b'-' && letters[0] != b'-' && letters.contains(&b's')
+        }
+        _ => false,
+    }
+}
+
+// Returns the word of that number; an empty one if there is none, or if it is longer than the buffer.
+fn word_of<'a, R: rt::Env>(rt: &R, number: usize, word: &'a mut [u8; 16]) -> &'a [u8] {
+    match rt.arg(number, word) {
+        Ok(length) => &word[..length],
+        Err(_) => &[],
+    }
+}
+
+/// Returns whether the words are those of `klist -s`.
+pub fn asks_for_silence<R: rt::Env>(rt: &R) -> bool {
+    let first = if asks_to_explain(rt) { 2 } else { 1 };
+    is_klist(word_of(rt, first, &mut [0; 16]))
+        && (first + 1..MOST).any(|number| is_silent(word_of(rt, number, &mut [0; 16])))
 }
 
 /// Returns the words of the command line. If one is not UTF-8, the line is bad.
@@ -61,6 +99,13 @@ pub fn is_out_of_memory(parsed: &Result<Action<'_>, WordFault<'_>>) -> bool
     ensures { IsTrue result ↔ (parsed.now ≡ Err WordFault.NoMemory) }
 {
     matches!(parsed, Err(WordFault::NoMemory))
+}
+
+// Returns the seconds since 1970, or `None` if the clock fails or they do not fit.
+fn seconds_now<C: Clock>(clock: &C) -> Option<u32> {
+    let now = SystemTime::now(clock).ok()?;
+    let since_1970 = now.duration_since(UNIX_EPOCH).ok()?;
+    u32::try_from(since_1970.as_secs()).ok()
 }
 
 /// Runs an action, or reports why the command line was not read, and returns the exit status. The clock is read at
