@@ -10,12 +10,20 @@ use Rattle.krb_json.specs.Keytab.{keytab_json_text}
 use Rattle.krb_audit.specs.Findings.{is_out}
 use Rattle.krb_audit.specs.Newest.{has_wrapped}
 use Rattle.krb_audit.specs.Report.{report}
-use Rattle.krb_audit.specs.Tickets.{removed_ticket_line, selected_tickets}
+use Rattle.krb_audit.specs.Tickets.{is_service, removed_ticket_line, selected_tickets}
 use Rattle.krb_audit.specs.Selection.{has_selected_kvno, is_young}
 use Rattle.krb_copy.specs.Copying.{copy_run}
+use Rattle.krb_driver.specs.declared.command.RunEnd.{RunEnd}
+use Rattle.krb_driver.specs.declared.error.RunError.TheVariants.{FileNotWritten, NoSuchFile}
+use Rattle.krb_driver.specs.declared.file_name.NameSource.TheVariants.{Word}
+use Rattle.krb_driver.specs.declared.verdict.Verdict.TheVariants.{Without}
+use Rattle.krb_driver.specs.RunErrors.{Ending, ending_status}
 use Rattle.krb_readers.specs.Klist.{has_ticket}
+use Rattle.krb_readers.specs.Overview.{overview_text}
 use Rattle.krb_editors.specs.Hold.{frame, framed}
 use Rattle.krb_editors.specs.Ktedit as ktedit
+use Rattle.krb_editors.specs.Removing.{is_none, seen_after}
+use Rattle.krb_editors.specs.declared.removing.FilesSeen.TheVariants as seen
 use Rattle.samples.proofs.Given.{hex, keytab, cache, name, found, old, events, printed, host, b, two, front, ticket, pa_type, worked}
 use Rattle.samples.proofs.Unfolded.{on_literals}
 
@@ -230,6 +238,28 @@ silent-granting : (has_ticket 1700036000 (cache (front ++ (ticket ++ service))) 
 unfolding on_literals
 silent-granting = (refl, refl)
 
+-- ---- several files
+
+-- the line of a cache that has expired, and its JSON
+overview : map (λ json. overview_text json 1700036000 (codes "c") (cache worked)) (false ∷ true ∷ [])
+    ≡ codes "u@R                            FILE:c (Expired)\n"
+    ∷ codes "{\"file\":\"c\",\"kind\":\"ccache\",\"default_principal\":\"u@R\",\"tickets\":1,\"endtime\":1700036000,\"expired\":true}\n" ∷ []
+unfolding on_literals
+overview = refl
+
+-- the ticket-granting ticket is for no service, and a name without components is
+services : map (λ s. is_service (name s)) (codes "krbtgt/R@R" ∷ codes "host/a@R" ∷ codes "@R" ∷ []) ≡ false ∷ true ∷ true ∷ []
+unfolding on_literals
+services = refl
+
+-- a run that ended so
+abbrev ended : Ending → RunEnd
+ended end = record { ending = end; status = ending_status end }
+
+-- one file is without what is asked for: no file has it if of the other one a message was told before, but not if that was asked
+none-has-it : map (λ end. is_none (seen_after (seen_after seen.None (ended (Ok Without))) (ended end))) (Err (NoSuchFile Word) ∷ Ok Well ∷ Err FileNotWritten ∷ []) ≡ true ∷ false ∷ false ∷ []
+none-has-it = refl
+
 -- ---- ktedit, ccremove and hold
 
 -- what changes a keytab is saved, and then the lines are printed
@@ -251,7 +281,7 @@ unfolding on_literals
 remove-ticket = refl
 
 -- `--expired` selects the tickets that end at that second or before, and no configuration entry
-remove-expired : map (λ now. flat_map removed_ticket_line (selected_tickets [] (Some now) (cache worked))) (1700035999 ∷ 1700036000 ∷ [])
+remove-expired : map (λ now. flat_map removed_ticket_line (selected_tickets [] false (Some now) (cache worked))) (1700035999 ∷ 1700036000 ∷ [])
     ≡ [] ∷ codes "removed 40 krbtgt/R@R\n" ∷ []
 unfolding on_literals
 remove-expired = refl

@@ -1,9 +1,8 @@
 -- How runs end, when they read the clock, and what hold takes: worked by hand from krbfile(1).
-use Rattle.samples.proofs.Cited.{◌≡◌, ◌+◌, ℕ, [], codes, true, false, None, Some, Ok, Err, refl, Little, most_bytes, Old, OldFor, Well, CommandPlan, ended_by}
+use Rattle.samples.proofs.Cited.{◌≡◌, ◌+◌, ℕ, [], ◌∷◌, map, codes, true, false, None, Some, Ok, Err, refl, Little, most_bytes, Old, OldFor, Well, CommandPlan, ended_by}
 use Rattle.krb_wire.specs.declared.format.Order.{Order}
 use Rattle.krb_walk.specs.declared.fault.FaultKind.TheVariants.{CutLength}
 use Rattle.krb_files.specs.declared.aftermath.Aftermath.TheVariants.{LostChange, Mixed, Restored}
-use Rattle.krb_files.specs.declared.files.Files.{Ghosts}
 use Rattle.krb_files.specs.declared.files.LoadFault.TheVariants.{Missing}
 use Rattle.krb_files.specs.declared.files.SaveFault.TheVariants as save
 use Rattle.krb_files.specs.Bytes.{Watch}
@@ -14,8 +13,7 @@ use Rattle.krb_driver.specs.declared.command.World.{World}
 use Rattle.krb_driver.specs.Commands.{always, of_file}
 use Rattle.krb_driver.specs.Runs.{ErrorWatch}
 use Rattle.krb_driver.specs.RunErrors.{end_status, error_status, save_error}
-use Rattle.krb_readers.specs.declared.ktcheck.words.CheckOptions.{CheckOptions}
-use Rattle.krb_readers.specs.Ktcheck.{Round, first_round, is_last}
+use Rattle.krb_driver.specs.Several.{first_round, is_last}
 use Rattle.krb_editors.specs.declared.ccremove.TicketOptions.{TicketOptions}
 use Rattle.krb_editors.specs.declared.hold.words.HoldKind.TheVariants.{Keytab, Cache}
 use Rattle.krb_editors.specs.Hold.{frame, most_frame, about_end, ending_of, held_in, received}
@@ -48,12 +46,12 @@ same-for-any-mode : (plan : CommandPlan) → always plan (Some 420) ≡ plan
 unfolding always
 same-for-any-mode plan = refl
 
--- ktcheck goes on after a file with findings, but not without memory
-no-memory-ends : {F R W E : Type 0} (trait : Ghosts F) (o : CheckOptions) (round : Round F R W E) → is_last trait o true (Err error.NoMemory) round ≡ true
-no-memory-ends trait o round = refl
+-- of several files the next one follows one that cannot be saved, but not without memory
+no-memory-ends : map (λ why. is_last (Err why)) (error.FileNotWritten ∷ error.NoMemory ∷ []) ≡ false ∷ true ∷ []
+no-memory-ends = refl
 
-first-status : {F R W E : Type 0} (world : World F R W E) → (first_round world).status ≡ 0
-first-status world = refl
+first-status : {S F R W E : Type 0} (state : S) (world : World F R W E) → (first_round state world).status ≡ 0
+first-status state world = refl
 
 -- ktutil begins with an empty list
 first-list : {F : Type 0} (order : Order) (files : F) (out : Watch) (err : ErrorWatch) → (first_talk order files out err).state.entries ≡ []

@@ -10,11 +10,12 @@ use Rattle.krb_files.specs.Plan.{Ends, follow, with_bytes}
 use Rattle.krb_text.specs.Etype.{etype_in}
 use Rattle.krb_text.specs.Numbers.{number_in, seconds_in}
 use Rattle.krb_cache_text.specs.Script.{cache_line_in}
-use Rattle.krb_audit.specs.declared.finding_words.FindingWords.{FindingWords}
 use Rattle.krb_audit.specs.declared.selection.SelectedKvno.{SelectedKvno}
 use Rattle.krb_audit.specs.declared.selection.Selection.{Selection}
-use Rattle.krb_audit.specs.Report.{joined, words_of}
+use Rattle.krb_audit.specs.Report.{words_of}
+use Rattle.krb_driver.specs.declared.command.RunEnd.{RunEnd}
 use Rattle.krb_driver.specs.declared.error.RunError.{RunError}
+use Rattle.krb_driver.specs.declared.error.RunError.TheVariants.{NothingSelected}
 use Rattle.krb_driver.specs.declared.file_name.FileName.{FileName}
 use Rattle.krb_driver.specs.declared.file_name.NameSource.TheVariants.{Word}
 use Rattle.krb_driver.specs.declared.reporting.details.Details.{Details}
@@ -24,12 +25,16 @@ use Rattle.krb_driver.specs.FileNames.{bare_name, is_other_type}
 use Rattle.krb_driver.specs.Mistakes.{Matched, first_value, printed_name, v1_order}
 use Rattle.krb_driver.specs.RunErrors.{Ending, ending_status}
 use Rattle.krb_driver.specs.Runs.{ending_text}
-use Rattle.krb_readers.specs.Ktcheck.{check_options, explained_by, plan_of as check_plan}
-use Rattle.krb_readers.specs.Klist.{file_kind, klist_plan, list_kind, list_options, check_of, check_status}
+use Rattle.krb_readers.specs.Ktcheck.{check_options, explained_after, plan_of as check_plan}
+use Rattle.krb_readers.specs.Klist.{file_kind, klist_plan, list_kind, list_options, printed_after, check_of, check_status}
+use Rattle.krb_readers.specs.Overview.{heading, overview_plan}
 use Rattle.krb_readers.specs.Ktfind.{ktfind_plan}
 use Rattle.krb_editors.specs.Ccedit.{ccedit_plan}
 use Rattle.krb_editors.specs.Ktcopy.{ktcopy_plan}
 use Rattle.krb_editors.specs.Ktedit.{ktedit_plan}
+use Rattle.krb_editors.specs.Removing.{is_none, seen_after}
+use Rattle.krb_editors.specs.declared.removing.FilesSeen.{FilesSeen}
+use Rattle.krb_editors.specs.declared.removing.FilesSeen.TheVariants as seen
 use Rattle.krb_editors.specs.Ktremove.{ktremove_plan, with_age}
 use Rattle.krb_editors.specs.Sessions.{lines_in}
 use Rattle.krb_editors.specs.Selecting.{kvno_in}
@@ -72,6 +77,7 @@ names_of words = vec (map vec (filter_map printed_name words))
 -- the name of a file, as a word gives it
 abbrev named : Bool → FileKind → List ℕ → FileName
 named in_place kind word = record {
+  kind = kind;
   name = record { ref_ptr = (0, 0); now = bare_name kind word };
   is_other_type = is_other_type kind word;
   source = Word;
@@ -90,6 +96,10 @@ words flags given = record {
 } where
   values_of : List ℕ → List (List ℕ)
   values_of name = filter_map (λ x. if bytes_eq name x.0 then Some x.1 else None) given
+
+-- the files that the words name
+abbrev operands : Matched → FileKind → List FileName
+operands ws kind = map (named (ws.flag (codes "in-place")) kind) (ws.values (codes "FILE"))
 
 -- the file that an operand names
 abbrev operand : Matched → FileKind → List ℕ → FileName
@@ -161,10 +171,28 @@ abbrev follows_lines : {L : Type 0} → Bool → FileMap → (L → CommandPlan)
 follows_lines explains files plan (Ok lines) = follows explains files (plan lines)
 follows_lines explains files plan (Err why) = ends explains [] [] (Err why) files
 
+-- a run, and after it another
+abbrev followed_by : Seen → Seen → Seen
+followed_by first next = record { out = first.out ++ next.out; err = first.err ++ next.err; status = max first.status next.status; files = next.files }
+
+-- a command over files one after the other, and how what it remembers at last ends it
+abbrev over : {S : Type 0} → Bool → (S → FileName → CommandPlan) → (S → RunEnd → S) → (S → FileMap → Seen) → S → FileMap → List FileName → Seen
+over explains plan after last state files [] = last state files
+over explains plan after last state files (file ∷ names) =
+    let effect = follow files (plan state file) in
+    let first = follows explains files (Ends effect) in
+    followed_by first (over explains plan after last (after state (record { ending = ending effect; status = first.status })) first.files names)
+
 -- ---- the commands, over files
 
 abbrev pub klist : Bool → FileMap → Matched → Seen
-klist explains files ws = follows explains files (klist_plan (list_options ws) (operand ws (file_kind (list_kind ws)) (codes "FILE")))
+klist explains files ws = over explains (klist_plan (list_options ws)) printed_after (λ printed. ends explains [] [] (Ok Well)) false files (operands ws (file_kind (list_kind ws)))
+
+-- `klist -l` at a second
+abbrev pub klist_overview : Bool → ℕ → FileMap → Matched → Seen
+klist_overview explains now files ws =
+    followed_by (ends explains (heading (ws.flag (codes "json"))) [] (Ok Well) files)
+    (over explains (λ state. overview_plan (ws.flag (codes "json")) now) (λ state end. state) (λ state. ends explains [] [] (Ok Well)) (tt {0}) files (operands ws Cache))
 
 -- `klist -s` at a second: it prints nothing
 abbrev pub klist_silent : ℕ → FileMap → Matched → Seen
@@ -183,16 +211,10 @@ ktfind explains files ws = finds (principal_of (name_of (ws.operand (codes "NAME
     v1_order = v1_order ws;
   }) (operand ws Keytab (codes "FILE")))
 
--- the files of a list one after the other, each of which is plain with this mode; a finding is explained once
+-- the files are plain with this mode; a finding is explained once
 abbrev pub ktcheck : Bool → ℕ → FileMap → Matched → Seen
-ktcheck explains mode files ws = checks (words_of []) (ws.values (codes "FILE")) where
-  checks : FindingWords → List (List ℕ) → Seen
-  checks explained [] = ends explains [] [] (Ok Well) files
-  checks explained (name ∷ names) =
-      let effect = follow files (check_plan (check_options ws) (nat_lt 1 (length (ws.values (codes "FILE")))) explained (named false Keytab name) (Some mode)) in
-      let first = follows explains files (Ends effect) in
-      let others = checks (joined explained (explained_by (ending effect))) names in
-      record { out = first.out ++ others.out; err = first.err ++ others.err; status = max first.status others.status; files = files }
+ktcheck explains mode files ws =
+    over explains (λ explained file. check_plan (check_options ws) (nat_lt 1 (length (ws.values (codes "FILE")))) explained file (Some mode)) explained_after (λ explained. ends explains [] [] (Ok Well)) (words_of []) files (operands ws Keytab)
 
 abbrev pub ktedit : Bool → FileMap → List ℕ → Matched → Seen
 ktedit explains files script ws =
@@ -201,21 +223,28 @@ ktedit explains files script ws =
 abbrev pub ccedit : Bool → FileMap → List ℕ → Matched → Seen
 ccedit explains files script ws = follows_lines explains files (ccedit_plan (operand ws Cache (codes "FILE"))) (lines_in cache_line_in (Ok script))
 
+-- what is asked for is removed from files, and at the end it is told if it is in none
+abbrev removes : Bool → FileKind → (Bool → FileName → CommandPlan) → FileMap → Matched → Seen
+removes explains kind plan files ws = over explains (λ seen. plan (nat_lt 1 (length (ws.values (codes "FILE"))))) seen_after last seen.None files (operands ws kind) where
+  last : FilesSeen → FileMap → Seen
+  last seen files = if is_none seen then ends explains [] [] (Err (NothingSelected kind)) files else ends explains [] [] (Ok Well) files
+
 -- at a second, which is asked for with `--age` alone
 abbrev pub ktremove : Bool → ℕ → FileMap → Matched → Seen
-ktremove explains now files ws = follows explains files (ktremove_plan (record {
+ktremove explains now files ws = removes explains Keytab (ktremove_plan (record {
   selection = selection (with_age (option_and_then seconds_in (first_value ws (codes "age"))) (kvno_of (codes "old") Old ws)) ws;
   dry_run = ws.flag (codes "dry-run");
   v1_order = v1_order ws;
-}) (operand ws Keytab (codes "FILE")) now)
+}) now) files ws
 
 -- at a second, which is asked for with `--expired` alone
 abbrev pub ccremove : Bool → ℕ → FileMap → Matched → Seen
-ccremove explains now files ws = follows explains files (ccremove_plan (record {
+ccremove explains now files ws = removes explains Cache (ccremove_plan (record {
   servers = names_of (ws.values (codes "service"));
+  all_services = ws.flag (codes "all-services");
   expired = ws.flag (codes "expired");
   dry_run = ws.flag (codes "dry-run");
-}) (operand ws Cache (codes "FILE")) (if ws.flag (codes "expired") then Some now else None))
+}) (if ws.flag (codes "expired") then Some now else None)) files ws
 
 abbrev pub ktcopy : Bool → FileMap → Matched → Seen
 ktcopy explains files ws = follows explains files (ktcopy_plan (record {
