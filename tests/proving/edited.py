@@ -1,11 +1,12 @@
 """Reads the edits of `crates/NAME/wrong`, and applies one to a copy of its crate.
 
 An edit has lines `file: PATH`, and after each any number of pairs `old: TEXT` and `new: TEXT`. The old
-text occurs once in that file, and later pairs apply to what the earlier ones made. `only: FUNCTION`
-names a function to check, by its path below the crate. `refused: FUNCTION CLAUSE` names a clause that is
-then not proved, as `wrong CRATE NAME` prints it: an `ensures` of the function, or a `requires` of a
-call in it. A loop invariant is not a clause: it only serves the proof. A function that is proved by hand
-has no unproved clause: `refused: FUNCTION proof` means that its proof is refused.
+text occurs once in that file, and later pairs apply to what the earlier ones made. `refused: FUNCTION
+CLAUSE` names a function to check, by its path below the crate, and its clause that is then not proved, as
+`wrong CRATE NAME` prints it: an `ensures` of the function, or a `requires` of a call in it. A loop
+invariant is not a clause: it only serves the proof. A function that is proved by hand has no unproved
+clause: `refused: FUNCTION proof` means that its proof is refused. `only: FUNCTION` names what is checked
+in place of the functions that refuse.
 
 An edit of a definition makes the function use a lemma of the crate's proofs, and `refused: MODULE LEMMA`
 names those that are refused then.
@@ -91,11 +92,13 @@ def read(path: str) -> Edit:
     """Returns the edit in a file."""
     split = [line.partition(":") for line in Path(path).read_text("utf-8").split("\n")]
     lines = [(word, text.removeprefix(" ")) for word, _, text in split]
-    only = [FUNCTION.fullmatch(text) for word, text in lines if word == "only"]
     refused = [CLAUSE.fullmatch(text) for word, text in lines if word == "refused"]
-    if not only or not refused or None in only or None in refused:
-        raise BadEdit("it needs lines `only: FUNCTION` and `refused: FUNCTION CLAUSE`")
-    return Edit(*crate_and_name(path), pairs_of(lines), tuple(it[0] for it in only),
+    if not refused or None in refused:
+        raise BadEdit("it needs lines `refused: FUNCTION CLAUSE`")
+    only = [text for word, text in lines if word == "only"] or [it[1] for it in refused]
+    if not all(it and FUNCTION.fullmatch(it) for it in only):
+        raise BadEdit("it needs lines `only: FUNCTION`")
+    return Edit(*crate_and_name(path), pairs_of(lines), tuple(only),
                 tuple((it[1] or it[3], it[2] or it[4]) for it in refused))
 
 

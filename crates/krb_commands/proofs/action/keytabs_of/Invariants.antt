@@ -1,7 +1,0 @@
-use Rattle.std.proofs.Common.{map, take}
-use Rattle.krb_commands.specs.Actions.{AreNamed}
-use Rattle.krb_commands.proofs.action.keytabs_of.Given as goal
-
--- the names so far are those that the words so far give
-abbrev pub invariant-words : goal.invariant-words
-invariant-words l = AreNamed (map (λ word. word.now) (take l.word-index l.words)) l.names.items

@@ -1,7 +1,0 @@
-use Rattle.krb_ccache.specs.Store.{placed_credentials}
-use Rattle.krb_readers.specs.Klist.{SeesSoFar}
-use Rattle.krb_readers.proofs.klist.ticket_check.has_ticket.Given as goal
-
--- what was seen of the credentials so far
-abbrev pub invariant-credentials : goal.invariant-credentials
-invariant-credentials g l = SeesSoFar l.realm l.time l.place-iterator (placed_credentials l.cache.state) l.seen
