@@ -14,6 +14,8 @@ SIZES = {  # how many entries each file has, and how many in a quick run
     images.tickets: (50_000, 1_000),
 }
 
+MOST_OF_MANY = 1.2  # how many times the instructions of one keytab many may take, with as many entries
+
 
 def named(bench: Bench, make: Callable[[int], bytes]) -> str:
     """Writes a file, and returns its name in a table."""
@@ -64,6 +66,19 @@ def points(bench: Bench) -> Iterator[list[str]]:
         if entries <= SIZES[images.services][bench.quick]:
             (bench.folder / "k").write_bytes(images.services(entries))
             yield [f"{entries:,}", *(f"{ms:.3f}" for ms in times(bench, 51, *fronts))]
+
+
+def many(bench: Bench) -> Iterator[list[str]]:
+    """Yields the instructions of one listing of many keytabs, and of one of a keytab with all their entries."""
+    count, entries = 100 if bench.quick else 1_000, 100
+    names = [f"k{number}" for number in range(count)]
+    for number, name in enumerate(names):
+        (bench.folder / name).write_bytes(images.services(entries, number * entries))
+    (bench.folder / "k").write_bytes(images.services(count * entries))
+    found, one = (bench.instructions([bench.krbfile, "klist", "-k", *those]) for those in (names, ["k"]))
+    if found > MOST_OF_MANY * one:
+        sys.exit(f"bench: {count:,} keytabs take {found / one:.2f} times the instructions of one")
+    yield [f"{count:,} of {entries}, one of {count * entries:,}", f"{found:,}", f"{one:,}", f"{found / one:.3f}"]
 
 
 def left(bench: Bench, side: Side) -> list[bytes]:

@@ -13,11 +13,20 @@ TICKET_LINE = TIMES + b"krbtgt/R@R"
 of_host = partial(replace, TICKET, server=Name((b"host", b"a")))
 
 
-def listed(default: bytes, *lines: bytes) -> bytes:
-    """Returns the text of a listing of the file `c`: four first lines, and those of credentials or of a fault."""
-    first = (b"Ticket cache: FILE:c", b"Default principal: " + default, b"",
+def listed(default: bytes, *lines: bytes, name: bytes = b"c") -> bytes:
+    """Returns the text of a listing of that file: four first lines, and those of credentials or of a fault."""
+    first = (b"Ticket cache: FILE:" + name, b"Default principal: " + default, b"",
              b"Valid starting       Expires              Service principal")
     return b"".join(line + b"\n" for line in (*first, *lines))
+
+
+# How an overview begins.
+HEADING = b"Principal name                 Cache name\n--------------                 ----------\n"
+
+
+def line_of(name: str, is_over: bool = False, default: bytes = b"u@R") -> bytes:
+    """Returns the line of a cache in an overview."""
+    return default.ljust(30) + f" FILE:{name}{' (Expired)' * is_over}\n".encode()
 
 
 def case(name: str, image: bytes, *lines: bytes, columns: str = "", default: bytes = b"u@R") -> Case:

@@ -6,7 +6,7 @@ Places are counted by hand: a ticket has 108 bytes or 106, pa_type's value 136.
 from dataclasses import replace
 
 from caches.cache_listings import of_host
-from makers.images import FIELDS, OFFSET, PA_TYPE, TICKET, cache
+from makers.images import FIELDS, OFFSET, PA_TYPE, TICKET, Credential, Name, cache
 from runs.harness import Case, Outcome, message, over
 
 # A time that does not come during a test, and tickets that end then.
@@ -16,7 +16,20 @@ LATER, LATER_HOST = replace(TICKET, endtime=FUTURE), of_host(endtime=FUTURE)
 # Two that have expired, at 40 and 392, a value at 148, valid ones at 284 and 606, and a removed one at 498. In a header
 # that is rewritten there is the offset only.
 MANY = cache(TICKET, PA_TYPE, LATER, of_host(), TICKET.removed(), LATER_HOST, fields=FIELDS)
-AT_40, AT_392, AT_606 = "removed 40 krbtgt/R@R", "removed 392 host/a@R", "removed 606 host/a@R"
+AT_40, AT_284 = "removed 40 krbtgt/R@R", "removed 284 krbtgt/R@R"
+AT_392, AT_606 = "removed 392 host/a@R", "removed 606 host/a@R"
+
+
+def tickets(*servers: tuple[bytes, ...]) -> list[Credential]:
+    """Returns the usual ticket for each of these servers."""
+    return [replace(TICKET, server=Name(components)) for components in servers]
+
+
+# Tickets that `--all-services` asks for, the lines that tell of them, and tickets that it does not ask for.
+SERVICES = tickets((), (b"", b"krbtgt"), (b"KRBTGT", b"R"), (b"krbtgts",), (b"krbtgt/R",))
+TOLD = ["removed 22 @R", "removed 115 /krbtgt@R", "removed 222 KRBTGT/R@R", "removed 330 krbtgts@R",
+        r"removed 434 krbtgt\/R@R"]
+GRANTING = tickets((b"krbtgt",), (b"krbtgt", b"S"), (b"krbtgt", b"a", b"b"))
 
 
 def remove(words: str, wanted: Outcome | list[str], *left: object) -> Case:
@@ -31,4 +44,16 @@ CASES = [
     remove(r"--expired -p \host/a@R", [AT_392], TICKET, PA_TYPE, LATER, LATER_HOST),
     remove("-p=host/a@R", message(1, "c: refused 9")),
     remove("-phost/a@R -n", [AT_392, AT_606]),
+    # One of several services; all that is given has to hold.
+    remove("-p host/a@R --service krbtgt/R@R", [AT_40, AT_284, AT_392, AT_606], PA_TYPE),
+    remove("-p b@R -p host/a@R -phost/a@R", [AT_392, AT_606], TICKET, PA_TYPE, LATER),
+    remove("-p b@R -p krbtgt/R@R --expired", [AT_40], PA_TYPE, LATER, of_host(), LATER_HOST),
+    remove("--all-services", [AT_392, AT_606], TICKET, PA_TYPE, LATER),
+    remove("--expired --all-services", [AT_392], TICKET, PA_TYPE, LATER, LATER_HOST),
+    remove("--all-services -p krbtgt/R@R -p host/a@R -n", [AT_392, AT_606]),
+    *(remove(f"--all-services {more}-p krbtgt/R@R", message(1, "c: refused 9")) for more in ("", "--expired ")),
+    over("services alone", "ccremove --all-services c", cache(*SERVICES, *GRANTING, PA_TYPE), TOLD,
+         cache(*GRANTING, PA_TYPE)),
+    over("no services", "ccremove --all-services c", cache(*GRANTING, PA_TYPE), message(1, "c: refused 9")),
+    over("no service has expired", "ccremove --all-services --expired c", cache(TICKET, LATER_HOST), []),
 ]

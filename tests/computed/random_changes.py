@@ -6,13 +6,13 @@ from functools import partial
 from random import Random
 
 from caches.cache_edits import FAULTS as CACHE_FAULTS
-from computed.random_listings import NOW, SERVERS, options, random_ticket
+from computed.random_listings import CACHE_NAMES, NOW, SERVERS, SEVERAL, options, random_ticket
 from computed.topic import Topic
 from keytabs.listings import ETYPES, KEY_SIZES
 from keytabs.edits import FAULTS
 from keytabs.ktutil_lines import FAULTS as KTUTIL_FAULTS
 from keytabs.ktutil_lines import NO_KEYS
-from makers.images import BIG, LITTLE, hole, keytab, name_text
+from makers.images import BIG, LITTLE, TWO, hole, keytab, name_text
 from makers.mutations import damaged
 from makers.random_caches import KEYS, PRINCIPALS, filled_cache, random_credential, random_value, with_damage
 from makers.random_keytabs import Choices, random_bytes, random_keytab
@@ -178,16 +178,19 @@ def removal(random: Random) -> Iterator[Undisturbed]:
     if "old" in words and random.random() < 0.5:
         words += ["--age", str(random.choice(AGES))]
     words += options(random, "-n") + ("--v1-big",) * is_big
-    yield from in_turn(lambda it: undisturbed(("ktremove", *words, "k"), clock=NOW, k=it), image, "k")
+    names = random.choice(SEVERAL)
+    yield from in_turn(lambda it: undisturbed(("ktremove", *words, *names), clock=NOW, k=it, j=TWO), image, "k")
 
 
 def ticket_removal(random: Random) -> Iterator[Undisturbed]:
     """Yields removals from a cache, by at least one selector."""
     image = with_damage(random, filled_cache(random, random.choice([3, *[4] * 9]), [random_ticket] * 3, 6), 0.1)
-    server = random.choice(SERVERS)
-    words = ["-p", name_text((*server.components, server.realm))] if random.random() < 0.6 else ["--expired"]
-    words += options(random, "-n") + ("--expired",) * (words[0] == "-p" and random.random() < 0.3)
-    yield from in_turn(lambda it: undisturbed(("ccremove", *words, "c"), clock=NOW, c=it), image, "c")
+    words = [word for server in random.choices(SERVERS, k=random.choice([0, 1, 1, 2]))
+             for word in ("-p", name_text((*server.components, server.realm)))]
+    words += ["--all-services"] * (random.random() < 0.2)
+    words += [*["--expired"] * (not words or random.random() < 0.3), *options(random, "-n")]
+    names = random.choice(CACHE_NAMES)
+    yield from in_turn(lambda it: undisturbed(("ccremove", *words, *names), clock=NOW, c=it), image, "c")
 
 
 def few_entries(random: Random, v1_big: bool) -> bytes:
@@ -230,7 +233,7 @@ TOPICS = (
            *(line_fault(number, "ktutil") for number in range(1, 8))), usual=80),
     Topic("random removals", removal, (*REMOVALS, code(9, "ktremove")), usual=50),
     Topic("random removals of tickets", ticket_removal,
-          (*REMOVALS, *(code(number, "ccremove") for number in (1, 8, 9))), usual=70),
+          (*REMOVALS, "--all-services removed", *(code(number, "ccremove") for number in (1, 8, 9))), usual=70),
     Topic("random copies", copy, ("copied", "removed", f"clash: {CLASH}", TO_REPLACE, "-n copied", "nothing to do",
                                   code(9, "ktcopy"), BEGINS_AS_CACHE[1]), usual=60),
 )

@@ -29,6 +29,10 @@ SERVERS = [*[Name((b"krbtgt", b"R"))] * 3, Name((b"host", b"a")), Name((b"host",
            Name((b"host/a",)), Name(()), Name((b"",)), Name((b"a\n@",), b"R@S"),
            Name((CONFIG_FIRST, b"k"), CONFIG_REALM), Name((CONFIG_FIRST,), CONFIG_REALM)]
 
+# The names of keytabs and of caches that are listed: mostly one, some of several that are missing or of another type.
+SEVERAL = [("k",), ("k",), ("k", "j"), ("no", "k", "k"), ("KCM:k", "j", "FILE:k")]
+CACHE_NAMES = [("c",), ("c",), ("c", "DIR::c"), ("DIR:c", "c", "no", "c")]
+
 # The time of the clock, and times before it, at it and after it.
 NOW = 1_700_000_000
 TIMES = [*KNOWN_TIMES, NOW - 1, NOW + 1]
@@ -45,7 +49,7 @@ def keytab_listing(random: Random) -> Iterator[Undisturbed]:
     image = mutated(random, KEYTABS) if random.random() < 0.5 else random_image(random)
     words = ("-k", *options(random, "-t", "-e", "-K", "--v1-big"))
     for json in ((), ("--json",)):
-        yield undisturbed(("klist", *words, *json, "k"), k=image)
+        yield undisturbed(("klist", *words, *json, *random.choice(SEVERAL)), k=image, j=TWO)
 
 
 def cache_listing(random: Random) -> Iterator[Undisturbed]:
@@ -55,7 +59,15 @@ def cache_listing(random: Random) -> Iterator[Undisturbed]:
         image = random.choice([image[: random.randrange(5)], b"\x05" + random.randbytes(30)])
     words = options(random, "-c", "-e", "-f", "-C")
     for json in ((), ("--json",)):
-        yield undisturbed(("klist", *words, *json, "c"), c=image)
+        yield undisturbed(("klist", *words, *json, *random.choice(CACHE_NAMES)), c=image)
+
+
+def overview(random: Random) -> Iterator[Undisturbed]:
+    """Yields an overview of up to four caches, and the same as JSON."""
+    files = {name: with_damage(random, cache_of_tickets(random), 0.1) for name in "cd"}
+    words = random.choices([*"cdcdn", "FILE:c", "DIR::d", "DIR:d", "KCM:0"], k=random.choice((1, 2, 4)))
+    for json in ((), ("--json",)):
+        yield undisturbed(("klist", "-l", *options(random, "-c"), *json, *words), clock=NOW, **files)
 
 
 def look_up(random: Random) -> Iterator[Undisturbed]:
@@ -90,10 +102,15 @@ def random_ticket(random: Random) -> Credential:
     return ticket.removed() if random.random() < 0.2 else ticket
 
 
+def cache_of_tickets(random: Random) -> bytes:
+    """Returns a cache of a few tickets."""
+    tickets = (random_ticket(random) for _ in range(random.randrange(9)))
+    return cache(*tickets, default=Name(realm=random.choice((b"R", b"R", b"S"))), version=random.choice((3, 4)))
+
+
 def question(random: Random) -> Iterator[Undisturbed]:
     """Yields a question whether a cache has a valid ticket, or one that is valid for a while."""
-    tickets = (random_ticket(random) for _ in range(random.randrange(9)))
-    made = cache(*tickets, default=Name(realm=random.choice((b"R", b"R", b"S"))), version=random.choice((3, 4)))
+    made = cache_of_tickets(random)
     seconds = random.choice(WHILES)
     words = () if seconds is None else ("--for", str(seconds))
     yield undisturbed(("klist", "-s", *words, "c"), clock=NOW, c=with_damage(random, made, 0.1))
@@ -112,6 +129,8 @@ TOPICS = (
           ("status 0", FAULTS[4], "not a cache (1)", *(phrase for _, phrase in (
               BEGINS_AS_NO_CACHE, BAD_HEADER, BAD_DEFAULT)), "config", "a record", "renew",
            "Flags", "Etype", "client_hex", "value_hex", 'etype_name":null'), usual=60, more=kinds_of_json),
+    Topic("random overviews", overview, ("status 0", "status 1", "(Expired)", 'expired":true', 'endtime":null',
+                                         "no such file"), usual=40, more=kinds_of_json),
     Topic("random look-ups", look_up, ("found", code(1), code(9), code(10)), usual=80),
     Topic("random checks", checked, (*(": ".join(each) for each in FINDINGS.items()), FAULTS[2], FAULTS[3], SHORT[1],
                                      "entries", "no such file"), usual=80),

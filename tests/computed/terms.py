@@ -9,23 +9,26 @@ from theorems.antt import bytes_of_digits, listed, proof_of, text
 KEPT = {"n": "dry-run", "p:": "principal", "k:": "kvno", "e:": "enctype"}
 LETTERS = {
     "klist": {"k": "keytab", "c": "cache", "t": "times", "e": "enctypes", "K": "keys", "f": "flags", "C": "config",
-              "s": "silent"},
+              "l": "list", "s": "silent"},
     "ktfind": {}, "ktcheck": {"q": "quiet"}, "ktedit": {}, "ccedit": {}, "ktutil": {}, "ktremove": KEPT, "ktcopy": KEPT,
     "ccremove": {"n": "dry-run", "p:": "service"},
 }
-LONG = ("json", "for=", "v1-big", "in-place", "allow=", "age=", "replace", "expired")
+LONG = ("json", "for=", "v1-big", "in-place", "allow=", "age=", "replace", "all-services", "expired")
 
 # The names of the operands, of which the last stands for all that follow.
 OPERANDS = {"ktfind": ("FILE", "KVNO", "ETYPE", "NAME"), "ktcopy": ("FROM", "TO"), "ktutil": ()}
 
-# What the definition of each command is given before the files, and whether an input comes after them.
+# What the definition of each command is given before the files, whether an input comes after them, and the definitions
+# of klist with other options.
 GIVEN = {"klist": ("explains",), "ktfind": ("explains",), "ktcopy": ("explains",), "ktcheck": ("explains", "mode"),
          "ktedit": ("explains",), "ccedit": ("explains",), "ktremove": ("explains", "clock"),
-         "ccremove": ("explains", "clock"), "ktutil": ("explains", "clock"), "klist_silent": ("clock",)}
+         "ccremove": ("explains", "clock"), "ktutil": ("explains", "clock"), "klist_silent": ("clock",),
+         "klist_overview": ("explains", "clock")}
 READING = ("ktedit", "ccedit", "ktutil")
+OTHERS = {"list": "klist_overview", "silent": "klist_silent"}
 
 # The options by which a command asks for the time, and the lines of ktutil that do.
-TIMED, ADDING = {"silent", "age", "expired"}, (b"add_entry", b"addent")
+TIMED, ADDING = {"list", "silent", "age", "expired"}, (b"add_entry", b"addent")
 
 
 class NotComputed(Exception):
@@ -72,7 +75,7 @@ def term_of(case: Case) -> str:
         words.command == "ktutil" and any(word in case.stdin for word in ADDING))
     if case.clock is None and is_timed:
         raise NotComputed
-    command = "klist_silent" if "silent" in words.flags else words.command
+    command = next((it for flag, it in OTHERS.items() if flag in words.flags), words.command)
     files = pairs([(name, bytes_of_digits(image)) for name, image in case.files.items()])
     parts = {"explains": str(words.explains).lower(), "mode": str(case.mode), "clock": str(case.clock or 0)}
     given = [command, *(parts[it] for it in GIVEN[command]), f"(given ({files}))"]

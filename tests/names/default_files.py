@@ -52,7 +52,8 @@ CASES = [
       for each in DEFAULTS for value in (b"\xff", b"FILE:c\xc3", b"\xed\xa0\x80")),
     # What is wrong with a line comes first.
     *(bad(words, {CCNAME: b"\xff", KTNAME: b"\xff"}, phrase) for words, phrase in (
-        ("klist -x", "unknown option -x"), ("klist -k -f", "-f does not go with -k"), ("klist c c", "left over: c"),
+        ("klist -x", "unknown option -x"), ("klist -k -f", "-f does not go with -k"),
+        ("klist -s c c", "-s takes one FILE"), ("klist -l -k", "-l does not go with -k"),
         ("klist -t", "-t is for keytabs; give -k"), ("klist --for 3", "--for goes with -s alone"),
         ("ktcheck --allow", "--allow needs a value"), ("klist --explain", "--explain stands before the command"))),
     # Other commands want the file.
@@ -125,7 +126,7 @@ def check_unknown(report: Report, program: str) -> None:
             report.skip("a run without /proc", "the program is not proved: its checks read there")
         for way in ways:
             with other_system(report, program, TWO, **way) as compare:
-                for line in ("klist", "klist -c", "klist --json", "klist -s"):
+                for line in ("klist", "klist -c", "klist --json", "klist -s", "klist -l"):
                     compare(bad(line, {}, "no FILE"))
                 compare(bad("klist -x", {}, "unknown option -x"))
                 compare(KLIST_CACHE.row(FileName("c"), CACHE, "c", {}, {}))

@@ -17,7 +17,7 @@ from words.phrases import BEGINS_AS_NO_KEYTAB, LEAVE_OUT, NAMED, NOT_READ, code,
 
 # Words that every command is tried with, and its variable; the listings are tried with all.
 SOME = ("FILE:k", "FILE:FILE:k", "WRFILE:k", "WRFILE:FILE:k", "./FILE:k", "C:k", "1:k", 'ключ "\\:k', "KCM:",
-        "KCM:k", "file:k", "FILE:", "")
+        "KCM:k", "file:k", "DIR::k", "DIR:k", "FILE:", "")
 
 # No run looks at these, but for the variable of its kind where the file is left out.
 IGNORED = {"KRB5_CLIENT_KTNAME": b"\xff", **{kind.variable: b"\xff" for kind in Kind}}

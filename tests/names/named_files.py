@@ -7,13 +7,14 @@ from dataclasses import dataclass
 from enum import Enum
 from functools import cache
 
+from caches.cache_listings import HEADING
 from keytabs.file_names import LIMIT
 from makers.images import TWO
 from runs.commands import CHANGES, MAKES, READS, SAVING, VALID, file_of
 from runs.harness import Line, files_in, folder_of, run, shown
 from runs.undisturbed import PROGRAM, Undisturbed
 from words.explaining import Explained, Output, for_owner
-from words.phrases import BEGINS_AS_NO_CACHE, BEGINS_AS_NO_KEYTAB, CAUSES, LARGE, NOT_READ
+from words.phrases import BEGINS_AS_NO_CACHE, BEGINS_AS_NO_KEYTAB, CAUSES, COLLECTION, LARGE, NOT_READ
 
 
 class Kind(Enum):
@@ -30,8 +31,8 @@ class Kind(Enum):
 
 @dataclass(frozen=True)
 class FileName:
-    """A name as it is loaded and printed. `other` is its type if files of that are not read, `source` what is said of
-    a default."""
+    """A name as it is loaded and printed. `other` is why it is not read if its type is another, `source` what is said
+    of a default."""
 
     text: str
     other: str = ""
@@ -39,28 +40,31 @@ class FileName:
 
     def missing(self) -> tuple[str, ...]:
         """Returns the message where it is not there, and the lines that explain it."""
-        explained = [NOT_READ.replace("TYPE", self.other)] if self.other else []
-        return (f"{self.text}: no such file", *explained, *([self.source] if self.source else []))
+        return (f"{self.text}: no such file", *filter(None, (self.other, self.source)))
 
 
 # Words for the file of that very name. A type has two letters or more, and nothing but letters, before the first colon.
 OWN = ("./FILE:k", "C:k", "1:k", 'ключ "\\:k', "", "./KCM:k", "f:FILE:k", ":k", ":FILE:k", "k1:k", "X509:k", "a b:k",
        " FILE:k", "FILE :k", "%{uid}", "-FILE:k", "FI_LE:k", "é:k", "FILE", "KCM", "FILE;k", "k:FILE:k", "c:k")
-# Words whose type is taken off, once: that of files, and one that keytabs alone have.
+# Words whose type is taken off, once: that of files, one that keytabs alone have, and one that caches alone have.
 OF_FILES = {"FILE:k": "k", "FILE:FILE:k": "FILE:k", "FILE:": "", "FILE:./k": "./k", "FILE:KCM:k": "KCM:k",
-            "FILE::k": ":k", "FILE: k": " k", "FILE:C:k": "C:k", "FILE:WRFILE:k": "WRFILE:k"}
+            "FILE::k": ":k", "FILE: k": " k", "FILE:C:k": "C:k", "FILE:WRFILE:k": "WRFILE:k", "FILE:DIR::k": "DIR::k"}
 OF_KEYTABS = {"WRFILE:k": "k", "WRFILE:FILE:k": "FILE:k", "WRFILE:WRFILE:k": "WRFILE:k"}
+OF_CACHES = {"DIR::k": "k", "DIR::FILE:k": "FILE:k", "DIR::DIR::k": "DIR::k", "DIR:::k": ":k", "DIR::": ""}
 # Words of other types, of which nothing is read.
-OTHERS = ("KCM:", "KCM:k", "file:k", "KEYRING:persistent:0", "MEMORY:k", "DIR::k", "File:k", "FILe:k", "FILEX:k",
-          "XFILE:k", "ab:k", "KCM:FILE:k", "wrfile:k", "WRFile:k")
-ALL = (*OWN, *OF_FILES, *OF_KEYTABS, *OTHERS)
+OTHERS = ("KCM:", "KCM:k", "file:k", "KEYRING:persistent:0", "MEMORY:k", "DIR:k", "DIR:", "Dir::k", "File:k", "FILe:k",
+          "FILEX:k", "XFILE:k", "ab:k", "KCM:FILE:k", "wrfile:k", "WRFile:k")
+ALL = (*OWN, *OF_FILES, *OF_KEYTABS, *OF_CACHES, *OTHERS)
 
 
 def named(kind: Kind, word: str) -> FileName:
     """Returns the file that a word names."""
-    read = OF_FILES | OF_KEYTABS if kind is Kind.KEYTAB else OF_FILES
-    is_read = word in read or word not in (*OF_KEYTABS, *OTHERS)
-    return FileName(read.get(word, word), "" if is_read else word.partition(":")[0] + ":")
+    read = OF_FILES | (OF_KEYTABS if kind is Kind.KEYTAB else OF_CACHES)
+    if word in read or word not in (*OF_KEYTABS, *OF_CACHES, *OTHERS):
+        return FileName(read.get(word, word))
+    its_type = word.partition(":")[0] + ":"
+    is_collection = kind is Kind.CACHE and its_type == "DIR:"
+    return FileName(word, COLLECTION if is_collection else NOT_READ.replace("TYPE", its_type))
 
 
 # What is under a name: a folder, a file that is neither a keytab nor a cache, or one that is too large.
@@ -124,7 +128,7 @@ class Command:
         path, words = os.path.normpath(name.text), self.words(word)
         status, told = self.ended(name, place)
         files = {**self.beside, **files, **({path: place} if isinstance(place, bytes) else {})}
-        out, after = b"", files
+        out, after = b"" if "-l" not in words or "--json" in words else HEADING, files
         if status == 0:
             usual, left = self.usual(place is not None)
             spelled = json.dumps(name.text, ensure_ascii=False)[1:-1] if "--json" in words else name.text

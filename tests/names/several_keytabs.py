@@ -8,7 +8,7 @@ from keytabs.removals import FIVE
 from makers.images import B, HOST, TWO, hole, keytab
 from names.named_files import NEITHER
 from runs.harness import Line, shown, text, words_of
-from words.explaining import Explained, Output
+from words.explaining import FAILED, FULL, Explained, Output
 from words.phrases import BEGINS_AS_NO_KEYTAB, CAUSES, FAULTS, FINDINGS, HINTS, NOT_READ
 
 # Keytabs, for their owner alone, but `all`, which all users may read and has each finding.
@@ -37,10 +37,6 @@ def set_modes(folder: str) -> None:
     for name in FILES:
         os.chmod(os.path.join(folder, name), 0o644 if name == "all" else 0o600)
 
-
-# The options of a run whose output takes nothing, and what is said of that.
-FULL = {"preexec_fn": lambda: os.dup2(os.open("/dev/full", os.O_WRONLY), 1)}
-FAILED = ("cannot write output", CAUSES["ENOSPC"])
 
 
 def check_up(line: str | Line, out: list[str], *output: tuple[str, str], status: int = 0, **more) -> Explained:

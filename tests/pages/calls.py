@@ -12,7 +12,7 @@ ON_PAGE_OF = {"krb_files": ["krb_disk"]}
 
 # An item that may contain functions, or a function up to its body.
 ITEM = re.compile(r"^(?:pub )?(?:unsafe )?(?:impl(?:<(?:[^<>]|<[^<>]*>)*>)?|(trait)) (\w+)(.*)|"
-                  r"^( *)(pub )?(?:const )?fn (\w+)((?s:.*?)(?:;| \{|\n *\{\}?))$", re.MULTILINE)
+                  r"^( *)(pub )?(?:const )?fn (\w+)((?s:.*?)(?:;|\s *\{\}?))$", re.MULTILINE)
 
 # The contract of each public call by its name.
 Calls = dict[str, str]

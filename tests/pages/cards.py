@@ -39,6 +39,6 @@ def check(report: Report, program: str) -> None:
     with folder_of({}) as folder:
         made = run(MAKER, ("--cards", folder), folder)
         cards = {name: text.decode() for name, text in files_in(folder).items()}
-    report.check("the cards", [f"{made}"] * (made.status != 0) + sorted({*COMMANDS, "ticket_check"} ^ {*cards}))
+    report.check("the cards", [f"{made}"] * (made.status != 0) + sorted({*COMMANDS, "overview", "ticket_check"} ^ {*cards}))
     for name, card in cards.items():
         report.check(f"the card of {name}", faults(card))

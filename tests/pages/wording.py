@@ -18,7 +18,8 @@ PAGE = "docs/krbfile.1"
 def of_manual(program: str) -> Iterator[tuple[str, set[object]]]:
     """Yields what the manual page has no list for, its commands and options, each with what it lacks."""
     page, synopsis = phrases.PAGE, phrases.part(phrases.PAGE, "\n.Sh SYNOPSIS\n", "\n.Sh ")
-    others = {phrases.LARGE, phrases.CLOCK, phrases.NOT_WHOLE, phrases.GIVEN_DAMAGED, phrases.TO_A_PROGRAM}
+    others = {phrases.LARGE, phrases.CLOCK, phrases.NOT_WHOLE, phrases.GIVEN_DAMAGED, phrases.TO_A_PROGRAM,
+              phrases.COLLECTION}
     yield "other phrases", others.difference(re.split(";?\n", page))
     yield "commands", {*re.findall(r"^\.Cm (\w+)$", synopsis, re.MULTILINE)} ^ {*COMMANDS}
     options = {option for command in ("", *COMMANDS) for option in offered(program, command)[1]}

@@ -19,7 +19,7 @@ from keytabs.listings import BY_NAME
 from makers.images import Entry, cache, keytab, offset
 from makers.random_caches import random_credential, random_name
 from peers.beside_mit import SURROUNDINGS, Mit, are_there, check_seeds, differences_of, lack, mit_klist
-from runs.harness import SECONDS, Check, Report, every, files_in, folder_of
+from runs.harness import SECONDS, Check, Outcome, Report, differences, every, files_in, folder_of, run
 
 # MIT's programs.
 TOOLS = ("klist", "kinit", "kvno", "kdb5_util", "krb5kdc")
@@ -98,9 +98,9 @@ class Realm:
         """Returns the environment of a program that makes caches of that version."""
         return self.env | {"KRB5_CONFIG": os.path.join(self.folder, f"krb5-{version}.conf")}
 
-    def call(self, *words: str, folder: str | None = None, version: int = 4) -> bytes:
+    def call(self, *words: str, folder: str | None = None, version: int = 4, **env: str) -> bytes:
         """Runs a program, which has to succeed, and returns its output."""
-        done = subprocess.run(words, cwd=folder or self.folder, env=self.surroundings(version),
+        done = subprocess.run(words, cwd=folder or self.folder, env=self.surroundings(version) | env,
                               stdin=subprocess.DEVNULL, capture_output=True, timeout=SECONDS, check=False)
         if done.returncode != 0:
             raise Failed(f"{' '.join(words)}: {done.stderr.decode(errors='replace').strip()}")
@@ -172,8 +172,28 @@ def check_filled(report: Report, program: str, realm_of: Realm) -> None:
                 realm_of.call(*words, folder=folder, version=version)
             found = differences_of(program, folder, "-f", "-e", "-C")
             found += [] if b"CACHE.TEST" in mit_klist(folder, "c") else ["MIT's lists nothing"]
+            wanted = Outcome(0, realm_of.call("klist", "-l", folder=folder))
+            found += differences(wanted, run(program, ("klist", "-l", "c"), folder))
             found += [] if files_in(folder)["c"][1] == version else ["it has another version"]
         report.check(f"MIT's klist and ours: {name}", found)
+
+
+def check_collection(report: Report, program: str, realm_of: Realm) -> None:
+    """Has kinit fill a collection with two caches, one of which is over then, and lists its caches."""
+    with folder_of({"k": keytab(*realm_of.keys())}) as folder:
+        collection = {"KRB5CCNAME": f"DIR:{folder}/all"}
+        for words in ((*KINIT, "-l", "1s", "svc/h"), USER):
+            realm_of.call(*words, folder=folder, **collection)
+        time.sleep(2)
+        theirs = realm_of.call("klist", "-l", folder=folder, **collection)
+        names = re.findall(r"DIR::\S+", theirs.decode())
+        wanted = Outcome(0, theirs.replace(b"DIR::", b"FILE:"))
+        found = differences(wanted, run(program, ("klist", "-l", *names), folder))
+        found += [] if len(names) == 2 and theirs.count(b"(Expired)") == 1 else [f"MIT's lists {theirs}"]
+        for name in names:
+            env = realm_of.surroundings() | {"KRB5CCNAME": name}
+            found += differences(run("klist", ("-s",), folder, env=env), run(program, ("klist", "-s"), folder, env=env))
+    report.check("MIT's klist -l of a collection and ours", found)
 
 
 def faults_of_random(program: str, random: Random) -> list[str]:
@@ -203,6 +223,6 @@ def in_realm(what: str, *checks: Callable[[Report, str, Realm], None], more: tup
 
 def check(report: Report, program: str) -> None:
     """Runs this topic if MIT's programs are installed."""
-    in_realm("caches beside MIT's programs", check_filled)(report, program)
+    in_realm("caches beside MIT's programs", check_filled, check_collection)(report, program)
     if are_there(report, "random caches beside MIT's klist", "klist"):
         check_seeds(report, "MIT's klist and ours: random caches", partial(faults_of_random, program))

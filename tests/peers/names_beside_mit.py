@@ -11,6 +11,7 @@ from itertools import product
 from makers.images import TWO
 from names.default_files import IMAGES, Kind, by_user, own_cache
 from names.file_types import ALL
+from names.named_files import named
 from peers.beside_mit import SURROUNDINGS, lack
 from runs.harness import Outcome, Report, every, folder_of, message, run
 
@@ -50,14 +51,15 @@ def taken(got: Outcome) -> tuple[bytes | None, bool]:
 
 def check_value(kind: Kind, word: str, report: Report, program: str) -> None:
     """Checks a value, where no file is there, and where all are that a program might take. Where MIT's refuses a
-    type, ours takes no part of the value off."""
+    type, ours takes no part of the value off, but `DIR::`, behind which MIT's wants a folder."""
     names = {os.path.normpath(each) for each in (word, word.partition(":")[2], "k") if each}
     for files in ({}, {each: IMAGES[kind] for each in names if "/" not in each}):
         with folder_of(files) as folder:
             theirs, ours = (klist(kind, folder, {kind.variable: word}, each) for each in ("", program))
         is_right = taken(ours) == taken(theirs) != (None, False)
         if not OF_FILES[kind].match(word):
-            is_right = theirs.status == 1 and REFUSES.search(theirs.err) and taken(ours)[0] == word.encode()
+            own = named(kind, word).text.encode()
+            is_right = theirs.status == 1 and REFUSES.search(theirs.err) and taken(ours)[0] == own
         report.check(f"klist {kind.variable}={word!r}, {len(files)} files",
                      [] if is_right else [f"MIT's: {theirs}, ours: {ours}"])
 

@@ -54,7 +54,8 @@ def copies(*those: tuple[str, bytes, bytes, str]) -> tuple[Undisturbed, ...]:
 COMMANDS = {
     "klist": Command(prints_early=True, reads=(
         *(undisturbed(f"klist {options} k", k=TWO) for options in ("-k", "-k --json", "-kK --json", "-ktKe")),
-        *(undisturbed(f"klist {options} c", c=VALID) for options in ("-c", "--json", "-cefC", "-s")))),
+        *(undisturbed(f"klist {options} c", c=VALID) for options in (
+            "-c", "--json", "-l", "-l --json", "-cefC", "-s")))),
     "ktfind": Command(prints_early=True, reads=(undisturbed("ktfind k 0 0 b@R", k=TWO),)),
     "ktcheck": Command(reads=(undisturbed("ktcheck k", k=TWO),)),
     "ktedit": Command(
@@ -247,6 +248,10 @@ def small_edits(image: bytes, tickets: bytes, rotated: bytes) -> list[Undisturbe
         at_now("ktremove -k old --age 0 k", name="of versions old for long", k=rotated),
         at_now("ktremove -p xxx/3@R -e 17 -e 23 k", name="of a name", k=image),
         at_now("ktremove -k 4000 k", name="of nothing", k=image),
+        at_now("ktremove -e 17 k no r", name="of two keytabs", k=image, r=rotated),
+        at_now("ccremove -p krbtgt/R@R c no d", name="of two caches", c=USUAL, d=VALID),
+        at_now("klist -k k no r k", k=image, r=rotated),
+        at_now("klist -l c no d", c=VALID, d=cache()),
         at_now("ktcopy k t", name="into no bytes", k=TWO, t=b""),
         at_now("ktcopy -p /0@R -p x/1@R -k new k t", name="of new versions", k=rotated),
         *(at_now(f"ktcopy {options} k t", name=f"{options} {name}", k=many, t=target) for options, name, target in (

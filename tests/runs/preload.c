@@ -13,7 +13,7 @@
  *   ERROR=N              a call that fails has the error of that number, and not EIO
  *   MOST=N               each read and each write moves at most N bytes
  *   CLOCK=N              the clock has N seconds since 1970, as a signed 64-bit number
- *   FAIL_CLOCK=1         the clock cannot be read
+ *   FAIL_CLOCK=N         the Nth reading of the clock fails, and each after it
  *   PACE=N               a sleep ends at once; the monotonic clock advances by its length, and by N milliseconds with
  *                        each reading; if N is 0 it cannot be read
  *   PROC=FOLDER          an open of the list of locks, of the list of mounts, or of the description of an open file opens
@@ -49,7 +49,7 @@ static struct calls {
     uint64_t made, fail, take_none;
 } requests, inputs, reads, writes, saves;
 
-static uint64_t refuse_lasts, error, most, clock_seconds, fail_clock, pace;
+static uint64_t refuse_lasts, error, most, clock_seconds, clock_readings, fail_clock, pace;
 static int is_paced;
 static char *proc;
 
@@ -154,11 +154,12 @@ int clock_gettime(clockid_t clock, struct timespec *time) {
         return read_paced(time);
     if (!in_main || clock != CLOCK_REALTIME || (clock_seconds == 0 && !fail_clock))
         return (int)syscall(SYS_clock_gettime, clock, time);
-    counts->failures += fail_clock;
+    int fails = fail_clock && ++clock_readings >= fail_clock;
+    counts->failures += (uint64_t)fails;
     errno = EINVAL;
     time->tv_sec = (time_t)clock_seconds;
     time->tv_nsec = 999999999;
-    return fail_clock ? -1 : 0;
+    return -fails;
 }
 
 /* MIT's programs read the clock by this call. */

@@ -1,14 +1,15 @@
 """Clocks at any time or that fail: the time of a new entry of ktutil, which tickets have expired, and which entries
-are old for long enough."""
+are old for long enough. Over several files the clock is read once."""
 
 from collections.abc import Iterator
 from dataclasses import replace
 from itertools import chain, product
 
+from caches.cache_listings import HEADING, line_of
 from keytabs.ktutil_lines import ADDENT, KEY, TIMES
 from keytabs.removals import FOUR, X, versioned
 from makers.images import OFFSET, PA_TYPE, TICKET, USUAL, cache, keytab, offset
-from runs.harness import BAD_LINE, Case, Outcome, Report, faults_of, message, over, text, words_of
+from runs.harness import BAD_LINE, Case, Outcome, Report, faults_of, message, over, printed, text, words_of
 from runs.system_calls import preloaded
 from words.phrases import CLOCK
 
@@ -34,9 +35,10 @@ EXPLAINED = Outcome(3, err=NO_CLOCK.err + f"krbfile: {CLOCK}\n".encode())
 # Lines, and how they end then: before the file is read, and only if the clock is needed. `klist -s` says nothing.
 AGE, EXPIRED = "ktremove -k old --age 0", "ccremove --expired"
 ENDED = (
-    (NO_CLOCK, (f"{AGE} k", f"{AGE} -n k", f"{AGE} no", f"{AGE} KCM:k", f"{EXPIRED} c", f"{EXPIRED} -n c",
-                f"{EXPIRED} no", f"{EXPIRED} KCM:c", f"{EXPIRED} -p krbtgt/R@R c")),
+    (NO_CLOCK, (f"{AGE} k", f"{AGE} -n k", f"{AGE} no k", f"{AGE} KCM:k", f"{EXPIRED} c", f"{EXPIRED} -n c",
+                f"{EXPIRED} no c", f"{EXPIRED} KCM:c", f"{EXPIRED} -p krbtgt/R@R c", "klist -l --json no c")),
     (EXPLAINED, (f"--explain {AGE} k", f"--explain {EXPIRED} c")),
+    (replace(NO_CLOCK, out=HEADING), ("klist -l no c", "klist -l")),
     (Outcome(0, text([X])), ("ktremove -n -k old k",)),
     (BAD_LINE, (f"{AGE} --age 0 k", "klist -s c c")),
     (Outcome(3), ("klist -s c", "klist -s --for 0 c", "klist -s no", "klist -s k", "klist -s KCM:c", "klist -s",
@@ -91,8 +93,12 @@ def valid() -> Iterator[Row]:
     """Yields questions about a ticket: it is valid until the second in which it ends."""
     for fields, (end, now, seconds, is_valid) in product(HEADERS, ENDING):
         for words in (f"--for {seconds} ", *[""] * (seconds == 0)):
+            image = cache(replace(TICKET, endtime=end), fields=fields)
             yield over(f"{end} at {now} {words}, with the header {fields.hex()}", f"klist -s {words}c",
-                       cache(replace(TICKET, endtime=end), fields=fields), Outcome(1 - is_valid)), {"CLOCK": now}
+                       image, Outcome(1 - is_valid)), {"CLOCK": now}
+        if seconds == 0:
+            yield over(f"{end} at {now}, an overview", "klist -l c", image,
+                       Outcome(0, HEADING + line_of("c", not is_valid))), {"CLOCK": now}
 
 
 def unread() -> Iterator[Row]:
@@ -105,6 +111,18 @@ def unread() -> Iterator[Row]:
                    cache(PA_TYPE, fields=OFFSET)), setting
 
 
+def once() -> Iterator[Row]:
+    """Yields runs over two files whose clock can be read once."""
+    old, new = versioned(1, 0), versioned(2, 1_000_000)
+    rows = ((AGE, keytab(old, new), keytab(41, new), "2 kvno 1 etype 17 a@R"),
+            (EXPIRED, cache(TICKET), cache(), "22 krbtgt/R@R"), ("klist -l", cache(TICKET), cache(TICKET), ""))
+    for line, before, after, gone in rows:
+        wanted = (printed(f"k: removed {gone}", f"j: removed {gone}") if gone else
+                  Outcome(0, HEADING + line_of("k", True) + line_of("j", True)))
+        yield (Case(f"{line}, the clock can be read once", words_of(f"{line} k j"), wanted, {"k": before, "j": before},
+                    {"k": after, "j": after}), {"CLOCK": 1_800_000_000, "FAIL_CLOCK": 2})
+
+
 def known() -> Iterator[Row]:
     """Yields lines of ktutil that add an entry of the time of the clock, and list it."""
     for setting, time in KNOWN:
@@ -115,6 +133,6 @@ def known() -> Iterator[Row]:
 def check(report: Report, program: str) -> None:
     """Makes each run."""
     under = preloaded(report, program, "the clock")
-    for case, setting in chain(expired(), aged(), valid(), unread(), known()) if under else ():
+    for case, setting in chain(expired(), aged(), valid(), unread(), once(), known()) if under else ():
         got = under.run(case, **setting)
         report.check(case.name, faults_of(case, got.outcome, got.files))

@@ -13,6 +13,9 @@ NO_MEMORY = message(4, "out of memory")
 # if a file cannot be read or written.
 MISSING, READ_MISSING = message(1, "none: no such file").err, b"rkt none\n"
 
+# The commands that take several files, one after the other.
+OVER_FILES = ("klist", "ktcheck", "ktremove", "ccremove")
+
 # A run's end, and the files after it.
 End = tuple[Outcome, dict[str, bytes]]
 
@@ -51,16 +54,38 @@ class Ends:
         return self.run.wanted, self.run.files_after
 
     @cached_property
+    def places(self) -> range:
+        """Where its words name files that it takes one after the other, if there are several."""
+        words = self.run.words
+        first = min(map(words.index, self.names), default=len(words))
+        return range(first, len(words) if self.command in OVER_FILES and first < len(words) - 1 else first)
+
+    def up_to(self, end: int) -> Stage:
+        """Returns what it has done after the files before that place."""
+        got, files = replace(self.run, words=(*self.run.words[:end], "none"), plain=None).done
+        return Stage(got.out, got.err.removesuffix(MISSING), files)
+
+    def without(self, at: int, unused: str) -> End:
+        """Returns how it ends with that message of the file at a place."""
+        words = self.run.words
+        return failed(replace(self.run, words=(*words[:at], "none", *words[at + 1:])), f"{words[at]}: {unused}")
+
+    @cached_property
     def stages(self) -> list[Stage]:
-        """Where it may end: ktutil before a line or at its end, ktcheck before a file, and others with nothing done."""
-        run, at = self.run, self.run.words.index(self.command) + 1
+        """Where it may end: ktutil before a line or at its end, before one of several files, others with nothing
+        done."""
+        run = self.run
         if self.command == "ktutil":
             ends = [replace(run, stdin=b"".join(self.lines[:count])).done for count in range(len(self.lines) + 1)]
             return [Stage(got.out, got.err, files) for got, files in ends]
-        if self.command == "ktcheck":
-            cut = [replace(run, words=(*run.words[:to], "none"), plain=None).wanted for to in range(at, len(run.words))]
-            return [Stage(got.out, got.err.removesuffix(MISSING), run.files) for got in cut]
-        return [Stage(b"", b"", run.files)]
+        return [self.up_to(at) for at in self.places] or [Stage(b"", b"", run.files)]
+
+    @cached_property
+    def of_outputs(self) -> list[Stage]:
+        """Where it may end if its output fails: what it prints of is saved, but not by hold."""
+        if self.command in ("ktutil", "hold"):
+            return self.stages
+        return [self.up_to(at + 1) for at in self.places] or [Stage(b"", b"", self.run.files_after)]
 
     def stops(self, end: End, last: Outcome, stages: list[Stage], may_print: bool = True) -> bool:
         """Whether it stopped at one of these stages, and whether a prefix of its output may be printed then."""
@@ -84,9 +109,8 @@ class Ends:
         run, words = self.run, self.run.words
         if self.command == "ktutil":
             return [end for _, end in self.failing_lines(("rkt", "wkt"), "read")]
-        if self.command == "ktcheck":
-            return [failed(replace(run, words=(*words[:at], "none", *words[at + 1:])), f"{words[at]}: cannot read")
-                    for at in range(1, len(words))]
+        if self.places:
+            return [self.without(at, "cannot read") for at in self.places]
         if "-s" in words:
             return [(Outcome(3), run.files)]
         return [(message(3, f"{name}: cannot read"), run.files) for name in self.names]
@@ -97,6 +121,8 @@ class Ends:
         if self.command == "ktutil":
             return [end for at, end in self.failing_lines(("wkt",), "write")
                     if self.stages[at].files != self.stages[at + 1].files]
+        if self.places:
+            return [self.without(at, "cannot write") for at in self.places]
         unsaved = message(3, f"{self.run.words[-1]}: cannot write")
         printed = [replace(unsaved, out=self.run.wanted.out)] if self.command == "hold" else []
         return [(outcome, self.run.files) for outcome in (unsaved, *printed)]

@@ -15,7 +15,7 @@ from runs.harness import Report, differences, message
 from runs.system_calls import Preloaded, preloaded
 from runs.random_runs import Rounds
 from runs.undisturbed import IN_PLACE
-from system.early_ends import End, Ends, Stage
+from system.early_ends import End, Ends
 from system.saving import told
 
 ERRORS = (EINTR, EAGAIN, ENOSPC, ENOMEM, EACCES)
@@ -41,9 +41,8 @@ def settings(command: str) -> tuple[str, ...]:
 
 
 def ends_in_output(ends: Ends, end: End) -> bool:
-    """Whether a run ended because its output failed: a prefix was printed, and a script is saved, what is held not."""
-    has_stages = ends.command in ("ktutil", "ktcheck", "hold")
-    return ends.stops(end, NO_OUTPUT, ends.stages if has_stages else [Stage(b"", b"", ends.run.files_after)])
+    """Whether a run ended because its output failed: a prefix was printed."""
+    return ends.stops(end, NO_OUTPUT, ends.of_outputs)
 
 
 def are_met(ends: Ends, setting: str, given: int, end: End) -> bool:

@@ -114,7 +114,14 @@ TALK = undisturbed("ktutil", b"rkt j\nl\nwkt k\nwkt n\nl -e\nrkt n\nl\n", j=TWO,
 TALKED = [READ, *load("j"), PRINT, *hold("k"), *held(2), *save("k"), *hold("n", 2), *save("n", 2, is_new=True), PRINT,
           *load("n", 4), PRINT, READ]
 
-TWO_FILES = undisturbed("ktcheck k j", k=TWO, j=keytab(B, B))
+# Runs over two files, each of which is looked at before it is opened.
+TWO_FILES = (undisturbed("ktcheck k j", k=TWO, j=keytab(B, B)),
+             undisturbed("ktremove -p b@R k j", k=TWO, j=keytab(B, B)))
+
+
+def seen(name: str) -> Step:
+    """Returns the step of a look at a file, which may be a pipe."""
+    return Step(rf'\w*stat\w*\(.*"{name}"', "")
 
 
 def steps_of_run(ends: Ends) -> list[Step]:
@@ -123,6 +130,10 @@ def steps_of_run(ends: Ends) -> list[Step]:
     if run == TALK:
         return TALKED
     is_saving = run.files_after != run.files
+    if run in TWO_FILES:
+        return [step for nth, name in enumerate(names, 1) for step in (
+            [*hold(name, nth), seen(name), *held(nth), *save(name, nth), PRINT] if is_saving else
+            [seen(name), *load(name, nth), PRINT])]
     loaded = [step for nth, name in enumerate(names[:-1] if is_saving else names, 1)
               for step in (*load(name, nth), PRINT)]
     if not is_saving:
@@ -253,7 +264,7 @@ def check_runs(report: Report, program: str) -> None:
     reads = {(run.words[0], file_of(run)): run for run in READS
              if not {"--json", "-s"} & {*run.words} and not run.stdin and not run.wanted.err}
     changes = {run.words[0]: run for run in CHANGES} | {"ktutil": TALK}
-    for ends in map(Ends, (*reads.values(), TWO_FILES, *changes.values(), *MAKES)):
+    for ends in map(Ends, (*reads.values(), *TWO_FILES, *changes.values(), *MAKES)):
         steps = steps_of_run(ends)
         for call in calls_of_run(report, program, ends, steps):
             for error in ERRORS:

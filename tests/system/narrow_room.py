@@ -7,6 +7,7 @@ memory, each command has to report that.
 
 import resource
 import subprocess
+from collections.abc import Iterator
 from random import Random
 
 from caches import cache_files, greatest_caches
@@ -63,20 +64,22 @@ def faults_in(program: str, case: Case, kind: int, most: int) -> list[str]:
 def without_room() -> list[Case]:
     """Returns a run of each command over a file of as many bytes as there is memory."""
     keytab, cache = sized(LIMIT), cache_files.sized(LIMIT)
-    runs = (*CHANGES, *(run for run in READS if run.words[0] not in SAVING and "-s" not in run.words))
+    runs = (*CHANGES, *(run for run in READS if run.words[0] not in SAVING and not {"-s", "-l"} & {*run.words}))
     return [Case(f"a file as large as the memory: {run.name}", run.words, NO_MEMORY,
                  {**run.files, file_of(run): cache if "c" in run.files else keytab}, stdin=run.stdin) for run in runs]
 
 
-def of_many() -> Case:
-    """Returns a check of many files, each of which gives its memory back: they take no more than one."""
-    two = undisturbed("ktcheck k k", k=sized(LIMIT))
-    wanted = Outcome(two.wanted.status, two.wanted.out * (MANY // 2))
-    return Case(f"{MANY} of the greatest files, in 256 MB of memory", ("ktcheck", *["k"] * MANY), wanted, two.files)
+def of_many() -> Iterator[Case]:
+    """Yields runs over many files, each of which gives its memory back: they take no more than one."""
+    for line, between in (("ktcheck", b""), ("klist -k", b"\n"), ("klist -k --json", b""), ("ktremove -n -e 17", b"")):
+        two = undisturbed(f"{line} k k", k=sized(LIMIT))
+        wanted = Outcome(two.wanted.status, between.join([two.wanted.out] * (MANY // 2)))
+        yield Case(f"{line} over {MANY} of the greatest files, in 256 MB of memory",
+                   (*line.split(), *["k"] * MANY), wanted, two.files)
 
 
 def check(report: Report, program: str) -> None:
-    for case, most in ((of_many(), ROOM), *((each, LIMIT) for each in without_room())):
+    for case, most in (*((each, ROOM) for each in of_many()), *((each, LIMIT) for each in without_room())):
         report.check(case.name, faults_of(case, *run_case(program, case, preexec_fn=limit(resource.RLIMIT_AS, most))))
     for case in all_cases():
         faults = faults_in(program, case, resource.RLIMIT_STACK, STACK)

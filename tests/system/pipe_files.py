@@ -1,5 +1,5 @@
 """A run that is to change what is no plain file, in either way, refuses it. It does not open a pipe of that name, so
-that it does not wait for a writer.
+that it does not wait for a writer; nor does one over several files, or an overview.
 """
 
 import os
@@ -8,14 +8,28 @@ from collections.abc import Iterator
 from contextlib import contextmanager, suppress
 from itertools import product
 
+from caches import cache_listings
+from caches.cache_listings import HEADING, TICKET_LINE, line_of
+from keytabs.listings import B_LINE, HOST_LINE, listed
+from makers.images import TICKET, TWO, cache
 from runs.commands import CHANGES, OLD, file_of, renamed
-from runs.harness import EXPLAIN, Outcome, Report, differences, folder_of, run
+from runs.harness import EXPLAIN, Outcome, Report, differences, every, folder_of, run
 from runs.undisturbed import IN_PLACE, Undisturbed
 from system.saving import tree_faults
+from words.explaining import for_owner
 from words.phrases import CAUSES
 
 # Names of a pipe, of a link to it, and of other things.
 PIPES, OTHERS = ("pipe", "link"), (".", "/dev/null", "/dev/full/k")
+
+# Lines over several files, and what they print of those that are plain; and an overview of one.
+SEVERAL = {
+    "klist -k pipe k link": listed(HOST_LINE, B_LINE), "klist --json link pipe": b"",
+    "klist c pipe": cache_listings.listed(b"u@R", TICKET_LINE), "klist -l pipe": HEADING,
+    "klist -l link c pipe": HEADING + line_of("c", True), "ktcheck pipe k": b"k: entries 2 free 0 holes 0\n",
+    "ktremove -p b@R pipe k": b"k: removed 53 kvno 3 etype 17 b@R\n", "ktremove -n -p host/a@R pipe link": b"",
+    "ccremove -p krbtgt/R@R c link": b"c: removed 22 krbtgt/R@R\n",
+}
 
 
 @contextmanager
@@ -56,6 +70,24 @@ def check_name(report: Report, program: str, case: Undisturbed, name: str) -> No
     report.check(f"no plain file is changed: {case.name}, {name}", faults)
 
 
-def check(report: Report, program: str) -> None:
+def check_changes(report: Report, program: str) -> None:
+    """Checks each run over each of these."""
     for case, name in product(CHANGES, (*PIPES, *OTHERS)):
         check_name(report, program, case, name)
+
+
+def check_several(report: Report, program: str) -> None:
+    """Checks runs over a pipe, a link to it, and a file."""
+    for line, out in SEVERAL.items():
+        with folder_of({"k": TWO, "c": cache(TICKET)}) as folder:
+            for_owner(folder)
+            os.symlink("pipe", os.path.join(folder, "link"))
+            with fed(os.path.join(folder, "pipe")) as opened:
+                got = run(program, (EXPLAIN, *line.split()), folder)
+                faults = ["it was opened"] * len(opened)
+        told = "".join(f"krbfile: {name}: cannot read\nkrbfile: {CAUSES['no plain file']}\n"
+                       for name in line.split() if name in PIPES)
+        report.check(f"a pipe among others: {line}", differences(Outcome(3, out, told.encode()), got) + faults)
+
+
+check = every(check_changes, check_several)

@@ -1,8 +1,8 @@
 """Refuses each allocation of each command, once and from it on.
 
 A run that is out of memory reports so, with status 4. klist and ktfind may have printed a prefix of their text, ktedit
-has neither printed nor saved, ktcheck has checked its files up to some file, and ktutil has handled its lines up to
-some line. Help is printed, or a prefix of it.
+has neither printed nor saved, one over several files has handled them up to some file, and ktutil its lines up to some
+line. Help is printed, or a prefix of it.
 """
 
 import os

@@ -23,25 +23,25 @@ REFUSED: list[str | Line] = [
         "k, -k klist k, CCEDIT c, klist -tKe k, klist -k -t=yes k, klist -xk k, klist -k -T k, klist -k --keys=yes k, "
         "klist -k -v1-big k, ktfind k 0 0, ktfind 0 0 b@R, ktfind -x k 0 0 b@R, ktfind --v1-big=yes k 0 0 b@R, "
         "ktfind k 0 0 -b@R, ktfind --in-place k 0 0 b@R, klist --in-place -k k, ktcheck --in-place k, klist -V k, "
-        "ktutil --in-place=yes, ktedit -V k, ccremove --version, help --version, klist --json -c -k k, klist -- -c c, "
+        "ktutil --in-place=yes, ktedit -V k, ccremove --version, help --version, klist --json -c -k k, "
         "klist -c=yes c, klist --flags=yes c, ccedit --expired c"),
     *(f"klist {options} {name}" for name in ("c", "k")
       for options in lines_of("-kc, -et, -ctK, -efC --v1-big, -kf, -kC, -kefC, -kt -e -C")),
-    *(f"klist -{letter} c" for letter in "andlAiVxFE"),
+    *(f"klist -{letter} c" for letter in "andAiVxFE"),
     *(f"{command} {rest}" for command, those in {
-        "klist": "-s c c, -k -s c, -s --json c, -se c, -st c, -s --v1-big c, -s=yes c, -c --for=3 c, "
+        "klist": "-k -s c, -s --json c, -se c, -st c, -s --v1-big c, -s=yes c, -c --for=3 c, "
                  "-s --for 3 --for=4 c, -s --for c, -s --for= c, -s --for -1 c, -s --for +1 c, -s --for 0x3 c, "
-                 "-s --for 00000000003 c, -s -for 3 c",
-        "ktremove": "-k old -k old k, -k -1 k, -k 4294967296 k, -k Old k, -k= k, -e 65536 k, -p b@R/ k, -p b@R k more, "
+                 "-s --for 00000000003 c, -s -for 3 c, -l --for 3 c, -l --v1-big c, -l=yes c",
+        "ktremove": "-k old -k old k, -k -1 k, -k 4294967296 k, -k Old k, -k= k, -e 65536 k, -p b@R/ k, -p b@R, "
                     "-p= k, --dry-run=yes -k old k, -K old k, -k new --age 3 k, -k old --age= k, "
                     "-k old --age 00000000003 k, -k old -age 3 k",
         "ktcopy": "-n k, -p b@R k, -p= k t, -k New k t, -k any k t, -k=new k t, -e=17 k t, -n=yes k t, -r k t, "
                   "--expired k t, -k new --age 3 k t, -v1-big k t",
-        "ccremove": "-p b@R, -p b@R c -pb@R, -p b@R\\ c, -p b@R c more, -k old c, -e 17 c, --v1-big --expired c, "
-                    "-expired c",
+        "ccremove": "-p b@R, -p b@R\\ c, -k old c, -e 17 c, --v1-big --expired c, -expired c, --all-services, "
+                    "--all-services=yes c, -a c",
         "hold": "-c k, -kx k, -k=yes k, --in-place=yes k, --json k, -V k, -k"}.items() for rest in lines_of(those)),
     # Words that are not UTF-8, and empty ones.
-    (b"\xff", "-k", "k"), ("klist", b"-k\xff", "k"), ("klist", "-s", b"\xff"), ("klist", "-c", "c", ""),
+    (b"\xff", "-k", "k"), ("klist", b"-k\xff", "k"), ("klist", "-s", b"\xff"), ("klist", "-c", "c", b"\xff"),
     ("klist", "-s", "--for", "", "c"), ("klist", "-s", "--for", " 3", "c"), ("ktfind", "k", "0", "0", b"b\xff@R"),
     ("ktfind", "k", "0", "0", "b@R", ""), ("ktcopy", "k", b"\xff"), ("ktcopy", "-k", "", "k", "t"), ("ktutil", ""),
     ("ktedit", b"\xff"), ("ccedit", b"\xff"), ("ccremove", "-p", b"\xff@R", "c"), ("hold", "-k", "k", ""),
@@ -68,6 +68,9 @@ SAME: dict[str, str] = {
     "klist -cf c": "klist -f c, klist -fc c, klist -fff c", "klist -cC c": "klist -C c",
     "klist -cefC d": "klist --cache --flags --enctypes --config d, klist --config -fe d, klist -c -e -f -C d",
     "klist -s d": "klist --silent d, klist d --cache --silent", "klist -s c": "klist --silent c",
+    "klist -l c d": "klist --list c d, klist -lc c d, klist c -l d --cache -l, klist -l -- c d, klist -l DIR::c FILE:d",
+    "klist -l --json c d": "klist --json -c c --list d",
+    "klist -k k m": "klist k -k m, klist k m --keytab, klist -k -- k FILE:m",
     "ktfind k 0 0 b@R": "ktfind k 3 17 b@R, ktfind k 0000000003 0000000017 b@R, ktfind k 0 AES128-cts b@R, "
                         "ktfind --v1-big k 0 0 b@R, ktfind k --v1-big 0 0 b@R, ktfind k 0 0 b@R --v1-big, "
                         "ktfind --v1-big k 0 0 b@R --v1-big, ktfind -- k 0 0 b@R, ktfind k 0 0 -- b@R",
@@ -81,7 +84,8 @@ SAME: dict[str, str] = {
     "ccremove --expired c": "ccremove c --expired, ccremove --expired c --expired, ccremove -p krbtgt/R@R c, "
                             "ccremove -pkrbtgt/R@R c, ccremove c -p krbtgt/R@R, ccremove --expired -p krbtgt/R@R -- c",
     "ccremove -n --expired c": "ccremove --expired c -n, ccremove -nn -n --expired c, ccremove -npkrbtgt/R@R c",
-    "ccremove -n -p host/a@R d": "ccremove --dry-run --service host/a@R d, ccremove --service=host/a@R -n d",
+    "ccremove -n -p host/a@R d": "ccremove --dry-run --service host/a@R d, ccremove --service=host/a@R -n d, "
+                                 "ccremove -n -p host/a@R --service host/a@R d, ccremove -n --all-services d",
     "ktremove -n -k old r": "ktremove --dry-run --kvno old r, ktremove --kvno=old -n r",
     "ktremove -p b@R -e 17 -e 23 m": "ktremove --principal b@R --enctype=17 -e23 m, "
                                      "ktremove --enctype 17 --enctype 23 --principal=b@R m",
@@ -101,9 +105,10 @@ SAME: dict[str, str] = {
 # The words that the help of each command has, besides the options, which completions has.
 SELECTORS = (b"-p, --principal <NAME>", b"-k, --kvno <KVNO>", b"-e, --enctype <ETYPE>")
 HELP = {
-    "klist": (b"[FILE]", b"KRB5CCNAME", b"KRB5_KTNAME", b"/etc/krb5.keytab", b"/tmp/krb5cc_"),
-    "ccedit": (b"FILE", b"config KEY PRINCIPAL VALUE"), "ccremove": (b"-p, --service <SERVICE>", b"FILE"),
-    "ktfind": (b"FILE", b"KVNO", b"ETYPE", b"NAME"), "ktedit": (b"FILE",), "ktremove": (*SELECTORS, b"FILE"),
+    "klist": (b"[FILE..]", b"-l, --list", b"KRB5CCNAME", b"KRB5_KTNAME", b"/etc/krb5.keytab", b"/tmp/krb5cc_"),
+    "ccedit": (b"FILE", b"config KEY PRINCIPAL VALUE"),
+    "ccremove": (b"-p, --service <SERVICE>", b"--all-services", b"FILE.."),
+    "ktfind": (b"FILE", b"KVNO", b"ETYPE", b"NAME"), "ktedit": (b"FILE",), "ktremove": (*SELECTORS, b"FILE.."),
     "ktcopy": (*SELECTORS, b"FROM", b"TO"), "ktutil": (), "hold": (b"FILE",),
     "ktcheck": (b"--allow <WORD>", b"weak, hidden, same, clash, old or mode", b"[FILE..]", b"KRB5_KTNAME",
                 b"/etc/krb5.keytab"),

@@ -15,6 +15,10 @@ CUT_CACHE = USUAL + b"\0"
 # Messages, each with its explanation or an empty text.
 Output = tuple[tuple[str, str], ...]
 
+# The options of a run whose output takes nothing, and what is said of that.
+FULL = {"preexec_fn": lambda: os.dup2(os.open("/dev/full", os.O_WRONLY), 1)}
+FAILED = ("cannot write output", CAUSES["ENOSPC"])
+
 
 @dataclass(frozen=True)
 class Explained:

@@ -88,6 +88,7 @@ NO_ENTRY = "NAME has no entry"
 
 # Why a file of a name with a type is not there, or is not written, and where a name that no word gives is from.
 NOT_READ = "only files are read, and this is TYPE"
+COLLECTION = "a collection; give one of its caches, DIR::FILE"
 LEAVE_OUT = "leave out TYPE"
 NAMED = "VARIABLE names it"
 DEFAULT = "the default name (krb5.conf is not read); give FILE"

@@ -69,6 +69,9 @@ RUNS = [
     named(("klist", "--json", "-k", FILE), b"krbfile: NAME: no such file\n", is_json=True),
     named(("ktcheck", FILE, FILE), b"krbfile: NAME: no such file\n"),
     named(("ktcheck", FILE), b"krbfile: NAME: fault 1 at %d\n" % len(keytab(B)), {FILE.decode(): keytab(B) + b"\0"}),
+    Printed(("klist", "-l", "c"), b"NAME@R FILE:c", {"c": WILD_CACHE}),
+    Printed(("klist", "-l", "--json", "d"), b'"\\u001b[2J\\u009b31m@R"', {"d": TEXT_CACHE}, is_json=True),
+    named(("ktremove", "-n", "-p", "b@R", FILE, "no"), b"NAME: removed 2 kvno", {FILE.decode(): keytab(B)}),
     *long_names(b""),
     *long_names(b"a"),
 ]
