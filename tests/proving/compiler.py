@@ -22,7 +22,7 @@ OPEN_GOAL = re.compile(r"note: \S+: it is not proved that .*?\(`([\w-]+)`\)")
 NOT_FOUND = re.compile(r"; `search` did not prove (.*)")
 VERDICT = re.compile(r"^fn \w+::(\S+): (.*)", re.M)
 # A function that is proved by hand has no open goals: its proof is refused.
-BY_HAND = re.compile(r"\./proofs/(\S+)/Proof\.antt:\S+ error: ")
+BY_HAND = re.compile(r"\./proofs/(\S+)/(?:Proof|Answers)\.antt:\S+ error: ")
 BAD_LEMMA = re.compile(r"\./proofs/(\w+)\.antt:\S+ error: `([\w-]+)`")
 # A goal's name has its branch in it; the clause's name does not.
 GOAL = re.compile(r"(returns|.*?-requires)(?:-.*?)??(-clause-[\w-]+)?")
