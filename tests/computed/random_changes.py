@@ -187,7 +187,7 @@ def ticket_removal(random: Random) -> Iterator[Undisturbed]:
     image = with_damage(random, filled_cache(random, random.choice([3, *[4] * 9]), [random_ticket] * 3, 6), 0.1)
     words = [word for server in random.choices(SERVERS, k=random.choice([0, 1, 1, 2]))
              for word in ("-p", name_text((*server.components, server.realm)))]
-    words += ["--all-services"] * (random.random() < 0.2)
+    words += ["--all-services"] * (random.random() < 0.4)
     words += [*["--expired"] * (not words or random.random() < 0.3), *options(random, "-n")]
     names = random.choice(CACHE_NAMES)
     yield from in_turn(lambda it: undisturbed(("ccremove", *words, *names), clock=NOW, c=it), image, "c")

@@ -118,7 +118,7 @@ def question(random: Random) -> Iterator[Undisturbed]:
 
 def kinds_of_json(case: Case) -> Iterator[str]:
     """Yields the members of an object that are null or hexadecimal, and the kinds of the file and of its fault."""
-    yield from re.findall(r'"(kind":[^,}]*|\w+_hex|\w+":null)', case.wanted.out.decode("latin-1"))
+    yield from re.findall(r'"(kind":[^,}]*|\w+_hex|\w+":null|expired":\w+)', case.wanted.out.decode("latin-1"))
 
 
 TOPICS = (
@@ -129,7 +129,7 @@ TOPICS = (
           ("status 0", FAULTS[4], "not a cache (1)", *(phrase for _, phrase in (
               BEGINS_AS_NO_CACHE, BAD_HEADER, BAD_DEFAULT)), "config", "a record", "renew",
            "Flags", "Etype", "client_hex", "value_hex", 'etype_name":null'), usual=60, more=kinds_of_json),
-    Topic("random overviews", overview, ("status 0", "status 1", "(Expired)", 'expired":true', 'endtime":null',
+    Topic("random overviews", overview, ("status 0", "status 1", 'expired":true', 'expired":false', 'endtime":null',
                                          "no such file"), usual=40, more=kinds_of_json),
     Topic("random look-ups", look_up, ("found", code(1), code(9), code(10)), usual=80),
     Topic("random checks", checked, (*(": ".join(each) for each in FINDINGS.items()), FAULTS[2], FAULTS[3], SHORT[1],

@@ -18,8 +18,7 @@ LONG = ("json", "for=", "v1-big", "in-place", "allow=", "age=", "replace", "all-
 # The names of the operands, of which the last stands for all that follow.
 OPERANDS = {"ktfind": ("FILE", "KVNO", "ETYPE", "NAME"), "ktcopy": ("FROM", "TO"), "ktutil": ()}
 
-# What the definition of each command is given before the files, whether an input comes after them, and the definitions
-# of klist with other options.
+# What each definition is given before the files, which have an input after them, and klist's by its other options.
 GIVEN = {"klist": ("explains",), "ktfind": ("explains",), "ktcopy": ("explains",), "ktcheck": ("explains", "mode"),
          "ktedit": ("explains",), "ccedit": ("explains",), "ktremove": ("explains", "clock"),
          "ccremove": ("explains", "clock"), "ktutil": ("explains", "clock"), "klist_silent": ("clock",),

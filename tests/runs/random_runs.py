@@ -14,8 +14,8 @@ from runs.harness import Case, Outcome, Report
 # How often each kind of result has to occur.
 FEWEST = 3
 
-# What a line begins with: two words of a walk's, the number of a refusal or a fault.
-KIND = re.compile(rb" *(?:(walk) \d+ (\w+)|((?:refused|fault) \d+)|([A-Za-z]+))")
+# What a line begins with, perhaps after a file: two words of a walk's, the number of a refusal or a fault.
+KIND = re.compile(rb"(?:\w: )? *(?:(walk) \d+ (\w+)|((?:refused|fault) \d+)|([A-Za-z]+))")
 
 # An unproved program is slow: it runs one of this many numbers.
 ONE_IN = 10
