@@ -16,7 +16,7 @@ use Rattle.krb_disk.specs.declared.looks.Found.{Found}
 use Rattle.krb_disk.specs.declared.old.Way.{Way}
 use Rattle.krb_disk.specs.declared.old.Way.TheVariants.{Replace, InPlace}
 
--- what contracts see of the files on a disk: how many calls failed, the cause of the last failure, the names and bytes of the saves that made all their calls, the last first, the permission bits of the file loaded last, the name of the one to be held and whether that could be held, whether only plain files are loaded, whether files are saved in place, and what the last save left behind
+-- what contracts see of the files on a disk: how many calls failed, the cause of the last failure, the names and bytes of the saves that made all their calls, the last first, the permission bits of the file loaded last, the name of the one to be held and whether that could be held, whether only plain files are loaded, whether pipes are refused, whether files are saved in place, and what the last save left behind
 pub record Disk : Type 0 where
   pub failures : ℕ
   pub cause : Option Cause
@@ -25,6 +25,7 @@ pub record Disk : Type 0 where
   pub held : Option (List ℕ)
   pub is_held : Bool
   pub only_plain : Bool
+  pub no_pipes : Bool
   pub in_place : Bool
   pub aftermath : Option Aftermath
 
@@ -41,15 +42,11 @@ is_in_place Replace = false
 abbrev pub permissions : Found → Option ℕ
 permissions found = if bit_and found.mode 0o170000 == 0o100000 then Some (found.mode % 0o10000) else None
 
--- a failed call is counted, its cause is known, and no save was completed
+-- a failed call is counted and its cause is known; no save was completed, and the hold and the settings stay
 pub record Fails (old new : Disk) : Type 0 where
   pub counted : CountsFailure old.failures new.failures
   pub has_cause : IsSome new.cause
-  pub unsaved : new.saved ≡ old.saved
-  pub held : new.held ≡ old.held
-  pub is_held : new.is_held ≡ old.is_held
-  pub plain : new.only_plain ≡ old.only_plain
-  pub in_place : new.in_place ≡ old.in_place
+  pub same : new ≡ record old { failures = new.failures; cause = new.cause; mode = new.mode; aftermath = new.aftermath }
 
 -- a load that returns no bytes counts the failed call, if there was one, and changes nothing else
 abbrev pub CountsLoad : Disk → ReadFault → Disk → Type 0

@@ -20,12 +20,9 @@ use std::alloc::Allocator;
 use std::marker::Model;
 use std::rt;
 
-/// The files on a disk. Contracts assume nothing of their contents; they see how many calls failed, the cause of the
-/// last failure, which saves made all their calls, what the last one left behind, the mode of the file loaded last,
-/// which is to be held, whether only plain files are loaded, and whether files are saved in place. A load reads the
-/// whole file. A save writes a new file and renames it over the old one, so that whatever fails, the file is the old or
-/// the new one; or it writes over the old one. A held file is saved only if it is as it was when it was held or, later,
-/// loaded.
+/// The files on a disk. Contracts assume nothing of their contents, and see a `Disk`. A load reads the whole file. A
+/// save writes a new file and renames it over the old one, so that whatever fails, the file is the old or the new one;
+/// or it writes over the old one. A held file is saved only if it is as it was when it was held or, later, loaded.
 #[derive(Drop)]
 pub struct DiskFiles<'a, R: rt::Files + Alloc> {
     calls: Calls<'a, R>,
@@ -57,6 +54,7 @@ impl<'a, R: rt::Files + Alloc> Model for DiskFiles<'a, R> {
       held = files.held_name.name;
       is_held = is_some files.held;
       only_plain = files.only_plain;
+      no_pipes = files.no_pipes;
       in_place = is_in_place files.way;
       aftermath = files.aftermath;
     } };
@@ -68,7 +66,7 @@ impl<'a, R: rt::Files + Alloc> Model for DiskFiles<'a, R> {
 impl<'a, R: rt::Files + Alloc> DiskFiles<'a, R> {
     /// Returns the files that `rt` reaches, with no failed call yet.
     pub fn new(rt: &'a R) -> DiskFiles<'a, R>
-        ensures { result ≡ record { failures = 0; cause = None; saved = []; mode = None; held = None; is_held = false; only_plain = false; in_place = false; aftermath = None } }
+        ensures { result ≡ record { failures = 0; cause = None; saved = []; mode = None; held = None; is_held = false; only_plain = false; no_pipes = false; in_place = false; aftermath = None } }
     {
         DiskFiles {
             calls: Calls::new(rt),
@@ -96,7 +94,7 @@ impl<'a, R: rt::Files + Alloc> DiskFiles<'a, R> {
 
     /// From now on loads refuse a pipe before they open it.
     pub fn refuse_pipes(&mut self)
-        ensures { self.new ≡ self.old }
+        ensures { self.new ≡ record self.old { no_pipes = true } }
     {
         self.no_pipes = true;
     }
