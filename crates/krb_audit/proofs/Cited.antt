@@ -10,11 +10,12 @@ pub use Rattle.std.specs.Option.{option_or, option_map_or, MatchOption}
 pub use Rattle.std.specs.Prelude.{◌||◌, ◌&&◌, not, ◌==◌, filter, option_map, find, unwrap_or, nat_lt}
 pub use Rattle.std.specs.Str.{bytes_eq}
 pub use Rattle.std.specs.Vec.{vec_items}
-pub use Rattle.krb_audit.specs.Findings.{is_alike, ends_mit, as_alike, marks_of, marked, is_out, first_hidden, hidden_from, marked_after}
+pub use Rattle.krb_audit.specs.Findings.{is_alike, ends_mit, as_alike, marks_of, is_out, first_hidden, hidden_from, marked_after}
 pub use Rattle.krb_audit.specs.KvnoMarks.{AreNewest, selects_row, is_old_row, AreYoung, AreVersions, is_young_row, AreMarks}
 pub use Rattle.krb_audit.specs.Names.{kt_name, type_len}
 pub use Rattle.krb_audit.specs.Newest.{is_old, newer, has_other_version, is_newer, newest_from, newest}
-pub use Rattle.krb_audit.specs.Report.{holes, mark_lines, words_of, is_same, octal, with_marks, is_clash}
+pub use Rattle.krb_audit.specs.CheckUp.{holes}
+pub use Rattle.krb_audit.specs.Report.{mark_lines, octal}
 pub use Rattle.krb_audit.specs.Rows.{first_number, AreRows, AreNumbered, HasPlace, stamp_of, first_from, row_in, shown, stamped, newer_stamp, name_cmp, HashedName, to_name}
 pub use Rattle.krb_audit.specs.Selection.{has_selected_kvno, is_named, is_young}
 pub use Rattle.krb_audit.specs.declared.rows.Row.{Row}

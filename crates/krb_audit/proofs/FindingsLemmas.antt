@@ -1,66 +1,57 @@
 -- What is found when one more entry is checked.
-use Rattle.krb_audit.proofs.Cited.{◌≡◌, ℕ, suc, ◌≤◌, arith, Bool, List, [], ◌∷◌, ◌++◌, length, Option, Some, None, refl, sym, ap, ◌∙◌, append_assoc, ◌||◌, list_any, PlacedEntry, placed_entries, flat_map, filter_map, cons_option, or_assoc, or-false, list_any-append, cells_of, entry_in, ends_mit, marked, marked_after, marks_of, is_clash, is_same, mark_lines, words_of, with_marks}
+use Rattle.krb_audit.proofs.Cited.{◌≡◌, ℕ, suc, ◌≤◌, arith, Bool, true, false, cond, List, [], ◌∷◌, ◌++◌, length, Option, Some, None, refl, sym, ap, ◌∙◌, append_assoc, ◌||◌, filter, fold, list_any, PlacedEntry, placed_entries, filter_map, cons_option, or-false, list_any-append, cells_of, entry_in, ends_mit, marked_after, marks_of}
 use Rattle.krb_keytab.specs.Changes.{placed_cells}
 use Rattle.krb_keytab.specs.Store.{KeytabState}
 use Rattle.krb_keytab.proofs.EntryLists.{entries_of_cells}
 use Rattle.krb_keytab.proofs.ImageChanges.{placed_len}
 use Rattle.krb_audit.specs.declared.findings.Before.{Before}
-use Rattle.krb_audit.specs.declared.marks.Marks.{Marks}
-use Rattle.krb_audit.specs.declared.finding_words.FindingWords.{FindingWords}
+use Rattle.krb_audit.specs.declared.finding_set.FindingSet.{FindingSet}
+use Rattle.krb_audit.specs.declared.marks.Mark.{Mark}
 use Rattle.krb_audit.specs.Before.{IsBefore}
+use Rattle.krb_audit.specs.CheckUp.{about_entries}
+use Rattle.krb_audit.specs.Findings.{Marked, reported}
+use Rattle.krb_audit.specs.Table.{has_mark, none, with_marks}
 
--- ---- words
+-- those of some entries about which something is found
+abbrev pub reported_of : List Marked → List Marked
+reported_of ms = filter (λ m. has_mark m.1) ms
 
--- the words of either
-abbrev pub joined : FindingWords → FindingWords → FindingWords
-joined t u = record {
-  weak = t.weak || u.weak;
-  hidden = t.hidden || u.hidden;
-  same = t.same || u.same;
-  clash = t.clash || u.clash;
-  old = t.old || u.old;
-  mode = t.mode;
-}
+-- a set with what is found about an entry
+abbrev pub with_entry : FindingSet → Marked → FindingSet
+with_entry s m = with_marks s m.1
 
-join_marks : (t : FindingWords) (x : PlacedEntry) (m : Marks) (ms : List (PlacedEntry × Marks)) → joined (with_marks t m) (words_of ms) ≡ joined t (words_of ((x, m) ∷ ms))
-join_marks t x m ms = λ i. record {
-  weak = or_assoc t.weak m.weak (words_of ms).weak i;
-  hidden = or_assoc t.hidden m.hidden (words_of ms).hidden i;
-  same = or_assoc t.same (is_same m.alike) (words_of ms).same i;
-  clash = or_assoc t.clash (is_clash m.alike) (words_of ms).clash i;
-  old = or_assoc t.old m.old (words_of ms).old i;
-  mode = t.mode;
-}
-
--- ---- the listing
-
--- some entries are listed, and others are still to come
-pub record IsListedUpTo {A : Type 0} (label : List ℕ) (k : KeytabState) (rest : List PlacedEntry) (b : Before A) (words : FindingWords) (start out : List ℕ) : Type 0 where
+-- some entries are checked, and others are still to come
+pub record IsCheckedUpTo {A : Type 0} (aged_by : Option ℕ) (k : KeytabState) (rest : List PlacedEntry) (b : Before A) (entries : List Marked) (findings : FindingSet) : Type 0 where
   pub before : List PlacedEntry
   pub known : IsBefore k before rest b
-  pub text : out ++ flat_map (mark_lines label) (marked_after k before rest) ≡ start ++ flat_map (mark_lines label) (marked k)
-  pub words_found : joined words (words_of (marked_after k before rest)) ≡ words_of (marked k)
+  pub entries_are : entries ++ reported_of (marked_after aged_by k before rest) ≡ reported aged_by k
+  pub findings_are : fold with_entry findings (reported_of (marked_after aged_by k before rest)) ≡ about_entries (reported aged_by k)
 
-pub none_listed : {A : Type 0} (label : List ℕ) (k : KeytabState) (b : Before A) (t : FindingWords) (start : List ℕ) → IsBefore k [] (placed_entries k) b → t ≡ words_of [] → IsListedUpTo label k (placed_entries k) b t start start
-none_listed label k b t start known none = record {
-  before = [];
-  known = known;
-  text = refl;
-  words_found = ap (λ u. joined u (words_of (marked k))) none;
-}
+pub none_checked : {A : Type 0} (aged_by : Option ℕ) (k : KeytabState) (b : Before A) → IsBefore k [] (placed_entries k) b → IsCheckedUpTo aged_by k (placed_entries k) b [] none
+none_checked aged_by k b known = record { before = []; known = known; entries_are = refl; findings_are = refl }
 
--- the check of the next entry is listed
-pub one_listed : {A : Type 0} (label : List ℕ) (k : KeytabState) (x : PlacedEntry) (rest : List PlacedEntry) (b c : Before A) (m : Marks) (t u : FindingWords) (start text new : List ℕ) → IsListedUpTo label k (x ∷ rest) b t start text
-    → ((before : List PlacedEntry) → IsBefore k before (x ∷ rest) b → (m ≡ marks_of k before x) × IsBefore k (before ++ x ∷ []) rest c) → u ≡ with_marks t m → new ≡ text ++ mark_lines label (x, m) → IsListedUpTo label k rest c u start new
-one_listed label k x rest b c m t u start text new h gives words_found lines =
+listed_if : (b : Bool) (m : Marked) (entries after : List Marked) → cond b (entries ++ m ∷ []) entries ++ after ≡ entries ++ cond b (m ∷ after) after
+listed_if true m entries after = append_assoc entries (m ∷ []) after
+listed_if false m entries after = refl
+
+found_if : (b : Bool) (m : Marked) (s : FindingSet) (after : List Marked) → fold with_entry (cond b (with_entry s m) s) after ≡ fold with_entry s (cond b (m ∷ after) after)
+found_if true m s after = refl
+found_if false m s after = refl
+
+-- the next entry is checked
+pub one_checked : {A : Type 0} (aged_by : Option ℕ) (k : KeytabState) (x : PlacedEntry) (rest : List PlacedEntry) (b c : Before A) (marks : List (Option Mark)) (entries entries' : List Marked) (s s' : FindingSet) → IsCheckedUpTo aged_by k (x ∷ rest) b entries s
+    → ((before : List PlacedEntry) → IsBefore k before (x ∷ rest) b → (marks ≡ marks_of aged_by k before x) × IsBefore k (before ++ x ∷ []) rest c)
+    → entries' ≡ cond (has_mark marks) (entries ++ (x, marks) ∷ []) entries → s' ≡ cond (has_mark marks) (with_marks s marks) s → IsCheckedUpTo aged_by k rest c entries' s'
+one_checked aged_by k x rest b c marks entries entries' s s' h gives listed found =
     let given = gives h.before h.known in
-    let after = marked_after k (h.before ++ x ∷ []) rest in
+    let after = reported_of (marked_after aged_by k (h.before ++ x ∷ []) rest) in
     record {
       before = h.before ++ x ∷ [];
       known = given.1;
-      text = ap (λ (s : List ℕ). s ++ flat_map (mark_lines label) after) lines ∙ append_assoc text (mark_lines label (x, m)) (flat_map (mark_lines label) after)
-          ∙ ap (λ (n : Marks). text ++ (mark_lines label (x, n) ++ flat_map (mark_lines label) after)) given.0 ∙ h.text;
-      words_found = ap (λ (v : FindingWords). joined v (words_of after)) words_found ∙ join_marks t x m after ∙ ap (λ (n : Marks). joined t (words_of ((x, n) ∷ after))) given.0 ∙ h.words_found;
+      entries_are = ap (λ (es : List Marked). es ++ after) listed ∙ listed_if (has_mark marks) (x, marks) entries after
+          ∙ ap (λ (ms : List (Option Mark)). entries ++ cond (has_mark ms) ((x, ms) ∷ after) after) given.0 ∙ h.entries_are;
+      findings_are = ap (λ (t : FindingSet). fold with_entry t after) found ∙ found_if (has_mark marks) (x, marks) s after
+          ∙ ap (λ (ms : List (Option Mark)). fold with_entry s (cond (has_mark ms) ((x, ms) ∷ after) after)) given.0 ∙ h.findings_are;
     }
 
 -- whether MIT's programs stop before one of these entries or the next

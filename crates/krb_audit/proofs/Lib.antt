@@ -9,6 +9,7 @@ pub mod SelectedLemmas
 pub mod FirstsLemmas
 pub mod FindingsLemmas
 pub mod Octal
+pub mod MissingLemmas
 pub mod CountsLemmas
 pub mod WeakNumbers
 pub mod NewestLemmas

@@ -2,12 +2,14 @@
 use Rattle.std.specs.Prelude.{◌≡◌, [], ◌∷◌, codes, Some, true, false}
 use Rattle.krb_audit.proofs.Cited.{refl, mark_lines}
 use Rattle.krb_audit.proofs.OnLiterals.{krb_audit_on_literals}
+use Rattle.krb_audit.specs.Table.{only}
+use Rattle.krb_audit.specs.declared.finding.Finding.TheVariants.{Weak, Size, Hidden, Clash, Old, Aged}
 
--- what is found about an entry has its order: weak, hidden, same or clash, old
+-- what is found about an entry has its order: weak, size, hidden, same or clash, old, aged
 pub order : mark_lines [] (
   (9, record { principal = record { name_type = 1; realm = codes "R"; components = codes "a" ∷ [] }; timestamp = 0; version = 1; enctype = 23; key = [] }),
-  record { weak = true; hidden = true; alike = Some (record { place = 2; has_same_key = false }); old = true },
+  only true Weak ∷ only true Size ∷ only true Hidden ∷ Some (record { finding = Clash; first = Some 2 }) ∷ only true Old ∷ only false Aged ∷ [],
 )
-    ≡ codes "weak 9 kvno 1 etype 23 a@R\nhidden 9 kvno 1 etype 23 a@R\nclash 9 2 kvno 1 etype 23 a@R\nold 9 kvno 1 etype 23 a@R\n"
+    ≡ codes "weak 9 kvno 1 etype 23 a@R\nsize 9 kvno 1 etype 23 a@R\nhidden 9 kvno 1 etype 23 a@R\nclash 9 2 kvno 1 etype 23 a@R\nold 9 kvno 1 etype 23 a@R\n"
 unfolding krb_audit_on_literals
 order = refl

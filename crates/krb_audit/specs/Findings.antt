@@ -1,15 +1,17 @@
 -- What is found about the entries of a keytab.
-use Rattle.std.specs.Prelude.{ℕ, List, [], ◌∷◌, ◌++◌, length, map, find, Bool, not, ◌&&◌, ◌||◌, ◌==◌, nat_le, nat_lt, if◌then◌else◌, Option, None, Some, option_map, option_and_then}
+use Rattle.std.specs.Prelude.{ℕ, List, [], ◌∷◌, ◌++◌, length, map, filter, find, Bool, false, not, ◌&&◌, ◌||◌, ◌==◌, nat_le, nat_lt, if◌then◌else◌, Option, None, Some, option_map, option_and_then}
 use Rattle.std.specs.List.{list_any, range_with_len}
 use Rattle.std.specs.Str.{bytes_eq}
 use Rattle.krb_keytab.specs.Entry.{EntryParts}
 use Rattle.krb_keytab.specs.Find.{PlacedEntry, placed_entries}
 use Rattle.krb_keytab.specs.Store.{KeytabState}
-use Rattle.krb_text.specs.Etype.{is_weak}
-use Rattle.krb_audit.specs.declared.marks.Alike.{Alike}
-use Rattle.krb_audit.specs.declared.marks.Marks.{Marks}
+use Rattle.krb_text.specs.Etype.{is_key_size, is_weak}
+use Rattle.krb_audit.specs.declared.finding.Finding.{Finding}
+use Rattle.krb_audit.specs.declared.finding.Finding.TheVariants.{Weak, Hidden, Same, Clash, Old, Size, Aged}
+use Rattle.krb_audit.specs.declared.marks.Mark.{Mark}
 use Rattle.krb_audit.specs.declared.weak_etypes.WeakEtypes.{WeakEtypes}
 use Rattle.krb_audit.specs.Newest.{is_old}
+use Rattle.krb_audit.specs.Table.{has_mark, only}
 use Rattle.krb_audit.specs.Twins.{are_twins}
 
 -- a count or a length with which MIT's programs read no entry
@@ -42,18 +44,33 @@ hides_added k added = option_and_then (hidden_at added) (hidden_from k)
 abbrev pub is_alike : PlacedEntry → PlacedEntry → Bool
 is_alike x y = are_twins x.1 y.1
 
--- what a later entry `x` that is alike reports of an entry `y`: its place, and whether it has the same key
-abbrev pub as_alike : PlacedEntry → PlacedEntry → Alike
-as_alike x y = record { place = y.0; has_same_key = bytes_eq y.1.key x.1.key }
+-- the finding about an entry that is alike, by whether it has the same key
+abbrev pub alike_finding : Bool → Finding
+alike_finding has_same_key = if has_same_key then Same else Clash
 
--- what is found about an entry of a keytab, if `before` are the entries before it
-abbrev pub marks_of : KeytabState → List PlacedEntry → PlacedEntry → Marks
-marks_of k before x = record {
-  weak = is_weak x.1.enctype;
-  hidden = ends_mit x.1 && not (list_any (λ y. ends_mit y.1) before);
-  alike = option_map (as_alike x) (find (is_alike x) before);
-  old = is_old (placed_entries k) x.1;
-}
+-- what a later entry `x` that is alike reports of an entry `y`: its place, and whether it has the same key
+abbrev pub as_alike : PlacedEntry → PlacedEntry → Mark
+as_alike x y = record { finding = alike_finding (bytes_eq y.1.key x.1.key); first = Some y.0 }
+
+-- a key is not as long as its enctype's, if that has a length
+abbrev pub has_odd_size : EntryParts → Bool
+has_odd_size e = not (is_key_size e.enctype (length e.key))
+
+-- an entry has a time, which is at or before a second, if one is given
+abbrev pub is_aged : Option ℕ → EntryParts → Bool
+is_aged None e = false
+is_aged (Some by) e = not (e.timestamp == 0) && nat_le e.timestamp by
+
+-- what is found about an entry of a keytab, in this order, if `before` are the entries before it
+abbrev pub marks_of : Option ℕ → KeytabState → List PlacedEntry → PlacedEntry → List (Option Mark)
+marks_of aged_by k before x =
+    only (is_weak x.1.enctype) Weak
+    ∷ only (has_odd_size x.1) Size
+    ∷ only (ends_mit x.1 && not (list_any (λ y. ends_mit y.1) before)) Hidden
+    ∷ option_map (as_alike x) (find (is_alike x) before)
+    ∷ only (is_old (placed_entries k) x.1) Old
+    ∷ only (not (is_old (placed_entries k) x.1) && is_aged aged_by x.1) Aged
+    ∷ []
 
 -- a weak enctype that one of some entries has
 abbrev pub is_weak_among : List PlacedEntry → ℕ → Bool
@@ -65,13 +82,13 @@ weak_among xs = record { found = map (is_weak_among xs) (range_with_len 0 27) }
 
 -- an entry, and what is found about it
 abbrev pub Marked : Type 0
-Marked = PlacedEntry × Marks
+Marked = PlacedEntry × List (Option Mark)
 
 -- some entries, with what is found about each, if `before` are the entries before them
-abbrev pub marked_after : KeytabState → List PlacedEntry → List PlacedEntry → List Marked
-marked_after k before [] = []
-marked_after k before (x ∷ xs) = (x, marks_of k before x) ∷ marked_after k (before ++ x ∷ []) xs
+abbrev pub marked_after : Option ℕ → KeytabState → List PlacedEntry → List PlacedEntry → List Marked
+marked_after aged_by k before [] = []
+marked_after aged_by k before (x ∷ xs) = (x, marks_of aged_by k before x) ∷ marked_after aged_by k (before ++ x ∷ []) xs
 
--- all entries, with what is found about each
-abbrev pub marked : KeytabState → List Marked
-marked k = marked_after k [] (placed_entries k)
+-- the entries of a keytab about which something is found, with that
+abbrev pub reported : Option ℕ → KeytabState → List Marked
+reported aged_by k = filter (λ m. has_mark m.1) (marked_after aged_by k [] (placed_entries k))

@@ -2,7 +2,9 @@ pub mod Twins
 pub mod Newest
 pub mod Selection
 pub mod Tickets
+pub mod Table
 pub mod Findings
+pub mod CheckUp
 pub mod Report
 pub mod Laws
 -- For private contracts alone.

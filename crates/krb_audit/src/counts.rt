@@ -1,14 +1,20 @@
 //! Counts the entries and holes of a keytab.
 
-ghost use Rattle.std.specs.Prelude.{◌≡◌, ◌++◌, OnOk, ◌+◌, length, sum_by};
+ghost use Rattle.std.specs.Prelude.{◌≡◌, ◌+◌, length, sum_by};
 ghost use Rattle.krb_keytab.specs.Cells.{size};
 ghost use Rattle.krb_keytab.specs.Find.{placed_entries};
-ghost use Rattle.krb_audit.specs.Report.{count_line, holes};
+ghost use Rattle.krb_audit.specs.CheckUp.{counts_of, holes};
 
 use krb_keytab::{Keytab, KtCell};
-use krb_text::{append, append_byte, append_labelled};
-use krb_wire::NoMemory;
 use std::alloc::Allocator;
+
+/// How many entries and holes a keytab has, and how many bytes the holes have in all without their lengths.
+#[derive(Clone, Copy, Debug, PartialEq, Eq)]
+pub struct Counts {
+    pub entries: u32,
+    pub free: u32,
+    pub holes: u32,
+}
 
 /// The number of holes, and their total size.
 #[derive(Clone, Copy)]
@@ -33,20 +39,15 @@ fn count_holes<A: Allocator>(keytab: &Keytab<A>) -> Holes
     holes
 }
 
-/// Appends after a label the line with the number of entries, the total size of the holes, and their number.
-pub fn append_counts<A: Allocator, B: Allocator>(
-    label: &[u8],
-    entries: u32,
-    keytab: &Keytab<B>,
-    out: &mut Vec<u8, A>,
-) -> Result<(), NoMemory>
+/// Returns the counts of a keytab that has so many entries.
+pub(crate) fn counts_of<A: Allocator>(entries: u32, keytab: &Keytab<A>) -> Counts
     requires { entries ≡ length (placed_entries keytab.now.state) }
-    ensures { OnOk result (out.new.items ≡ out.old.items ++ count_line label.now keytab.now.state) }
+    ensures { result ≡ counts_of keytab.now.state }
 {
     let holes = count_holes(keytab);
-    append(label, out)?;
-    append_labelled(b"entries ", entries, out)?;
-    append_labelled(b" free ", holes.size, out)?;
-    append_labelled(b" holes ", holes.count, out)?;
-    append_byte(b'\n', out)
+    Counts {
+        entries,
+        free: holes.size,
+        holes: holes.count,
+    }
 }

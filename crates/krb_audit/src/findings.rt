@@ -1,44 +1,31 @@
-//! Checks a keytab for what an administrator should know.
+//! What is found about the entries of a keytab.
 
-ghost use Rattle.std.specs.Prelude.{◌≡◌, ◌∷◌, ◌++◌, ◌&&◌, ◌||◌, [], List, length, not, OnOk, IfOk};
-ghost use Rattle.std.specs.List.{flat_map};
+ghost use Rattle.std.specs.Prelude.{◌≡◌, ◌∷◌, ◌++◌, ◌&&◌, ◌||◌, [], List, length, not, IfOk, if◌then◌else◌, OnOk};
+ghost use Rattle.krb_keytab.specs.Entry.{EntryParts};
 ghost use Rattle.krb_keytab.specs.Find.{PlacedEntry, placed_entries};
 ghost use Rattle.krb_keytab.specs.Store.{KeytabState};
 ghost use Rattle.krb_audit.specs.Before.{IsBefore};
-ghost use Rattle.krb_audit.specs.Findings.{marked, marks_of, weak_among};
+ghost use Rattle.krb_audit.specs.CheckUp.{about_entries};
+ghost use Rattle.krb_audit.specs.Findings.{has_odd_size, is_aged, marks_of, reported, weak_among};
 ghost use Rattle.krb_audit.specs.declared.selection.SelectedKvno.TheVariants.{Old};
 ghost use Rattle.krb_audit.specs.KvnoMarks.{AreMarks};
 ghost use Rattle.krb_audit.specs.Rows.{AreRows};
-ghost use Rattle.krb_audit.specs.Report.{labelled_fault, mark_lines, report, words_found, words_of, wrong_words};
+ghost use Rattle.krb_audit.specs.Table.{has_mark, with_marks};
 
-use crate::counts::append_counts;
-use crate::finding_words::FindingWords;
+use crate::finding::Finding;
+use crate::finding_set::FindingSet;
 use crate::firsts::Firsts;
 use crate::kvno_marks::{marks_of, next_mark};
-use crate::marks::Marks;
+use crate::marks::{Mark, Marks, has_mark};
 use crate::mit::ends_mit;
-use crate::mode::{append_mode, is_open_file, is_open_to_all};
 use crate::rows::{Row, next_number, rows_of};
 use crate::selection::SelectedKvno;
 use crate::weak_etypes::WeakEtypes;
 use krb_keytab::{EntryView, Keytab};
-use krb_text::{append, append_fault_line, is_weak};
-use krb_walk::Fault;
+use krb_text::{is_weak, key_size};
 use krb_wire::NoMemory;
 use std::alloc::Allocator;
 use std::vec::IntoIter;
-
-/// What a check of a keytab found.
-#[derive(Drop)]
-pub struct CheckUp<A: Allocator> {
-    /// A line for each finding, and a line that counts entries and holes.
-    pub text: Vec<u8, A>,
-    /// Which words the lines begin with.
-    pub words_found: FindingWords,
-    /// Those that report something wrong: not `old`, and `mode` only if others may read or write.
-    pub wrong_words: FindingWords,
-    pub weak_etypes: WeakEtypes,
-}
 
 /// What is known before an entry is checked.
 #[derive(Drop)]
@@ -66,6 +53,27 @@ fn either(held: bool, holds: bool) -> bool
     held || holds
 }
 
+// Returns whether a key is not as long as its enctype's, if that has a length.
+fn has_odd_size(entry: &EntryView<'_>) -> bool
+    ensures { result ≡ has_odd_size entry.now }
+{
+    match key_size(entry.enctype()) {
+        Some(size) => entry.key().len() != size,
+        None => false,
+    }
+}
+
+// Returns whether an entry, which is old or not, is aged by that second, if one is given: it is not old, and has a time,
+// which is at or before that second.
+fn is_aged(by: Option<u32>, old: bool, entry: &EntryView<'_>) -> bool
+    ensures { result ≡ (not old && is_aged by entry.now) }
+{
+    match by {
+        Some(by) => !old && entry.timestamp() != 0 && entry.timestamp() <= by,
+        None => false,
+    }
+}
+
 impl<'a, A: Allocator + Copy> Before<'a, A> {
     // Returns what is known before the first entry of a keytab.
     fn first(alloc: A, rows: Vec<Row, A>, are_old: Vec<bool, A>) -> Before<'a, A>
@@ -83,9 +91,14 @@ impl<'a, A: Allocator + Copy> Before<'a, A> {
     }
 
     // Returns what is found about the next entry, and adds the entry to those before the next.
-    fn marks(&mut self, place: u32, entry: &EntryView<'a>) -> Result<Marks, NoMemory>
+    fn marks(
+        &mut self,
+        aged_by: Option<u32>,
+        place: u32,
+        entry: &EntryView<'a>,
+    ) -> Result<Marks, NoMemory>
         ensures { (k : KeytabState) (before rest : List PlacedEntry) → IsBefore k before ((place, entry.now) ∷ rest) self.old
-            → IfOk result (λ marks. (marks ≡ marks_of k before (place, entry.now))
+            → IfOk result (λ marks. (marks ≡ marks_of aged_by k before (place, entry.now))
             × IsBefore k (before ++ (place, entry.now) ∷ []) rest self.new) }
     {
         let kvno = entry.kvno();
@@ -98,35 +111,63 @@ impl<'a, A: Allocator + Copy> Before<'a, A> {
         let alike = self.firsts.consider(key, place, entry.key())?;
         self.has_ended = either(self.has_ended, ends);
         self.weak_etypes = self.weak_etypes.with(etype);
-        Ok(Marks {
-            weak: is_weak(etype),
-            hidden,
+        Ok([
+            Mark::only(is_weak(etype), Finding::Weak),
+            Mark::only(has_odd_size(entry), Finding::Size),
+            Mark::only(hidden, Finding::Hidden),
             alike,
-            old,
-        })
+            Mark::only(old, Finding::Old),
+            Mark::only(is_aged(aged_by, old, entry), Finding::Aged),
+        ])
     }
 }
 
-// What the lines of all entries report.
-#[derive(Clone, Copy)]
-struct Listed {
-    words_found: FindingWords,
-    weak_etypes: WeakEtypes,
-    /// The number of entries.
-    count: u32,
+/// An entry, its place, and what is found about it.
+pub type Marked<'k> = ((u32, EntryView<'k>), Marks);
+
+/// The entries of a keytab about which something is found.
+#[derive(Drop)]
+pub(crate) struct Reported<'k, A: Allocator> {
+    pub entries: Vec<Marked<'k>, A>,
+    pub findings: FindingSet,
 }
 
-// Appends the lines of all entries, each after a label.
-fn append_marks<A: Allocator + Copy, B: Allocator>(
+impl<'k, A: Allocator> Reported<'k, A> {
+    // Adds an entry if something is found about it.
+    fn add(&mut self, place: u32, entry: EntryView<'k>, marks: Marks) -> Result<(), NoMemory>
+        ensures entries { OnOk result (self.new.entries.items
+            ≡ (if has_mark marks then self.old.entries.items ++ ((place, entry.entry), marks) ∷ [] else self.old.entries.items)) }
+        ensures findings { OnOk result (self.new.findings
+            ≡ (if has_mark marks then with_marks self.old.findings marks else self.old.findings)) }
+    {
+        if !has_mark(&marks) {
+            return Ok(());
+        }
+        self.findings = self.findings.with_marks(&marks);
+        self.entries.push(((place, entry), marks))?;
+        Ok(())
+    }
+}
+
+/// What a pass over the entries of a keytab came to.
+#[derive(Drop)]
+pub(crate) struct Pass<'k, A: Allocator> {
+    pub reported: Reported<'k, A>,
+    pub weak_etypes: WeakEtypes,
+    /// The number of entries.
+    pub count: u32,
+}
+
+/// Returns what is found about the entries of a keytab.
+pub(crate) fn check_entries<'k, A: Allocator + Copy, B: Allocator>(
     alloc: A,
-    label: &[u8],
-    keytab: &Keytab<B>,
-    out: &mut Vec<u8, A>,
-) -> Result<Listed, NoMemory>
-    ensures text { OnOk result (out.new.items ≡ out.old.items ++ flat_map (mark_lines label.now) (marked keytab.now.state)) }
-    ensures words_found { IfOk result (λ listed. listed.words_found ≡ words_of (marked keytab.now.state)) }
-    ensures weak_etypes { IfOk result (λ listed. listed.weak_etypes ≡ weak_among (placed_entries keytab.now.state)) }
-    ensures count { IfOk result (λ listed. listed.count ≡ length (placed_entries keytab.now.state)) }
+    aged_by: Option<u32>,
+    keytab: &'k Keytab<B>,
+) -> Result<Pass<'k, A>, NoMemory>
+    ensures entries { IfOk result (λ pass. pass.reported.entries.items ≡ reported aged_by keytab.now.state) }
+    ensures findings { IfOk result (λ pass. pass.reported.findings ≡ about_entries (reported aged_by keytab.now.state)) }
+    ensures weak_etypes { IfOk result (λ pass. pass.weak_etypes ≡ weak_among (placed_entries keytab.now.state)) }
+    ensures count { IfOk result (λ pass. pass.count ≡ length (placed_entries keytab.now.state)) }
 {
     let rows = rows_of(alloc, keytab)?;
     let are_old = marks_of(alloc, &rows, SelectedKvno::Old, 0)?;
@@ -134,56 +175,17 @@ fn append_marks<A: Allocator + Copy, B: Allocator>(
     let _few = keytab.cell_count();
     let count = rows.len() as u32;
     let mut before = Before::first(alloc, rows, are_old);
-    let mut words_found = FindingWords::none();
+    let mut reported = Reported {
+        entries: Vec::new(alloc),
+        findings: FindingSet::none(),
+    };
     'entries: for (place, entry) in keytab.entries() {
-        let marks = before.marks(place, &entry)?;
-        marks.append_lines(label, place, &entry, out)?;
-        words_found = words_found.with(marks);
+        let marks = before.marks(aged_by, place, &entry)?;
+        reported.add(place, entry, marks)?;
     }
-    Ok(Listed {
-        words_found,
+    Ok(Pass {
+        reported,
         weak_etypes: before.weak_etypes,
         count,
-    })
-}
-
-// Appends the line of the fault after a label, if there is one.
-fn append_fault<A: Allocator>(
-    label: &[u8],
-    fault: Option<Fault>,
-    out: &mut Vec<u8, A>,
-) -> Result<(), NoMemory>
-    ensures { OnOk result (out.new.items ≡ out.old.items ++ labelled_fault label.now fault) }
-{
-    if fault.is_none() {
-        return Ok(());
-    }
-    append(label, out)?;
-    append_fault_line(fault, out)
-}
-
-/// Checks a keytab and, if it is given, the `mode` of its plain file. Each line of the text begins with the label. Takes
-/// time n log n in the bytes of the keytab.
-pub fn check_up<A: Allocator + Copy, B: Allocator>(
-    alloc: A,
-    label: &[u8],
-    mode: Option<u32>,
-    keytab: &Keytab<B>,
-) -> Result<CheckUp<A>, NoMemory>
-    ensures text { IfOk result (λ found. found.text.items ≡ report label.now mode keytab.now.state) }
-    ensures words_found { IfOk result (λ found. found.words_found ≡ words_found mode keytab.now.state) }
-    ensures wrong { IfOk result (λ found. found.wrong_words ≡ wrong_words mode keytab.now.state) }
-    ensures weak_etypes { IfOk result (λ found. found.weak_etypes ≡ weak_among (placed_entries keytab.now.state)) }
-{
-    let mut text = Vec::new(alloc);
-    append_mode(label, mode, &mut text)?;
-    let listed = append_marks(alloc, label, keytab, &mut text)?;
-    append_fault(label, keytab.fault(), &mut text)?;
-    append_counts(label, listed.count, keytab, &mut text)?;
-    Ok(CheckUp {
-        text,
-        words_found: listed.words_found.with_mode(is_open_file(mode)),
-        wrong_words: listed.words_found.wrong().with_mode(is_open_to_all(mode)),
-        weak_etypes: listed.weak_etypes,
     })
 }

@@ -2,29 +2,39 @@
 //! and selections of a cache's tickets.
 #![tactic(auto)]
 
+mod check;
 mod counts;
 mod criteria;
-mod finding_words;
+mod finding;
+mod finding_set;
 mod findings;
 mod firsts;
 mod kvno_marks;
 mod laws;
 mod marks;
+mod missing;
 mod mit;
 mod mode;
 mod names;
 mod newest;
+mod report;
 mod rows;
 mod selection;
 mod tickets;
 mod weak_etypes;
 mod young;
 
-pub use finding_words::FindingWords;
-pub use findings::{CheckUp, check_up};
+pub use check::{CheckUp, check_up};
+pub use counts::Counts;
+pub use finding::{FINDINGS, Finding, FindingRow};
+pub use finding_set::FindingSet;
+pub use findings::Marked;
 pub use laws::{each_name_keeps_an_entry, hints_name_each_weak_etype};
+pub use marks::{Mark, Marks};
 pub use mit::hides_added;
+pub use mode::{append_mode_digits, is_open_file};
 pub use names::hash_of;
+pub use report::append_report;
 pub use selection::{Selected, SelectedKvno, Selection, select, selected_entries};
 pub use tickets::{SelectedTickets, TicketCriteria, select_tickets};
 pub use weak_etypes::WeakEtypes;

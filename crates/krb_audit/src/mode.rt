@@ -1,14 +1,15 @@
 //! File modes.
 
-ghost use Rattle.std.specs.Prelude.{◌≡◌, ◌++◌, OnOk, ◌%◌};
-ghost use Rattle.krb_audit.specs.Report.{has_mode, is_open, is_open_to_all, mode_line, octal};
+ghost use Rattle.std.specs.Prelude.{◌≡◌, ◌++◌, OnOk};
+ghost use Rattle.krb_audit.specs.CheckUp.{has_mode, is_open, is_open_to_all};
+ghost use Rattle.krb_audit.specs.Report.{mode_digits, octal};
 
 use krb_text::{append, append_byte};
 use krb_wire::NoMemory;
 use std::alloc::Allocator;
 
-// Returns whether group or others may read or write a file of that mode.
-fn is_open(mode: u32) -> bool
+/// Returns whether group or others may read or write a file of that mode.
+pub(crate) fn is_open(mode: u32) -> bool
     ensures { result ≡ is_open mode }
 {
     mode & 0o66 != 0
@@ -25,7 +26,7 @@ pub fn is_open_file(mode: Option<u32>) -> bool
 }
 
 /// Returns whether others may read or write the plain file.
-pub fn is_open_to_all(mode: Option<u32>) -> bool
+pub(crate) fn is_open_to_all(mode: Option<u32>) -> bool
     ensures { result ≡ has_mode is_open_to_all mode }
 {
     match mode {
@@ -49,21 +50,13 @@ fn append_octal<A: Allocator>(
     append_byte(b'0' + (number % 8) as u8, out)
 }
 
-/// Appends the line of the mode after a label, if it is reported.
-pub fn append_mode<A: Allocator>(
-    label: &[u8],
-    mode: Option<u32>,
-    out: &mut Vec<u8, A>,
-) -> Result<(), NoMemory>
-    ensures { OnOk result (out.new.items ≡ out.old.items ++ mode_line label.now mode) }
+/// Appends the twelve low bits of a mode in octal, without leading zeros.
+pub fn append_mode_digits<A: Allocator>(mode: u32, out: &mut Vec<u8, A>) -> Result<(), NoMemory>
+    ensures { OnOk result (out.new.items ≡ out.old.items ++ mode_digits mode) }
 {
-    match mode {
-        Some(mode) if is_open(mode) => {
-            append(label, out)?;
-            append(b"mode ", out)?;
-            append_octal(4, mode % 0o10000, out)?;
-            append_byte(b'\n', out)
-        }
-        _ => Ok(()),
+    let bits = mode % 0o10000;
+    if bits == 0 {
+        return append(b"0", out);
     }
+    append_octal(4, bits, out)
 }

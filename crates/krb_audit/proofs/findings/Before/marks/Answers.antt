@@ -3,6 +3,9 @@ use Rattle.std.specs.Prelude.{Bool, find}
 use Rattle.std.specs.Option.{unwrap_or}
 use Rattle.krb_text.specs.Etype.{is_weak}
 use Rattle.krb_audit.specs.Before.{Key, looked, same_key}
+use Rattle.krb_audit.specs.Findings.{is_aged}
+use Rattle.krb_audit.specs.Table.{only}
+use Rattle.krb_audit.specs.declared.finding.Finding.TheVariants.{Weak, Size, Hidden, Old as OldKey, Aged}
 use Rattle.krb_audit.proofs.FindingsLemmas.{ended_here}
 use Rattle.krb_audit.proofs.FirstsLemmas.{alike_here, alike_to, firsts_next, key_in}
 use Rattle.krb_audit.proofs.findings.Before.marks.Goals as goal
@@ -22,10 +25,15 @@ returns g c = λ k before rest known.
     let hidden = c.is_first-hidden.ensures ∙ ap (λ (b : Bool). b && not old.has_ended) c.ends_mit-ends.ensures ∙ ap (λ (b : Bool). ends_mit x.1 && not b) known.has_ended in
     let alike : c.in_ok-alike.alike ≡ option_map (as_alike x) (find (is_alike x) before) =
     c.in_ok-alike.ensures.alike ∙ ap (λ (s : List ℕ). option_map (alike_to s) (look key)) c.key.ensures ∙ ap (λ (l : Key). option_map (alike_to x.1.key) (look l)) is ∙ alike_here all before x first look known.firsts next.0 in
+    let weak_mark = c.only.ensures ∙ ap (λ (b : Bool). only b Weak) weak in
+    let size_mark = c.only-2.ensures ∙ ap (λ (b : Bool). only b Size) c.has_odd_size.ensures in
+    let hidden_mark = c.only-3.ensures ∙ ap (λ (b : Bool). only b Hidden) hidden in
+    let old_mark = c.only-4.ensures ∙ ap (λ (b : Bool). only b OldKey) marked.0 in
+    let aged_mark = c.only-5.ensures ∙ ap (λ (b : Bool). only b Aged) (c.is_aged.ensures ∙ ap (λ (b : Bool). not b && is_aged c.args.aged_by x.1) marked.0) in
     let puts : (l : Key) → looked c.consider.new.self l ≡ cond (same_key (key_in first x) l) (Some (unwrap_or (look (key_in first x)) (x.0, x.1.key))) (look l) = λ l.
     c.in_ok-alike.ensures.kept l ∙ ap (λ (m : Key). cond (same_key m l) (Some (unwrap_or (look m) (x.0, c.key.result.now))) (look l)) is
     ∙ ap (λ (s : List ℕ). cond (same_key (key_in first x) l) (Some (unwrap_or (look (key_in first x)) (x.0, s))) (look l)) c.key.ensures in (
-      λ i. record { weak = weak i; hidden = hidden i; alike = alike i; old = marked.0 i },
+      λ i. weak_mark i ∷ size_mark i ∷ hidden_mark i ∷ alike i ∷ old_mark i ∷ aged_mark i ∷ [],
       record {
         all = known.all ∙ sym (append_assoc before (x ∷ []) rest);
         rows = next.1;

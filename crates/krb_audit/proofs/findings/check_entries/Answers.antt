@@ -1,0 +1,22 @@
+use Rattle.krb_audit.proofs.Cited.{List, subst, arith, ◌∙◌, PlacedEntry, placed_entries}
+use Rattle.krb_audit.proofs.FindingsLemmas.{IsCheckedUpTo, entries_few, one_checked}
+use Rattle.krb_audit.proofs.RowLemmas.{row_count}
+use Rattle.krb_audit.proofs.findings.check_entries.Goals as goal
+
+pub overflow_cast-count : goal.overflow_cast-count
+overflow_cast-count g c =
+    let k = c.args.keytab.now.state in
+    let rows = c.in_ok-rows.rows in
+    omega (arith, c.len-count.ensures ∙ rows.ok.0 ∙ row_count (placed_entries k) (placed_entries k) rows.items c.in_ok-rows.ensures, c.cell_count-few.ensures.few, c.cell_count-few.ensures.count, entries_few k)
+
+pub returns-clause-count : goal.returns-clause-count
+returns-clause-count g c =
+    let all = placed_entries c.args.keytab.now.state in
+    let rows = c.in_ok-rows.rows in
+    c.len-count.ensures ∙ rows.ok.0 ∙ row_count all all rows.items c.in_ok-rows.ensures
+
+pub entries-preserved : goal.entries-preserved
+entries-preserved g c =
+    let k = c.args.keytab.now.state in
+    let was = subst (λ (xs : List PlacedEntry). IsCheckedUpTo c.args.aged_by k xs c.entries.before c.entries.reported.entries.items c.entries.reported.findings) c.in-Some.ensures.steps c.entries.invariant in
+    one_checked c.args.aged_by k _ _ _ _ _ _ _ _ _ was (λ before known. c.in_ok-marks.ensures k before _ known) c.in_ok-add.ensures.entries c.in_ok-add.ensures.findings

@@ -1,0 +1,6 @@
+use Rattle.krb_audit.proofs.FindingsLemmas.{IsCheckedUpTo}
+use Rattle.krb_audit.proofs.findings.check_entries.Given as goal
+
+-- the entries so far are checked, and the others are still to come
+abbrev pub invariant-entries : goal.invariant-entries
+invariant-entries g l = IsCheckedUpTo l.aged_by l.keytab.state l.place-iterator l.before l.reported.entries.items l.reported.findings

@@ -1,0 +1,115 @@
+-- What a check of a keytab finds.
+use Rattle.std.specs.Prelude.{ℕ, bit_and, List, [], ◌∷◌, ◌++◌, length, filter, fold, sum_by, Bool, true, false, not, ◌&&◌, ◌||◌, ◌==◌, if◌then◌else◌, nat_lt, Option, None, Some, is_some, is_none}
+use Rattle.std.specs.List.{list_any}
+use Rattle.std.specs.Str.{bytes_eq}
+use Rattle.krb_wire.specs.Names.{name_text}
+use Rattle.krb_walk.specs.declared.fault.Fault.{Fault}
+use Rattle.krb_walk.specs.Store.{fault_of}
+use Rattle.krb_keytab.specs.Cells.{Cell, Live, Free, size}
+use Rattle.krb_keytab.specs.Find.{PlacedEntry, placed_entries}
+use Rattle.krb_keytab.specs.Store.{KeytabState, store_of}
+use Rattle.krb_audit.specs.declared.counts.Counts.{Counts}
+use Rattle.krb_audit.specs.declared.finding.Finding.{Finding}
+use Rattle.krb_audit.specs.declared.finding.Finding.TheVariants.{Mode, Missing, Empty}
+use Rattle.krb_audit.specs.declared.finding.TheConstants.{FINDINGS}
+use Rattle.krb_audit.specs.declared.finding_set.FindingSet.{FindingSet}
+use Rattle.krb_audit.specs.declared.weak_etypes.WeakEtypes.{WeakEtypes}
+use Rattle.krb_audit.specs.Findings.{Marked, reported, weak_among}
+use Rattle.krb_audit.specs.Table.{has, has_some, joined, none, only_if, row_of, with_marks}
+
+-- ---- the mode
+
+-- group or others may read or write a file of this mode
+abbrev pub is_open : ℕ → Bool
+is_open mode = not (bit_and mode 0o66 == 0)
+
+-- others may read or write it
+abbrev pub is_open_to_all : ℕ → Bool
+is_open_to_all mode = not (bit_and mode 0o6 == 0)
+
+-- a plain file has a mode for which this holds
+abbrev pub has_mode : (ℕ → Bool) → Option ℕ → Bool
+has_mode holds None = false
+has_mode holds (Some mode) = holds mode
+
+-- ---- names that have to be there
+
+-- an entry's name prints as that text
+abbrev pub prints_as : List ℕ → PlacedEntry → Bool
+prints_as text x = bytes_eq (name_text x.1.principal) text
+
+-- texts with one more, unless it is among them
+abbrev pub added_once : List (List ℕ) → List ℕ → List (List ℕ)
+added_once texts text = if list_any (bytes_eq text) texts then texts else texts ++ text ∷ []
+
+-- the texts that no entry's name prints as, each once
+abbrev pub missing_among : List (List ℕ) → List PlacedEntry → List (List ℕ)
+missing_among wanted xs = filter (λ text. not (list_any (prints_as text) xs)) (fold added_once [] wanted)
+
+-- ---- all of it
+
+-- a cell is a hole
+abbrev pub is_hole : Cell → Bool
+is_hole (Live b) = false
+is_hole (Free b) = true
+
+-- the holes
+abbrev pub holes : List Cell → List Cell
+holes cells = filter is_hole cells
+
+-- the number of entries, the total size of the holes, and the number of holes
+abbrev pub counts_of : KeytabState → Counts
+counts_of k = record { entries = length (placed_entries k); free = sum_by size (holes k.contents.cells); holes = length (holes k.contents.cells) }
+
+-- a keytab has no entry and no fault
+abbrev pub is_empty : KeytabState → Bool
+is_empty k = length (placed_entries k) == 0 && is_none (fault_of (store_of k))
+
+-- what a check of a keytab finds; of its entries those about which something is found
+pub record CheckParts : Type 0 where
+  pub mode : Option ℕ
+  pub entries : List Marked
+  pub is_empty : Bool
+  pub missing : List (List ℕ)
+  pub fault : Option Fault
+  pub counts : Counts
+  pub weak_etypes : WeakEtypes
+
+-- what is found about a keytab, whose file has this mode if it is a plain file: an entry is aged by that second, if one is given, and these names are wanted
+abbrev pub checked : Option ℕ → Option ℕ → List (List ℕ) → KeytabState → CheckParts
+checked mode aged_by wanted k = record {
+  mode = mode;
+  entries = reported aged_by k;
+  is_empty = is_empty k;
+  missing = missing_among wanted (placed_entries k);
+  fault = fault_of (store_of k);
+  counts = counts_of k;
+  weak_etypes = weak_among (placed_entries k);
+}
+
+-- what is found about some entries
+abbrev pub about_entries : List Marked → FindingSet
+about_entries entries = fold (λ s m. with_marks s m.1) none entries
+
+-- which findings there are
+abbrev pub findings_of : CheckParts → FindingSet
+findings_of c =
+    joined (about_entries c.entries)
+    (joined (only_if (has_mode is_open c.mode) Mode) (joined (only_if c.is_empty Empty) (only_if (nat_lt 0 (length c.missing)) Missing)))
+
+-- nothing is found
+abbrev pub is_well : CheckParts → Bool
+is_well c = not (has_some (findings_of c) || is_some c.fault)
+
+-- a finding makes the status 1: a mode does if others may read or write the file
+abbrev pub counts_at : Option ℕ → Finding → Bool
+counts_at mode Mode = has_mode is_open_to_all mode
+counts_at mode finding = (row_of finding).counts
+
+-- one of these findings makes the status 1 and is not allowed
+abbrev pub some_counts : Option ℕ → FindingSet → FindingSet → Bool
+some_counts mode allowed s = list_any (λ f. has s f && (not (has allowed f) && counts_at mode f)) FINDINGS
+
+-- something is wrong: such a finding, or a fault
+abbrev pub is_wrong : FindingSet → CheckParts → Bool
+is_wrong allowed c = some_counts c.mode allowed (findings_of c) || is_some c.fault

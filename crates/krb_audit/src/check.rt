@@ -1,0 +1,153 @@
+//! Checks a keytab for what an administrator should know.
+
+ghost use Rattle.std.specs.Prelude.{◌≡◌, IfOk, map};
+ghost use Rattle.std.specs.Vec.{vec_items};
+ghost use Rattle.krb_audit.specs.CheckUp.{checked, findings_of, is_empty, is_well, is_wrong};
+
+use crate::counts::{Counts, counts_of};
+use crate::finding::Finding;
+use crate::finding_set::FindingSet;
+use crate::findings::{Marked, check_entries};
+use crate::missing::missing_among;
+use crate::mode::is_open_file;
+use crate::weak_etypes::WeakEtypes;
+use krb_keytab::Keytab;
+use krb_walk::Fault;
+use krb_wire::NoMemory;
+use std::alloc::Allocator;
+use std::marker::Model;
+
+/// What a check of a keytab found.
+#[derive(Drop)]
+pub struct CheckUp<'k, A: Allocator> {
+    mode: Option<u32>,
+    entries: Vec<Marked<'k>, A>,
+    is_empty: bool,
+    missing: Vec<&'k [u8], A>,
+    fault: Option<Fault>,
+    counts: Counts,
+    weak_etypes: WeakEtypes,
+    findings: FindingSet,
+}
+
+impl<'k, A: Allocator> Model for CheckUp<'k, A> {
+    ghost use Rattle.std.specs.Prelude.{◌≡◌, map};
+    ghost use Rattle.krb_audit.specs.CheckUp.{CheckParts, findings_of};
+
+    ghost Value = { CheckParts };
+
+    ghost view = { λ v. record {
+      mode = v.mode;
+      entries = v.entries.items;
+      is_empty = v.is_empty;
+      missing = map (λ t. t.now) v.missing.items;
+      fault = v.fault;
+      counts = v.counts;
+      weak_etypes = v.weak_etypes;
+    } };
+
+    ghost invariant = { λ v. v.findings ≡ findings_of (view v) };
+}
+
+impl<'k, A: Allocator> CheckUp<'k, A> {
+    /// Returns the mode of the keytab's plain file, if it is given.
+    pub fn mode(&self) -> Option<u32>
+        ensures { result ≡ self.now.mode }
+    {
+        self.mode
+    }
+
+    /// Returns the entries about which something is found, with that, in file order.
+    pub fn entries(&self) -> &[Marked<'k>]
+        ensures { result.now ≡ self.now.entries }
+    {
+        &self.entries
+    }
+
+    /// Returns whether the keytab has no entry and no fault.
+    pub fn is_empty(&self) -> bool
+        ensures { result ≡ self.now.is_empty }
+    {
+        self.is_empty
+    }
+
+    /// Returns the names that are missing, as they are printed.
+    pub fn missing(&self) -> &[&'k [u8]]
+        ensures { map (λ t. t.now) result.now ≡ self.now.missing }
+    {
+        &self.missing
+    }
+
+    /// Returns the fault of the keytab, if it has one: what is found is then of the entries before it.
+    pub fn fault(&self) -> Option<Fault>
+        ensures { result ≡ self.now.fault }
+    {
+        self.fault
+    }
+
+    /// Returns how many entries and holes there are.
+    pub fn counts(&self) -> Counts
+        ensures { result ≡ self.now.counts }
+    {
+        self.counts
+    }
+
+    /// Returns which weak encryption types entries have.
+    pub fn weak_etypes(&self) -> WeakEtypes
+        ensures { result ≡ self.now.weak_etypes }
+    {
+        self.weak_etypes
+    }
+
+    /// Returns which findings there are.
+    pub fn findings(&self) -> FindingSet
+        ensures { result ≡ findings_of self.now }
+    {
+        self.findings
+    }
+
+    /// Returns whether nothing is found.
+    pub fn is_well(&self) -> bool
+        ensures { result ≡ is_well self.now }
+    {
+        !(self.findings.has_some() || self.fault.is_some())
+    }
+
+    /// Returns whether something is wrong: a fault, or a finding that is not allowed and makes the status 1.
+    pub fn is_wrong(&self, allowed: FindingSet) -> bool
+        ensures { result ≡ is_wrong allowed self.now }
+    {
+        self.findings.some_counts(self.mode, allowed) || self.fault.is_some()
+    }
+}
+
+/// Checks a keytab and, if it is given, the `mode` of its plain file. An entry is aged by the second `aged_by`, if that
+/// is given, and the names `wanted` have to be there, as they are printed. Takes time n log n in the bytes of the keytab.
+pub fn check_up<'k, A: Allocator + Copy, B: Allocator, C: Allocator>(
+    alloc: A,
+    mode: Option<u32>,
+    aged_by: Option<u32>,
+    wanted: &'k [Vec<u8, B>],
+    keytab: &'k Keytab<C>,
+) -> Result<CheckUp<'k, A>, NoMemory>
+    ensures { IfOk result (λ found. found ≡ checked mode aged_by (map vec_items wanted.now) keytab.now.state) }
+{
+    let pass = check_entries(alloc, aged_by, keytab)?;
+    let missing = missing_among(alloc, wanted, keytab)?;
+    let fault = keytab.fault();
+    let is_empty = pass.count == 0 && fault.is_none();
+    let about_file = FindingSet::only_if(is_open_file(mode), Finding::Mode).and(FindingSet::only_if(
+        is_empty,
+        Finding::Empty,
+    ).and(FindingSet::only_if(!missing.is_empty(), Finding::Missing)));
+    Ok(CheckUp {
+        mode,
+        findings: pass.reported.findings.and(about_file),
+        entries: pass.reported.entries,
+        is_empty,
+        missing,
+        fault,
+        counts: counts_of(pass.count, keytab),
+        weak_etypes: pass.weak_etypes,
+    })
+}

@@ -1,0 +1,101 @@
+//! Sets of findings.
+
+ghost use Rattle.std.specs.Prelude.{◌≡◌};
+ghost use Rattle.krb_audit.specs.CheckUp.{counts_at, some_counts};
+ghost use Rattle.krb_audit.specs.Table.{has, has_some, joined, none, only_if, with_mark, with_marks, without};
+
+use crate::finding::{FINDINGS, Finding};
+use crate::marks::{Mark, Marks};
+use crate::mode::is_open_to_all;
+
+/// A set of findings.
+#[derive(Clone, Copy, Debug, PartialEq, Eq)]
+pub struct FindingSet {
+    bits: u16,
+}
+
+// Returns whether a finding makes the status 1: a mode does if others may read or write the plain file.
+fn counts_at(mode: Option<u32>, finding: Finding) -> bool
+    ensures { result ≡ counts_at mode finding }
+{
+    match finding {
+        Finding::Mode => is_open_to_all(mode),
+        _ => finding.row().counts,
+    }
+}
+
+impl FindingSet {
+    /// Returns no findings.
+    pub fn none() -> FindingSet
+        ensures { result ≡ none }
+    {
+        FindingSet { bits: 0 }
+    }
+
+    /// Returns that finding if it holds, and otherwise none.
+    pub fn only_if(holds: bool, finding: Finding) -> FindingSet
+        ensures { result ≡ only_if holds finding }
+    {
+        FindingSet {
+            bits: if holds { finding.bit() } else { 0 },
+        }
+    }
+
+    /// Returns these findings and the others.
+    pub fn and(self, others: FindingSet) -> FindingSet
+        ensures { result ≡ joined self others }
+    {
+        FindingSet {
+            bits: self.bits | others.bits,
+        }
+    }
+
+    /// Returns these findings without the others.
+    pub fn without(self, others: FindingSet) -> FindingSet
+        ensures { result ≡ without self others }
+    {
+        FindingSet {
+            bits: self.bits & !others.bits,
+        }
+    }
+
+    /// Returns whether it has a finding.
+    pub fn has(self, finding: Finding) -> bool
+        ensures { result ≡ has self finding }
+    {
+        self.bits & finding.bit() != 0
+    }
+
+    /// Returns whether it has a finding at all.
+    pub fn has_some(self) -> bool
+        ensures { result ≡ has_some self }
+    {
+        self.bits != 0
+    }
+
+    // Adds what a mark reports, if there is one.
+    fn with_mark(self, mark: &Option<Mark>) -> FindingSet
+        ensures { result ≡ with_mark self mark.now }
+    {
+        match mark {
+            Some(mark) => self.and(FindingSet::only_if(true, mark.finding)),
+            None => self,
+        }
+    }
+
+    /// Adds what is found about one more entry.
+    pub(crate) fn with_marks(self, marks: &Marks) -> FindingSet
+        ensures { result ≡ with_marks self marks.now }
+    {
+        marks.iter().fold(self, FindingSet::with_mark)
+    }
+
+    /// Returns whether one of these findings makes the status 1 and is not allowed.
+    pub(crate) fn some_counts(self, mode: Option<u32>, allowed: FindingSet) -> bool
+        ensures { result ≡ some_counts mode allowed self }
+    {
+        FINDINGS.iter().any(|finding| self.has(*finding)
+            && !allowed.has(*finding)
+            && counts_at(mode, *finding))
+    }
+}

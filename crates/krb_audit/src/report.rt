@@ -1,0 +1,194 @@
+//! The lines that report what a check of a keytab finds.
+
+ghost use Rattle.std.specs.Prelude.{◌≡◌, ◌++◌, OnOk, map};
+ghost use Rattle.std.specs.List.{flat_map};
+ghost use Rattle.krb_audit.specs.Report.{count_line, empty_line, labelled_fault, mark_line, mark_lines, missing_line, mode_line, placed_rest, report};
+ghost use Rattle.krb_audit.specs.Table.{row_of};
+
+use crate::check::CheckUp;
+use crate::counts::Counts;
+use crate::finding::Finding;
+use crate::findings::Marked;
+use crate::marks::Mark;
+use crate::mode::{append_mode_digits, is_open};
+use krb_keytab::EntryView;
+use krb_text::{append, append_byte, append_fault_line, append_labelled, append_placed};
+use krb_walk::Fault;
+use krb_wire::NoMemory;
+use std::alloc::Allocator;
+
+fn append_word<A: Allocator>(
+    label: &[u8],
+    finding: Finding,
+    out: &mut Vec<u8, A>,
+) -> Result<(), NoMemory>
+    ensures { OnOk result (out.new.items ≡ out.old.items ++ (label.now ++ (row_of finding).word)) }
+{
+    append(label, out)?;
+    append(finding.row().word.as_bytes(), out)
+}
+
+fn append_mode<A: Allocator>(
+    label: &[u8],
+    mode: Option<u32>,
+    out: &mut Vec<u8, A>,
+) -> Result<(), NoMemory>
+    ensures { OnOk result (out.new.items ≡ out.old.items ++ mode_line label.now mode) }
+{
+    match mode {
+        Some(mode) if is_open(mode) => {
+            append_word(label, Finding::Mode, out)?;
+            append_byte(b' ', out)?;
+            append_mode_digits(mode, out)?;
+            append_byte(b'\n', out)
+        }
+        _ => Ok(()),
+    }
+}
+
+fn append_rest<A: Allocator>(
+    first: Option<u32>,
+    place: u32,
+    entry: &EntryView<'_>,
+    out: &mut Vec<u8, A>,
+) -> Result<(), NoMemory>
+    ensures { OnOk result (out.new.items ≡ out.old.items ++ placed_rest first (place, entry.now)) }
+{
+    match first {
+        None => append_placed(b" ", place, entry, out),
+        Some(first) => {
+            append_labelled(b" ", place, out)?;
+            append_placed(b" ", first, entry, out)
+        }
+    }
+}
+
+fn append_mark<A: Allocator>(
+    label: &[u8],
+    place: u32,
+    entry: &EntryView<'_>,
+    mark: &Option<Mark>,
+    out: &mut Vec<u8, A>,
+) -> Result<(), NoMemory>
+    ensures { OnOk result (out.new.items ≡ out.old.items ++ mark_line label.now (place, entry.now) mark.now) }
+{
+    let Some(mark) = mark else {
+        return Ok(());
+    };
+    append_word(label, mark.finding, out)?;
+    append_rest(mark.first, place, entry, out)
+}
+
+fn append_marks<A: Allocator>(
+    label: &[u8],
+    place: u32,
+    entry: &EntryView<'_>,
+    marks: &[Option<Mark>],
+    out: &mut Vec<u8, A>,
+) -> Result<(), NoMemory>
+    ensures { OnOk result (out.new.items ≡ out.old.items ++ mark_lines label.now ((place, entry.now), marks.now)) }
+{
+    'marks: for mark in marks {
+        append_mark(label, place, entry, mark, out)?;
+    }
+    Ok(())
+}
+
+fn append_entries<A: Allocator>(
+    label: &[u8],
+    entries: &[Marked<'_>],
+    out: &mut Vec<u8, A>,
+) -> Result<(), NoMemory>
+    ensures { OnOk result (out.new.items ≡ out.old.items ++ flat_map (mark_lines label.now) entries.now) }
+{
+    'entries: for ((place, entry), marks) in entries {
+        append_marks(label, *place, entry, marks, out)?;
+    }
+    Ok(())
+}
+
+fn append_empty<A: Allocator>(
+    label: &[u8],
+    is_empty: bool,
+    out: &mut Vec<u8, A>,
+) -> Result<(), NoMemory>
+    ensures { OnOk result (out.new.items ≡ out.old.items ++ empty_line label.now is_empty) }
+{
+    if !is_empty {
+        return Ok(());
+    }
+    append_word(label, Finding::Empty, out)?;
+    append_byte(b'\n', out)
+}
+
+fn append_missing_name<A: Allocator>(
+    label: &[u8],
+    name: &[u8],
+    out: &mut Vec<u8, A>,
+) -> Result<(), NoMemory>
+    ensures { OnOk result (out.new.items ≡ out.old.items ++ missing_line label.now name.now) }
+{
+    append_word(label, Finding::Missing, out)?;
+    append_byte(b' ', out)?;
+    append(name, out)?;
+    append_byte(b'\n', out)
+}
+
+fn append_missing<A: Allocator>(
+    label: &[u8],
+    names: &[&[u8]],
+    out: &mut Vec<u8, A>,
+) -> Result<(), NoMemory>
+    ensures { OnOk result (out.new.items
+        ≡ out.old.items ++ flat_map (missing_line label.now) (map (λ t. t.now) names.now)) }
+{
+    'names: for name in names {
+        append_missing_name(label, name, out)?;
+    }
+    Ok(())
+}
+
+fn append_fault<A: Allocator>(
+    label: &[u8],
+    fault: Option<Fault>,
+    out: &mut Vec<u8, A>,
+) -> Result<(), NoMemory>
+    ensures { OnOk result (out.new.items ≡ out.old.items ++ labelled_fault label.now fault) }
+{
+    if fault.is_none() {
+        return Ok(());
+    }
+    append(label, out)?;
+    append_fault_line(fault, out)
+}
+
+fn append_counts<A: Allocator>(
+    label: &[u8],
+    counts: Counts,
+    out: &mut Vec<u8, A>,
+) -> Result<(), NoMemory>
+    ensures { OnOk result (out.new.items ≡ out.old.items ++ count_line label.now counts) }
+{
+    append(label, out)?;
+    append_labelled(b"entries ", counts.entries, out)?;
+    append_labelled(b" free ", counts.free, out)?;
+    append_labelled(b" holes ", counts.holes, out)?;
+    append_byte(b'\n', out)
+}
+
+/// Appends a line for each finding, one for the fault if there is one, and one that counts entries and holes. Each line
+/// begins with the label.
+pub fn append_report<A: Allocator, B: Allocator>(
+    label: &[u8],
+    found: &CheckUp<'_, B>,
+    out: &mut Vec<u8, A>,
+) -> Result<(), NoMemory>
+    ensures { OnOk result (out.new.items ≡ out.old.items ++ report label.now found.now) }
+{
+    append_mode(label, found.mode(), out)?;
+    append_entries(label, found.entries(), out)?;
+    append_empty(label, found.is_empty(), out)?;
+    append_missing(label, found.missing(), out)?;
+    append_fault(label, found.fault(), out)?;
+    append_counts(label, found.counts(), out)
+}
