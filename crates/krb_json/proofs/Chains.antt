@@ -22,6 +22,13 @@ unnamed_etype old mid new etype o is is_mid is_new = rw is (chain old mid new (m
 tokens_push : (ms : List Member) (m : Member) → tokens_of (ms ++ m ∷ []) ≡ tokens_of ms ++ member_tokens m
 tokens_push ms m = flat_map-append member_tokens ms (m ∷ []) ∙ ap (λ l. tokens_of ms ++ l) (append-nil (member_tokens m))
 
+object_by_one : (m : Member) (ms : List Member) → json_tokens (object_of (m ∷ ms)) ≡ begin_object ∷ (member_tokens m ++ (tokens_of ms ++ (end_object ∷ [])))
+object_by_one m ms = ap (λ l. begin_object ∷ (member_tokens m ++ l)) (members_end_object ms)
+
+-- an object of a member and a list of members
+pub written_by_one : (m : Member) (ms : List Member) (old t u new : List Token) → t ≡ old ++ begin_object ∷ member_tokens m → u ≡ t ++ tokens_of ms → new ≡ u ++ end_object ∷ [] → new ≡ old ++ json_tokens (object_of (m ∷ ms))
+written_by_one m ms old t u new e1 e2 e3 = rw (e3, e2, e1, object_by_one m ms) (simp append_assoc)
+
 object_by_four : (a b : List Member) (m : Member) (d : List Member)
     → json_tokens (object_of (a ++ (b ++ (m ∷ d)))) ≡ begin_object ∷ (tokens_of a ++ (tokens_of b ++ (member_tokens m ++ (tokens_of d ++ (end_object ∷ [])))))
 object_by_four a b m d =

@@ -7,6 +7,7 @@ pub mod EscapedReads
 pub mod Arrays
 pub mod Chains
 pub mod Sending
+pub mod Adding
 pub mod ReadBack
 pub mod Wholes
 pub mod OnLiterals

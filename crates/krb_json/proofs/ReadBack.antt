@@ -1,11 +1,11 @@
 -- What is written is read back.
-use Rattle.krb_json.proofs.Cited.{◌≡◌, ℕ, ◌<◌, ◌≤◌, ◌^◌, Bool, true, false, cond, List, [], ◌∷◌, ◌++◌, codes, Option, None, Some, lit<, refl, arith, length, is_utf8, depth, items_depth, members_depth, HasNumbers, ItemsHaveNumbers, MembersHaveNumbers, name_text, CacheState, PlacedCredential, placed_credentials, ConfigParts, json_text, Member, members_of, etype_members, file_members, text_member, text_or_null, fault_value, digits_of, owner_members, key_members, entry_value, entry_values, keytab_value, party_members, time_members, flag_members, size_members, about_member, ticket_value, config_value, ticket_values, config_values, cache_value, IsPlain, ArePlain}
+use Rattle.krb_json.proofs.Cited.{◌≡◌, ℕ, ◌<◌, ◌≤◌, ◌^◌, Bool, true, false, cond, List, [], ◌∷◌, ◌++◌, codes, Option, None, Some, lit<, refl, arith, length, is_utf8, depth, items_depth, members_depth, HasNumbers, ItemsHaveNumbers, MembersHaveNumbers, name_text, CacheState, PlacedCredential, placed_credentials, ConfigParts, json_text, Member, object_of, mode_value, check_members, first_members, about_members, finding_value, finding_values, missing_value, check_value, refused_value, members_of, etype_members, file_members, text_member, text_or_null, fault_value, digits_of, owner_members, key_members, entry_value, entry_values, keytab_value, party_members, time_members, flag_members, size_members, about_member, ticket_value, config_value, ticket_values, config_values, cache_value, IsPlain, ArePlain}
 use Rattle.json.specs.Json.{Json, string, document}
 use Rattle.json.specs.Value.{items_of}
 use Rattle.json.proofs.Printed.Decimals.{IsNumber-decimal}
 use Rattle.krb_wire.specs.declared.format.KtFormat.{KtFormat}
 use Rattle.krb_wire.specs.declared.format.KtFormat.TheVariants.{V1, V2}
-use Rattle.krb_wire.specs.Spelling.{version_byte}
+use Rattle.krb_wire.specs.Spelling.{Parts, version_byte}
 use Rattle.krb_walk.specs.declared.fault.Fault.{Fault}
 use Rattle.krb_walk.specs.declared.fault.FaultKind.{FaultKind}
 use Rattle.krb_walk.specs.declared.fault.FaultKind.TheVariants.{CutLength}
@@ -17,7 +17,12 @@ use Rattle.krb_ccache.specs.declared.version.Version.{Version}
 use Rattle.krb_ccache.specs.declared.version.Version.TheVariants.{V3, V4}
 use Rattle.krb_ccache.specs.Store as cache
 use Rattle.krb_ccache.specs.Credential.{FitsTimes}
+use Rattle.krb_audit.specs.CheckUp.{CheckParts}
+use Rattle.krb_audit.specs.declared.counts.Counts.{Counts}
+use Rattle.krb_audit.specs.declared.finding.Finding.{Finding}
 use Rattle.krb_text.specs.Etype.{etype_name_of}
+use Rattle.krb_json.specs.declared.summary.CacheSummary.{CacheSummary}
+use Rattle.krb_json.specs.Summary.{number_or_null, summary_value}
 use Rattle.krb_json.proofs.EscapedReads.{document-text}
 
 -- ---- texts
@@ -88,6 +93,48 @@ config_is_plain place name value small = record {
   flat = omega (arith, text_depth (codes "key") name.key, about_depth name.principal, text_depth (codes "value") value);
 }
 
+-- ---- checks
+
+mode_numbers : (mode : Option ℕ) → HasNumbers (mode_value mode)
+mode_numbers None = tt
+mode_numbers (Some mode) = tt
+
+mode_depth : (mode : Option ℕ) → depth (mode_value mode) ≡ 0
+mode_depth None = refl
+mode_depth (Some mode) = refl
+
+pub head_is_plain : (file : List ℕ) (mode : Option ℕ) (counts : Counts) → counts.entries < 2 ^ 32 → counts.free < 2 ^ 32 → counts.holes < 2 ^ 32 → IsPlain (object_of (check_members file mode counts))
+unfolding check_members
+head_is_plain file mode counts entries free holes = record {
+  numbers = search (arith, IsNumber-decimal, mode_numbers);
+  flat = omega (arith, mode_depth mode);
+}
+
+-- the place of the first entry that is alike is a number that a reader reads
+pub first_numbers : (first : ℕ) → first < 2 ^ 32 → MembersHaveNumbers (members_of (first_members (Some first)))
+first_numbers first small = (IsNumber-decimal first (omega arith), tt)
+
+pub about_is_plain : (first : Option ℕ) (x : PlacedEntry) → MembersHaveNumbers (members_of (first_members first)) → x.0 < 2 ^ 32 → x.1.version < 2 ^ 32 → x.1.enctype < 2 ^ 16 → IsPlain (object_of (about_members first x))
+unfolding about_members
+about_is_plain None x h place version enctype = record {
+  numbers = search (arith, IsNumber-decimal, text_numbers);
+  flat = omega (arith, text_depth (codes "principal") (name_text x.1.principal));
+}
+about_is_plain (Some first) x h place version enctype = record {
+  numbers = search (arith, IsNumber-decimal, text_numbers, h.0);
+  flat = omega (arith, text_depth (codes "principal") (name_text x.1.principal));
+}
+
+-- a finding is if what it has beside its word is
+pub finding_is_plain : (finding : Finding) (ms : List Member) → IsPlain (object_of ms) → IsPlain (finding_value finding ms)
+finding_is_plain finding ms h = record { numbers = (tt, h.numbers); flat = omega (arith, h.flat) }
+
+pub file_finding_is_plain : (finding : Finding) → IsPlain (finding_value finding [])
+file_finding_is_plain finding = record { numbers = (tt, tt); flat = omega arith }
+
+pub missing_is_plain : (name : List ℕ) → IsPlain (missing_value name)
+missing_is_plain name = record { numbers = (tt, (text_numbers (codes "principal") name, tt)); flat = omega (arith, text_depth (codes "principal") name) }
+
 -- ---- faults
 
 fault_number_small : (kind : FaultKind) → fault_number kind < 2 ^ 64
@@ -128,6 +175,21 @@ keytab_is_read file shows_keys k entries fault =
     (tt, (tt, (IsNumber-decimal (version_byte k.format) (version_small k.format), (plain_numbers vs entries, (fault.numbers, tt)))))
     (omega (arith, plain_depth vs entries, fault.flat))
 
+pub check_is_read : (file : List ℕ) (c : CheckParts) (status : ℕ) → IsPlain (object_of (check_members file c.mode c.counts)) → ArePlain (finding_values c) → IsPlain (fault_value c.fault) → status < 2 ^ 8
+    → document (json_text (check_value file c status)) ≡ Some (check_value file c status)
+unfolding check_value check_members
+check_is_read file c status head findings fault small =
+    let n = head.numbers in
+    document-text (check_value file c status)
+    (tt, (n.1.0, (n.1.1.0, (n.1.1.1.0, (n.1.1.1.1.0, (plain_numbers (finding_values c) findings, (fault.numbers, (IsNumber-decimal status (omega arith), tt))))))))
+    (omega (arith, mode_depth c.mode, plain_depth (finding_values c) findings, fault.flat))
+
+pub refused_is_read : (file error : List ℕ) (status : ℕ) → status < 2 ^ 8 → document (json_text (refused_value file error status)) ≡ Some (refused_value file error status)
+unfolding refused_value
+refused_is_read file error status small =
+    document-text (refused_value file error status) (tt, (text_numbers (codes "error") error, (IsNumber-decimal status (omega arith), tt)))
+    (omega (arith, text_depth (codes "error") error))
+
 cache_version_small : (v : Version) → cache.version_byte v < 2 ^ 64
 cache_version_small V3 = lit< tt
 cache_version_small V4 = lit< tt
@@ -150,3 +212,19 @@ cache_is_read file k tickets configs fault =
       ),
     )
     (omega (arith, text_depth (codes "default_principal") name, plain_depth ts tickets, plain_depth cs configs, fault.flat))
+
+-- ---- overviews
+
+pub end_numbers : (seconds : ℕ) → seconds < 2 ^ 32 → HasNumbers (number_or_null (Some seconds))
+end_numbers seconds small = IsNumber-decimal seconds (omega arith)
+
+end_depth : (end : Option ℕ) → depth (number_or_null end) ≡ 0
+end_depth None = refl
+end_depth (Some seconds) = refl
+
+pub summary_is_read : (file : List ℕ) (p : Parts) (s : CacheSummary) → s.tickets < 2 ^ 64 → HasNumbers (number_or_null s.endtime) → document (json_text (summary_value file p s)) ≡ Some (summary_value file p s)
+unfolding summary_value
+summary_is_read file p s tickets end =
+    let name = name_text p in
+    document-text (summary_value file p s) (tt, (tt, (text_numbers (codes "default_principal") name, (IsNumber-decimal s.tickets tickets, (end, (tt, tt))))))
+    (omega (arith, text_depth (codes "default_principal") name, end_depth s.endtime))

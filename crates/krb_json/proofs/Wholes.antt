@@ -1,9 +1,10 @@
 -- The text of a file, in pieces.
-use Rattle.krb_json.proofs.Cited.{◌≡◌, ℕ, Bool, false, List, [], ◌∷◌, ◌++◌, codes, refl, sym, ap, ◌∙◌, append_assoc, Json, end_array, json_tokens, members_tokens, name_text, CacheState, placed_credentials, text_of, Member, members_of, object_of, array_of, text_member, fault_value, file_members, entry_values, keytab_value, keytab_json_text, ticket_values, config_values, cache_value, cache_json_text, elements_text, head_tokens, between_tokens, tail_tokens, arrays_text}
+use Rattle.krb_json.proofs.Cited.{◌≡◌, ℕ, Bool, false, List, [], ◌∷◌, ◌++◌, codes, refl, sym, ap, ◌∙◌, append_assoc, Json, end_array, json_tokens, members_tokens, name_text, CacheState, placed_credentials, text_of, Member, members_of, object_of, array_of, text_member, fault_value, file_members, entry_values, keytab_value, keytab_json_text, check_members, finding_values, check_value, check_json_text, status_members, Some, ticket_values, config_values, cache_value, cache_json_text, elements_text, head_tokens, between_tokens, tail_tokens, arrays_text}
 use Rattle.krb_wire.specs.Spelling.{version_byte}
 use Rattle.krb_walk.specs.Store.{fault_of}
 use Rattle.krb_keytab.specs.Store.{KeytabState, store_of}
 use Rattle.krb_ccache.specs.Store as cache
+use Rattle.krb_audit.specs.CheckUp.{CheckParts}
 use Rattle.krb_json.proofs.Arrays.{object_print, rest_print, members_end_object}
 
 tail_print : (ns : List Member) → text_of (end_array ∷ members_tokens (members_of ns)) ≡ text_of (tail_tokens ns)
@@ -26,6 +27,14 @@ pub keytab_text : (file : List ℕ) (shows_keys : Bool) (k : KeytabState)
 unfolding keytab_value
 keytab_text file shows_keys k =
     one_array (file_members file (codes "keytab") (version_byte k.format)) ((codes "fault", fault_value (fault_of (store_of k))) ∷ []) (codes "entries") (entry_values shows_keys k) (codes "\n")
+
+pub check_text : (file : List ℕ) (c : CheckParts) (status : ℕ)
+    → check_json_text file c status
+    ≡ text_of (head_tokens (check_members file c.mode c.counts) (codes "findings"))
+    ++ (elements_text false (finding_values c) ++ (text_of (tail_tokens ((codes "fault", fault_value c.fault) ∷ status_members (Some status))) ++ codes "\n"))
+unfolding check_value
+check_text file c status =
+    one_array (check_members file c.mode c.counts) ((codes "fault", fault_value c.fault) ∷ status_members (Some status)) (codes "findings") (finding_values c) (codes "\n")
 
 regroup_five : (a b c d e n : List ℕ) → (a ++ (b ++ (c ++ (d ++ e)))) ++ n ≡ a ++ ((b ++ (c ++ d)) ++ (e ++ n))
 regroup_five a b c d e n = simp append_assoc refl

@@ -4,4 +4,5 @@ pub mod Escaped
 pub mod Keytab
 pub mod Cache
 pub mod Summary
+pub mod Check
 pub mod Pieces

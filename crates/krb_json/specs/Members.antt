@@ -8,7 +8,7 @@ use Rattle.krb_walk.specs.declared.fault.Fault.{Fault}
 use Rattle.krb_walk.specs.Phrases.{fault_number}
 use Rattle.krb_text.specs.Etype.{etype_name_of}
 use Rattle.krb_json.specs.declared.put.Label.{Label}
-use Rattle.krb_json.specs.declared.put.Label.TheVariants.{Principal, DefaultPrincipal, Client, Server, Key, Value}
+use Rattle.krb_json.specs.declared.put.Label.TheVariants.{Principal, DefaultPrincipal, Client, Server, Key, Value, Error}
 
 -- a member of an object: its name and its value
 abbrev pub Member : Type 0
@@ -53,6 +53,11 @@ abbrev pub fault_value : Option Fault → Json
 fault_value None = null
 fault_value (Some fault) = object_of ((codes "kind", number_of (fault_number fault.kind)) ∷ (codes "place", number_of fault.place) ∷ [])
 
+-- the status that a file comes to, if it is given
+abbrev pub status_members : Option ℕ → List Member
+status_members None = []
+status_members (Some status) = (codes "status", number_of status) ∷ []
+
 -- the first members of each file: its name, its kind and its format version
 unfoldable pub file_members : List ℕ → List ℕ → ℕ → List Member
 file_members file kind version = (codes "file", string file) ∷ (codes "kind", string kind) ∷ (codes "version", number_of version) ∷ []
@@ -67,3 +72,4 @@ label_text Client = codes "client"
 label_text Server = codes "server"
 label_text Key = codes "key"
 label_text Value = codes "value"
+label_text Error = codes "error"

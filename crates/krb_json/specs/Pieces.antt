@@ -1,10 +1,13 @@
 -- The text of a value in pieces: for private contracts.
-use Rattle.std.specs.Prelude.{ℕ, ◌≤◌, ⊤, List, [], ◌∷◌, ◌++◌, flat_map, codes, Bool, true, false, if◌then◌else◌, Option, None, Some}
+use Rattle.std.specs.Prelude.{ℕ, ◌≡◌, ◌≤◌, ⊤, List, [], ◌∷◌, ◌++◌, flat_map, fold, codes, Bool, true, false, if◌then◌else◌, Option, None, Some, Result, OnOk, IfOk}
 use Rattle.std.specs.List.{AllByRecursion}
 use Rattle.json.specs.Json.{Json}
 use Rattle.json.specs.Token.{Token, begin_object, end_object, begin_array, end_array, key}
 use Rattle.json.specs.Tree.{json_tokens, depth, HasNumbers}
 use Rattle.krb_ccache.specs.Store.{CacheState, PlacedCredential, placed_credentials}
+use Rattle.krb_files.specs.declared.output.OutFault.{OutFault}
+use Rattle.krb_files.specs.Bytes.{Watch}
+use Rattle.krb_text.specs.Gathered.{Gathers}
 use Rattle.krb_json.specs.Escaped.{json_text, text_of}
 use Rattle.krb_json.specs.Members.{Member}
 use Rattle.krb_json.specs.Cache.{ticket_values, config_values}
@@ -68,3 +71,10 @@ IfPlain (Some v) = IsPlain v
 -- such values
 abbrev pub ArePlain : List Json → Type 0
 ArePlain vs = AllByRecursion IsPlain vs
+
+-- elements of an array, which a reader reads back, were gathered, and the piece is empty; the result is whether the array has an element now
+pub record Adds (old new : Watch) (before after : List ℕ) (piece : List Token) (is_after : Bool) (result : Result Bool OutFault) (vs : List Json) : Type 0 where
+  pub gathers : Gathers old new before after result (elements_text is_after vs)
+  pub has : IfOk result (λ b. b ≡ fold (λ _ _. true) is_after vs)
+  pub plain : OnOk result (ArePlain vs)
+  pub empty : OnOk result (piece ≡ [])

@@ -157,5 +157,5 @@ pub fn cache_json<A: Allocator + Copy, B: Allocator, W: Write>(
     let mut piece = Piece::new(alloc);
     append_head(file, cache, &mut piece, &mut gathered)?;
     send_arrays(cache, &mut piece, &mut gathered, out)?;
-    send_tail(cache.fault(), &mut piece, &mut gathered, out)
+    send_tail(cache.fault(), None, &mut piece, &mut gathered, out)
 }

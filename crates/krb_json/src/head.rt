@@ -3,7 +3,7 @@
 ghost use Rattle.std.specs.Prelude.{◌≡◌, ◌++◌, [], ◌∷◌, OnOk, codes, IsFalse};
 ghost use Rattle.krb_text.specs.Gathered.{Prints};
 ghost use Rattle.json.specs.Token.{begin_object};
-ghost use Rattle.krb_json.specs.Members.{file_members, fault_value};
+ghost use Rattle.krb_json.specs.Members.{file_members, fault_value, status_members};
 ghost use Rattle.krb_json.specs.Pieces.{member_tokens, tokens_of, between_tokens, tail_tokens, IsPlain};
 ghost use Rattle.krb_json.specs.Escaped.{text_of};
 
@@ -49,14 +49,26 @@ impl<A: Allocator> Piece<A> {
         self.end_object()
     }
 
-    /// Ends the last array, writes the fault, or null if there is none, and ends the object of the file.
-    pub fn end_file(&mut self, fault: Option<Fault>) -> Result<(), NoMemory>
+    // Writes the status, if it is given.
+    fn status(&mut self, status: Option<u8>) -> Result<(), NoMemory>
+        ensures { OnOk result (self.new ≡ self.old ++ tokens_of (status_members status)) }
+    {
+        match status {
+            Some(status) => self.number("status", status as u64),
+            None => Ok(()),
+        }
+    }
+
+    /// Ends the last array, writes the fault, or null if there is none, and the status if it is given, and ends the
+    /// object of the file.
+    pub fn end_file(&mut self, fault: Option<Fault>, status: Option<u8>) -> Result<(), NoMemory>
         ensures tokens { OnOk result (self.new
-            ≡ self.old ++ tail_tokens ((codes "fault", fault_value fault) ∷ [])) }
+            ≡ self.old ++ tail_tokens ((codes "fault", fault_value fault) ∷ status_members status)) }
         ensures plain { OnOk result (IsPlain (fault_value fault)) }
     {
         self.end_array()?;
         self.fault(fault)?;
+        self.status(status)?;
         self.end_object()
     }
 }
@@ -64,15 +76,16 @@ impl<A: Allocator> Piece<A> {
 // Appends the text after the last element of a file, and a newline.
 fn append_tail<A: Allocator + Copy>(
     fault: Option<Fault>,
+    status: Option<u8>,
     piece: &mut Piece<A>,
     gathered: &mut Vec<u8, A>,
 ) -> Result<(), NoMemory>
     requires { piece.old ≡ [] }
     ensures text { OnOk result (gathered.new.items ≡ gathered.old.items
-        ++ (text_of (tail_tokens ((codes "fault", fault_value fault) ∷ [])) ++ codes "\n")) }
+        ++ (text_of (tail_tokens ((codes "fault", fault_value fault) ∷ status_members status)) ++ codes "\n")) }
     ensures plain { OnOk result (IsPlain (fault_value fault)) }
 {
-    piece.end_file(fault)?;
+    piece.end_file(fault, status)?;
     piece.append_to(false, gathered)?;
     Ok(gathered.push(b'\n')?)
 }
@@ -80,6 +93,7 @@ fn append_tail<A: Allocator + Copy>(
 /// Writes what is gathered, then the text after the last element of a file, and a newline.
 pub fn send_tail<A: Allocator + Copy, W: Write>(
     fault: Option<Fault>,
+    status: Option<u8>,
     piece: &mut Piece<A>,
     gathered: &mut Vec<u8, A>,
     out: &mut Watched<W>,
@@ -87,9 +101,9 @@ pub fn send_tail<A: Allocator + Copy, W: Write>(
     requires well { IsFalse out.old.failed }
     requires empty { piece.old ≡ [] }
     ensures prints { Prints out.old out.new result (gathered.old.items
-        ++ (text_of (tail_tokens ((codes "fault", fault_value fault) ∷ [])) ++ codes "\n")) }
+        ++ (text_of (tail_tokens ((codes "fault", fault_value fault) ∷ status_members status)) ++ codes "\n")) }
     ensures plain { OnOk result (IsPlain (fault_value fault)) }
 {
-    append_tail(fault, piece, gathered)?;
+    append_tail(fault, status, piece, gathered)?;
     put(out, gathered)
 }

@@ -126,5 +126,5 @@ pub fn keytab_json<A: Allocator + Copy, B: Allocator, W: Write>(
     let mut piece = Piece::new(alloc);
     append_head(file, keytab.format(), &mut piece, &mut gathered)?;
     send_entries(keytab, shows_keys, &mut piece, &mut gathered, out)?;
-    send_tail(keytab.fault(), &mut piece, &mut gathered, out)
+    send_tail(keytab.fault(), None, &mut piece, &mut gathered, out)
 }

@@ -2,14 +2,19 @@
 #![tactic(auto)]
 
 mod cache;
+mod check;
 mod escape;
+mod finding;
 mod head;
 mod keytab;
 mod piece;
 mod put;
+mod refused;
 mod summary;
 mod ticket;
 
 pub use cache::cache_json;
+pub use check::check_json;
 pub use keytab::keytab_json;
+pub use refused::refused_json;
 pub use summary::{CacheSummary, append_summary};

@@ -4,6 +4,7 @@ ghost use Rattle.std.specs.Prelude.{◌≡◌, ◌++◌, [], ◌∷◌, OnOk, no
 ghost use Rattle.json.specs.Token.{begin_object, end_object, begin_array, end_array, key, string, boolean, null};
 ghost use Rattle.krb_wire.specs.Names.{name_text};
 ghost use Rattle.krb_text.specs.Flags.{flag_letters_of};
+ghost use Rattle.krb_json.specs.Check.{mode_value};
 ghost use Rattle.krb_json.specs.Escaped.{text_of};
 ghost use Rattle.krb_json.specs.Members.{label_text, number_of, digits_of, text_member, etype_members};
 ghost use Rattle.krb_json.specs.Pieces.{member_tokens, tokens_of, comma_after};
@@ -11,6 +12,7 @@ ghost use Rattle.krb_json.specs.Pieces.{member_tokens, tokens_of, comma_after};
 use crate::escape::append_escaped;
 use crate::put::{Label, put_digits, put_text, text_in};
 use json::Writer;
+use krb_audit::append_mode_digits;
 use krb_text::{etype_name, flag_letters};
 use krb_wire::{Name, NoMemory, write_name};
 use std::alloc::Allocator;
@@ -184,6 +186,23 @@ impl<A: Allocator> Piece<A> {
         };
         self.writer.key(name)?;
         Ok(self.writer.string(letters)?)
+    }
+
+    /// Writes a member that is a file mode in octal, or null if there is none.
+    #[tactic(auto, using(crate::proofs::Texts::mode_is_text))]
+    pub fn mode(&mut self, name: &str, mode: Option<u32>) -> Result<(), NoMemory>
+        ensures { OnOk result (self.new ≡ self.old ++ member_tokens (name.now, mode_value mode)) }
+    {
+        let Some(mode) = mode else {
+            return self.null(name);
+        };
+        self.text.clear();
+        append_mode_digits(mode, &mut self.text)?;
+        let Some(digits) = text_in(&self.text) else {
+            unreachable!()
+        };
+        self.writer.key(name)?;
+        Ok(self.writer.string(digits)?)
     }
 
     /// Writes an enctype as two members: its number, and its name, or null if it has none.

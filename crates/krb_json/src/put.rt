@@ -21,6 +21,7 @@ pub enum Label {
     Server,
     Key,
     Value,
+    Error,
 }
 
 impl Label {
@@ -35,6 +36,7 @@ impl Label {
             Label::Server => "server",
             Label::Key => "key",
             Label::Value => "value",
+            Label::Error => "error",
         }
     }
 
@@ -49,6 +51,7 @@ impl Label {
             Label::Server => "server_hex",
             Label::Key => "key_hex",
             Label::Value => "value_hex",
+            Label::Error => "error_hex",
         }
     }
 }

@@ -1,7 +1,9 @@
 //! A cache in an overview, as one line of JSON.
 
-ghost use Rattle.std.specs.Prelude.{◌≡◌, ◌++◌, OnOk, codes};
-ghost use Rattle.json.specs.Tree.{json_tokens};
+ghost use Rattle.std.specs.Prelude.{◌≡◌, ◌++◌, Some, OnOk, codes};
+ghost use Rattle.json.specs.Json.{document};
+ghost use Rattle.json.specs.Tree.{json_tokens, HasNumbers};
+ghost use Rattle.krb_json.specs.Escaped.{json_text};
 ghost use Rattle.krb_json.specs.Summary.{number_or_null, summary_value, summary_text};
 ghost use Rattle.krb_json.specs.Pieces.{member_tokens};
 
@@ -23,9 +25,11 @@ pub struct CacheSummary {
 
 impl<A: Allocator> Piece<A> {
     // Writes the endtime, or null if there is none.
+    #[tactic(auto, using(crate::proofs::ReadBack::end_numbers))]
     fn endtime(&mut self, endtime: Option<u32>) -> Result<(), NoMemory>
-        ensures { OnOk result (self.new
+        ensures tokens { OnOk result (self.new
             ≡ self.old ++ member_tokens (codes "endtime", number_or_null endtime)) }
+        ensures numbers { OnOk result (HasNumbers (number_or_null endtime)) }
     {
         match endtime {
             Some(seconds) => self.number("endtime", seconds as u64),
@@ -41,8 +45,11 @@ impl<A: Allocator> Piece<A> {
         principal: &N,
         summary: CacheSummary,
     ) -> Result<(), NoMemory>
-        ensures { OnOk result (self.new
+        ensures tokens { OnOk result (self.new
             ≡ self.old ++ json_tokens (summary_value file.now (N.parts principal.now) summary)) }
+        ensures reads_back { OnOk result (document (json_text
+            (summary_value file.now (N.parts principal.now) summary))
+            ≡ Some (summary_value file.now (N.parts principal.now) summary)) }
     {
         self.begin_object()?;
         self.string("file", file)?;
@@ -64,8 +71,12 @@ pub fn append_summary<A: Allocator + Copy, N: Name>(
     summary: CacheSummary,
     out: &mut Vec<u8, A>,
 ) -> Result<(), NoMemory>
-    ensures { OnOk result (out.new.items
+    ensures text { OnOk result (out.new.items
         ≡ out.old.items ++ summary_text file.now (N.parts principal.now) summary) }
+    // A reader parses the text as this value.
+    ensures reads_back { OnOk result (document (json_text
+        (summary_value file.now (N.parts principal.now) summary))
+        ≡ Some (summary_value file.now (N.parts principal.now) summary)) }
 {
     let mut piece = Piece::new(alloc);
     piece.summary(file, principal, summary)?;

@@ -1,0 +1,91 @@
+-- A check of a keytab as a JSON value, and as its text.
+use Rattle.std.specs.Prelude.{ℕ, List, [], ◌∷◌, ◌++◌, map, codes, Bool, if◌then◌else◌, Option, None, Some}
+use Rattle.std.specs.List.{flat_map}
+use Rattle.json.specs.Json.{Json, null, string}
+use Rattle.krb_wire.specs.Names.{name_text}
+use Rattle.krb_keytab.specs.Find.{PlacedEntry}
+use Rattle.krb_audit.specs.declared.counts.Counts.{Counts}
+use Rattle.krb_audit.specs.declared.finding.Finding.{Finding}
+use Rattle.krb_audit.specs.declared.finding.Finding.TheVariants.{Mode, Missing, Empty}
+use Rattle.krb_audit.specs.declared.marks.Mark.{Mark}
+use Rattle.krb_audit.specs.CheckUp.{CheckParts, has_mode, is_open}
+use Rattle.krb_audit.specs.Findings.{Marked}
+use Rattle.krb_audit.specs.Report.{mode_digits}
+use Rattle.krb_audit.specs.Table.{row_of}
+use Rattle.krb_json.specs.Escaped.{json_text}
+use Rattle.krb_json.specs.Members.{Member, object_of, array_of, number_of, text_member, fault_value, status_members}
+
+-- a mode in octal, or null if there is none
+abbrev pub mode_value : Option ℕ → Json
+mode_value None = null
+mode_value (Some mode) = string (mode_digits mode)
+
+-- what stands before the findings: the name of the file, its mode, and how many entries and holes there are
+unfoldable pub check_members : List ℕ → Option ℕ → Counts → List Member
+check_members file mode counts =
+    (codes "file", string file)
+    ∷ (codes "mode", mode_value mode)
+    ∷ (codes "entries", number_of counts.entries)
+    ∷ (codes "free", number_of counts.free)
+    ∷ (codes "holes", number_of counts.holes)
+    ∷ []
+
+-- a finding: its word, and what else its line has
+abbrev pub finding_value : Finding → List Member → Json
+finding_value finding ms = object_of ((codes "finding", string (row_of finding).word) ∷ ms)
+
+-- a finding about the file, if it holds
+abbrev pub file_findings : Bool → Finding → List Json
+file_findings holds finding = if holds then finding_value finding [] ∷ [] else []
+
+-- the place of the first entry that is alike, if a finding is about that
+abbrev pub first_members : Option ℕ → List Member
+first_members None = []
+first_members (Some first) = (codes "first", number_of first) ∷ []
+
+-- the entry that a finding is about
+unfoldable pub about_members : Option ℕ → PlacedEntry → List Member
+about_members first x =
+    (codes "place", number_of x.0)
+    ∷ (first_members first
+    ++ ((codes "kvno", number_of x.1.version) ∷ (codes "etype", number_of x.1.enctype) ∷ text_member (codes "principal") (name_text x.1.principal) ∷ []))
+
+-- what a mark reports of an entry, if there is one
+abbrev pub mark_findings : PlacedEntry → Option Mark → List Json
+mark_findings x None = []
+mark_findings x (Some mark) = finding_value mark.finding (about_members mark.first x) ∷ []
+
+-- what is found about an entry
+abbrev pub entry_findings : Marked → List Json
+entry_findings m = flat_map (mark_findings m.0) m.1
+
+-- a name that is missing
+abbrev pub missing_value : List ℕ → Json
+missing_value name = finding_value Missing (text_member (codes "principal") name ∷ [])
+
+-- the findings, in the order of their lines
+abbrev pub finding_values : CheckParts → List Json
+finding_values c =
+    file_findings (has_mode is_open c.mode) Mode
+    ++ (flat_map entry_findings c.entries ++ (file_findings c.is_empty Empty ++ map missing_value c.missing))
+
+-- a check of a keytab, with the name of its file and the status that it comes to
+unfoldable pub check_value : List ℕ → CheckParts → ℕ → Json
+check_value file c status =
+    object_of (
+    check_members file c.mode c.counts
+    ++ ((codes "findings", array_of (finding_values c)) ∷ (codes "fault", fault_value c.fault) ∷ status_members (Some status))
+    )
+
+-- its text, and a newline
+abbrev pub check_json_text : List ℕ → CheckParts → ℕ → List ℕ
+check_json_text file c status = json_text (check_value file c status) ++ codes "\n"
+
+-- a file that could not be checked: its name, the error, and the status
+unfoldable pub refused_value : List ℕ → List ℕ → ℕ → Json
+refused_value file error status =
+    object_of ((codes "file", string file) ∷ text_member (codes "error") error ∷ (codes "status", number_of status) ∷ [])
+
+-- its text, and a newline
+abbrev pub refused_json_text : List ℕ → List ℕ → ℕ → List ℕ
+refused_json_text file error status = json_text (refused_value file error status) ++ codes "\n"

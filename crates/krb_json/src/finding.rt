@@ -1,0 +1,115 @@
+//! JSON of a check before its findings, and of the findings.
+
+ghost use Rattle.std.specs.Prelude.{◌≡◌, ◌++◌, [], ◌∷◌, OnOk, codes};
+ghost use Rattle.json.specs.Token.{begin_object};
+ghost use Rattle.json.specs.Json.{string};
+ghost use Rattle.json.specs.Tree.{json_tokens, MembersHaveNumbers};
+ghost use Rattle.krb_audit.specs.Table.{row_of};
+ghost use Rattle.krb_json.specs.Check.{check_members, finding_value, first_members, about_members, missing_value};
+ghost use Rattle.krb_json.specs.Members.{members_of, object_of};
+ghost use Rattle.krb_json.specs.Pieces.{member_tokens, tokens_of, IsPlain};
+
+use crate::piece::Piece;
+use crate::put::Label;
+use krb_audit::{Counts, Finding, Mark};
+use krb_keytab::EntryView;
+use krb_wire::NoMemory;
+use std::alloc::Allocator;
+
+impl<A: Allocator> Piece<A> {
+    /// Begins the object of a check, and writes the name of the file, its mode, and how many entries and holes it has.
+    #[tactic(auto, unfolding(crate::specs::Check::check_members))]
+    pub fn begin_check(
+        &mut self,
+        file: &str,
+        mode: Option<u32>,
+        counts: Counts,
+    ) -> Result<(), NoMemory>
+        ensures tokens { OnOk result (self.new
+            ≡ self.old ++ begin_object ∷ tokens_of (check_members file.now mode counts)) }
+        ensures plain { OnOk result (IsPlain (object_of (check_members file.now mode counts))) }
+    {
+        self.begin_object()?;
+        self.string("file", file)?;
+        self.mode("mode", mode)?;
+        self.number("entries", counts.entries as u64)?;
+        self.number("free", counts.free as u64)?;
+        self.number("holes", counts.holes as u64)
+    }
+}
+
+impl<A: Allocator> Piece<A> {
+    // Begins the object of a finding, and writes its word.
+    fn begin_finding(&mut self, finding: Finding) -> Result<(), NoMemory>
+        ensures { OnOk result (self.new
+            ≡ self.old ++ begin_object ∷ member_tokens (codes "finding", string (row_of finding).word)) }
+    {
+        self.begin_object()?;
+        self.string("finding", finding.row().word)
+    }
+
+    /// Writes a finding about the file as an object.
+    #[tactic(auto, using(crate::proofs::ReadBack::file_finding_is_plain))]
+    pub fn file_finding(&mut self, finding: Finding) -> Result<(), NoMemory>
+        ensures tokens { OnOk result (self.new ≡ self.old ++ json_tokens (finding_value finding [])) }
+        ensures plain { OnOk result (IsPlain (finding_value finding [])) }
+    {
+        self.begin_finding(finding)?;
+        self.end_object()
+    }
+
+    // Writes the place of the first entry that is alike, if it is given.
+    #[tactic(auto, using(crate::proofs::ReadBack::first_numbers))]
+    fn first(&mut self, first: Option<u32>) -> Result<(), NoMemory>
+        ensures tokens { OnOk result (self.new ≡ self.old ++ tokens_of (first_members first)) }
+        ensures numbers { OnOk result (MembersHaveNumbers (members_of (first_members first))) }
+    {
+        match first {
+            Some(first) => self.number("first", first as u64),
+            None => Ok(()),
+        }
+    }
+
+    // Writes the entry that a finding is about.
+    #[tactic(auto, unfolding(crate::specs::Check::about_members))]
+    fn about_entry(
+        &mut self,
+        first: Option<u32>,
+        place: u32,
+        entry: &EntryView<'_>,
+    ) -> Result<(), NoMemory>
+        ensures tokens { OnOk result (self.new
+            ≡ self.old ++ tokens_of (about_members first (place, entry.now))) }
+        ensures plain { OnOk result (IsPlain (object_of (about_members first (place, entry.now)))) }
+    {
+        self.number("place", place as u64)?;
+        self.first(first)?;
+        self.number("kvno", entry.kvno() as u64)?;
+        self.number("etype", entry.enctype() as u64)?;
+        self.name(Label::Principal, entry.principal())
+    }
+
+    /// Writes a finding about an entry as an object.
+    #[tactic(auto, using(crate::proofs::ReadBack::finding_is_plain))]
+    pub fn mark(&mut self, place: u32, entry: &EntryView<'_>, mark: Mark) -> Result<(), NoMemory>
+        ensures tokens { OnOk result (self.new
+            ≡ self.old ++ json_tokens (finding_value mark.finding (about_members mark.first (place, entry.now)))) }
+        ensures plain { OnOk result
+            (IsPlain (finding_value mark.finding (about_members mark.first (place, entry.now)))) }
+    {
+        self.begin_finding(mark.finding)?;
+        self.about_entry(mark.first, place, entry)?;
+        self.end_object()
+    }
+
+    /// Writes a name that is missing as an object.
+    #[tactic(auto, using(crate::proofs::ReadBack::missing_is_plain))]
+    pub fn missing(&mut self, name: &[u8]) -> Result<(), NoMemory>
+        ensures tokens { OnOk result (self.new ≡ self.old ++ json_tokens (missing_value name.now)) }
+        ensures plain { OnOk result (IsPlain (missing_value name.now)) }
+    {
+        self.begin_finding(Finding::Missing)?;
+        self.text(Label::Principal, name)?;
+        self.end_object()
+    }
+}
