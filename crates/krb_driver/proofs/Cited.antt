@@ -4,7 +4,7 @@ pub use Rattle.std.proofs.lemmas.Bool.{true≢false, false≢true, le-leb, eqb-t
 pub use Rattle.std.proofs.lemmas.List.{take_all, length-map, drop_more, map-id, drop_all}
 pub use Rattle.std.specs.List.{flat_map, range_with_len, list_any, cons_option, list_all, filter_map}
 pub use Rattle.std.specs.Prelude.{option_map, codes, IsOk, IfOk, if◌then◌else◌, slice_get, unwrap_or, ◌==◌, ◌&&◌, MatchOption}
-pub use Rattle.krb_driver.specs.Commands.{ready_end, made_effect, ShowsEnd, MakesFairly, Takes, FairOver, Settles, EndsCommand, Keeps, Opens, fair_first, ShowsPage, GivesOf, of_file, Finishes, Makes, HoldsIf, GivesLoaded, CommandPlan, Effect, IsSpent, faults, Fails, Page, opens, Saves, saved_end, settled, Displays, IsMade, goes_on, text, files_after}
+pub use Rattle.krb_driver.specs.Commands.{ready_end, made_effect, ShowsEnd, MakesFairly, Takes, FairOver, Settles, EndsCommand, Keeps, Opens, fair_first, ShowsPage, GivesOf, of_file, Finishes, Makes, HoldsIf, GivesLoaded, CommandPlan, Effect, IsSpent, faults, Fails, Page, opens, Saves, saved_end, settled, Displays, IsMade, text, files_after, goes_on, tries, EndsAfter, Tries, effect_by, if_unread, ending_of}
 pub use Rattle.krb_driver.specs.Runs.{ErrorWatch, Writes, Run, ends_by, Shows, ReportsEnd, Adds, Underway, Sends}
 pub use Rattle.krb_driver.specs.Hints.{quoted_byte, etype_option, operand_text, is_alike}
 pub use Rattle.krb_driver.specs.Loading.{keytab_in, keytab_refusal, or_refused, unless_refused, cache_refusal, fresh_in}

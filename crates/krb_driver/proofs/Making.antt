@@ -1,5 +1,5 @@
 -- What was made of the files follows the plan.
-use Rattle.krb_driver.proofs.Cited.{◌≡◌, ◌⊎◌, inl, inr, ◌∙◌, ℕ, Bool, true, false, List, [], ◌∷◌, refl, sym, ap, subst, false≢true, true≢false, FairOver, GivesLoaded, GivesOf, HoldsIf, Makes, MakesFairly, Opens, fair_first, of_file, CommandPlan, Effect, Fails, IsMade, IsSpent, faults, goes_on, opens, or_refused, unless_refused}
+use Rattle.krb_driver.proofs.Cited.{◌≡◌, ◌⊎◌, inl, inr, ◌∙◌, ℕ, Bool, List, [], ◌∷◌, refl, sym, ap, subst, false≢true, true≢false, FairOver, GivesLoaded, GivesOf, HoldsIf, Makes, MakesFairly, Opens, fair_first, of_file, CommandPlan, Effect, Fails, IsMade, IsSpent, faults, goes_on, tries, opens, EndsAfter, Tries, effect_by, if_unread, or_refused, unless_refused}
 use Rattle.std.specs.Prelude.{Option, None, Some, Result, Ok, Err, is_ok}
 use Rattle.krb_files.specs.declared.files.LoadFault.TheVariants as load
 use Rattle.krb_files.specs.declared.files.Files.{Ghosts}
@@ -9,93 +9,123 @@ use Rattle.krb_driver.specs.declared.file_name.FileName.{FileName}
 use Rattle.krb_driver.specs.declared.error.RunError.TheVariants as error
 use Rattle.krb_walk.specs.declared.refusal.Code.{Code}
 use Rattle.krb_files.specs.Loading.{Answer}
-use Rattle.krb_files.specs.Plan.{Ends, HeldIf, Holds, Loaded, Loads, by}
+use Rattle.krb_files.specs.Plan.{Ends, HeldIf, Holds, Loaded, Loads}
 use Rattle.krb_files.proofs.PlanLaws.{loaded-none}
+
+-- what was given, without the file's name, and that name
+abbrev pub no_file : {X : Type 0} → Result X (List ℕ × RunError) → Result X RunError
+no_file (Ok x) = Ok x
+no_file (Err met) = Err met.1
+
+abbrev name_in : {X : Type 0} → Result X (List ℕ × RunError) → List ℕ
+name_in (Ok x) = []
+name_in (Err met) = met.0
 
 -- the effect of an error
 abbrev fails_of : {X : Type 0} → Result X (List ℕ × RunError) → Effect
 fails_of (Ok x) = Fails [] error.NoMemory
 fails_of (Err met) = Fails met.0 met.1
 
--- what a command does after what was given, or after the error
-abbrev then_of : {X : Type 0} → (X → CommandPlan) → Result X (List ℕ × RunError) → CommandPlan
-then_of then_ (Ok x) = then_ x
-then_of then_ (Err met) = Ends (Fails met.0 met.1)
+module _ {X : Type 0} (file : FileName) (then_ : X → CommandPlan) (fails : RunError → CommandPlan) where
+  -- the plan after what was given, or after the error
+  abbrev after : Result X (List ℕ × RunError) → CommandPlan
+  after (Ok x) = then_ x
+  after (Err met) = fails met.1
 
--- what was given, without the file's name
-abbrev no_file : {X : Type 0} → Result X (List ℕ × RunError) → Result X RunError
-no_file (Ok x) = Ok x
-no_file (Err met) = Err met.1
+  after-file : (given : Result X RunError) → after (of_file file given) ≡ goes_on file given then_ fails
+  after-file (Ok x) = refl
+  after-file (Err why) = refl
 
--- the plan that opens a file, unless its name is of another type
-abbrev loads : {X : Type 0} → FileName → (Answer → Result X RunError) → (X → CommandPlan) → CommandPlan
-loads file gives then_ = Loads file.name.now (λ answer. goes_on file (gives answer) then_)
+  -- the plan that loads a file whose name is of no other type
+  abbrev loads : (Answer → Result X RunError) → CommandPlan
+  loads gives = Loads file.name.now (λ answer. goes_on file (gives answer) then_ fails)
 
--- the effect of a name of another type
-abbrev other : FileName → Effect
-other file = Fails file.name.now (error.OtherType file.kind file.source)
+  module _ (ends : EndsAfter file fails) (gives : Answer → Result X RunError) where
+    -- how a command that tried a file goes on
+    by-loads : (answer : Answer) (rest : List Answer) → gives (Err load.Failed) ≡ Err error.FileNotRead → gives (Err load.NoMemory) ≡ Err error.NoMemory
+        → effect_by (goes_on file (gives answer) then_ fails) rest ≡ effect_by (loads gives) (answer ∷ rest)
+    by-loads (Err load.Failed) rest failed spent =
+        subst (λ (g : Result X RunError). effect_by (goes_on file g then_ fails) rest ≡ if_unread file.name.now (goes_on file g then_ fails)) (sym failed) (ap (λ (p : CommandPlan). effect_by p rest) ends.unread)
+    by-loads (Err load.NoMemory) rest failed spent =
+        ap (λ (g : Result X RunError). effect_by (goes_on file g then_ fails) rest) spent ∙ ap (λ (p : CommandPlan). effect_by p rest) ends.spent
+    by-loads answer rest failed spent = refl
 
--- a name of another type ends a command
-makes-other : {F X : Type 0} (trait : Ghosts F) (old new : F) (file : FileName) (gives : Answer → Result X RunError) (then_ : X → CommandPlan) → file.is_other_type ≡ true → new ≡ old → Makes trait old (opens file gives then_) (other file) new
-makes-other trait old new file gives then_ is same = rw is (record { answers = []; loads = (refl, same); made = inr refl })
+    module _ {F : Type 0} (trait : Ghosts F) (old : F) (given : Result X (List ℕ × RunError)) (effect : Effect) (between new : F) where
+      after-spent : given ≡ Err (file.name.now, error.NoMemory) → after given ≡ Ends (Fails file.name.now error.NoMemory)
+      after-spent spent = ap after spent ∙ ends.spent
 
-module _ {X : Type 0} (file : FileName) (then_ : X → CommandPlan) where
-  -- how a command that opened a file goes on
-  by-loads : (gives : Answer → Result X RunError) (answer : Answer) (rest : List Answer) → gives (Err load.Failed) ≡ Err error.FileNotRead → gives (Err load.NoMemory) ≡ Err error.NoMemory
-      → by faults (loads file gives then_) (answer ∷ rest) ≡ by faults (goes_on file (gives answer) then_) rest
-  by-loads gives (Ok bytes) rest failed spent = refl
-  by-loads gives (Err load.Missing) rest failed spent = refl
-  by-loads gives (Err load.TooLarge) rest failed spent = refl
-  by-loads gives (Err load.Failed) rest failed spent = sym (ap (λ (g : Result X RunError). by faults (goes_on file g then_) rest) failed)
-  by-loads gives (Err load.NoMemory) rest failed spent = sym (ap (λ (g : Result X RunError). by faults (goes_on file g then_) rest) spent)
+      after-given : (answer : Answer) → given ≡ of_file file (gives answer) → after given ≡ goes_on file (gives answer) then_ fails
+      after-given answer is = ap after is ∙ after-file (gives answer)
 
-  goes-failed : (name : List ℕ) (why : RunError) (given : Result X RunError) → Err (name, why) ≡ of_file file given → Fails name why ≡ by faults (goes_on file given then_) []
-  goes-failed name why (Ok x) is = absurd (false≢true (ap is_ok is))
-  goes-failed name why (Err e) is = ap fails_of is
+      -- if memory ran out, nothing more was loaded
+      none-loaded : (answers : List Answer) (plan : CommandPlan) → given ≡ Err (file.name.now, error.NoMemory) → Loaded trait (after given) between answers new → Loaded trait plan between answers new
+      none-loaded answers plan spent l =
+          let end = subst (λ (p : CommandPlan). Loaded trait p between answers new) (after-spent spent) l in
+          subst (λ (x : F). Loaded trait plan between answers x) (sym end.1) (subst (λ (xs : List Answer). Loaded trait plan between xs between) (sym end.0) (loaded-none trait faults plan between))
 
-  goes-ok : (x : X) (given : Result X RunError) → Ok x ≡ of_file file given → goes_on file given then_ ≡ then_ x
-  goes-ok x (Ok y) is = sym (ap (then_of then_) is)
-  goes-ok x (Err e) is = absurd (true≢false (ap is_ok is))
+      -- a file was loaded, and this was made of what it gave
+      makes-read : GivesLoaded trait old file gives given between → Makes trait between (after given) effect new → Makes trait old (loads gives) effect new
+      makes-read o m = record {
+        answers = o.answer ∷ m.answers;
+        loads = (
+          between,
+          (
+            o.loads,
+            elim o.given_is [
+              | inl spent ↦ none-loaded m.answers (goes_on file (gives o.answer) then_ fails) spent m.loads
+              | inr is ↦ subst (λ (p : CommandPlan). Loaded trait p between m.answers new) (after-given o.answer is) m.loads
+            ],
+          ),
+        );
+        made = elim m.made [
+          | inl spent ↦ inl spent
+          | inr made ↦ elim o.given_is [
+            | inl spent ↦ inl (file.name.now, made ∙ ap (λ (p : CommandPlan). effect_by p m.answers) (after-spent spent))
+            | inr is ↦ inr (made ∙ ap (λ (p : CommandPlan). effect_by p m.answers) (after-given o.answer is) ∙ by-loads o.answer m.answers o.failed o.spent)
+          ]
+        ];
+      }
 
-  module _ {F : Type 0} (trait : Ghosts F) (old : F) (gives : Answer → Result X RunError) where
-    -- the file gave nothing, but an error
-    makes-unread : (name : List ℕ) (why : RunError) (new : F) → GivesLoaded trait old file gives (Err (name, why)) new → Makes trait old (loads file gives then_) (Fails name why) new
-    makes-unread name why new o = record {
-      answers = o.answer ∷ [];
-      loads = (new, (o.loads, loaded-none trait faults (goes_on file (gives o.answer) then_) new));
-      made = elim o.given_is [
-        | inl spent ↦ inl (file.name.now, ap fails_of spent)
-        | inr is ↦ inr (goes-failed name why (gives o.answer) is ∙ sym (by-loads gives o.answer [] o.failed o.spent))
-      ];
-    }
+      makes-tried : GivesOf trait old file gives given between → Makes trait between (after given) effect new → Makes trait old (tries file gives then_ fails) effect new
+      makes-tried (inl o) m = rw o.read (makes-read o m)
+      makes-tried (inr o) m =
+          let at_first = subst (λ (x : F). Makes trait x (after given) effect new) o.1 m in
+          rw o.0 (subst (λ (g : Result X (List ℕ × RunError)). Makes trait old (after g) effect new) o.2 at_first)
 
-    pub makes-failed : (name : List ℕ) (why : RunError) (new : F) → GivesOf trait old file gives (Err (name, why)) new → Makes trait old (opens file gives then_) (Fails name why) new
-    makes-failed name why new (inl o) = rw o.read (makes-unread name why new o)
-    makes-failed name why new (inr o) = subst (λ (e : Effect). Makes trait old (opens file gives then_) e new) (sym (ap fails_of o.2)) (makes-other trait old new file gives then_ o.0 o.1)
+-- a file was tried
+pub tries_by : {F X : Type 0} (trait : Ghosts F) (old : F) (file : FileName) (gives : Answer → Result X RunError) (given : Result X (List ℕ × RunError)) (new : F) → GivesOf trait old file gives given new → Tries trait old file gives (no_file given) new
+tries_by trait old file gives (Ok x) new o = λ then_ fails effect end ends made. makes-tried file then_ fails ends gives trait old (Ok x) effect new end o made
+tries_by trait old file gives (Err met) new o = λ then_ fails effect end ends made. makes-tried file then_ fails ends gives trait old (Err met) effect new end o made
 
-    makes-read : (x : X) (effect : Effect) (between new : F) → GivesLoaded trait old file gives (Ok x) between → Makes trait between (then_ x) effect new → Makes trait old (loads file gives then_) effect new
-    makes-read x effect between new o m =
-        let goes : goes_on file (gives o.answer) then_ ≡ then_ x = elim o.given_is [
-          | inl spent ↦ absurd (true≢false (ap is_ok spent))
-          | inr is ↦ goes-ok x (gives o.answer) is
-        ] in
-        record {
-          answers = o.answer ∷ m.answers;
-          loads = (between, (o.loads, subst (λ (p : CommandPlan). Loaded trait p between m.answers new) (sym goes) m.loads));
-          made = elim m.made [
-            | inl spent ↦ inl spent
-            | inr is ↦ inr (is ∙ ap (λ (p : CommandPlan). by faults p m.answers) (sym goes) ∙ sym (by-loads gives o.answer m.answers o.failed o.spent))
-          ];
-        }
+-- an error ends a command that opens a file
+abbrev fails_by : FileName → RunError → CommandPlan
+fails_by file why = Ends (Fails file.name.now why)
 
-    pub makes-opened : (x : X) (effect : Effect) (between new : F) → GivesOf trait old file gives (Ok x) between → Makes trait between (then_ x) effect new → Makes trait old (opens file gives then_) effect new
-    makes-opened x effect between new (inl o) m = rw o.read (makes-read x effect between new o m)
-    makes-opened x effect between new (inr o) m = absurd (true≢false (ap is_ok o.2))
+ends_by : (file : FileName) → EndsAfter file (fails_by file)
+ends_by file = record { spent = refl; unread = refl }
+
+-- an error has the name of the file
+name_of-file : {X : Type 0} (file : FileName) (met : List ℕ × RunError) (given : Result X RunError) → Err met ≡ of_file file given → met.0 ≡ file.name.now
+name_of-file file met (Ok x) is = absurd (false≢true (ap is_ok is))
+name_of-file file met (Err why) is = ap name_in is
+
+named-so : {F X : Type 0} (trait : Ghosts F) (old : F) (file : FileName) (gives : Answer → Result X RunError) (met : List ℕ × RunError) (new : F) → GivesOf trait old file gives (Err met) new → met.0 ≡ file.name.now
+named-so trait old file gives met new (inl o) = elim o.given_is [ inl spent ↦ ap name_in spent | inr is ↦ name_of-file file met (gives o.answer) is ]
+named-so trait old file gives met new (inr o) = ap name_in o.2
+
+-- what was made without a load
+pub makes-end : {F : Type 0} (trait : Ghosts F) (old : F) (due effect : Effect) → IsMade due effect → Makes trait old (Ends due) effect old
+makes-end trait old due effect made = record { answers = []; loads = (refl, refl); made = made }
+
+-- the error was made of a file that was not opened
+makes-failed : {F X : Type 0} (trait : Ghosts F) (old : F) (file : FileName) (gives : Answer → Result X RunError) (met : List ℕ × RunError) (new : F) → GivesOf trait old file gives (Err met) new
+    → Makes trait new (Ends (Fails file.name.now met.1)) (Fails met.0 met.1) new
+makes-failed trait old file gives met new o = makes-end trait new (Fails file.name.now met.1) (Fails met.0 met.1) (inr (ap (λ (name : List ℕ). Fails name met.1) (named-so trait old file gives met new o)))
 
 -- a file was opened
 pub opens_by : {F X : Type 0} (trait : Ghosts F) (old : F) (file : FileName) (gives : Answer → Result X RunError) (given : Result X (List ℕ × RunError)) (new : F) → GivesOf trait old file gives given new → Opens trait old file gives given new
-opens_by trait old file gives (Ok x) new o = λ then_ effect end made. makes-opened file then_ trait old gives x effect new end o made
-opens_by trait old file gives (Err met) new o = λ then_. makes-failed file then_ trait old gives met.0 met.1 new o
+opens_by trait old file gives (Ok x) new o = λ then_ effect end made. makes-tried file then_ (fails_by file) (ends_by file) gives trait old (Ok x) effect new end o made
+opens_by trait old file gives (Err met) new o = λ then_. makes-tried file then_ (fails_by file) (ends_by file) gives trait old (Err met) (Fails met.0 met.1) new new o (makes-failed trait old file gives met new o)
 
 or-refused : {X : Type 0} (kind : FileKind) (file : FileName) (k : X) (o : Option Code) → or_refused (λ code. (file.name.now, error.Refused kind code)) k o ≡ of_file file (or_refused (error.Refused kind) k o)
 or-refused kind file k None = refl
@@ -125,10 +155,6 @@ gives-unless trait old file gives kind refusal given new (inr o) = inr (o.0, o.1
 pub makes_holds : {F : Type 0} (trait : Ghosts F) (old new : F) (held : Bool) (file : List ℕ) → HeldIf trait held file old new → HoldsIf trait old held file new
 makes_holds trait old new held file holds = λ plan effect end made. record { answers = made.answers; loads = inr (new, (holds, made.loads)); made = made.made }
 
--- what was made without a load
-pub makes-end : {F : Type 0} (trait : Ghosts F) (old : F) (due effect : Effect) → IsMade due effect → Makes trait old (Ends due) effect old
-makes-end trait old due effect made = record { answers = []; loads = (refl, refl); made = made }
-
 abbrev spent_file : {X : Type 0} → FileName → Result X (List ℕ × RunError)
 spent_file file = Err (file.name.now, error.NoMemory)
 
@@ -148,7 +174,7 @@ unfolding makes-read
 makes-fairly {X = X} trait old file gives due Fair x effect new (inl o) made fair =
     let then_ : X → CommandPlan = λ y. Ends (due y) in
     rw o.read (record {
-      makes = makes-read file then_ trait old gives x effect new new o (makes-end trait new (due x) effect made);
+      makes = makes-read file then_ (fails_by file) (ends_by file) gives trait old (Ok x) effect new new o (makes-end trait new (due x) effect made);
       fair = elim fair [
         | inl spent ↦ inl spent
         | inr fair ↦ inr (gave Fair file x (gives o.answer) o.given_is fair)
@@ -159,9 +185,9 @@ makes-fairly trait old file gives due Fair x effect new (inr o) made fair = absu
 -- nothing was opened
 pub fairly-failed : {F X : Type 0} (trait : Ghosts F) (old : F) (file : FileName) (gives : Answer → Result X RunError) (then_ : X → CommandPlan) (Fair : X → Type 0) (name : List ℕ) (why : RunError) (new : F)
     → GivesOf trait old file gives (Err (name, why)) new → MakesFairly trait old (opens file gives then_) (fair_first gives Fair) (Fails name why) new
-unfolding makes-unread
+unfolding makes-read
 fairly-failed trait old file gives then_ Fair name why new (inl o) = rw o.read (record {
-  makes = makes-unread file then_ trait old gives name why new o;
+  makes = makes-read file then_ (fails_by file) (ends_by file) gives trait old (Err (name, why)) (Fails name why) new new o (makes-failed trait old file gives (name, why) new (inl o));
   fair = elim o.given_is [
     | inl spent ↦ inl (file.name.now, ap fails_of spent)
     | inr is ↦ inr (gave-none Fair file name why (gives o.answer) is)

@@ -1,17 +1,19 @@
 -- What a run of a command keeps.
-use Rattle.krb_driver.proofs.Cited.{◌≡◌, ◌⊎◌, inl, inr, ◌∙◌, ℕ, ◌≤◌, Bool, true, false, List, [], refl, sym, ap, subst, arith, false≢true, true≢false, Watch, ErrorWatch, Run, Shows, ends_by, EndsCommand, Finishes, Keeps, MakesFairly, Settles, ShowsEnd, ShowsPage, Takes, CommandPlan, Displays, Effect, Fails, IsSpent, Page, Saves, faults, files_after, saved_end, settled, text}
-use Rattle.std.specs.Prelude.{Option, None, Result, Ok, Err, IsTrue}
+use Rattle.krb_driver.proofs.Cited.{◌≡◌, ◌⊎◌, inl, inr, ◌∙◌, ℕ, ◌≤◌, Bool, true, false, List, [], refl, sym, ap, subst, arith, false≢true, Watch, ErrorWatch, Run, Shows, ends_by, EndsCommand, Finishes, Keeps, MakesFairly, Settles, ShowsEnd, ShowsPage, Takes, CommandPlan, Displays, Effect, Fails, IsSpent, Page, Saves, faults, files_after, saved_end, settled, text, effect_by, if_unread, ending_of, if◌then◌else◌, ◌∷◌}
+use Rattle.std.specs.Prelude.{Option, None, Result, Ok, Err, IsTrue, ◌||◌}
+use Rattle.std.proofs.lemmas.Bool.{or_left, or_right}
 use Rattle.krb_files.specs.declared.files.SaveFault.{SaveFault}
 use Rattle.krb_files.specs.declared.files.SaveFault.TheVariants as save
+use Rattle.krb_files.specs.declared.files.LoadFault.TheVariants as load
 use Rattle.krb_files.specs.declared.files.Files.{Ghosts}
 use Rattle.krb_files.specs.Files.{SameFiles, CountsFailure}
 use Rattle.krb_driver.specs.declared.error.RunError.TheVariants as error
 use Rattle.krb_files.specs.Loading.{Answer, SavesFile, TurnsHold}
 use Rattle.krb_driver.specs.declared.command.World.{World}
-use Rattle.krb_driver.specs.RunErrors.{Ending, is_spent}
+use Rattle.krb_driver.specs.RunErrors.{Ending, is_spent, is_unread}
 use Rattle.krb_driver.specs.declared.command.RunEnd.{RunEnd}
 use Rattle.krb_driver.specs.declared.verdict.Verdict.{Verdict}
-use Rattle.krb_files.specs.Plan.{Faults, follow}
+use Rattle.krb_files.specs.Plan.{Ends, Holds, Loads, Loaded, Faults, by, follow}
 use Rattle.krb_files.proofs.PlanLaws.{Lasts, comes, count-more, count-trans, loaded-lasts, same-trans, with_bytes-set}
 
 module _ (out out' : Watch) (ending : Ending) (spent : ending ≡ Err error.NoMemory) where
@@ -20,13 +22,10 @@ module _ (out out' : Watch) (ending : Ending) (spent : ending ≡ Err error.NoMe
   due-spent true is due shows = absurd (false≢true (ap is_spent (sym (shows.failed (sym is)) ∙ spent)))
   due-spent false is due shows = sym ((shows.done (sym is)).1) ∙ spent
 
-  verdict-shown : (page : Page) → Shows (record { out = page.out; ending = Ok page.verdict }) out out' ending → ⊥
-  verdict-shown page shows = true≢false (sym (ap is_spent (due-spent out'.failed refl (record { out = page.out; ending = Ok page.verdict }) shows)))
-
-  -- only a page that takes memory ends out of memory
-  page-takes : (page : Page) → ShowsPage out out' ending page → IsTrue page.takes
-  page-takes page (inl shows) = absurd (verdict-shown page shows)
-  page-takes page (inr breaks) = breaks.0
+  -- only a page that takes memory, or tells that it ran out, ends out of memory
+  page-takes : (page : Page) → ShowsPage out out' ending page → IsTrue (page.takes || is_spent page.ending)
+  page-takes page (inl shows) = or_right page.takes (is_spent page.ending) (ap is_spent (due-spent out'.failed refl (record { out = page.out; ending = page.ending }) shows))
+  page-takes page (inr breaks) = or_left page.takes (is_spent page.ending) breaks.0
 
   pub quiet-end : (end : Effect) → ShowsEnd out out' ending end → Shows (ends_by error.NoMemory) out out' ending ⊎ Takes end
   quiet-end (Fails file why) shows =
@@ -53,8 +52,20 @@ module _ {F O : Type 0} (trait : Ghosts F) (outcomes : Faults O) (due : Effect) 
   keeps-spent : (file : List ℕ) (left : Effect) → Settles trait between (Fails file error.NoMemory) new left → Keeps trait due old new left
   keeps-spent file left s = inr (inr (same-then s.0, (file, s.1)))
 
-  keeps-unread : (file : List ℕ) (left : Effect) → CountsFailure (trait.failure_count old) (trait.failure_count between) → Settles trait between (Fails file error.FileNotRead) new left → Keeps trait due old new left
-  keeps-unread file left counted s = inr (inl (subst (λ (x : F). CountsFailure (trait.failure_count old) (trait.failure_count x)) (sym s.0) counted, (same-then s.0, (file, inl s.1))))
+  abbrev IsUnread : Effect → Type 0
+  IsUnread effect = CountsFailure (trait.failure_count old) (trait.failure_count between) × IsTrue (is_unread (ending_of effect))
+
+  keeps-told : (effect left : Effect) → new ≡ between → left ≡ effect → IsUnread effect → Keeps trait due old new left
+  keeps-told effect left same is unread = inr (inl (
+    subst (λ (x : F). CountsFailure (trait.failure_count old) (trait.failure_count x)) (sym same) unread.0,
+    (same-then same, inl (ap (λ (e : Effect). is_unread (ending_of e)) is ∙ unread.1)),
+  ))
+
+  -- a file was not read, and the effect tells that
+  keeps-unread : (effect left : Effect) → Settles trait between effect new left → IsUnread effect → Keeps trait due old new left
+  keeps-unread (Fails file why) left s unread = keeps-told (Fails file why) left s.0 s.1 unread
+  keeps-unread (Displays file page) left s unread = keeps-told (Displays file page) left s.0 s.1 unread
+  keeps-unread (Saves file bytes text verdict) left s unread = absurd (false≢true unread.1)
 
   keeps-saved : (file bytes text : List ℕ) (verdict : Verdict) (answer : Result (Unit {0}) SaveFault) (left : Effect) → Saves file bytes text verdict ≡ due → SavesFile trait between file bytes answer new
       → left ≡ saved_end file text verdict answer → Keeps trait due old new left
@@ -64,7 +75,7 @@ module _ {F O : Type 0} (trait : Ghosts F) (outcomes : Faults O) (due : Effect) 
   )
   keeps-saved file bytes text verdict (Err save.Failed) left is_due saves is = inr (inl (
     count-trans (trait.failure_count old) (trait.failure_count between) (trait.failure_count new) lasts.count saves.count (saves.failed refl),
-    (same-trans (trait.file old) (trait.file between) (trait.file new) (lasts.same h) (saves.same (lasts.honest h)), (file, inr is)),
+    (same-trans (trait.file old) (trait.file between) (trait.file new) (lasts.same h) (saves.same (lasts.honest h)), inr (file, is)),
   ))
   keeps-saved file bytes text verdict (Err save.NoMemory) left is_due saves is = inr (inr (same-trans (trait.file old) (trait.file between) (trait.file new) (lasts.same h) (saves.same (lasts.honest h)), (file, is)))
 
@@ -79,7 +90,7 @@ module _ {F O : Type 0} (trait : Ghosts F) (outcomes : Faults O) (due : Effect) 
 
   keeps-by : (effect left : Effect) → Settles trait between effect new left → IsDue effect → Keeps trait due old new left
   keeps-by effect left s (inl is) = keeps-due effect left is s
-  keeps-by effect left s (inr (inl failed)) = keeps-unread failed.1.0 left failed.0 (subst (λ (e : Effect). Settles trait between e new left) failed.1.1 s)
+  keeps-by effect left s (inr (inl failed)) = keeps-unread effect left s (failed.0, ap (λ (e : Effect). is_unread (ending_of e)) failed.1.1)
   keeps-by effect left s (inr (inr spent)) = keeps-spent spent.0 left (subst (λ (e : Effect). Settles trait between e new left) spent.1 s)
 
 -- the release of the files keeps what was done
@@ -106,24 +117,75 @@ module _ {F O : Type 0} (trait : Ghosts F) (outcomes : Faults O) (line : Option 
       let first = settles-lasts effect f.settles in
       (λ h. f.released.honest (first.0 h), omega (arith, first.1, f.released.count))
 
+-- ---- a file that was not read
+
+told-as : (name : List ℕ) (effect : Effect) (is : Bool) → is_unread (ending_of effect) ≡ is → IsTrue (is_unread (ending_of (if is then effect else Fails name error.FileNotRead)))
+told-as name effect true e = e
+told-as name effect false e = refl
+
+-- the effect tells that it was not read
+if_unread-tells : (name : List ℕ) (plan : CommandPlan) → IsTrue (is_unread (ending_of (if_unread name plan)))
+if_unread-tells name (Ends effect) = told-as name effect (is_unread (ending_of effect)) refl
+if_unread-tells name (Holds held other plan) = refl
+if_unread-tells name (Loads other then_) = refl
+
+effect_by-none : (plan : CommandPlan) → effect_by plan [] ≡ by faults plan []
+effect_by-none (Ends effect) = refl
+effect_by-none (Holds held name plan) = effect_by-none plan
+effect_by-none (Loads name then_) = refl
+
+module _ {F : Type 0} (trait : Ghosts F) where
+  -- an effect is what `by` has; or a file was not read, counted, and the effect tells that
+  abbrev IsBy : CommandPlan → List Answer → F → F → Type 0
+  IsBy plan answers old new = (effect_by plan answers ≡ by faults plan answers) ⊎ (CountsFailure (trait.failure_count old) (trait.failure_count new) × IsTrue (is_unread (ending_of (effect_by plan answers))))
+
+  later : (plan : CommandPlan) (answers : List Answer) (old between new : F) → Loaded trait plan between answers new → trait.failure_count old ≤ trait.failure_count between → IsBy plan answers between new → IsBy plan answers old new
+  later plan answers old between new l le (inl is) = inl is
+  later plan answers old between new l le (inr told) =
+      inr (count-trans (trait.failure_count old) (trait.failure_count between) (trait.failure_count new) le (loaded-lasts trait faults plan between answers new l).count told.0, told.1)
+
+  is-by : (plan : CommandPlan) (old : F) (answers : List Answer) (new : F) → Loaded trait plan old answers new → IsBy plan answers old new
+  is-by (Ends effect) old answers new l = inl refl
+  is-by (Holds held name plan) old answers new (inl none) = inl (subst (λ (xs : List Answer). effect_by plan xs ≡ by faults plan xs) (sym none.0) (effect_by-none plan))
+  is-by (Holds held name plan) old answers new (inr l) = later plan answers old l.0 new l.1.1 (loaded-lasts trait faults (Holds held name (Ends (Fails name error.NoMemory))) old [] l.0 (inr (l.0, (l.1.0, (refl, refl))))).count (is-by plan l.0 answers new l.1.1)
+  is-by (Loads name then_) old [] new l = inl refl
+  is-by (Loads name then_) old (Err load.Failed ∷ answers) new l = inr (
+    count-more (trait.failure_count old) (trait.failure_count l.0) (trait.failure_count new) (loaded-lasts trait faults (then_ (Err load.Failed)) l.0 answers new l.1.1).count (l.1.0.failed refl),
+    if_unread-tells name (then_ (Err load.Failed)),
+  )
+  is-by (Loads name then_) old (Err load.NoMemory ∷ answers) new l = inl refl
+  is-by (Loads name then_) old (answer ∷ answers) new l = later (then_ answer) answers old l.0 new l.1.1 l.1.0.count (is-by (then_ answer) l.0 answers new l.1.1)
+
 -- a command was made, and then finished
 module _ {F R W E : Type 0} (trait : Ghosts F) (plan : Option ℕ → CommandPlan) (Fairly : List Answer → Type 0) (old new : World F R W E) (made : F) (effect : Effect) (end : RunEnd)
     (makes : MakesFairly trait old.files (plan (trait.mode made)) Fairly effect made) (f : Finishes trait None effect made new.files old.out new.out old.err new.err end) (input : new.input ≡ old.input) where
   lasts : Lasts trait faults old.files made
   lasts = loaded-lasts trait faults (plan (trait.mode made)) old.files makes.makes.answers made makes.makes.loads
 
+  abbrev due : Effect
+  due = follow (trait.file old.files) (plan (trait.mode made))
+
   -- over honest files a command makes what is due, or a call failed, or memory ran out
-  is-due : (h : trait.is_honest old.files) → IsDue trait faults (follow (trait.file old.files) (plan (trait.mode made))) old.files made f.done h lasts effect
-  is-due h = elim makes.makes.made [
-    | inl spent ↦ inr (inr spent)
-    | inr is ↦ elim (comes trait faults (plan (trait.mode made)) (trait.file old.files) old.files makes.makes.answers made h (λ name. refl) makes.makes.loads) [
-      | inl due ↦ inl (is ∙ due)
-      | inr other ↦ elim other [
-        | inl failed ↦ inr (inl (failed.0, (failed.1.0, is ∙ failed.1.1)))
-        | inr spent ↦ inr (inr (spent.0, is ∙ spent.1))
-      ]
+  is-due : (h : trait.is_honest old.files) → effect ≡ by faults (plan (trait.mode made)) makes.makes.answers → IsDue trait faults due old.files made f.done h lasts effect
+  is-due h is = elim (comes trait faults (plan (trait.mode made)) (trait.file old.files) old.files makes.makes.answers made h (λ name. refl) makes.makes.loads) [
+    | inl due ↦ inl (is ∙ due)
+    | inr other ↦ elim other [
+      | inl failed ↦ inr (inl (failed.0, (failed.1.0, is ∙ failed.1.1)))
+      | inr spent ↦ inr (inr (spent.0, is ∙ spent.1))
     ]
   ]
+
+  keeps : (h : trait.is_honest old.files) → Keeps trait due old.files new.files f.left
+  keeps h =
+      let finished = finishes-keeps trait faults None due effect old.files made new.files old.out new.out old.err new.err end f h lasts in
+      elim makes.makes.made [
+        | inl spent ↦ finished (inr (inr spent))
+        | inr is ↦ elim (is-by trait (plan (trait.mode made)) old.files makes.makes.answers made makes.makes.loads) [
+          | inl same ↦ finished (is-due h (is ∙ same))
+          | inr told ↦ keeps-left trait due old.files f.done new.files f.left f.released
+              (keeps-unread trait faults due old.files made f.done h lasts effect f.left f.settles (told.0, ap (λ (e : Effect). is_unread (ending_of e)) is ∙ told.1))
+        ]
+      ]
 
   pub ends-finished : EndsCommand trait plan Fairly old new end
   ends-finished = record {
@@ -132,7 +194,7 @@ module _ {F R W E : Type 0} (trait : Ghosts F) (plan : Option ℕ → CommandPla
     makes = makes;
     finishes = f;
     input = input;
-    honest = λ h. finishes-keeps trait faults None (follow (trait.file old.files) (plan (trait.mode made))) effect old.files made new.files old.out new.out old.err new.err end f h lasts (is-due h);
+    honest = keeps;
     spared = λ spent h. same-trans (trait.file old.files) (trait.file f.done) (trait.file new.files)
         (same-trans (trait.file old.files) (trait.file made) (trait.file f.done) (lasts.same h) (settles-spared old.out new.out end.ending spent trait made f.done (lasts.honest h) effect f.left f.settles f.shown)) f.released.same;
     quiet = λ spent. quiet-end old.out new.out end.ending spent f.left f.shown;

@@ -22,7 +22,7 @@ module _ (out : Watch) (failed : IsTrue out.failed) where
   unshown due = record { done = λ well. absurd (true≢false (sym failed ∙ well)); prefix = AppendsPrefix-none out.contents due.out; failed = λ _. refl; still = λ _. refl }
 
   pub unshown-end : {A S : Type 0} (page : S → List ℕ → Page) (file : List ℕ) (end : Result (Ready A S) FileError) → ShowsEnd out out (Err OutputNotWritten) (ready_end page file end)
-  unshown-end page file (Ok (ready.Shows shown)) = inl (unshown (record { out = (page shown file).out; ending = Ok (page shown file).verdict }))
+  unshown-end page file (Ok (ready.Shows shown)) = inl (unshown (record { out = (page shown file).out; ending = (page shown file).ending }))
   unshown-end page file (Ok (ready.Prints shown)) = inl (unshown (record { out = shown.text.items; ending = Ok shown.verdict }))
   unshown-end page file (Err met) = unshown (ends_by met.error)
 

@@ -1,14 +1,13 @@
--- The effect of a command, its plan over files, and what a run of it does.
-use Rattle.std.specs.Prelude.{◌≡◌, ◌⊎◌, ℕ, Bool, true, false, not, ◌&&◌, if◌then◌else◌, List, Result, Ok, Err, [], ◌∷◌, Option, None, Some, IsTrue}
+-- The plan of a command over files, and what a run of it does.
+use Rattle.std.specs.Prelude.{◌≡◌, ◌⊎◌, ℕ, Bool, true, false, not, ◌&&◌, ◌||◌, if◌then◌else◌, List, Result, Ok, Err, [], ◌∷◌, Option, None, Some, IsTrue}
 use Rattle.krb_files.specs.declared.files.SaveFault.{SaveFault}
-use Rattle.krb_files.specs.Files.{FileMap, SameFiles, CountsFailure}
+use Rattle.krb_files.specs.Files.{SameFiles, CountsFailure}
 use Rattle.krb_files.specs.Loading.{Answer, LoadsFile, SavesFile, TurnsHold}
-use Rattle.krb_files.specs.Plan.{Plan, Ends, Holds, Loads, Faults, with_bytes, Loaded, by, follow}
+use Rattle.krb_files.specs.Plan.{Plan, Ends, Holds, Loads, Faults, Loaded, follow}
 use Rattle.krb_driver.specs.declared.error.RunError.{RunError}
 use Rattle.krb_driver.specs.declared.error.RunError.TheVariants as error
-use Rattle.krb_driver.specs.declared.verdict.Verdict.{Verdict}
 use Rattle.krb_driver.specs.declared.file_name.FileName.{FileName}
-use Rattle.krb_driver.specs.RunErrors.{error_of_name, save_error, Ending, is_spent}
+use Rattle.krb_driver.specs.RunErrors.{error_of_name, Ending, is_spent, is_unread}
 use Rattle.krb_files.specs.declared.files.Files.{Ghosts}
 use Rattle.krb_files.specs.declared.aftermath.Aftermath.{Aftermath}
 use Rattle.krb_files.specs.declared.files.LoadFault.TheVariants as load
@@ -23,34 +22,9 @@ use Rattle.krb_driver.specs.declared.command.Ready.TheVariants as ready
 use Rattle.krb_driver.specs.declared.reporting.details.Details.{Details}
 use Rattle.krb_driver.specs.declared.command.World.{World}
 use Rattle.krb_driver.specs.Runs.{ErrorWatch, Run, EndsRun, Shows, BreaksOff, Reports, ends_by}
+pub use Rattle.krb_driver.specs.Effects.{Page, text, Effect, Fails, Displays, Saves, ending_of, about, is_save, saves_unless, saved_end, settled, files_after, IsSpent, IsMade, IsFailure}
 
--- what is printed, how the run then ends, and whether printing it takes memory
-pub record Page : Type 0 where
-  pub out : List ℕ
-  pub verdict : Verdict
-  pub takes : Bool
-
--- the page of a finished text
-abbrev pub text : List ℕ → Verdict → Page
-text out verdict = record { out = out; verdict = verdict; takes = false }
-
--- the effect of a command, with its file: an error, a page to show, or bytes to save and a text to print after that
-pub data Effect : Type 0 where
-  Fails : List ℕ → RunError → Effect
-  Displays : List ℕ → Page → Effect
-  Saves : List ℕ → List ℕ → List ℕ → Verdict → Effect
-
--- the file that an effect is about
-abbrev pub about : Effect → List ℕ
-about (Fails file why) = file
-about (Displays file page) = file
-about (Saves file bytes out verdict) = file
-
--- it saves
-abbrev pub is_save : Effect → Bool
-is_save (Saves file bytes out verdict) = true
-is_save effect = false
-
+-- the effects if a file was not read, or if memory ran out there
 abbrev pub faults : Faults Effect
 faults = record { unread = λ file. Fails file error.FileNotRead; spent = λ file. Fails file error.NoMemory }
 
@@ -58,16 +32,19 @@ faults = record { unread = λ file. Fails file error.FileNotRead; spent = λ fil
 abbrev pub CommandPlan : Type 0
 CommandPlan = Plan Effect
 
--- a command goes on with what a file gave, or an error with that file ends it
-abbrev pub goes_on : {X : Type 0} → FileName → Result X RunError → (X → CommandPlan) → CommandPlan
-goes_on file (Ok x) then_ = then_ x
-goes_on file (Err why) then_ = Ends (Fails file.name.now (error_of_name file.source why))
+-- a command goes on with what a file gave, or with the error, which has the source of its name
+abbrev pub goes_on : {X : Type 0} → FileName → Result X RunError → (X → CommandPlan) → (RunError → CommandPlan) → CommandPlan
+goes_on file (Ok x) then_ fails = then_ x
+goes_on file (Err why) then_ fails = fails (error_of_name file.source why)
 
--- a file is loaded and opened, and the command goes on with what it gave; if its name is of another type, there is none
+-- a file is loaded and opened, and the command goes on with what it gave, or with the error; if its name is of another type, there is none
+abbrev pub tries : {X : Type 0} → FileName → (Answer → Result X RunError) → (X → CommandPlan) → (RunError → CommandPlan) → CommandPlan
+tries file gives then_ fails =
+    if file.is_other_type then fails (error.OtherType file.kind file.source) else Loads file.name.now (λ answer. goes_on file (gives answer) then_ fails)
+
+-- a file is loaded and opened, and the command goes on with what it gave; an error ends it
 abbrev pub opens : {X : Type 0} → FileName → (Answer → Result X RunError) → (X → CommandPlan) → CommandPlan
-opens file gives then_ =
-    if file.is_other_type then Ends (Fails file.name.now (error.OtherType file.kind file.source))
-    else Loads file.name.now (λ answer. goes_on file (gives answer) then_)
+opens file gives then_ = tries file gives then_ (λ why. Ends (Fails file.name.now why))
 
 -- whether a file is held that is to be held: not if its name is of another type
 abbrev pub can_hold : Bool → FileName → Bool
@@ -77,38 +54,26 @@ can_hold held file = held && not file.is_other_type
 abbrev pub holds : Bool → FileName → CommandPlan → CommandPlan
 holds held file plan = Holds (can_hold held file) file.name.now plan
 
--- bytes are saved and then a text is printed; in a dry run only the text is printed
-abbrev pub saves_unless : Bool → List ℕ → List ℕ → List ℕ → Verdict → Effect
-saves_unless true file bytes out verdict = Displays file (text out verdict)
-saves_unless false file bytes out verdict = Saves file bytes out verdict
-
--- what is left to show after a save, by its result
-abbrev pub saved_end : List ℕ → List ℕ → Verdict → Result (Unit {0}) SaveFault → Effect
-saved_end file out verdict (Ok done) = Displays file (text out verdict)
-saved_end file out verdict (Err fault) = Fails file (save_error fault)
-
--- what an effect shows if no call fails, and the files after it
-abbrev pub settled : Effect → Effect
-settled (Saves file bytes out verdict) = Displays file (text out verdict)
-settled effect = effect
-
-abbrev pub files_after : FileMap → Effect → FileMap
-files_after files (Saves file bytes out verdict) = with_bytes files file bytes
-files_after files effect = files
-
--- memory ran out
-abbrev pub IsSpent : Effect → Type 0
-IsSpent effect = (file : List ℕ) × (effect ≡ Fails file error.NoMemory)
-
--- what is due was made, or memory ran out
-abbrev pub IsMade : Effect → Effect → Type 0
-IsMade due effect = IsSpent effect ⊎ (effect ≡ due)
-
--- a file was not read, or not written
-abbrev pub IsFailure : Effect → Type 0
-IsFailure effect = (file : List ℕ) × ((effect ≡ Fails file error.FileNotRead) ⊎ (effect ≡ Fails file error.FileNotWritten))
-
 -- ---- what is made of the files
+
+-- the effect if the file of that name was not read and the plan goes on so: its end if that tells it, or else the error
+abbrev pub if_unread : List ℕ → CommandPlan → Effect
+if_unread name (Ends effect) = if is_unread (ending_of effect) then effect else Fails name error.FileNotRead
+if_unread name plan = Fails name error.FileNotRead
+
+-- the effect of a plan by the results of its loads: as `by` has it, but that the plan may tell of a failed load
+abbrev pub effect_by : CommandPlan → List Answer → Effect
+effect_by (Ends effect) answers = effect
+effect_by (Holds held name plan) answers = effect_by plan answers
+effect_by (Loads name then_) [] = Fails name error.NoMemory
+effect_by (Loads name then_) (Err load.Failed ∷ answers) = if_unread name (then_ (Err load.Failed))
+effect_by (Loads name then_) (Err load.NoMemory ∷ answers) = Fails name error.NoMemory
+effect_by (Loads name then_) (answer ∷ answers) = effect_by (then_ answer) answers
+
+-- a command that goes on so after an error of that file ends if memory ran out or the file was not read
+pub record EndsAfter (file : FileName) (fails : RunError → CommandPlan) : Type 0 where
+  pub spent : fails error.NoMemory ≡ Ends (Fails file.name.now error.NoMemory)
+  pub unread : fails error.FileNotRead ≡ Ends (if_unread file.name.now (fails error.FileNotRead))
 
 -- what a file gave, or the error with that file's name
 abbrev pub of_file : {X : Type 0} → FileName → Result X RunError → Result X (List ℕ × RunError)
@@ -145,7 +110,7 @@ module _ {F : Type 0} (trait : Ghosts F) (old : F) where
   pub record Makes (plan : CommandPlan) (effect : Effect) (new : F) : Type 0 where
     pub answers : List Answer
     pub loads : Loaded trait plan old answers new
-    pub made : IsSpent effect ⊎ (effect ≡ by faults plan answers)
+    pub made : IsSpent effect ⊎ (effect ≡ effect_by plan answers)
 
   -- the files of a plan were loaded, and `Fairly` holds of the results, unless memory ran out
   pub record MakesFairly (plan : CommandPlan) (Fairly : List Answer → Type 0) (effect : Effect) (new : F) : Type 0 where
@@ -153,6 +118,11 @@ module _ {F : Type 0} (trait : Ghosts F) (old : F) where
     pub fair : IsSpent effect ⊎ Fairly makes.answers
 
 module _ {F : Type 0} (trait : Ghosts F) (old : F) where
+  -- a file was tried: what is made of what it gave, or of the error, is what the plan that tries it makes
+  abbrev pub Tries : {X : Type 0} → FileName → (Answer → Result X RunError) → Result X RunError → F → Type 0
+  Tries {X = X} file gives (Ok x) new = (then_ : X → CommandPlan) (fails : RunError → CommandPlan) (effect : Effect) (end : F) → EndsAfter file fails → Makes trait new (then_ x) effect end → Makes trait old (tries file gives then_ fails) effect end
+  Tries {X = X} file gives (Err why) new = (then_ : X → CommandPlan) (fails : RunError → CommandPlan) (effect : Effect) (end : F) → EndsAfter file fails → Makes trait new (fails why) effect end → Makes trait old (tries file gives then_ fails) effect end
+
   -- a file was opened: what `then_` makes of it is what the plan that opens it makes; an error ends the plan
   abbrev pub Opens : {X : Type 0} → FileName → (Answer → Result X RunError) → Result X (List ℕ × RunError) → F → Type 0
   Opens {X = X} file gives (Ok x) new = (then_ : X → CommandPlan) (effect : Effect) (end : F) → Makes trait new (then_ x) effect end → Makes trait old (opens file gives then_) effect end
@@ -180,7 +150,7 @@ Keeps trait due old new left =
 -- a page was printed; or memory ran out before the end of one that takes memory
 abbrev pub ShowsPage : Watch → Watch → Ending → Page → Type 0
 ShowsPage out out' ending page =
-    let run : Run = record { out = page.out; ending = Ok page.verdict } in
+    let run : Run = record { out = page.out; ending = page.ending } in
     Shows run out out' ending ⊎ (IsTrue page.takes × BreaksOff run out out' ending)
 
 -- what is left to show was shown
@@ -189,9 +159,9 @@ ShowsEnd out out' ending (Fails file why) = Shows (ends_by why) out out' ending
 ShowsEnd out out' ending (Displays file page) = ShowsPage out out' ending page
 ShowsEnd out out' ending (Saves file bytes out_ verdict) = ⊥
 
--- an effect shows a page that takes memory
+-- an effect shows a page that takes memory, or tells that it ran out
 abbrev pub Takes : Effect → Type 0
-Takes (Displays file page) = IsTrue page.takes
+Takes (Displays file page) = IsTrue (page.takes || is_spent page.ending)
 Takes effect = ⊥
 
 -- what is told of a save: what it left behind, if it is the run's own; and of a line of ktutil only if memory did not run out

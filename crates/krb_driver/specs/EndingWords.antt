@@ -1,5 +1,5 @@
 -- The words that explain how a run ended: what follows its message where words are shown.
-use Rattle.std.specs.Prelude.{ℕ, List, [], ◌∷◌, ◌++◌, zip, Bool, true, false, nat_eq, if◌then◌else◌, Option, None, Some, is_some, option_map, unwrap_or, Ok, Err, codes, decimal, unsigned_abs}
+use Rattle.std.specs.Prelude.{ℕ, List, [], ◌++◌, Bool, true, false, nat_eq, if◌then◌else◌, Option, None, Some, is_some, option_map, unwrap_or, Ok, Err, codes, decimal, unsigned_abs}
 use Rattle.krb_walk.specs.declared.refusal.Code.{Code}
 use Rattle.krb_walk.specs.declared.refusal.Code.TheVariants.{Damaged, Full, NotAPlace, NotLive}
 use Rattle.std.specs.List.{flat_map, starts_with}
@@ -18,7 +18,10 @@ use Rattle.krb_cache_text.specs.Escape.{escaped_text}
 use Rattle.krb_text.specs.declared.line_fault.LineFault.{LineFault}
 use Rattle.krb_text.specs.declared.line_fault.LineFault.TheVariants.{UnknownWord}
 use Rattle.krb_text.specs.LineFault.{line_phrase, ktutil_phrase}
-use Rattle.krb_audit.specs.declared.finding_words.FindingWords.{FindingWords}
+use Rattle.krb_audit.specs.Table.{has, row_of}
+use Rattle.krb_audit.specs.declared.finding.Finding.{Finding}
+use Rattle.krb_audit.specs.declared.finding.TheConstants.{FINDINGS}
+use Rattle.krb_audit.specs.declared.finding_set.FindingSet.{FindingSet}
 use Rattle.krb_driver.specs.declared.error.RunError.{RunError}
 use Rattle.krb_driver.specs.declared.file_name.NameSource.{NameSource}
 use Rattle.krb_driver.specs.declared.file_name.NameSource.TheVariants.{Word, CacheVariable, KeytabVariable, Default}
@@ -26,7 +29,6 @@ use Rattle.krb_driver.specs.declared.error.RunError.TheVariants as error
 use Rattle.krb_driver.specs.declared.verdict.FileKind.{FileKind}
 use Rattle.krb_driver.specs.declared.verdict.FileKind.TheVariants.{Keytab, Cache}
 use Rattle.krb_driver.specs.declared.reporting.details.Details.{Details}
-use Rattle.krb_driver.specs.declared.reporting.ending_words.TheConstants.{LINES}
 use Rattle.krb_driver.specs.declared.reporting.reported.Failure.{Failure}
 use Rattle.krb_driver.specs.declared.reporting.reported.Failure.TheVariants.{Refused, Faulted}
 use Rattle.krb_driver.specs.declared.reporting.reported.Reported.{Reported}
@@ -175,9 +177,10 @@ hidden_words_of file (Some place) = hidden_words file None place
 abbrev pub reported_words : List ℕ → Reported → List ℕ
 reported_words file r = flat_map (failure_words r.kind) r.failures ++ hidden_words_of file r.hidden_from
 
--- the line for each word of findings that was printed, in this order
-abbrev pub word_lines : FindingWords → List ℕ
-word_lines t = flat_map (λ line. line_if line.0 line.1.now) (zip (t.weak ∷ t.hidden ∷ t.same ∷ t.clash ∷ t.old ∷ t.mode ∷ []) LINES)
+-- the line for a finding, if it is to be explained
+abbrev pub word_line : FindingSet → Finding → List ℕ
+word_line explained finding =
+    line_if (has explained finding) (codes "krbfile: " ++ ((row_of finding).word ++ (codes ": " ++ ((row_of finding).phrase ++ codes "\n"))))
 
 -- the words for the fault that was found, if one was
 abbrev pub found_fault_words : List ℕ → Option Fault → List ℕ
@@ -186,7 +189,7 @@ found_fault_words file (Some fault) = listed_words file fault
 
 -- the words that explain findings, and hints
 abbrev pub found_words : List ℕ → Findings → List ℕ
-found_words file findings = word_lines findings.words ++ (found_fault_words file findings.fault ++ hint_words file findings)
+found_words file findings = flat_map (word_line findings.words) FINDINGS ++ (found_fault_words file findings.fault ++ hint_words file findings)
 
 -- the words for an unknown first word of a script's line
 abbrev pub unknown_words : FirstWord → List ℕ

@@ -6,6 +6,8 @@ use Rattle.krb_wire.specs.declared.format.Order.{Order}
 use Rattle.krb_wire.specs.declared.format.Order.TheVariants.{Big, Little}
 use Rattle.krb_text.specs.Etype.{etype_name_of}
 use Rattle.krb_cache_text.specs.Escape.{is_printable}
+use Rattle.krb_audit.specs.Table.{has}
+use Rattle.krb_audit.specs.declared.finding.Finding.TheVariants.{Weak, Old, Same}
 use Rattle.krb_driver.specs.declared.verdict.Findings.{Findings}
 use Rattle.krb_driver.specs.FileNames.{type_of}
 use Rattle.krb_driver.specs.Messages.{line_if}
@@ -72,15 +74,15 @@ remove_command order = remove_head ++ (order_flag order ++ codes " -n")
 -- the hint for weak enctypes, if that word is explained
 abbrev pub weak_hint : Findings → List ℕ → List ℕ
 weak_hint findings operand =
-    line_if findings.words.weak
+    line_if (has findings.words Weak)
     (remove_command findings.v1_order ++ (flat_map (etype_option findings.weak_etypes.found) (range_with_len 0 27) ++ (codes " " ++ (operand ++ codes "\n"))))
 
 -- the hints for a file that is this operand
 abbrev pub hints_for : Findings → List ℕ → List ℕ
 hints_for findings operand =
-    line_if findings.words.old (remove_head ++ (order_flag findings.v1_order ++ (codes " -n -k old --age 86400 " ++ (operand ++ codes "\n"))))
+    line_if (has findings.words Old) (remove_head ++ (order_flag findings.v1_order ++ (codes " -n -k old --age 86400 " ++ (operand ++ codes "\n"))))
     ++ (weak_hint findings operand
-    ++ line_if findings.words.same (codes "krbfile: to have each once: krbfile ktcopy" ++ (order_flag findings.v1_order ++ (codes " " ++ (operand ++ codes " NEW\n")))))
+    ++ line_if (has findings.words Same) (codes "krbfile: to have each once: krbfile ktcopy" ++ (order_flag findings.v1_order ++ (codes " " ++ (operand ++ codes " NEW\n")))))
 
 -- a file has hints: all shells read its name alike, which has at most 256 bytes as an operand
 abbrev pub has_hints : List ℕ → Bool

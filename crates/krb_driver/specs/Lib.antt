@@ -9,5 +9,6 @@ pub mod EndingWords
 pub mod Runs
 pub mod Mistakes
 pub mod Loading
+pub mod Effects
 pub mod Commands
 pub mod Several

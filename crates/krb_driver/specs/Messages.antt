@@ -3,9 +3,11 @@ use Rattle.std.specs.Prelude.{ℕ, List, [], ◌++◌, codes, decimal, Bool, if�
 use Rattle.krb_driver.specs.FileNames.{shown_name, name_byte}
 use Rattle.std.specs.Char.{is_ascii_hexdigit}
 use Rattle.std.specs.List.{flat_map, list_all}
+use Rattle.std.specs.Option.{option_map_or}
 use Rattle.hex.specs.Hex.{encode_lower}
 use Rattle.krb_cache_text.specs.Escape.{is_printable, escaped, escaped_text}
 use Rattle.krb_driver.specs.FirstWords.{word_text}
+use Rattle.krb_driver.specs.declared.reporting.said.Said.{Said}
 use Rattle.krb_driver.specs.declared.reporting.writing.Form.{Form}
 use Rattle.krb_driver.specs.declared.reporting.writing.Form.TheVariants as form
 use Rattle.krb_driver.specs.declared.reporting.piece.MessagePiece.{MessagePiece}
@@ -19,9 +21,13 @@ message what = codes "krbfile: " ++ (what ++ codes "\n")
 abbrev pub file_message : List ℕ → List ℕ → List ℕ
 file_message file what = codes "krbfile: " ++ (shown_name file ++ (codes ": " ++ (what ++ codes "\n")))
 
--- a message about a file, with a number between two texts
-abbrev pub file_number_message : List ℕ → List ℕ → ℕ → List ℕ → List ℕ
-file_number_message file before number after = codes "krbfile: " ++ (shown_name file ++ (codes ": " ++ (before ++ (decimal number ++ (after ++ codes "\n")))))
+-- a number between two texts
+abbrev pub numbered : List ℕ → ℕ → List ℕ → List ℕ
+numbered before number after = before ++ (decimal number ++ after)
+
+-- what is said: a text, or two with a number between them
+abbrev pub said_text : Said → List ℕ
+said_text said = said.before.now ++ (option_map_or decimal said.number [] ++ said.after.now)
 
 -- a message about a line of the input, with a number at its end
 abbrev pub line_message : ℕ → List ℕ → ℕ → List ℕ

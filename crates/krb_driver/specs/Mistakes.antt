@@ -40,6 +40,7 @@ pub data MistakeParts : Type 0 where
   DoNotGoTogether : List ℕ → List ℕ → MistakeParts
   ForKeytabs : List ℕ → MistakeParts
   OnlyWith : List ℕ → List ℕ → MistakeParts
+  OnlyWithOne : List ℕ → List ℕ → MistakeParts
   NoVersion : List ℕ → MistakeParts
   NoEtype : List ℕ → MistakeParts
   NoTime : List ℕ → MistakeParts
@@ -63,6 +64,7 @@ mistake_parts (mistake.TakesOneFile option) = TakesOneFile option.now
 mistake_parts (mistake.DoNotGoTogether option other) = DoNotGoTogether option.now other.now
 mistake_parts (mistake.ForKeytabs option) = ForKeytabs option.now
 mistake_parts (mistake.OnlyWith option other) = OnlyWith option.now other.now
+mistake_parts (mistake.OnlyWithOne option other) = OnlyWithOne option.now other.now
 mistake_parts (mistake.NoVersion word) = NoVersion word.now
 mistake_parts (mistake.NoEtype word) = NoEtype word.now
 mistake_parts (mistake.NoTime word) = NoTime word.now
@@ -87,6 +89,7 @@ mistake_line (TakesOneFile option) rest = shown_word option ++ (codes " takes on
 mistake_line (DoNotGoTogether option other) rest = shown_word option ++ (codes " does not go with " ++ (shown_word other ++ rest))
 mistake_line (ForKeytabs option) rest = shown_word option ++ (codes " is for keytabs; give -k" ++ rest)
 mistake_line (OnlyWith option other) rest = shown_word option ++ (codes " goes with " ++ (shown_word other ++ (codes " alone" ++ rest)))
+mistake_line (OnlyWithOne option other) rest = shown_word option ++ (codes " goes with one " ++ (shown_word other ++ rest))
 mistake_line (NoVersion word) rest = quoted_word word ++ (codes " is no " ++ (codes "version" ++ rest))
 mistake_line (NoEtype word) rest = quoted_word word ++ (codes " is no " ++ (codes "encryption type" ++ rest))
 mistake_line (NoTime word) rest = quoted_word word ++ (codes " is no " ++ (codes "time (90, 15m, 10h, 7d)" ++ rest))

@@ -1,11 +1,12 @@
 -- How a run ends: its verdict, or the error that ends it, its message and its exit status.
 use Rattle.std.specs.Prelude.{ℕ, List, [], if◌then◌else◌, Option, None, Some, codes, max, Bool, true, false, Result, Ok, Err}
 use Rattle.krb_walk.specs.declared.fault.Fault.{Fault}
+use Rattle.krb_walk.specs.declared.refusal.Code.{Code}
 use Rattle.krb_walk.specs.declared.refusal.Code.TheVariants.{NotFound, Damaged}
 use Rattle.krb_walk.specs.Phrases.{code_number}
 use Rattle.krb_driver.specs.declared.verdict.Verdict.{Verdict}
 use Rattle.krb_driver.specs.declared.verdict.Verdict.TheVariants.{Well, HiddenFrom, NoEntry, Without, Listed, Replied, Found, NothingToRemove}
-use Rattle.krb_driver.specs.Messages.{file_number_message, message, file_message, line_message}
+use Rattle.krb_driver.specs.Messages.{numbered, message, file_message, line_message}
 use Rattle.krb_keytab.specs.Open.{open_fault_number}
 use Rattle.krb_ccache.specs.Open.{open_fault_number as cache_fault_number}
 use Rattle.krb_files.specs.declared.aftermath.Aftermath.{Aftermath}
@@ -41,9 +42,13 @@ hiding (Some place) Well = HiddenFrom place
 hiding place (Replied reported) = Replied (record reported { hidden_from = place })
 hiding place verdict = verdict
 
+-- what is said of a refusal
+abbrev pub refused : Code → List ℕ
+refused code = numbered (codes "refused ") (code_number code) []
+
 -- the message for a run over that file
 abbrev pub verdict_message : List ℕ → Verdict → List ℕ
-verdict_message file (NothingToRemove kind) = file_number_message file (codes "refused ") (code_number NotFound) []
+verdict_message file (NothingToRemove kind) = file_message file (refused NotFound)
 verdict_message file verdict = []
 
 -- the exit status
@@ -112,34 +117,39 @@ output_error out.NoMemory = error.NoMemory
 
 -- ---- what is said of it
 
+-- what the message for an error says after the name of a file; nothing if it names none
+abbrev pub said_of_file : RunError → List ℕ
+said_of_file (error.DamagedInput fault) = refused Damaged
+said_of_file (error.NoSuchFile source) = codes "no such file"
+said_of_file (error.OtherType kind source) = codes "no such file"
+said_of_file error.TypedName = codes "cannot write"
+said_of_file error.FileTooLarge = codes "file too large"
+said_of_file error.FileNotRead = codes "cannot read"
+said_of_file error.FileNotWritten = codes "cannot write"
+said_of_file (error.NotAKeytab why) = numbered (codes "not a keytab (") (open_fault_number why.fault) (codes ")")
+said_of_file (error.NotAKeytabToList why) = numbered (codes "not a keytab (") (open_fault_number why.fault) (codes ")")
+said_of_file (error.NotACache why) = numbered (codes "not a cache (") (cache_fault_number why.fault) (codes ")")
+said_of_file (error.NotACacheToHold why) = numbered (codes "not a cache (") (cache_fault_number why.fault) (codes ")")
+said_of_file (error.Refused kind code) = refused code
+said_of_file error.NothingToCopy = refused NotFound
+said_of_file other = []
+
 -- the message for an error of a run over that file
 abbrev pub error_message : List ℕ → RunError → List ℕ
 error_message file error.InputTooLarge = message (codes "input too large")
 error_message file error.InputNotRead = message (codes "cannot read input")
 error_message file error.InputNotWhole = message (codes "input is not whole")
-error_message file (error.DamagedInput fault) = file_number_message file (codes "refused ") (code_number Damaged) []
 error_message file (error.FaultyLine line fault) = line_message line (codes "fault ") (line_fault_number fault)
 error_message file (error.UnknownWord line word) = line_message line (codes "fault ") (line_fault_number UnknownWord)
 error_message file (error.FromPassword line) = line_message line (codes "fault ") (line_fault_number WordCount)
 error_message file (error.AsksForHelp line) = line_message line (codes "fault ") (line_fault_number UnknownWord)
 error_message file (error.LineRefused line code) = line_message line (codes "refused ") (code_number code)
-error_message file (error.NoSuchFile source) = file_message file (codes "no such file")
-error_message file (error.OtherType kind source) = file_message file (codes "no such file")
-error_message file error.TypedName = file_message file (codes "cannot write")
-error_message file error.FileTooLarge = file_message file (codes "file too large")
-error_message file error.FileNotRead = file_message file (codes "cannot read")
-error_message file error.FileNotWritten = file_message file (codes "cannot write")
-error_message file (error.NotAKeytab why) = file_number_message file (codes "not a keytab (") (open_fault_number why.fault) (codes ")")
-error_message file (error.NotAKeytabToList why) = file_number_message file (codes "not a keytab (") (open_fault_number why.fault) (codes ")")
-error_message file (error.NotACache why) = file_number_message file (codes "not a cache (") (cache_fault_number why.fault) (codes ")")
-error_message file (error.NotACacheToHold why) = file_number_message file (codes "not a cache (") (cache_fault_number why.fault) (codes ")")
-error_message file (error.Refused kind code) = file_number_message file (codes "refused ") (code_number code) []
-error_message file error.NothingToCopy = file_number_message file (codes "refused ") (code_number NotFound) []
 error_message file (error.NothingSelected kind) = message (codes "refused 9")
 error_message file error.OutputNotWritten = message (codes "cannot write output")
 error_message file error.OutputIsTerminal = message (codes "cannot write output")
 error_message file error.ClockNotRead = message (codes "cannot read the clock")
 error_message file error.NoMemory = message (codes "out of memory")
+error_message file other = file_message file (said_of_file other)
 
 -- the exit status of a run that it ends
 abbrev pub error_status : RunError → ℕ
@@ -163,6 +173,11 @@ Ending = Result Verdict RunError
 abbrev pub is_spent : Ending → Bool
 is_spent (Err error.NoMemory) = true
 is_spent ending = false
+
+-- a file was not read
+abbrev pub is_unread : Ending → Bool
+is_unread (Err error.FileNotRead) = true
+is_unread ending = false
 
 -- the message for the end of a run
 abbrev pub ending_message : List ℕ → Ending → List ℕ

@@ -1,7 +1,7 @@
 //! What a command is, the world that it runs in, and the driver that runs one.
 
 ghost use Rattle.std.specs.Prelude.{◌≡◌, ℕ, List};
-ghost use Rattle.krb_driver.specs.Commands.{EndsBefore, EndsCommand, Finishes, Prints, Runs, Settles, ShowsEnd, made_effect, ready_end, told_of, Effect, Page, about, is_save};
+ghost use Rattle.krb_driver.specs.Commands.{EndsCommand, Finishes, Runs, Settles, ShowsEnd, made_effect, ready_end, told_of, Effect, Page, about, is_save};
 
 use crate::error::{RunError, is_spent};
 use crate::file_name::FileName;
@@ -9,7 +9,7 @@ use crate::opening::release;
 use crate::reporting::details::{Details, details_of};
 use crate::reporting::{ErrorOutput, report, show};
 use crate::verdict::Verdict;
-use krb_files::{Cause, Files, Watched, WatchedReader};
+use krb_files::{Files, Watched, WatchedReader};
 use krb_wire::NoMemory;
 use std::alloc::Allocator;
 use std::io::{Read, Write};
@@ -280,29 +280,4 @@ pub fn run<A: Allocator + Copy, C: Command<A>, F: Files, R: Read, W: Write, E: W
     ensures { Runs F.Files (C.plan command.now) (C.fairly command.now) world.old world.new result }
 {
     run_to_end(alloc, command, world).status
-}
-
-/// Prints a text, without a file, and reports how that ended. Returns the exit status.
-pub fn print<F: Files, R: Read, W: Write, E: Write>(
-    text: &[u8],
-    ending: Result<Verdict, RunError>,
-    world: &mut World<F, R, W, E>,
-) -> u8
-    ensures { Prints F.Files world.old world.new result (record { out = text.now; ending = ending }) }
-{
-    let ending = show(text, ending, &mut world.out);
-    let details = Details::unsaved(world.out.cause());
-    report(ending, b"", None, details, &mut world.err)
-}
-
-/// Ends a run, before it does anything, with an error that has that cause. Returns the exit status.
-pub fn end_before<F: Files, R: Read, W: Write, E: Write>(
-    error: RunError,
-    cause: Option<Cause>,
-    world: &mut World<F, R, W, E>,
-) -> u8
-    ensures { EndsBefore F.Files world.old world.new result error }
-{
-    let details = Details::unsaved(cause);
-    report(Err(error), b"", None, details, &mut world.err)
 }

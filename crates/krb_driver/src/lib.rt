@@ -11,11 +11,9 @@ mod opening;
 mod reporting;
 mod several;
 mod verdict;
+mod without_files;
 
-pub use command::{
-    Command, FileError, Made, MakeResult, Output, RunEnd, Show, World, end_before, finish, print,
-    run,
-};
+pub use command::{Command, FileError, Made, MakeResult, Output, RunEnd, Show, World, finish, run};
 pub use command_line::matches::{Matches, first_value, refuse_twice, times_given, typed, v1_order};
 pub use command_line::mistake::{BadLine, Mistake, More, WordFault};
 pub use command_line::spelled::{
@@ -30,10 +28,11 @@ pub use loading::{
 };
 pub use opening::{
     give_cache, give_or_empty, hold, hold_if, open_cache, open_keytab, open_listed, open_whole,
-    open_whole_or_empty, open_writable, other_type, release,
+    open_whole_or_empty, open_writable, other_type, release, try_keytab,
 };
 pub use reporting::details::{Details, details_of};
 pub use reporting::reported::replied_verdict;
-pub use reporting::{ErrorOutput, report, report_word_fault, show};
+pub use reporting::{ErrorOutput, append_said, report, report_word_fault, show};
 pub use several::{OverFiles, Ran, label_of, run_over};
 pub use verdict::{FileKind, Findings, Verdict};
+pub use without_files::{end_before, print};

@@ -2,8 +2,8 @@
 
 ghost use Rattle.std.specs.Prelude.{◌≡◌, false, is_some, None, Some};
 ghost use Rattle.krb_driver.specs.declared.error.RunError.TheVariants.{OtherType, Refused};
-ghost use Rattle.krb_driver.specs.Commands.{GivesOf, Opens, opened, HoldsIf, can_hold};
-ghost use Rattle.krb_driver.specs.Loading.{cache_of, cache_refusal, fresh_in, keytab_in, keytab_or_empty, keytab_refusal, listed_in, unless_refused, whole_in, whole_or_empty, writable_in};
+ghost use Rattle.krb_driver.specs.Commands.{GivesOf, Opens, Tries, opened, HoldsIf, can_hold};
+ghost use Rattle.krb_driver.specs.Loading.{cache_of, cache_refusal, fresh_in, keytab_in, keytab_or_empty, keytab_refusal, listed_in, result_map, unless_refused, whole_in, whole_or_empty, writable_in};
 ghost use Rattle.krb_files.specs.Loading.{TurnsHold};
 ghost use Rattle.krb_files.specs.Plan.{HeldIf};
 
@@ -58,6 +58,21 @@ pub fn open_keytab<'a, A: Allocator, F: Files>(
     ensures { Opens F.Files files.old file.entry (keytab_in v1_order) (opened (λ k. k.state) result) files.new }
 {
     give_keytab(alloc, v1_order, files, file)
+}
+
+/// Tries to open the keytab of a file, for a command that goes on with the error too.
+pub fn try_keytab<A: Allocator, F: Files>(
+    alloc: A,
+    v1_order: Order,
+    files: &mut F,
+    file: FileName<'_>,
+) -> Result<Keytab<A>, RunError>
+    ensures { Tries F.Files files.old file.entry (keytab_in v1_order) (result_map (λ k. k.state) result) files.new }
+{
+    match give_keytab(alloc, v1_order, files, file) {
+        Ok(keytab) => Ok(keytab),
+        Err(met) => Err(met.error),
+    }
 }
 
 // Loads the keytab of a file to list.

@@ -10,25 +10,21 @@ mod name_words;
 mod operand;
 mod piece;
 pub(crate) mod reported;
+mod said;
 mod words;
 mod writing;
 
-ghost use Rattle.std.specs.Prelude.{◌≡◌, IsFalse, codes};
-ghost use Rattle.krb_keytab.specs.Open.{open_fault_number};
-ghost use Rattle.krb_ccache.specs.Open.{open_fault_number as cache_fault_number};
-ghost use Rattle.krb_driver.specs.Messages.{file_number_message, pieces_text};
+ghost use Rattle.std.specs.Prelude.{◌≡◌, IsFalse};
+ghost use Rattle.krb_driver.specs.Messages.{pieces_text};
 ghost use Rattle.krb_driver.specs.Runs.{Writes, Shows, Reports, aftermath_text, ending_text, words_if, Adds};
 ghost use Rattle.krb_driver.specs.RunErrors.{ending_message, error_message, verdict_message};
 ghost use Rattle.krb_driver.specs.EndingWords.{ending_words};
 
 use crate::error::{RunError, end_status};
-use crate::loading::{NotCache, NotKeytab};
 use crate::reporting::details::Details;
 use crate::reporting::ending_words::add_ending_words;
-use crate::reporting::lines::{
-    Line, aftermath_line, file_message, file_number_message, is_message, line_message, message,
-    nothing,
-};
+use crate::reporting::lines::{Line, aftermath_line, is_message, line_message, message, nothing};
+use crate::reporting::said::{Said, said_message};
 use crate::reporting::writing::{Gathered, add_pieces, send};
 use crate::verdict::Verdict;
 use arrayvec::ArrayVec;
@@ -36,6 +32,7 @@ use krb_files::{Aftermath, Watched, put};
 use krb_text::LineFault;
 use krb_walk::Code;
 pub use mistake_words::report_word_fault;
+pub use said::append_said;
 use std::io::Write;
 use std::marker::Model;
 
@@ -66,22 +63,6 @@ pub fn show<W: Write>(
     ending
 }
 
-// Returns the message for a file that is not a keytab.
-fn not_keytab_message(file: &[u8], why: NotKeytab) -> Line<'_>
-    ensures { pieces_text result ≡ file_number_message file.now
-        (codes "not a keytab (") (open_fault_number why.fault) (codes ")") }
-{
-    file_number_message(file, "not a keytab (", why.fault.number(), ")")
-}
-
-// Returns the message for a file that is not a cache.
-fn not_cache_message(file: &[u8], why: NotCache) -> Line<'_>
-    ensures { pieces_text result ≡ file_number_message file.now
-        (codes "not a cache (") (cache_fault_number why.fault) (codes ")") }
-{
-    file_number_message(file, "not a cache (", why.fault.number(), ")")
-}
-
 // Returns the message for an error that ended a run.
 fn error_message(error: RunError, file: &[u8]) -> Line<'_>
     ensures { pieces_text result ≡ error_message file.now error }
@@ -90,9 +71,6 @@ fn error_message(error: RunError, file: &[u8]) -> Line<'_>
         RunError::InputTooLarge => message("input too large"),
         RunError::InputNotRead => message("cannot read input"),
         RunError::InputNotWhole => message("input is not whole"),
-        RunError::DamagedInput(_) => {
-            file_number_message(file, "refused ", Code::Damaged.number(), "")
-        }
         RunError::FaultyLine { line, fault } => line_message(line, "fault ", fault.number()),
         RunError::FromPassword { line } => {
             line_message(line, "fault ", LineFault::WordCount.number())
@@ -101,22 +79,11 @@ fn error_message(error: RunError, file: &[u8]) -> Line<'_>
             line_message(line, "fault ", LineFault::UnknownWord.number())
         }
         RunError::LineRefused { line, code } => line_message(line, "refused ", code.number()),
-        RunError::NoSuchFile(_) | RunError::OtherType(..) => file_message(file, "no such file"),
-        RunError::FileTooLarge => file_message(file, "file too large"),
-        RunError::FileNotRead => file_message(file, "cannot read"),
-        RunError::FileNotWritten | RunError::TypedName => file_message(file, "cannot write"),
-        RunError::NotAKeytab(why) => not_keytab_message(file, why),
-        RunError::NotAKeytabToList(why) => not_keytab_message(file, why),
-        RunError::NotACache(why) => not_cache_message(file, why),
-        RunError::NotACacheToHold(why) => not_cache_message(file, why),
-        RunError::Refused(_, code) => file_number_message(file, "refused ", code.number(), ""),
-        RunError::NothingToCopy => {
-            file_number_message(file, "refused ", Code::NotFound.number(), "")
-        }
         RunError::NothingSelected(_) => message("refused 9"),
         RunError::OutputNotWritten | RunError::OutputIsTerminal => message("cannot write output"),
         RunError::ClockNotRead => message("cannot read the clock"),
         RunError::NoMemory => message("out of memory"),
+        error => said_message(file, Said::of(error)),
     }
 }
 
@@ -125,9 +92,7 @@ fn verdict_message(verdict: Verdict, file: &[u8]) -> Line<'_>
     ensures { pieces_text result ≡ verdict_message file.now verdict }
 {
     match verdict {
-        Verdict::NothingToRemove(_) => {
-            file_number_message(file, "refused ", Code::NotFound.number(), "")
-        }
+        Verdict::NothingToRemove(_) => said_message(file, Said::refused(Code::NotFound)),
         _ => nothing(),
     }
 }

@@ -1,6 +1,6 @@
 //! Runs of one command over several files, one after the other.
 
-ghost use Rattle.std.specs.Prelude.{◌≡◌, IfOk};
+ghost use Rattle.std.specs.Prelude.{◌≡◌, IfOk, max};
 ghost use Rattle.krb_driver.specs.Commands.{EndsCommand, any};
 ghost use Rattle.krb_driver.specs.Several.{RunsOver, first_round, is_last, label_of};
 
@@ -55,6 +55,19 @@ pub struct Ran<S: Copy> {
     pub status: u8,
 }
 
+impl<S: Copy> Ran<S> {
+    // Returns what they came to after one more, which ended with that status and left that to remember.
+    fn with(self, state: S, status: u8) -> Ran<S>
+        ensures state { result.state ≡ state }
+        ensures status { result.status ≡ max self.status status }
+    {
+        Ran {
+            state,
+            status: self.status.max(status),
+        }
+    }
+}
+
 // Returns whether no file comes after a run that ended so: memory ran out, or the output failed.
 fn is_last(ending: &Result<Verdict, RunError>) -> bool
     ensures { result ≡ is_last ending.now }
@@ -93,10 +106,7 @@ pub fn run_over<A: Allocator + Copy, C: OverFiles<A>, F: Files, R: Read, W: Writ
     };
     'names: for file in names {
         let end = run_file(alloc, command, ran.state, *file, world);
-        ran = Ran {
-            state: C::after(ran.state, end),
-            status: ran.status.max(end.status),
-        };
+        ran = ran.with(C::after(ran.state, end), end.status);
         if is_last(&end.ending) {
             return ran;
         }

@@ -4,6 +4,7 @@ ghost use Rattle.std.specs.Prelude.{◌≡◌};
 ghost use Rattle.krb_driver.specs.RunErrors.{hiding, verdict_status};
 
 use crate::reporting::reported::Reported;
+use krb_audit::{FindingSet, WeakEtypes};
 use krb_walk::Fault;
 use krb_wire::Order;
 
@@ -14,12 +15,12 @@ pub enum FileKind {
     Cache,
 }
 
-/// What was found about a keytab: which words are to be explained, which weak enctypes its entries have, the fault,
+/// What was found about a keytab: which findings are to be explained, which weak enctypes its entries have, the fault,
 /// whether something is wrong, and in which order a keytab of version 1 was read.
 #[derive(Clone, Copy)]
 pub struct Findings {
-    pub words: krb_audit::FindingWords,
-    pub weak_etypes: krb_audit::WeakEtypes,
+    pub words: FindingSet,
+    pub weak_etypes: WeakEtypes,
     pub fault: Option<Fault>,
     pub is_wrong: bool,
     pub v1_order: Order,
@@ -43,6 +44,8 @@ pub enum Verdict {
     NothingToRemove(FileKind),
     /// The same, of one of several files, which is told at their end.
     Without,
+    /// Two keytabs do not have the same keys.
+    Differ,
     /// An entry to copy has the name, kvno and enctype of one that is there, with another key.
     Clashed,
 }

@@ -190,7 +190,7 @@ final_report awaiting run = report_of (final_prompt awaiting run.ending) [] None
 -- what an effect prints, and how it ends, if no call fails
 abbrev pub run_of : Effect → Run
 run_of (Fails file why) = ends_by why
-run_of (Displays file page) = record { out = page.out; ending = Ok page.verdict }
+run_of (Displays file page) = record { out = page.out; ending = page.ending }
 run_of (Saves file bytes out verdict) = record { out = out; ending = Ok verdict }
 
 -- the report of a line's effect after its prompt

@@ -26,6 +26,8 @@ pub enum Mistake<'a> {
     ForKeytabs(&'a str),
     /// An option that goes with another one only.
     OnlyWith(&'a str, &'a str),
+    /// An option that goes with another one that is given once.
+    OnlyWithOne(&'a str, &'a str),
     NoVersion(&'a str),
     NoEtype(&'a str),
     NoTime(&'a str),

@@ -9,8 +9,6 @@ pub enum Word {
     Valued(&'static str, char, &'static str, &'static str),
     LongValued(&'static str, &'static str, &'static str),
     Operand(&'static str, &'static str),
-    /// It may be left out.
-    OptionalOperand(&'static str, &'static str),
     /// It may be left out, and given as often as wanted.
     Operands(&'static str, &'static str),
     /// It is given at least once.
@@ -25,6 +23,7 @@ pub enum CommandName {
     Ktfind,
     Ktremove,
     Ktcopy,
+    Ktdiff,
     Ktcheck,
     Ccedit,
     Ccremove,

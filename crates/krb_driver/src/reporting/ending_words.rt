@@ -1,10 +1,11 @@
 //! The words that explain how a run ended.
 
-ghost use Rattle.std.specs.Prelude.{◌≡◌, [], if◌then◌else◌};
-ghost use Rattle.krb_driver.specs.EndingWords.{ending_words, itemized_words, failure_words, hidden_words_of, reported_words, found_fault_words, found_words, word_lines};
+ghost use Rattle.std.specs.Prelude.{◌≡◌};
+ghost use Rattle.krb_driver.specs.EndingWords.{ending_words, itemized_words, failure_words, hidden_words_of, reported_words, found_fault_words, found_words, word_line};
+ghost use Rattle.krb_audit.specs.declared.finding.TheConstants.{FINDINGS};
 ghost use Rattle.krb_driver.specs.Runs.{Adds};
 ghost use Rattle.std.specs.List.{flat_map};
-ghost use Rattle.krb_driver.specs.Messages.{pieces_text, piece_text};
+ghost use Rattle.krb_driver.specs.Messages.{pieces_text};
 
 use crate::error::RunError;
 use crate::reporting::details::Details;
@@ -12,12 +13,12 @@ use crate::reporting::hints::add_hints;
 use crate::reporting::lines::{Line, nothing, numbered_line};
 use crate::reporting::name_words::hidden_words;
 use crate::reporting::piece::MessagePiece::{self, Text};
-use crate::reporting::piece::NONE;
+use crate::reporting::piece::{END, NONE};
 use crate::reporting::reported::{Failure, Reported};
 use crate::reporting::words::{error_words, listed_words, refusal_phrase, verdict_words};
 use crate::reporting::writing::{Gathered, add_pieces};
 use crate::verdict::{FileKind, Findings, Verdict};
-use krb_audit::FindingWords;
+use krb_audit::{FINDINGS, Finding, FindingSet};
 use krb_files::Watched;
 use krb_walk::Fault;
 use std::io::Write;
@@ -105,35 +106,29 @@ pub fn add_replies<E: Write>(
     add_pieces(&hidden_words_of(file, reported.hidden_from), gathered, err);
 }
 
-// Returns a line if its word was printed, else nothing.
-fn line_if(is_printed: bool, line: &'static str) -> MessagePiece<'static>
-    ensures { piece_text result ≡ (if is_printed then line.now else []) }
+// Returns the line for a finding, if it is to be explained.
+fn word_line(explained: FindingSet, finding: Finding) -> [MessagePiece<'static>; 5]
+    ensures { pieces_text result ≡ word_line explained finding }
 {
-    if is_printed { Text(line) } else { NONE }
+    if !explained.has(finding) {
+        return [NONE; 5];
+    }
+    let row = finding.row();
+    [
+        Text("krbfile: "),
+        Text(row.word),
+        Text(": "),
+        Text(row.phrase),
+        END,
+    ]
 }
 
-// The lines that explain the words of findings, in their order.
-const LINES: [&str; 6] = [
-    "krbfile: weak: an encryption type that MIT calls weak or deprecated\n",
-    "krbfile: hidden: MIT's programs see no entry from this one on\n",
-    "krbfile: same: this key stands there twice\n",
-    "krbfile: clash: two keys for one name, version and type\n",
-    "krbfile: old: a newer version of this name stands there\n",
-    "krbfile: mode: users other than the owner may read or change this file\n",
-];
-
-// Returns a line for each word that was printed.
-fn word_lines(reported: FindingWords) -> [MessagePiece<'static>; 6]
-    ensures { pieces_text result ≡ word_lines reported }
+fn add_word_lines<E: Write>(explained: FindingSet, gathered: &mut Gathered, err: &mut Watched<E>)
+    ensures { Adds err.old gathered.old.items err.new gathered.new.items (flat_map (word_line explained) FINDINGS) }
 {
-    [
-        line_if(reported.weak, LINES[0]),
-        line_if(reported.hidden, LINES[1]),
-        line_if(reported.same, LINES[2]),
-        line_if(reported.clash, LINES[3]),
-        line_if(reported.old, LINES[4]),
-        line_if(reported.mode, LINES[5]),
-    ]
+    'findings: for finding in &FINDINGS {
+        add_pieces(&word_line(explained, *finding), gathered, err);
+    }
 }
 
 // Returns the words for the fault that was found, if any.
@@ -155,7 +150,7 @@ pub fn add_findings<E: Write>(
 )
     ensures { Adds err.old gathered.old.items err.new gathered.new.items (found_words file.now findings.now) }
 {
-    add_pieces(&word_lines(findings.words), gathered, err);
+    add_word_lines(findings.words, gathered, err);
     add_pieces(&fault_words(file, findings.fault), gathered, err);
     add_hints(findings, file, gathered, err);
 }

@@ -11,6 +11,7 @@ use crate::reporting::piece::MessagePiece::{self, Number, Text};
 use crate::reporting::piece::{END, NONE};
 use crate::reporting::writing::{Gathered, add_pieces};
 use crate::verdict::Findings;
+use krb_audit::Finding;
 use krb_files::Watched;
 use krb_text::etype_name;
 use krb_wire::Order;
@@ -112,7 +113,7 @@ fn add_weak_hint<E: Write>(
 )
     ensures { Adds err.old gathered.old.items err.new gathered.new.items (weak_hint findings.now operand.now) }
 {
-    if !findings.words.weak {
+    if !findings.words.has(Finding::Weak) {
         return;
     }
     add_pieces(&remove_command(findings.v1_order), gathered, err);
@@ -132,9 +133,17 @@ fn add_hints_for<E: Write>(
     let order = findings.v1_order;
     let old = hint(TO_REMOVE, order, " -n -k old --age 86400 ", operand, "\n");
     let same = hint(TO_COPY, order, " ", operand, " NEW\n");
-    add_pieces(&hint_if(findings.words.old, old), gathered, err);
+    add_pieces(
+        &hint_if(findings.words.has(Finding::Old), old),
+        gathered,
+        err,
+    );
     add_weak_hint(findings, operand, gathered, err);
-    add_pieces(&hint_if(findings.words.same, same), gathered, err);
+    add_pieces(
+        &hint_if(findings.words.has(Finding::Same), same),
+        gathered,
+        err,
+    );
 }
 
 /// Adds the hints for findings about a file, unless its name is too long for them, or shells read it in more than one way.

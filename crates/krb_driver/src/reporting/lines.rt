@@ -1,11 +1,12 @@
 //! Lines for the error output, made of pieces.
 
 ghost use Rattle.std.specs.Prelude.{◌≡◌, [], ◌++◌, codes};
-ghost use Rattle.krb_driver.specs.Messages.{file_message, file_number_message, line_message, message, numbered_line, phrase_line, words_line, piece_text, pieces_text};
+ghost use Rattle.krb_driver.specs.Messages.{line_message, message, numbered_line, phrase_line, words_line, piece_text, pieces_text};
 ghost use Rattle.krb_driver.specs.Runs.{aftermath_line, is_message};
 
-use crate::reporting::piece::MessagePiece::{self, Name, Number, Text};
+use crate::reporting::piece::MessagePiece::{self, Number, Text};
 use crate::reporting::piece::{COLON, END, HEAD, LINE, NONE};
+use crate::reporting::said::{Said, said_message};
 use krb_files::Aftermath;
 
 /// The pieces of a line, or of two. Unused ones are empty.
@@ -32,28 +33,6 @@ pub fn message<'a>(what: &'static str) -> Line<'a>
 {
     let what = Text(what);
     [HEAD, what, END, NONE, NONE, NONE, NONE, NONE, NONE]
-}
-
-/// Returns the message `krbfile: FILE: WHAT`.
-pub fn file_message<'a>(file: &'a [u8], what: &'static str) -> Line<'a>
-    ensures { pieces_text result ≡ file_message file.now what.now }
-{
-    let (file, what) = (Name(file), Text(what));
-    [HEAD, file, COLON, what, END, NONE, NONE, NONE, NONE]
-}
-
-/// Returns the message for a file with a number between two texts.
-pub fn file_number_message<'a>(
-    file: &'a [u8],
-    before: &'static str,
-    number: u32,
-    after: &'static str,
-) -> Line<'a>
-    ensures { pieces_text result ≡ file_number_message file.now before.now number after.now }
-{
-    let (file, number) = (Name(file), Number(u64::from(number)));
-    let (before, after) = (Text(before), Text(after));
-    [HEAD, file, COLON, before, number, after, END, NONE, NONE]
 }
 
 /// Returns the message for a line of the input, with a number at its end.
@@ -120,7 +99,7 @@ pub fn aftermath_line(aftermath: Aftermath, file: &[u8], line: Option<u64>) -> L
 {
     match (line, aftermath) {
         (None, Aftermath::Restored) => phrase(None, Aftermath::Restored.phrase()),
-        (None, aftermath) => file_message(file, aftermath.phrase()),
+        (None, aftermath) => said_message(file, Said::alone(aftermath.phrase())),
         (line, aftermath) => phrase(line, aftermath.phrase()),
     }
 }

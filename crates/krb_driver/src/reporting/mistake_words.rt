@@ -50,18 +50,12 @@ fn quoted<'a>(word: &'a str, verb: &'static str, what: &'static str) -> Line<'a>
     [HEAD, Quoted(word), Text(verb), Text(what), NONE]
 }
 
-// Two options that do not go together.
-fn apart<'a>(option: &'a str, other: &'a str) -> Line<'a>
+// Two options, and a text between them.
+fn between<'a>(option: &'a str, text: &'static str, other: &'a str) -> Line<'a>
     ensures { (rest : List ℕ) → pieces_before result rest
-        ≡ mistake_head ++ (shown_word option.now ++ (codes " does not go with " ++ (shown_word other.now ++ rest))) }
+        ≡ mistake_head ++ (shown_word option.now ++ (text.now ++ (shown_word other.now ++ rest))) }
 {
-    [
-        HEAD,
-        Word(option),
-        Text(" does not go with "),
-        Word(other),
-        NONE,
-    ]
+    [HEAD, Word(option), Text(text), Word(other), NONE]
 }
 
 // An option that goes with another one only.
@@ -93,9 +87,10 @@ fn mistake_pieces(mistake: Mistake<'_>) -> Line<'_>
         Mistake::NeedsValue(option) => after(option, " needs a value"),
         Mistake::Twice(option) => after(option, " is given twice"),
         Mistake::TakesOneFile(option) => after(option, " takes one FILE"),
-        Mistake::DoNotGoTogether(option, other) => apart(option, other),
+        Mistake::DoNotGoTogether(option, other) => between(option, " does not go with ", other),
         Mistake::ForKeytabs(option) => after(option, " is for keytabs; give -k"),
         Mistake::OnlyWith(option, other) => only_with(option, other),
+        Mistake::OnlyWithOne(option, other) => between(option, " goes with one ", other),
         Mistake::NoVersion(kvno) => quoted(kvno, " is no ", "version"),
         Mistake::NoEtype(etype) => quoted(etype, " is no ", "encryption type"),
         Mistake::NoTime(word) => quoted(word, " is no ", "time (90, 15m, 10h, 7d)"),

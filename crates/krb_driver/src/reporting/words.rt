@@ -230,6 +230,10 @@ pub fn verdict_words(verdict: Verdict, file: &[u8], line: Option<u64>) -> Line<'
             "krbfile: --replace takes FROM's key\n",
         ),
         Verdict::Listed(fault) => listed_words(file, fault),
-        Verdict::Well | Verdict::Without | Verdict::Replied(_) | Verdict::Found(_) => nothing(),
+        Verdict::Well
+        | Verdict::Without
+        | Verdict::Differ
+        | Verdict::Replied(_)
+        | Verdict::Found(_) => nothing(),
     }
 }

@@ -1,7 +1,8 @@
+use Rattle.std.proofs.Common.{sym, ◌∙◌}
 use Rattle.krb_driver.proofs.Shown.{Adds-then}
 use Rattle.krb_driver.proofs.reporting.hints.add_weak_hint.Goals as goal
 
 pub returns : goal.returns
 returns g c =
     let whole = Adds-then _ _ _ _ _ _ _ _ (rw c.remove_command.ensures at c.add_pieces.ensures) (Adds-then _ _ _ _ _ _ _ _ c.add_etypes.ensures (rw c.last_of.ensures at c.add_pieces-2.ensures)) in
-    rw c.if-not-findings.false whole
+    rw (sym c.has.ensures ∙ c.if-not-has.false) whole

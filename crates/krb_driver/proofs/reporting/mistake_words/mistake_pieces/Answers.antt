@@ -1,7 +1,7 @@
 use Rattle.krb_driver.proofs.reporting.mistake_words.mistake_pieces.Goals as goal
 
 pub returns-in-DoNotGoTogether : goal.returns-in-DoNotGoTogether
-returns-in-DoNotGoTogether c = λ rest. rw c.in-DoNotGoTogether.is (c.apart.ensures rest)
+returns-in-DoNotGoTogether c = λ rest. rw c.in-DoNotGoTogether.is (c.between.ensures rest)
 
 pub returns-in-ForKeytabs : goal.returns-in-ForKeytabs
 returns-in-ForKeytabs c = λ rest. rw c.in-ForKeytabs.is (c.after-in-ForKeytabs.ensures rest)
@@ -11,6 +11,9 @@ returns-in-BadName c = λ rest. rw (c.in-BadName.is, ← c.phrase.ensures) (c.qu
 
 pub returns-in-OnlyWith : goal.returns-in-OnlyWith
 returns-in-OnlyWith c = λ rest. rw c.in-OnlyWith.is (c.only_with.ensures rest)
+
+pub returns-in-OnlyWithOne : goal.returns-in-OnlyWithOne
+returns-in-OnlyWithOne c = λ rest. rw c.in-OnlyWithOne.is (c.between-in-OnlyWithOne.ensures rest)
 
 pub returns-in-NeedsValue : goal.returns-in-NeedsValue
 returns-in-NeedsValue c = λ rest. rw c.in-NeedsValue.is (c.after.ensures rest)

@@ -1,0 +1,18 @@
+use Rattle.krb_driver.proofs.Cited.{arith, ◌<◌, ◌≤◌, length, take_all}
+use Rattle.krb_audit.specs.declared.finding.TheConstants.{FINDINGS}
+use Rattle.krb_driver.specs.EndingWords.{word_line}
+use Rattle.krb_driver.proofs.Shown.{Adds-none, Adds-piece}
+use Rattle.krb_driver.proofs.reporting.ending_words.add_word_lines.Goals as goal
+
+pub findings-init : goal.findings-init
+findings-init g c = Adds-none _ _
+
+pub findings-preserved : goal.findings-preserved
+findings-preserved g c =
+    let below : c.findings.finding-index < length FINDINGS = omega arith in
+    Adds-piece (word_line c.args.explained) FINDINGS c.findings.finding-index _ _ _ _ _ _ _ below c.findings.invariant (rw c.word_line.ensures at c.add_pieces.ensures)
+
+pub returns : goal.returns
+returns g c =
+    let past : length FINDINGS ≤ c.findings.finding-index = omega arith in
+    rw (take_all _ FINDINGS past) at c.findings.invariant

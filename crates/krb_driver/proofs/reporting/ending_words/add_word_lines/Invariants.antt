@@ -1,0 +1,7 @@
+use Rattle.krb_driver.proofs.Cited.{take, flat_map, Adds}
+use Rattle.krb_audit.specs.declared.finding.TheConstants.{FINDINGS}
+use Rattle.krb_driver.specs.EndingWords.{word_line}
+use Rattle.krb_driver.proofs.reporting.ending_words.add_word_lines.Given as goal
+
+abbrev pub invariant-findings : goal.invariant-findings
+invariant-findings g l = Adds l.initial.err l.initial.gathered.items l.err l.gathered.items (flat_map (word_line l.explained) (take l.finding-index FINDINGS))
