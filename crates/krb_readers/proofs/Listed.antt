@@ -24,7 +24,7 @@ cons-some : (x : ℕ) (xs : List ℕ) → x ∷ xs ≡ [] → ⊥
 cons-some x xs is = false≢true (ap is_none is)
 
 -- nor is a text with an end of line
-line-some : (text : List ℕ) → text ++ codes "\n" ≡ [] → ⊥
+pub line-some : (text : List ℕ) → text ++ codes "\n" ≡ [] → ⊥
 line-some [] is = cons-some 10 [] is
 line-some (x ∷ xs) is = cons-some x (xs ++ codes "\n") is
 
@@ -55,7 +55,7 @@ pub Prints-longer : {T : Type 0} (a b : Watch) (first second : List ℕ) (fault 
 Prints-longer a b first second fault p = record { ok = tt; prefix = AppendsPrefix-longer a.contents b.contents first second p.prefix; failed = p.failed }
 
 -- the whole page was printed
-pub ShowsPage-done : (page : Page) (out out' : Watch) (ending : Ending) → IsFalse out.failed → IsFalse out'.failed → Appends out.contents out'.contents page.out → ending ≡ Ok page.verdict → ShowsPage out out' ending page
+pub ShowsPage-done : (page : Page) (out out' : Watch) (ending : Ending) → IsFalse out.failed → IsFalse out'.failed → Appends out.contents out'.contents page.out → ending ≡ page.ending → ShowsPage out out' ending page
 ShowsPage-done page out out' ending well still appends is = inl (record {
   done = λ _. (appends, is);
   prefix = AppendsPrefix-all out.contents out'.contents page.out appends;

@@ -54,7 +54,7 @@ cache_shown json columns file k = if json then cache_json_text file k else cache
 
 -- the page of what is printed, after others or not; the listing of a damaged file reports the fault
 abbrev pub page : Bool → Bool → List ℕ → Option Fault → Page
-page json is_after shown fault = record { out = gap json is_after ++ shown; verdict = listing_verdict fault; takes = true }
+page json is_after shown fault = record { out = gap json is_after ++ shown; ending = Ok (listing_verdict fault); takes = true }
 
 -- the file is opened as that kind and printed
 abbrev pub listing_plan : ListKind → Bool → Order → Bool → FileName → CommandPlan

@@ -1,97 +1,155 @@
 -- What ktcheck does, and what its words ask for.
-use Rattle.std.specs.Prelude.{ℕ, List, [], length, codes, Bool, not, ◌&&◌, ◌||◌, nat_lt, if◌then◌else◌, Option, is_some, Ok, fold, None, Some}
-use Rattle.krb_walk.specs.Store.{fault_of}
-use Rattle.krb_keytab.specs.Find.{placed_entries}
-use Rattle.krb_keytab.specs.Store.{KeytabState, store_of}
+use Rattle.std.specs.Prelude.{◌≡◌, ℕ, ◌-◌, List, [], length, codes, map, Bool, true, ◌&&◌, ◌||◌, nat_le, nat_lt, if◌then◌else◌, Option, None, Some, is_none, Result, Ok, Err, fold}
+use Rattle.std.specs.List.{find}
+use Rattle.std.specs.Option.{option_map_or, option_or}
+use Rattle.std.specs.Str.{bytes_eq}
+use Rattle.std.specs.Vec.{vec_items}
+use Rattle.krb_keytab.specs.Store.{KeytabState}
 use Rattle.krb_files.specs.declared.files.Files.{Ghosts}
 use Rattle.krb_files.specs.Plan.{Ends}
-use Rattle.krb_audit.specs.declared.finding_words.FindingWords.{FindingWords}
-use Rattle.krb_audit.specs.Findings.{weak_among}
-use Rattle.krb_audit.specs.Report.{has_words, joined, report, without, words_found, words_of, wrong_words}
+use Rattle.krb_audit.specs.declared.finding.Finding.{Finding}
+use Rattle.krb_audit.specs.declared.finding.TheConstants.{FINDINGS}
+use Rattle.krb_audit.specs.declared.finding_set.FindingSet.{FindingSet}
+use Rattle.krb_audit.specs.CheckUp.{CheckParts, checked, findings_of, is_well, is_wrong}
+use Rattle.krb_audit.specs.Report.{report}
+use Rattle.krb_audit.specs.Table.{joined, none, only_if, row_of, without}
+use Rattle.krb_json.specs.Check.{check_json_text, refused_json_text}
 use Rattle.krb_driver.specs.declared.command.RunEnd.{RunEnd}
-use Rattle.krb_driver.specs.declared.file_name.FileName.{FileName}
-use Rattle.krb_driver.specs.declared.verdict.Findings.{Findings}
 use Rattle.krb_driver.specs.declared.command.World.{World}
+use Rattle.krb_driver.specs.declared.error.RunError.{RunError}
+use Rattle.krb_driver.specs.declared.error.RunError.TheVariants.{ClockNotRead, NoMemory}
+use Rattle.krb_driver.specs.declared.file_name.FileName.{FileName}
 use Rattle.krb_driver.specs.declared.verdict.Verdict.{Verdict}
 use Rattle.krb_driver.specs.declared.verdict.Verdict.TheVariants.{Well, Found}
-use Rattle.krb_driver.specs.Commands.{CommandPlan, Displays, Page, opens, text}
+use Rattle.krb_driver.specs.Commands.{CommandPlan, Displays, Effect, EndsBefore, Fails, Page, output_page, text, tries}
 use Rattle.krb_driver.specs.Loading.{keytab_in}
-use Rattle.krb_driver.specs.RunErrors.{Ending}
+use Rattle.krb_driver.specs.Mistakes.{ArePrintedNames, AreSpelledSeconds, Matched, MistakeParts, NoFinding, bad_name, bad_seconds, first_mistake, first_value, twice, v1_order}
+use Rattle.krb_driver.specs.RunErrors.{Ending, error_status, said_of_file, verdict_status}
 use Rattle.krb_driver.specs.Several.{RunsOver, first_round, label_of}
+use Rattle.krb_readers.specs.declared.ktcheck.page.CheckPage.{CheckPage}
+use Rattle.krb_readers.specs.declared.ktcheck.page.CheckPage.TheVariants as page
 use Rattle.krb_readers.specs.declared.ktcheck.words.CheckOptions.{CheckOptions}
-use Rattle.std.specs.Str.{bytes_eq}
-use Rattle.krb_driver.specs.Mistakes.{Matched, v1_order, MistakeParts, NoFinding}
 
 -- ---- a file
 
--- nothing is found about a keytab in a plain file with this mode
-abbrev pub is_well : Option ℕ → KeytabState → Bool
-is_well mode k = not (has_words (words_found mode k) || is_some (fault_of (store_of k)))
+-- the verdict: `Well` if nothing is found; the findings to explain are those that were not explained before, and what is allowed is not wrong
+abbrev pub found_verdict : {A : Type 0} → CheckOptions A → FindingSet → CheckParts → Verdict
+found_verdict o explained c =
+    if is_well c then Well
+    else Found (record { words = without (findings_of c) explained; weak_etypes = c.weak_etypes; fault = c.fault; is_wrong = is_wrong o.allowed c; v1_order = o.v1_order })
 
--- what is printed of it, each line after a label: with `-q` nothing if nothing is found
-abbrev pub printed : CheckOptions → List ℕ → Option ℕ → KeytabState → List ℕ
-printed o label mode k = if o.quiet && is_well mode k then [] else report label mode k
+-- what the lines of a file begin with: its name, if there are several files or the options ask for it
+abbrev pub has_names : {A : Type 0} → CheckOptions A → Bool → Bool
+has_names o are_several = o.with_filename || are_several
 
--- what is found: the words to explain are those that were not explained before, and what is allowed is not wrong
-abbrev pub findings_of : CheckOptions → FindingWords → Option ℕ → KeytabState → Findings
-findings_of o explained mode k = record {
-  words = without (words_found mode k) explained;
-  weak_etypes = weak_among (placed_entries k);
-  fault = fault_of (store_of k);
-  is_wrong = has_words (without (wrong_words mode k) o.allowed) || is_some (fault_of (store_of k));
-  v1_order = o.v1_order;
+-- what is found about a keytab in a plain file with this mode
+abbrev pub found : {A : Type 0} → CheckOptions A → Option ℕ → Option ℕ → KeytabState → CheckParts
+found o aged_by mode k = checked mode aged_by (map vec_items o.wanted.items) k
+
+-- a text, but with `-q` nothing of a file about which nothing is found
+abbrev pub unless_well : Bool → CheckParts → List ℕ → List ℕ
+unless_well quiet c out = if quiet && is_well c then [] else out
+
+-- the page of what is found, by lines
+abbrev pub lines_page : {A : Type 0} → CheckOptions A → Bool → FindingSet → List ℕ → CheckParts → Page
+lines_page o are_several explained file c = text (unless_well o.quiet c (report (label_of (has_names o are_several) file) c)) (found_verdict o explained c)
+
+-- the page of what is found, as one JSON object
+abbrev pub object_page : {A : Type 0} → CheckOptions A → FindingSet → List ℕ → CheckParts → Page
+object_page o explained file c = record {
+  out = unless_well o.quiet c (check_json_text file c (verdict_status (found_verdict o explained c)));
+  ending = Ok (found_verdict o explained c);
+  takes = true;
 }
 
--- the verdict: `Well` if nothing is found
-abbrev pub found_verdict : CheckOptions → FindingWords → Option ℕ → KeytabState → Verdict
-found_verdict o explained mode k = if is_well mode k then Well else Found (findings_of o explained mode k)
+abbrev pub page_of : {A : Type 0} → CheckOptions A → Bool → FindingSet → List ℕ → CheckParts → Page
+page_of o are_several explained file c = if o.json then object_page o explained file c else lines_page o are_several explained file c
 
--- what a file shows
-abbrev pub page_of : CheckOptions → List ℕ → FindingWords → Option ℕ → KeytabState → Page
-page_of o label explained mode k = text (printed o label mode k) (found_verdict o explained mode k)
+-- the page of a file that gave no keytab
+abbrev pub refused_page : List ℕ → RunError → Page
+refused_page file why = record { out = refused_json_text file (said_of_file why) (error_status why); ending = Err why; takes = true }
 
--- a file is opened, and what is found about its keytab is printed
-abbrev pub plan_of : CheckOptions → Bool → FindingWords → FileName → Option ℕ → CommandPlan
-plan_of o are_several explained file mode =
-    opens file (keytab_in o.v1_order) (λ k. Ends (Displays file.name.now (page_of o (label_of are_several file.name.now) explained mode k)))
+-- the effect of an error: JSON has an object for the file, unless memory ran out
+abbrev pub refused_effect : Bool → List ℕ → RunError → Effect
+refused_effect json file NoMemory = Fails file NoMemory
+refused_effect json file why = if json then Displays file (refused_page file why) else Fails file why
+
+-- the page that a file shows, in code
+abbrev pub check_page : {A B : Type 0} → CheckPage A B → List ℕ → Page
+check_page (page.Lines output) file = output_page output
+check_page (page.Object j) file = object_page j.options.now j.explained file (found j.options.now j.aged_by j.mode j.keytab.state)
+check_page (page.Refused why) file = refused_page file why
+
+-- a file is tried, and what is found about its keytab is shown
+abbrev pub plan_of : {A : Type 0} → CheckOptions A → Option ℕ → Bool → FindingSet → FileName → Option ℕ → CommandPlan
+plan_of o aged_by are_several explained file mode =
+    tries file (keytab_in o.v1_order)
+    (λ k. Ends (Displays file.name.now (page_of o are_several explained file.name.now (found o aged_by mode k))))
+    (λ why. Ends (refused_effect o.json file.name.now why))
 
 -- ---- several files
 
 -- the findings that the end of a file's check explains
-abbrev pub explained_by : Ending → FindingWords
+abbrev pub explained_by : Ending → FindingSet
 explained_by (Ok (Found findings)) = findings.words
-explained_by ending = words_of []
+explained_by ending = none
 
 -- the findings that were explained once a file's check has ended so
-abbrev pub explained_after : FindingWords → RunEnd → FindingWords
+abbrev pub explained_after : FindingSet → RunEnd → FindingSet
 explained_after explained end = joined explained (explained_by end.ending)
 
--- a run over files: it ends with the greatest status
-pub record ChecksAll {F R W E : Type 0} (trait : Ghosts F) (o : CheckOptions) (old new : World F R W E) (status : ℕ) (names : List FileName) : Type 0 where
-  pub explained : FindingWords
-  pub over : RunsOver trait (plan_of o (nat_lt 1 (length names))) explained_after names (first_round (words_of []) old) (record { world = new; state = explained; status = status })
+-- the second by which an entry is aged, if an age is given and the clock is not below it
+abbrev pub aged_by : Option ℕ → Option ℕ → Result (Option ℕ) RunError
+aged_by None now = Ok None
+aged_by (Some seconds) None = Err ClockNotRead
+aged_by (Some seconds) (Some now) = Ok (if nat_le seconds now then Some (now - seconds) else None)
+
+module _ {A F R W E : Type 0} (trait : Ghosts F) (o : CheckOptions A) (old new : World F R W E) (status : ℕ) (names : List FileName) where
+  -- a run over files; it ends with the greatest status
+  pub record ChecksBy (by : Option ℕ) : Type 0 where
+    pub explained : FindingSet
+    pub over : RunsOver trait (plan_of o by (nat_lt 1 (length names))) explained_after names (first_round none old) (record { world = new; state = explained; status = status })
+
+  -- the same, unless the clock is needed and was not read
+  abbrev pub ChecksWith : Result (Option ℕ) RunError → Type 0
+  ChecksWith (Ok by) = ChecksBy by
+  ChecksWith (Err why) = EndsBefore trait old new status why
+
+-- files are checked at that time
+abbrev pub ChecksAll : {A F R W E : Type 0} → Ghosts F → CheckOptions A → Option ℕ → World F R W E → World F R W E → ℕ → List FileName → Type 0
+ChecksAll trait o now old new status names = ChecksWith trait o old new status names (aged_by o.older now)
 
 -- ---- what the words of ktcheck ask for
 
--- the finding of that name, if there is one
-abbrev pub finding : List ℕ → FindingWords
-finding word = record {
-  weak = bytes_eq word (codes "weak");
-  hidden = bytes_eq word (codes "hidden");
-  same = bytes_eq word (codes "same");
-  clash = bytes_eq word (codes "clash");
-  old = bytes_eq word (codes "old");
-  mode = bytes_eq word (codes "mode");
-}
+-- the finding with that word
+abbrev pub finding : List ℕ → Option Finding
+finding word = find (λ f. bytes_eq (row_of f).word word) FINDINGS
 
 -- the mistake in a word that is no finding
 abbrev pub bad_finding : List ℕ → Option MistakeParts
-bad_finding word = if has_words (finding word) then None else Some (NoFinding word)
+bad_finding word = if is_none (finding word) then Some (NoFinding word) else None
 
--- the findings of those names
-abbrev pub findings : List (List ℕ) → FindingWords
-findings words = fold (λ found word. joined found (finding word)) (words_of []) words
+-- the same, as a set
+abbrev pub finding_set : List ℕ → FindingSet
+finding_set word = option_map_or (only_if true) (finding word) none
 
--- the options of ktcheck
-abbrev pub check_options : Matched → CheckOptions
-check_options words = record { v1_order = v1_order words; quiet = words.flag (codes "quiet"); allowed = findings (words.values (codes "allow")) }
+-- the findings of those words
+abbrev pub findings : List (List ℕ) → FindingSet
+findings words = fold (λ found word. joined found (finding_set word)) none words
+
+-- the first mistake: an age is given twice, or in a finding that is allowed, the age, and a name that has to be there
+abbrev pub check_mistake : Matched → Option MistakeParts
+check_mistake words =
+    option_or (twice words (codes "older") (codes "--older") (codes "--older"))
+    (option_or (first_mistake bad_finding (words.values (codes "allow")))
+    (option_or (bad_seconds (first_value words (codes "older"))) (first_mistake bad_name (words.values (codes "want")))))
+
+-- each option is what its own word spells
+pub record SpellsCheck {A : Type 0} (words : Matched) (o : CheckOptions A) : Type 0 where
+  pub v1_order : o.v1_order ≡ v1_order words
+  pub quiet : o.quiet ≡ words.flag (codes "quiet")
+  pub json : o.json ≡ words.flag (codes "json")
+  pub with_filename : o.with_filename ≡ words.flag (codes "with-filename")
+  pub allowed : o.allowed ≡ findings (words.values (codes "allow"))
+  pub older : AreSpelledSeconds (first_value words (codes "older")) o.older
+  pub wanted : ArePrintedNames (words.values (codes "want")) o.wanted

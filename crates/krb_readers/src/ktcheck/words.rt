@@ -1,29 +1,30 @@
 //! The words of ktcheck, and its options.
 
-ghost use Rattle.std.specs.Prelude.{◌≡◌, codes, map};
-ghost use Rattle.krb_readers.specs.Ktcheck.{bad_finding, check_options, finding, findings};
-ghost use Rattle.krb_driver.specs.Mistakes.{first_mistake, Spells};
+ghost use Rattle.std.specs.Prelude.{◌≡◌, map};
+ghost use Rattle.krb_readers.specs.Ktcheck.{SpellsCheck, bad_finding, check_mistake, finding_set, findings};
+ghost use Rattle.krb_driver.specs.Mistakes.{first_mistake, Reads, Spells};
 
-use krb_audit::FindingWords;
-use krb_driver::{CommandName, CommandWords, Matches, Mistake, V1_BIG, Word, v1_order};
+use krb_audit::{Finding, FindingSet};
+use krb_driver::{
+    CommandName, CommandWords, Matches, Mistake, V1_BIG, Word, WordFault, refuse_twice,
+    spelled_names, spelled_seconds, v1_order,
+};
 use krb_wire::Order;
+use std::alloc::{Allocator, Global};
 
 /// The words of ktcheck.
 pub const KTCHECK: CommandWords = CommandWords {
     command: CommandName::Ktcheck,
     name: "ktcheck",
     about: "Tells what is wrong with keytabs",
-    usage: "krbfile ktcheck [--v1-big] [-q] [--allow WORD].. [FILE..]",
+    usage: "\
+krbfile ktcheck [--v1-big] [-q] [-H] [--json] [--allow WORD].. [--older SECONDS]
+                       [--want NAME].. [FILE..]",
     after_help: Some(
         "\
 Without FILE it checks the keytab that KRB5_KTNAME names, else /etc/krb5.keytab.
 Findings, a line each. The status is 1 for all but old, and for mode if any user may read or write:
-  mode      Users other than the owner may read or change the file
-  weak      An encryption type that MIT calls weak or deprecated
-  hidden    MIT's programs see no entry from this one on
-  same      The same key of a name, version and type twice
-  clash     Two keys of a name, version and type
-  old       There is a newer version of the name
+{findings}
 Statuses:
   0  Nothing is wrong but what is allowed
   1  Something is wrong, or a file is missing, too large or no keytab
@@ -35,67 +36,92 @@ Example: what is wrong with keytabs, where weak keys are wanted
     ),
     words: &[
         V1_BIG,
-        Word::Flag("quiet", 'q', "Print no counts of a file without findings"),
+        Word::Flag("quiet", 'q', "Print nothing of a file without findings"),
+        Word::Flag(
+            "with-filename",
+            'H',
+            "Begin lines with the name of the file, of one too",
+        ),
+        Word::LongFlag("json", "Print each file as one JSON object"),
         Word::LongValued(
             "allow",
             "WORD",
-            "Findings that do not count for the status: weak, hidden, same, clash, old or mode; may be repeated",
+            "Findings that do not count for the status, by their words; may be repeated",
+        ),
+        Word::LongValued(
+            "older",
+            "SECONDS",
+            "Find keys that are not old and have that age: seconds, or 15m, 10h, 7d",
+        ),
+        Word::LongValued(
+            "want",
+            "NAME",
+            "Find that a name with its realm has no entry; may be repeated",
         ),
         Word::Operands("FILE", "The files to check"),
     ],
 };
 
 /// What ktcheck is asked for.
-#[derive(Clone, Copy)]
-pub struct CheckOptions {
+#[derive(Drop)]
+pub struct CheckOptions<A: Allocator> {
     /// The byte order of version 1 keytabs.
     pub v1_order: Order,
-    /// Print no counts of a file without findings.
+    /// Print nothing of a file about which nothing is found.
     pub quiet: bool,
+    /// Print each file as one JSON object.
+    pub json: bool,
+    /// Lines begin with the name of their file, of one file too.
+    pub with_filename: bool,
     /// The findings that do not count for the status.
-    pub allowed: FindingWords,
+    pub allowed: FindingSet,
+    /// An entry that is not old is aged if it has that many seconds.
+    pub older: Option<u32>,
+    /// The names that have to be there, as they are printed.
+    pub wanted: Vec<Vec<u8, A>, A>,
 }
 
-// Returns the finding of that name.
-fn finding<'a>(word: &'a str) -> Result<FindingWords, Mistake<'a>>
-    ensures { Spells (bad_finding word.now) (λ found. found ≡ finding word.now) result }
+// Returns the finding with that word.
+fn finding<'a>(word: &'a str) -> Result<FindingSet, Mistake<'a>>
+    ensures { Spells (bad_finding word.now) (λ found. found ≡ finding_set word.now) result }
 {
-    let finding = FindingWords {
-        weak: word == "weak",
-        hidden: word == "hidden",
-        same: word == "same",
-        clash: word == "clash",
-        old: word == "old",
-        mode: word == "mode",
-    };
-    if finding.has_some() {
-        Ok(finding)
-    } else {
-        Err(Mistake::NoFinding(word))
+    match Finding::named(word) {
+        Some(finding) => Ok(FindingSet::only_if(true, finding)),
+        None => Err(Mistake::NoFinding(word)),
     }
 }
 
-// Returns the findings of those names.
-fn findings<'a>(words: &[&'a str]) -> Result<FindingWords, Mistake<'a>>
+// Returns the findings with those words.
+fn findings<'a>(words: &[&'a str]) -> Result<FindingSet, Mistake<'a>>
     ensures { Spells (first_mistake bad_finding (map (λ word. word.now) words.now))
         (λ found. found ≡ findings (map (λ word. word.now) words.now)) result }
 {
-    let mut findings = FindingWords::none();
+    let mut findings = FindingSet::none();
     'words: for word in words {
         findings = findings.and(finding(word)?);
     }
     Ok(findings)
 }
 
-/// Returns the options of ktcheck. Refuses a word that is no finding.
-pub fn check_options<'a, M: Matches<'a>>(matches: &M) -> Result<CheckOptions, Mistake<'a>>
-    ensures { Spells (first_mistake bad_finding ((M.matched matches.now).values (codes "allow")))
-        (λ options. options ≡ check_options (M.matched matches.now)) result }
+/// Returns the options of ktcheck. Refuses an age that is given twice, a word that is no finding, and an age and a name
+/// that cannot be read.
+pub fn check_options<'a, M: Matches<'a>>(
+    alloc: Global,
+    matches: &M,
+) -> Result<CheckOptions<Global>, WordFault<'a>>
+    ensures { Reads (check_mistake (M.matched matches.now)) (SpellsCheck (M.matched matches.now)) result }
 {
+    refuse_twice(matches, "older", "--older", "--older")?;
     let allowed = findings(matches.values("allow"))?;
+    let older = spelled_seconds(matches, "older")?;
+    let wanted = spelled_names(alloc, matches, "want")?;
     Ok(CheckOptions {
         v1_order: v1_order(matches),
         quiet: matches.flag("quiet"),
+        json: matches.flag("json"),
+        with_filename: matches.flag("with-filename"),
         allowed,
+        older,
+        wanted: wanted?,
     })
 }

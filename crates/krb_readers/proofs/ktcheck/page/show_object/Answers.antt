@@ -1,0 +1,50 @@
+use Rattle.std.proofs.Common.{ℕ, List, ap, sym, subst, ◌∙◌}
+use Rattle.std.specs.Prelude.{Ok, Err, ◌&&◌}
+use Rattle.std.proofs.lemmas.Result.{err_from_is_err_and}
+use Rattle.krb_audit.specs.CheckUp.{CheckParts, is_well}
+use Rattle.krb_json.specs.Check.{check_json_text}
+use Rattle.krb_driver.specs.RunErrors.{verdict_status}
+use Rattle.krb_text.specs.Gathered.{Prints}
+use Rattle.krb_readers.specs.Ktcheck.{found, found_verdict}
+use Rattle.krb_readers.proofs.Checked.{object-failed, object-shown, object-silent, object-unshown}
+use Rattle.krb_readers.proofs.ktcheck.page.show_object.Goals as goal
+
+pub returns-in_err-found : goal.returns-in_err-found
+returns-in_err-found g c =
+    let j = c.args.object.now in
+    let p = err_from_is_err_and c.from_residual.result c.from_residual.ensures.1 in
+    rw (p.1 ∙ ap Err p.2) (object-unshown j.options.now j.explained c.args.file.now (found j.options.now j.aged_by j.mode j.keytab.state) c.args.out.now c.requires)
+
+pub returns-then-is_silent : goal.returns-then-is_silent
+returns-then-is_silent g c =
+    let j = c.args.object.now in
+    let due = found j.options.now j.aged_by j.mode j.keytab.state in
+    let is = rw c.deref.ensures.value at c.in_ok-found.ensures in
+    let silent = sym (c.is_silent.ensures ∙ ap (λ (d : CheckParts). j.options.now.quiet && is_well d) is) ∙ c.if-is_silent.true in
+    object-silent j.options.now j.explained c.args.file.now due c.args.out.now c.verdict_of-verdict.result c.requires
+    (c.verdict_of-verdict.ensures ∙ ap (found_verdict j.options.now j.explained) is) silent
+
+pub returns-in_err-check_json : goal.returns-in_err-check_json
+returns-in_err-check_json g c =
+    let j = c.args.object.now in
+    let file = c.args.file.now in
+    let due = found j.options.now j.aged_by j.mode j.keytab.state in
+    let is = rw c.deref.ensures.value at c.in_ok-found.ensures in
+    let told = sym (c.is_silent.ensures ∙ ap (λ (d : CheckParts). j.options.now.quiet && is_well d) is) ∙ c.if-is_silent.false in
+    let verdict = c.verdict_of-verdict.ensures ∙ ap (found_verdict j.options.now j.explained) is in
+    let text = ap (λ (d : CheckParts). check_json_text file d c.status.result) is ∙ ap (check_json_text file due) (c.status.ensures ∙ ap verdict_status verdict) in
+    let p = err_from_is_err_and c.from_residual-in_err-check_json.result c.from_residual-in_err-check_json.ensures.1 in
+    rw (p.1 ∙ ap Err p.2) (object-failed j.options.now j.explained file due c.args.out.now c.check_json.new.out c.in_err-check_json.field-0.0 told
+    (subst (λ (t : List ℕ). Prints {T = Unit {0}} c.args.out.now c.check_json.new.out (Err c.in_err-check_json.field-0.0) t) text c.in_err-check_json.ensures.prints))
+
+pub returns : goal.returns
+returns g c =
+    let j = c.args.object.now in
+    let file = c.args.file.now in
+    let due = found j.options.now j.aged_by j.mode j.keytab.state in
+    let is = rw c.deref.ensures.value at c.in_ok-found.ensures in
+    let told = sym (c.is_silent.ensures ∙ ap (λ (d : CheckParts). j.options.now.quiet && is_well d) is) ∙ c.if-is_silent.false in
+    let verdict = c.verdict_of-verdict.ensures ∙ ap (found_verdict j.options.now j.explained) is in
+    let text = ap (λ (d : CheckParts). check_json_text file d c.status.result) is ∙ ap (check_json_text file due) (c.status.ensures ∙ ap verdict_status verdict) in
+    object-shown j.options.now j.explained file due c.args.out.now c.check_json.new.out c.verdict_of-verdict.result c.requires verdict told
+    (subst (λ (t : List ℕ). Prints {T = Unit {0}} c.args.out.now c.check_json.new.out (Ok tt) t) text c.in_ok-check_json.ensures.prints)

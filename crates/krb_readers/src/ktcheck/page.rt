@@ -1,0 +1,169 @@
+//! What ktcheck shows of a file.
+
+ghost use Rattle.std.specs.Prelude.{◌≡◌, ◌++◌, ◌&&◌, IfOk, IsFalse, OnOk};
+ghost use Rattle.krb_audit.specs.CheckUp.{is_well};
+ghost use Rattle.krb_audit.specs.Report.{report};
+ghost use Rattle.krb_driver.specs.Commands.{ShowsPage, output_page};
+ghost use Rattle.krb_readers.specs.Ktcheck.{found, found_verdict, lines_page, object_page, refused_page, unless_well};
+
+use crate::ktcheck::words::CheckOptions;
+use krb_audit::{CheckUp, FindingSet, append_report, check_up};
+use krb_driver::{FileName, Findings, Output, RunError, Show, Verdict, append_said, label_of};
+use krb_files::Watched;
+use krb_json::{check_json, refused_json};
+use krb_keytab::Keytab;
+use krb_wire::NoMemory;
+use std::alloc::Allocator;
+use std::io::Write;
+
+/// A keytab that is shown as JSON.
+#[derive(Drop)]
+pub struct CheckObject<'f, A: Allocator, B: Allocator> {
+    pub options: &'f CheckOptions<B>,
+    /// The second by which an entry is aged.
+    pub aged_by: Option<u32>,
+    /// The findings that were explained before.
+    pub explained: FindingSet,
+    pub mode: Option<u32>,
+    pub keytab: Keytab<A>,
+}
+
+/// What ktcheck shows of a file.
+#[derive(Drop)]
+pub enum CheckPage<'f, A: Allocator, B: Allocator> {
+    Lines(Output<A>),
+    Object(CheckObject<'f, A, B>),
+    /// As JSON, a file that gave no keytab.
+    Refused(RunError),
+}
+
+// Returns what is found, and whether something is wrong.
+fn verdict_of<A: Allocator, B: Allocator>(
+    options: &CheckOptions<B>,
+    explained: FindingSet,
+    found: &CheckUp<'_, A>,
+) -> Verdict
+    ensures { result ≡ found_verdict options.now explained found.now }
+{
+    if found.is_well() {
+        return Verdict::Well;
+    }
+    Verdict::Found(Findings {
+        words: found.findings().without(explained),
+        weak_etypes: found.weak_etypes(),
+        fault: found.fault(),
+        is_wrong: found.is_wrong(options.allowed),
+        v1_order: options.v1_order,
+    })
+}
+
+// Returns whether nothing is printed of a file: with `-q`, if nothing is found.
+fn is_silent<A: Allocator>(quiet: bool, found: &CheckUp<'_, A>) -> bool
+    ensures { result ≡ (quiet && is_well found.now) }
+{
+    quiet && found.is_well()
+}
+
+// Appends the lines of a file, but with `-q` none if nothing is found.
+fn append_lines<A: Allocator, B: Allocator>(
+    quiet: bool,
+    label: &[u8],
+    found: &CheckUp<'_, B>,
+    out: &mut Vec<u8, A>,
+) -> Result<(), NoMemory>
+    ensures { OnOk result (out.new.items ≡ out.old.items ++ unless_well quiet found.now (report label.now found.now)) }
+{
+    if is_silent(quiet, found) {
+        return Ok(());
+    }
+    append_report(label, found, out)
+}
+
+/// Checks a keytab in a plain file with that mode, and returns its lines.
+pub fn check_lines<A: Allocator + Copy, B: Allocator>(
+    alloc: A,
+    object: &CheckObject<'_, A, B>,
+    are_several: bool,
+    file: FileName<'_>,
+) -> Result<Output<A>, NoMemory>
+    ensures { IfOk result (λ output. output_page output ≡ lines_page object.now.options.now are_several object.now.explained file.entry.name.now
+        (found object.now.options.now object.now.aged_by object.now.mode object.now.keytab.state)) }
+{
+    let options = object.options;
+    let label = label_of(alloc, options.with_filename || are_several, file)?;
+    let found = check_up(
+        alloc,
+        object.mode,
+        object.aged_by,
+        &options.wanted,
+        &object.keytab,
+    )?;
+    let mut text = Vec::new(alloc);
+    append_lines(options.quiet, &label, &found, &mut text)?;
+    Ok(Output {
+        verdict: verdict_of(options, object.explained, &found),
+        text,
+    })
+}
+
+// Checks a keytab, and prints it as JSON, but with `-q` nothing if nothing is found.
+fn show_object<A: Allocator + Copy, B: Allocator, W: Write>(
+    alloc: A,
+    object: &CheckObject<'_, A, B>,
+    file: &str,
+    out: &mut Watched<W>,
+) -> Result<Verdict, RunError>
+    requires { IsFalse out.old.failed }
+    ensures { ShowsPage out.old out.new result (object_page object.now.options.now object.now.explained file.now
+        (found object.now.options.now object.now.aged_by object.now.mode object.now.keytab.state)) }
+{
+    let options = object.options;
+    let found = check_up(
+        alloc,
+        object.mode,
+        object.aged_by,
+        &options.wanted,
+        &object.keytab,
+    )?;
+    let verdict = verdict_of(options, object.explained, &found);
+    if is_silent(options.quiet, &found) {
+        return Ok(verdict);
+    }
+    check_json(alloc, file, &found, verdict.status(), out)?;
+    Ok(verdict)
+}
+
+// Prints as JSON a file that gave no keytab, and returns the error.
+fn show_refused<A: Allocator + Copy, W: Write>(
+    alloc: A,
+    why: RunError,
+    file: &str,
+    out: &mut Watched<W>,
+) -> Result<Verdict, RunError>
+    requires { IsFalse out.old.failed }
+    ensures { ShowsPage out.old out.new result (refused_page file.now why) }
+{
+    let mut said = Vec::new(alloc);
+    append_said(why, &mut said)?;
+    refused_json(alloc, file, &said, why.status(), out)?;
+    Err(why)
+}
+
+impl<A: Allocator + Copy, B: Allocator> Show<A> for CheckPage<'_, A, B> {
+    ghost use Rattle.krb_readers.specs.Ktcheck.{check_page};
+
+    ghost page = { check_page };
+
+    fn show<W: Write>(
+        &self,
+        alloc: A,
+        file: &str,
+        out: &mut Watched<W>,
+    ) -> Result<Verdict, RunError> {
+        match self {
+            CheckPage::Lines(output) => output.show(alloc, file, out),
+            CheckPage::Object(object) => show_object(alloc, object, file, out),
+            CheckPage::Refused(why) => show_refused(alloc, *why, file, out),
+        }
+    }
+}
