@@ -7,10 +7,10 @@ pub use Rattle.std.specs.List.{list_any, AllByRecursion, flat_map, find, cons_op
 pub use Rattle.std.specs.Prelude.{map, ◌||◌, filter, ◌==◌, ◌&&◌, not, ⊤, unwrap_or, option_map, is_some}
 pub use Rattle.std.specs.Str.{bytes_eq}
 pub use Rattle.krb_copy.specs.Classes.{ClassKey, AreClasses, class_cmp, IsClassKey, kind_of, has_among, emptiness, step_at, HaveClass, places_of, stays, has_key, IsClass}
-pub use Rattle.krb_copy.specs.Copying.{run_over, as_found, step_of, Copy, Held, run_start, Clash, Run, There, with_copy, run_after, go_on, has_lines, run_added, as_copied, Step, twins, step_among, is_kept, copied_lines, clash_line}
+pub use Rattle.krb_copy.specs.Copying.{run_over, as_found, asked_as, renamed, step_of, Copy, Held, run_start, Clash, Run, There, with_copy, run_after, go_on, has_lines, run_added, as_copied, Step, twins, step_among, is_kept, copied_lines, clash_line}
 unfoldable pub use Rattle.krb_copy.specs.Copying.{copy_run}
 pub use Rattle.krb_copy.specs.Laws.{IsInPlace, AllStay, OthersStay, changes_of, Has, NothingElse, GoesByItsEntries, AreEntries, ChangesAreTold, SecondDoesNothing, changes_over, AreHistories, changes_on, HasEachAsked}
-pub use Rattle.krb_copy.specs.Made.{IsRun, IsMade, IsRefusal, IsRefusedBy, EndsBy, Meets, Ends}
+pub use Rattle.krb_copy.specs.Made.{IsRun, IsMade, name_in, IsRefusal, IsRefusedBy, EndsBy, Meets, Ends}
 pub use Rattle.krb_copy.specs.Texts.{name_texts, AreTexts, entry_texts}
 pub use Rattle.krb_audit.specs.Twins.{are_twins, are_same}
 pub use Rattle.krb_keytab.proofs.AfterChanges.{put_gives, cut_gives, added_reads, removed_none}

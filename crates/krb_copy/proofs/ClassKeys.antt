@@ -1,5 +1,5 @@
 -- Entries are twins iff their keys in a map compare equal.
-use Rattle.krb_copy.proofs.Cited.{◌≡◌, ℕ, ◌+◌, ◌<◌, Bool, true, false, cond, List, [], ◌∷◌, ◌++◌, length, None, Ok, refl, sym, ap, ◌∙◌, arith, ◌&&◌, ◌==◌, map, bytes_eq, name_text, EntryParts, are_twins, ClassKey, ◌*◌, ◌/◌, join_with_byte, IsClassKey, class_cmp, emptiness, kind_of}
+use Rattle.krb_copy.proofs.Cited.{◌≡◌, ℕ, ◌+◌, ◌<◌, Bool, true, false, cond, List, [], ◌∷◌, ◌++◌, length, None, Ok, refl, sym, ap, subst, ◌∙◌, arith, ◌&&◌, ◌==◌, map, bytes_eq, name_text, EntryParts, are_twins, ClassKey, ◌*◌, ◌/◌, join_with_byte, IsClassKey, class_cmp, emptiness, kind_of}
 use Rattle.std.specs.Prelude.{Result, nat_lt}
 use Rattle.std.specs.declared.cmp.Ordering.{Ordering}
 use Rattle.std.specs.declared.cmp.Ordering.TheVariants.{Less, Equal, Greater}
@@ -14,6 +14,10 @@ use Rattle.krb_wire.proofs.NamesCompared.{same_name_is, and_both, both_and}
 use Rattle.krb_wire.proofs.RoundTrip.{name_of-name_text}
 use Rattle.krb_audit.specs.Names.{hash_of}
 use Rattle.krb_audit.proofs.FirstNumbers.{same_bool}
+
+-- the key that the fields of an entry have is that of the entry
+pub key_of_fields : (x fields : EntryParts) (name : List ℕ) (k : ClassKey) → fields ≡ x → name ≡ name_text x.principal → (name ≡ name_text fields.principal → IsClassKey fields k) → IsClassKey x k
+key_of_fields x fields name k is named key = subst (λ (e : EntryParts). (name ≡ name_text e.principal → IsClassKey e k)) is key named
 
 -- ---- names as text
 
@@ -51,7 +55,7 @@ by_emptiness p q (a ∷ as') (b ∷ bs) ep eq n e =
 
 -- ---- comparisons
 
-then_is : (a b : Ordering) → is_eq (ordering_then a b) ≡ (is_eq a && is_eq b)
+pub then_is : (a b : Ordering) → is_eq (ordering_then a b) ≡ (is_eq a && is_eq b)
 then_is Less b = refl
 then_is Equal b = refl
 then_is Greater b = refl
@@ -65,7 +69,7 @@ by_tests false false h = refl
 less_differs : (m n : ℕ) → nat_lt m n ≡ true → (m == n) ≡ false
 less_differs m n lt = grind arith
 
-nat_is : (m n : ℕ) → is_eq (nat_cmp m n) ≡ (m == n)
+pub nat_is : (m n : ℕ) → is_eq (nat_cmp m n) ≡ (m == n)
 nat_is m n = by_tests (nat_lt m n) (m == n) (λ lt. less_differs m n lt)
 
 same_number : (m n : ℕ) → (m == n) ≡ true → m ≡ n

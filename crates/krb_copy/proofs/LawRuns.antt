@@ -121,7 +121,7 @@ has_each replace asked k run fits e clean =
     let o = over replace asked (run_start k) run fits (start_there k) e in
     all_has run.keytab run.held asked o.there (o.held_still clean tt)
 
-any_found : (a : EntryParts) (ys : List PlacedEntry) → list_any (λ h. are_same a h.entry) (map as_found ys) ≡ list_any (λ y. are_same a y.1) ys
+pub any_found : (a : EntryParts) (ys : List PlacedEntry) → list_any (λ h. are_same a h.entry) (map as_found ys) ≡ list_any (λ y. are_same a y.1) ys
 any_found a [] = refl
 any_found a (y ∷ ys) = ap (λ (b : Bool). are_same a y.1 || b) (any_found a ys)
 
@@ -129,7 +129,7 @@ held_of : (k : KeytabState) (asked : List PlacedEntry) → AllByRecursion (λ x.
 held_of k [] has = tt
 held_of k (x ∷ xs) has = let h = has.0 in (any_found x.1 (placed_entries k) ∙ any_entry k h.0 h.1 (λ y. are_same x.1 y.1) h.3 h.2, held_of k xs has.1)
 
-second_over : (again : Bool) (asked : List PlacedEntry) (run : Run) → AllByRecursion (λ x. IsHeld run.held x.1) asked → (second : Run) × (run_over again asked run ≡ Ok second) × (second.keytab ≡ run.keytab) × (second.text ≡ run.text) × ((has_lines second.clashes) ≡ (has_lines run.clashes))
+pub second_over : (again : Bool) (asked : List PlacedEntry) (run : Run) → AllByRecursion (λ x. IsHeld run.held x.1) asked → (second : Run) × (run_over again asked run ≡ Ok second) × (second.keytab ≡ run.keytab) × (second.text ≡ run.text) × ((has_lines second.clashes) ≡ (has_lines run.clashes))
 second_over again [] run held = (run, refl, refl, refl, refl)
 second_over again (x ∷ xs) run held =
     let r = second_over again xs (record run { before = run.before ++ x.1 ∷ [] }) held.1 in
@@ -146,10 +146,10 @@ others_stay replace asked k run fits e place f read others = (over replace asked
 -- ---- what is told
 
 -- nothing is told, and the keytab is the same
-abbrev IsSilent : Run → Run → Type 0
+abbrev pub IsSilent : Run → Run → Type 0
 IsSilent run next = (run.text ≡ []) × (next.keytab ≡ run.keytab)
 
-not_nil : (xs ys : List ℕ) (y : ℕ) → xs ++ y ∷ ys ≡ [] → ⊥
+pub not_nil : (xs ys : List ℕ) (y : ℕ) → xs ++ y ∷ ys ≡ [] → ⊥
 not_nil [] ys y e = cc
 not_nil (x ∷ xs) ys y e = cc
 
@@ -172,7 +172,7 @@ told_by replace x xs run final (Ok next) step e none ih =
     (a.0, o.1 ∙ a.1)
 told_by replace x xs run final (Err code) step e none ih = let h = ended (has_lines run.clashes) run final code refl e in (ap (λ (n : Run). n.text) h.0 ∙ none, sym (ap (λ (n : Run). n.keytab) h.0))
 
-told_over : (replace : Bool) (asked : List PlacedEntry) (run final : Run) → run_over replace asked run ≡ Ok final → final.text ≡ [] → IsSilent run final
+pub told_over : (replace : Bool) (asked : List PlacedEntry) (run final : Run) → run_over replace asked run ≡ Ok final → final.text ≡ [] → IsSilent run final
 told_over replace [] run final e none = let same = ok_is run final (Ok run) refl e in (ap (λ (n : Run). n.text) same ∙ none, sym (ap (λ (n : Run). n.keytab) same))
 told_over replace (x ∷ xs) run final e none = told_by replace x xs run final (run_after run x (step_of replace run.before run.held x.1)) refl e none (λ next f. told_over replace xs next final f none)
 

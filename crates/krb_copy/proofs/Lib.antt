@@ -3,6 +3,9 @@ pub mod Alike
 pub mod ClassKeys
 pub mod ClassesAfter
 pub mod FoundTexts
+pub mod Numbers
+pub mod DiffKeys
+pub mod DiffLines
 pub mod Runs
 pub mod Elsewhere
 pub mod LawLemmas
@@ -10,4 +13,8 @@ pub mod LawRuns
 pub mod Gone
 pub mod LawHistories
 pub mod NothingElse
+pub mod Silent
+pub mod NoDifference
+pub mod BothWays
+pub mod Mirrored
 pub mod OnLiterals

@@ -1,5 +1,6 @@
 -- A run and its definition, entry by entry.
-use Rattle.krb_copy.proofs.Cited.{◌≡◌, ℕ, ◌+◌, ◌<◌, Bool, true, false, cond, List, [], ◌∷◌, ◌++◌, length, drop, Result, Ok, Err, refl, sym, ap, subst, ◌∙◌, map, Code, PlacedEntry, placed_entries, KeytabState, put_result, without, Run, Copy, as_found, step_of, with_copy, run_after, run_added, has_lines, run_over, run_start, copy_run, go_on, AreClasses, AreTexts, name_texts, get_or, drop_more, copied_lines, IsMade, IsRefusal, IsRefusedBy, IsRun, Meets, Ends, EndsBy}
+use Rattle.krb_copy.proofs.Cited.{◌≡◌, ℕ, ◌+◌, ◌<◌, Bool, true, false, cond, List, [], ◌∷◌, ◌++◌, length, drop, Option, Result, Ok, Err, refl, sym, ap, subst, ◌∙◌, map, Code, PlacedEntry, placed_entries, KeytabState, put_result, without, Run, Copy, as_found, asked_as, step_of, with_copy, run_after, run_added, has_lines, run_over, run_start, copy_run, go_on, AreClasses, AreTexts, name_texts, get_or, drop_more, copied_lines, IsMade, IsRefusal, IsRefusedBy, IsRun, Meets, Ends, EndsBy}
+use Rattle.krb_wire.specs.Spelling.{Parts}
 use Rattle.krb_walk.specs.declared.refusal.Refusal.{Refusal}
 use Rattle.krb_walk.specs.declared.refusal.Refusal.TheVariants.{Code as ByCode, NoMemory}
 use Rattle.krb_walk.specs.Rules.{PutGives}
@@ -82,9 +83,9 @@ ended due replace x rest old new (ByCode code) result w meets ends =
 ended due replace x rest old new NoMemory result w meets ends = subst (λ (r : Result (Unit {0}) Refusal). Ends due r new) (sym (out_of_memory (has_lines new.making.clashes.items) result ends)) tt
 
 -- the entry that is met is the first of those that are left
-pub first_left : {A : Type 0} (due : Result Run Code) (replace : Bool) (asked : List PlacedEntry) (i : ℕ) (x : PlacedEntry) (copying : Copying A) → i < length asked → x ≡ get_or asked i x
-    → IsOnTheWay due replace (drop i asked) copying → IsOnTheWay due replace (x ∷ drop (i + 1) asked) copying
-first_left due replace asked i x copying lt here w = subst (λ (ys : List PlacedEntry). IsOnTheWay due replace ys copying) (drop_more asked i x lt ∙ ap (λ (y : PlacedEntry). y ∷ drop (i + 1) asked) (sym here)) w
+pub first_left : {A : Type 0} (due : Result Run Code) (replace : Bool) (name : Option Parts) (asked : List PlacedEntry) (i : ℕ) (x : PlacedEntry) (copying : Copying A) → i < length asked → x ≡ get_or asked i x
+    → IsOnTheWay due replace (asked_as name (drop i asked)) copying → IsOnTheWay due replace (asked_as name (x ∷ drop (i + 1) asked)) copying
+first_left due replace name asked i x copying lt here w = subst (λ (ys : List PlacedEntry). IsOnTheWay due replace (asked_as name ys) copying) (drop_more asked i x lt ∙ ap (λ (y : PlacedEntry). y ∷ drop (i + 1) asked) (sym here)) w
 
 -- ---- the whole run
 

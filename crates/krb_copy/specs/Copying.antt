@@ -1,14 +1,26 @@
 -- Copying the entries asked for into a keytab.
-use Rattle.std.specs.Prelude.{ℕ, List, [], ◌∷◌, ◌++◌, Bool, true, false, ◌&&◌, ◌||◌, not, map, filter, codes, decimal, Result, Ok, Err, if◌then◌else◌}
+use Rattle.std.specs.Prelude.{ℕ, List, [], ◌∷◌, ◌++◌, Bool, true, false, ◌&&◌, ◌||◌, not, map, filter, codes, decimal, Option, None, Some, Result, Ok, Err, if◌then◌else◌}
 use Rattle.std.specs.List.{flat_map, list_any}
 use Rattle.std.specs.Str.{bytes_eq}
 use Rattle.krb_walk.specs.declared.refusal.Code.{Code}
+use Rattle.krb_wire.specs.Spelling.{Parts}
 use Rattle.krb_keytab.specs.Entry.{EntryParts}
 use Rattle.krb_keytab.specs.Find.{PlacedEntry, placed_entries}
 use Rattle.krb_keytab.specs.Store.{KeytabState}
 use Rattle.krb_keytab.specs.Changes.{put_result, without}
 use Rattle.krb_text.specs.Listing.{placed_line, removed_line}
 use Rattle.krb_audit.specs.Twins.{are_twins, are_same}
+
+-- ---- what is asked for
+
+-- an entry under a new name, if there is one, which has the type of its own
+abbrev pub renamed : Option Parts → EntryParts → EntryParts
+renamed None x = x
+renamed (Some name) x = record x { principal = record name { name_type = x.principal.name_type } }
+
+-- entries at their places, each under that name
+abbrev pub asked_as : Option Parts → List PlacedEntry → List PlacedEntry
+asked_as name xs = map (λ x. (x.0, renamed name x.1)) xs
 
 -- ---- what becomes of an entry
 

@@ -1,6 +1,9 @@
 pub mod Copying
+pub mod Diff
 pub mod Laws
+pub mod DiffLaws
 -- For private contracts alone.
 pub mod Texts
 pub mod Classes
+pub mod DiffRows
 pub mod Made

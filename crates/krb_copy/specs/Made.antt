@@ -1,14 +1,22 @@
 -- What a run has made, by its definition.
-use Rattle.std.specs.Prelude.{◌≡◌, ℕ, List, Bool, true, false, Result, Ok, Err, IsOk}
+use Rattle.std.specs.Prelude.{◌≡◌, ℕ, List, Bool, true, false, Option, option_map, Result, Ok, Err, IsOk}
+use denote.Ref.{Bor}
 use Rattle.krb_walk.specs.declared.refusal.Code.{Code}
 use Rattle.krb_walk.specs.declared.refusal.Refusal.{Refusal}
 use Rattle.krb_walk.specs.declared.refusal.Refusal.TheVariants.{Code as ByCode, NoMemory}
+use Rattle.krb_wire.specs.Spelling.{Parts}
+use Rattle.krb_wire.specs.Reading.{principal_parts}
+use Rattle.krb_wire.specs.declared.principal.Principal.{Principal}
 use Rattle.krb_keytab.specs.Find.{PlacedEntry}
 use Rattle.krb_keytab.specs.Store.{KeytabState}
 use Rattle.krb_copy.specs.Copying.{Run, has_lines}
 use Rattle.krb_copy.specs.Classes.{AreClasses}
 use Rattle.krb_copy.specs.Texts.{AreTexts, name_texts}
 use Rattle.krb_copy.specs.declared.copy.Copying.{Copying}
+
+-- a new name, if there is one, without where it is in memory
+abbrev pub name_in : {A : Type 0} → Option (Bor (Principal A)) → Option Parts
+name_in name = option_map (λ n. principal_parts n.now) name
 
 -- the lines, those of the clashes, and, if there are none of these, the places of the copies and the keytab are those of the run
 pub record IsMade (due : Result Run Code) (text clashes places : List ℕ) (keytab : KeytabState) : Type 0 where

@@ -11,7 +11,7 @@ ghost use Rattle.krb_copy.specs.Texts.{AreTexts, entry_texts};
 use crate::class::Class;
 use crate::texts::TextsLeft;
 use krb_audit::hash_of;
-use krb_keytab::{EntryView, Keytab};
+use krb_keytab::{Fields, Keytab};
 use krb_wire::{Name, NoMemory};
 use std::alloc::Allocator;
 use std::collections::BTreeMap;
@@ -22,11 +22,11 @@ use std::collections::BTreeMap;
 pub type ClassKey<'t> = (u64, &'t [u8]);
 
 /// Returns that of an entry, by the text of its name.
-pub fn class_key<'t>(name: &'t [u8], entry: &EntryView<'_>) -> ClassKey<'t>
+pub fn class_key<'t, N: Name>(name: &'t [u8], entry: &Fields<'_, N>) -> ClassKey<'t>
     ensures { name.now ≡ name_text entry.now.principal → IsClassKey entry.now result }
 {
-    let kind = u64::from(entry.kvno()) * 65_536 + u64::from(entry.enctype());
-    let is_empty = entry.principal().count() == 0;
+    let kind = u64::from(entry.kvno) * 65_536 + u64::from(entry.enctype);
+    let is_empty = entry.principal.count() == 0;
     // A kind has 49 bits, so the sum fits if the hash has no more.
     let hash = hash_of(name) / 32_768;
     (hash + (kind * 2 + u64::from(is_empty)), name)
@@ -69,7 +69,7 @@ pub fn classes_of<'t, A: Allocator + Copy, B: Allocator>(
 {
     let mut classes = BTreeMap::new(alloc);
     'entries: for (place, entry) in keytab.entries() {
-        let key = class_key(texts.next(), &entry);
+        let key = class_key(texts.next(), &entry.fields());
         let secret = texts.next();
         add(&mut classes, alloc, key, place, secret)?;
     }

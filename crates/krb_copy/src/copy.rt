@@ -1,17 +1,19 @@
 //! Copying the entries asked for into a keytab.
 
-ghost use Rattle.std.specs.Prelude.{◌≡◌, ◌∷◌, ◌++◌, List, IfOk, IfErr};
+ghost use Rattle.std.specs.Prelude.{◌≡◌, ◌∷◌, ◌++◌, List, Some, IfOk, IfErr};
+ghost use Rattle.krb_wire.specs.Reading.{principal_parts};
 ghost use Rattle.krb_keytab.specs.Find.{PlacedEntry, placed_entries};
-ghost use Rattle.krb_copy.specs.Copying.{Run, copy_run, has_lines, run_after, run_over, step_of};
+ghost use Rattle.krb_copy.specs.Copying.{Run, asked_as, copy_run, has_lines, renamed, run_after, run_over, step_of};
 ghost use Rattle.krb_copy.specs.Texts.{AreTexts, entry_texts, name_texts};
-ghost use Rattle.krb_copy.specs.Made.{Ends, EndsBy, IsMade, IsRefusedBy, Meets, IsRun};
+ghost use Rattle.krb_copy.specs.Made.{Ends, EndsBy, IsMade, IsRefusedBy, Meets, IsRun, name_in};
 
 use crate::class::{Class, Step};
 use crate::classes::{Classes, class_key, classes_of};
 use crate::making::Making;
 use crate::texts::{Texts, TextsLeft};
-use krb_keytab::{EntryView, Indexed, Keytab};
+use krb_keytab::{EntryView, Fields, Indexed, Keytab, NewEntry};
 use krb_walk::Refusal;
+use krb_wire::{Name, NoMemory, Principal, copy_name};
 use std::alloc::Allocator;
 
 // How many bytes a line seldom exceeds.
@@ -38,25 +40,69 @@ struct Copying<'t, A: Allocator> {
     replace: bool,
 }
 
+// Returns a copy of an entry under a new name, which gets the type of its own.
+fn renamed<A: Allocator + Copy, B: Allocator>(
+    alloc: A,
+    entry: &EntryView<'_>,
+    name: &Principal<B>,
+) -> Result<NewEntry<A>, NoMemory>
+    ensures { IfOk result (λ e. e ≡ renamed (Some (principal_parts name.now)) entry.now) }
+{
+    let mut new = entry.copy(alloc)?;
+    new.principal = copy_name(alloc, name)?;
+    new.principal.name_type = entry.principal().name_type();
+    Ok(new)
+}
+
 impl<'t, A: Allocator + Copy> Copying<'t, A> {
-    // Copies the next entry after its twins are removed, adds the line of its clash, or does nothing.
-    fn meet(&mut self, alloc: A, place: u32, entry: &EntryView<'t>) -> Result<(), Refusal>
+    // Copies the next entry, with its key, after its twins are removed, adds the line of its clash, or does nothing.
+    fn meet<N: Name>(
+        &mut self,
+        alloc: A,
+        place: u32,
+        entry: &Fields<'_, N>,
+        key: &'t [u8],
+    ) -> Result<(), Refusal>
+        requires { key.now ≡ entry.now.key }
         ensures meets { (run : Run) (asked : List PlacedEntry) → IsRun run ((place, entry.now) ∷ asked) self.old
             → Meets run asked (run_after run (place, entry.now)
             (step_of self.old.replace run.before run.held entry.now)) result self.new }
         ensures replace { self.new.replace ≡ self.old.replace }
     {
-        let key = class_key(self.texts.next(), entry);
-        let class = self.classes.entry(key)?.or_insert(Class::Empty);
-        match class.step(self.replace, entry.key()) {
+        let kind = class_key(self.texts.next(), entry);
+        let class = self.classes.entry(kind)?.or_insert(Class::Empty);
+        match class.step(self.replace, key) {
             Step::There => class.keep(),
             Step::Clash(twin) => self.making.clash(place, entry, twin)?,
             Step::Copy(places) => {
                 let place = self.making.copy(alloc, places, entry)?;
-                *class = Class::Kept(place, entry.key());
+                *class = Class::Kept(place, key);
             }
         }
         Ok(())
+    }
+
+    // Meets the next entry under its own name, or under the new one.
+    fn meet_as<B: Allocator>(
+        &mut self,
+        alloc: A,
+        place: u32,
+        entry: &EntryView<'t>,
+        new_name: Option<&Principal<B>>,
+    ) -> Result<(), Refusal>
+        ensures meets { (run : Run) (asked : List PlacedEntry)
+            → IsRun run ((place, renamed (name_in new_name.entry) entry.now) ∷ asked) self.old
+            → Meets run asked (run_after run (place, renamed (name_in new_name.entry) entry.now)
+            (step_of self.old.replace run.before run.held (renamed (name_in new_name.entry) entry.now))) result self.new }
+        ensures replace { self.new.replace ≡ self.old.replace }
+    {
+        match new_name {
+            None => self.meet(alloc, place, &entry.fields(), entry.key()),
+            Some(name) => {
+                let new = renamed(alloc, entry, name)?;
+                self.meet(alloc, place, &new.fields(), entry.key())
+            }
+        }
     }
 
     // Ends the run at a refusal.
@@ -69,13 +115,18 @@ impl<'t, A: Allocator + Copy> Copying<'t, A> {
         }
     }
 
-    // Goes over the entries asked for.
-    fn go_over(&mut self, alloc: A, asked: &'t [(u32, EntryView<'t>)]) -> Result<(), Refusal>
-        ensures { (run : Run) → IsRun run asked.now self.old
-            → Ends (run_over self.old.replace asked.now run) result self.new }
+    // Goes over the entries asked for, under their own names or the new one.
+    fn go_over<B: Allocator>(
+        &mut self,
+        alloc: A,
+        asked: &'t [(u32, EntryView<'t>)],
+        new_name: Option<&Principal<B>>,
+    ) -> Result<(), Refusal>
+        ensures { (run : Run) → IsRun run (asked_as (name_in new_name.entry) asked.now) self.old
+            → Ends (run_over self.old.replace (asked_as (name_in new_name.entry) asked.now) run) result self.new }
     {
         'asked: for (place, entry) in asked {
-            if let Err(refusal) = self.meet(alloc, *place, entry) {
+            if let Err(refusal) = self.meet_as(alloc, *place, entry, new_name) {
                 return self.end(refusal);
             }
         }
@@ -84,17 +135,19 @@ impl<'t, A: Allocator + Copy> Copying<'t, A> {
 }
 
 // Copies them, by the names and keys of the keytab's entries and the names of those asked for.
-fn copy_by<'t, A: Allocator + Copy>(
+fn copy_by<'t, A: Allocator + Copy, B: Allocator>(
     alloc: A,
     asked: &'t [(u32, EntryView<'t>)],
+    new_name: Option<&Principal<B>>,
     texts: &'t Texts<A>,
     to: Keytab<A>,
     replace: bool,
 ) -> Result<Copied<A>, Refusal>
-    requires { AreTexts (entry_texts (placed_entries to.state) ++ name_texts asked.now) texts.now.bytes.items texts.now.lens.items }
-    ensures made { IfOk result (λ copied. IsMade (copy_run replace asked.now to.state)
+    requires { AreTexts (entry_texts (placed_entries to.state) ++ name_texts (asked_as (name_in new_name) asked.now))
+        texts.now.bytes.items texts.now.lens.items }
+    ensures made { IfOk result (λ copied. IsMade (copy_run replace (asked_as (name_in new_name.entry) asked.now) to.state)
         copied.text.items copied.clashes.items copied.places.items copied.keytab.state) }
-    ensures refused { IfErr result (IsRefusedBy (copy_run replace asked.now to.state)) }
+    ensures refused { IfErr result (IsRefusedBy (copy_run replace (asked_as (name_in new_name.entry) asked.now) to.state)) }
 {
     let mut left = texts.left();
     let classes = classes_of(alloc, &to, &mut left)?;
@@ -114,7 +167,7 @@ fn copy_by<'t, A: Allocator + Copy>(
         texts: left,
         replace,
     };
-    copying.go_over(alloc, asked)?;
+    copying.go_over(alloc, asked, new_name)?;
     Ok(Copied {
         text: copying.making.text,
         clashes: copying.making.clashes,
@@ -123,20 +176,22 @@ fn copy_by<'t, A: Allocator + Copy>(
     })
 }
 
-/// Copies the entries asked for, which have their places in another keytab, in order. One with name, kvno, enctype and
-/// key of an entry of the keytab is passed over. One with the name, kvno and enctype of others clashes, or with
-/// `replace` takes their place, unless one of these was copied before or has the key of an entry asked for before.
-/// Refused as an addition is; one that is refused after a clash ends the run. Takes time n log n in the bytes of both.
-pub fn copy_into<A: Allocator + Copy>(
+/// Copies the entries asked for, which have their places in another keytab, in order, under their own names or all under
+/// the new one, with the name type of each. One with name, kvno, enctype and key of an entry of the keytab is passed over.
+/// One with the name, kvno and enctype of others clashes, or with `replace` takes their place, unless one of these was
+/// copied before or has the key of an entry asked for before. Refused as an addition is; one that is refused after a clash
+/// ends the run. Takes time n log n in the bytes of both.
+pub fn copy_into<A: Allocator + Copy, B: Allocator>(
     alloc: A,
     asked: &[(u32, EntryView<'_>)],
+    new_name: Option<&Principal<B>>,
     to: Keytab<A>,
     replace: bool,
 ) -> Result<Copied<A>, Refusal>
-    ensures made { IfOk result (λ copied. IsMade (copy_run replace asked.now to.state)
+    ensures made { IfOk result (λ copied. IsMade (copy_run replace (asked_as (name_in new_name.entry) asked.now) to.state)
         copied.text.items copied.clashes.items copied.places.items copied.keytab.state) }
-    ensures refused { IfErr result (IsRefusedBy (copy_run replace asked.now to.state)) }
+    ensures refused { IfErr result (IsRefusedBy (copy_run replace (asked_as (name_in new_name.entry) asked.now) to.state)) }
 {
-    let texts = Texts::of(alloc, &to, asked)?;
-    copy_by(alloc, &*asked, &texts, to, replace)
+    let texts = Texts::of(alloc, &to, asked, new_name)?;
+    copy_by(alloc, &*asked, new_name, &texts, to, replace)
 }

@@ -1,5 +1,6 @@
 //! Laws of the definitions that the contracts cite.
 
+ghost use Rattle.krb_copy.specs.DiffLaws.{AreMirrored, NoDifference};
 ghost use Rattle.krb_copy.specs.Laws.{AllStay, AreHistories, ChangesAreTold, GoesByItsEntries, HasEachAsked, NothingElse, OthersStay, SecondDoesNothing};
 
 /// After a run in which no entry clashes, the keytab has each entry asked for, with its key, and a second run does
@@ -26,4 +27,14 @@ pub fn runs_are_histories()
 /// After a run the keytab has no entry but those that it had before and those asked for.
 pub fn nothing_else_is_there()
     ensures { NothingElse }
+{}
+
+/// Two keytabs have the same keys iff copying each into the other tells nothing.
+pub fn same_keys_copy_nothing()
+    ensures { NoDifference }
+{}
+
+/// What differs the other way round is the same, with the sides swapped, in another order.
+pub fn differences_are_mirrored()
+    ensures { AreMirrored }
 {}

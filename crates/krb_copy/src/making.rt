@@ -2,15 +2,15 @@
 
 ghost use Rattle.std.specs.Prelude.{◌≡◌, ◌++◌, ◌∷◌, [], OnOk, IfOk, IfErr};
 ghost use Rattle.std.specs.List.{flat_map};
-ghost use Rattle.krb_text.specs.Listing.{removed_line};
+ghost use Rattle.krb_text.specs.Listing.{placed_line, removed_line};
 ghost use Rattle.krb_keytab.specs.Changes.{put_result, without};
 ghost use Rattle.krb_copy.specs.Copying.{clash_line, copied_lines};
 ghost use Rattle.krb_copy.specs.Made.{IsRefusal};
 
-use krb_keytab::{EntryView, Indexed};
-use krb_text::{append_labelled, append_placed};
+use krb_keytab::{Fields, Indexed, NewEntry};
+use krb_text::{append_byte, append_labelled};
 use krb_walk::Refusal;
-use krb_wire::NoMemory;
+use krb_wire::{Name, NoMemory, copy_name, write_name};
 use std::alloc::Allocator;
 
 /// What a run has made: the keytab, its lines, those of the clashes alone, and the places of the copies.
@@ -22,10 +22,45 @@ pub struct Making<A: Allocator> {
     pub places: Vec<u32, A>,
 }
 
-// Appends the line of an entry at `place` that clashes with its first twin.
-fn append_clash<A: Allocator>(
+// Returns a copy of an entry.
+fn copy_of<N: Name, A: Allocator + Copy>(
+    alloc: A,
+    entry: &Fields<'_, N>,
+) -> Result<NewEntry<A>, NoMemory>
+    ensures { IfOk result (λ e. e ≡ entry.now) }
+{
+    let principal = copy_name(alloc, entry.principal)?;
+    let key = Vec::from_slice(alloc, entry.key)?;
+    Ok(NewEntry {
+        principal,
+        timestamp: entry.timestamp,
+        kvno: entry.kvno,
+        enctype: entry.enctype,
+        key,
+    })
+}
+
+// Appends the line of the entry at `place`, after `label`.
+fn append_placed<N: Name, A: Allocator>(
+    label: &[u8],
     place: u32,
-    entry: &EntryView<'_>,
+    entry: &Fields<'_, N>,
+    out: &mut Vec<u8, A>,
+) -> Result<(), NoMemory>
+    ensures { OnOk result (out.new.items ≡ out.old.items ++ placed_line label.now (place, entry.now)) }
+{
+    append_labelled(label, place, out)?;
+    append_labelled(b" kvno ", entry.kvno, out)?;
+    append_labelled(b" etype ", entry.enctype as u32, out)?;
+    append_byte(b' ', out)?;
+    write_name(entry.principal, out)?;
+    append_byte(b'\n', out)
+}
+
+// Appends the line of an entry at `place` that clashes with its first twin.
+fn append_clash<N: Name, A: Allocator>(
+    place: u32,
+    entry: &Fields<'_, N>,
     twin: u32,
     out: &mut Vec<u8, A>,
 ) -> Result<(), NoMemory>
@@ -37,7 +72,7 @@ fn append_clash<A: Allocator>(
 
 impl<A: Allocator + Copy> Making<A> {
     // Removes the twins of an entry, at these places.
-    fn remove(&mut self, places: &[u32], entry: &EntryView<'_>) -> Result<(), NoMemory>
+    fn remove<N: Name>(&mut self, places: &[u32], entry: &Fields<'_, N>) -> Result<(), NoMemory>
         ensures keytab { OnOk result (self.new.keytab.state ≡ without self.old.keytab.state places.now) }
         ensures text { OnOk result (self.new.text.items
             ≡ self.old.text.items ++ flat_map (λ p. removed_line (p, entry.now)) places.now) }
@@ -53,7 +88,12 @@ impl<A: Allocator + Copy> Making<A> {
 
     /// Adds an entry after its twins, at these places, are removed. Returns its place. If the addition is refused,
     /// it adds no line.
-    pub fn copy(&mut self, alloc: A, places: &[u32], entry: &EntryView<'_>) -> Result<u32, Refusal>
+    pub fn copy<N: Name>(
+        &mut self,
+        alloc: A,
+        places: &[u32],
+        entry: &Fields<'_, N>,
+    ) -> Result<u32, Refusal>
         ensures added { IfOk result (λ place. put_result (without self.old.keytab.state places.now) entry.now
             ≡ Ok (place, self.new.keytab.state)) }
         ensures text { IfOk result (λ place. self.new.text.items
@@ -64,7 +104,7 @@ impl<A: Allocator + Copy> Making<A> {
         ensures places { IfOk result (λ place. self.new.places.items ≡ self.old.places.items ++ place ∷ []) }
     {
         let before = self.text.len();
-        let new = entry.copy(alloc)?;
+        let new = copy_of(alloc, entry)?;
         self.remove(places, entry)?;
         match self.keytab.add(&new) {
             Ok(place) => {
@@ -80,7 +120,12 @@ impl<A: Allocator + Copy> Making<A> {
     }
 
     /// Tells that the entry at `place` clashes with its first twin.
-    pub fn clash(&mut self, place: u32, entry: &EntryView<'_>, twin: u32) -> Result<(), NoMemory>
+    pub fn clash<N: Name>(
+        &mut self,
+        place: u32,
+        entry: &Fields<'_, N>,
+        twin: u32,
+    ) -> Result<(), NoMemory>
         ensures keytab { self.new.keytab ≡ self.old.keytab }
         ensures places { self.new.places.items ≡ self.old.places.items }
         ensures text { OnOk result (self.new.text.items

@@ -3,12 +3,14 @@
 ghost use Rattle.std.specs.Prelude.{◌≡◌, ◌∷◌, ◌++◌, [], ℕ, List, OnOk, IfOk};
 ghost use Rattle.krb_wire.specs.Names.{name_text};
 ghost use Rattle.krb_keytab.specs.Find.{placed_entries};
+ghost use Rattle.krb_copy.specs.Copying.{asked_as, renamed};
+ghost use Rattle.krb_copy.specs.Made.{name_in};
 ghost use Rattle.krb_copy.specs.Texts.{AreTexts, entry_texts, name_texts};
 
 use krb_keytab::{EntryView, Keytab};
 use krb_text::append;
-use krb_wire::{NoMemory, write_name};
-use std::alloc::Allocator;
+use krb_wire::{Name, NoMemory, Principal, write_name};
+use std::alloc::{Allocator, Global};
 
 // How many bytes a name's text seldom exceeds.
 const USUAL_LEN: usize = 40;
@@ -51,13 +53,13 @@ impl<A: Allocator + Copy> Texts<A> {
         Ok(())
     }
 
-    // Appends the name of an entry.
-    fn push_name(&mut self, entry: &EntryView<'_>) -> Result<(), NoMemory>
+    // Appends a name.
+    fn push_name<N: Name>(&mut self, name: &N) -> Result<(), NoMemory>
         ensures { (ts : List (List ℕ)) → AreTexts ts self.old.bytes.items self.old.lens.items
-            → OnOk result (AreTexts (ts ++ name_text entry.now.principal ∷ []) self.new.bytes.items self.new.lens.items) }
+            → OnOk result (AreTexts (ts ++ name_text (N.parts name.now) ∷ []) self.new.bytes.items self.new.lens.items) }
     {
         let start = self.bytes.len();
-        write_name(entry.principal(), &mut self.bytes)?;
+        write_name(name, &mut self.bytes)?;
         let end = self.bytes.len();
         self.push_len(end - start)
     }
@@ -67,31 +69,54 @@ impl<A: Allocator + Copy> Texts<A> {
         ensures { (ts : List (List ℕ)) → AreTexts ts self.old.bytes.items self.old.lens.items
             → OnOk result (AreTexts (ts ++ name_text entry.now.principal ∷ entry.now.key ∷ []) self.new.bytes.items self.new.lens.items) }
     {
-        self.push_name(entry)?;
+        self.push_name(entry.principal())?;
         let key = entry.key();
         append(key, &mut self.bytes)?;
         self.push_len(key.len())
     }
 
-    // Appends the names of entries.
-    fn push_names(&mut self, asked: &[(u32, EntryView<'_>)]) -> Result<(), NoMemory>
+    // Appends the name of an entry, or its new one.
+    fn push_asked<B: Allocator>(
+        &mut self,
+        entry: &EntryView<'_>,
+        new_name: Option<&Principal<B>>,
+    ) -> Result<(), NoMemory>
         ensures { (ts : List (List ℕ)) → AreTexts ts self.old.bytes.items self.old.lens.items
-            → OnOk result (AreTexts (ts ++ name_texts asked.now) self.new.bytes.items self.new.lens.items) }
+            → OnOk result (AreTexts (ts ++ name_text (renamed (name_in new_name.entry) entry.now).principal ∷ [])
+            self.new.bytes.items self.new.lens.items) }
+    {
+        match new_name {
+            None => self.push_name(entry.principal()),
+            Some(name) => self.push_name(name),
+        }
+    }
+
+    // Appends the names of entries, or their new one.
+    fn push_names<B: Allocator>(
+        &mut self,
+        asked: &[(u32, EntryView<'_>)],
+        new_name: Option<&Principal<B>>,
+    ) -> Result<(), NoMemory>
+        ensures { (ts : List (List ℕ)) → AreTexts ts self.old.bytes.items self.old.lens.items
+            → OnOk result (AreTexts (ts ++ name_texts (asked_as (name_in new_name.entry) asked.now))
+            self.new.bytes.items self.new.lens.items) }
     {
         'asked: for (_place, entry) in asked {
-            self.push_name(entry)?;
+            self.push_asked(entry, new_name)?;
         }
         Ok(())
     }
 
-    /// Returns the names and keys of a keytab's entries, and the names of those asked for.
-    pub fn of<B: Allocator>(
+    /// Returns the names and keys of a keytab's entries, and the names of those asked for, or their new one.
+    pub fn of<B: Allocator, C: Allocator>(
         alloc: A,
         keytab: &Keytab<B>,
         asked: &[(u32, EntryView<'_>)],
+        new_name: Option<&Principal<C>>,
     ) -> Result<Texts<A>, NoMemory>
         ensures { IfOk result (λ texts. AreTexts
-            (entry_texts (placed_entries keytab.now.state) ++ name_texts asked.now) texts.bytes.items texts.lens.items) }
+            (entry_texts (placed_entries keytab.now.state) ++ name_texts (asked_as (name_in new_name.entry) asked.now))
+            texts.bytes.items texts.lens.items) }
     {
         let mut texts = Texts {
             bytes: Vec::with_capacity(alloc, usual_capacity(keytab, asked.len()))?,
@@ -100,7 +125,25 @@ impl<A: Allocator + Copy> Texts<A> {
         'entries: for (_place, entry) in keytab.entries() {
             texts.push_entry(&entry)?;
         }
-        texts.push_names(asked)?;
+        texts.push_names(asked, new_name)?;
+        Ok(texts)
+    }
+
+    /// Returns the names of the entries of two lists.
+    pub fn of_both(
+        alloc: A,
+        ours: &[(u32, EntryView<'_>)],
+        others: &[(u32, EntryView<'_>)],
+    ) -> Result<Texts<A>, NoMemory>
+        ensures { IfOk result (λ texts. AreTexts (name_texts (ours.now ++ others.now)) texts.bytes.items texts.lens.items) }
+    {
+        let count = ours.len().saturating_add(others.len());
+        let mut texts = Texts {
+            bytes: Vec::with_capacity(alloc, count.saturating_mul(USUAL_LEN))?,
+            lens: Vec::with_capacity(alloc, count)?,
+        };
+        texts.push_names::<Global>(ours, None)?;
+        texts.push_names::<Global>(others, None)?;
         Ok(texts)
     }
 

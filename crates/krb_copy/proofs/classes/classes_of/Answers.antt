@@ -1,4 +1,5 @@
 use Rattle.krb_copy.proofs.Cited.{List, ℕ, subst, ◌++◌, ◌∷◌, map, name_text, PlacedEntry, placed_entries, as_found, AreTexts, entry_texts}
+use Rattle.krb_copy.proofs.ClassKeys.{key_of_fields}
 use Rattle.krb_copy.proofs.FoundTexts.{one_found}
 use Rattle.krb_copy.proofs.classes.classes_of.Goals as goal
 
@@ -10,6 +11,7 @@ entries-preserved g c = λ more texts.
     let others : List (List ℕ) = entry_texts rest ++ more in
     let left = subst (λ (xs : List PlacedEntry). AreTexts (entry_texts xs ++ more) c.entries.texts.bytes.now c.entries.texts.lens.now) c.in-Some.ensures.steps f.texts in
     let name = c.next-in-entries.ensures (name_text x.1.principal) (x.1.key ∷ others) left in
+    let of_x = key_of_fields x.1 c.fields.result c.next-in-entries.result.now c.class_key-key.result c.fields.ensures.is name.0 c.class_key-key.ensures in
     let key = c.next-secret.ensures x.1.key others name.1 in
     one_found (placed_entries c.args.keytab.now.state) c.entries.place-iterator rest more x c.entries.classes c.add.new.classes c.entries.texts.bytes.now c.entries.texts.lens.now c.next-secret.new.self.bytes.now c.next-secret.new.self.lens.now f c.in-Some.ensures.steps
-    (c.in_ok-add.ensures (map as_found f.before) x.1 f.classes_are (c.class_key-key.ensures name.0) key.0) key.1
+    (c.in_ok-add.ensures (map as_found f.before) x.1 f.classes_are of_x key.0) key.1

@@ -1,4 +1,4 @@
-use Rattle.krb_copy.proofs.Cited.{name_texts, sym, ap, subst, ◌++◌, placed_entries, entry_texts, copy_run, run_over, run_start, InMemory, IsMade}
+use Rattle.krb_copy.proofs.Cited.{name_texts, asked_as, name_in, sym, ap, subst, ◌++◌, placed_entries, entry_texts, copy_run, run_over, run_start, InMemory, IsMade}
 use Rattle.std.proofs.lemmas.Result.{err_from_is_err_and}
 use Rattle.krb_copy.specs.declared.copy.Copying.{Copying}
 use Rattle.krb_copy.proofs.Runs.{starts, due_is, made_is, refused_is}
@@ -7,7 +7,7 @@ use Rattle.krb_copy.proofs.copy.copy_by.Goals as goal
 pub returns-in_err-go_over-clause-refused : goal.returns-in_err-go_over-clause-refused
 returns-in_err-go_over-clause-refused g c =
     let k = c.args.to.state in
-    let asked = c.args.asked.now in
+    let asked = asked_as (name_in c.args.new_name) c.args.asked.now in
     let replace = c.args.replace in
     let start : Copying g.row.A.Denot = record { making = record { keytab = c.in-Ok.keytab; text = c.in_ok-text.text; clashes = c.new.result; places = c.new-2.result }; classes = c.in_ok-classes.classes; texts = c.classes_of.new.texts; replace = c.args.replace } in
     let texts = c.left-left.ensures (entry_texts (placed_entries k) ++ name_texts asked) c.requires in
@@ -19,7 +19,7 @@ returns-in_err-go_over-clause-refused g c =
 pub returns-clause-made : goal.returns-clause-made
 returns-clause-made g c =
     let k = c.args.to.state in
-    let asked = c.args.asked.now in
+    let asked = asked_as (name_in c.args.new_name) c.args.asked.now in
     let replace = c.args.replace in
     let start : Copying g.row.A.Denot = record { making = record { keytab = c.in-Ok.keytab; text = c.in_ok-text.text; clashes = c.new.result; places = c.new-2.result }; classes = c.in_ok-classes.classes; texts = c.classes_of.new.texts; replace = c.args.replace } in
     let texts = c.left-left.ensures (entry_texts (placed_entries k) ++ name_texts asked) c.requires in

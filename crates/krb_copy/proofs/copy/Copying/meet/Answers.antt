@@ -9,8 +9,8 @@ pub returns-in_err-place-in-Copy-clause-meets : goal.returns-in_err-place-in-Cop
 returns-in_err-place-in-Copy-clause-meets g c = λ run asked s.
     let x : PlacedEntry = (c.args.place, c.args.entry.now) in
     let name = c.next.ensures (name_text x.1.principal) (name_texts asked) s.texts in
-    let m = met run.before run.held x.1 c.class_key-key.result c.args.self.now.classes c.or_insert-class.result.now s.classes (c.class_key-key.ensures name.0) c.in_ok-self.ensures.value c.or_insert-class.ensures.value in
-    let step = c.in-Copy.ensures ∙ step_is c.args.self.now.replace c.key.result.now m c.key.ensures in
+    let m = met run.before run.held x.1 c.class_key-kind.result c.args.self.now.classes c.or_insert-class.result.now s.classes (c.class_key-kind.ensures name.0) c.in_ok-self.ensures.value c.or_insert-class.ensures.value in
+    let step = c.in-Copy.ensures ∙ step_is c.args.self.now.replace c.args.key.now m c.requires in
     let p = err_from_is_err_and c.from_residual-in_err-place-in-Copy.result c.from_residual-in_err-place-in-Copy.ensures.1 in
     rw (p.1, p.2) (refused_run run x asked c.args.self.now.replace c.in-Copy.places.now c.args.self.now.making.keytab.state c.args.self.now.making.text.items c.in_err-place-in-Copy.field-0.0
     (record { making = c.copy.new.self; classes = _; texts = c.next.new.self; replace = c.args.self.now.replace }) s.keytab s.text step c.in_err-place-in-Copy.ensures.refused (c.copy.ensures.clash ∙ s.clashes))
@@ -19,8 +19,8 @@ pub returns-in-There-clause-meets : goal.returns-in-There-clause-meets
 returns-in-There-clause-meets g c = λ run asked s.
     let x : PlacedEntry = (c.args.place, c.args.entry.now) in
     let name = c.next.ensures (name_text x.1.principal) (name_texts asked) s.texts in
-    let m = met run.before run.held x.1 c.class_key-key.result c.args.self.now.classes c.or_insert-class.result.now s.classes (c.class_key-key.ensures name.0) c.in_ok-self.ensures.value c.or_insert-class.ensures.value in
-    let step = c.in-There.ensures ∙ step_is c.args.self.now.replace c.key.result.now m c.key.ensures in
+    let m = met run.before run.held x.1 c.class_key-kind.result c.args.self.now.classes c.or_insert-class.result.now s.classes (c.class_key-kind.ensures name.0) c.in_ok-self.ensures.value c.or_insert-class.ensures.value in
+    let step = c.in-There.ensures ∙ step_is c.args.self.now.replace c.args.key.now m c.requires in
     let same = c.self-in-There-2-1.given.1 (sym c.in_ok-self.ensures.same_map) in
     let keep = c.keep.ensures in (
       record run { before = run.before ++ x.1 ∷ [] },
@@ -39,8 +39,8 @@ pub returns-in_ok-clash-in-Clash-clause-meets : goal.returns-in_ok-clash-in-Clas
 returns-in_ok-clash-in-Clash-clause-meets g c = λ run asked s.
     let x : PlacedEntry = (c.args.place, c.args.entry.now) in
     let name = c.next.ensures (name_text x.1.principal) (name_texts asked) s.texts in
-    let m = met run.before run.held x.1 c.class_key-key.result c.args.self.now.classes c.or_insert-class.result.now s.classes (c.class_key-key.ensures name.0) c.in_ok-self.ensures.value c.or_insert-class.ensures.value in
-    let step = c.in-Clash.ensures ∙ step_is c.args.self.now.replace c.key.result.now m c.key.ensures in
+    let m = met run.before run.held x.1 c.class_key-kind.result c.args.self.now.classes c.or_insert-class.result.now s.classes (c.class_key-kind.ensures name.0) c.in_ok-self.ensures.value c.or_insert-class.ensures.value in
+    let step = c.in-Clash.ensures ∙ step_is c.args.self.now.replace c.args.key.now m c.requires in
     let same = c.self-in-Clash-2-1.given.1 (sym c.in_ok-self.ensures.same_map) in (
       record run { before = run.before ++ x.1 ∷ []; text = run.text ++ clash_line x c.in-Clash.twin; clashes = run.clashes ++ clash_line x c.in-Clash.twin },
       ap (run_after run x) (sym step),
@@ -58,14 +58,14 @@ pub returns-in_ok-place-in-Copy-clause-meets : goal.returns-in_ok-place-in-Copy-
 returns-in_ok-place-in-Copy-clause-meets g c = λ run asked s.
     let x : PlacedEntry = (c.args.place, c.args.entry.now) in
     let name = c.next.ensures (name_text x.1.principal) (name_texts asked) s.texts in
-    let m = met run.before run.held x.1 c.class_key-key.result c.args.self.now.classes c.or_insert-class.result.now s.classes (c.class_key-key.ensures name.0) c.in_ok-self.ensures.value c.or_insert-class.ensures.value in
-    let step = c.in-Copy.ensures ∙ step_is c.args.self.now.replace c.key.result.now m c.key.ensures in
+    let m = met run.before run.held x.1 c.class_key-kind.result c.args.self.now.classes c.or_insert-class.result.now s.classes (c.class_key-kind.ensures name.0) c.in_ok-self.ensures.value c.or_insert-class.ensures.value in
+    let step = c.in-Copy.ensures ∙ step_is c.args.self.now.replace c.args.key.now m c.requires in
     let same = c.self-in-Copy-2-1.given.1 (sym c.in_ok-self.ensures.same_map) in
-    let kept = Kept c.in_ok-place-in-Copy.place c.key-in-Copy.result in
+    let kept = Kept c.in_ok-place-in-Copy.place c.args.key in
     copied_run run x asked c.args.self.now.replace c.in-Copy.places.now c.in_ok-place-in-Copy.place c.args.self.now.making.keytab.state
     (record { making = c.copy.new.self; classes = _; texts = c.next.new.self; replace = c.args.self.now.replace })
     s.keytab step c.in_ok-place-in-Copy.ensures.added
     (c.in_ok-place-in-Copy.ensures.text ∙ ap (λ (t : List ℕ). t ++ copied_lines x.1 c.in-Copy.places.now c.in_ok-place-in-Copy.place) s.text)
     (c.copy.ensures.clash ∙ s.clashes)
     (c.in_ok-place-in-Copy.ensures.places ∙ ap (λ (ps : List ℕ). ps ++ c.in_ok-place-in-Copy.place ∷ []) s.places)
-    (after_copy kept m same (c.in_ok-self.ensures.update.0 kept) c.in_ok-place-in-Copy.place c.key-in-Copy.result refl c.key-in-Copy.ensures) name.1
+    (after_copy kept m same (c.in_ok-self.ensures.update.0 kept) c.in_ok-place-in-Copy.place c.args.key refl c.requires) name.1
