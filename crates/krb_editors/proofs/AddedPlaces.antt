@@ -1,15 +1,14 @@
 -- Where live cells and added entries stand, in lists and in sets.
-use Rattle.krb_editors.proofs.Cited.{◌≡◌, ◌≢◌, ℕ, ◌<◌, ◌≤◌, true, List, [], ◌∷◌, map, Option, Some, None, refl, ap, arith, Store, Record, IsSound, end_of, is_place, next_live, stop_at, stop_of, ◌⊎◌, inl, inr, zero, suc, Bool, false, ◌++◌, length, get_or, sym, ◌∙◌, subst, list_any, Event, carry, nth_or, ReplyContent, Started, Gave, Ended, Faulted, Placed, Gone, Rewritten, Refused, Rules, SessionState, after, history, moment, state_after, KeytabState, HaveSame, followed_past, followed_over, places_after}
+use Rattle.krb_editors.proofs.Cited.{◌≡◌, ◌≢◌, ℕ, ◌<◌, ◌≤◌, true, List, [], ◌∷◌, map, Option, Some, None, refl, ap, arith, Store, Record, IsSound, end_of, is_place, next_live, stop_at, stop_of, zero, suc, Bool, false, ◌++◌, length, get_or, sym, ◌∙◌, subst, list_any, Event, carry, nth_or, ReplyContent, Started, Gave, Ended, Faulted, Placed, Gone, Rewritten, Refused, Rules, SessionState, after, history, moment, state_after, KeytabState, HaveSame, followed_past, followed_over, places_after}
 use Rattle.krb_walk.specs.declared.stop.Stop.TheVariants.{Live}
 use Rattle.krb_walk.specs.Stops.{records_from}
 use Rattle.krb_walk.proofs.Cells.{stops_live}
 use Rattle.krb_walk.proofs.Stops.{stops_end, stops_give_records}
 use Rattle.std.specs.Prelude.{◌||◌, ◌&&◌, ◌==◌, not, filter, nat_le, nat_lt, cond, if◌then◌else◌, option_and_then}
 use Rattle.std.specs.List.Sorted.{IsNonDecreasing}
-use Rattle.std.specs.Ordering.{nat_cmp, is_eq, match_ordering}
+use Rattle.std.specs.Ordering.{nat_cmp, is_eq}
 use Rattle.std.specs.declared.cmp.Ordering.TheVariants.{Less, Equal, Greater}
 use Rattle.std.specs.BTreeMap.{is_at}
-use Rattle.std.specs.BTreeSet.{insert_key}
 use Rattle.std.proofs.lemmas.Bool.Decides.{nat_tests}
 use Rattle.krb_walk.proofs.Carries.{Rises}
 use Rattle.std.proofs.Math.Bool.{or_assoc}

@@ -5,6 +5,7 @@ pub mod Selecting
 pub mod Removing
 pub mod Ktremove
 pub mod Ktcopy
+pub mod Ktdiff
 pub mod Ccedit
 pub mod Ccremove
 pub mod Hold

@@ -1,8 +1,10 @@
--- Which entries the words of a command select.
-use Rattle.std.specs.Prelude.{◌≡◌, ℕ, Bool, List, ◌&&◌, ◌==◌, codes, length, if◌then◌else◌, Option, None, Some, option_map, is_none}
+-- Which entries the words of a command select, and their new name.
+use Rattle.std.specs.Prelude.{◌≡◌, ℕ, Bool, List, ◌&&◌, ◌==◌, codes, length, if◌then◌else◌, Option, None, Some, option_map, is_none, Ok}
 use Rattle.std.specs.Option.{option_or}
 use Rattle.std.specs.Str.{bytes_eq}
-use Rattle.krb_text.specs.Etype.{etype_in}
+use Rattle.krb_wire.specs.declared.principal.Principal.{Principal}
+use Rattle.krb_wire.specs.NameOf.{name_of}
+use Rattle.krb_wire.specs.Reading.{principal_parts}
 use Rattle.krb_text.specs.Numbers.{number_in}
 use Rattle.krb_audit.specs.declared.selection.SelectedKvno.{SelectedKvno}
 use Rattle.krb_audit.specs.declared.selection.SelectedKvno.TheVariants.{Any, Exactly}
@@ -30,3 +32,7 @@ IsSpelledKvno name named (Some word) kvno = kvno_in name named word ≡ Some kvn
 -- the first mistake in the enctypes and names
 abbrev pub bad_criteria : Matched → Option MistakeParts
 bad_criteria words = option_or (first_mistake bad_etype (words.values (codes "enctype"))) (first_mistake bad_name (words.values (codes "principal")))
+
+-- the new name is the one that the word spells, or there is neither
+abbrev pub IsNewName : {A : Type 0} → Option (List ℕ) → Option (Principal A) → Type 0
+IsNewName word name = option_map (λ w. name_of w None) word ≡ option_map (λ n. Ok (principal_parts n)) name

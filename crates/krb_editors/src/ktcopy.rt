@@ -1,28 +1,29 @@
 //! ktcopy: copies entries from one keytab into another.
 
-ghost use Rattle.std.specs.Prelude.{◌≡◌, Ok, if◌then◌else◌};
-ghost use Rattle.krb_copy.specs.Copying.{Run, copy_run};
+ghost use Rattle.std.specs.Prelude.{◌≡◌, Ok, if◌then◌else◌, option_map};
+ghost use Rattle.krb_wire.specs.Reading.{principal_parts};
+ghost use Rattle.krb_copy.specs.Copying.{Run, asked_as, copy_run};
 ghost use Rattle.krb_copy.specs.Made.{IsMade as IsRunOf};
 ghost use Rattle.krb_audit.specs.Findings.{hides_added};
 ghost use Rattle.krb_audit.specs.Selection.{selected_in};
 ghost use Rattle.krb_driver.specs.Commands.{Makes, Runs, always, any, text_effect, IsMade};
-ghost use Rattle.krb_driver.specs.Mistakes.{Reads};
+ghost use Rattle.krb_driver.specs.Mistakes.{Reads, Refuses};
 ghost use Rattle.krb_driver.specs.RunErrors.{hiding};
 ghost use Rattle.krb_driver.specs.declared.verdict.Verdict.TheVariants.{Clashed, Well};
-ghost use Rattle.krb_editors.specs.Ktcopy.{SpellsCopy, asks_for_some, copied_effect, copies_from, copies_to, copy_mistake, finds_none, ktcopy_plan};
+ghost use Rattle.krb_editors.specs.Ktcopy.{SpellsCopy, asks_for_some, copied_effect, copies_from, copies_to, copy_mistake, finds_none, ktcopy_plan, odd_new_name};
 
-use crate::selecting::{OF_ENCTYPE, OF_PRINCIPAL, spelled_kvno};
+use crate::selecting::{OF_ENCTYPE, OF_PRINCIPAL, spelled_kvno, spelled_new_name};
 use krb_audit::{SelectedKvno, Selection, hides_added, selected_entries};
 use krb_copy::{Copied, copy_into};
 use krb_driver::{
     Command, CommandName, CommandWords, FileError, FileName, IN_PLACE, Made, MakeResult, Matches,
-    Output, RunError, V1_BIG, Verdict, Word, WordFault, World, hold_if, open_whole,
-    open_whole_or_empty, refuse_twice, run, spelled_etypes, spelled_names, v1_order,
+    Mistake, Output, RunError, V1_BIG, Verdict, Word, WordFault, World, hold_if, open_whole,
+    open_whole_or_empty, refuse_twice, run, spelled_etypes, spelled_names, times_given, v1_order,
 };
 use krb_files::Files;
 use krb_keytab::{EntryView, Keytab};
 use krb_walk::Refusal;
-use krb_wire::{NoMemory, Order};
+use krb_wire::{NoMemory, Order, Principal};
 use std::alloc::{Allocator, Global};
 use std::io::{Read, Write};
 
@@ -32,7 +33,7 @@ pub const KTCOPY: CommandWords = CommandWords {
     name: "ktcopy",
     about: "Copies entries from one keytab into another",
     usage: "\
-krbfile ktcopy [--v1-big] [--in-place] [-n] [--replace] [-p NAME].. [-k KVNO|new] [-e ETYPE].. FROM TO",
+krbfile ktcopy [--v1-big] [--in-place] [-n] [--replace] [-p NAME].. [--as NAME] [-k KVNO|new] [-e ETYPE].. FROM TO",
     after_help: Some(
         "\
 Statuses:
@@ -52,6 +53,7 @@ Example: bring new keys into the keytab in use
         ),
         Word::LongFlag("replace", "Replace entries that have another key"),
         OF_PRINCIPAL,
+        Word::LongValued("as", "NAME", "Copy under that name; with one -p"),
         Word::Valued(
             "kvno",
             'k',
@@ -70,6 +72,8 @@ Example: bring new keys into the keytab in use
 #[derive(Drop)]
 pub struct CopyOptions<A: Allocator> {
     pub selection: Selection<A>,
+    /// The name that what is copied gets, in place of its own.
+    pub new_name: Option<Principal<A>>,
     /// Replace entries that have another key.
     pub replace: bool,
     /// Print what would be copied, and save nothing.
@@ -78,7 +82,17 @@ pub struct CopyOptions<A: Allocator> {
     pub v1_order: Order,
 }
 
-/// Returns the options of ktcopy. Refuses `-k` given twice, and a bad value.
+// Refuses `--as` without just one `-p`.
+fn refuse_odd_new_name<'a, M: Matches<'a>>(matches: &M) -> Result<(), Mistake<'a>>
+    ensures { Refuses (odd_new_name (M.matched matches.now)) result }
+{
+    if times_given(matches, "as") > 0 && times_given(matches, "principal") != 1 {
+        return Err(Mistake::OnlyWithOne("--as", "-p"));
+    }
+    Ok(())
+}
+
+/// Returns the options of ktcopy. Refuses `-k` or `--as` given twice, `--as` without just one `-p`, and a bad value.
 pub fn copy_options<'a, M: Matches<'a>>(
     alloc: Global,
     matches: &M,
@@ -86,15 +100,19 @@ pub fn copy_options<'a, M: Matches<'a>>(
     ensures { Reads (copy_mistake (M.matched matches.now)) (SpellsCopy (M.matched matches.now)) result }
 {
     refuse_twice(matches, "kvno", "-k", "--kvno")?;
+    refuse_twice(matches, "as", "--as", "--as")?;
+    refuse_odd_new_name(matches)?;
     let kvno = spelled_kvno(matches, "new", SelectedKvno::Newest)?;
     let enctypes = spelled_etypes(alloc, matches, "enctype")?;
     let names = spelled_names(alloc, matches, "principal")?;
+    let new_name = spelled_new_name(alloc, matches)?;
     Ok(CopyOptions {
         selection: Selection {
             names: names?,
             kvno,
             enctypes: enctypes?,
         },
+        new_name: new_name?,
         replace: matches.flag("replace"),
         dry_run: matches.flag("dry-run"),
         v1_order: v1_order(matches),
@@ -173,7 +191,7 @@ fn made<'a, A: Allocator + Copy, B: Allocator>(
     Ok(Made::Saves(keytab.into_image(), output))
 }
 
-// Copies the selected entries, which have their places in FROM, into the keytab TO.
+// Copies the selected entries, which have their places in FROM, into the keytab TO, under the new name if there is one.
 fn copy<'a, A: Allocator + Copy, B: Allocator>(
     alloc: A,
     command: &CopyEntries<'a, B>,
@@ -181,9 +199,11 @@ fn copy<'a, A: Allocator + Copy, B: Allocator>(
     to: Keytab<A>,
 ) -> Result<Made<A, Output<A>>, FileError<'a>>
     ensures { IsMade (copied_effect command.now.options.now.dry_run command.now.to.name.now
-        (copy_run command.now.options.now.replace entries.now to.state)) (text_effect command.now.to.name.now result) }
+        (copy_run command.now.options.now.replace
+        (asked_as (option_map principal_parts command.now.options.now.new_name) entries.now) to.state)) (text_effect command.now.to.name.now result) }
 {
-    match copy_into(alloc, entries, to, command.options.replace) {
+    let new_name = command.options.new_name.as_ref();
+    match copy_into(alloc, entries, new_name, to, command.options.replace) {
         Ok(copied) => made(command, copied),
         Err(Refusal::Code(code)) => Err(FileError {
             file: command.to.name,

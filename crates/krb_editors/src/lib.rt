@@ -1,4 +1,4 @@
-//! The commands that change a file: ktedit, ktremove, ktcopy, ccedit and ccremove.
+//! The commands that change a file: ktedit, ktremove, ktcopy, ccedit and ccremove; and ktdiff, which compares two.
 #![tactic(auto)]
 
 mod added;
@@ -7,6 +7,7 @@ mod ccremove;
 mod edited;
 mod hold;
 mod ktcopy;
+mod ktdiff;
 mod ktedit;
 mod ktremove;
 mod removing;
@@ -17,5 +18,6 @@ pub use ccremove::{CCREMOVE, TicketOptions, run_ccremove, ticket_options};
 pub use hold::run_hold;
 pub use hold::words::{HOLD, HoldKind, hold_kind};
 pub use ktcopy::{CopyOptions, KTCOPY, copy_options, run_ktcopy};
+pub use ktdiff::{DiffOptions, KTDIFF, diff_options, run_ktdiff};
 pub use ktedit::{KTEDIT, run_ktedit};
 pub use ktremove::{KTREMOVE, RemoveOptions, remove_options, run_ktremove};
