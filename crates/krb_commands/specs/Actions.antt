@@ -6,7 +6,7 @@ use Rattle.krb_audit.specs.declared.selection.SelectedKvno.{SelectedKvno}
 use Rattle.krb_audit.specs.declared.selection.SelectedKvno.TheVariants.{OldFor}
 use Rattle.krb_commands.specs.declared.action.Action.{Action}
 use Rattle.krb_commands.specs.declared.needs.Needs.{Needs}
-use Rattle.krb_commands.specs.declared.action.Action.TheVariants.{CheckTicket, Overview, Ccedit, Ccremove, Klist, Ktcheck, Ktcopy, Ktedit, Ktfind, Ktremove, Ktutil, Hold, HoldOnTerminal, Help}
+use Rattle.krb_commands.specs.declared.action.Action.TheVariants.{CheckTicket, Overview, Ccedit, Ccremove, Klist, Ktcheck, Ktcopy, Ktdiff, Ktedit, Ktfind, Ktremove, Ktutil, Hold, HoldOnTerminal, Help}
 use Rattle.krb_driver.specs.declared.command_line.mistake.WordFault.{WordFault}
 use Rattle.krb_driver.specs.declared.command_line.mistake.WordFault.TheVariants as word
 use Rattle.krb_driver.specs.declared.command_line.words.CommandName.{CommandName}
@@ -24,14 +24,16 @@ use Rattle.krb_editors.specs.Ccedit.{ccedit_fairly, ccedit_plan}
 use Rattle.krb_editors.specs.Ccremove.{SpellsTickets, ccremove_plan, ended_by, ticket_mistake}
 use Rattle.krb_driver.specs.Commands.{Prints, Runs, always, any}
 use Rattle.krb_driver.specs.Loading.{result_map}
-use Rattle.krb_readers.specs.Klist.{file_kind, list_mistake, list_options, ListsAll, RunsTicketCheck, check_mistake, check_of}
+use Rattle.krb_readers.specs.Klist.{file_kind, list_mistake, list_options, ListsAll, RunsTicketCheck, check_mistake as ticket_check_mistake, check_of}
 use Rattle.krb_readers.specs.Overview.{SurveysAll, overview_mistake}
 use Rattle.krb_readers.specs.declared.klist.ticket_check.TicketCheck.{TicketCheck}
-use Rattle.krb_readers.specs.Ktcheck.{bad_finding, check_options, ChecksAll}
+use Rattle.krb_readers.specs.Ktcheck.{SpellsCheck, check_mistake, ChecksAll}
 use Rattle.krb_editors.specs.Hold.{RunsHold, file_kind as held_kind, hold_kind, hold_mistake}
 use Rattle.krb_editors.specs.Ktedit.{ktedit_fairly, ktedit_plan}
 use Rattle.krb_readers.specs.Ktfind.{SpellsEntry, find_mistake, ktfind_plan}
 use Rattle.krb_editors.specs.Ktcopy.{SpellsCopy, copy_mistake, ktcopy_plan}
+use Rattle.krb_editors.specs.Ktdiff.{SpellsDiff, ktdiff_plan}
+use Rattle.krb_editors.specs.Selecting.{bad_criteria}
 use Rattle.krb_editors.specs.Removing.{RemovesWith}
 use Rattle.krb_editors.specs.Ktremove.{SpellsRemoval, ktremove_plan, needed_time, remove_mistake}
 use Rattle.krb_ktutil.specs.KtutilTalk.{RunsKtutil}
@@ -87,7 +89,7 @@ AsksKlist words = AsksBy (words.flag (codes "list")) (words.flag (codes "silent"
 
 -- the action is the one that the words of ktcheck ask for
 abbrev pub AsksKtcheck : Matched → Action → Type 0
-AsksKtcheck words (Ktcheck options names) = (options ≡ check_options words) × AreFiles Keytab words names.items
+AsksKtcheck words (Ktcheck options names) = SpellsCheck words options × AreFiles Keytab words names.items
 AsksKtcheck words action = ⊥
 
 -- a file is the keytab, or the cache, that the word of that operand names, and is to be saved in place if the words ask for that
@@ -106,6 +108,7 @@ Asks name.Ktedit words (Ktedit order file) = (order ≡ v1_order words) × IsEdi
 Asks name.Ktfind words (Ktfind options file) = SpellsEntry words options × IsNamed Keytab (words.operand (codes "FILE")) Word file
 Asks name.Ktremove words (Ktremove options names) = SpellsRemoval words options × AreFiles Keytab words names.items
 Asks name.Ktcopy words (Ktcopy options from to) = SpellsCopy words options × IsNamed Keytab (words.operand (codes "FROM")) Word from × IsEdited Keytab words (codes "TO") to
+Asks name.Ktdiff words (Ktdiff options ours others) = SpellsDiff words options × IsNamed Keytab (words.operand (codes "A")) Word ours × IsNamed Keytab (words.operand (codes "B")) Word others
 Asks name.Ktcheck words action = AsksKtcheck words action
 Asks name.Ccedit words (Ccedit file) = IsEdited Cache words (codes "FILE") file
 Asks name.Ccremove words (Ccremove options names) = SpellsTickets words options × AreFiles Cache words names.items
@@ -115,7 +118,7 @@ Asks command words action = ⊥
 
 -- the first mistake in the words of klist
 abbrev pub klist_mistake : Matched → Option MistakeParts
-klist_mistake words = if words.flag (codes "list") then overview_mistake words else (if words.flag (codes "silent") then check_mistake words else list_mistake words)
+klist_mistake words = if words.flag (codes "list") then overview_mistake words else (if words.flag (codes "silent") then ticket_check_mistake words else list_mistake words)
 
 -- the first mistake in the words of that command
 abbrev pub line_mistake : CommandName → Matched → Option MistakeParts
@@ -123,7 +126,8 @@ line_mistake name.Klist words = klist_mistake words
 line_mistake name.Ktfind words = find_mistake words
 line_mistake name.Ktremove words = remove_mistake words
 line_mistake name.Ktcopy words = copy_mistake words
-line_mistake name.Ktcheck words = first_mistake bad_finding (words.values (codes "allow"))
+line_mistake name.Ktdiff words = bad_criteria words
+line_mistake name.Ktcheck words = check_mistake words
 line_mistake name.Ccremove words = ticket_mistake words
 line_mistake name.Hold words = hold_mistake words
 line_mistake command words = None
@@ -153,16 +157,16 @@ edits_all names clock = record nothing { clock = clock; no_pipes = are_several n
 abbrev pub left_out : Bool → FileKind → CommandName → Option (FileKind × CommandName)
 left_out is_named kind command = if is_named then None else Some (kind, command)
 
+-- what a line needs that reads files of that kind
+abbrev pub reads : List FileName → FileKind → CommandName → Needs
+reads names kind command = record nothing { no_pipes = are_several names; left_out = left_out (not (length names == 0)) kind command }
+
 -- what an action needs
 abbrev pub needs : Action → Needs
-needs (Klist options names) = record nothing {
-  no_pipes = are_several names.items;
-  json = options.json;
-  left_out = left_out (not (length names.items == 0)) (file_kind options.kind) name.Klist;
-}
+needs (Klist options names) = record (reads names.items (file_kind options.kind) name.Klist) { json = options.json }
 needs (Overview json names) = record nothing { clock = true; plain = true; json = json; left_out = left_out (not (length names.items == 0)) Cache name.Klist }
 needs (CheckTicket check file) = record nothing { clock = true; plain = true; left_out = left_out (is_some file) Cache name.Klist }
-needs (Ktcheck options names) = record nothing { no_pipes = are_several names.items; left_out = left_out (not (length names.items == 0)) Keytab name.Ktcheck }
+needs (Ktcheck options names) = record (reads names.items Keytab name.Ktcheck) { clock = is_some options.older; json = options.json }
 needs (Ktedit order file) = edits file true
 needs (Ccedit file) = edits file true
 needs (Ktremove options names) = edits_all names.items (is_timed options.selection.kvno)
@@ -228,9 +232,10 @@ module _ {F R W E : Type 0} (trait : Ghosts F) (old new : World F R W E) (status
   EndsAction (CheckTicket check file) = ChecksTickets trait old new status check now (file_or file default)
   EndsAction (Ktfind options file) = Runs trait (always (ktfind_plan options file)) any old new status
   EndsAction (Ktedit order file) = RunsScript trait old new status (ktedit_plan order file) (ktedit_fairly order file) event_in
-  EndsAction (Ktcheck options names) = RunsOn trait old new status (ChecksAll trait options old new status) (files_or names.items default)
+  EndsAction (Ktcheck options names) = RunsOn trait old new status (ChecksAll trait options now old new status) (files_or names.items default)
   EndsAction (Ktremove options names) = RemovesWith trait Keytab names.items old new status (ktremove_plan options) (needed_time options.selection.kvno now)
   EndsAction (Ktcopy options from to) = Runs trait (always (ktcopy_plan options from to)) any old new status
+  EndsAction (Ktdiff options ours others) = Runs trait (always (ktdiff_plan options ours others)) any old new status
   EndsAction (Ktutil options) = RunsKtutil trait options.v1_order options.prompts (unwrap_or now 0) old new status
   EndsAction (Ccedit file) = RunsScript trait old new status (ccedit_plan file) ccedit_fairly cache_line_in
   EndsAction (Ccremove options names) = RemovesWith trait Cache names.items old new status (ccremove_plan options) (ended_by options now)

@@ -4,19 +4,20 @@ ghost use Rattle.std.specs.Prelude.{◌≡◌, codes, map, IfErr, IfOk, None, On
 ghost use Rattle.krb_commands.specs.Actions.{AreNamed, Asks, AsksHold, AsksKlist, AsksKtcheck, AsksListing, AsksOverview, IsEdited, NamesFile, at_terminal, klist_mistake, line_mistake};
 ghost use Rattle.krb_driver.specs.FileNames.{IsNamed};
 ghost use Rattle.krb_driver.specs.declared.file_name.NameSource.TheVariants.{Word};
-ghost use Rattle.krb_readers.specs.Ktcheck.{bad_finding};
+ghost use Rattle.krb_readers.specs.Ktcheck.{check_mistake};
 ghost use Rattle.krb_readers.specs.Klist.{list_mistake};
 ghost use Rattle.krb_readers.specs.Overview.{overview_mistake};
 ghost use Rattle.krb_editors.specs.Hold.{hold_mistake};
-ghost use Rattle.krb_driver.specs.Mistakes.{first_mistake, first_value, IsRefusal, Reads};
+ghost use Rattle.krb_driver.specs.Mistakes.{first_value, IsRefusal, Reads};
 
 use krb_driver::{
     CommandName, CommandWords, FileKind, FileName, Matches, NameSource, WordFault, first_value,
     v1_order,
 };
 use krb_editors::{
-    CCEDIT, CCREMOVE, CopyOptions, HOLD, HoldKind, KTCOPY, KTEDIT, KTREMOVE, RemoveOptions,
-    TicketOptions, copy_options, hold_kind, remove_options, ticket_options,
+    CCEDIT, CCREMOVE, CopyOptions, DiffOptions, HOLD, HoldKind, KTCOPY, KTDIFF, KTEDIT, KTREMOVE,
+    RemoveOptions, TicketOptions, copy_options, diff_options, hold_kind, remove_options,
+    ticket_options,
 };
 use krb_ktutil::KTUTIL;
 use krb_readers::{
@@ -27,12 +28,13 @@ use krb_wire::Order;
 use std::alloc::{AllocError, Global};
 
 /// The commands, in the order in which help lists them.
-pub const COMMANDS: [CommandName; 10] = [
+pub const COMMANDS: [CommandName; 11] = [
     CommandName::Klist,
     CommandName::Ktedit,
     CommandName::Ktfind,
     CommandName::Ktremove,
     CommandName::Ktcopy,
+    CommandName::Ktdiff,
     CommandName::Ktcheck,
     CommandName::Ccedit,
     CommandName::Ccremove,
@@ -48,6 +50,7 @@ pub fn words_of(command: CommandName) -> CommandWords {
         CommandName::Ktfind => KTFIND,
         CommandName::Ktremove => KTREMOVE,
         CommandName::Ktcopy => KTCOPY,
+        CommandName::Ktdiff => KTDIFF,
         CommandName::Ktcheck => KTCHECK,
         CommandName::Ccedit => CCEDIT,
         CommandName::Ccremove => CCREMOVE,
@@ -75,10 +78,12 @@ pub enum Action<'a> {
     Ktfind(FindOptions<Global>, FileName<'a>),
     /// With the byte order of version 1 keytabs.
     Ktedit(Order, FileName<'a>),
-    Ktcheck(CheckOptions, Vec<FileName<'a>>),
+    Ktcheck(CheckOptions<Global>, Vec<FileName<'a>>),
     Ktremove(RemoveOptions<Global>, Vec<FileName<'a>>),
     /// From the first keytab into the second.
     Ktcopy(CopyOptions<Global>, FileName<'a>, FileName<'a>),
+    /// The first keytab with the second.
+    Ktdiff(DiffOptions<Global>, FileName<'a>, FileName<'a>),
     Ccedit(FileName<'a>),
     Ccremove(TicketOptions<Global>, Vec<FileName<'a>>),
     Ktutil(KtutilOptions),
@@ -207,9 +212,9 @@ fn parsed_ktcheck<'a, M: Matches<'a>>(
     alloc: Global,
     matches: &M,
 ) -> Result<Action<'a>, WordFault<'a>>
-    ensures { Reads (first_mistake bad_finding ((M.matched matches.now).values (codes "allow"))) (AsksKtcheck (M.matched matches.now)) result }
+    ensures { Reads (check_mistake (M.matched matches.now)) (AsksKtcheck (M.matched matches.now)) result }
 {
-    let options = check_options(matches)?;
+    let options = check_options(alloc, matches)?;
     let names = files_named(alloc, matches, FileKind::Keytab)?;
     Ok(Action::Ktcheck(options, names))
 }
@@ -247,6 +252,11 @@ fn parsed<'a, M: Matches<'a>>(
             copy_options(alloc, matches)?,
             file_of(matches, FileKind::Keytab, "FROM"),
             edited_file(matches, FileKind::Keytab, "TO"),
+        )),
+        CommandName::Ktdiff => Ok(Action::Ktdiff(
+            diff_options(alloc, matches)?,
+            file_of(matches, FileKind::Keytab, "A"),
+            file_of(matches, FileKind::Keytab, "B"),
         )),
         CommandName::Ktcheck => parsed_ktcheck(alloc, matches),
         CommandName::Ccedit => Ok(Action::Ccedit(cache)),

@@ -6,13 +6,14 @@ mod needs;
 mod response;
 
 pub use action::{Action, COMMANDS, KtutilOptions, action_of, at_terminal, words_of};
+pub use krb_audit::FINDINGS;
 pub use krb_driver::{
     BadLine, CommandName, CommandWords, ErrorOutput, FileKind, FileName, Matches, Mistake, More,
     NameSource, NotKeytab, Word, WordFault, World,
 };
 pub use krb_editors::{
-    CopyOptions, HoldKind, RemoveOptions, TicketOptions, run_ccedit, run_ccremove, run_hold,
-    run_ktcopy, run_ktedit, run_ktremove,
+    CopyOptions, DiffOptions, HoldKind, RemoveOptions, TicketOptions, run_ccedit, run_ccremove,
+    run_hold, run_ktcopy, run_ktdiff, run_ktedit, run_ktremove,
 };
 pub use krb_ktutil::{Ktutil, Line, run_ktutil};
 pub use krb_readers::{

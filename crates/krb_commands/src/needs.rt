@@ -2,7 +2,7 @@
 
 ghost use Rattle.std.specs.Prelude.{◌≡◌};
 ghost use Rattle.std.specs.List.{list_any};
-ghost use Rattle.krb_commands.specs.Actions.{are_several, edits, edits_all, left_out, needs, needs_of, nothing};
+ghost use Rattle.krb_commands.specs.Actions.{are_several, edits, edits_all, left_out, needs, needs_of, nothing, reads};
 
 use crate::action::Action;
 use krb_audit::SelectedKvno;
@@ -11,8 +11,8 @@ use krb_driver::{CommandName, FileKind, FileName, WordFault};
 /// What the run of a command line needs of the system, beside its files.
 #[derive(Clone, Copy)]
 pub struct Needs {
-    /// The time: for entries that ktutil adds, entries that have been old for some time, or tickets that have expired
-    /// or will.
+    /// The time: for entries that ktutil adds, entries that have been old or have had their key for some time, or tickets
+    /// that have expired or will.
     pub clock: bool,
     /// Only plain files are loaded: any other is refused before it is opened.
     pub plain: bool,
@@ -92,20 +92,25 @@ fn left_out(is_named: bool, kind: FileKind, command: CommandName) -> Option<(Fil
     }
 }
 
+// Returns what a line needs that reads files of that kind.
+fn reads(names: &[FileName<'_>], kind: FileKind, command: CommandName) -> Needs
+    ensures { result ≡ reads names.now kind command }
+{
+    Needs {
+        no_pipes: are_several(names),
+        left_out: left_out(!names.is_empty(), kind, command),
+        ..Needs::nothing()
+    }
+}
+
 // Returns what an action needs.
 fn action_needs(action: &Action<'_>) -> Needs
     ensures { result ≡ needs action.now }
 {
     match action {
         Action::Klist(options, names) => Needs {
-            no_pipes: are_several(names),
             json: options.json,
-            left_out: left_out(
-                !names.is_empty(),
-                options.kind.file_kind(),
-                CommandName::Klist,
-            ),
-            ..Needs::nothing()
+            ..reads(names, options.kind.file_kind(), CommandName::Klist)
         },
         Action::Overview(json, names) => Needs {
             clock: true,
@@ -120,10 +125,10 @@ fn action_needs(action: &Action<'_>) -> Needs
             left_out: left_out(file.is_some(), FileKind::Cache, CommandName::Klist),
             ..Needs::nothing()
         },
-        Action::Ktcheck(_, names) => Needs {
-            no_pipes: are_several(names),
-            left_out: left_out(!names.is_empty(), FileKind::Keytab, CommandName::Ktcheck),
-            ..Needs::nothing()
+        Action::Ktcheck(options, names) => Needs {
+            clock: options.older.is_some(),
+            json: options.json,
+            ..reads(names, FileKind::Keytab, CommandName::Ktcheck)
         },
         Action::Ktedit(_, file) | Action::Ccedit(file) => Needs::edits(file, true),
         Action::Ktremove(options, names) => {
@@ -137,7 +142,8 @@ fn action_needs(action: &Action<'_>) -> Needs
             in_place: options.in_place,
             ..Needs::nothing()
         },
-        Action::Ktfind(..) | Action::HoldOnTerminal | Action::Help(_) => Needs::nothing(),
+        Action::Ktfind(..) | Action::Ktdiff(..) | Action::HoldOnTerminal | Action::Help(_) =>
+            Needs::nothing(),
     }
 }
 

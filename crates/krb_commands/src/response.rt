@@ -6,7 +6,9 @@ ghost use Rattle.krb_driver.specs.Loading.{result_map};
 
 use crate::action::Action;
 use krb_driver::{FileName, RunError, Verdict, WordFault, World, print, report_word_fault};
-use krb_editors::{run_ccedit, run_ccremove, run_hold, run_ktcopy, run_ktedit, run_ktremove};
+use krb_editors::{
+    run_ccedit, run_ccremove, run_hold, run_ktcopy, run_ktdiff, run_ktedit, run_ktremove,
+};
 use krb_files::Files;
 use krb_ktutil::run_ktutil;
 use krb_readers::{
@@ -89,11 +91,14 @@ pub fn respond<A: Allocator + Copy, F: Files, R: Read, W: Write, E: Write>(
         Ok(Action::Ktfind(options, file)) => run_ktfind(alloc, options, *file, world),
         Ok(Action::Ktedit(v1_order, file)) => run_ktedit(alloc, *v1_order, *file, world),
         Ok(Action::Ktcheck(options, names)) => match files_or(names, &default) {
-            Ok(names) => run_ktcheck(alloc, options, names, world),
+            Ok(names) => run_ktcheck(alloc, options, now, names, world),
             Err(fault) => report_word_fault(fault, &mut world.err),
         },
         Ok(Action::Ktremove(options, names)) => run_ktremove(alloc, options, now, names, world),
         Ok(Action::Ktcopy(options, from, to)) => run_ktcopy(alloc, options, *from, *to, world),
+        Ok(Action::Ktdiff(options, ours, others)) => {
+            run_ktdiff(alloc, options, *ours, *others, world)
+        }
         Ok(Action::Ktutil(options)) => {
             let now = now.unwrap_or(0);
             run_ktutil(alloc, options.v1_order, options.prompts, now, world)

@@ -37,7 +37,6 @@ fn arg_of<'a>(alloc: Global, word: Word) -> Arg<'a> {
             .value_name(value)
             .help(help),
         Word::Operand(name, help) => Arg::new(alloc, name).required(true).help(help),
-        Word::OptionalOperand(name, help) => Arg::new(alloc, name).help(help),
         Word::Operands(name, help) => operands(alloc, name, help),
         Word::RequiredOperands(name, help) => operands(alloc, name, help).required(true),
     }

@@ -11,7 +11,7 @@ use crate::options::before_equals;
 use clap::error::ErrorKind;
 use clap::{ArgMatches, Command};
 use krb_commands::{
-    Action, BadLine, COMMANDS, Matches, Mistake, More, WordFault, action_of, words_of,
+    Action, BadLine, COMMANDS, FINDINGS, Matches, Mistake, More, WordFault, action_of, words_of,
 };
 use std::alloc::{AllocError, Global};
 
@@ -128,6 +128,21 @@ fn more_of<'a>(
     }
 }
 
+// Returns a help text with the findings, a line each, in place of its line `{findings}`.
+fn with_findings(alloc: Global, help: String) -> Result<String, AllocError> {
+    let Some((before, after)) = help.split_once("{findings}\n") else {
+        return Ok(help);
+    };
+    let mut text = format!(in alloc; "{before}")?;
+    for finding in &FINDINGS {
+        let row = finding.row();
+        let line = format!(in alloc; "  {:<10}{}\n", row.word, row.phrase)?;
+        text.push_str(&line)?;
+    }
+    text.push_str(after)?;
+    Ok(text)
+}
+
 /// Returns the action that the words request; the first word is the program's name. `help` is for a help text that a
 /// fault shows.
 pub fn parse_words<'a>(
@@ -147,7 +162,7 @@ pub fn parse_words<'a>(
         ErrorKind::OutOfMemory => Err(WordFault::NoMemory),
         // Requested help, or the version, is no error.
         ErrorKind::DisplayHelp | ErrorKind::DisplayVersion => {
-            Ok(Action::Help(format!(in alloc; "{error}")?))
+            Ok(Action::Help(with_findings(alloc, format!(in alloc; "{error}")?)?))
         }
         _ => {
             let line = bad_line(&command, words);
