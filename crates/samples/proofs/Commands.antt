@@ -9,6 +9,7 @@ use Rattle.krb_json.specs.Cache.{cache_json_text}
 use Rattle.krb_json.specs.Keytab.{keytab_json_text}
 use Rattle.krb_audit.specs.Findings.{is_out}
 use Rattle.krb_audit.specs.Newest.{has_wrapped}
+use Rattle.krb_audit.specs.CheckUp.{checked}
 use Rattle.krb_audit.specs.Report.{report}
 use Rattle.krb_audit.specs.Tickets.{is_service, removed_ticket_line, selected_tickets}
 use Rattle.krb_audit.specs.Selection.{has_selected_kvno, is_young}
@@ -75,29 +76,29 @@ found-damaged = refl
 -- ---- ktcheck
 
 -- what is found about a keytab whose file has a mode
-abbrev checked : Option ℕ → List ℕ → List ℕ
-checked mode image = report [] mode (keytab image)
+abbrev checked_lines : Option ℕ → List ℕ → List ℕ
+checked_lines mode image = report [] (checked mode None [] (keytab image))
 
 -- `same`: the entry at the first place has the key of the one at the second
-check-same : checked None (hex (codes "0502") ++ (host ++ host))
+check-same : checked_lines None (hex (codes "0502") ++ (host ++ host))
     ≡ codes "same 53 2 kvno 3 etype 17 host/a@R\nentries 2 free 0 holes 0\n"
 unfolding on_literals
 check-same = refl
 
 -- `clash`: it has another key, and the same name, version and encryption type
-check-clash : checked None (two ++ (hex (codes "000000290001000152000162000000016553f1000300110010000102030405060708090a0b0c0d0e0f00000003")))
+check-clash : checked_lines None (two ++ (hex (codes "000000290001000152000162000000016553f1000300110010000102030405060708090a0b0c0d0e0f00000003")))
     ≡ codes "clash 98 53 kvno 3 etype 17 b@R\nentries 3 free 0 holes 0\n"
 unfolding on_literals
 check-clash = refl
 
 -- each finding about an entry has a line, in this order; MIT's programs stop at the second entry, whose key is empty
-check-order : checked None (hex (codes "0502000000290001000152000162000000016553f1000300170010000102030405060708090a0b0c0d0e0f00000003000000190001000152000162000000016553f100030017000000000003000000290001000152000162000000016553f1000400110010000102030405060708090a0b0c0d0e0f00000004"))
-    ≡ codes "weak 2 kvno 3 etype 23 b@R\nold 2 kvno 3 etype 23 b@R\nweak 47 kvno 3 etype 23 b@R\nhidden 47 kvno 3 etype 23 b@R\nclash 47 2 kvno 3 etype 23 b@R\nold 47 kvno 3 etype 23 b@R\nentries 3 free 0 holes 0\n"
+check-order : checked_lines None (hex (codes "0502000000290001000152000162000000016553f1000300170010000102030405060708090a0b0c0d0e0f00000003000000190001000152000162000000016553f100030017000000000003000000290001000152000162000000016553f1000400110010000102030405060708090a0b0c0d0e0f00000004"))
+    ≡ codes "weak 2 kvno 3 etype 23 b@R\nold 2 kvno 3 etype 23 b@R\nweak 47 kvno 3 etype 23 b@R\nsize 47 kvno 3 etype 23 b@R\nhidden 47 kvno 3 etype 23 b@R\nclash 47 2 kvno 3 etype 23 b@R\nold 47 kvno 3 etype 23 b@R\nentries 3 free 0 holes 0\n"
 unfolding on_literals
 check-order = refl
 
 -- `hidden`: the first entry with an empty component, where MIT's programs stop; they see none after it
-check-hidden : checked None (hex (codes "05020000002e00030001520001610000000162000000016553f1000300110010000102030405060708090a0b0c0d0e0f000000030000002e00030001520001610000000163000000016553f1000300110010000102030405060708090a0b0c0d0e0f00000003") ++ b)
+check-hidden : checked_lines None (hex (codes "05020000002e00030001520001610000000162000000016553f1000300110010000102030405060708090a0b0c0d0e0f000000030000002e00030001520001610000000163000000016553f1000300110010000102030405060708090a0b0c0d0e0f00000003") ++ b)
     ≡ codes "hidden 2 kvno 3 etype 17 a//b@R\nentries 3 free 0 holes 0\n"
 unfolding on_literals
 check-hidden = refl
@@ -108,7 +109,7 @@ unfolding on_literals
 check-out = refl
 
 -- `old`: of versions 255 and 1, 1 is the newer, since a version of 8 bits begins again after 255
-check-wrapped : checked None (hex (codes "0502000000290001000152000162000000016553f100ff00110010000102030405060708090a0b0c0d0e0f000000ff000000290001000152000162000000016553f10001001100100102030405060708090a0b0c0d0e0f1000000001"))
+check-wrapped : checked_lines None (hex (codes "0502000000290001000152000162000000016553f100ff00110010000102030405060708090a0b0c0d0e0f000000ff000000290001000152000162000000016553f10001001100100102030405060708090a0b0c0d0e0f1000000001"))
     ≡ codes "old 2 kvno 255 etype 17 b@R\nentries 2 free 0 holes 0\n"
 unfolding on_literals
 check-wrapped = refl
@@ -119,15 +120,21 @@ unfolding on_literals
 check-wraps = (refl, refl, refl)
 
 -- `mode`: group or others may read or write the file; after the findings come the fault and the counts
-check-mode : checked (Some 0o100640) (hex (codes "0502ffffffd1") ++ (replicate 47 0 ++ (b ++ (hex (codes "0000")))))
+check-mode : checked_lines (Some 0o100640) (hex (codes "0502ffffffd1") ++ (replicate 47 0 ++ (b ++ (hex (codes "0000")))))
     ≡ codes "mode 640\nfault 1 at 98\nentries 1 free 47 holes 1\n"
 unfolding on_literals
 check-mode = refl
 
 -- the twelve low bits of a mode are printed, in octal
-check-mode-bits : checked (Some 0o104666) (hex (codes "0502")) ≡ codes "mode 4666\nentries 0 free 0 holes 0\n"
+check-mode-bits : checked_lines (Some 0o104666) (hex (codes "0502")) ≡ codes "mode 4666\nempty\nentries 0 free 0 holes 0\n"
 unfolding on_literals
 check-mode-bits = refl
+
+-- `aged`: at this second or before; `missing`: no entry of the name that is wanted, which counts once
+check-asked : report [] (checked None (Some 1700000000) (codes "c@R" ∷ codes "b@R" ∷ codes "c@R" ∷ []) (keytab two))
+    ≡ codes "aged 2 kvno 3 etype 17 host/a@R\naged 53 kvno 3 etype 17 b@R\nmissing c@R\nentries 2 free 0 holes 0\n"
+unfolding on_literals
+check-asked = refl
 
 -- ---- ktremove
 
@@ -270,7 +277,7 @@ edit-saves = refl
 
 -- what changes nothing is not saved
 edit-displays : ktedit.edits (events (codes "start\nstep 0\n")) (codes "k") (keytab (hex (codes "0502")))
-    ≡ Displays (codes "k") (record { out = codes "walk 0 at 2\nwalk 0 end 2\n"; verdict = Well; takes = false })
+    ≡ Displays (codes "k") (record { out = codes "walk 0 at 2\nwalk 0 end 2\n"; ending = Ok Well; takes = false })
 unfolding on_literals
 edit-displays = refl
 

@@ -12,7 +12,7 @@ use Rattle.krb_text.specs.Numbers.{number_in, seconds_in}
 use Rattle.krb_cache_text.specs.Script.{cache_line_in}
 use Rattle.krb_audit.specs.declared.selection.SelectedKvno.{SelectedKvno}
 use Rattle.krb_audit.specs.declared.selection.Selection.{Selection}
-use Rattle.krb_audit.specs.Report.{words_of}
+use Rattle.krb_audit.specs.Table.{none}
 use Rattle.krb_driver.specs.declared.command.RunEnd.{RunEnd}
 use Rattle.krb_driver.specs.declared.error.RunError.{RunError}
 use Rattle.krb_driver.specs.declared.error.RunError.TheVariants.{NothingSelected}
@@ -23,14 +23,17 @@ use Rattle.krb_driver.specs.declared.verdict.FileKind.{FileKind}
 use Rattle.krb_driver.specs.declared.verdict.FileKind.TheVariants.{Keytab, Cache}
 use Rattle.krb_driver.specs.FileNames.{bare_name, is_other_type}
 use Rattle.krb_driver.specs.Mistakes.{Matched, first_value, printed_name, v1_order}
+use Rattle.krb_driver.specs.Effects.{about, ending_of}
 use Rattle.krb_driver.specs.RunErrors.{Ending, ending_status}
 use Rattle.krb_driver.specs.Runs.{ending_text}
-use Rattle.krb_readers.specs.Ktcheck.{check_options, explained_after, plan_of as check_plan}
+use Rattle.krb_readers.specs.Ktcheck.{aged_by, explained_after, findings, plan_of as check_plan}
+use Rattle.krb_readers.specs.declared.ktcheck.words.CheckOptions.{CheckOptions}
 use Rattle.krb_readers.specs.Klist.{file_kind, klist_plan, list_kind, list_options, printed_after, check_of, check_status}
 use Rattle.krb_readers.specs.Overview.{heading, overview_plan}
 use Rattle.krb_readers.specs.Ktfind.{ktfind_plan}
 use Rattle.krb_editors.specs.Ccedit.{ccedit_plan}
 use Rattle.krb_editors.specs.Ktcopy.{ktcopy_plan}
+use Rattle.krb_editors.specs.Ktdiff.{ktdiff_plan}
 use Rattle.krb_editors.specs.Ktedit.{ktedit_plan}
 use Rattle.krb_editors.specs.Removing.{is_none, seen_after}
 use Rattle.krb_editors.specs.declared.removing.FilesSeen.{FilesSeen}
@@ -139,12 +142,6 @@ those names s = (s.out, s.err, s.status, map s.files names)
 abbrev no_details : Details
 no_details = record { cause = None; in_the_way = None; aftermath = None }
 
--- how an effect ends
-abbrev ending : Effect → Ending
-ending (Fails file why) = Err why
-ending (Displays file page) = Ok page.verdict
-ending (Saves file bytes out verdict) = Ok verdict
-
 -- what an effect prints
 abbrev output : Effect → List ℕ
 output (Fails file why) = []
@@ -159,12 +156,7 @@ ends explains out file end files = record { out = out; err = ending_text explain
 abbrev follows : Bool → FileMap → CommandPlan → Seen
 follows explains files plan =
     let effect = follow files plan in
-    ends explains (output effect) (file_of effect) (ending effect) (files_after files effect)
-  where
-    file_of : Effect → List ℕ
-    file_of (Fails file why) = file
-    file_of (Displays file page) = file
-    file_of (Saves file bytes out verdict) = file
+    ends explains (output effect) (about effect) (ending_of effect) (files_after files effect)
 
 -- the same if the input gives the lines of the plan, and otherwise an error
 abbrev follows_lines : {L : Type 0} → Bool → FileMap → (L → CommandPlan) → Result L RunError → Seen
@@ -181,7 +173,7 @@ over explains plan after last state files [] = last state files
 over explains plan after last state files (file ∷ names) =
     let effect = follow files (plan state file) in
     let first = follows explains files (Ends effect) in
-    followed_by first (over explains plan after last (after state (record { ending = ending effect; status = first.status })) first.files names)
+    followed_by first (over explains plan after last (after state (record { ending = ending_of effect; status = first.status })) first.files names)
 
 -- ---- the commands, over files
 
@@ -211,10 +203,25 @@ ktfind explains files ws = finds (principal_of (name_of (ws.operand (codes "NAME
     v1_order = v1_order ws;
   }) (operand ws Keytab (codes "FILE")))
 
+-- the options of ktcheck
+abbrev check_options : Matched → CheckOptions (Unit {0})
+check_options ws = record {
+  v1_order = v1_order ws;
+  quiet = ws.flag (codes "quiet");
+  json = ws.flag (codes "json");
+  with_filename = ws.flag (codes "with-filename");
+  allowed = findings (ws.values (codes "allow"));
+  older = option_and_then seconds_in (first_value ws (codes "older"));
+  wanted = names_of (ws.values (codes "want"));
+}
+
 -- the files are plain with this mode; a finding is explained once
-abbrev pub ktcheck : Bool → ℕ → FileMap → Matched → Seen
-ktcheck explains mode files ws =
-    over explains (λ explained file. check_plan (check_options ws) (nat_lt 1 (length (ws.values (codes "FILE")))) explained file (Some mode)) explained_after (λ explained. ends explains [] [] (Ok Well)) (words_of []) files (operands ws Keytab)
+abbrev pub ktcheck : Bool → ℕ → ℕ → FileMap → Matched → Seen
+ktcheck explains mode now files ws = checks (aged_by (check_options ws).older (Some now)) where
+  checks : Result (Option ℕ) RunError → Seen
+  checks (Err why) = ends explains [] [] (Err why) files
+  checks (Ok by) =
+      over explains (λ explained file. check_plan (check_options ws) by (nat_lt 1 (length (ws.values (codes "FILE")))) explained file (Some mode)) explained_after (λ explained. ends explains [] [] (Ok Well)) none files (operands ws Keytab)
 
 abbrev pub ktedit : Bool → FileMap → List ℕ → Matched → Seen
 ktedit explains files script ws =
@@ -249,10 +256,17 @@ ccremove explains now files ws = removes explains Cache (ccremove_plan (record {
 abbrev pub ktcopy : Bool → FileMap → Matched → Seen
 ktcopy explains files ws = follows explains files (ktcopy_plan (record {
   selection = selection (kvno_of (codes "new") Newest ws) ws;
+  new_name = option_and_then (λ word. principal_of (name_of word None)) (first_value ws (codes "as"));
   replace = ws.flag (codes "replace");
   dry_run = ws.flag (codes "dry-run");
   v1_order = v1_order ws;
 }) (named false Keytab (ws.operand (codes "FROM"))) (operand ws Keytab (codes "TO")))
+
+abbrev pub ktdiff : Bool → FileMap → Matched → Seen
+ktdiff explains files ws = follows explains files (ktdiff_plan (record {
+  selection = selection Any ws;
+  v1_order = v1_order ws;
+}) (named false Keytab (ws.operand (codes "A"))) (named false Keytab (ws.operand (codes "B"))))
 
 -- the lines of an input at a second, without prompts
 abbrev pub ktutil : Bool → ℕ → FileMap → List ℕ → Matched → Seen
