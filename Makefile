@@ -112,7 +112,7 @@ test:
 	tests/run; run=$$?; tests/wrong && exit $$run
 
 long-test: all
-	tests/long $(PROGRAM)
+	tests/run --long --program $(PROGRAM)
 
 # Puts the program $(2) below $(1), with its manual page, and the completions that its help gives.
 define put_program
