@@ -52,10 +52,4 @@ static inline int is_text(krbf_bytes bytes, const char *text) {
     return bytes.len == strlen(text) && !memcmp(bytes.at, text, bytes.len);
 }
 
-/* Reads all bytes, so that a sanitizer sees where they lie. */
-static inline void touch(krbf_bytes bytes) {
-    for (size_t at = 0; at < bytes.len; at++)
-        (void)*(const volatile uint8_t *)(bytes.at + at);
-}
-
 #endif

@@ -40,20 +40,14 @@ def remove(words: str, wanted: Outcome | list[str], *left: object) -> Case:
 
 CASES = [
     remove("-p host/a@R", [AT_392, AT_606], TICKET, PA_TYPE, LATER),
-    remove("--expired", [AT_40, AT_392], PA_TYPE, LATER, LATER_HOST),
     remove(r"--expired -p \host/a@R", [AT_392], TICKET, PA_TYPE, LATER, LATER_HOST),
-    remove("-p=host/a@R", message(1, "c: refused 9")),
-    remove("-phost/a@R -n", [AT_392, AT_606]),
     # One of several services; all that is given has to hold.
-    remove("-p host/a@R --service krbtgt/R@R", [AT_40, AT_284, AT_392, AT_606], PA_TYPE),
-    remove("-p b@R -p host/a@R -phost/a@R", [AT_392, AT_606], TICKET, PA_TYPE, LATER),
+    remove("-p b@R -p host/a@R --service krbtgt/R@R", [AT_40, AT_284, AT_392, AT_606], PA_TYPE),
     remove("-p b@R -p krbtgt/R@R --expired", [AT_40], PA_TYPE, LATER, of_host(), LATER_HOST),
-    remove("--all-services", [AT_392, AT_606], TICKET, PA_TYPE, LATER),
     remove("--expired --all-services", [AT_392], TICKET, PA_TYPE, LATER, LATER_HOST),
     remove("--all-services -p krbtgt/R@R -p host/a@R -n", [AT_392, AT_606]),
-    *(remove(f"--all-services {more}-p krbtgt/R@R", message(1, "c: refused 9")) for more in ("", "--expired ")),
+    remove("--all-services -p krbtgt/R@R", message(1, "c: refused 9")),
     over("services alone", "ccremove --all-services c", cache(*SERVICES, *GRANTING, PA_TYPE), TOLD,
          cache(*GRANTING, PA_TYPE)),
-    over("no services", "ccremove --all-services c", cache(*GRANTING, PA_TYPE), message(1, "c: refused 9")),
     over("no service has expired", "ccremove --all-services --expired c", cache(TICKET, LATER_HOST), []),
 ]

@@ -80,11 +80,10 @@ def check(report: Report, _program: str) -> None:
     numbers = {name: int(number) for name, number in re.findall(r"^ +KRBF_(\w+) = (\d+)", read("c/krbfile.h"), re.M)}
     sources = statuses()
     others = [f"{name} is not {number}" for name, number in numbers.items() if sources.get(name) != number]
-    report.check("the statuses of krbfile.h", others or ["too few were found"] * (len(numbers) < 19))
+    report.check("the statuses of krbfile.h", others)
     declared, there = prototypes(), exports()
     wrong = sorted(name for name in declared.keys() | shown() if declared.get(name) != shown().get(name))
     report.check("the synopsis of krbfile(3)", wrong)
-    report.check("krbfile.h has calls", [] if len(declared) > 30 else [f"{len(declared)} were found"])
     for name in sorted(declared.keys() | there.keys()):
         is_same = declared.get(name) == there.get(name)
         faults = [] if is_same else [f"{declared.get(name)}, not {there.get(name)}"]

@@ -1,5 +1,4 @@
-"""The C library: C programs over it beside `krbfile`, with refused memory and random calls, and a search for keys left
-in memory."""
+"""The C library: C programs over it beside `krbfile`, with refused memory, and a search for keys left in memory."""
 
 import fcntl
 import os
@@ -9,13 +8,13 @@ import subprocess
 from dataclasses import replace
 
 from clients.c_exports import prototypes
+from keytabs.ktutil_lines import KEY
 from makers.images import HOST, PA_TYPE, TICKET, TWO, USUAL, cache, keytab
 from makers.samples import SAMPLES
 from pages.documents import literals
 from pages.readme import installed, no_library
 from peers import corpus
 from runs.harness import SECONDS, TOP, Outcome, Report, differences, every, files_in, folder_of, message, run
-from runs.random_runs import Rounds
 from runs.undisturbed import frame
 from system.saving import owned, tree_faults
 
@@ -24,6 +23,7 @@ SHARED = os.path.join(TOP, "lib", "libkrbfile.so.1")
 SOURCES = os.path.join(TOP, "tests", "c")
 STRICT = ("-std=c11", "-D_POSIX_C_SOURCE=200809L", "-Wall", "-Wextra", "-Werror", "-g", "-O1")
 SANITIZED = ("-fsanitize=address,undefined", "-fno-sanitize-recover=all")
+WRAPS = ("-Wl,--wrap=malloc,--wrap=realloc",)
 # What runs the example of krbfile(3) that edits the keytab of its word. The status is 0 iff it saved.
 MAIN = """
 #include <signal.h>
@@ -33,10 +33,6 @@ int main(int argc, char **argv) {
     return argc != 2 || drop_rc4(argv[1]) != 0;
 }
 """
-# The number of random calls for each seed.
-CALLS = 50
-
-ADDED = "add 200 17 1700000000 000102030405060708090a0b0c0d0e0f c/abi@EXAMPLE.ORG\n"
 
 
 def lack() -> str:
@@ -87,15 +83,8 @@ def check_lists(report: Report, program: str, folder: str) -> None:
 
 # Runs of the program that move keys, which are the bytes 0 to 15 as in all images of these tests.
 PROGRAM_RUNS = (
-    *((line, b"") for line in ("klist -ktKe k", "klist -ktKe --json k", "klist -cef c", "ktfind k 0 0 host/a@R",
-                               "ktremove -n -p host/a@R k")),
-    ("ktedit k", ADDED.encode() + b"start\nstep 0\nrewrite\ncut 2\n"),
-    ("ccedit c", b"start\nconfig k - v\nstep 0\nrewrite\n"),
-    ("ktutil", b"rkt k\naddent -key -p c@R -k 3 -e 17\n000102030405060708090a0b0c0d0e0f\nl -k\nwkt j\n"),
-    ("ktcopy k new", b""), ("ktremove -p b@R k", b""),
-    ("ktedit --in-place k", ADDED.encode() + b"cut 98\n"),
-    ("ktcopy --in-place j k", b""), ("ccedit --in-place c", b"config k - w\n"),
-    ("ccremove -p krbtgt/R@R c", b""), ("hold -k k", frame(TWO)), ("hold c", frame(USUAL)),
+    ("klist -ktKe k", b""), ("ccedit c", b"start\nconfig k - v\nstep 0\nrewrite\n"), ("hold -k k", frame(TWO)),
+    ("ktutil", f"rkt k\naddent -key -p c@R -k 3 -e 17\n{KEY}\nl -k\nwkt j\n".encode()),
 )
 
 
@@ -139,8 +128,7 @@ def check_edit(report: Report, program: str) -> None:
 def check_given(report: Report, folder: str) -> None:
     """Passes calls no bytes, and bytes inside their own keytab or cache, and refuses each of their allocations in
     turn."""
-    wraps = ("-Wl,--wrap=malloc,--wrap=realloc",)
-    for name, words in (("no_bytes", SANITIZED), ("own_bytes", SANITIZED), ("refused_memory", wraps)):
+    for name, words in (("no_bytes", SANITIZED), ("own_bytes", SANITIZED), ("refused_memory", WRAPS)):
         report.compare(f"C: {name}.c", Outcome(0), run(build(folder, name, *words), (), folder))
     if shutil.which("valgrind") is None:
         report.skip("own_bytes.c under valgrind", "valgrind is not there")
@@ -153,7 +141,7 @@ def check_keys(report: Report, program: str, folder: str) -> None:
     """Checks that no freed block holds a key, in C and in the program."""
     freed = build(folder, "freed", "-shared", "-fPIC")
     with folder_of({"k": TWO, "c": USUAL}) as at:
-        runs = [(build(folder, "keys"), "k c", b"")]
+        runs = [(build(folder, "refused_memory", *WRAPS), "", b"")]
         if report.is_proved:
             runs += [(program, line, stdin) for line, stdin in PROGRAM_RUNS]
         else:
@@ -166,23 +154,6 @@ def check_keys(report: Report, program: str, folder: str) -> None:
             report.check(f"keys are cleared: {os.path.basename(named)} {line}", faults)
 
 
-def check_calls(report: Report, _program: str, seeds: range) -> None:
-    """Makes random calls over damaged files, those of all seeds in one run, under gcc's sanitizers."""
-    if why := lack():
-        report.skip("random calls of C", why)
-        return
-    keytabs, caches = (dict(corpus.files(kind)) for kind in ("keytab", "ccache"))
-    count = len(seeds) * CALLS
-    words = (str(seeds.start + 1), str(count), *keytabs, "--", *caches)
-    with folder_of({}) as folder, folder_of(keytabs | caches) as at:
-        got = run(build(folder, "random_calls", *SANITIZED), words, at)
-    report.compare(f"{count} random calls of C, seed {seeds.start + 1}", Outcome(0), got)
-
-
-RANDOM = Rounds(check_calls, share=1, usual=2_000)
-check_long = RANDOM.check_long
-
-
 def check_programs(report: Report, program: str) -> None:
     """Makes the checks by the programs of tests/c, which are built in one folder."""
     with folder_of({}) as folder:
@@ -192,5 +163,4 @@ def check_programs(report: Report, program: str) -> None:
 
 
 check = every(check_symbols, check_programs, check_example,
-              every(check_edit, of="the edit of krbfile(3)", needs=("strace",)), RANDOM.check,
-              of="the C library", lack=lack)
+              every(check_edit, of="the edit of krbfile(3)", needs=("strace",)), of="the C library", lack=lack)

@@ -46,7 +46,7 @@ def check_packed(report: Report, program: str) -> None:
         report.check("the archives", [] if files_in(one) == files_in(two) else ["differ"])
         (unpack,) = re.findall(r"^    (tar .*)$", read("README.md"), re.MULTILINE)
         got = run("sh", ("-c", f"{unpack} && printf '\\5\\2' | bin/krbfile ktcheck /dev/stdin"), one)
-        report.compare("the archive's program", Outcome(0, b"entries 0 free 0 holes 0\n"), got)
+        report.compare("the archive's program", Outcome(1, b"empty\nentries 0 free 0 holes 0\n"), got)
         words = (*(f"-o{name}" for name in (*BUILT, "all", "lib")), f"PROGRAM={program}", f"PREFIX={two}",
                  f"PYTHONDIR={two}/py", "install")
         made = run("make", words, TOP, env=env)

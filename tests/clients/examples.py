@@ -8,21 +8,26 @@ import signal
 from dataclasses import replace
 from importlib import import_module, util
 
+from keytabs.checks import as_json
 from makers.images import FIELDS, TICKET, Name, cache, header_field, offset
 from makers.samples import SAMPLES, make
 from pages.documents import read
 from pages.readme import installed
 from runs.harness import TOP, Outcome, Report, files_in, folder_of, run
 
-# The files of jobs, and lines that they print.
-JOBS = ("keytabs.cron", "keytabs.service", "keytabs.yml")
-REMOVED, FOUND = b"removed 2 kvno 3 etype 17 host/a@R", b"./mixed.keytab: weak 53 kvno 3 etype 23 b@R"
+# The files of jobs, each with a line that it prints, and another that all do.
+FOUND = b"./mixed.keytab: weak 53 kvno 3 etype 23 b@R\n./mixed.keytab: entries 2 free 0 holes 0\n"
+JOBS = {"keytabs.cron": FOUND, "keytabs.service": FOUND, "keytabs.yml": as_json(
+    "./mixed.keytab", "600", FOUND.replace(b"./mixed.keytab: ", b""), 1)}
+REMOVED = b"removed 2 kvno 3 etype 17 host/a@R\n"
 
 # The scripts, also over a cache with an offset and two tickets for one service, and the files that they leave.
 SCRIPTS = {
     "check_keytabs.sh host.keytab": Outcome(0, b"KEYTABS OK\n"),
-    "check_keytabs.sh damaged.keytab": Outcome(2, b"KEYTABS CRITICAL: fault 2 at 53;entries 1 free 0 holes 0\n"),
-    "check_keytabs.sh host.keytab .": Outcome(3, b"KEYTABS UNKNOWN: krbfile: .: cannot read\n"),
+    "check_keytabs.sh --want 'a|b@R' damaged.keytab no": Outcome(
+        2, b"KEYTABS CRITICAL: damaged.keytab: missing a/b@R, fault 2 at 53; no: no such file\n"),
+    "check_keytabs.sh host.keytab .": Outcome(3, b"KEYTABS UNKNOWN: .: cannot read\n"),
+    "keytabs.prom.sh keytabs.prom --want b@R mixed.keytab twice.keytab .": Outcome(0, err=b"krbfile: .: cannot read\n"),
     "tickets.prom.sh odd tickets.prom": Outcome(0),
     "reset-offset.pl odd": Outcome(0),
     "edit-keytab.sh host.keytab sh -c 'cat; tail -c +3 other.keytab'": Outcome(0),
@@ -34,6 +39,14 @@ BEFORE, AFTER = (cache(ODD, replace(ODD, endtime=8), fields=fields)
 LEFT = {"host.keytab": SAMPLES["host.keytab"] + SAMPLES["other.keytab"][2:], "mixed.keytab": SAMPLES["mixed.keytab"],
         "odd": AFTER, "tickets.prom": rb"""# TYPE krbfile_ticket_end_seconds gauge
 krbfile_ticket_end_seconds{file="odd",client="u@R",server="a\"\\\\?@R"} 1700036000
+""", "keytabs.prom": b"""# TYPE krbfile_keytab_status gauge
+krbfile_keytab_status{file="mixed.keytab"} 1
+krbfile_keytab_status{file="twice.keytab"} 1
+krbfile_keytab_status{file="."} 3
+# TYPE krbfile_keytab_findings gauge
+krbfile_keytab_findings{file="mixed.keytab",finding="weak"} 1
+krbfile_keytab_findings{file="twice.keytab",finding="missing"} 1
+krbfile_keytab_findings{file="twice.keytab",finding="same"} 1
 """}
 
 
@@ -55,13 +68,12 @@ def check_jobs(report: Report, folder: str, env: dict[str, str]) -> None:
     report.check("the units", [f"{got}"] if got.status or b"keytabs." in got.err else [])
     (line,) = re.findall(r"`(krbfile ktcheck [^`]*)` in cron", read("README.md"))
     got = run("sh", ("-c", line.replace("/etc/", "./")), folder, env=env)
-    found = {*got.out.splitlines()}
-    report.check("README's line for cron", [] if got.status == 1 and FOUND in found else [f"{got}"])
-    for name in JOBS:
+    report.check("README's line for cron", [] if got.status == 1 and FOUND in got.out else [f"{got}"])
+    for name, found in JOBS.items():
         removal, search = commands(name, texts[name])
-        for words, *wanted in ((search, 1, found), (removal, 0, {REMOVED})):
+        for words, status, line in ((search, 1, found), (removal, 0, REMOVED)):
             got = run("env", words, folder, env=env)
-            report.check(f"{name}: {words}", [] if [got.status, {*got.out.splitlines()}] == wanted else [f"{got}"])
+            report.check(f"{name}: {words}", [] if got.status == status and line in got.out else [f"{got}"])
         make(folder)
 
 

@@ -6,7 +6,7 @@ from functools import partial
 
 from clients import python_files
 from keytabs.listings import BY_NAME, KEY_SIZES
-from makers.images import B, HOST, PA_TYPE, TICKET, TWO, Credential, Entry, Name, cache, config, keytab, old
+from makers.images import B, PA_TYPE, TICKET, TWO, Credential, Entry, Name, cache, config, keytab
 from pages.readme import no_library, surroundings
 from runs.harness import Outcome, Report, every, folder_of, run, text
 from words.phrases import LIBRARY_CODES, SHORT, code
@@ -146,13 +146,6 @@ print(len(keytab.find(Long(b"c@R")).key), len(keytab.image) - len(image), keytab
 krbfile.store.Store(), Keytab(), object.__new__(Keytab)
 """
 
-# A rewrite that does not fit: version 2 has four more bytes for the type of a name.
-TOO_LONG = """
-with Keytab.open(image, limit=len(image)) as keytab:
-    walk = iter(keytab)
-    print(next(walk).place, told(lambda: keytab.rewrite([len(image)])), keytab.image == image, list(walk))
-"""
-
 # Two threads iterate over a keytab, and two read what another moves in memory.
 THREADS = """
 sys.setswitchinterval(1e-6)
@@ -173,13 +166,6 @@ def change():
 
 at_once((walk, walk, read, read, change))
 print(wrong, changed.image == image)
-"""
-
-# A name's components as its entry has them: each byte, empty ones, none, and very many of them.
-COMPONENTS = """
-for entry in Keytab.open(image):
-    parts = [os.fsencode(each) for each in entry.components]
-    print(len(parts), b"|".join(parts[:8]).hex(), entry.realm)
 """
 
 # Encryption types by name, keys that are not as long as those of their types, and the time of an entry.
@@ -222,9 +208,6 @@ KEYTAB_AFTER = keytab(Entry((b"c",), key=bytes(16), version8=7, version32=7, tim
 CACHE_AFTER = cache(Credential(server=Name((b"host", b"a")), is_skey=1, second_ticket=b"2"),
                     config(b"pa_type", b"3", b"krbtgt/R@R"))
 
-# Names with each byte, slashes, empty components and none, and as many as a name can have.
-NAMES = ((bytes(range(256)),), (b"a/b@c\\", b"", b"\0\b\n\t0bnt"), (b"",), (), (b"", b""), (b"",) * 65_535)
-
 SCRIPTS: tuple[Script, ...] = (
     ("keytabs", KEYTABS, TWO, [
         "[(2, 'host/a@R', 3, 17), (53, 'b@R', 3, 17)]",
@@ -257,7 +240,6 @@ SCRIPTS: tuple[Script, ...] = (
     ]),
     ("what it refuses", REFUSES, TWO, ["[] True", "True True b'k' True"]),
     ("strange arguments", STRANGE, TWO, ["16 45 [53]"]),
-    ("a rewrite that does not fit", TOO_LONG, old(HOST), [f"2 KrbfileError 33 {LIBRARY_CODES[3]} True []"]),
     ("encryption types", ETYPE_NAMES, b"", [
         *(line for name, number in BY_NAME.items() for length in (KEY_SIZES[number],) for line in (
             f"{name} {number} {length}", *(f"ValueError: a key of type {number} has {length} bytes, not {length + more}"
@@ -265,8 +247,6 @@ SCRIPTS: tuple[Script, ...] = (
         "True", "23 0",
     ]),
     ("threads", THREADS, TWO, ["[] True"]),
-    ("components", COMPONENTS, keytab(*(Entry(name, b"R/@") for name in NAMES)),
-     [f"{len(name)} {b'|'.join(name[:8]).hex()} R/@" for name in NAMES]),
 )
 
 

@@ -1,7 +1,7 @@
 """Random runs that change files: scripts, inputs of ktutil, removals and copies, some of them in turn over one file."""
 
 import re
-from collections.abc import Callable, Iterator
+from collections.abc import Callable, Iterator, Sequence
 from functools import partial
 from random import Random
 
@@ -16,8 +16,10 @@ from makers.images import BIG, LITTLE, TWO, hole, keytab, name_text
 from makers.mutations import damaged
 from makers.random_caches import KEYS, PRINCIPALS, filled_cache, random_credential, random_value, with_damage
 from makers.random_keytabs import Choices, random_bytes, random_keytab
+from runs.harness import Outcome, Report, folder_of
+from runs.harness import run as run_program
+from runs.random_runs import Rounds
 from runs.undisturbed import Undisturbed, undisturbed
-from words.phrases import BEGINS_AS_CACHE, CLASH, TO_REPLACE, code, line_fault
 
 # Few names, versions, types and keys, so that many entries agree; MIT's programs do not see those with empty parts.
 REMOVED = Choices(names=(*[(b"a", b"R")] * 6, (b"a", b"b", b"R"), (b"a/b", b"R"), (b"", b"R"), (b"R",)),
@@ -54,14 +56,9 @@ def in_turn(run: Callable[[bytes | None], Undisturbed], image: bytes | None, fil
         image = made.files_after.get(file)
 
 
-def with_zeros(random: Random, number: int) -> bytes:
-    """Returns a number, sometimes with leading zeros."""
-    return (b"%010d" if random.random() < 0.1 else b"%d") % number
-
-
-def random_number(random: Random) -> bytes:
-    """Returns a number of an entry."""
-    return with_zeros(random, random.choice([0, 1, 3, 255, 256, 300, NOW, 2**32 - 1]))
+def random_number(random: Random, numbers: Sequence[int] = (0, 1, 3, 255, 256, 300, NOW, 2**32 - 1)) -> bytes:
+    """Returns one of those numbers, sometimes with leading zeros."""
+    return (b"%010d" if random.random() < 0.1 else b"%d") % random.choice(numbers)
 
 
 def random_name(random: Random) -> bytes:
@@ -87,9 +84,9 @@ def script_line(random: Random, kind: str, places: list[int], walks: int) -> byt
     elif kind == "config":
         words += [random.choice(KEYS), random.choice(PRINCIPALS), random_value(random)]
     elif kind in ("cut", "resume"):
-        words.append(with_zeros(random, random.choice([*places * 4, 0, 1, 3, random.randrange(400), 2**32 - 1])))
+        words.append(random_number(random, [*places * 4, 0, 1, 3, random.randrange(400), 2**32 - 1]))
     elif kind == "step":
-        words.append(with_zeros(random, random.randrange(walks + 1 if random.random() < 0.1 else max(walks, 1))))
+        words.append(random_number(random, range(walks + 1 if random.random() < 0.1 else max(walks, 1))))
     return b" ".join(words)
 
 
@@ -205,35 +202,47 @@ def few_entries(random: Random, v1_big: bool) -> bytes:
 
 
 def copy(random: Random) -> Iterator[Undisturbed]:
-    """Yields a copy, the same again over what it left, and a copy back. A file may be missing, empty or no keytab."""
+    """Yields a copy, the same again over what it left, a copy back, and comparisons before and after it. A file may be
+    missing, empty or no keytab."""
     v1_big = random.random() < 0.3
     source, target = (random.choice([None, b"", b"\5\3"]) if random.random() < 0.12 else few_entries(random, v1_big)
                       for _ in range(2))
-    words = [*options(random, "--replace", "-n"), *("--v1-big",) * v1_big,
-             *selectors(random, [name_text(name) for name in FEW.names], 0.1)]
+    asked = [*("--v1-big",) * v1_big, *selectors(random, [name_text(name) for name in FEW.names], 0.1)]
+    words = [*options(random, "--replace", "-n"), *asked]
     if random.random() < 0.2:
         words += ["-k", random.choice(["new", "new", "1", "257"])]
+    if words.count("-p") == 1 or "-p" not in words and random.random() < 0.15:
+        old, new = (name_text(random.choice(FEW.names)) for _ in range(2))
+        words += [*("-p", old) * ("-p" not in words), "--as", new]
     runs = [*in_turn(lambda it: undisturbed(("ktcopy", *words, "k", "t"), k=source, t=it), target, "t")]
     yield from runs
-    yield undisturbed(("ktcopy", *words, "t", "k"), k=source, t=runs[-1].files_after.get("t"))
+    left = runs[-1].files_after.get("t")
+    yield undisturbed(("ktcopy", *words, "t", "k"), k=source, t=left)
+    yield undisturbed(("ktdiff", *asked, "k", "t"), k=source, t=target)
+    yield undisturbed(("ktdiff", *asked, "t", "k"), k=source, t=left)
 
 
-REPLIES = ("walk at", "walk gave", "walk end", "walk fault", "placed", "gone", "rewritten")
-REMOVALS = ("removed", "nothing to do", "refused 1", "-n removed")
+def check_same(report: Report, program: str, numbers: range) -> None:
+    """Checks that two keytabs do not differ iff copying each into the other tells nothing."""
+    wrong, ways = [], (("k", "t"), ("t", "k"))
+    for number in numbers:
+        random = Random(number)
+        words = ("--v1-big",) * random.randrange(2)
+        with folder_of({name: few_entries(random, bool(words)) for name in "kt"}) as folder:
+            for way in ways * random.randrange(2):
+                run_program(program, ("ktcopy", *words, *way), folder)
+            diff, *tells = (run_program(program, (*line, *words, *way), folder) for line, way in (
+                (("ktdiff",), ways[0]), *((("ktcopy", "-n"), way) for way in ways)))
+        wrong += [f"{number}: {diff}, {tells}"] * ((diff == Outcome(0)) != (tells == [Outcome(0)] * 2))
+    report.check("keytabs that are the same copy nothing", wrong[:3])
+
 
 TOPICS = (
-    Topic("random scripts", keytab_script,
-          (*REPLIES, *(f"refused {number}: {code(number)}" for number in (1, 4, 5, 6)),
-           *(f"fault {number}" for number in range(1, 7)), line_fault(2), line_fault(5), "not a keytab"), usual=60),
-    Topic("random scripts over caches", cache_script,
-          (*REPLIES, *(f"refused {number}: {code(number, 'ccedit')}" for number in (1, 4, 5, 6, 8)), "fault 3"),
-          usual=70),
-    Topic("random inputs of ktutil", ktutil_input,
-          ("a record", "no such file", code(1), *(f"fault {number}" for number in range(1, 8)),
-           *(line_fault(number, "ktutil") for number in range(1, 8))), usual=80),
-    Topic("random removals", removal, (*REMOVALS, code(9, "ktremove")), usual=50),
-    Topic("random removals of tickets", ticket_removal,
-          (*REMOVALS, "--all-services removed", *(code(number, "ccremove") for number in (1, 8, 9))), usual=70),
-    Topic("random copies", copy, ("copied", "removed", f"clash: {CLASH}", TO_REPLACE, "-n copied", "nothing to do",
-                                  code(9, "ktcopy"), BEGINS_AS_CACHE[1]), usual=60),
+    Topic("random scripts", keytab_script, 60),
+    Topic("random scripts over caches", cache_script, 70),
+    Topic("random inputs of ktutil", ktutil_input, 80),
+    Topic("random removals", removal, 50),
+    Topic("random removals of tickets", ticket_removal, 70),
+    Topic("random copies", copy, 60),
+    Rounds(check_same, share=50, usual=60, name="same_keytabs"),
 )

@@ -10,24 +10,26 @@ KEPT = {"n": "dry-run", "p:": "principal", "k:": "kvno", "e:": "enctype"}
 LETTERS = {
     "klist": {"k": "keytab", "c": "cache", "t": "times", "e": "enctypes", "K": "keys", "f": "flags", "C": "config",
               "l": "list", "s": "silent"},
-    "ktfind": {}, "ktcheck": {"q": "quiet"}, "ktedit": {}, "ccedit": {}, "ktutil": {}, "ktremove": KEPT, "ktcopy": KEPT,
-    "ccremove": {"n": "dry-run", "p:": "service"},
+    "ktcheck": {"q": "quiet", "H": "with-filename"}, "ktremove": KEPT, "ktcopy": KEPT, "ktdiff": KEPT,
+    "ccremove": {"n": "dry-run", "p:": "service"}, "ktfind": {}, "ktedit": {}, "ccedit": {}, "ktutil": {},
 }
-LONG = ("json", "for=", "v1-big", "in-place", "allow=", "age=", "replace", "all-services", "expired")
+LONG = ("json", "for=", "v1-big", "in-place", "allow=", "older=", "want=", "age=", "as=", "replace",
+        "all-services", "expired")
 
 # The names of the operands, of which the last stands for all that follow.
-OPERANDS = {"ktfind": ("FILE", "KVNO", "ETYPE", "NAME"), "ktcopy": ("FROM", "TO"), "ktutil": ()}
+OPERANDS = {"ktfind": ("FILE", "KVNO", "ETYPE", "NAME"), "ktcopy": ("FROM", "TO"), "ktdiff": ("A", "B"),
+            "ktutil": ()}
 
 # What each definition is given before the files, which have an input after them, and klist's by its other options.
-GIVEN = {"klist": ("explains",), "ktfind": ("explains",), "ktcopy": ("explains",), "ktcheck": ("explains", "mode"),
-         "ktedit": ("explains",), "ccedit": ("explains",), "ktremove": ("explains", "clock"),
-         "ccremove": ("explains", "clock"), "ktutil": ("explains", "clock"), "klist_silent": ("clock",),
-         "klist_overview": ("explains", "clock")}
+GIVEN = {"klist": ("explains",), "ktfind": ("explains",), "ktcopy": ("explains",), "ktdiff": ("explains",),
+         "ktedit": ("explains",), "ccedit": ("explains",), "ktcheck": ("explains", "mode", "clock"),
+         "ktremove": ("explains", "clock"), "ccremove": ("explains", "clock"), "ktutil": ("explains", "clock"),
+         "klist_silent": ("clock",), "klist_overview": ("explains", "clock")}
 READING = ("ktedit", "ccedit", "ktutil")
 OTHERS = {"list": "klist_overview", "silent": "klist_silent"}
 
 # The options by which a command asks for the time, and the lines of ktutil that do.
-TIMED, ADDING = {"list", "silent", "age", "expired"}, (b"add_entry", b"addent")
+TIMED, ADDING = {"list", "silent", "age", "older", "expired"}, (b"add_entry", b"addent")
 
 
 class NotComputed(Exception):

@@ -1,11 +1,15 @@
-"""Entries that `ktcheck` calls hidden and some that it does not, and what it says of modes. Random checks show the
-rest."""
+"""Entries that `ktcheck` calls hidden and some that it does not, what it says of modes, and its objects of JSON. Random
+checks show the rest."""
 
+import json
 import os
-import stat
+import re
+from dataclasses import replace
 
-from makers.images import TWO, Entry
-from runs.harness import Report, folder_of, printed, run
+from keytabs.listings import KEY_SIZES
+from keytabs.removals import told
+from makers.images import B, HOST, TWO, Entry, keytab
+from runs.harness import Outcome, Report, folder_of, over, printed, run, with_mode
 
 # The smallest length that MIT's reader takes for the end.
 LONG = 32_768
@@ -28,21 +32,77 @@ EVEN = {
 }
 
 # Modes, and the status; None where the mode has no line, since no other than the owner may read or write the file.
-MODES = {0o600: None, 0o400: None, 0o611: None, 0o7711: None, 0o640: 0, 0o660: 0, 0o620: 0, 0o604: 1, 0o602: 1,
-         0o644: 1, 0o666: 1, 0o4640: 0, 0o1644: 1, 0o060: 0, 0o006: 1}
+MODES = {0o600: None, 0o711: None, 0o640: 0, 0o620: 0, 0o604: 1, 0o602: 1}
+
+# A keytab, and its objects, those of no file and of a damaged one in a pipe.
+THREE = keytab(replace(HOST, components=(b"\xff\x7f",), enctype=23), B, B)
+OBJECTS = """{"file":"k","mode":"644","entries":3,"free":0,"holes":0,"findings":[{"finding":"mode"},\
+{"finding":"weak","place":2,"kvno":3,"etype":23,"principal_hex":"ff7f4052"},\
+{"finding":"same","place":93,"first":48,"kvno":3,"etype":17,"principal":"b@R"},\
+{"finding":"missing","principal":"\\u007f\\"c\\u0080@R"}],"fault":null,"status":1}
+{"file":"no","error":"no such file","status":1}
+{"file":"/dev/stdin","mode":null,"entries":2,"free":0,"holes":0,"findings":[],"fault":{"kind":1,"place":98},"status":1}
+"""
+
+# A line of a finding.
+LINE = re.compile(rb"(\w+)(?: (\d+)(?: (\d+))? kvno (\d+) etype (\d+))?(?: (.*))?", re.DOTALL)
+
+# Keys as long as their type's, a byte shorter and longer. The last three types have no length.
+SIZED = [Entry((b"%d" % size,), enctype=etype, key=bytes(size))
+         for etype, due in {**KEY_SIZES, 0: 5, 3: 8, 99: 16}.items() for size in (due - 1, due, due + 1)]
+
+
+def of_json(**members: object) -> bytes:
+    """Returns an object of JSON on a line."""
+    return json.dumps(members, ensure_ascii=False, separators=(",", ":")).encode() + b"\n"
+
+
+def finding_of(line: bytes) -> dict[str, object]:
+    """Returns the members of a finding. A name that is not UTF-8 is in hexadecimal."""
+    word, *numbers, name = LINE.fullmatch(line).groups()
+    found = {"finding": word.decode()}
+    found |= {key: int(it) for key, it in zip(("place", "first", "kvno", "etype"), numbers) if it}
+    try:
+        return found | ({"principal": name.decode()} if name and word != b"mode" else {})
+    except UnicodeDecodeError:
+        return found | {"principal_hex": name.hex()}
+
+
+def as_json(name: str, mode: str | None, lines: bytes, status: int) -> bytes:
+    """Returns the object of a file of which there are those lines."""
+    *findings, counts = lines[:-1].split(b"\n")
+    fault = findings.pop() if findings and findings[-1].startswith(b"fault ") else b""
+    counts, fault = (map(int, re.findall(rb"\d+", it)) for it in (counts, fault))
+    return of_json(file=name, mode=mode, **dict(zip(("entries", "free", "holes"), counts)),
+                   findings=[*map(finding_of, findings)], fault=dict(zip(("kind", "place"), fault)) or None,
+                   status=status)
+
+
+def unchecked(name: str, message: str, status: int) -> bytes:
+    """Returns the object of a file that is missing, refused or not read, by the message about it."""
+    return of_json(file=name, error=message.removeprefix(f"{name}: "), status=status)
+
+
+CASES = [over("keys of each length", "ktcheck k", keytab(*SIZED), with_mode(*(
+    f"{word} {told(it, *SIZED[:at])}" for at, it in enumerate(SIZED) for word, is_so in (
+        ("weak", it.enctype in (3, 16, 23)), ("size", KEY_SIZES.get(it.enctype, len(it.key)) != len(it.key))) if is_so),
+    f"entries {len(SIZED)} free 0 holes 0"))]
 
 
 def check(report: Report, program: str) -> None:
-    """Checks the mode of a plain file, also through a link."""
+    """Checks the mode of a plain file, also through a link, and objects of JSON."""
+    with folder_of({"k": THREE}) as folder:
+        os.chmod(os.path.join(folder, "k"), 0o644)
+        got = run(program, ("ktcheck", "--json", "--want", "\x7f\"c\x80@R", "k", "no"), folder)
+        piped = run(program, ("ktcheck", "--json", "/dev/stdin"), folder, TWO + b"\0")
+        report.compare("objects", Outcome(1, OBJECTS.encode(), b"krbfile: no: no such file\n"),
+                       replace(got, out=got.out + piped.out))
     with folder_of({"k": TWO}) as folder:
         path = os.path.join(folder, "k")
         os.symlink("k", os.path.join(folder, "link"))
         for mode, status in MODES.items():
             os.chmod(path, mode)
-            if stat.S_IMODE(os.stat(path).st_mode) != mode:
-                report.skip(f"mode {mode:o}", "the file does not take it")
-            elif mode & 0o400 or os.geteuid() == 0:
-                lines = [*[f"mode {mode:o}"] * (status is not None), "entries 2 free 0 holes 0"]
-                for name in ("k", "link"):
-                    got = run(program, ("ktcheck", name), folder)
-                    report.compare(f"mode {mode:o} of {name}", printed(*lines, status=status or 0), got)
+            lines = [*[f"mode {mode:o}"] * (status is not None), "entries 2 free 0 holes 0"]
+            for name in ("k", "link"):
+                got = run(program, ("ktcheck", name), folder)
+                report.compare(f"mode {mode:o} of {name}", printed(*lines, status=status or 0), got)

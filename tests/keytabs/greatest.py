@@ -1,16 +1,12 @@
-"""Files, scripts and inputs of 16,777,216 bytes, made of small parts and of large ones.
+"""Files, scripts and inputs of 16,777,216 bytes, made of small parts and of large ones, and runs over them as they end
+where there is room."""
 
-The expected results are computed by hand: most of them repeat one part.
-"""
+from dataclasses import replace
 
-import stat
-
-from keytabs.edits import edit
-from keytabs.file_names import LIMIT, TOO_LARGE, sized
-from keytabs.listings import listed
+from keytabs.file_names import LIMIT, sized
 from makers.images import HOST, Entry, hole, keytab, record
-from runs.harness import Case, Outcome, message, mode_of_files, over, printed, text
-from runs.undisturbed import frame
+from runs.harness import Case, Outcome, over, run_case, words_of
+from runs.undisturbed import PROGRAM, frame
 
 # The smallest entry with a component: 23 bytes with its 32-bit version, in a record of 27.
 LEAST = Entry((b"",), b"", 1, 0, 0, 0, b"", 0)
@@ -18,18 +14,16 @@ LEAST_RECORD = record(LEAST.spelled())
 LEAST_ADD = b"add 0 0 0 - @\n"
 SIZE = len(LEAST_RECORD)
 
-# How many of them fit in a file, their places, and where they end.
+# How many of them fit in a file, and their places.
 COUNT = (LIMIT - 2) // SIZE
 PLACES = range(2, 2 + SIZE * COUNT, SIZE)
-LAST, END = PLACES[-1], 2 + SIZE * COUNT
 
-# How many holes of one byte fit in a file.
-HOLES = (LIMIT - 2) // 5
 
-# The longest component, and how many of 253 bytes one entry of the greatest file has.
-LONGEST = MANY = 65_535
-
-SLOTS_HEADING = b"slot KVNO Principal\n---- ---- ---------\n"
+def with_room(name: str, line: str, given: bytes = b"", status: int = 0, **files: bytes) -> Case:
+    """Returns a run as it ends where there is room: with that status, and no message."""
+    case = Case(f"{line}: {name}", words_of(line), Outcome(status), files, stdin=given)
+    got, after = run_case(PROGRAM[0], case)
+    return replace(case, wanted=Outcome(status, got.out), files_after=after)
 
 
 def filled(front: bytes) -> bytes:
@@ -38,9 +32,9 @@ def filled(front: bytes) -> bytes:
     return front + hole(bytes(rest)) if rest > 0 else front
 
 
-def repeated(piece: bytes) -> bytes:
-    """Returns as many whole copies of a text as an input may have."""
-    return piece * (LIMIT // len(piece))
+def repeated(piece: bytes, most: int = LIMIT) -> bytes:
+    """Returns as many whole copies of a text as there is room for."""
+    return piece * (most // len(piece))
 
 
 def at_each(form: bytes, places: range = PLACES) -> bytes:
@@ -54,34 +48,16 @@ def least() -> bytes:
 
 
 def reads() -> list[Case]:
-    """Returns listings, also as JSON, checks and look-ups. Counts of 0 and above 32,767 hide entries from MIT's
-    programs."""
+    """Returns listings, also as JSON, a check and a look-up."""
+    keys = keytab(*[Entry(key=bytes(65_535), version32=None)] * 255)
     # The components of the last one, all quoted in texts, fill a file.
-    lists, image = listed(), filled(least())
-    many = filled(keytab(Entry((b"/" * 253,) * MANY, key=b"", version32=None)))
-    keys = keytab(*[Entry(key=bytes(LONGEST), version32=None)] * 255)
-    front, end = b'{"file":"k","kind":"keytab","version":2,"entries":[', b'],"fault":null}\n'
-    form = b'{"place":%d,"principal":"@","kvno":0,"etype":0,"etype_name":null,"timestamp":0}'
-    long_entry = (b'{"place":2,"principal":"%s@R","kvno":3,"etype":17,"etype_name":"aes128-cts-hmac-sha1-96",'
-                  b'"timestamp":1700000000}' % b"/".join([b"\\\\/" * 253] * MANY))
-    mode = stat.S_IMODE(mode_of_files())
-    mode_line = b"mode %o\n" % mode if mode & 0o66 else b""
-    same = at_each(b"same %d 2 kvno 0 etype 0 @\n", PLACES[1:])
-    most = b"hidden 2 kvno 0 etype 0 @\n" + same + b"entries %d free %d holes 1\n" % (COUNT, LIMIT - END - 4)
-    to_find, long = filled(keytab(LEAST_RECORD * (COUNT - 2), HOST)), "x" * LONGEST
+    many = keytab(Entry((b"/" * 253,) * 65_535, key=b"", version32=None))
     return [
-        over("klist, the most entries", "klist -k k", image, Outcome(0, lists + b"   0 @\n" * COUNT)),
-        over("klist, the longest keys", "klist -kK k", filled(keys),
-             Outcome(0, lists + (b"   3 host/a@R (0x" + b"00" * LONGEST + b")\n") * 255)),
-        over("JSON, the most entries", "klist -k --json k", image,
-             Outcome(0, front + b",".join(form % place for place in PLACES) + end)),
-        over("JSON, 65,535 components", "klist -k --json k", many, Outcome(0, front + long_entry + end)),
-        over("ktcheck, the most entries", "ktcheck k", image, Outcome(1, mode_line + most)),
-        *(Case(f"ktfind, {name}", ("ktfind", "k", "0", "0", query), wanted, {"k": found})
-          for name, query, found, wanted in (
-            ("the last of the most", "host/a@R", to_find, printed(f"found {PLACES[-2]} kvno 3 etype 17 host/a@R")),
-            ("the longest component", f"{long}@R", filled(keytab(Entry((long.encode(),)))),
-             printed(f"found 2 kvno 3 etype 17 {long}@R")))),
+        *(with_room("the most entries", line, k=filled(least())) for line in ("klist -k k", "klist -k --json k")),
+        with_room("the longest keys", "klist -kK k", k=filled(keys)),
+        with_room("65,535 components", "klist -k --json k", k=filled(many)),
+        with_room("the most entries", "ktcheck k", status=1, k=filled(least())),
+        with_room("the last of the most", "ktfind k 0 0 host/a@R", k=filled(keytab(LEAST_RECORD * (COUNT - 2), HOST))),
     ]
 
 
@@ -101,49 +77,27 @@ def many_long_names() -> Case:
 
 def edits() -> list[Case]:
     """Returns short scripts that change keytabs, and the longest of small lines, some over the most entries."""
-    walked = ["walk 0 at 2", f"walk 0 gave 2 next {2 + SIZE} kvno 0 etype 0 @", f"gone {LAST}", f"placed {LAST}",
-              "refused 3", f"gone {LAST}", f"rewritten {LAST}",
-              f"walk 0 gave {2 + SIZE} next {2 + 2 * SIZE} kvno 0 etype 0 @"]
-    script = text(["start", "step 0", f"cut {LAST}", "add 0 0 0 - @", "add 0 0 0 - @", f"cut {LAST}", "rewrite",
-                   "step 0"])
-    component = "x" * 253
-    long_name = f"add 3 17 1700000000 {HOST.key.hex()} {'/'.join([component] * 65_534)}@R\n"
-    starts, adds = repeated(b"start\n"), repeated(LEAST_ADD)
-    walks = at_each(b"walk %d at 2\n", range(1024)) + b"refused 7\n" * (starts.count(b"\n") - 1024)
-    placed = at_each(b"placed %d\n") + b"refused 3\n" * (adds.count(b"\n") - COUNT)
+    script = b"start\nstep 0\ncut %d\n%b%brewrite\nstep 0\n" % (PLACES[-1], LEAST_ADD, LEAST_ADD)
+    long_name = b"add 3 17 0 %b %b@R\n" % (HOST.key.hex().encode(), b"/".join([b"x" * 253] * 65_534))
     cuts = at_each(b"cut %d\n")
-    again = LEAST_ADD * min(COUNT, (LIMIT - len(cuts)) // len(LEAST_ADD))
-    steps = repeated(b"step 0\n")[: -len(b"step 0\n")]
-    gave = b"".join(b"walk 0 gave %d next %d kvno 0 etype 0 @\n" % (place, place + SIZE) for place in PLACES)
-    ends = b"walk 0 end %d\n" % END * (steps.count(b"\n") - COUNT)
     return [
-        edit("the most entries", least(), script, printed(*walked, status=1), least()[:-SIZE]),
-        edit("the most holes", keytab(hole(b"x") * HOLES), b"start\nstep 0\nrewrite\nadd 0 0 0 - @\n",
-             printed("walk 0 at 2", f"walk 0 end {2 + 5 * HOLES}", "rewritten 2", "placed 2"), keytab(LEAST)),
-        edit("one entry as long as a script may be", None, long_name.encode(), printed("placed 2"),
-             keytab(Entry((component.encode(),) * 65_534))),
-        edit("the most walks", keytab(), starts, Outcome(1, walks)),
-        edit("the most additions", None, adds, Outcome(1, placed), least()),
-        edit("a line too much", keytab(), starts + b"start", message(1, "input too large")),
-        edit("each of the most entries goes and comes again", least(), cuts + again,
-             Outcome(0, at_each(b"gone %d\n") + at_each(b"placed %d\n"))),
-        edit("the most steps", least(), b"start\n" + steps, Outcome(0, b"walk 0 at 2\n" + gave + ends)),
-        over("hold, of the greatest file, and another as great", "hold -k k", sized(LIMIT),
-             Outcome(0, frame(sized(LIMIT))), least(), frame(least())),
+        with_room("a short script over the most entries", "ktedit k", script, 1, k=least()),
+        with_room("the most holes", "ktedit k", b"start\nstep 0\nrewrite\n" + LEAST_ADD,
+                  k=keytab(repeated(hole(b"x"), LIMIT - 2))),
+        with_room("one entry as long as a script may be", "ktedit k", long_name),
+        with_room("the most walks", "ktedit k", repeated(b"start\n"), 1, k=keytab()),
+        with_room("the most additions", "ktedit k", repeated(LEAST_ADD), 1),
+        with_room("each of the most entries goes and comes again", "ktedit k",
+                  cuts + repeated(LEAST_ADD, min(COUNT * len(LEAST_ADD), LIMIT - len(cuts))), k=least()),
+        with_room("the most steps", "ktedit k", b"start\n" + repeated(b"step 0\n", LIMIT - 6), k=least()),
+        with_room("another as great in place of the greatest file", "hold -k k", frame(least()), k=sized(LIMIT)),
     ]
 
 
 def talks() -> list[Case]:
     """Returns runs of ktutil over the longest inputs, and over the greatest files that it reads and writes."""
-    added = b"addent -key -p @ -k 0 -e 0\n00\n"
-    count = LIMIT // len(added) - 1
-    most, new = (SLOTS_HEADING + at_each(b"%4d    0 @\n", range(1, slots + 1)) for slots in (COUNT, count))
-    return [Case(f"ktutil, {name}", ("ktutil",), wanted, files, {**files, **after}, given)
-            for name, given, wanted, files, after in (
-                ("the greatest file is copied", b"rkt k\nl\nwkt n\nrkt n\nclear\nl\n",
-                 Outcome(0, most + SLOTS_HEADING), {"k": least()}, {"n": least()}),
-                ("no file takes more", b"rkt k\nwkt k\n", message(1, "line 2: refused 3"), {"k": least()}, {}),
-                ("the most lines", repeated(b"\n"), Outcome(0), {}, {}),
-                ("the most new entries", added * count + b"l\n", Outcome(0, new), {}, {}),
-                ("a file that is too large", b"rkt k\nwkt k\n", Outcome(1, b"", TOO_LARGE.err * 2),
-                 {"k": sized(LIMIT + 1)}, {}))]
+    return [
+        with_room("the greatest file is copied", "ktutil", b"rkt k\nl\nwkt n\nrkt n\nclear\nl\n", k=least()),
+        with_room("the most lines", "ktutil", repeated(b"\n")),
+        with_room("the most new entries", "ktutil", repeated(b"addent -key -p @ -k 0 -e 0\n00\n", LIMIT - 2) + b"l\n"),
+    ]

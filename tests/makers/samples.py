@@ -12,6 +12,7 @@ CUT = (47).to_bytes(4, "big") + HOST.spelled()[:20]
 
 SAMPLES = {
     "host.keytab": TWO,
+    "backup.keytab": TWO,
     "other.keytab": keytab(Entry((b"nfs", b"a"), version8=5, enctype=18, key=bytes(32), version32=5)),
     "rotated.keytab": keytab(HOST, Entry(version8=5, version32=5), B),
     "twice.keytab": keytab(HOST, HOST),

@@ -1,7 +1,7 @@
 """Which file a word names, with a type or without, or the variable of its kind, as every command takes it.
 
-Every command is also given a folder, and files of neither kind. No other variable is looked at. default_files has empty
-values and those that are not UTF-8.
+Every command is also given a file of neither kind. No other variable is looked at. default_files has empty values and
+those that are not UTF-8.
 """
 
 from collections.abc import Iterator
@@ -10,14 +10,13 @@ from itertools import product
 
 from keytabs.ktutil_lines import TWO_LISTED, lines
 from makers.images import TWO, keytab
-from names.named_files import (ALL, COMMANDS, DEFAULTS, FOLDER, KLIST, KLIST_CACHE, LARGE_FILE, NEITHER, Kind, named)
+from names.named_files import ALL, COMMANDS, DEFAULTS, KLIST, KLIST_CACHE, NEITHER, Kind, named
 from runs.harness import Report, check_rows
 from words.explaining import FINDS_NONE, Explained, copy, no_keytab, unchanged
 from words.phrases import BEGINS_AS_NO_KEYTAB, LEAVE_OUT, NAMED, NOT_READ, code, unknown
 
 # Words that every command is tried with, and its variable; the listings are tried with all.
-SOME = ("FILE:k", "FILE:FILE:k", "WRFILE:k", "WRFILE:FILE:k", "./FILE:k", "C:k", "1:k", 'ключ "\\:k', "KCM:",
-        "KCM:k", "file:k", "DIR::k", "DIR:k", "FILE:", "")
+SOME = ("FILE:FILE:k", "WRFILE:k", "./FILE:k", "C:k", 'ключ "\\:k', "KCM:k", "DIR::k", "DIR:k", "FILE:", "")
 
 # No run looks at these, but for the variable of its kind where the file is left out.
 IGNORED = {"KRB5_CLIENT_KTNAME": b"\xff", **{kind.variable: b"\xff" for kind in Kind}}
@@ -36,7 +35,7 @@ def rows() -> Iterator[Explained]:
     for command, variable in (*product(COMMANDS, [False]), *product(DEFAULTS, [True])):
         words = ALL if command in (KLIST, KLIST_CACHE) and not variable else SOME[:-1] if variable else SOME
         places = [(word, place) for word in words for place in (command.run.files[command.file], None)]
-        for word, place in (*places, (".", FOLDER), ("k", NEITHER), ("k", LARGE_FILE)):
+        for word, place in (*places, ("k", NEITHER)):
             name = named(command.kind, word)
             if variable:
                 name = replace(name, source=NAMED.replace("VARIABLE", command.kind.variable))
@@ -60,44 +59,29 @@ def unwritten(word: str, phrase: str) -> Explained:
 
 
 # What comes before the name: the script, and the keytab that is copied from, with what is selected in it.
-OTHER = {name: (f"{name}: no such file", not_read(name)) for name in ("KCM:k", "KCM:c", "KCM:t")}
+OTHER = ("KCM:t: no such file", not_read("KCM:t"))
 ORDER = [
-    unchanged("ktedit KCM:k", ("line 2: fault 1", unknown("frob")), stdin=b"start\nfrob\n"),
-    unchanged("ccedit KCM:c", ("line 1: fault 1", unknown("frob")), stdin=b"frob\n"),
-    unchanged("ktedit KCM:k", OTHER["KCM:k"], stdin=b"start\n"),
-    unchanged("ccedit KCM:c", OTHER["KCM:c"], stdin=b"start\n"),
+    *(unchanged(line, ("line 1: fault 1", unknown("frob")), stdin=b"frob\n") for line in (
+        "ktedit KCM:k", "ccedit KCM:c")),
     *(copy(options, source, None, told, to="KCM:t") for options, source, told in (
         ("", None, ("k: no such file", "")), ("", NEITHER, no_keytab(BEGINS_AS_NO_KEYTAB)),
-        ("", TWO[:-1], ("k: refused 1", code(1))), ("-p c@R", TWO, FINDS_NONE),
-        *((each, TWO, OTHER["KCM:t"]) for each in ("", "-n", "--replace")),
+        ("", TWO[:-1], ("k: refused 1", code(1))), ("-p c@R", TWO, FINDS_NONE), ("-n", TWO, OTHER),
         # Nothing would be saved, and it is asked for all the same.
-        ("", keytab(), OTHER["KCM:t"]))),
-    unchanged("ktremove -n -k old KCM:k", OTHER["KCM:k"]), unchanged("ccremove -n -p b@R KCM:c", OTHER["KCM:c"]),
+        ("", keytab(), OTHER))),
 ]
 
 # ktutil writes to no name that begins with a type. Faults of the line's words come first.
 WRITES = [
-    *(unwritten(word, LEAVE_OUT) for word in ("FILE:", "FILE:k", "WRFILE:k", "FILE:FILE:k", "WRFILE:")),
-    *(unwritten(word, NOT_READ) for word in ("KCM:", "KCM:k", "file:k", "MEMORY:k", "wrfile:k", "ab:")),
+    *(unwritten(word, LEAVE_OUT) for word in ("FILE:", "WRFILE:k", "FILE:FILE:k")),
+    *(unwritten(word, NOT_READ) for word in ("KCM:", "KCM:k", "file:k", "wrfile:k")),
     *(lines(f"wkt {word}", ["rkt j", f"wkt {word}"], [], files={"j": TWO}, after={word.removeprefix("./"): TWO})
-      for word in ("C:k", "./FILE:k", "1:k", ":k", "k:FILE:k")),
-    lines("wkt of a type goes on", ["rkt j", "wkt FILE:k", "wkt KCM:k", "l", "wkt k"], TWO_LISTED,
-          "FILE:k: cannot write", "KCM:k: cannot write", files={"j": TWO}, after={"k": TWO}, status=3),
-    lines("wkt of two words", ["wkt FILE:k FILE:k", "wkt"], [], "line 1: fault 2", "line 2: fault 2"),
-    lines("write_kt", ["write_kt FILE:k"], [], "FILE:k: cannot write", status=3),
+      for word in ("C:k", "./FILE:k", ":k")),
+    lines("wkt of a type goes on", ["rkt j", "wkt FILE:k", "write_kt KCM:k", "l", "wkt FILE:k FILE:k", "wkt k"],
+          TWO_LISTED, "FILE:k: cannot write", "KCM:k: cannot write", "line 5: fault 2", files={"j": TWO},
+          after={"k": TWO}, status=3),
 ]
 
-# It reads by the same rules.
-READS = [
-    *(lines(f"rkt {word}", [f"rkt {word}", "l"], TWO_LISTED, files={**decoys(word, name), name: TWO}) for word, name in
-      (("FILE:k", "k"), ("WRFILE:k", "k"), ("FILE:FILE:k", "FILE:k"), ("C:k", "C:k"), ("1:k", "1:k"))),
-    *(unchanged("ktutil", (f"{word}: no such file", f"line 1: {not_read(word)}"), files={word: TWO, "k": TWO},
-                stdin=f"rkt {word}\n".encode()) for word in ("KCM:", "KCM:k", "file:k")),
-    lines("rkt of a type goes on", ["rkt KCM:k", "rkt FILE:", "rkt FILE:k", "l"], TWO_LISTED, "KCM:k: no such file",
-          ": no such file", files={"k": TWO}),
-]
-
-CASES = [*ORDER, *WRITES, *READS]
+CASES = [*ORDER, *WRITES]
 
 
 def check(report: Report, program: str) -> None:

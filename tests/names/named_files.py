@@ -8,25 +8,25 @@ from enum import Enum
 from functools import cache
 
 from caches.cache_listings import HEADING
-from keytabs.file_names import LIMIT
+from keytabs.checks import unchecked
 from makers.images import TWO
 from runs.commands import CHANGES, MAKES, READS, SAVING, VALID, file_of
 from runs.harness import Line, files_in, folder_of, run, shown
 from runs.undisturbed import PROGRAM, Undisturbed
 from words.explaining import Explained, Output, for_owner
-from words.phrases import BEGINS_AS_NO_CACHE, BEGINS_AS_NO_KEYTAB, CAUSES, COLLECTION, LARGE, NOT_READ
+from words.phrases import BEGINS_AS_NO_CACHE, BEGINS_AS_NO_KEYTAB, CAUSES, COLLECTION, NOT_READ
 
 
 class Kind(Enum):
-    """A kind of file."""
+    """A kind of file, and the variable that names the default."""
 
-    KEYTAB = "keytab"
-    CACHE = "cache"
+    KEYTAB = "KRB5_KTNAME"
+    CACHE = "KRB5CCNAME"
 
     @property
     def variable(self) -> str:
-        """The variable that names the default."""
-        return {Kind.KEYTAB: "KRB5_KTNAME", Kind.CACHE: "KRB5CCNAME"}[self]
+        """The variable."""
+        return self.value
 
 
 @dataclass(frozen=True)
@@ -67,8 +67,8 @@ def named(kind: Kind, word: str) -> FileName:
     return FileName(word, COLLECTION if is_collection else NOT_READ.replace("TYPE", its_type))
 
 
-# What is under a name: a folder, a file that is neither a keytab nor a cache, or one that is too large.
-FOLDER, NEITHER, LARGE_FILE = "a folder", b"xy", bytes(LIMIT + 1)
+# A file that is neither a keytab nor a cache.
+NEITHER = b"xy"
 NEITHERS = {Kind.KEYTAB: BEGINS_AS_NO_KEYTAB, Kind.CACHE: BEGINS_AS_NO_CACHE}
 
 # A file of each kind; its ticket is valid whenever a test runs.
@@ -108,13 +108,11 @@ class Command:
             for_owner(folder)
             return run(PROGRAM[0], self.words(NAME), folder, self.run.stdin).out, files_in(folder)
 
-    def ended(self, name: FileName, place: bytes | str | None) -> tuple[int, Output]:
+    def ended(self, name: FileName, place: bytes | None) -> tuple[int, Output]:
         """Returns the status over what is under a name, and the message, if there is one. Some commands make a missing
         file, but none without a name."""
         own, (number, why) = name.text, NEITHERS[self.kind]
-        ends = {FOLDER: (3, (f"{own}: cannot read", CAUSES["EISDIR"])),
-                NEITHER: (1, (f"{own}: not a {self.kind.value} ({number})", why)),
-                LARGE_FILE: (1, (f"{own}: file too large", LARGE))}
+        ends = {NEITHER: (1, (f"{own}: not a {self.kind.name.lower()} ({number})", why))}
         if name.other or place is None and NAME not in self.usual(False)[1]:
             ends[place] = 1, name.missing()
         elif own == "":
@@ -122,18 +120,20 @@ class Command:
         status, *told = ends.get(place, (0,))
         return status, () if "-s" in self.run.words else tuple(told)
 
-    def row(self, name: FileName, place: bytes | str | None, word: str | None, files: dict[str, bytes],
+    def row(self, name: FileName, place: bytes | None, word: str | None, files: dict[str, bytes],
             env: dict[str, str | bytes]) -> Explained:
         """Returns a run by a word, or by none, over what is under the name that is read, beside other files."""
         path, words = os.path.normpath(name.text), self.words(word)
         status, told = self.ended(name, place)
-        files = {**self.beside, **files, **({path: place} if isinstance(place, bytes) else {})}
+        files = {**self.beside, **files, **({} if place is None else {path: place})}
         out, after = b"" if "-l" not in words or "--json" in words else HEADING, files
         if status == 0:
             usual, left = self.usual(place is not None)
             spelled = json.dumps(name.text, ensure_ascii=False)[1:-1] if "--json" in words else name.text
             out = usual.replace(NAME.encode(), spelled.encode())
             after = files | {path if each == NAME else each: data for each, data in left.items()}
+        elif {"ktcheck", "--json"} <= {*words}:
+            out = unchecked(name.text, told[0][0], status)
         title = f"{shown(words)} with {env}, {'none' if place is None else place[:9]}"
         return Explained(title, words, told, files, self.run.stdin, status, out, after, {"env": env}, for_owner)
 

@@ -8,16 +8,15 @@ from caches.cache_listings import TICKET_LINE
 from keytabs.file_names import LIMIT
 from keytabs.listings import B_LINE, HOST_LINE, listed
 from makers.images import B, HOST, TWO, USUAL, cache, keytab
-from names.named_files import NEITHER
-from names.several_keytabs import MISSING, NO_KEYTAB, OTHER, UNREAD, fault
+from names.several_keytabs import MISSING, OTHER, UNREAD, fault
 from runs.harness import Line, shown, words_of
 from words.explaining import FAILED, FULL, Explained, no_keytab
 from words.phrases import BEGINS_AS_KEYTAB, COLLECTION, LARGE, LISTED_AS_KEYTAB, SHORT
 
-FILES = {"k": TWO, "j": keytab(B), "d": keytab(HOST, b"\0"), "n": keytab(), "x": NEITHER, "c": USUAL, "e": cache(),
+FILES = {"k": TWO, "j": keytab(B), "d": keytab(HOST, b"\0"), "n": keytab(), "c": USUAL, "e": cache(),
          "a\nb": keytab(B), "FILE:k": keytab(HOST)}
 
-K, D, N = listed(HOST_LINE, B_LINE), listed(HOST_LINE, b"fault 1 at 53", name=b"d"), listed(name=b"n")
+K, D = listed(HOST_LINE, B_LINE), listed(HOST_LINE, b"fault 1 at 53", name=b"d")
 j = partial(listed, B_LINE)
 C, E = cache_listings.listed(b"u@R", TICKET_LINE), cache_listings.listed(b"u@R", name=b"e")
 N_JSON = b'{"file":"n","kind":"keytab","version":2,"entries":[],"fault":null}\n'
@@ -34,25 +33,21 @@ def list_all(line: str | Line, out: list[bytes], *output: tuple[str, str], statu
 
 CASES = [
     # In order, each as often as it is given, with the name as it is loaded.
-    list_all("-k k j n k", [K, j(name=b"j"), N, K]),
-    list_all("FILE:k ./j WRFILE:k -k -- FILE:FILE:k", [K, j(name=b"./j"), K, listed(HOST_LINE, name=b"FILE:k")]),
-    list_all(("-k", "j", "a\nb"), [j(name=b"j"), j(name=b"a\nb")]),
+    list_all(("FILE:k", "./j", "-k", "--", "a\nb", "k", "FILE:FILE:k"),
+             [K, j(name=b"./j"), j(name=b"a\nb"), K, listed(HOST_LINE, name=b"FILE:k")]),
     list_all("c DIR::e FILE:c", [C, E, C]), list_all("-kt n n", [listed(name=b"n", letters="t")] * 2),
     # A file that cannot be listed has its message and no empty line; the status is the greatest.
-    list_all("-k no k no j x", [K, j(name=b"j")], MISSING, MISSING, NO_KEYTAB, status=1),
-    list_all("-k . no d k", [D, K], UNREAD, MISSING, *fault("d"), status=3),
-    list_all("-k d d KCM:k", [D, D], *fault("d"), *fault("d"), OTHER, status=1),
-    list_all("-k no x .", [], MISSING, NO_KEYTAB, UNREAD, status=3),
+    list_all("-k . no d k d", [D, K, D], UNREAD, MISSING, *fault("d"), *fault("d"), status=3),
     list_all(("-k", "", "k", "FILE:", "no\nk"), [K], (": no such file", ""), (": no such file", ""),
              (r"no\x0ak: no such file", ""), status=1),
-    list_all("-k c /dev/null k", [K], no_keytab(LISTED_AS_KEYTAB, "c"), no_keytab(SHORT, "/dev/null"), status=1),
-    list_all("k c", [C], no_keytab(BEGINS_AS_KEYTAB, "k", "cache"), status=1),
-    list_all("DIR:c e", [E], ("DIR:c: no such file", COLLECTION), status=1),
+    list_all("-k c /dev/null KCM:k", [], no_keytab(LISTED_AS_KEYTAB, "c"), no_keytab(SHORT, "/dev/null"), OTHER,
+             status=1),
+    list_all("k c DIR:c", [C], no_keytab(BEGINS_AS_KEYTAB, "k", "cache"), ("DIR:c: no such file", COLLECTION),
+             status=1),
     partial(list_all, "-k l k", [K], ("l: file too large", LARGE), status=1, files={"k": TWO, "l": bytes(LIMIT + 1)}),
     # JSON has a line for each.
     list_all("-k --json n no n", [N_JSON + N_JSON], MISSING, status=1), list_all("--json e e", [E_JSON + E_JSON]),
     # An output that takes nothing ends the run with the first file of which something would be printed.
-    *(list_all(line, [], *told, status=status, options=FULL) for line, told, status in (
-        ("-k k no", [FAILED], 3), ("-k no k x", [MISSING, FAILED], 3), ("-k no x", [MISSING, NO_KEYTAB], 1),
-        ("--json no e no", [MISSING, FAILED], 3))),
+    list_all("-k no k x", [], MISSING, FAILED, status=3, options=FULL),
+    list_all("--json no e no", [], MISSING, FAILED, status=3, options=FULL),
 ]

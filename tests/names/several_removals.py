@@ -1,6 +1,8 @@
 """`ktremove` and `ccremove` over several files: each line after the name of its file, what is told of others, and what
 where nothing is asked for."""
 
+from collections.abc import Iterable
+
 from caches.valid_tickets import HOST as VALID_HOST, OVER, TGT
 from keytabs.removals import FIVE
 from makers.images import B, HOST, OFFSET, PA_TYPE, TWO, VERSION_3, cache, keytab
@@ -19,8 +21,8 @@ FILES = {
 # Keytabs and caches once something is removed, and the lines that tell of it.
 GONE = {"k": keytab(HOST, 41), "j": keytab(41), "a\nb": keytab(41), "o": keytab(47, FIVE), "h": cache(), "t": cache(),
         "c": cache(PA_TYPE, VALID_HOST, fields=OFFSET)}
-B_K, B_J, X = "k: removed 53 kvno 3 etype 17 b@R", "j: removed 2 kvno 3 etype 17 b@R", "kvno 3 etype 17 host/a@R"
-X_K, X_O = f"k: removed 2 {X}", f"o: removed 2 {X}"
+B_K, B_J = "k: removed 53 kvno 3 etype 17 b@R", "j: removed 2 kvno 3 etype 17 b@R"
+X_O = "o: removed 2 kvno 3 etype 17 host/a@R"
 TGT_C, HOST_C, HOST_H = "c: removed 34 krbtgt/R@R", "c: removed 278 host/a@R", "h: removed 22 host/a@R"
 
 # What is said where nothing is asked for, and of files of which nothing is asked.
@@ -30,51 +32,40 @@ UNSAVED = ("k: cannot write", CAUSES["in the way"].replace("NAME", "k"))
 
 
 def remove(line: str | Line, out: list[str], *output: tuple[str, str], status: int = 0,
-           left: dict[str, bytes] | str = "", **more) -> Explained:
+           left: dict[str, bytes] | Iterable[str] = (), **more) -> Explained:
     """Returns a run over some of the files, its lines and messages, and the files that it changes: those of GONE of
     these names, or others."""
     words = words_of(line)
-    changed = left if isinstance(left, dict) else {name: GONE[name] for name in left.split()}
+    changed = left if isinstance(left, dict) else {name: GONE[name] for name in left}
     return Explained(shown(words), words, output, FILES, status=status, out=text(out), after=FILES | changed, **more)
 
 
 CASES = [
     # In order, with the name as it is loaded. A file in which nothing is asked for is passed over.
-    remove("ktremove -p b@R k j", [B_K, B_J], left="k j"), remove("ktremove -p b@R o j k", [B_J, B_K], left="k j"),
-    remove("ktremove FILE:k WRFILE:./j -p b@R", [B_K, f"./{B_J}"], left="k j"),
-    remove(("ktremove", "-e17", "-pb@R", "--", "a\nb", "o"), [r"a\x0ab" + B_J[1:]], left={"a\nb": keytab(41)}),
-    remove("ccremove -p krbtgt/R@R DIR::c h FILE:t", [TGT_C, "t: removed 22 krbtgt/R@R"], left="c t"),
+    remove(("ktremove", "-e17", "FILE:k", "-pb@R", "--", "o", "WRFILE:./j", "a\nb"),
+           [B_K, f"./{B_J}", r"a\x0ab" + B_J[1:]], left=("k", "j", "a\nb")),
+    remove("ccremove -p krbtgt/R@R DIR::c h FILE:t", [TGT_C, "t: removed 22 krbtgt/R@R"], left="ct"),
     remove("ccremove --all-services t c h", [HOST_C, HOST_H],
            left={"c": cache(OVER, PA_TYPE, fields=OFFSET), "h": cache()}),
-    remove("ktremove --in-place -p b@R k no j", [B_K, B_J], MISSING, status=1, left="k j"),
     # A file that is given twice is two runs.
-    remove("ktremove -p b@R k ./k k", [B_K], left="k"), remove("ktremove -n -p b@R k k", [B_K, B_K]),
+    remove("ktremove --in-place -p b@R k ./k k", [B_K], left="k"), remove("ktremove -n -p b@R k k", [B_K, B_K]),
     # One that cannot be read has its message, and the next goes on; the status is the greatest.
-    remove("ktremove -p b@R no k d x j", [B_K, B_J], MISSING, DAMAGED, NO_KEYTAB, status=1, left="k j"),
-    remove("ktremove -p b@R KCM:k . k", [B_K], OTHER, UNREAD, status=3, left="k"),
-    remove("ccremove -p host/a@R v h", [HOST_H], OLD_CACHE, status=1, left="h"),
+    remove("ktremove -p b@R no k . d KCM:k x j", [B_K, B_J], MISSING, UNREAD, DAMAGED, OTHER, NO_KEYTAB, status=3,
+           left="kj"),
     # It is told last that nothing is asked for anywhere, unless no file could be asked.
-    *(remove(f"ktremove {options} {names}", [], *told, NO_ENTRY, status=status) for options, names, told, status in (
-        ("-p c@R", "k j", (), 1), ("-n -p c@R", "k k", (), 1), ("-p c@R", "no k x", (MISSING, NO_KEYTAB), 1),
-        ("-p c@R", "k d .", (DAMAGED, UNREAD), 3), ("-k 4", "KCM:k o", (OTHER,), 1), ("-k old -p c@R", "k o", (), 1),
-        ("-k old -p host/a@R", "j no", (MISSING,), 1))),
-    *(remove(f"ccremove {options} {names}", [], *told, NO_TICKET, status=1) for options, names, told in (
-        ("-p c@R", "c t", ()), ("-p c@R", "v c", (OLD_CACHE,)), ("--all-services", "t t", ()),
-        ("--expired -p host/a@R", "t t", ()), ("--all-services --expired", "t no", (MISSING,)))),
+    *(remove(f"ktremove {options}", [], *told, NO_ENTRY, status=status) for options, told, status in (
+        ("-n -p c@R k k", (), 1), ("-p c@R k d .", (DAMAGED, UNREAD), 3), ("-k old -p c@R k o", (), 1),
+        ("-k old -p host/a@R j no", (MISSING,), 1))),
+    *(remove(f"ccremove {options}", [], *told, NO_TICKET, status=1) for options, told in (
+        ("-p c@R v c", (OLD_CACHE,)), ("--all-services --expired t no", (MISSING,)))),
     remove("ktremove -p c@R no d", [], MISSING, DAMAGED, status=1),
-    remove("ccremove -p c@R v v", [], OLD_CACHE, OLD_CACHE, status=1),
     # That nothing is old, or has expired, is no failure.
-    remove("ktremove -k old o k", [X_O], left="o"), remove("ktremove -k old k j", []),
-    remove("ktremove -k old -p host/a@R k j", []), remove("ktremove -k old -p host/a@R j o", [X_O], left="o"),
+    remove("ktremove -k old o k", [X_O], left="o"), remove("ktremove -k old -p host/a@R k j", []),
     remove("ktremove -k old no k", [], MISSING, status=1), remove("ccremove --expired t c h", [TGT_C], left="c"),
-    remove("ccremove --expired -p host/a@R h t", []), remove("ccremove --expired v t", [], OLD_CACHE, status=1),
     # A save that fails leaves the others as they are alone, and something was asked for.
     remove("ktremove -p b@R k j", [B_J], UNSAVED, status=3, left="j", setting=in_the_way),
     remove("ktremove -p host/a@R k j", [], UNSAVED, status=3, setting=in_the_way),
-    remove("ktremove -n -p b@R k j", [B_K, B_J], setting=in_the_way),
-    remove("ktremove -p c@R k j", [], NO_ENTRY, status=1, setting=in_the_way),
     # An output that takes nothing ends the run with the first file of which something would be printed.
-    *(remove(f"ktremove {line}", [], *told, status=status, left=left, options=FULL) for line, told, status, left in (
-        ("-p b@R no k j", (MISSING, FAILED), 3, "k"), ("-p host/a@R j k o", (FAILED,), 3, {"k": keytab(47, B)}),
-        ("-n -p b@R k no", (FAILED,), 3, ""), ("-p c@R k no", (MISSING, NO_ENTRY), 1, ""))),
+    remove("ktremove -p b@R no k j", [], MISSING, FAILED, status=3, left="k", options=FULL),
+    remove("ktremove -p c@R k no", [], MISSING, NO_ENTRY, status=1, options=FULL),
 ]

@@ -49,15 +49,6 @@ def check_map(report: Report) -> None:
         if f"{each}::" not in sources(f"crates/{crate}/src/**/*.rt")])
 
 
-def check_starts(report: Report) -> None:
-    """Checks that the files of definitions that the map says to start with are there."""
-    rows = re.findall(r"^\| \w+ \| (`krb_.*) \|$", read(MAP), re.MULTILINE)
-    named = [(crate, each) for row in rows for crate, those in re.findall(r"`(krb_\w+)`: ([^;]*)", row)
-             for each in re.findall(r"`(\w+)`", those)]
-    lacking = [f"{crate}: {each}" for crate, each in named if not paths(f"crates/{crate}/specs/{each}.antt")]
-    report.check("the definitions to start with", lacking if named else ["none"])
-
-
 def faults_of_links(path: str, page: str) -> list[str]:
     """Returns the links that lead to no file, or to no heading of the page."""
     headings = {re.sub(r"[^\w -]", "", heading).lower().replace(" ", "-")
@@ -96,7 +87,6 @@ def check_list(report: Report) -> None:
 def check(report: Report, program: str) -> None:
     """Reads the documents and the sources. The program is not run."""
     check_map(report)
-    check_starts(report)
     check_list(report)
     pages = paths("README.md", "*/README.md", "docs/*.md", "crates/*/CALLING.md")
     for path in pages:

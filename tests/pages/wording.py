@@ -9,7 +9,7 @@ from pages.documents import sources
 from runs.commands import COMMANDS
 from runs.harness import TOP, Report, run
 from words import phrases
-from words.completions import offered
+from words.completions import helped, offered
 from words.mistakes import MISTAKES, NEAR
 
 PAGE = "docs/krbfile.1"
@@ -22,6 +22,9 @@ def of_manual(program: str) -> Iterator[tuple[str, set[object]]]:
               phrases.COLLECTION}
     yield "other phrases", others.difference(re.split(";?\n", page))
     yield "commands", {*re.findall(r"^\.Cm (\w+)$", synopsis, re.MULTILINE)} ^ {*COMMANDS}
+    found = {*re.findall(r"^\.It Ic (\w+).*\n(.*):$", phrases.part(page, "\n.Sh KTCHECK\n", "\n.Sh "), re.MULTILINE)}
+    shown = re.findall(r"^  ([a-z]+) +(.*)$", helped(program, "ktcheck").partition("\nStatuses:")[0], re.MULTILINE)
+    yield "findings", found ^ {*phrases.FINDINGS.items()} | found ^ {*shown}
     options = {option for command in ("", *COMMANDS) for option in offered(program, command)[1]}
     yield "options", {each for each in options if not re.search(rf"\bFl {each[1:]}\b", page)}
 

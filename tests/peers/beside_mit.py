@@ -11,14 +11,13 @@ from collections.abc import Callable
 from random import Random
 
 from runs.harness import SECONDS, Report, run
-from theorems.mit_listings import credential_lines, entry_line
+from theorems.mit_listings import ENTRY, credential_lines, entry_line
 
 # The century of a time, which MIT's programs leave out.
 CENTURY = re.compile(r"\b\d\d(?=\d\d-\d\d-\d\dT)")
 
-# The dashes below the heading of a keytab's listing; and the line of an entry by klist, or by ktutil without its slot.
+# The dashes below the heading of a keytab's listing.
 DASHES = re.compile(r"^----[- ]*\n", re.MULTILINE)
-ENTRY = re.compile(r" *(\d+) (.{17}) +(.*) (\(\S+\))  ?(\(0x[0-9a-f]*\)) *")
 
 # Where a credential begins.
 CREDENTIAL = re.compile(r"^(?! )(?=.)", re.MULTILINE)
@@ -119,8 +118,7 @@ class Mit:
 
 def as_ours(line: str) -> str:
     """Returns the line of an entry in the form of ours, or as it is."""
-    found = ENTRY.fullmatch(line)
-    return entry_line("{} {} {} {}  {}".format(*found.groups())).removesuffix("\n") if found else line
+    return entry_line(line).removesuffix("\n") if ENTRY.fullmatch(line) else line
 
 
 def lack(*tools: str) -> str:

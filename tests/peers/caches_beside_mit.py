@@ -63,8 +63,7 @@ USER = (*KINIT, "user")
 
 # For each cache its version, and the commands that fill it.
 FILLED: dict[str, tuple[int, list[tuple[str, ...]]]] = {
-    "a plain one": (4, [USER, ("kvno", HOST, ODD_NAME)]),
-    "many flags": (4, [(*KINIT, "-f", "-p", "-r", "3d", "user"), ("kvno", "svc/h")]),
+    "many flags": (4, [(*KINIT, "-f", "-p", "-r", "3d", "user"), ("kvno", HOST, ODD_NAME)]),
     "a service's alone": (4, [(*KINIT, "-S", HOST, "user")]),
     "a ticket that begins later": (4, [(*KINIT, "-s", "1h", "-l", "2h", "user")]),
     "each enctype": (4, [USER, *(("kvno", "-e", etype, HOST) for etype in ETYPES)]),

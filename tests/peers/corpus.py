@@ -22,9 +22,6 @@ FOLDER = os.path.join(TOP, "tests", "corpus")
 # The rows of the tables in the folder's README: a file, and who wrote it.
 ROW = re.compile(r"^\| `(\S+)` \| (.*?) \| .*? \|$", re.M)
 
-# The most bytes of a file that has theorems: one of 5,000 takes a second and 0.8 GB, one of 20,000 six seconds, 4 GB.
-MOST_BYTES = 5000
-
 
 def given(value: dict) -> bytes:
     """Returns the bytes of an output or a file."""
@@ -41,11 +38,6 @@ def files(kind: str) -> list[tuple[str, bytes]]:
 def images(kind: str) -> list[bytes]:
     """Returns the bytes of each file of a kind."""
     return [image for _, image in files(kind)]
-
-
-def small_files(kind: str) -> list[tuple[str, bytes]]:
-    """Returns the files of a kind that are not too large, each with its name."""
-    return [(name, image) for name, image in files(kind) if len(image) <= MOST_BYTES]
 
 
 @cache

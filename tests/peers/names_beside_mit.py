@@ -3,20 +3,15 @@ default, but for the differences named here."""
 
 import os
 import re
-import shutil
 from collections.abc import Mapping
 from functools import partial
 from itertools import product
 
 from makers.images import TWO
-from names.default_files import IMAGES, Kind, by_user, own_cache
 from names.file_types import ALL
-from names.named_files import named
+from names.named_files import IMAGES, Kind, named
 from peers.beside_mit import SURROUNDINGS, lack
 from runs.harness import Outcome, Report, every, folder_of, message, run
-
-# A user whose default cache no other topic makes.
-USER = 65_533
 
 # The name of the file in what each prints: where there is none, and where it is listed.
 MISSING = re.compile(rb"klist: .*(?:\(filename: (.*)\)|Key table file '(.*)' not found)|"
@@ -36,10 +31,9 @@ REFUSES = re.compile(rb"Unknown (?:credential cache|Key table) type|No KCM serve
                      rb"keyring|directory")
 
 
-def klist(kind: Kind, folder: str, env: Mapping[str, str | bytes], program: str = "",
-          front: tuple[str, ...] = ()) -> Outcome:
-    """Returns the end of MIT's klist, or of ours, by words before the program's name."""
-    first, *rest = [*front, *[program] * (program != ""), "klist", *["-k"] * (kind is Kind.KEYTAB)]
+def klist(kind: Kind, folder: str, env: Mapping[str, str | bytes], program: str = "") -> Outcome:
+    """Returns the end of MIT's klist, or of ours."""
+    first, *rest = [*[program] * (program != ""), "klist", *["-k"] * (kind is Kind.KEYTAB)]
     return run(first, rest, folder, env=SURROUNDINGS | env)
 
 
@@ -80,23 +74,6 @@ def check_defaults(report: Report, program: str) -> None:
             report.check(f"MIT's klist is otherwise: it lists the keytab {value}", found)
 
 
-def check_another(report: Report, _program: str) -> None:
-    """Checks the default cache of another user, if root runs the tests. With the rights of another than the real user
-    MIT's looks at no environment."""
-    what = "MIT's default cache of another user"
-    if os.geteuid() != 0 or shutil.which("setpriv") is None:
-        report.skip(what, "none but root may run as another, by setpriv")
-        return
-    with folder_of({}) as folder, own_cache(USER, IMAGES[Kind.CACHE]) as is_free:
-        if not is_free:
-            report.skip(what, "it is there")
-            return
-        os.chmod(folder, 0o755)
-        for front, env in ((by_user(USER), {}), (("setpriv", f"--ruid={USER}"), {"KRB5CCNAME": "no"})):
-            got = klist(Kind.CACHE, folder, env, front=front)
-            report.check(f"{what}, {front}", [] if taken(got) == (b"/tmp/krb5cc_%d" % USER, True) else [f"{got}"])
-
-
 VALUES = {*ALL, " ", "-k", "k", "./k"} - {"", "MEMORY:k"}
-check = every(*(partial(check_value, *each) for each in product(Kind, VALUES)), check_defaults, check_another,
+check = every(*(partial(check_value, *each) for each in product(Kind, VALUES)), check_defaults,
               of="default files beside MIT's klist", lack=lambda: lack("klist"))

@@ -4,14 +4,13 @@ The realm and its KDC are those of caches_beside_mit.
 """
 
 import re
-import time
 from collections.abc import Iterator
 from contextlib import contextmanager
 from dataclasses import replace
 
 from makers.images import keytab
-from peers.beside_mit import as_json, differences_of, mit_klist
-from peers.caches_beside_mit import HOST, KINIT, USER, Realm, in_realm
+from peers.beside_mit import as_json, differences_of
+from peers.caches_beside_mit import HOST, USER, Realm, in_realm
 from runs.harness import Outcome, Report, differences, files_in, folder_of, message, printed, run
 
 TGT = "krbtgt/CACHE.TEST@CACHE.TEST"
@@ -33,10 +32,6 @@ class Filled:
         """Returns the bytes of the file."""
         return files_in(self.folder)["c"]
 
-    def listed(self, kind: str = "tickets") -> list[dict]:
-        """Returns what our klist lists of that kind."""
-        return as_json(self.program, self.folder, "c")[kind]
-
     def want(self, what: str, is_so: bool) -> None:
         """Records a fault unless the condition is true."""
         self.found += [] if is_so else [what]
@@ -54,17 +49,17 @@ class Filled:
 
     def places_of(self, server: str) -> list[int]:
         """Returns the places of the live tickets for a server."""
-        return [ticket["place"] for ticket in self.listed() if ticket["server"] == server]
+        tickets = as_json(self.program, self.folder, "c")["tickets"]
+        return [ticket["place"] for ticket in tickets if ticket["server"] == server]
 
     def keys_of(self, server: str) -> list[bytes]:
         """Returns the session keys of the live tickets for a server."""
         return [SESSION_KEY.search(self.image(), place)[1] for place in self.places_of(server)]
 
-    def remove(self, server: str, by_script: bool = False) -> None:
-        """Removes the ticket for a server with ccremove, or with a script."""
+    def remove(self, server: str) -> None:
+        """Removes the ticket for a server."""
         place, = self.places_of(server)
-        self.change(*("ccedit", printed(f"gone {place}"), f"cut {place}\n") if by_script else
-                    (f"ccremove -p {server}", printed(f"removed {place} {server}")))
+        self.change(f"ccremove -p {server}", printed(f"removed {place} {server}"))
 
 
 @contextmanager
@@ -80,50 +75,23 @@ def filled(what: str, report: Report, program: str, made: Realm, *commands: tupl
 
 
 def check_removed(*where: Report | str | Realm) -> None:
-    """Checks that a ticket that ccremove or ccedit removed is requested again. A mark leaves its key in the file, which
-    ccremove and a rewrite erase; a new ticket of kinit is used."""
-    for by_script in (False, True):
-        what = f"kvno asks anew for what is removed by {'a script' if by_script else 'ccremove'}"
-        with filled(what, *where, USER, ("kvno", HOST, "svc/h")) as one:
-            old, = one.keys_of(HOST_TEXT)
-            kept = [one.keys_of(server) for server in (TGT, SVC_TEXT)]
-            one.remove(HOST_TEXT, by_script)
-            one.want("its key is left or gone", (old in one.image()) == by_script)
-            one.want("others are gone", kept == [one.keys_of(name) for name in (TGT, SVC_TEXT)])
-            one.use("kvno", HOST)
-            new = one.keys_of(HOST_TEXT)
-            one.want("kvno asked for no other", len(new) == 1 and new != [old])
-            one.change("ccedit", script="rewrite\n")
-            one.want("its key is left", old not in one.image())
-            one.use("kvno", HOST, "svc/h")
-            one.want("kvno asks again for what is there", one.keys_of(HOST_TEXT) == new)
-            one.remove(TGT)
-            one.use(*USER)
-            one.use("kvno", HOST)
-            one.want("a new ticket of kinit is not used", len(one.keys_of(HOST_TEXT)) == 1)
-
-
-def check_expired(*where: Report | str | Realm) -> None:
-    """Checks that tickets with a lifetime of a second are removed once it is over, and that values stay."""
-    with filled("tickets of kinit that have expired", *where, (*KINIT, "-l", "1s", "user")) as one:
-        values = len(one.listed("config"))
-        time.sleep(max(0, max(ticket["endtime"] for ticket in one.listed()) - time.time()) + 0.01)
-        one.change("ccremove --expired", printed(f"removed {one.places_of(TGT)[0]} {TGT}"))
-        one.want("a ticket is left, or a value is gone", (one.listed(), len(one.listed("config"))) == ([], values))
-        one.change("ccremove --expired", Outcome(0))
+    """Checks that a ticket that ccremove removed is requested again, and that a new ticket of kinit is used."""
+    with filled("kvno asks anew for what is removed", *where, USER, ("kvno", HOST, "svc/h")) as one:
+        old, = one.keys_of(HOST_TEXT)
+        kept = [one.keys_of(server) for server in (TGT, SVC_TEXT)]
+        one.remove(HOST_TEXT)
+        one.want("its key is left", old not in one.image())
+        one.want("others are gone", kept == [one.keys_of(name) for name in (TGT, SVC_TEXT)])
+        one.use("kvno", HOST)
+        new = one.keys_of(HOST_TEXT)
+        one.want("kvno asked for no other", len(new) == 1 and new != [old])
+        one.change("ccedit", script="rewrite\n")
+        one.use("kvno", HOST, "svc/h")
+        one.want("kvno asks again for what is there", one.keys_of(HOST_TEXT) == new)
+        one.remove(TGT)
         one.use(*USER)
-        one.change("ccremove --expired", Outcome(0))
         one.use("kvno", HOST)
-
-
-def check_values(*where: Report | str | Realm) -> None:
-    """Checks that MIT's klist shows a value that ccedit set, in place of the one that kinit set."""
-    with filled("MIT's klist shows a value that ccedit sets", *where, USER) as one:
-        one.change("ccedit", script=f"config fast_avail {TGT} no\nconfig mine - 1\n")
-        shown = mit_klist(one.folder, "-C", "c")
-        one.want(f"MIT's klist shows {shown!r}", b"config: mine = 1\n" in shown
-                 and shown.count(b"fast_avail") == 1 and b" = no\n" in shown)
-        one.use("kvno", HOST)
+        one.want("a new ticket of kinit is not used", len(one.keys_of(HOST_TEXT)) == 1)
 
 
 def check_version_3(*where: Report | str | Realm) -> None:
@@ -139,4 +107,4 @@ def check_version_3(*where: Report | str | Realm) -> None:
         one.remove(HOST_TEXT)
 
 
-check = in_realm("changes of caches beside MIT's programs", check_removed, check_expired, check_values, check_version_3)
+check = in_realm("changes of caches beside MIT's programs", check_removed, check_version_3)

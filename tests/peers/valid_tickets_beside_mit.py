@@ -1,12 +1,11 @@
 """`klist -s` of MIT's and ours over one cache and at one time: they agree, but for the differences named here."""
 
-import sys
 from dataclasses import replace
 from functools import partial
 from random import Random
 
 from caches.valid_tickets import TICKETS
-from makers.images import CONFIG_FIRST, CONFIG_REALM, TICKET, Name, cache, config_ticket, header_field, number
+from makers.images import CONFIG_FIRST, CONFIG_REALM, TICKET, Name, cache, config_ticket, header_field
 from makers.random_caches import random_credential
 from peers.beside_mit import SURROUNDINGS, are_there, as_json, check_seeds
 from peers.corpus import files
@@ -22,25 +21,10 @@ SERVERS = (Name((b"krbtgt", b"R")), Name((b"krbtgt", b"S")), Name((b"krbtgt", b"
            Name((CONFIG_FIRST, b"k"), CONFIG_REALM), Name((CONFIG_FIRST, b"k", b"p"), CONFIG_REALM))
 
 
-def version_1() -> bytes:
-    """Returns a cache of version 1, in the byte order of this machine, with the usual ticket."""
-
-    def words(*values: int) -> bytes:
-        return b"".join(number(value, 4, sys.byteorder) for value in values)
-
-    def data(*parts: bytes) -> bytes:
-        return b"".join(words(len(part)) + part for part in parts)
-
-    user, krbtgt = words(2) + data(b"R", b"u"), words(3) + data(b"R", b"krbtgt", b"R")
-    times = words(TICKET.authtime, TICKET.starttime, END, 0) + b"\0" + words(TICKET.flags, 0, 0)
-    return b"\x05\x01" + user * 2 + krbtgt + number(17, 2, sys.byteorder) + data(TICKET.key) + times + data(b"t", b"")
-
-
 # Caches of which MIT's klist thinks otherwise until their end: whether it finds a ticket to go on with, and ours does.
-# It reads versions 1 and 2, refuses an offset that has not eight bytes, takes any number of components after the
+# It reads version 2, refuses an offset that has not eight bytes, takes any number of components after the
 # first for those of a configuration entry, and a length that is greater than the file for damage of all of it.
 DIFFERENT: dict[str, tuple[bytes, bool, bool]] = {
-    "version 1": (version_1(), True, False),
     "version 2": (dict(files("ccache"))["kinit-v2"], True, False),
     "a header with a short offset": (cache(TICKET, fields=header_field(1, b"abc")), False, True),
     "a header with a long offset": (cache(TICKET, fields=header_field(1, bytes(9))), False, True),

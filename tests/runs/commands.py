@@ -36,8 +36,6 @@ class Command:
     turns: tuple[str, str] = ("", "")
     # Whether it prints a part of a text before it has all of it.
     prints_early: bool = False
-    # The word that its option for versions takes, besides numbers.
-    version: str = ""
 
     @property
     def reads_input(self) -> bool:
@@ -57,7 +55,8 @@ COMMANDS = {
         *(undisturbed(f"klist {options} c", c=VALID) for options in (
             "-c", "--json", "-l", "-l --json", "-cefC", "-s")))),
     "ktfind": Command(prints_early=True, reads=(undisturbed("ktfind k 0 0 b@R", k=TWO),)),
-    "ktcheck": Command(reads=(undisturbed("ktcheck k", k=TWO),)),
+    "ktcheck": Command(reads=tuple(undisturbed(f"ktcheck {options}k", k=TWO)
+                                   for options in ("", "--json ", "-H --want b@R "))),
     "ktedit": Command(
         (undisturbed("ktedit k", SCRIPT, k=OLD, name="adds"),), (undisturbed("ktedit k", SCRIPT, name="adds"),),
         tuple(undisturbed("ktedit k", script, k=TWO, name=f"{script}")
@@ -67,7 +66,7 @@ COMMANDS = {
     "ktremove": Command(
         (undisturbed("ktremove -p b@R k", k=TWO, name="removes"),), (),
         (undisturbed("ktremove -n -k 3 k", k=TWO, name="tells"),),
-        (undisturbed("ktremove -p c@R k", k=TWO, name="finds none"),), ("ktremove -p NAME@R PATH", ""), version="old"),
+        (undisturbed("ktremove -p c@R k", k=TWO, name="finds none"),), ("ktremove -p NAME@R PATH", "")),
     "ktcopy": Command(
         copies(("", TWO, NEW, "adds")), (undisturbed("ktcopy k t", k=TWO, name="adds"),),
         copies(("-n", TWO, OLD, "tells"), ("-n", TWO, CLASH, "tells of a clash"),
@@ -77,7 +76,8 @@ COMMANDS = {
                  ("", OLD, NEW, "has nothing to copy"), ("", OLD, b"", "has nothing for no bytes"),
                  ("", TWO, TWO[:-1], "has a damaged target")),
          undisturbed("ktcopy k k", k=TWO, name="copies a keytab into itself")),
-        ("ktcopy SOURCE PATH", ""), version="new"),
+        ("ktcopy SOURCE PATH", "")),
+    "ktdiff": Command(reads=(undisturbed("ktdiff -e 17 k t", k=TWO, t=TWO),)),
     "ktutil": Command(
         (undisturbed("ktutil", b"rkt j\nwkt k\n", j=keytab(B), k=NEW, name="adds"),), (),
         (undisturbed("ktutil", b"rkt k\nl\ndelent 1\n", k=TWO, name="reads"),), (),
@@ -205,10 +205,12 @@ def usual_runs(size: str, image: bytes, tickets: bytes, rotated: bytes, counts: 
         at_now("ktfind k 0 17 -- xxx/3@R", k=image),
         at_now("ktcheck k", k=rotated),
         at_now("ktcheck k no r k", k=image, r=rotated),
+        at_now("ktcheck --json --older 18500d --want c@R k no r k", k=image, r=rotated),
         at_now("ktedit k", mixed_script(image, counts[0]), name=f"a {size} script", k=image),
         at_now("ktremove -k old k", name=f"of {size} old versions", k=rotated),
         *(at_now(f"ktcopy {options} k t", name=f"{options} of {size} keytabs", k=source, t=target)
           for options, (source, target) in zip(("", "-k new"), copied)),
+        *(at_now("ktdiff k t", name=f"of {size} keytabs", k=source, t=target) for source, target in copied),
         at_now("ccedit c", mixed_script(tickets, counts[1]), name=f"a {size} script", c=tickets),
         at_now("ccremove --expired c", name=f"of {size} expired ones", c=tickets),
         at_now("hold -k k", frame(rotated), name=f"a {size} keytab", k=image),
@@ -250,6 +252,7 @@ def small_edits(image: bytes, tickets: bytes, rotated: bytes) -> list[Undisturbe
         at_now("ktremove -k 4000 k", name="of nothing", k=image),
         at_now("ktremove -e 17 k no r", name="of two keytabs", k=image, r=rotated),
         at_now("ccremove -p krbtgt/R@R c no d", name="of two caches", c=USUAL, d=VALID),
+        at_now("ktdiff k t", name="of other keys", k=many, t=others),
         at_now("klist -k k no r k", k=image, r=rotated),
         at_now("klist -l c no d", c=VALID, d=cache()),
         at_now("ktcopy k t", name="into no bytes", k=TWO, t=b""),

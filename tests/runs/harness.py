@@ -230,6 +230,12 @@ def printed(*lines: str, status: int = 0) -> Outcome:
     return Outcome(status, text(lines))
 
 
+def with_mode(*lines: str, is_wrong: bool = True) -> Outcome:
+    """Returns a check of a file as a test makes it: before those lines comes that of its mode."""
+    mode = stat.S_IMODE(mode_of_files())
+    return printed(*[f"mode {mode:o}"] * bool(mode & 0o66), *lines, status=int(is_wrong or mode & 0o6 > 0))
+
+
 def over(name: str, line: str | Line, image: bytes | None, wanted: Outcome | list[str],
          after: bytes | None = None, given: bytes | list[str] = b"") -> Case:
     """Returns a run over the file that its last word names, or over none, with that input.

@@ -1,42 +1,20 @@
-"""Random runs, each made from a number: what they have to meet, and rounds of checks of other kinds."""
+"""Random runs, each made from a number: those that went wrong, and rounds of checks of other kinds."""
 
 import os
-import re
 import shutil
 import tempfile
-from collections.abc import Callable, Iterator
+from collections.abc import Callable
 from dataclasses import dataclass
 from pathlib import Path
 from shlex import quote
 
-from runs.harness import Case, Outcome, Report
-
-# How often each kind of result has to occur.
-FEWEST = 3
-
-# What a line begins with, perhaps after a file: two words of a walk's, the number of a refusal or a fault.
-KIND = re.compile(rb"(?:\w: )? *(?:(walk) \d+ (\w+)|((?:refused|fault) \d+)|([A-Za-z]+))")
+from runs.harness import Case, Report
 
 # An unproved program is slow: it runs one of this many numbers.
 ONE_IN = 10
 
 # The folder of the cases that went wrong.
 KEPT = os.path.join(tempfile.gettempdir(), "krbfile-kept")
-
-
-def kinds_of(case: Case) -> Iterator[str]:
-    """Yields what each line of a run begins with, how each message ends, and the status, with each option too."""
-    words = {word for word in case.words if isinstance(word, str) and word.startswith("-")}
-    kinds = {f"status {case.wanted.status}"}
-    for line in case.wanted.out.splitlines():
-        found = KIND.match(line)
-        kinds.add(b" ".join(filter(None, found.groups())).decode() if found else "a record")
-    for line in case.wanted.err.splitlines():
-        *_, file, last = "", *line.decode("latin-1").split(": ")
-        kinds |= {last, last.split(" (")[0], f"{file}: {last.split(' (')[0]}"}
-    yield from kinds | {f"{word} {kind}" for word in words for kind in kinds}
-    if case.wanted == Outcome(0):
-        yield "nothing to do"
 
 
 def keep(name: str, case: Case, program: str = "krbfile") -> str:

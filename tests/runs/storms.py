@@ -3,7 +3,7 @@
 import signal
 import subprocess
 import time
-from collections.abc import Callable, Collection
+from collections.abc import Collection
 from dataclasses import dataclass, field
 from random import Random
 
@@ -78,22 +78,16 @@ class Run:
         return found
 
 
-def deeds(runs: list[Run], random: Random, within: float) -> list[tuple[float, Callable[[], None]]]:
-    """Returns when each run begins, within that many seconds, and when some are killed, in seconds from now."""
-    found = []
+def rage(runs: list[Run], random: Random, within: float) -> None:
+    """Lets waiting runs begin within that many seconds, kills some soon afterwards, and waits for their ends."""
+    deeds = []
     for each in runs:
         at = random.random() * within
-        found.append((at, each.begin))
+        deeds.append((at, each.begin))
         if each.is_killed:
-            longest = 0.05 if random.random() < 0.7 else 0.6
-            found.append((at + random.random() * longest, each.started.kill))
-    return sorted(found, key=lambda deed: deed[0])
-
-
-def rage(runs: list[Run], random: Random, within: float) -> None:
-    """Lets waiting runs begin, and waits for their ends."""
+            deeds.append((at + random.random() * random.choice((0.05, 0.05, 0.6)), each.started.kill))
     started = time.monotonic()
-    for at, do in deeds(runs, random, within):
+    for at, do in sorted(deeds, key=lambda deed: deed[0]):
         time.sleep(max(0, started + at - time.monotonic()))
         do()
     for each in runs:

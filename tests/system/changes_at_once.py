@@ -18,7 +18,7 @@ from runs.random_runs import Rounds
 from runs.storms import Run, rage
 from runs.undisturbed import IN_PLACE
 from system.saving import tree, write
-from system.storm_kinds import COPIES, HOLDS, KINDS, MANY, PLACES, Kind, change, names_of, removes
+from system.storm_kinds import HOLDS, KINDS, MANY, PLACES, Kind, change, names_of, removes
 
 # The names by which the runs call the file, and the contents of the folder at the end.
 PATHS = ("k", "./k", "link")
@@ -43,7 +43,7 @@ class Storm:
         for number in range(MANY):
             is_odd = number % 2 == 1
             is_mits, is_killed = self.kind.with_mit and is_odd, self.kind.kills and is_odd
-            command = self.kind.command(number)
+            command = self.kind.commands[number % len(self.kind.commands)]
             name = f"{'m' if is_mits else 'h' if removes(command) else 'a'}{number}"
             source = os.path.join(sources, name)
             write(source, keytab(Entry((name.encode(),))))
@@ -115,8 +115,7 @@ def check_kinds(kinds: tuple[Kind, ...], report: Report, program: str, seeds: ra
                 report.check(f"{kind}, round {seed}", storm(program, kind, seed).found[:3])
 
 
-# Storms in which no keytab is copied, and those in which some are; of hold; and those in which some runs save in place
-# and others replace the file, and some of those that replace it are killed.
+# Storms of each command; of hold; and those in which some runs save in place and others replace the file, and some of
+# those that replace it are killed.
 TOPICS = tuple(Rounds(partial(check_kinds, kinds), usual=usual, share=2_000, name=f"{what}_at_once")
-               for what, kinds, usual in (("changes", KINDS, 2), ("copies", COPIES, 2), ("holds", HOLDS, 1),
-                                          ("places", PLACES, 1)))
+               for what, kinds, usual in (("changes", KINDS, 2), ("holds", HOLDS, 1), ("places", PLACES, 1)))

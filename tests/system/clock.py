@@ -1,15 +1,16 @@
 """Clocks at any time or that fail: the time of a new entry of ktutil, which tickets have expired, and which entries
-are old for long enough. Over several files the clock is read once."""
+are old, or aged, for long enough. Over several files the clock is read once."""
 
 from collections.abc import Iterator
 from dataclasses import replace
-from itertools import chain, product
+from itertools import chain
 
 from caches.cache_listings import HEADING, line_of
 from keytabs.ktutil_lines import ADDENT, KEY, TIMES
 from keytabs.removals import FOUR, X, versioned
 from makers.images import OFFSET, PA_TYPE, TICKET, USUAL, cache, keytab, offset
-from runs.harness import BAD_LINE, Case, Outcome, Report, faults_of, message, over, printed, text, words_of
+from runs.harness import (BAD_LINE, Case, Outcome, Report, faults_of, message, over, printed, text, with_mode,
+                          words_of)
 from runs.system_calls import preloaded
 from words.phrases import CLOCK
 
@@ -33,14 +34,16 @@ NO_CLOCK = message(3, "cannot read the clock")
 EXPLAINED = Outcome(3, err=NO_CLOCK.err + f"krbfile: {CLOCK}\n".encode())
 
 # Lines, and how they end then: before the file is read, and only if the clock is needed. `klist -s` says nothing.
-AGE, EXPIRED = "ktremove -k old --age 0", "ccremove --expired"
+AGE, EXPIRED, OLDER = "ktremove -k old --age 0", "ccremove --expired", "ktcheck --older 0"
 ENDED = (
     (NO_CLOCK, (f"{AGE} k", f"{AGE} -n k", f"{AGE} no k", f"{AGE} KCM:k", f"{EXPIRED} c", f"{EXPIRED} -n c",
-                f"{EXPIRED} no c", f"{EXPIRED} KCM:c", f"{EXPIRED} -p krbtgt/R@R c", "klist -l --json no c")),
-    (EXPLAINED, (f"--explain {AGE} k", f"--explain {EXPIRED} c")),
+                f"{EXPIRED} no c", f"{EXPIRED} KCM:c", f"{EXPIRED} -p krbtgt/R@R c", "klist -l --json no c",
+                f"{OLDER} k", f"{OLDER} -q --json no KCM:k", OLDER)),
+    (EXPLAINED, (f"--explain {AGE} k", f"--explain {EXPIRED} c", f"--explain {OLDER} k")),
+    (with_mode("old 2 kvno 3 etype 17 host/a@R", "entries 4 free 0 holes 0", is_wrong=False), ("ktcheck k",)),
     (replace(NO_CLOCK, out=HEADING), ("klist -l no c", "klist -l")),
     (Outcome(0, text([X])), ("ktremove -n -k old k",)),
-    (BAD_LINE, (f"{AGE} --age 0 k", "klist -s c c")),
+    (BAD_LINE, (f"{AGE} --age 0 k", "klist -s c c", f"{OLDER} --older 0 k")),
     (Outcome(3), ("klist -s c", "klist -s --for 0 c", "klist -s no", "klist -s k", "klist -s KCM:c", "klist -s",
                   "--explain klist -s c")),
 )
@@ -65,40 +68,46 @@ ENDING = ((1_000_000, 999_999, 0, True), (1_000_000, 1_000_000, 0, False), (1_00
           (2**32 - 1, 1, 2**32 - 2, False), (2**32 - 1, 2**32 - 1, 1, False), (1_000_000, 999_399, "10m", True),
           (1_000_000, 999_400, "10m", False))
 
-# The fields of headers, whose offsets change nothing.
-HEADERS = (b"", offset(1_000_000_000, 0), offset(-1_000_000_000, 0))
-
 
 def expired() -> Iterator[Row]:
     """Yields removals of tickets: each has expired from the second in which it ends."""
     tickets = [replace(TICKET, endtime=end) for end in ENDS]
-    for fields, (now, count) in product(HEADERS, LEFT):
-        removed = [f"removed {22 + len(fields) + 108 * number} krbtgt/R@R" for number in range(count)]
-        before, after = (cache(*tickets[at:], fields=fields) for at in (0, count))
-        yield over(f"expired at {now}, the header is {fields.hex()}", f"{EXPIRED} c", before,
-                   removed, after), {"CLOCK": now}
+    for now, count in LEFT:
+        removed = [f"removed {22 + 108 * number} krbtgt/R@R" for number in range(count)]
+        before, after = (cache(*tickets[at:]) for at in (0, count))
+        yield over(f"expired at {now}", f"{EXPIRED} c", before, removed, after), {"CLOCK": now}
+
+
+def checked(name: str, line: str, seconds: int, is_aged: bool) -> Case:
+    """Returns a check of a new entry of that time."""
+    lines = ["aged 2 kvno 2 etype 17 a@R"] * is_aged + ["entries 1 free 0 holes 0"]
+    return over(name, line, keytab(versioned(2, seconds)), with_mode(*lines, is_wrong=is_aged))
 
 
 def aged() -> Iterator[Row]:
-    """Yields removals of an old entry: it goes once the newest version of its name is that old."""
+    """Yields removals of an old entry, which goes once the newest version of its name is that old, and checks of that
+    version, which is aged then."""
     old, new = versioned(1, 2**32 - 1), versioned(2, 1_000_000)
     for now, age, is_removed in AGED:
         yield over(f"{age} old at {now}", f"ktremove -k old --age {age} k", keytab(old, new),
                    ["removed 2 kvno 1 etype 17 a@R"] * is_removed,
                    keytab(41 if is_removed else old, new)), {"CLOCK": now}
+        yield checked(f"{age} aged at {now}", f"ktcheck --older {age} k", 1_000_000, is_removed), {"CLOCK": now}
+    yield checked("no time", f"{OLDER} k", 0, False), {"CLOCK": 5}
     yield over("a clock below an age", "ktremove -k old --age 6 k", keytab(old, versioned(2, 0)), []), {"CLOCK": 5}
 
 
 def valid() -> Iterator[Row]:
-    """Yields questions about a ticket: it is valid until the second in which it ends."""
-    for fields, (end, now, seconds, is_valid) in product(HEADERS, ENDING):
-        for words in (f"--for {seconds} ", *[""] * (seconds == 0)):
-            image = cache(replace(TICKET, endtime=end), fields=fields)
-            yield over(f"{end} at {now} {words}, with the header {fields.hex()}", f"klist -s {words}c",
-                       image, Outcome(1 - is_valid)), {"CLOCK": now}
+    """Yields questions about a ticket: it is valid until the second in which it ends, and the KDC's offset changes
+    nothing."""
+    for end, now, seconds, is_valid in ENDING:
+        image = cache(replace(TICKET, endtime=end), fields=offset(1_000_000_000, 0))
+        rows = {f"klist -s --for {seconds} c": Outcome(1 - is_valid)}
         if seconds == 0:
-            yield over(f"{end} at {now}, an overview", "klist -l c", image,
-                       Outcome(0, HEADING + line_of("c", not is_valid))), {"CLOCK": now}
+            rows["klist -s c"] = Outcome(1 - is_valid)
+            rows["klist -l c"] = Outcome(0, HEADING + line_of("c", not is_valid))
+        yield from ((over(f"{line}, {end} at {now}", line, image, wanted), {"CLOCK": now})
+                    for line, wanted in rows.items())
 
 
 def unread() -> Iterator[Row]:
@@ -114,11 +123,13 @@ def unread() -> Iterator[Row]:
 def once() -> Iterator[Row]:
     """Yields runs over two files whose clock can be read once."""
     old, new = versioned(1, 0), versioned(2, 1_000_000)
-    rows = ((AGE, keytab(old, new), keytab(41, new), "2 kvno 1 etype 17 a@R"),
-            (EXPIRED, cache(TICKET), cache(), "22 krbtgt/R@R"), ("klist -l", cache(TICKET), cache(TICKET), ""))
-    for line, before, after, gone in rows:
-        wanted = (printed(f"k: removed {gone}", f"j: removed {gone}") if gone else
-                  Outcome(0, HEADING + line_of("k", True) + line_of("j", True)))
+    check = checked("", OLDER, 1_000_000, True).wanted.out.decode().splitlines()
+    rows = ((AGE, keytab(old, new), keytab(41, new), ["removed 2 kvno 1 etype 17 a@R"]),
+            (EXPIRED, cache(TICKET), cache(), ["removed 22 krbtgt/R@R"]), (OLDER, keytab(new), keytab(new), check),
+            ("klist -l", cache(TICKET), cache(TICKET), []))
+    for line, before, after, lines in rows:
+        wanted = (printed(*(f"{name}: {each}" for name in "kj" for each in lines), status=int(line == OLDER)) if lines
+                  else Outcome(0, HEADING + line_of("k", True) + line_of("j", True)))
         yield (Case(f"{line}, the clock can be read once", words_of(f"{line} k j"), wanted, {"k": before, "j": before},
                     {"k": after, "j": after}), {"CLOCK": 1_800_000_000, "FAIL_CLOCK": 2})
 

@@ -4,14 +4,16 @@ from collections.abc import Iterator
 from dataclasses import dataclass, replace
 from functools import cached_property
 
+from keytabs.checks import unchecked
 from runs.harness import EXPLAIN, Case, Outcome, message
 from runs.undisturbed import Undisturbed
 
 NO_MEMORY = message(4, "out of memory")
 
-# What a run says of a file that is never there, and the line of ktutil that reads it. What else a run does is the same
-# if a file cannot be read or written.
+# What a run says of a file that is never there, in JSON of ktcheck too, and the line of ktutil that reads it. What else
+# a run does is the same if a file cannot be read or written.
 MISSING, READ_MISSING = message(1, "none: no such file").err, b"rkt none\n"
+OBJECT = unchecked("none", "no such file", 1)
 
 # The commands that take several files, one after the other.
 OVER_FILES = ("klist", "ktcheck", "ktremove", "ccremove")
@@ -32,7 +34,8 @@ class Stage:
 def failed(run: Undisturbed, unused: str) -> End:
     """Returns how a run of which a file is missing would end with that message of a file that it cannot use."""
     (outcome, files), end = run.done, message(3, unused)
-    return replace(end, out=outcome.out, err=outcome.err.replace(MISSING, end.err)), files
+    out = outcome.out.replace(OBJECT, unchecked(unused.partition(": ")[0], unused, 3))
+    return replace(end, out=out, err=outcome.err.replace(MISSING, end.err)), files
 
 
 class Ends:
@@ -63,7 +66,7 @@ class Ends:
     def up_to(self, end: int) -> Stage:
         """Returns what it has done after the files before that place."""
         got, files = replace(self.run, words=(*self.run.words[:end], "none"), plain=None).done
-        return Stage(got.out, got.err.removesuffix(MISSING), files)
+        return Stage(got.out.removesuffix(OBJECT), got.err.removesuffix(MISSING), files)
 
     def without(self, at: int, unused: str) -> End:
         """Returns how it ends with that message of the file at a place."""

@@ -13,9 +13,7 @@ from runs.harness import EXPLAIN, Case, Outcome, Report, differences, every, sho
 from runs.system_calls import Call, calls_of, under_strace
 from runs.undisturbed import IN_PLACE, Undisturbed, in_place, undisturbed
 from runs.undisturbed import explained as with_words
-from system.early_ends import Ends
-from system.failing_system_calls import (PRINT, READ, Step, calls_of_run, check_failure, held, killed, listed, lock,
-                                         looked, needed, traced_run)
+from system.failing_system_calls import killed, traced_run
 from system.saving import CUT_OFF, EQUAL, LONGER, MIXED, SHORTER, check_over, explained, images, message_of, unsaved
 from words.phrases import AFTERMATHS, CAUSES
 
@@ -86,6 +84,8 @@ def check_failures(report: Report, program: str) -> None:
         report.compare(f"no call fails: {case.name}", case.wanted, outcome)
         for nth, call in enumerate(calls):
             backs = [check_unsaved(report, program, case, calls[:nth + 1], error) for error in ERRORS][0]
+            interrupted, *_ = run_failing(program, case, *call.to("error=EINTR"))
+            report.compare(f"{call} is interrupted: {case.name}", case.wanted, interrupted)
             is_over = is_written_over([each.line for each in calls[:nth]], len(images(case)[0]))
             for back in backs:
                 check_lost(report, program, case, call, back, left_behind(backs, back, is_over))
@@ -101,25 +101,6 @@ def check_talk(report: Report, program: str) -> None:
     case = Case("a line of ktutil that fails in place", (EXPLAIN, "ktutil", IN_PLACE), explained(Outcome(3), *lines),
                 files, undisturbed("ktutil", b"rkt j\nwkt k\n", **files).files_after, talk)
     check_over(report, "strace", under_strace(program, case, "-e", "inject=pwrite64:error=EIO:when=1"))
-
-
-def steps() -> list[Step]:
-    """Returns the steps of a run in place that changes old bytes and adds others."""
-    stat = r'\w*stat\w*\(.*"k"'
-    compared = [*needed(1, stat, r'open.*"k", O_RDONLY', r"\w*stat\w*\(\d", r"read\([1-9]"), Step(r"close", "")]
-    ready = [*listed(), *compared]
-    written = [*needed(1, r"pwrite64", r"fsync"), *ready, *needed(1, r"pwrite64", r"fsync")]
-    last = [Step(stat, ""), Step(r"\w*stat\w*\(\d", ""), Step(r"lseek", "last look"), Step(r"read\([1-9]", "last look")]
-    return [READ, *needed(1, stat), *lock("k", mode="O_RDWR"), *held(), *looked("/proc/self/limits"), *ready, *written,
-            *last, Step(r"close", ""), PRINT]
-
-
-def check_steps(report: Report, program: str) -> None:
-    """Lets each call of a run fail: without the hold the file is loaded, and any other failure leaves it as it was."""
-    ends = Ends(in_place(MIXED))
-    for call in calls_of_run(report, program, ends, steps()):
-        for error in ("EACCES", "EINTR"):
-            check_failure(report, program, ends, steps(), call, error)
 
 
 def faults_of_kill(case: Undisturbed, files: dict[str, bytes], trace: list[str]) -> list[str]:
@@ -144,5 +125,4 @@ def check_kills(report: Report, program: str) -> None:
                     program, placed, call, partial(faults_of_kill, placed)))
 
 
-check = every(check_failures, check_talk, check_steps, check_kills, of="system calls of saves in place that fail",
-              needs=("strace",))
+check = every(check_failures, check_talk, check_kills, of="system calls of saves in place that fail", needs=("strace",))

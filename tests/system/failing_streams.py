@@ -8,20 +8,18 @@ place is read once more too, and that is said.
 from collections.abc import Iterable
 from errno import EACCES, EAGAIN, EINTR, ENOMEM, ENOSPC, errorcode
 from itertools import product
-from random import Random
 
 from runs.commands import COMMANDS, NOW, SAVING, large_runs, small_runs
 from runs.harness import Report, differences, message
 from runs.system_calls import Preloaded, preloaded
-from runs.random_runs import Rounds
 from runs.undisturbed import IN_PLACE
 from system.early_ends import End, Ends
 from system.saving import told
 
 ERRORS = (EINTR, EAGAIN, ENOSPC, ENOMEM, EACCES)
 
-# More calls of one kind than any run makes, more bytes than any read or write moves, and few.
-MOST_CALLS, WHOLE, FEW = 10_000, 1_000_000, 60
+# More bytes than any read or write moves, and few.
+WHOLE, FEW = 1_000_000, 60
 
 NO_OUTPUT = message(3, "cannot write output")
 
@@ -57,26 +55,18 @@ def are_met(ends: Ends, setting: str, given: int, end: End) -> bool:
     return end in ends.of_saves if setting in ("FAIL_SAVE", "ZERO_SAVE") else ends_in_output(ends, end)
 
 
-def faults_of_call(under: Preloaded, ends: Ends, setting: str, nth: int, most: int,
-                   error: int) -> tuple[list[str], bool]:
-    """Returns the faults of a run where that call fails, and whether it was made."""
-    got = under.run(ends.run, CLOCK=NOW, **{setting: nth, "MOST": most, "ERROR": error})
-    end, is_made = (got.outcome, got.files), bool(got.failures)
-    is_repeated = setting == "FAIL_SAVE" and error == EINTR and IN_PLACE in ends.run.words
-    has_no_effect = not is_made or is_repeated
-    is_wanted = end == ends.whole if has_no_effect else are_met(ends, setting, (nth - 1) * most, end)
-    return [] if is_wanted else [f"at {nth} {got.outcome.status}, {got.outcome.err!r}"], is_made
-
-
 def check_setting(report: Report, under: Preloaded, ends: Ends, setting: str, ways: Iterable[tuple[int, int]]) -> None:
     """Lets each call of a kind fail in each way."""
     for most, error in ways:
-        faults = []
-        for nth in range(1, MOST_CALLS):
-            found, is_made = faults_of_call(under, ends, setting, nth, most, error)
-            faults += found
-            if not is_made:
-                break
+        is_repeated = setting == "FAIL_SAVE" and error == EINTR and IN_PLACE in ends.run.words
+        faults, nth, is_made = [], 0, True
+        while is_made:
+            nth += 1
+            got = under.run(ends.run, CLOCK=NOW, **{setting: nth, "MOST": most, "ERROR": error})
+            end, is_made = (got.outcome, got.files), bool(got.failures)
+            has_effect = is_made and not is_repeated
+            is_wanted = are_met(ends, setting, (nth - 1) * most, end) if has_effect else end == ends.whole
+            faults += [] if is_wanted else [f"at {nth} {got.outcome.status}, {got.outcome.err!r}"]
         report.check(f"{setting} {errorcode[error]}, at most {most} bytes: {ends.run.name}", faults[:3])
 
 
@@ -96,20 +86,3 @@ def check(report: Report, program: str) -> None:
             check_setting(report, under, ends, setting, ways)
         for most in (1, 7, 4_095):
             check_few_bytes(report, under, ends, most)
-
-
-def check_rounds(report: Report, program: str, seeds: range) -> None:
-    """Lets calls fail that the seeds choose, of runs over larger files too."""
-    under = preloaded(report, program, "failing streams")
-    those = [*small_runs(), *large_runs()] if under else []
-    for seed in seeds if under else ():
-        random = Random(seed)
-        ends = Ends(random.choice(those))
-        setting, error = random.choice(settings(ends.command)), random.choice(ERRORS)
-        nth, most = int(2 ** random.uniform(0, 7)), int(2 ** random.uniform(0, 17))
-        faults, _ = faults_of_call(under, ends, setting, nth, most, error)
-        name = f"{setting} {errorcode[error]}, at most {most} bytes, number {seed}"
-        report.check(f"{name}: {ends.run.name}", faults)
-
-
-check_long = Rounds(check_rounds, share=4).check_long

@@ -1,14 +1,12 @@
 """Each system call of each command fails, by several errors, and is the last of its run.
 
-The effect of a failure depends on the step of the work that the call belongs to. The run's own trace
-shows that: how often it reads the list of locks depends on how many others have.
+What a failure changes depends on the call and on the file that it is about, which strace shows.
 """
 
 import os
 import re
 import signal
 from collections.abc import Callable
-from dataclasses import dataclass
 from itertools import product
 
 from makers.images import B, TWO, keytab
@@ -33,161 +31,32 @@ READINGS = 5
 # What an earlier save left in its new file.
 REMAINS = b"remains"
 
-# The errors of fchown that mean that the owner may not be set: the mode is narrowed.
-NOT_PERMITTED = ("EACCES", "EPERM")
+# The calls without which a run does the same: those about the system's own files, the folder and what was replaced, the
+# lock of a file, which is tried by another handle too, and each close.
+SPARED = re.compile(r'close|.*[<"]/proc/|.*"\."|.*\(deleted\)|(?:flock|fsync)\((?!.*\.krbfile>)')
 
+# A look at one of several files, which may be a pipe, and an owner that may not be set, so that the mode is narrowed.
+LOOK = re.compile(r'\w*stat\w*\((?:AT_FDCWD\S* )?"')
+NARROWED = re.compile(r"fchown.* (?:EACCES|EPERM) ")
 
-@dataclass(frozen=True)
-class Step:
-    """A step of a run: the pattern of its calls, what fails with them, and which of its kind it is."""
-
-    pattern: str
-    fails: str
-    nth: int = 1
-
-
-# The step of a run without a failed call, and of a call that belongs to no step.
-NONE, UNKNOWN = Step("", ""), Step("", "unknown")
-
-
-def load(name: str, nth: int = 1) -> list[Step]:
-    """Returns the steps of a load."""
-    patterns = (rf'open.*"{name}", O_RDONLY', r"\w*stat\w*\(\d", r"read\([1-9]")
-    return [*(Step(pattern, "load", nth) for pattern in patterns), Step(r"close", "")]
-
-
-def looked(path: str) -> list[Step]:
-    """Returns the steps of reading a file of the system, which is not required."""
-    patterns = (rf'open.*"{path}"', r"\w*stat\w*\(\d", r"read\([1-9]", r"close")
-    return [Step(pattern, "list") for pattern in patterns]
-
-
-def listed() -> list[Step]:
-    """Returns the steps of reading the locks. Only several readings in a row show that there are none."""
-    return looked("/proc/locks") * READINGS
-
-
-def needed(nth: int, *patterns: str) -> list[Step]:
-    """Returns steps that a save requires."""
-    return [Step(pattern, "save", nth) for pattern in patterns]
-
-
-def lock(name: str, nth: int = 1, mode: str = "O_RDONLY") -> list[Step]:
-    """Returns the steps of a lock, which is tried by another handle where one does not take it."""
-    stat = rf'\w*stat\w*\(.*"{name}"'
-    disk = [*looked(r"/proc/self/fdinfo/\d+"), *looked("/proc/self/mountinfo")]
-    return [*needed(nth, stat, rf'open.*"{name}", {mode}'), Step(r"flock", ""),
-            *needed(nth, r"\w*stat\w*\(\d", stat, r"\w*stat\w*\(\d"), *disk, *listed()]
-
-
-def hold(name: str, nth: int = 1) -> list[Step]:
-    """Returns the steps of a hold; without it a file is loaded and not saved. Only the owner may read the new file."""
-    made = needed(nth, rf'\w*stat\w*\(.*"{name}"', r"open.*O_CREAT\|O_EXCL\b.*, 0600\)", r"flock",
-                  r"\w*stat\w*\(\d", rf'\w*stat\w*\(.*"{name}\.krbfile"', r"fcntl")
-    return [*made, Step(r"close", ""), *lock(name, nth)]
-
-
-def held(nth: int = 1) -> list[Step]:
-    """Returns the steps of a load of a file that is held."""
-    return [Step(pattern, "load", nth) for pattern in (r"lseek", r"\w*stat\w*\(\d", r"read\([1-9]")]
-
-
-def save(name: str, nth: int = 1, is_new: bool = False) -> list[Step]:
-    """Returns the steps of a save. It is done even if the folder cannot be synced, or the old file be looked at."""
-    limits = looked("/proc/self/limits")
-    stat = rf'\w*stat\w*\(.*"{name}'
-    owner = [] if is_new else [Step(r"fchown", "owner", nth), *needed(nth, r"\w*stat\w*\(\d")]
-    made = needed(nth, r"fchmod", r"fsync", r"\w*stat\w*\(\d", stat + r'\.krbfile"', stat + '"')
-    again = needed(nth, rf'open.*"{name}", O_RDONLY', r"\w*stat\w*\(\d", r"read\([1-9]")
-    again = [] if is_new else [*again, Step(r"close", ""), *listed()]
-    synced = [Step(pattern, "") for pattern in (r'open.*"\."', r"fsync", r"close")]
-    seen = [] if is_new else [Step(pattern, "") for pattern in (r"lseek", r"read\([1-9]")]
-    return [*limits, *needed(nth, r"write\([3-9]"), *owner, *made, *again, *needed(nth, r"rename"), *synced, *seen,
-            Step(r"close", "")]
-
-
-READ = Step(r"read\(0", "input")
-PRINT = Step(r"write\(1", "output")
-
-# Lines of ktutil that list, save and load, and their steps.
+# Lines of ktutil that list, save and load, and runs over two files.
 TALK = undisturbed("ktutil", b"rkt j\nl\nwkt k\nwkt n\nl -e\nrkt n\nl\n", j=TWO, k=keytab(B))
-TALKED = [READ, *load("j"), PRINT, *hold("k"), *held(2), *save("k"), *hold("n", 2), *save("n", 2, is_new=True), PRINT,
-          *load("n", 4), PRINT, READ]
-
-# Runs over two files, each of which is looked at before it is opened.
 TWO_FILES = (undisturbed("ktcheck k j", k=TWO, j=keytab(B, B)),
              undisturbed("ktremove -p b@R k j", k=TWO, j=keytab(B, B)))
 
 
-def seen(name: str) -> Step:
-    """Returns the step of a look at a file, which may be a pipe."""
-    return Step(rf'\w*stat\w*\(.*"{name}"', "")
-
-
-def steps_of_run(ends: Ends) -> list[Step]:
-    """Returns the steps of a run: those of its input, of the files that it only loads, and of the one that it saves."""
-    run, names = ends.run, ends.names
-    if run == TALK:
-        return TALKED
-    is_saving = run.files_after != run.files
-    if run in TWO_FILES:
-        return [step for nth, name in enumerate(names, 1) for step in (
-            [*hold(name, nth), seen(name), *held(nth), *save(name, nth), PRINT] if is_saving else
-            [seen(name), *load(name, nth), PRINT])]
-    loaded = [step for nth, name in enumerate(names[:-1] if is_saving else names, 1)
-              for step in (*load(name, nth), PRINT)]
-    if not is_saving:
-        return loaded
-    name, nth, is_new = names[-1], len(names), names[-1] not in run.files
-    if ends.command == "hold":
-        return [*hold(name), *held(), PRINT, READ, *save(name, 2, is_new)]
-    return [*[READ] * bool(run.stdin), *loaded, *hold(name), *held(nth), *save(name, is_new=is_new), PRINT]
-
-
-def steps_of(calls: list[Call], steps: list[Step]) -> list[tuple[Call, Step]] | None:
-    """Returns each call with its step. A step may have several calls, or none; None if a call has no step."""
-    left = list(steps)
-    found = []
-    for call in calls:
-        while left and not re.match(left[0].pattern, call.line):
-            left.pop(0)
-        if not left:
-            return None
-        found.append((call, left[0]))
-    return found
-
-
-def failed_step(trace: list[str], first: str, steps: list[Step]) -> Step:
-    """Returns the step of the call that failed in a run, or NONE if no call failed."""
-    calls = [*calls_of(trace, first)]
-    for number, call in enumerate(calls, 1):
-        if call.line.endswith("(INJECTED)"):
-            found = steps_of(calls[:number], steps)
-            return found[-1][1] if found else UNKNOWN
-    return NONE
-
-
-def is_end_of_step(ends: Ends, step: Step, end: End) -> bool:
-    """Whether a run ended as it has to if a call of that step fails."""
-    if step.fails == "input":
+def is_met(ends: Ends, line: str, end: End) -> bool:
+    """Whether a run ended as it has to where the call of that line of its trace failed."""
+    if line.startswith("read(0<"):
         return end in (ends.of_input(0), ends.of_input(len(ends.run.stdin)))
-    if step.fails == "output":
+    if line.startswith("write(1<"):
         return ends_in_output(ends, end)
-    if step.fails == "last look":
-        return end == (told(ends.run, "mixed"), ends.run.files_after)
-    found = ends.of_loads if step.fails == "load" else ends.of_saves
-    return end == found[step.nth - 1]
-
-
-def faults_of_failure(ends: Ends, call: Call, step: Step, error: str, end: End) -> list[str]:
-    """Returns the faults of a run in which a call of that step failed."""
-    if step == UNKNOWN:
-        return ["it is the call of no step"]
-    is_narrowed = step.fails == "owner" and error in NOT_PERMITTED
-    is_repeated = error == "EINTR" and call.name in REPEATED
-    has_no_effect = step.fails in ("", "list") or is_narrowed or is_repeated
-    is_wanted = end == ends.whole if has_no_effect else is_end_of_step(ends, step, end)
-    return [] if is_wanted else [f"{end[0]} and {sorted(end[1])}"]
+    is_repeated = " EINTR " in line and line.partition("(")[0] in REPEATED
+    if is_repeated or SPARED.match(line) or NARROWED.match(line):
+        return end == ends.whole
+    saves = ends.of_saves if ends.run.files_after != ends.run.files else []
+    return end in [*ends.of_loads, *saves] or (
+        ends.run in TWO_FILES and bool(LOOK.match(line)) and end == ends.whole)
 
 
 def faults_of_files(ends: Ends, files: dict[str, bytes]) -> list[str]:
@@ -222,11 +91,6 @@ def traced_run(program: str, run: Undisturbed, *options: str) -> tuple[End, list
         return (outcome, files_in(folder)), trace
 
 
-def first_text(ends: Ends, steps: list[Step]) -> str:
-    """Returns text in the first call of a run's work, which reads the input, or names the file."""
-    return "read(0" if steps[0] == READ else f'"{ends.names[0]}"'
-
-
 def faults_of_renames(calls: list[Call], files: dict[str, bytes]) -> list[str]:
     """Returns the renames before which the new file is not synced once it has its mode, or over a file before which the
     locks are not read often enough then, or after which the folder is not synced at once."""
@@ -241,21 +105,22 @@ def faults_of_renames(calls: list[Call], files: dict[str, bytes]) -> list[str]:
     return found
 
 
-def calls_of_run(report: Report, program: str, ends: Ends, steps: list[Step]) -> list[Call]:
-    """Returns the calls of a run, each of which has to belong to a step."""
+def calls_of_run(report: Report, program: str, ends: Ends) -> list[Call]:
+    """Returns the calls of a run's work, which reads its input, or names the file, at first."""
     end, trace = traced_run(program, ends.run)
-    calls, name = [*calls_of(trace, first_text(ends, steps))], ends.run.name
-    report.check(f"the syncs and locks of a rename of {name}", faults_of_renames(calls, ends.run.files))
-    is_wanted = steps_of(calls, steps) and end == ends.whole
-    report.check(f"the system calls of {name}", [] if is_wanted else ["not as wanted"])
-    return calls if is_wanted else []
+    has_read = ends.run.stdin and ends.command != "hold"
+    calls = [*calls_of(trace, "read(0" if has_read else f'"{ends.names[0]}"')]
+    faults = faults_of_renames(calls, ends.run.files) + ([] if calls and end == ends.whole else [f"{end}"])
+    report.check(f"no call fails: {ends.run.name}", faults)
+    return calls
 
 
-def check_failure(report: Report, program: str, ends: Ends, steps: list[Step], call: Call, error: str) -> None:
-    """Lets a call of a run fail."""
-    end, trace = traced_run(program, ends.run, *call.to(f"error={error}"))
-    step = failed_step(trace, first_text(ends, steps), steps)
-    report.check(f"{call} fails with {error}: {ends.run.name}", faults_of_failure(ends, call, step, error, end))
+def check_failure(report: Report, program: str, ends: Ends, call: Call, error: str) -> None:
+    """Lets a call of a run fail. How often the list of locks is read depends on how many others have."""
+    end, trace = traced_run(program, ends.run, "-y", *call.to(f"error={error}"))
+    failed = [line for line in trace if line.endswith("(INJECTED)")]
+    is_wanted = is_met(ends, failed[0], end) if failed else end == ends.whole
+    report.check(f"{call} fails with {error}: {ends.run.name}", [] if is_wanted else [f"{failed}: {end}"])
 
 
 def check_runs(report: Report, program: str) -> None:
@@ -265,10 +130,9 @@ def check_runs(report: Report, program: str) -> None:
              if not {"--json", "-s"} & {*run.words} and not run.stdin and not run.wanted.err}
     changes = {run.words[0]: run for run in CHANGES} | {"ktutil": TALK}
     for ends in map(Ends, (*reads.values(), *TWO_FILES, *changes.values(), *MAKES)):
-        steps = steps_of_run(ends)
-        for call in calls_of_run(report, program, ends, steps):
+        for call in calls_of_run(report, program, ends):
             for error in ERRORS:
-                check_failure(report, program, ends, steps, call, error)
+                check_failure(report, program, ends, call, error)
             report.check(f"killed at {call}: {ends.run.name}", killed(
                 program, ends.run, call, lambda files, _, ends=ends: faults_of_files(ends, files)))
 

@@ -36,7 +36,7 @@ MOUNTS = (b"24 1 0:37 / / rw,relatime - overlay overlay rw\n26 24 0:31 / /\xff r
 # description cannot; and the lines. The number 131 is that of the description.
 LOCK_LINES = {
     (True, True, True): (LOCK, lock("00:00:0", "OFDLCK ADVISORY  WRITE -1"), FLOCK + lock("00:26:0"),
-                         lock("00:26:0", "-> POSIX  MANDATORY WRITE 12")),
+                         lock("00:26:0", "-> POSIX  MANDATORY WRITE 12"), lock("00:00:1") * 300 + LOCK),
     (False, False, False): (FLOCK, NO_LOCK, b"\xff", *map(lock, ("00:00:10", "00:26:1", "fe:00:0", "103:26:0",
                                                                  "fe:00:131"))),
     (False, True, True): (lock("00:1f:0"),),

@@ -8,14 +8,12 @@ memory, each command has to report that.
 import resource
 import subprocess
 from collections.abc import Iterator
-from random import Random
 
 from caches import cache_files, greatest_caches
 from keytabs import copies, greatest
 from keytabs.file_names import LIMIT, sized
 from runs.commands import CHANGES, COMMANDS, READS, SAVING, file_of
 from runs.harness import SECONDS, Case, Outcome, Report, faults_of, limit, run_case
-from runs.random_runs import Rounds
 from runs.undisturbed import undisturbed
 from system.early_ends import NO_MEMORY
 
@@ -24,10 +22,6 @@ SPACE = 64 * 1024 * 1024
 
 # How many of the greatest files a run checks, and the memory for it, which is less than that of the files.
 MANY, ROOM = 40, 256 * 1024 * 1024
-
-# The memory that a long test lets a run have, as powers of two: from a little more than the program itself takes up to
-# more than any run does.
-LEAST_POWER, MOST_POWER = 22, 30
 
 # The commands that may print, or save, a part of what they do.
 PARTLY = ("ktutil", *(name for name, command in COMMANDS.items() if command.prints_early))
@@ -42,7 +36,7 @@ def is_early(case: Case, got: Outcome, after: dict[str, bytes]) -> bool:
     output = got.err.removesuffix(NO_MEMORY.err)
     is_front = case.wanted.out.startswith(got.out) and case.wanted.err.startswith(output)
     has_done_nothing = not got.out and after == case.files
-    return files_are_whole and is_front and (has_done_nothing or case.words[0] in PARTLY)
+    return files_are_whole and is_front and (has_done_nothing or case.words[0] in PARTLY or "--json" in case.words)
 
 
 def all_cases() -> list[Case]:
@@ -71,7 +65,8 @@ def without_room() -> list[Case]:
 
 def of_many() -> Iterator[Case]:
     """Yields runs over many files, each of which gives its memory back: they take no more than one."""
-    for line, between in (("ktcheck", b""), ("klist -k", b"\n"), ("klist -k --json", b""), ("ktremove -n -e 17", b"")):
+    for line, between in (("ktcheck", b""), ("klist -k", b"\n"), ("klist -k --json", b""), ("ktremove -n -e 17", b""),
+                          ("ktcheck --json", b"")):
         two = undisturbed(f"{line} k k", k=sized(LIMIT))
         wanted = Outcome(two.wanted.status, between.join([two.wanted.out] * (MANY // 2)))
         yield Case(f"{line} over {MANY} of the greatest files, in 256 MB of memory",
@@ -81,21 +76,10 @@ def of_many() -> Iterator[Case]:
 def check(report: Report, program: str) -> None:
     for case, most in (*((each, ROOM) for each in of_many()), *((each, LIMIT) for each in without_room())):
         report.check(case.name, faults_of(case, *run_case(program, case, preexec_fn=limit(resource.RLIMIT_AS, most))))
-    for case in all_cases():
+    those = all_cases()
+    for case in those:
         faults = faults_in(program, case, resource.RLIMIT_STACK, STACK)
         report.check(f"{case.name}, on a stack of 256 KB", faults)
-    for case in (*all_cases(), *copies.of_many()):
+    for case in (*those, *copies.of_many()):
         faults = faults_in(program, case, resource.RLIMIT_AS, SPACE)
         report.check(f"{case.name}, in 64 MB of memory", faults)
-
-
-def check_rounds(report: Report, program: str, seeds: range) -> None:
-    """Runs cases in amounts of memory that the seeds choose."""
-    those = all_cases()
-    for random in map(Random, seeds):
-        case, most = random.choice(those), int(2 ** random.uniform(LEAST_POWER, MOST_POWER))
-        faults = faults_in(program, case, resource.RLIMIT_AS, most)
-        report.check(f"{case.name}, in {most} bytes of memory", faults)
-
-
-check_long = Rounds(check_rounds, share=200).check_long

@@ -5,31 +5,20 @@ pieces. Commands that need no input leave it as it is.
 """
 
 import os
-import resource
 import signal
 import socket
 import subprocess
 from dataclasses import replace
+from functools import partial
 from itertools import product
-from pathlib import Path
 
 from keytabs.conversations import stop
 from makers.images import B, HOST, TWO, Entry, keytab
 from runs.commands import CHANGES, COMMANDS, LEAVES, READS, both_ways, mixed_cache, mixed_keytab, small_runs
-from runs.harness import (EXPLAIN, SECONDS, Outcome, Report, differences, every, folder_of, limit, run, run_case, shown,
-                          words_of)
+from runs.harness import SECONDS, Outcome, Report, differences, every, folder_of, run, run_case, shown, words_of
 from runs.undisturbed import Undisturbed, undisturbed
 from system.early_ends import End, Ends
 from system.failing_streams import NO_OUTPUT, ends_in_output
-
-# Runs whose output is cut at each byte, and runs whose messages are.
-CUT = (undisturbed("klist -k k", k=TWO), undisturbed("ktcheck k s k", k=TWO, s=keytab(HOST, HOST)))
-CUT_MESSAGES = (
-    undisturbed("ktutil", b"frob\nrkt k\ndelent 9\nl\nrkt n\nl\n", name="is at fault between lists", k=TWO),
-    undisturbed(f"{EXPLAIN} ktfind k 0 0 c@R", k=TWO),
-    undisturbed(f"{EXPLAIN} ktcheck k", k=keytab(HOST, HOST)),
-    undisturbed(f"{EXPLAIN} frob"),
-)
 
 # A listing of more than a pipe takes: 300 lines of 1000 bytes.
 LONG = undisturbed("klist -k k", k=keytab(*[Entry((b"x" * 992,))] * 300))
@@ -53,39 +42,23 @@ THEN_READ = '"$0" "$@" > out 2>&1; status=$?; cat; exit $status'
 GIVEN = b"k\nc\n"
 
 
-def cut(wanted: Outcome, part: str, most: int) -> Outcome:
-    """Returns the outcome if that part goes to an output of that many bytes. A cut message changes nothing else."""
-    text = getattr(wanted, part)
-    return replace(NO_OUTPUT if part == "out" and most < len(text) else wanted, **{part: text[:most]})
-
-
-def check_each_byte(report: Report, program: str, case: Undisturbed, stream: str, part: str) -> None:
-    """Checks each number of bytes that the output takes, up to those of the text. The write that exceeds it is cut."""
-    with folder_of(case.files) as folder:
-        path = os.path.join(folder, stream)
-        for most in range(len(getattr(case.wanted, part)) + 1):
-            with open(path, "wb") as file:
-                got = run(program, case.words, folder, case.stdin, preexec_fn=limit(resource.RLIMIT_FSIZE, most),
-                          **{stream: file})
-            got = replace(got, **{part: Path(path).read_bytes()})
-            report.compare(f"{stream} of {most} bytes: {case.name}", cut(case.wanted, part, most), got)
-
-
 def piped(program: str, case: Undisturbed, folder: str, **more) -> subprocess.Popen[bytes]:
     """Makes a run whose outputs are pipes."""
     return subprocess.Popen([program, *case.words], cwd=folder, stdin=subprocess.DEVNULL, stdout=subprocess.PIPE,
                             stderr=subprocess.PIPE, **more)
 
 
-def check_closed_pipe(report: Report, program: str, taken: int, action: signal.Handlers) -> None:
+def check_closed_pipe(report: Report, program: str) -> None:
     """Closes the reader after some bytes: the write fails, since the program ignores SIGPIPE in each case."""
-    with folder_of(LONG.files) as folder:
-        with piped(program, LONG, folder, preexec_fn=lambda: signal.signal(signal.SIGPIPE, action)) as started:
+    for action, taken in product((signal.SIG_DFL, signal.SIG_IGN), (0, 1, 20, 1000, 70_000)):
+        options = {"preexec_fn": partial(signal.signal, signal.SIGPIPE, action)}
+        with folder_of(LONG.files) as folder, piped(program, LONG, folder, **options) as started:
             out = started.stdout.read(taken)
             started.stdout.close()
             err = started.stderr.read()
             got = Outcome(started.wait(SECONDS), out, err)
-    report.compare(f"pipe closed after {taken} bytes, {action.name}", cut(LONG.wanted, "out", taken), got)
+        wanted = replace(NO_OUTPUT, out=LONG.wanted.out[:taken])
+        report.compare(f"pipe closed after {taken} bytes, {action.name}", wanted, got)
 
 
 def check_stopped(report: Report, program: str) -> None:
@@ -144,7 +117,8 @@ def check_pieces(report: Report, program: str) -> None:
     """Lists a keytab and a cache of more than three pieces. A message is one, so that those of runs do not mix."""
     image, cache = mixed_keytab(3_000), mixed_cache(400)
     for one in (undisturbed("klist -k k", k=image), undisturbed("klist -kK --json k", k=image),
-                undisturbed("klist -cefC c", c=cache), undisturbed("klist --json c", c=cache)):
+                undisturbed("klist -cefC c", c=cache), undisturbed("klist --json c", c=cache),
+                undisturbed("ktcheck --json --older 1 k", k=image)):
         got, lengths = pieces_of(program, one)
         faults = differences(one.wanted, got)
         faults += [f"a write of {max(lengths)} bytes"] if max(lengths, default=0) > LONGEST else []
@@ -166,18 +140,4 @@ def check_left(report: Report, program: str) -> None:
         report.compare(f"the input is left: {shown(words)}", Outcome(status, GIVEN), got)
 
 
-def check_cut(report: Report, program: str) -> None:
-    """Cuts outputs and messages at each byte, and listings in a pipe."""
-    before = os.umask(0o077)
-    try:
-        for one in CUT:
-            check_each_byte(report, program, one, "stdout", "out")
-        for one in CUT_MESSAGES:
-            check_each_byte(report, program, one, "stderr", "err")
-    finally:
-        os.umask(before)
-    for action, taken in product((signal.SIG_DFL, signal.SIG_IGN), (0, 1, 20, 1000, 70_000)):
-        check_closed_pipe(report, program, taken, action)
-
-
-check = every(check_cut, check_stopped, check_lost, check_pieces, check_left)
+check = every(check_closed_pipe, check_stopped, check_lost, check_pieces, check_left)

@@ -6,20 +6,16 @@ line. Help is printed, or a prefix of it.
 """
 
 import os
-from collections.abc import Callable, Iterable
 from dataclasses import replace
-from random import Random
 
 from makers.images import HOST, TICKET, TWO, cache, keytab
 from runs.commands import COMMANDS, NOW, at_now, large_runs, rotated_keytab, small_runs
 from runs.harness import EXPLAIN, Outcome, Report, differences, words_of
 from runs.system_calls import Counted, Preloaded, preloaded
-from runs.random_runs import Rounds
 from system.early_ends import NO_MEMORY, Ends
 
-# How many allocations of a run are refused: over small files all of them, and over larger ones some.
-FEW = 5_000
-SOME = 45
+# How many allocations of a run are refused: over larger files some, and over small ones all.
+SOME, ALL = 45, 5_000
 
 # The settings that refuse one allocation, and those that refuse all from it on.
 WAYS = {"once": {}, "from it on": {"REFUSE_LASTS": 1}}
@@ -63,18 +59,17 @@ def faults_of(ends: Ends, nth: int, got: Counted, may_print: bool) -> list[str]:
     return [f"at {nth} {', '.join(differences(last, got.outcome)) or 'files that are not as they should be'}"]
 
 
-def check_run(report: Report, under: Preloaded, ends: Ends, numbers: Callable[[int], Iterable[int]],
-              **env: str) -> None:
-    """Refuses the allocations whose numbers are chosen from how many there are, in both ways."""
+def check_run(report: Report, under: Preloaded, ends: Ends, most: int = ALL, **env: str) -> None:
+    """Refuses at most that many allocations of a run, in both ways."""
     command = COMMANDS.get(ends.command)
-    may_print = (command is None or command.prints_early) and not env
+    may_print = (command is None or command.prints_early or "--json" in ends.run.words) and not env
     whole = under.run(ends.run, CLOCK=NOW, **env)
     if (whole.outcome, whole.files) != ends.whole or whole.requests == 0:
         report.check(ends.run.name, ["it is not whole where nothing is refused, or its requests are not seen"])
         return
     for way, settings in WAYS.items():
         faults = []
-        for nth in numbers(whole.requests):
+        for nth in spread(whole.requests, most):
             got = under.run(ends.run, CLOCK=NOW, REFUSE=nth, **settings, **env)
             faults += faults_of(ends, nth, got, may_print)
         report.check(f"memory refused {way}: {ends.run.name}", faults[:3])
@@ -88,25 +83,13 @@ def check_defaults(report: Report, under: Preloaded) -> None:
             report.skip(f"memory refused to {name}", f"{OWN} is there")
         else:
             ends = Ends(replace(named, name=name, words=words_of(line), plain=named.words))
-            check_run(report, under, ends, lambda requests: spread(requests, FEW), **env)
+            check_run(report, under, ends, **env)
 
 
 def check(report: Report, program: str) -> None:
     if under := preloaded(report, program, "memory that is refused"):
         check_defaults(report, under)
         for run in (*small_runs(), EXPLAINED):
-            check_run(report, under, Ends(run), lambda requests: spread(requests, FEW))
+            check_run(report, under, Ends(run))
         for run in large_runs():
-            check_run(report, under, Ends(run), lambda requests: spread(requests, SOME))
-
-
-def check_rounds(report: Report, program: str, seeds: range) -> None:
-    """Refuses allocations over larger files, as many per run as there are seeds, chosen by the first seed."""
-    random = Random(seeds.start)
-    under = preloaded(report, program, "memory that is refused")
-    for run in large_runs() if under else ():
-        check_run(report, under, Ends(run),
-                  lambda requests: random.sample(range(1, requests + 1), min(requests, len(seeds))))
-
-
-check_long = Rounds(check_rounds, share=100).check_long
+            check_run(report, under, Ends(run), SOME)

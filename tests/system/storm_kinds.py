@@ -58,10 +58,6 @@ class Kind:
         """The option of `klist` for the file, which is a cache or a keytab."""
         return "-c" if self.commands[0].startswith("cc") else "-k"
 
-    def command(self, number: int) -> str:
-        """Returns the command of the run of that number."""
-        return self.commands[number % len(self.commands)]
-
     def image(self) -> bytes:
         """Returns the initial file, which has what is removed."""
         names = [*(b"h%d" % number for number in range(MANY)), b"last"] if any(map(removes, self.commands)) else []
@@ -74,13 +70,6 @@ class Kind:
         found = listed(self.option, image)
         return not found or bool(found["fault"]) and not (self.with_mit or self.in_place)
 
-    def __str__(self) -> str:
-        words = [f"{MANY} runs of {' and '.join(self.commands)}"]
-        words += ["over none" if self.over_none else "over a file"]
-        words += ["half of them killed"] * self.kills + ["half of them MIT's"] * self.with_mit
-        words += ["some in place"] * self.in_place
-        return ", ".join(words)
-
 
 # The commands that add or remove a name of a keytab, of a cache, and several in turn.
 OF_KEYTABS, OF_CACHES = ([(name,) for name, command in COMMANDS.items() if command.turns[0] and name[:2] == front]
@@ -89,12 +78,10 @@ MIXED, BOTH = tuple(name for (name,) in OF_KEYTABS if name != "ktutil"), ("ccedi
 ADDING = [names for names in OF_KEYTABS if not removes(*names)]
 
 # The kinds of one command and of several; those in which half of the runs are killed; those over none; and those beside
-# MIT's ktutil. In some keytabs are copied into the file.
-ALL = (*(Kind(names, kills=kills) for names in (*OF_KEYTABS, *OF_CACHES, MIXED, BOTH) for kills in (False, True)),
-       *(Kind(names, over_none=True, kills=kills) for names in ADDING for kills in (False, True)),
-       *(Kind(names, with_mit=True) for names in (*ADDING, MIXED)))
-COPIES = tuple(kind for kind in ALL if any("SOURCE" in COMMANDS[each].turns[0] for each in kind.commands))
-KINDS = tuple(kind for kind in ALL if kind not in COPIES)
+# MIT's ktutil.
+KINDS = (*(Kind(names, kills=kills) for names in (*OF_KEYTABS, *OF_CACHES, MIXED, BOTH) for kills in (False, True)),
+         *(Kind(names, over_none=True, kills=kills) for names in ADDING for kills in (False, True)),
+         *(Kind(names, with_mit=True) for names in (*ADDING, MIXED)))
 
 # The kinds in which other programs add entries by `hold`: these are the runs that are killed.
 HOLDS = (Kind(("ktedit", "hold", "ktremove", "hold")), Kind(("ktedit", "hold"), kills=True))

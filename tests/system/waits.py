@@ -3,11 +3,7 @@
 import fcntl
 import os
 import struct
-import subprocess
-import sys
-import tempfile
 import threading
-import time
 from collections.abc import Callable
 from contextlib import ExitStack
 
@@ -15,9 +11,6 @@ from runs.commands import OLD, Run
 from runs.harness import Report, differences, every, folder_of
 from runs.namespaces import mounted
 from system.saving import ADD, SAVED, edit, run_over, tree_faults, write
-
-# More locks than fit in one read of the system's list.
-MANY = 300
 
 # A run that gives up takes this many seconds, however busy the machine is.
 LEAST_WAIT, LONGEST_WAIT = 9, 20
@@ -27,9 +20,6 @@ AT_ONCE = 3
 
 # Runs that wait at the same time.
 RUNS = 8
-
-# A program that waits to lock a file.
-WAITER = "import fcntl, sys; fcntl.lockf(open(sys.argv[1], 'r+b'), fcntl.LOCK_EX)"
 
 
 def ofd_lock(file, kind: int) -> None:
@@ -53,38 +43,6 @@ def faults_of_waiting(program: str, folder: str, end: Callable[[], None], case: 
     return faults + tree_faults(case.files_after, folder)
 
 
-def check_many_locks(report: Report, program: str) -> None:
-    """Checks that a run finds a lock in a list of locks that is too long for one read."""
-    with folder_of({"k": OLD}) as folder, ExitStack() as stack:
-        for number in range(MANY):
-            if number == MANY // 2:
-                there = stack.enter_context(open(os.path.join(folder, "k"), "r+b"))
-                fcntl.lockf(there, fcntl.LOCK_EX)
-            fcntl.flock(stack.enter_context(tempfile.TemporaryFile()), fcntl.LOCK_EX)
-        faults = faults_of_waiting(program, folder, there.close)
-    report.check(f"a lock among {MANY} others is waited for", faults)
-
-
-def check_waiting_locks(report: Report, program: str) -> None:
-    """Checks that a run also waits for a program that is waiting to lock the file, until that gives up."""
-    words = (sys.executable, "-c", WAITER, "k")
-    with folder_of({"k": OLD}) as folder:
-        path = os.path.join(folder, "k")
-        with open(path, "rb") as reader:
-            ofd_lock(reader, fcntl.F_RDLCK)
-            with subprocess.Popen(words, cwd=folder) as waiter:
-                while not is_waited_for(path):
-                    time.sleep(0.005)
-                faults = faults_of_waiting(program, folder, waiter.kill)
-    report.check("who waits for a lock is waited for", faults)
-
-
-def is_waited_for(path: str) -> bool:
-    """Whether a program waits for a lock of a file."""
-    with open("/proc/locks", encoding="ascii") as locks:
-        return any("->" in line and f":{os.stat(path).st_ino} " in line for line in locks)
-
-
 def check_other_disk(report: Report, program: str) -> None:
     """Checks that a lock counts only on the file's own disk, not on a file of the same number elsewhere."""
     with folder_of({}) as here, folder_of({}) as there, ExitStack() as stack:
@@ -105,5 +63,5 @@ def check_other_disk(report: Report, program: str) -> None:
             report.check(f"a lock of {what} on a disk in memory", faults)
 
 
-check = every(check_many_locks, check_waiting_locks, check_other_disk, of="locks that are waited for",
+check = every(check_other_disk, of="locks that are waited for",
               lack=lambda: "" if os.path.exists("/proc/locks") else "there is no list of locks")

@@ -15,19 +15,17 @@ IMPORTS = {source: names.split() for source, names in {
     "Rattle.krb_keytab.specs.Changes": "without",
     "Rattle.krb_keytab.specs.Find": "PlacedEntry",
     "Rattle.krb_keytab.specs.Store": "image_of",
-    "Rattle.krb_ccache.specs.declared.open.CcOpenFault.TheVariants": "BadVersion",
     "Rattle.krb_ccache.specs.Config": "is_config",
     "Rattle.krb_ccache.specs.Credential": "TypedData",
     "Rattle.krb_ccache.specs.Header": "offset_in",
     "Rattle.krb_ccache.specs.Store": "PlacedCredential placed_credentials",
     "Rattle.krb_ccache.specs.SetConfig": "SettingParts setting_events",
     "Rattle.krb_text.specs.Calendar": "day_number day_text next_day time_text_of",
-    "Rattle.krb_text.specs.Listing": "found_line",
     "Rattle.krb_driver.specs.Loading": "result_map",
     "Rattle.samples.proofs.Given":
-        "hex keytab cache found old listed cache_listed plain all tickets details left printed cache_left",
-    "Rattle.samples.proofs.Runs": "words given those klist klist_overview klist_silent ktfind ktcheck ktedit ccedit "
-                                  "ktremove ccremove ktcopy ktutil",
+        "hex keytab cache found old listed cache_listed all details left cache_left",
+    "Rattle.samples.proofs.Runs": "words given those klist klist_overview klist_silent ktfind ktcheck ktdiff ktedit "
+                                  "ccedit ktremove ccremove ktcopy ktutil",
     "Rattle.samples.proofs.Unfolded": "on_literals",
 }.items()}
 TIME = re.compile(rb"(\d{4}-\d\d-\d\dT\d\d:\d\d:\d\dZ)")
@@ -78,11 +76,6 @@ def proof_of(printed: bytes, front: str, rest: str) -> str:
     since days are too many to count again."""
     parts = [f"time-{seconds(it)} i" if at % 2 else text(it) for at, it in enumerate(TIME.split(printed))]
     return f"λ i. {front}{' ++ ('.join(parts)}{')' * (len(parts) - 1)}{rest}" if len(parts) > 1 else "refl"
-
-
-def theorem_of_listing(comment: str, name: str, listed: str, listing: bytes) -> str:
-    """Returns the theorem that a file is listed so."""
-    return theorem(comment, name, listed, f"Ok ({text(listing)})", proof_of(listing, "Ok (", ")"))
 
 
 def day_theorem(number: int, is_next: bool) -> str:

@@ -1,6 +1,6 @@
 """MIT's listings of the files in `corpus`, brought to the form of krbfile's.
 
-The text beside a file, `NAME.txt`, holds what MIT's klist printed of it, in UTC. Both say the same in other words:
+The text beside a file, `NAME.txt`, is what MIT's klist printed of it. Both say the same in other words:
 
 - The titles and the dashes below them are our own. A time is written `2026-11-22T07:05:26Z` for `11/22/26 07:05:26`.
 - A key version is unsigned: MIT's -1 is 4294967295. One space is before a key, not two.
@@ -19,25 +19,16 @@ from pathlib import Path
 
 from peers.corpus import FOLDER
 
-SECTION = re.compile(r"^== MIT 1\.20\.1: klist (.*) (\S+)   \(exit 0\)\n", re.M)
-ENTRY = re.compile(r" *(-?\d+) (?:(\d\d/\d\d/\d\d \d\d:\d\d:\d\d) )?(\S.*?)(?: \((\S+)\)  \((0x[0-9a-f]*)\))?")
+# The line of an entry by klist, or by ktutil without its slot.
+ENTRY = re.compile(r" *(-?\d+) (\d\d/\d\d/\d\d \d\d:\d\d:\d\d) +(\S.*?) \((\S+)\)  ?\((0x[0-9a-f]*)\) *")
 TICKET = re.compile(r"(\d\d/\d\d/\d\d \d\d:\d\d:\d\d)  (\d\d/\d\d/\d\d \d\d:\d\d:\d\d)  (.*)")
 CONFIG = re.compile(r"config: (.*?) = (.*)")
 DETAIL = re.compile(r"renew until (?P<renewable>.{17})|Flags: (?P<flags>\w*)|Etype \(skey, tkt\): (?P<etype>\S+), \S+")
 OCTAL = re.compile(rb"\\([0-3][0-7]{2})")
 
-KEYTAB_HEADS = {
-    False: "KVNO Principal\n---- ---------\n",
-    True: "KVNO Timestamp            Principal\n---- -------------------- ---------\n",
-}
+KEYTAB_HEAD = "KVNO Timestamp            Principal\n---- -------------------- ---------\n"
 CACHE_HEAD = "Valid starting       Expires              Service principal\n"
 NAMELESS = {"des-cbc-crc": "etype 1", "des-cbc-md5": "etype 3"}
-
-
-def sections(kind: str, name: str) -> dict[str, str]:
-    """Returns what MIT's klist printed of a file, by the options."""
-    parts = SECTION.split(Path(FOLDER, kind, f"{name}.txt").read_text("utf-8"))[1:]
-    return dict(zip(parts[::3], parts[2::3]))
 
 
 def instant(text: str) -> str:
@@ -54,15 +45,13 @@ def etype_name(text: str) -> str:
 def entry_line(line: str) -> str:
     """Returns the line of an entry of a keytab."""
     kvno, moment, name, etype, key = ENTRY.fullmatch(line).groups()
-    shown = f"{instant(moment)} {name}" if moment else name
-    columns = f" ({etype_name(etype)}) ({key})" if etype else ""
-    return f"{int(kvno) % 2**32:4} {shown}{columns}\n"
+    return f"{int(kvno) % 2**32:4} {instant(moment)} {name} ({etype_name(etype)}) ({key})\n"
 
 
-def keytab_listing(name: str, has_all_columns: bool) -> str:
-    """Returns MIT's listing of a keytab, with no columns or with times, encryption types and keys."""
-    lines = sections("keytab", name)["-k -t -K -e" if has_all_columns else "-k"].rstrip("\n").split("\n")
-    return f"{lines[0]}\n{KEYTAB_HEADS[has_all_columns]}" + "".join(map(entry_line, lines[3:]))
+def keytab_listing(name: str) -> str:
+    """Returns MIT's listing of a keytab with times, encryption types and keys."""
+    title, _, _, *lines = Path(FOLDER, "keytab", f"{name}.txt").read_text("utf-8").splitlines()
+    return f"{title}\n{KEYTAB_HEAD}" + "".join(map(entry_line, lines))
 
 
 def escaped(value: str) -> str:
@@ -83,19 +72,29 @@ def ticket_lines(heading: re.Match, details: str) -> Iterator[str]:
         yield f"    Etype: {etype_name(found['etype'])}\n"
 
 
-def credential_lines(text: str) -> Iterator[str]:
-    """Yields the lines of credentials."""
-    for line in re.sub(r"\n {8}", "", text).replace("\n\t", "\t").splitlines():
+def parts_of(name: str) -> tuple[str, str]:
+    """Returns what MIT's listing of a cache begins with, and that of its credentials."""
+    heading, _, rest = Path(FOLDER, "ccache", f"{name}.txt").read_text("utf-8").partition("\n\n")
+    return heading, rest.partition("\n")[2]
+
+
+def credentials(listed: str) -> Iterator[tuple[str, str]]:
+    """Yields the first line of each credential, and what is below it."""
+    for line in re.sub(r"\n {8}", "", listed).replace("\n\t", "\t").splitlines():
         first, _, details = line.partition("\t")
+        yield first, details
+
+
+def credential_lines(listed: str) -> Iterator[str]:
+    """Yields the lines of credentials."""
+    for first, details in credentials(listed):
         if config := CONFIG.fullmatch(first):
             yield f"config: {config[1]} = {escaped(config[2])}\n"
         else:
             yield from ticket_lines(TICKET.fullmatch(first), details)
 
 
-def cache_listing(name: str, has_all_columns: bool) -> str:
-    """Returns MIT's listing of a cache, with no columns or with flags, encryption types and configuration entries."""
-    heading, _, rest = sections("ccache", name)["-C -f -e"].partition("\n\n")
-    left_out = () if has_all_columns else ("config: ", "    Flags: ", "    Etype: ")
-    body = credential_lines(rest.partition("\n")[2].rstrip("\n"))
-    return f"{heading}\n\n{CACHE_HEAD}" + "".join(line for line in body if not line.startswith(left_out))
+def cache_listing(name: str) -> str:
+    """Returns MIT's listing of a cache with flags, encryption types and configuration entries."""
+    heading, rest = parts_of(name)
+    return f"{heading}\n\n{CACHE_HEAD}" + "".join(credential_lines(rest))

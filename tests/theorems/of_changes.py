@@ -3,29 +3,22 @@ in keytabs there they find what MIT's library finds."""
 
 import re
 
-from peers.corpus import cases, given, writers
+from peers.corpus import cases, writers
 from theorems.antt import Module, bytes_of_digits, file_of, identifier, text, theorem
 
 # Files that are as their writers left them, without holes. Written anew, each has the same bytes.
 WRITTEN = {
-    "keytab": ("empty-v2", "gokrb5-new", "ktadd-all-etypes", "ktadd-basic", "ktadd-kvno-history", "ktadd-kvno300",
-               "ktadd-two-princs", "ktutil-key", "ktutil-kvno-edge", "mit-t_keytab-c", "name-at", "name-slash",
-               "name-tabnl", "name-utf8"),
-    "ccache": ("copied", "kinit", "kinit-addresses", "kinit-fast", "kinit-forwardable", "kinit-offset-faketime",
-               "kinit-renewable", "kinit-service", "lib-authdata-addrs", "lib-config-values", "lib-removed-before",
-               "mit-t_marshal-v4", "u2u"),
+    "keytab": ("empty-v2", "gokrb5-new", "ktadd-all-etypes", "ktutil-kvno-edge", "mit-t_keytab-c", "name-slash",
+               "name-utf8"),
+    "ccache": ("kinit-addresses", "kinit-fast", "kinit-offset-faketime", "lib-authdata-addrs", "lib-config-values",
+               "lib-removed-before", "mit-t_marshal-v4"),
 }
 REWRITE = {"keytab": 'left {} (codes "rewrite\\n")', "ccache": "cache_left {} (Rewrite ∷ [])"}
 
 # What MIT's krb5_cc_set_config was given, in turn, to write lib-config-values: key, principal and value. It began with
 # a new cache of u@R.
-SETTINGS = (
-    (b"k", None, b""),
-    (b"sp", None, b"a b"),
-    (b"nl", None, b"x\ny\x7f\xc3\xbc\\z"),
-    (b"long", None, b"v" * 200),
-    (b"odd=key(x)", b"a/b@R", b"1"),
-)
+SETTINGS = ((b"k", None, b""), (b"sp", None, b"a b"), (b"nl", None, b"x\ny\x7f\xc3\xbc\\z"),
+            (b"long", None, b"v" * 200), (b"odd=key(x)", b"a/b@R", b"1"))
 NEW_CACHE = bytes.fromhex("05040000" "000000010000000100000001520000000175")
 
 SET = """-- the image after a configuration value is set in the cache of an image
@@ -54,17 +47,6 @@ def settings() -> str:
                    image, file_of("lib-config-values"))
 
 
-def edit(number: int, case: dict) -> list[str]:
-    """Returns the theorems of a script over a keytab: the bytes that it leaves, and its lines."""
-    before, script, after = case["copy"][0], case["stdin"].encode(), case["result_file"]["k"]
-    is_file = isinstance(after, str)
-    comment = f"{writers()[after]} left the same bytes" if is_file else f"krbfile alone: {case['note']}"
-    image = file_of(after) if is_file else bytes_of_digits(given(after))
-    words = f"{file_of(before)} ({text(script)})"
-    return [theorem(comment, f"edit-{number}", f"left {words}", image),
-            theorem("and krbfile's lines", f"lines-{number}", f"printed {words}", text(given(case["stdout"])))]
-
-
 def rewritten(kind: str, name: str) -> str:
     """Returns the theorem that a file has the same bytes when it is written anew."""
     return theorem(f"{writers()[name]}: written anew it has the same bytes", f"{identifier(name)}-written",
@@ -73,21 +55,18 @@ def rewritten(kind: str, name: str) -> str:
 
 def changes() -> Module:
     """Returns the theorems of all changes."""
-    items = [it for number, case in enumerate(cases("ktedit")) for it in edit(number, case)]
-    items += [rewritten(kind, name) for kind, names in WRITTEN.items() for name in names]
+    items = [rewritten(kind, name) for kind, names in WRITTEN.items() for name in names]
     return Module("Changes", "Changes of files that other programs wrote, and the bytes that those programs left.",
                   (*items, OLD, MARKED, SET, settings()))
 
 
 FOUND = re.compile(r"found kvno (\d+) etype (\d+) time (\d+) keylen (\d+) first (\w\w)")
 
-# MIT's error numbers, and krbfile's codes.
+# MIT's error numbers.
 MIT_CODES = {"-1765328203": "NotFound", "-1765328154": "KvnoNotFound"}
-CODES = {b"9": "NotFound", b"10": "KvnoNotFound"}
 
-# A look-up to which MIT's library answers otherwise.
+# A look-up to which MIT's library answers otherwise: it takes version 300 for 44, which has the same low 8 bits.
 WRAPPED = "find-java-new-300-18-user@PEER.TEST"
-WHY_WRAPPED = "krbfile's answer: MIT's library takes version 300 for 44, which has the same low 8 bits"
 
 FACTS = """-- the version, encryption type and time of an entry, the length of its key, and the first byte of that
 abbrev facts : PlacedEntry → ℕ × ℕ × ℕ × ℕ × ℕ
@@ -102,27 +81,15 @@ def answered(answer: str) -> str:
     return f"Err {MIT_CODES[answer.split()[2]]}"
 
 
-def refused(case: dict) -> str:
-    """Returns krbfile's refusal as a result."""
-    return f"Err {CODES[given(case['stderr']).split()[-1]]}"
-
-
-def look_up(number: int, case: dict) -> list[str]:
-    """Returns the theorems of a look-up: what MIT's library answers, and krbfile's line."""
+def look_up(number: int, case: dict) -> str:
+    """Returns the theorem of a look-up: what MIT's library answers."""
     _, file, kvno, etype, name = case["argv"]
-    found = f'(found {file_of(file)} (codes "{name}") {kvno} {etype})'
-    is_alone = case["id"] == WRAPPED
-    said = WHY_WRAPPED if is_alone else f"MIT's library: {case['mit'].removeprefix('get: ')}"
-    answer = refused(case) if is_alone else answered(case["mit"])
-    theorems = [theorem(f"{writers()[file]}; {said}", f"look-up-{number}", f"result_map facts {found}", answer)]
-    if not case["status"]:
-        line = f"Ok ({text(given(case['stdout']))})"
-        theorems.append(theorem("and krbfile's line", f"line-{number}", f"result_map found_line {found}", line))
-    return theorems
+    return theorem(f"{writers()[file]}; MIT's library: {case['mit'].removeprefix('get: ')}", f"look-up-{number}",
+                   f'result_map facts (found {file_of(file)} (codes "{name}") {kvno} {etype})', answered(case["mit"]))
 
 
 def look_ups() -> Module:
     """Returns the theorems of all look-ups."""
-    items = [it for number, case in enumerate(cases("ktfind")) for it in look_up(number, case)]
+    items = [look_up(number, case) for number, case in enumerate(cases("ktfind")) if case["id"] != WRAPPED]
     return Module("LookUps", "Look-ups in keytabs that other programs wrote, and what MIT's library answers to them.",
                   (FACTS, *items))

@@ -8,7 +8,7 @@ from functools import cache, partial
 from keytabs.listings import BY_NAME
 from makers.samples import folder_of_samples
 from pages.readme import installed
-from runs.commands import CHANGES, COMMANDS
+from runs.commands import CHANGES
 from runs.harness import TOP, Report, every, folder_of, run
 from words.phrases import FINDINGS
 
@@ -41,11 +41,11 @@ SHELLS = {"bash": ("-c", BASH, "bash-completion/completions/krbfile"),
 LINES = {
     "klist -k --v": {"--v1-big"}, "--explain klist --js": {"--json"}, "--explain ktr": {"ktremove"},
     "help kte": {"ktedit"}, "ktfind --v1-big k 0 ": {*BY_NAME}, "ktcheck --allow ": {*FINDINGS}, "klist ": {"k"},
+    "ktdiff ": {"k"}, "ktdiff k ": {"k"}, "ktcopy --a": {"--as"},
+    "ktcheck --w": {"--want", "--with-filename"},
     **{" ".join((*run.words[:-1], "")): {"k"} for run in CHANGES if run.words[1:]},
-    **{line.replace("COMMAND", name): words for name, command in COMMANDS.items() if command.version
-       for line, words in {"COMMAND -k ": {command.version}, "COMMAND --kvno ": {command.version},
-                           "COMMAND k -e ": {*BY_NAME},
-                           "COMMAND --enctype aes256-cts-hmac-sha1": {"aes256-cts-hmac-sha1-96"}}.items()},
+    "ktremove -k ": {"old"}, "ktcopy --kvno ": {"new"}, "ktcopy k -e ": {*BY_NAME},
+    "ktremove --enctype aes256-cts-hmac-sha1": {"aes256-cts-hmac-sha1-96"},
 }
 
 # The statuses that help tells, and how it ends.
@@ -69,25 +69,17 @@ def offered(program: str, command: str) -> tuple[set[str], set[str]]:
             {option for head in heads for option in re.findall(r"--?[\w-]+", head)})
 
 
-def check_example(report: Report, program: str, command: str, line: str) -> None:
-    """Runs an example beside sample files: it calls its command, and ends with status 0 and without a message."""
-    with folder_of_samples() as folder, installed(program) as env:
-        got = run("sh", ("-c", line), folder, env=env)
-    found = [] if f"krbfile {command} " in f"{line} " else ["it does not call its command"]
-    if got.status != 0 or got.err:
-        found.append(f"status {got.status}, error output {got.err!r}")
-    report.check(f"the example of krbfile {command} --help", found)
-
-
 def check_ends(report: Report, program: str) -> None:
-    """Reads the end of each command's help, and runs its example."""
+    """Reads the end of each command's help, and runs its example beside sample files: it calls its command, and ends
+    with status 0 and without a message."""
     for command in sorted(offered(program, "")[0] - {"help"}):
-        end = END.search(helped(program, command))
-        told = [line.split()[0] for line in end[1].splitlines()] if end else []
-        wrong = [] if told == list(STATUSES) else [f"it tells {told}"]
-        report.check(f"the statuses of krbfile {command} --help", wrong)
-        if end:
-            check_example(report, program, command, end[3])
+        statuses, _, example = END.search(helped(program, command)).groups()
+        told = "".join(line.split()[0] for line in statuses.splitlines())
+        report.check(f"the statuses of krbfile {command} --help", [] if told == STATUSES else [f"it tells {told}"])
+        with folder_of_samples() as folder, installed(program) as env:
+            got = run("sh", ("-c", example), folder, env=env)
+        is_right = f"krbfile {command} " in f"{example} " and (got.status, got.err) == (0, b"")
+        report.check(f"the example of krbfile {command} --help", [] if is_right else [f"{example} ends with {got}"])
 
 
 def check_shell(shell: str, report: Report, program: str) -> None:

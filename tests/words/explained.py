@@ -2,9 +2,7 @@
 runs have each of the others."""
 
 import os
-import re
 import socket
-from collections.abc import Iterator
 from errno import ENXIO
 from functools import partial
 from itertools import product
@@ -14,9 +12,9 @@ from keytabs.file_names import LIMIT
 from keytabs.ktutil_lines import KEY
 from makers.images import TWO, USUAL
 from runs.harness import EXPLAIN, Report, folder_of, run
-from runs.terminal import WAYS, run_explained, run_on_terminal
+from runs.terminal import WAYS, run_on_terminal
 from words.explaining import case, failed, link, no_keytab
-from words.phrases import BEGINS_AS_CACHE, CAUSES, LARGE, LISTED_AS_KEYTAB, SEE_HELP, SHORT, code, unknown
+from words.phrases import BEGINS_AS_CACHE, CAUSES, LARGE, SEE_HELP, SHORT, code, line_fault, unknown
 
 ADD = f"{ADD_HOST}\n".encode()
 
@@ -31,9 +29,10 @@ CASES = [
     # A message about a file, a line of ktutil and of a script, and replies.
     case("a cache with a newline in its name", ("ktfind", "a\nb", "0", "0", "b@R"), b"\5\4",
          no_keytab(BEGINS_AS_CACHE, "a\\x0ab"), file="a\nb"),
-    case("a cache listed as a keytab", "klist -k k", b"\5\4", no_keytab(LISTED_AS_KEYTAB)),
     case("ktutil", "ktutil", TWO, ("line 2: fault 1", f"line 2: {SEE_HELP}"), stdin=b"l\n?\n"),
     case("ktedit", "ktedit k", TWO, ("line 3: fault 1", unknown("a\\\\b")), stdin=b"start\n\na\\b 1 cut 2"),
+    case("what may be a key is not shown", "ktedit k", TWO, ("line 1: fault 1", line_fault(1)),
+         stdin=KEY.upper().encode()),
     case("ccedit", "ccedit k", USUAL, ("", f"refused 5: {code(5, 'ccedit')}"), stdin=b"cut 2\ncut 2\n"),
     # Files that are not read, and one that is not saved: new_names has others.
     failed(("klist", "-k", "k/x"), "read", "ENOTDIR", TWO),
@@ -45,36 +44,6 @@ CASES = [
     *(partial(case, f"{command}: a large script", f"{command} k", None, ("input too large", LARGE),
               stdin=bytes(LIMIT + 1)) for command in ("ktedit", "ccedit")),
 ]
-
-# A line of each kind, by command.
-LINES = {
-    "ktedit k": ("start", "resume 2", "step 0", f"add 3 17 0 {KEY} b@R", "cut 2", "rewrite"),
-    "ccedit c": ("start", "resume 40", "step 0", "config k - v", "cut 40", "rewrite"),
-    "ktutil": ("list -t -k", "rkt k", "wkt k", f"addent -key -p b@R -k 3 -e 17\n{KEY}", "delent 1", "clear", "quit"),
-}
-
-# Words that may be keys.
-KEYS = ("0123456789ABCDEF", "fedcba98" * 4, "fedcba98" * 8)
-
-
-def with_word(line: str, word: str) -> Iterator[str]:
-    """Yields a line with a word in place of each of its words, before each and at the end."""
-    parts = re.split("([ \n])", line)
-    for at in range(0, len(parts), 2):
-        yield from ("".join([*parts[:at], new, *parts[at + 1:]]) for new in (word, f"{word} {parts[at]}"))
-    yield f"{line} {word}"
-
-
-def check_keys(report: Report, program: str) -> None:
-    """Puts keys into all places of lines, beside a file of that name, and looks for them on the error output."""
-    for command, lines in LINES.items():
-        for key in KEYS:
-            told = []
-            for line in (each for line in lines for each in with_word(line, key)):
-                with folder_of({"k": TWO, "c": USUAL, key: TWO}) as folder:
-                    got = run_explained(program, command.split(), folder, f"{line}\n{line}\n".encode())
-                told += [f"{line!r}: {got.err!r}"] if key.lower().encode() in got.err.lower() else []
-            report.check(f"{command}: {key} is never shown", told)
 
 
 def check_told(report: Report, program: str) -> None:
@@ -88,8 +57,7 @@ def check_told(report: Report, program: str) -> None:
 
 
 def check(report: Report, program: str) -> None:
-    """Checks keys in lines, and an input and an output that fail."""
-    check_keys(report, program)
+    """Checks the environment, and an input and an output that fail."""
     check_told(report, program)
     for line, redirection, *told in (("klist -k k", "> /dev/full", "cannot write output", CAUSES["ENOSPC"]),
                                      *((line, "< .", "cannot read input", CAUSES["EISDIR"])

@@ -7,8 +7,6 @@ from keytabs.removals import FIVE
 from makers.images import B, HOST, keytab
 from pages.readme import installed
 from runs.harness import EXPLAIN, Report, folder_of, printed, run
-from words.explaining import Explained, for_owner
-from words.phrases import FINDINGS, HINTS
 
 # A keytab of the three findings that have hints, and what each of their commands prints.
 ALL = keytab(replace(HOST, enctype=23), B, B, FIVE)
@@ -17,17 +15,8 @@ COPIED = printed("copied 2 kvno 3 etype 23 host/a@R", "copied 53 kvno 3 etype 17
                  "copied 98 kvno 5 etype 17 host/a@R")
 
 # Words for files.
-WORDS = ("k", "./k", "AZaz09_-.:@%+,=", "C:k", "./FILE:k", "a b", "it's", "'", "''a", 'a"b', "$HOME", "`id`", "k;id",
-         "*", "~", "#k", "!k", "-k", "--", "- k", "-'", "FILE:FILE:k", "WRFILE:KCM:k", "FILE:ab:it's",
-         "".join(map(chr, range(32, 127))).replace("/", "").replace("\\", ""))
-
-TOLD = (*(f"{word}: {FINDINGS[word]}" for word in ("weak", "same", "old")), *HINTS.values())
-
-CASES = [
-    Explained("hints", ("ktcheck", "k"), tuple(
-        ("", told.replace("ETYPE..", "arcfour-hmac").replace("FILE", "k")) for told in TOLD), {"k": ALL},
-              setting=for_owner),
-]
+WORDS = ("./k", "AZaz09_-.:@%+,=", "''a", "$HOME", "`id`", "*", "~", "#k", "-k", "--", "-'", "FILE:FILE:k",
+         "FILE:ab:it's", "".join(map(chr, range(32, 127))).replace("/", "").replace("\\", ""))
 
 
 def check(report: Report, program: str) -> None:

@@ -77,8 +77,8 @@ AFTERMATHS = {"restored": "the old bytes are back", **dict(zip(
     ("damaged", "lost change", "mixed"), re.findall(r"^\.Ar NAME : No (.*)$", PAGE, re.MULTILINE), strict=True))}
 
 # Findings of ktcheck, in the order in which they are explained, and the hints for some of them, in theirs.
-FINDINGS = {word: re.search(rf"^\.It Ic {word} .*\n(.*):$", PAGE, re.MULTILINE)[1]
-            for word in ("weak", "hidden", "same", "clash", "old", "mode")}
+FINDINGS = {word: re.search(rf"^\.It Ic {word}\b.*\n(.*):$", PAGE, re.MULTILINE)[1] for word in (
+    "weak", "hidden", "same", "clash", "old", "mode", "size", "aged", "missing", "empty")}
 HINTS = dict(zip(("old", "weak", "same"), displayed("has hints for them, in this order:"), strict=True))
 
 # A clash of ktcopy, and what could be done; and a keytab that `wkt` saved.

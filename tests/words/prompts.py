@@ -5,8 +5,8 @@ import subprocess
 
 from keytabs.conversations import terminal
 from keytabs.ktutil_lines import KEY
-from makers.images import TWO, USUAL, keytab
-from runs.harness import SECONDS, Outcome, Report, files_in, folder_of
+from makers.images import TWO, USUAL
+from runs.harness import SECONDS, Outcome, Report, folder_of
 from runs.terminal import all_of
 from words.phrases import NO_ENTRY, NO_PASSWORDS
 
@@ -18,14 +18,11 @@ FAULT = f"krbfile: line 1: fault 2\nkrbfile: line 1: {NO_PASSWORDS}\n"
 
 # Words, what is typed, and what stands on the terminal then, which does not show what is typed.
 TYPED = (
-    ("ktutil", END, COMMAND + "\n"),
     ("ktutil", "q\n", COMMAND),
     ("ktutil", f"\nl\n{END}", COMMAND * 3 + "\n"),
     ("ktutil", f"{ADD}{KEY}\nexit\n", COMMAND + KEY_PROMPT + COMMAND),
-    ("ktutil", ADD + END, COMMAND + KEY_PROMPT + "\n"),
     ("ktutil", f"{ADD}{END}{END}", COMMAND + KEY_PROMPT + "\n"),
     ("ktutil", f"{FROM_PASSWORD}quit\nq\n", COMMAND + FAULT + PASSWORD + COMMAND),
-    ("ktutil", f"{FROM_PASSWORD}\nq\n", COMMAND + FAULT + PASSWORD + COMMAND),
     ("ktutil", FROM_PASSWORD + END, COMMAND + FAULT + PASSWORD + "\n"),
     ("ktutil", "wkt n\nq\n", f"{COMMAND}krbfile: line 1: {NO_ENTRY.replace('NAME', 'n')}\n{COMMAND}"),
     ("ktedit k", f"start\n{END}", SCRIPT), ("ccedit c", END, SCRIPT),
@@ -58,6 +55,3 @@ def check(report: Report, program: str) -> None:
             silent = typed(program, words, lines, folder, False)
             told = [each for each in (COMMAND, KEY_PROMPT, PASSWORD, SCRIPT) if each.encode() in silent.err]
             report.check(f"{words}, {lines!r}: no prompt in a pipe", told)
-    with folder_of({}) as folder:
-        typed(program, "ktutil", "wkt n\nq\n", folder, True)
-        report.check("wkt of an empty list", [] if files_in(folder) == {"n": keytab()} else ["another file"])
