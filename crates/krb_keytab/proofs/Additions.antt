@@ -1,10 +1,9 @@
 -- The result of an addition, by the image that is kept.
-use Rattle.krb_keytab.proofs.Cited.{◌≡◌, ℕ, ◌+◌, ◌<◌, ◌≤◌, Bool, true, false, cond, ltb, List, [], ◌∷◌, ◌++◌, length, drop, None, Ok, Err, sym, ap, ◌∙◌, length-append, arith, is_some, flat_map, lt-ltb, le-ltb, length-replicate, KtFormat, order_of, end_of, fault_of, CellsEnd, Live, Contents, cell, end_bytes, contents, image, kind_of, ends, IsKnownEnd, mark_len, len_with, KeytabState, image_of, store_of, end_place, with_last, end_after, append_result}
+use Rattle.krb_keytab.proofs.Cited.{◌≡◌, ℕ, ◌+◌, ◌<◌, ◌≤◌, Bool, true, false, cond, ltb, List, [], ◌∷◌, ◌++◌, length, drop, None, Ok, Err, sym, ap, ◌∙◌, length-append, arith, flat_map, lt-ltb, le-ltb, length-replicate, KtFormat, order_of, end_of, fault_of, CellsEnd, Live, Contents, cell, end_bytes, contents, image, kind_of, ends, IsKnownEnd, mark_len, len_with, KeytabState, image_of, store_of, end_place, with_last, end_after, append_result, nat_tests}
 use Rattle.krb_walk.specs.declared.refusal.Code.TheVariants as code
 use Rattle.krb_keytab.proofs.Cuts.{end_place_is, end_place-append}
 use Rattle.krb_keytab.proofs.Stores.{keytab_of, end_held}
 use Rattle.krb_keytab.proofs.AppendLemmas.{zeros_after}
-use Rattle.krb_walk.proofs.Splits.{whole_of}
 
 -- the length of the image with one more record
 last_len : (f : KtFormat) (limit : ℕ) (bytes x : List ℕ) (e : CellsEnd) → IsKnownEnd f bytes e → kind_of (contents f (drop 2 bytes)).end ≡ None → length (image_of (with_last (keytab_of f limit bytes) x)) ≡ len_with e (length x)
@@ -26,17 +25,12 @@ pub record Appends (f : KtFormat) (limit : ℕ) (bytes x : List ℕ) (k : Keytab
   pub len : n ≡ len_with e (length x)
 
 pub appends : (f : KtFormat) (limit : ℕ) (bytes x : List ℕ) (k : KeytabState) (e : CellsEnd) (n need : ℕ) → IsKnownEnd f bytes e → keytab_of f limit bytes ≡ k → fault_of (store_of k) ≡ None → n ≡ len_with e need → need ≡ length x → Appends f limit bytes x k e n
-appends f limit bytes x k e n need known is whole len is_need = record {
-  known = known;
-  is = is;
-  whole = whole_of (end_of (store_of (keytab_of f limit bytes))) (kind_of (contents f (drop 2 bytes)).end) (ap (λ (y : KeytabState). is_some (fault_of (store_of y))) is ∙ ap is_some whole);
-  len = len ∙ ap (len_with e) is_need;
-}
+appends f limit bytes x k e n need known is whole len is_need = grind (arith, nat_tests)
 
 pub same_len : (f : KtFormat) (limit : ℕ) (bytes x : List ℕ) (k : KeytabState) (e : CellsEnd) (n : ℕ) → Appends f limit bytes x k e n → length (image_of (with_last k x)) ≡ n
 same_len f limit bytes x k e n a = ap (λ (y : KeytabState). length (image_of (with_last y x))) (sym a.is) ∙ last_len f limit bytes x e a.known a.whole ∙ sym a.len
 
-pub same_limit : (f : KtFormat) (limit : ℕ) (bytes x : List ℕ) (k : KeytabState) (e : CellsEnd) (n : ℕ) → Appends f limit bytes x k e n → k.limit ≡ limit
+same_limit : (f : KtFormat) (limit : ℕ) (bytes x : List ℕ) (k : KeytabState) (e : CellsEnd) (n : ℕ) → Appends f limit bytes x k e n → k.limit ≡ limit
 same_limit f limit bytes x k e n a = ap (λ (y : KeytabState). y.limit) (sym a.is)
 
 pub append_full : (f : KtFormat) (limit : ℕ) (bytes x : List ℕ) (k : KeytabState) (e : CellsEnd) (n : ℕ) → Appends f limit bytes x k e n → limit < n → append_result k x ≡ Err code.Full
@@ -52,8 +46,7 @@ append_fits f limit bytes x k e n a le =
 -- the image that was written, as a keytab
 appended_state : (f : KtFormat) (limit : ℕ) (bytes bytes' x : List ℕ) (k : KeytabState) → keytab_of f limit bytes ≡ k
     → contents f (drop 2 bytes') ≡ record { cells = (contents f (drop 2 bytes)).cells ++ Live x ∷ []; end = end_after (contents f (drop 2 bytes)).end } → keytab_of f limit bytes' ≡ with_last k x
-appended_state f limit bytes bytes' x k is written =
-    ap (λ (y : Contents). record { format = f; limit = limit; contents = y }) written ∙ ap (λ (y : KeytabState). with_last y x) is
+appended_state f limit bytes bytes' x k is written = search arith
 
 pub append_ok : (f : KtFormat) (limit : ℕ) (bytes bytes' x : List ℕ) (k : KeytabState) (e : CellsEnd) (n : ℕ) → Appends f limit bytes x k e n → n ≤ limit
     → contents f (drop 2 bytes') ≡ record { cells = (contents f (drop 2 bytes)).cells ++ Live x ∷ []; end = end_after (contents f (drop 2 bytes)).end }

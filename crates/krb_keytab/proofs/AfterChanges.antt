@@ -1,14 +1,12 @@
 -- After an addition and a removal: what was added is read back, and what was removed is gone.
-use Rattle.krb_keytab.proofs.Cited.{◌≡◌, ℕ, ◌⊎◌, true, false, cond, ltb, List, [], ◌++◌, length, map, replicate, Option, Some, None, Ok, Err, refl, sym, ap, subst, ◌∙◌, inl, inr, is_some, append-nil, ◌>>=◌, is_some_has, bytes_from, EntryParts, entry_at, Cell, Live, size, KeytabState, image_of, store_cell, store_of, entry_at_place, fits, written_form, read_back, IsEntry, PlacedCell, zero_hole, with_zeros, record_in, first_hole, with_hole, with_record_in, with_last, put_result_into, put_bytes_result, put_result, cut_result}
+use Rattle.krb_keytab.proofs.Cited.{◌≡◌, ℕ, ◌⊎◌, true, false, List, [], ◌++◌, length, map, replicate, Option, Some, None, Ok, refl, sym, ap, subst, ◌∙◌, inl, inr, is_some, append-nil, ◌>>=◌, bytes_from, EntryParts, entry_at, Cell, Live, size, KeytabState, store_cell, store_of, entry_at_place, fits, written_form, read_back, IsEntry, PlacedCell, zero_hole, with_zeros, record_in, first_hole, with_hole, with_record_in, with_last, put_result, cut_result, arith, nat_tests}
 use Rattle.krb_walk.specs.declared.refusal.Code.TheVariants as code
 use Rattle.krb_walk.specs.Store.{end_of, fault_of, live_bytes as store_bytes}
-use Rattle.krb_keytab.proofs.CellLemmas.{chosen}
 use Rattle.krb_keytab.proofs.Cuts.{live_there}
 use Rattle.krb_keytab.proofs.EntryLemmas.{entry_again}
 use Rattle.krb_keytab.proofs.Replacements.{IsAt, live_is_at, hole_is_at, replaced_cells}
 use Rattle.krb_keytab.proofs.Removals.{holds}
 use Rattle.krb_keytab.proofs.WrittenLemmas.{written_spells}
-use Rattle.krb_wire.proofs.Fields.{ok_is}
 
 -- ---- additions
 
@@ -24,24 +22,8 @@ pub record PutsEntry (k : KeytabState) (e : EntryParts) (given : ℕ × KeytabSt
   pub fit : fits k.format e ≡ true
   pub how : FillsHole k (written_form k.format e) given ⊎ ((end_of (store_of k), with_last k (written_form k.format e)) ≡ given)
 
-put_by : (k : KeytabState) (x : List ℕ) (given : ℕ × KeytabState) (o : Option PlacedCell) → first_hole 2 (length x) k.contents.cells ≡ o → put_result_into k x o ≡ Ok given → FillsHole k x given ⊎ ((end_of (store_of k), with_last k x) ≡ given)
-put_by k x given (Some h) hole put = inl (record { hole = h; is = hole; gives = ok_is (h.0, with_record_in k x h.0) given put })
-put_by k x given None hole put =
-    elim (chosen (ltb k.limit (length (image_of (with_last k x)))) (Err code.Full) (Ok (end_of (store_of k), with_last k x)) (Ok given) put) [
-      | inl h ↦ absurd (let no = h.1 in cc)
-      | inr h ↦ inr (ok_is (end_of (store_of k), with_last k x) given h.1)
-    ]
-
 pub put_gives : (k : KeytabState) (e : EntryParts) (given : ℕ × KeytabState) → put_result k e ≡ Ok given → PutsEntry k e given
-put_gives k e given put =
-    let x = written_form k.format e in
-    elim (chosen (is_some (fault_of (store_of k))) (Err code.Damaged) (cond (fits k.format e) (put_bytes_result k x) (Err code.TooLong)) (Ok given) put) [
-      | inl h ↦ absurd (let no = h.1 in cc)
-      | inr h ↦ elim (chosen (fits k.format e) (put_bytes_result k x) (Err code.TooLong) (Ok given) h.1) [
-        | inl g ↦ record { whole = h.0; fit = g.0; how = put_by k x given (first_hole 2 (length x) k.contents.cells) refl g.1 }
-        | inr g ↦ absurd (let no = g.1 in cc)
-      ]
-    ]
+put_gives k e given put = grind (arith, nat_tests)
 
 reads : (k : KeytabState) (e : EntryParts) (p zeros : ℕ) → fits k.format e ≡ true → IsEntry e → store_bytes (store_of k) p ≡ Some (written_form k.format e ++ replicate zeros 0) → entry_at_place k p ≡ Some (read_back k.format e)
 reads k e p zeros fit is held =
@@ -81,14 +63,7 @@ pub record CutsRecord (k : KeytabState) (p : ℕ) (new : KeytabState) : Type 0 w
   pub gives : with_hole k p ≡ new
 
 pub cut_gives : (k : KeytabState) (p : ℕ) (new : KeytabState) → cut_result k p ≡ Ok new → CutsRecord k p new
-cut_gives k p new cut =
-    elim (chosen (is_some (fault_of (store_of k))) (Err code.Damaged) (cond (is_some (store_bytes (store_of k) p)) (Ok (with_hole k p)) (Err code.NotLive)) (Ok new) cut) [
-      | inl h ↦ absurd (let no = h.1 in cc)
-      | inr h ↦ elim (chosen (is_some (store_bytes (store_of k) p)) (Ok (with_hole k p)) (Err code.NotLive) (Ok new) h.1) [
-        | inl g ↦ let b = is_some_has (store_bytes (store_of k) p) g.0 in record { whole = h.0; bytes = b.0; held = b.1; gives = ok_is (with_hole k p) new g.1 }
-        | inr g ↦ absurd (let no = g.1 in cc)
-      ]
-    ]
+cut_gives k p new cut = grind (arith, nat_tests)
 
 -- what was removed is gone
 pub removed_none : (k : KeytabState) (p : ℕ) (new : KeytabState) → cut_result k p ≡ Ok new → store_bytes (store_of new) p ≡ None

@@ -1,33 +1,21 @@
 -- An image after a record is added after its cells.
-use Rattle.krb_keytab.proofs.Cited.{◌≡◌, ℕ, ◌+◌, ◌-◌, ◌^◌, ◌<◌, ◌≤◌, List, [], ◌∷◌, ◌++◌, length, take, drop, replicate, None, refl, sym, ap, subst, ◌∙◌, append_assoc, length-append, arith, IsSome, flat_map, splice, append-nil, take_at, drop_at, take-append-drop, length-take, drop_all, flat_map-cons, Order, Big, Little, KtFormat, order_of, IsBytes, IsBytes-drop, CellsEnd, Ending, entry_at, Live, End, Bare, Mark, Damaged, Contents, cell, end_bytes, spelling, contents, IsCell, IsEnd, IsSound, kind_of, ends, IsKnownEnd, IsChanged, mark_len, len_with, end_place, IsRecord, end_after}
-use Rattle.std.proofs.lemmas.Grind.{flat_map-append}
+use Rattle.krb_keytab.proofs.Cited.{◌≡◌, ℕ, ◌+◌, ◌-◌, ◌^◌, ◌<◌, ◌≤◌, List, [], ◌∷◌, ◌++◌, length, take, drop, replicate, None, sym, ap, subst, ◌∙◌, append_assoc, length-append, arith, IsSome, flat_map, splice, append-nil, take_at, drop_at, take-append-drop, length-take, drop_all, Order, KtFormat, order_of, IsBytes, IsBytes-drop, CellsEnd, Ending, entry_at, Live, End, Contents, cell, end_bytes, spelling, contents, IsCell, IsEnd, IsSound, kind_of, ends, IsKnownEnd, IsChanged, mark_len, len_with, end_place, IsRecord, end_after, flat_map-append, all_join}
 use Rattle.krb_keytab.specs.declared.image.Ending.TheVariants as ending
 use Rattle.krb_keytab.proofs.CellLemmas.{contents_spelled, contents_again}
 use Rattle.krb_keytab.proofs.Cuts.{cell_len, end_place_is, end_place-append}
-use Rattle.krb_wire.proofs.Lists.{all_join}
 
 -- ---- what ends the cells
 
 after_sound : (f : KtFormat) (e : End) → IsEnd f e → kind_of e ≡ None → IsEnd f (end_after e)
-after_sound f Bare h whole = tt
-after_sound f (Mark rest) h whole = tt
-after_sound f (Damaged kind rest) h whole = absurd cc
+after_sound f e h whole = search arith
 
 -- after an appended record come zeros, as many as an end mark has
 pub zeros_after : (o : Order) (e : Ending) (k : End) (bytes : List ℕ) → k ≡ ends bytes e → kind_of k ≡ None → replicate {A = ℕ} (mark_len e) 0 ≡ end_bytes o (end_after k)
-zeros_after Big ending.Bare k bytes is whole = rw is refl
-zeros_after Little ending.Bare k bytes is whole = rw is refl
-zeros_after Big ending.Mark k bytes is whole = rw is refl
-zeros_after Little ending.Mark k bytes is whole = rw is refl
-zeros_after o (ending.Damaged kind) k bytes is whole = absurd (let no = rw is at whole in cc)
+zeros_after o e k bytes is whole = search arith
 
 -- and they are what ended the cells before, without bytes after it
 ends_after : (o : Order) (e : Ending) (k : End) (bytes : List ℕ) → k ≡ ends bytes e → kind_of k ≡ None → ends (end_bytes o (end_after k)) e ≡ end_after k
-ends_after Big ending.Bare k bytes is whole = rw is refl
-ends_after Little ending.Bare k bytes is whole = rw is refl
-ends_after Big ending.Mark k bytes is whole = rw is refl
-ends_after Little ending.Mark k bytes is whole = rw is refl
-ends_after o (ending.Damaged kind) k bytes is whole = absurd (let no = rw is at whole in cc)
+ends_after o e k bytes is whole = search arith
 
 -- ---- the image
 
@@ -37,12 +25,7 @@ behind_all mid image' at bytes written = written ∙ ap (λ (b : List ℕ). take
 
 -- a record after the cells, and the same end
 with_one : (f : KtFormat) (k : Contents) (x : List ℕ) → spelling (order_of f) (record { cells = k.cells ++ Live x ∷ []; end = end_after k.end }) ≡ flat_map (cell (order_of f)) k.cells ++ (cell (order_of f) (Live x) ++ end_bytes (order_of f) (end_after k.end))
-with_one f k x =
-    let o = order_of f in
-    let F = flat_map (cell o) k.cells in
-    let e = end_after k.end in
-    let one : flat_map (cell o) (Live x ∷ []) ≡ cell o (Live x) = flat_map-cons (cell o) (Live x) [] ∙ append-nil (cell o (Live x)) in
-    ap (λ (b : List ℕ). b ++ end_bytes o e) (flat_map-append (cell o) k.cells (Live x ∷ []) ∙ ap (λ (b : List ℕ). F ++ b) one) ∙ append_assoc F (cell o (Live x)) (end_bytes o e)
+with_one f k x = search (arith, end_after, append-nil, flat_map-append, append_assoc)
 
 -- what is known of the end, if the image ends with these bytes
 known_after : (f : KtFormat) (image' front : List ℕ) (k : Contents) (x : List ℕ) (e : CellsEnd) (bytes : List ℕ) → IsBytes image' → IsEnd f k.end → kind_of k.end ≡ None → end_place 2 k.cells ≡ e.place → k.end ≡ ends bytes e.ending

@@ -1,16 +1,12 @@
 -- Reading one cell, and all of them.
-use Rattle.krb_keytab.proofs.Cited.{◌≡◌, ℕ, ◌-◌, ◌^◌, ◌<◌, ◌≤◌, ◌⊎◌, Bool, true, false, cond, ltb, List, [], ◌∷◌, ◌++◌, length, get_or, take, drop, Option, Some, None, refl, sym, ap, subst, ◌∙◌, append_assoc, arith, inl, inr, is_some, flat_map, AllByRecursion, w32, ltb-false, le-ltb, flat_map-cons, KtFormat, order_of, digits, version_byte, number_at, IsBytes, IsBytes-drop, Takes, Takes-then, wide32, number_takes, number_again, Length, entry_at, length_of, field_of, HasField, Cell, Live, Free, End, Bare, Mark, Damaged, Contents, bytes_of, length_of_cell, length_field, cell, end_bytes, spelling, short_end, next_of_length, next_by, next, keytab_format, contents, IsCell, IsEnd, IsSound, IsSpelled, image}
-use Rattle.std.proofs.lemmas.List.{take_at, drop_at, take-append-drop, length-append, length-take}
+use Rattle.krb_keytab.proofs.Cited.{◌≡◌, ℕ, ◌-◌, ◌^◌, ◌<◌, ◌≤◌, ◌⊎◌, Bool, true, false, cond, ltb, List, [], ◌∷◌, ◌++◌, length, get_or, take, drop, Option, Some, None, refl, sym, ap, subst, ◌∙◌, append_assoc, arith, inl, inr, is_some, flat_map, AllByRecursion, w32, ltb-false, le-ltb, flat_map-cons, KtFormat, order_of, digits, version_byte, number_at, IsBytes, IsBytes-drop, Takes, Takes-then, wide32, number_takes, Length, entry_at, length_of, field_of, HasField, Cell, Live, Free, End, Contents, bytes_of, length_of_cell, length_field, cell, end_bytes, spelling, short_end, next_of_length, next_by, next, keytab_format, contents, IsCell, IsEnd, IsSound, IsSpelled, image, nat_tests, take_at, drop_at, take-append-drop, length-append, length-take, IsBytes-back, headed}
 use Rattle.krb_cells.specs.Contents.{NextCell, More, NoMore, on_next, IsCell as IsReadCell}
 use Rattle.krb_cells.proofs.ContentsLemmas.{IsNext as IsNextIn, IsFormat, behind, contents_next as next_of_contents, contents_spelled as spelled_of, contents_behind as behind_of, contents_again as again_of}
 use Rattle.krb_keytab.specs.declared.length.Length.TheVariants as says
 use Rattle.krb_keytab.proofs.LengthLemmas.{means, length_again, cell_has}
-use Rattle.krb_wire.proofs.Fields.{IsBytes-back}
-use Rattle.krb_wire.proofs.Lists.{headed}
 
 pub chosen : {A : Type 0} (b : Bool) (x y z : A) → cond b x y ≡ z → ((b ≡ true) × (x ≡ z)) ⊎ ((b ≡ false) × (y ≡ z))
-chosen true x y z e = inl (refl, e)
-chosen false x y z e = inr (refl, e)
+chosen b x y z e = search arith
 
 -- what a cell took from the front
 pub record TakesCell (f : KtFormat) (bytes : List ℕ) (c : Cell) (after : List ℕ) : Type 0 where
@@ -65,8 +61,7 @@ first_cell_is f bytes rest (says.Free n) s whole t has e =
     ]
 
 short_is : (f : KtFormat) (bytes : List ℕ) (s : NextCell Cell End) → next f bytes ≡ s → NoMore (short_end bytes) ≡ s → IsNext f bytes s
-short_is f [] s whole e = subst (IsNext f []) e (record { parts = refl; sound = tt })
-short_is f (b ∷ bs) s whole e = subst (IsNext f (b ∷ bs)) e (record { parts = refl; sound = whole ∙ sym e })
+short_is f bytes s whole e = search arith
 
 next_by_is : (f : KtFormat) (bytes : List ℕ) (s : NextCell Cell End) (read : Option (ℕ × List ℕ)) → IsBytes bytes → next f bytes ≡ s → number_at (order_of f) w32 bytes ≡ read → next_by f bytes read ≡ s → IsNext f bytes s
 next_by_is f bytes s None fits whole got e = short_is f bytes s whole e
@@ -91,53 +86,31 @@ last_again f (Free b) rest bytes sound =
     let long : ltb (length (b ++ rest)) (length b) ≡ false = le-ltb _ _ (omega (arith, length-append b rest)) in
     rw (long, take_at b rest (length b) refl, drop_at b rest (length b) refl) refl
 
-field_small : (l : Length) → HasField l → field_of l < 2 ^ 32
-field_small says.End has = omega arith
-field_small (says.Live n) has = omega (arith, has.1)
-field_small (says.Free n) has = omega (arith, has.0)
-
 -- the number before a cell
 pub field_again : (f : KtFormat) (c : Cell) (rest : List ℕ) → IsCell f c → number_at (order_of f) w32 (cell (order_of f) c ++ rest) ≡ Some (length_field c, bytes_of c ++ rest)
-field_again f c rest sound =
-    let o = order_of f in
-    ap (number_at o w32) (append_assoc (digits o w32 (length_field c)) (bytes_of c) rest)
-    ∙ number_again o w32 (2 ^ 32) (wide32 o) (length_field c) (bytes_of c ++ rest) (field_small (length_of_cell c) (cell_has f c sound))
+field_again f c rest sound = grind (arith, nat_tests)
 
 pub cell_again : (f : KtFormat) (c : Cell) (rest : List ℕ) → IsCell f c → next f (cell (order_of f) c ++ rest) ≡ More c rest
 unfolding next
-cell_again f c rest sound =
-    let whole = cell (order_of f) c ++ rest in
-    ap (next_by f whole) (field_again f c rest sound) ∙ ap (next_of_length f whole (bytes_of c ++ rest)) (length_again (length_of_cell c) (cell_has f c sound)) ∙ last_again f c rest whole sound
+cell_again f c rest sound = search (arith, field_again, length_again, cell_has, last_again)
 
-pub end_again : (f : KtFormat) (e : End) → IsEnd f e → next f (end_bytes (order_of f) e) ≡ NoMore e
+end_again : (f : KtFormat) (e : End) → IsEnd f e → next f (end_bytes (order_of f) e) ≡ NoMore e
 unfolding next
-end_again f Bare sound = refl
-end_again f (Mark rest) sound =
-    let o = order_of f in
-    ap (next_by f (digits o w32 0 ++ rest)) (number_again o w32 (2 ^ 32) (wide32 o) 0 rest (omega arith))
-end_again f (Damaged kind rest) sound = sound
+end_again f e sound = grind (arith, nat_tests)
 
 -- ---- all cells
 
 pub sound_size : (f : KtFormat) (c : Cell) → IsCell f c → 0 < length (bytes_of c)
-sound_size f (Live b) h = h.0
-sound_size f (Free b) h = h.0
+sound_size f c h = search arith
 
 -- ---- the format of any cells
 
-read_cell : (f : KtFormat) (c : Cell) → IsCell f c → IsReadCell (keytab_format f) c
-read_cell f c sound = record {
-  read = λ rest. cell_again f c rest sound;
-  some = omega (arith, length-append (digits (order_of f) w32 (length_field c)) (bytes_of c), (wide32 (order_of f)).len (length_field c));
-}
-
 read_cells : (f : KtFormat) (cs : List Cell) → AllByRecursion (IsCell f) cs → AllByRecursion (IsReadCell (keytab_format f)) cs
 read_cells f [] sound = tt
-read_cells f (c ∷ cs) sound = (read_cell f c sound.0, read_cells f cs sound.1)
+read_cells f (c ∷ cs) sound = search (arith, cell_again, length-append, wide32, read_cells f cs sound.1)
 
 next_in : (f : KtFormat) (bytes : List ℕ) (s : NextCell Cell End) → IsNext f bytes s → IsNextIn (keytab_format f) bytes s
-next_in f bytes (More c after) t = (t.takes, read_cell f c t.sound)
-next_in f bytes (NoMore e) t = (t.parts, end_again f e t.sound)
+next_in f bytes s t = search (arith, end_again, cell_again, length-append, wide32)
 
 -- its reader reads what is spelled
 pub keytab_is : (f : KtFormat) → IsFormat (keytab_format f)
@@ -159,9 +132,7 @@ sound_cells f (c ∷ cs) rest read fits =
     ((next_is f (cell o c ++ tail) (More c tail) fits2 (read.0.read tail)).sound, sound_cells f cs rest read.1 (IsBytes-back (cell o c) tail fits2))
 
 sound_end : (f : KtFormat) (e : End) → next f (end_bytes (order_of f) e) ≡ NoMore e → IsEnd f e
-sound_end f Bare read = tt
-sound_end f (Mark rest) read = tt
-sound_end f (Damaged kind rest) read = read
+sound_end f e read = search arith
 
 -- the contents spell the bytes
 pub contents_spelled : (f : KtFormat) (bytes : List ℕ) → IsBytes bytes → IsSpelled f bytes (contents f bytes)

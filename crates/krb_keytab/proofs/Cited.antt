@@ -3,7 +3,7 @@ pub use Rattle.std.proofs.Common.{◌≡◌, sym, ◌∙◌, ap, arith, length, 
 pub use Rattle.std.proofs.Math.ListN.{set, drop_of_length-le}
 pub use Rattle.std.proofs.Math.Nat.{pow-suc, mul-le-mul_left, pow-succ'}
 pub use Rattle.std.proofs.lemmas.Bool.{cases_lt, lt-ltb, le-ltb, ne_eqb, leb-true, ltb-true, eqb-true, lt-leb, ltb-false, eq-eqb, cases_Bool, and_right, OnTrue_from, le-leb, true≢false, OnFalse_from, leb-false, false_from_ne_true, eqb-false, OnTrue_at}
-pub use Rattle.std.proofs.lemmas.Bool.Decides.{eqb_tells, leb_tells, Decides-eqb}
+pub use Rattle.std.proofs.lemmas.Bool.Decides.{eqb_tells, leb_tells, Decides-eqb, nat_tests}
 pub use Rattle.std.proofs.lemmas.List.{take_at, length-take, append-nil, length-map, length-replicate, drop_at, length-drop, map-append, take-append-drop, drop-drop, take_all, drop-take, drop-append-le, set-append_left, map-set, get_or-drop, drop-replicate, get_or-map, replicate-append-replicate, drop_all, get_or_default, get_or_past, length-set}
 pub use Rattle.std.proofs.lemmas.List.Concat.{flat_map-cons}
 pub use Rattle.std.specs.Int.{w32, w16}
@@ -20,9 +20,9 @@ pub use Rattle.krb_keytab.specs.Find.{PlacedEntry, is_match, placed_entries, loo
 pub use Rattle.krb_keytab.specs.Form.{written_form, fits, IsEntry, IsRecord, read_back, front_of, kept_type}
 pub use Rattle.krb_keytab.specs.Image.{IsKnownEnd, ends, IsChanged, len_with, ending_kind, mark_len, IsPassed, EndsThere}
 pub use Rattle.krb_keytab.specs.Index.{slot_at, IsIndex, IsFit, IsLiveNumber, HasSpare, fit_of}
-pub use Rattle.krb_keytab.specs.LookUp.{IsFoundAmong, answer}
+pub use Rattle.krb_keytab.specs.LookUp.{IsFoundAmong, answer, IsPrefix, begin_with, same_first}
 pub use Rattle.krb_keytab.specs.Nodes.{AreNodesFrom, IsTree, child_with, AreNodes, AreNodesBut}
-pub use Rattle.krb_keytab.specs.Rewrite.{rewrite_of, new_record, rewrite_result}
+pub use Rattle.krb_keytab.specs.Rewrite.{rewrite_of, new_record, rewrite_result, keytab_rules}
 pub use Rattle.krb_keytab.specs.Slot.{free_size, slots_from, slot_of, places, IsRank, hole_of_slot, is_free, negated, IsRising, room_of}
 pub use Rattle.krb_keytab.specs.Store.{KeytabState, store_of, end_place, store_cell, image_of, InMemory, entry_at_place, IsImage, store_of_image, entries, store_cells, empty, live_of}
 pub use Rattle.krb_keytab.specs.Tree.{SizeTree, first_fit, looks_for, IsHeightFor, HasRoomFor, IsGrown}
@@ -35,7 +35,7 @@ pub use Rattle.krb_walk.proofs.Places.{or_cases, cuts-extends, place_kept, place
 pub use Rattle.krb_walk.proofs.Stops.{bytes_from, end_from-ge, records_of, is_place_from-cons}
 pub use Rattle.krb_walk.specs.Ranks.{Rewrites, carry}
 pub use Rattle.krb_walk.specs.Store.{end_of, live_bytes, fault_of, IsPlace, is_place, Record, Store, records, standing, bytes_of_some, record_of, record_of_some}
-pub use Rattle.krb_wire.proofs.Fields.{IsBytes, wide32, some_is, IsBytes-drop, is_some_has, number_takes, wide16, number_again, bind_some, Takes-then, data16_takes, Takes, IsBytes-take, data16_again}
+pub use Rattle.krb_wire.proofs.Fields.{IsBytes, wide32, some_is, IsBytes-drop, is_some_has, number_takes, wide16, number_again, bind_some, Takes-then, data16_takes, Takes, IsBytes-take, data16_again, IsBytes-back, IsBytes-front, byte_takes, ok_is}
 pub use Rattle.krb_wire.proofs.NamesCompared.{and_both, both_and, lengths_fit, lengths_of}
 pub use Rattle.krb_wire.proofs.PenLemmas.{puts_then, left_next, Left, left_none, left_room, left_all}
 pub use Rattle.krb_wire.specs.Text.{Puts}
@@ -47,3 +47,15 @@ pub use Rattle.krb_wire.specs.declared.format.KtFormat.{KtFormat}
 pub use Rattle.krb_wire.specs.declared.format.KtFormat.TheVariants.{V2, V1}
 pub use Rattle.krb_wire.specs.declared.format.Order.{Order}
 pub use Rattle.krb_wire.specs.declared.format.Order.TheVariants.{Big, Little}
+pub use Rattle.krb_cells.proofs.Cuts.{cut_held, holds_from, is_from, live_is_place}
+pub use Rattle.krb_cells.specs.Contents.{More, NoMore}
+pub use Rattle.krb_walk.proofs.Splits.{bytes_ahead, bytes_here, whole_of}
+pub use Rattle.krb_walk.specs.declared.refusal.Code.{Code}
+pub use Rattle.krb_wire.proofs.Lists.{all_back, all_front, all_join, headed}
+pub use Rattle.krb_wire.proofs.Principals.{kt_principal_again, kt_principal_takes}
+pub use Rattle.std.proofs.Math.Pow.{pow_mono}
+pub use Rattle.std.proofs.Math.Seq.{drop-append-add, get_or-append_seam, set-append_seam, take-suc}
+pub use Rattle.std.proofs.lemmas.Grind.{flat_map-append}
+pub use Rattle.std.proofs.lemmas.List.Elements.{All-from_recursion, filter-append}
+pub use Rattle.std.proofs.lemmas.Nat.{pow-add, pow_pos}
+pub use Rattle.std.specs.Cmp.Lexicographic.{pointwise}

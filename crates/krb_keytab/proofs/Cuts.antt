@@ -1,7 +1,6 @@
 -- Where cells end, and what a store has there.
-use Rattle.krb_keytab.proofs.Cited.{◌≡◌, ℕ, ◌+◌, ◌*◌, ◌<◌, ◌≤◌, false, eqb, List, [], ◌∷◌, ◌++◌, map, length, None, refl, sym, ap, ◌∙◌, length-append, arith, w32, flat_map, AllByRecursion, ne_eqb, map-append, flat_map-cons, Order, digits, wide32, bytes_from, Cell, bytes_of, length_field, cell, size, store_cell, live_of, end_place}
+use Rattle.krb_keytab.proofs.Cited.{◌≡◌, ℕ, ◌+◌, ◌*◌, ◌<◌, ◌≤◌, false, eqb, List, [], ◌∷◌, ◌++◌, map, length, None, refl, sym, ap, ◌∙◌, length-append, arith, w32, flat_map, AllByRecursion, ne_eqb, map-append, Order, digits, wide32, bytes_from, Cell, bytes_of, length_field, cell, size, store_cell, live_of, end_place, bytes_here}
 use Rattle.krb_walk.specs.Store.{Cell as StoreCell, Store, live_bytes}
-use Rattle.krb_walk.proofs.Splits.{bytes_here}
 
 pub cell_len : (o : Order) (c : Cell) → length (cell o c) ≡ 4 + size c
 cell_len o c = omega (arith, length-append (digits o w32 (length_field c)) (bytes_of c), (wide32 o).len (length_field c))
@@ -9,9 +8,7 @@ cell_len o c = omega (arith, length-append (digits o w32 (length_field c)) (byte
 -- the cells end after their spelling
 pub end_place_is : (o : Order) (at : ℕ) (cs : List Cell) → end_place at cs ≡ at + length (flat_map (cell o) cs)
 end_place_is o at [] = omega arith
-end_place_is o at (c ∷ cs) =
-    let e : length (flat_map (cell o) (c ∷ cs)) ≡ (4 + size c) + length (flat_map (cell o) cs) = ap length (flat_map-cons (cell o) c cs) ∙ length-append (cell o c) (flat_map (cell o) cs) ∙ ap (λ (n : ℕ). n + length (flat_map (cell o) cs)) (cell_len o c) in
-    omega (arith, end_place_is o (at + (4 + size c)) cs, e)
+end_place_is o at (c ∷ cs) = search (arith, length-append, cell_len, end_place_is o (at + (4 + size c)) cs)
 
 -- the cells of a second list end where those of both do
 pub end_place-append : (at : ℕ) (front back : List Cell) → end_place at (front ++ back) ≡ end_place (end_place at front) back

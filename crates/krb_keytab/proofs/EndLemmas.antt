@@ -1,16 +1,13 @@
 -- What is at a place, read whole.
-use Rattle.krb_keytab.proofs.Cited.{◌≡◌, ℕ, ◌+◌, ◌≤◌, List, ◌∷◌, length, take, drop, refl, ap, ◌∙◌, arith, length-take, length-drop, drop-drop, KtFormat, IsBytes, IsBytes-drop, Length, Ending, size_of, Contents, cell_in, next, contents, size, ends, IsPassed, EndsThere, end_place}
+use Rattle.krb_keytab.proofs.Cited.{◌≡◌, ℕ, ◌+◌, ◌≤◌, List, ◌∷◌, length, take, drop, ap, ◌∙◌, arith, length-take, length-drop, drop-drop, KtFormat, IsBytes, IsBytes-drop, Length, Ending, size_of, Contents, cell_in, next, contents, size, ends, IsPassed, EndsThere, end_place, NoMore, More}
 use Rattle.krb_keytab.specs.declared.length.Length.TheVariants as says
-use Rattle.krb_cells.specs.Contents.{NoMore, More}
 use Rattle.krb_keytab.proofs.CellLemmas.{contents_next}
 
 pub ends_there : (f : KtFormat) (image : List ℕ) (at : ℕ) (e : Ending) → IsBytes image → next f (drop at image) ≡ NoMore (ends (drop at image) e) → EndsThere f image at e
 ends_there f image at e fits is = contents_next f (drop at image) (NoMore (ends (drop at image) e)) (IsBytes-drop at image fits) is
 
 size_in : (l : Length) (b : List ℕ) → size (cell_in l b) ≡ length b
-size_in says.End b = refl
-size_in (says.Live n) b = refl
-size_in (says.Free n) b = refl
+size_in l b = search arith
 
 pub passed : (f : KtFormat) (image : List ℕ) (at : ℕ) (l : Length) → IsBytes image → at ≤ length image → 4 + size_of l ≤ length (drop at image)
     → next f (drop at image) ≡ More (cell_in l (take (size_of l) (drop 4 (drop at image)))) (drop (size_of l) (drop 4 (drop at image))) → IsPassed f image at (at + (4 + size_of l))

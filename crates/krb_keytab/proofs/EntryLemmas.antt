@@ -1,9 +1,7 @@
 -- An entry that is read is one that the bytes spell, and the only one.
-use Rattle.krb_keytab.proofs.Cited.{◌≡◌, ℕ, ◌^◌, ◌<◌, List, [], ◌∷◌, ◌++◌, Option, Some, None, refl, sym, ap, subst, ◌∙◌, append_assoc, IfSome, w16, w32, KtFormat, order_of, digits, data16, kt_principal, byte_at, ◌>>=◌, Gives, number_at, data16_at, kt_principal_at, IsBytes, bind_some, some_is, Takes, Takes-then, wide16, wide32, number_takes, number_again, data16_takes, data16_again, EntryParts, Front, front, FitsFront, entry_of, Spells, front_at, entry_at}
-use Rattle.krb_wire.proofs.Principals.{kt_principal_takes, kt_principal_again}
-use Rattle.krb_wire.proofs.Fields.{byte_takes}
+use Rattle.krb_keytab.proofs.Cited.{◌≡◌, ℕ, ◌^◌, List, [], ◌∷◌, ◌++◌, Option, Some, sym, subst, append_assoc, IfSome, w16, w32, KtFormat, order_of, digits, data16, kt_principal, byte_at, ◌>>=◌, Gives, number_at, data16_at, kt_principal_at, IsBytes, bind_some, some_is, Takes, Takes-then, wide16, wide32, number_takes, number_again, data16_takes, data16_again, EntryParts, Front, front, FitsFront, entry_of, Spells, front_at, entry_at, arith, kt_principal_takes, kt_principal_again, byte_takes}
 
-pub front_takes : (f : KtFormat) (bytes : List ℕ) (x : Front × List ℕ) → IsBytes bytes → front_at f bytes ≡ Some x → Takes bytes (front f x.0) x.1 × FitsFront f x.0
+front_takes : (f : KtFormat) (bytes : List ℕ) (x : Front × List ℕ) → IsBytes bytes → front_at f bytes ≡ Some x → Takes bytes (front f x.0) x.1 × FitsFront f x.0
 unfolding front_at
 front_takes f bytes x fits e =
     let o = order_of f in
@@ -25,19 +23,9 @@ front_takes f bytes x fits e =
     subst (λ (y : Front × List ℕ). Takes bytes (front f y.0) y.1 × FitsFront f y.0) {x = made} (some_is made x k.2)
     (e1, record { principal = ta.1; timestamp = tb.1; low_version = tc.1; enctype = td.1; key = tk.1 })
 
-pub front_again : (f : KtFormat) (x : Front) (rest : List ℕ) → FitsFront f x → front_at f (front f x ++ rest) ≡ Some (x, rest)
+front_again : (f : KtFormat) (x : Front) (rest : List ℕ) → FitsFront f x → front_at f (front f x ++ rest) ≡ Some (x, rest)
 unfolding front_at
-front_again f x rest fits =
-    let o = order_of f in
-    let d0 = kt_principal f x.principal in
-    let d1 = digits o w32 x.timestamp in
-    let d2 = digits o w16 x.enctype in
-    let d3 = data16 o x.key in
-    let grouped : front f x ++ rest ≡ d0 ++ (d1 ++ ((x.low_version ∷ []) ++ (d2 ++ (d3 ++ rest)))) =
-    append_assoc d0 (d1 ++ ((x.low_version ∷ []) ++ (d2 ++ d3))) rest
-    ∙ ap (λ (b : List ℕ). d0 ++ b) (append_assoc d1 ((x.low_version ∷ []) ++ (d2 ++ d3)) rest ∙ ap (λ (b : List ℕ). d1 ++ (x.low_version ∷ b)) (append_assoc d2 d3 rest)) in
-    ap (front_at f) grouped
-    ∙ rw (kt_principal_again f x.principal (d1 ++ ((x.low_version ∷ []) ++ (d2 ++ (d3 ++ rest)))) fits.principal, number_again o w32 (2 ^ 32) (wide32 o) x.timestamp ((x.low_version ∷ []) ++ (d2 ++ (d3 ++ rest))) fits.timestamp, number_again o w16 (2 ^ 16) (wide16 o) x.enctype (d3 ++ rest) fits.enctype, data16_again o x.key rest fits.key) refl
+front_again f x rest fits = search (arith, append_assoc, kt_principal_again, number_again, wide32, wide16, data16_again)
 
 pub entry_spelled : (f : KtFormat) (bytes : List ℕ) (e : EntryParts) → IsBytes bytes → entry_at f bytes ≡ Some e → Spells f e bytes
 unfolding entry_at
@@ -48,12 +36,10 @@ entry_spelled f bytes e fits h =
 
 pub entry_again : (f : KtFormat) (e : EntryParts) (bytes : List ℕ) → Spells f e bytes → entry_at f bytes ≡ Some e
 unfolding entry_at
-entry_again f e bytes s =
-    ap (entry_at f) s.parts ∙ rw (front_again f s.fields s.tail s.fit) (ap (λ (x : EntryParts). Some x) (sym s.entry))
+entry_again f e bytes s = search (arith, front_again)
 
 pub found_entry : {X : Type 0} (view : X → EntryParts) (f : KtFormat) (bytes : List ℕ) (result : Option X) → IsBytes bytes → Gives view result (entry_at f bytes) → IfSome result (λ x. Spells f (view x) bytes)
-found_entry view f bytes (Some x) fits h = entry_spelled f bytes (view x) fits h
-found_entry view f bytes None fits h = tt
+found_entry view f bytes result fits h = search (arith, entry_spelled)
 
 pub only_entry : {X : Type 0} (view : X → EntryParts) (f : KtFormat) (bytes : List ℕ) (result : Option X) → Gives view result (entry_at f bytes) → (e : EntryParts) → Spells f e bytes → Gives view result (Some e)
 only_entry view f bytes result h e s = subst (Gives view result) (entry_again f e bytes s) h

@@ -1,6 +1,5 @@
 -- The entries listed cell by cell are those of the records.
-use Rattle.krb_keytab.proofs.Cited.{◌≡◌, ◌∷◌, ℕ, ◌+◌, [], List, length, map, refl, sym, ap, append_assoc, ◌∙◌, Parts, is_some_has, filter_map, cons_option, KtFormat, Record, standing, record_of, EntryParts, entry_at, Cell, Live, Free, KeytabState, store_cell, CellsFrom, BeginsWith, cells_of, IsFoundAmong, PlacedEntry, placed_entries}
-use Rattle.std.specs.Prelude.{Option, Some, None, Bool, false, ◌++◌, option_map}
+use Rattle.krb_keytab.proofs.Cited.{◌≡◌, ◌∷◌, ℕ, ◌+◌, [], List, length, map, refl, sym, ap, append_assoc, ◌∙◌, Parts, is_some_has, filter_map, KtFormat, Record, standing, record_of, EntryParts, entry_at, Cell, Live, Free, KeytabState, store_cell, CellsFrom, BeginsWith, cells_of, IsFoundAmong, PlacedEntry, placed_entries, arith, Option, Some, None, Bool, false, ◌++◌, option_map}
 use Rattle.krb_keytab.specs.Entries.{entries_in}
 
 -- some entries were considered, and those of these cells are still to come
@@ -15,8 +14,7 @@ record_entries f at cs = filter_map (λ (r : Record). option_map (λ (e : EntryP
 
 listed_stored : (f : KtFormat) (at : ℕ) (cs : List Cell) → entries_in f at cs ≡ record_entries f at cs
 listed_stored f at [] = refl
-listed_stored f at (Live b ∷ cs) =
-    ap (cons_option (option_map (λ (e : EntryParts). (at, e)) (entry_at f b))) (listed_stored f (at + (4 + length b)) cs)
+listed_stored f at (Live b ∷ cs) = search (arith, listed_stored f (at + (4 + length b)) cs)
 listed_stored f at (Free b ∷ cs) = listed_stored f (at + (4 + length b)) cs
 
 -- those of the cells of a keytab are its entries
@@ -26,12 +24,7 @@ entries_of_cells k cells is = ap (λ (x : CellsFrom). entries_in x.format x.plac
 -- ---- considered one after the other
 
 pub listed_live : (old new : CellsFrom) (at : ℕ) (b : List ℕ) (e : EntryParts) → BeginsWith old at (Live b) new → entry_at old.format b ≡ Some e → entries_in old.format old.place old.contents.cells ≡ (at, e) ∷ entries_in new.format new.place new.contents.cells
-listed_live old new at b e s is =
-    ap (entries_in old.format old.place) s.cells
-    ∙ ap (λ (o : Option EntryParts). cons_option (option_map (λ (x : EntryParts). (old.place, x)) o) (entries_in old.format (old.place + (4 + length b)) new.contents.cells)) is
-    ∙ ap (λ (p : ℕ). (p, e) ∷ entries_in old.format (p + (4 + length b)) new.contents.cells) (sym s.place)
-    ∙ ap (λ (p : ℕ). (at, e) ∷ entries_in old.format p new.contents.cells) (sym s.next)
-    ∙ ap (λ (f : KtFormat). (at, e) ∷ entries_in f new.place new.contents.cells) (sym s.format)
+listed_live old new at b e s is = search arith
 
 pub none_considered : (name : Parts) (kvno enctype : ℕ) (k : KeytabState) (cells : CellsFrom) → cells ≡ cells_of k → IsFoundUpTo name kvno enctype k cells false None
 none_considered name kvno enctype k cells is = record { before = []; found = refl; all = entries_of_cells k cells is }

@@ -1,6 +1,5 @@
 -- The first cell of bytes, by its length.
-use Rattle.krb_keytab.proofs.Cited.{◌≡◌, ℕ, ◌+◌, ◌≤◌, List, [], ◌∷◌, ◌++◌, length, take, drop, Some, None, refl, sym, ap, subst, ◌∙◌, append_assoc, length-append, arith, flat_map, AllByRecursion, w32, take_at, drop_at, length-drop, flat_map-cons, KtFormat, order_of, digits, number_at, IsBytes, some_is, wide32, Length, length_of, size_of, Cell, Contents, bytes_of, length_of_cell, length_field, cell, cell_in, end_bytes, next, contents, IsCell, IsSpelled, size, IsCellOrNothing, IsFirst}
-use Rattle.krb_cells.specs.Contents.{More}
+use Rattle.krb_keytab.proofs.Cited.{◌≡◌, ℕ, ◌+◌, ◌≤◌, List, [], ◌∷◌, ◌++◌, length, take, drop, Some, None, refl, sym, ap, subst, ◌∙◌, append_assoc, length-append, arith, flat_map, AllByRecursion, w32, take_at, drop_at, length-drop, flat_map-cons, KtFormat, order_of, digits, number_at, IsBytes, some_is, wide32, Length, length_of, size_of, Cell, Contents, bytes_of, length_of_cell, length_field, cell, cell_in, end_bytes, next, contents, IsCell, IsSpelled, size, IsCellOrNothing, IsFirst, More}
 use Rattle.krb_keytab.proofs.CellLemmas.{contents_next, contents_spelled, cell_again, field_again}
 use Rattle.krb_keytab.proofs.Cuts.{cell_len}
 use Rattle.krb_keytab.proofs.LengthLemmas.{length_again, cell_has, size_is, cell_again as cell_of_bytes}

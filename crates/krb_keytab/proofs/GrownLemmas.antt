@@ -1,12 +1,8 @@
 -- A table and a tree when one more cell is added after the others.
-use Rattle.krb_keytab.proofs.Cited.{◌≡◌, ℕ, ◌+◌, ◌-◌, ◌*◌, ◌^◌, ◌<◌, ◌≤◌, true, false, List, [], ◌∷◌, ◌++◌, length, map, replicate, None, Ok, refl, sym, ap, subst, ◌∙◌, arith, inl, inr, append_assoc, length-append, is_some, nat_le, nat_lt, AllByRecursion, pow-suc, cases_lt, lt-leb, lt-ltb, append-nil, map-append, replicate-append-replicate, KtFormat, w32, eqb_tells, length_of, Order, order_of, digits, wide32, end_of, fault_of, fits, hole_from, with_last, end_after, append_result, Cell, Live, Free, End, Bare, Mark, Damaged, IsCell, end_bytes, kind_of, KeytabState, image_of, store_of, end_place, Slot, free_size, room_of, slots_from, slot_of, SizeTree, IsHeightFor, HasRoomFor, IsGrown, IsIndex, HasSpare}
-use Rattle.std.proofs.Math.Pow.{pow_mono}
-use Rattle.std.proofs.lemmas.Nat.{pow_pos}
+use Rattle.krb_keytab.proofs.Cited.{◌≡◌, ℕ, ◌+◌, ◌-◌, ◌*◌, ◌^◌, ◌<◌, ◌≤◌, false, List, [], ◌∷◌, ◌++◌, length, map, replicate, None, Ok, refl, sym, ap, subst, ◌∙◌, arith, inl, inr, append_assoc, length-append, is_some, AllByRecursion, pow-suc, cases_lt, append-nil, map-append, replicate-append-replicate, KtFormat, length_of, Order, order_of, end_of, fault_of, fits, hole_from, with_last, end_after, append_result, Cell, Live, Free, End, IsCell, end_bytes, kind_of, KeytabState, image_of, store_of, end_place, Slot, free_size, room_of, slots_from, slot_of, SizeTree, IsHeightFor, HasRoomFor, IsGrown, IsIndex, HasSpare, nat_tests, pow_mono, pow_pos, ok_is, whole_of}
 use Rattle.krb_keytab.specs.Cells as cells
 use Rattle.krb_keytab.proofs.ChangeLemmas.{IsKept, image_len}
 use Rattle.krb_keytab.proofs.Cuts.{end_place-append}
-use Rattle.krb_wire.proofs.Fields.{ok_is}
-use Rattle.krb_walk.proofs.Splits.{whole_of}
 
 -- ---- the height of a tree with one leaf more
 
@@ -17,22 +13,14 @@ grown_height n h full =
     (omega (arith, p, pow_pos h), λ lower lt. omega (arith, pow_mono {i = lower} {j = h} (omega arith)))
 
 -- else it is as high
-pub same_height : (n h : ℕ) → IsHeightFor n h → n < 2 ^ h → IsHeightFor (n + 1) h
+same_height : (n h : ℕ) → IsHeightFor n h → n < 2 ^ h → IsHeightFor (n + 1) h
 same_height n h is lt = (omega (arith, lt), λ lower less. omega (arith, is.1 lower less))
-
-pub height_low : (n h : ℕ) → n ≡ 2 ^ h → n < 2 ^ 30 → h < 30
-height_low n h full small = elim (cases_lt h 30) [
-  | inl lt ↦ lt
-  | inr ge ↦ absurd (omega (arith, pow_mono {i = 30} {j = h} ge))
-]
 
 -- no hole has more bytes than a length can say
 pub none_so_large : (f : KtFormat) (at need : ℕ) (cs : List Cell) → AllByRecursion (IsCell f) cs → 2 ^ 31 < need → hole_from at need cs ≡ None
 none_so_large f at need [] sound lt = refl
 none_so_large f at need (Live b ∷ cs) sound lt = none_so_large f (at + (4 + length b)) need cs sound.1 lt
-none_so_large f at need (Free b ∷ cs) sound lt =
-    let large : nat_le need (length b) ≡ false = lt-leb need (length b) (omega (arith, sound.0.1, lt)) in
-    rw large (none_so_large f (at + (4 + length b)) need cs sound.1 lt)
+none_so_large f at need (Free b ∷ cs) sound lt = search (arith, none_so_large f (at + (4 + length b)) need cs sound.1 lt)
 
 -- ---- table and tree with a record more
 
@@ -41,11 +29,9 @@ slots_last at [] c = refl
 slots_last at (x ∷ cs) c = ap (λ (s : List Slot). slot_of (at, x) ∷ s) (slots_last (at + (4 + cells.size x)) cs c)
 
 no_room : (n : ℕ) → n < 2 ^ 31 → room_of (length_of n) ≡ 0
-no_room n small =
-    let is : nat_lt n (2 ^ 31) ≡ true = lt-ltb n (2 ^ 31) small in
-    elim (eqb_tells n 0) [ inl y ↦ rw (y.0) refl | inr more ↦ rw (more.0, is) refl ]
+no_room n small = grind (arith, nat_tests)
 
-pub appended_index : (k : KeytabState) (slots : List Slot) (t u : SizeTree) (bytes : List ℕ) → IsIndex k slots t → IsGrown (length slots) t u → length bytes < 2 ^ 31 → IsIndex (with_last k bytes) (slots ++ (slot_of (end_place 2 k.contents.cells, Live bytes) ∷ [])) u
+appended_index : (k : KeytabState) (slots : List Slot) (t u : SizeTree) (bytes : List ℕ) → IsIndex k slots t → IsGrown (length slots) t u → length bytes < 2 ^ 31 → IsIndex (with_last k bytes) (slots ++ (slot_of (end_place 2 k.contents.cells, Live bytes) ∷ [])) u
 appended_index k slots t u bytes i grown small =
     let s = slot_of (end_place 2 k.contents.cells, Live bytes) in
     let n = length slots in
@@ -69,14 +55,12 @@ appended_index k slots t u bytes i grown small =
 
 -- the image of a keytab without a fault has at most an end mark after an appended record
 tail_short : (o : Order) (e : End) → kind_of e ≡ None → length (end_bytes o (end_after e)) ≤ 4
-tail_short o Bare h = omega arith
-tail_short o (Mark rest) h = omega (arith, length-append (digits o w32 0) [], (wide32 o).len 0)
-tail_short o (Damaged kind rest) h = absurd cc
+tail_short o e h = grind (arith, nat_tests)
 
 last_end : (k : KeytabState) (bytes : List ℕ) → end_place 2 (with_last k bytes).contents.cells ≡ end_place 2 k.contents.cells + (4 + length bytes)
 last_end k bytes = end_place-append 2 k.contents.cells (Live bytes ∷ [])
 
-pub appended_spare : (k : KeytabState) (bytes : List ℕ) (count room : ℕ) (t : SizeTree) → is_some (fault_of (store_of k)) ≡ false → HasSpare (with_last k bytes) count room t
+appended_spare : (k : KeytabState) (bytes : List ℕ) (count room : ℕ) (t : SizeTree) → is_some (fault_of (store_of k)) ≡ false → HasSpare (with_last k bytes) count room t
 appended_spare k bytes count room t whole = λ longer.
     absurd (omega (arith, longer, image_len (with_last k bytes), tail_short (order_of k.format) k.contents.end (whole_of (end_of (store_of k)) (kind_of k.contents.end) whole)))
 

@@ -1,6 +1,5 @@
 -- An image after changes to its cells.
-use Rattle.krb_keytab.proofs.Cited.{◌≡◌, ℕ, suc, ◌+◌, ◌-◌, ◌^◌, ◌<◌, ◌≤◌, true, List, [], ◌∷◌, ◌++◌, length, map, drop, replicate, Option, Some, None, refl, sym, ap, subst, ◌∙◌, arith, option_map, IsSome, IfSome, ◌==◌, if◌then◌else◌, splice, leb-true, KtFormat, order_of, IsBytes, IsBytes-drop, some_is, CellsEnd, Hole, Cell, Live, Free, End, Bare, Contents, cell, next, contents, IsCell, size, live_bytes, end_from-ge, store_cell, store_of_image, end_place, IsKnownEnd, IsChanged, PlacedCell, placed_cells, replaced_at, zero_hole, is_hole, first_hole, with_zeros, record_in, hole_of, hole_from, IsRecord}
-use Rattle.std.proofs.lemmas.List.{length-append, length-map, length-replicate}
+use Rattle.krb_keytab.proofs.Cited.{◌≡◌, ℕ, suc, ◌+◌, ◌-◌, ◌^◌, ◌<◌, ◌≤◌, true, List, [], ◌∷◌, ◌++◌, length, drop, replicate, Option, Some, None, refl, sym, ap, subst, ◌∙◌, arith, option_map, IsSome, IfSome, ◌==◌, if◌then◌else◌, splice, KtFormat, order_of, IsBytes, IsBytes-drop, some_is, CellsEnd, Hole, Cell, Live, Free, End, Bare, Contents, cell, next, contents, IsCell, size, live_bytes, end_from-ge, store_of_image, end_place, IsKnownEnd, IsChanged, PlacedCell, placed_cells, replaced_at, zero_hole, is_hole, first_hole, with_zeros, record_in, hole_of, hole_from, IsRecord, length-append, length-map, length-replicate}
 use Rattle.krb_cells.specs.Contents.{contents as contents_of, first_cells}
 use Rattle.krb_keytab.proofs.CellLemmas.{contents_spelled, sound_size}
 use Rattle.krb_keytab.proofs.Cuts.{end_place-append}
@@ -20,19 +19,15 @@ pub as_many : (f : KtFormat) (old new : List ℕ) (change : Cell → Cell) (p : 
 as_many f old new change p e end changed = ap (λ (k : Contents). length k.cells) changed.contents ∙ length-map (placed_cells 2 (contents f (drop 2 old)).cells) (λ (x : PlacedCell). if x.0 == p then change x.1 else x.1) ∙ placed_len 2 (contents f (drop 2 old)).cells
 
 -- a cell ends where the cells do, or before
-pub ends_within : (cs : List Cell) (p : ℕ) (c : Cell) → IsAt cs 2 p c → p + 4 + size c ≤ end_place 2 cs
-ends_within cs p c s =
-    let at : p ≡ end_place 2 s.front = s.place in
-    let whole : end_place 2 cs ≡ end_place (p + (4 + size c)) s.back =
-    ap (end_place 2) s.parts ∙ end_place-append 2 s.front (c ∷ s.back) ∙ ap (λ (n : ℕ). end_place (n + (4 + size c)) s.back) (sym at) in
-    omega (arith, whole, end_from-ge (p + (4 + size c)) (map store_cell s.back))
+ends_within : (cs : List Cell) (p : ℕ) (c : Cell) → IsAt cs 2 p c → p + 4 + size c ≤ end_place 2 cs
+ends_within cs p c s = search (arith, end_place-append, end_from-ge)
 
 -- what is known of a cell of an image
 pub record IsIn (f : KtFormat) (image : List ℕ) (p : ℕ) (c : Cell) : Type 0 where
   pub room : p + 4 + size c ≤ length image
   pub sound : IsCell f c
 
-pub is_in : (f : KtFormat) (image : List ℕ) (p : ℕ) (c : Cell) (end : CellsEnd) → IsBytes image → IsKnownEnd f image end → IsAt (contents f (drop 2 image)).cells 2 p c → IsIn f image p c
+is_in : (f : KtFormat) (image : List ℕ) (p : ℕ) (c : Cell) (end : CellsEnd) → IsBytes image → IsKnownEnd f image end → IsAt (contents f (drop 2 image)).cells 2 p c → IsIn f image p c
 is_in f image p c end fits known s =
     let cs = (contents f (drop 2 image)).cells in
     let sound = (contents_spelled f (drop 2 image) (IsBytes-drop 2 image fits)).sound in
@@ -46,8 +41,7 @@ live_in f image p b end fits known live = is_in f image p (Live b) end fits know
 
 -- the bytes of the record there, and their number
 pub bytes_of_size : (o : Option (List ℕ)) (n : ℕ) → IsSome o → IfSome o (λ b. length b ≡ n) → (b : List ℕ) × (Some b ≡ o) × (length b ≡ n)
-bytes_of_size (Some b) n some len = (b, refl, len)
-bytes_of_size None n some len = absurd cc
+bytes_of_size o n some len = search arith
 
 -- a cell is replaced by its changed one, which is sound and of its size
 changed_is : (f : KtFormat) (image image' : List ℕ) (change : Cell → Cell) (old : Cell) (p : ℕ) (end : CellsEnd) → 2 ≤ length image → IsBytes image → IsBytes image' → IsKnownEnd f image end
@@ -86,8 +80,7 @@ pub record HoleIn (f : KtFormat) (image : List ℕ) (n : ℕ) (h : Hole) : Type 
   pub room : h.place + 4 + h.size ≤ length image
 
 hole_large : (n : ℕ) (c : Cell) → is_hole n c ≡ true → n ≤ size c
-hole_large n (Live b) e = absurd cc
-hole_large n (Free b) e = leb-true n (length b) e
+hole_large n c e = search arith
 
 hole_by : (f : KtFormat) (image : List ℕ) (n : ℕ) (h : Hole) (end : CellsEnd) (o : Option PlacedCell) → IsBytes image → IsKnownEnd f image end → first_hole 2 n (contents f (drop 2 image)).cells ≡ o → option_map hole_of o ≡ Some h → HoleIn f image n h
 hole_by f image n h end None fits known is e = absurd cc

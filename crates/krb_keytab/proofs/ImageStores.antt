@@ -1,30 +1,21 @@
 -- The store of an image's cells, by their lengths.
-use Rattle.krb_keytab.proofs.Cited.{◌≡◌, ℕ, ◌+◌, ◌-◌, ◌^◌, ◌≤◌, true, List, [], ◌∷◌, ◌++◌, length, take, drop, map, Option, refl, sym, ap, subst, ◌∙◌, arith, flat_map, append-nil, take_at, length-take, drop-take, drop-drop, KtFormat, order_of, IsBytes, IsBytes-drop, IsBytes-take, bytes_from, end_from-ge, is_place_from-cons, CellsEnd, Cell, Bare, Contents, cell, end_bytes, keytab_format, contents, kind_of, ending_kind, IsKnownEnd, KeytabState, IsImage, store_cell, store_cells, store_of}
+use Rattle.krb_keytab.proofs.Cited.{◌≡◌, ℕ, ◌+◌, ◌-◌, ◌^◌, ◌≤◌, true, List, [], ◌∷◌, ◌++◌, length, take, drop, map, Option, sym, ap, subst, ◌∙◌, arith, flat_map, append-nil, take_at, length-take, drop-take, drop-drop, KtFormat, order_of, IsBytes, IsBytes-drop, IsBytes-take, bytes_from, end_from-ge, is_place_from-cons, CellsEnd, Cell, Bare, Contents, cell, end_bytes, contents, ending_kind, IsKnownEnd, KeytabState, IsImage, store_cell, store_cells, store_of, nat_tests, cut_held, holds_from, is_from}
 use Rattle.krb_walk.specs.declared.fault.FaultKind.{FaultKind}
 use Rattle.krb_walk.specs.Store.{Cell as StoreCell, Store, IsPlace, end_from, is_place, is_place_from, live_bytes}
 use Rattle.krb_cells.proofs.ContentsLemmas.{behind}
 use Rattle.krb_cells.specs.Cells.{AreCells, HoldsCells}
 use Rattle.krb_cells.specs.Carry.{between}
-use Rattle.krb_cells.proofs.Cuts.{cut_held, holds_from, is_from}
-use Rattle.krb_cells.proofs.Formats.{IsSeen, are_cells}
+use Rattle.krb_cells.proofs.Formats.{are_cells}
 use Rattle.krb_keytab.proofs.CellLemmas.{keytab_is, contents_spelled, contents_behind}
 use Rattle.krb_keytab.proofs.Cuts.{cell_len, end_place_is}
-use Rattle.krb_keytab.proofs.Stores.{keytab_of, kind_ends}
+use Rattle.krb_keytab.proofs.Stores.{keytab_of}
 use Rattle.krb_keytab.proofs.ImageChanges.{contents_none}
 
 -- ---- the cells of an image
 
-keytab_seen : (f : KtFormat) → IsSeen (keytab_format f) store_cell
-keytab_seen f = record {
-  format = keytab_is f;
-  four = λ c. omega (arith, cell_len (order_of f) c);
-  wide = λ c. sym (cell_len (order_of f) c);
-  none = refl;
-}
-
 are_seen : (f : KtFormat) (bytes : List ℕ) → IsBytes bytes → (contents f bytes).end ≡ Bare → AreCells (store_cells f) bytes
 unfolding contents
-are_seen f bytes fits bare = are_cells (keytab_format f) store_cell bytes (keytab_seen f) fits bare
+are_seen f bytes fits bare = search (arith, are_cells, keytab_is, cell_len)
 
 -- the cells end after the version bytes
 pub ahead : (f : KtFormat) (image : List ℕ) (e : CellsEnd) → IsKnownEnd f image e → 2 ≤ e.place
@@ -62,8 +53,7 @@ all_held f limit image e k fits is known of_k =
 
 -- the kind of the fault at the end
 pub kind_held : (f : KtFormat) (limit : ℕ) (image : List ℕ) (e : CellsEnd) (k : KeytabState) → IsKnownEnd f image e → keytab_of f limit image ≡ k → ending_kind e.ending ≡ (store_of k).fault
-kind_held f limit image e k known of_k =
-    sym (ap kind_of known.same ∙ ap (λ (x : Contents). kind_of x.end) known.ending ∙ kind_ends (drop e.place image) e.ending) ∙ ap (λ (x : KeytabState). (store_of x).fault) of_k
+kind_held f limit image e k known of_k = grind (arith, nat_tests)
 
 -- ---- from a place on
 

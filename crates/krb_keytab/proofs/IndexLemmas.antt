@@ -1,5 +1,5 @@
 -- What a keytab returns, by its table.
-use Rattle.krb_keytab.proofs.Cited.{◌≡◌, ℕ, ◌-◌, ◌^◌, ◌<◌, ◌≤◌, eqb, List, length, take, Option, Some, None, refl, sym, ap, subst, ◌∙◌, arith, inl, inr, option_map, max, eqb-true, cases_lt, take_all, end_of, is_place, IsPlace, IsSound, PlacedCell, first_hole, hole_from, hole_of, KeytabState, store_of, end_place, Hole, Slot, places, slots_from, IsRank, SizeTree, first_fit, looks_for, IsHeightFor, IsIndex, IsFit, fit_of, slot_at}
+use Rattle.krb_keytab.proofs.Cited.{◌≡◌, ℕ, ◌-◌, ◌^◌, ◌<◌, ◌≤◌, eqb, List, length, take, Option, sym, ap, ◌∙◌, arith, eqb-true, take_all, end_of, is_place, IsPlace, IsSound, KeytabState, store_of, end_place, Slot, places, slots_from, IsRank, SizeTree, first_fit, looks_for, IsHeightFor, IsIndex, IsFit, slot_at}
 use Rattle.krb_keytab.proofs.SlotLemmas.{place_at}
 use Rattle.krb_keytab.proofs.PlaceLemmas.{slots_len, place_is, place_by_rank}
 use Rattle.krb_keytab.proofs.FitLemmas.{Finds, found, leaves_of}
@@ -12,9 +12,7 @@ table_held i is same = same ∙ i.table ∙ ap (λ (y : KeytabState). slots_from
 
 -- the place of the cell with a number
 pub slot_place : (k : KeytabState) (i : ℕ) → i < length k.contents.cells → (slot_at k i).place ≡ end_place 2 (take i k.contents.cells)
-slot_place k i lt =
-    let cs = k.contents.cells in
-    sym (place_at (slots_from 2 cs) i (record { place = 0; field = 0 }) (omega (arith, slots_len 2 cs))) ∙ place_is 2 cs i lt
+slot_place k i lt = search (arith, place_at, slots_len, place_is)
 
 pub end_by_table : (k : KeytabState) (rank : ℕ) → length k.contents.cells ≤ rank → end_of (store_of k) ≡ end_place 2 (take rank k.contents.cells)
 end_by_table k rank le = ap (end_place 2) (sym (take_all rank k.contents.cells le))
@@ -29,20 +27,11 @@ at_rank k p rank r here = sym (eqb-true _ _ (sym (place_by_rank 2 k.contents.cel
 -- ---- holes
 
 -- there is one least height
-pub one_height : (n a b : ℕ) → IsHeightFor n a → IsHeightFor n b → a ≡ b
-one_height n a b p q = elim (cases_lt a b) [
-  | inl lt ↦ absurd (omega (arith, p.0, q.1 a lt))
-  | inr ge ↦ elim (cases_lt b a) [
-    | inl lt ↦ absurd (omega (arith, q.0, p.1 b lt))
-    | inr le ↦ omega (arith, ge, le)
-  ]
-]
+one_height : (n a b : ℕ) → IsHeightFor n a → IsHeightFor n b → a ≡ b
+one_height n a b p q = search arith
 
 fits_by : (k : KeytabState) (need : ℕ) (o : Option ℕ) → Finds 2 need 0 k.contents.cells o → IsFit k need o
-fits_by k need None f = f
-fits_by k need (Some i) f =
-    let is : i - 0 ≡ i = omega arith in
-    (omega (arith, f.1), rw is at f.2)
+fits_by k need o f = search arith
 
 -- what the tree returns
 pub fit_is : (k : KeytabState) (slots : List Slot) (t : SizeTree) (need : ℕ) (o : Option ℕ) → IsIndex k slots t → IsSound k.format k.contents → 0 < need → o ≡ first_fit need t.sizes → IsFit k need o
@@ -53,13 +42,4 @@ fit_is k slots t need o i sound some is =
     fits_by k need o (found k.format need spare cs o some sound.cells leaves)
 
 pub looks_are : (k : KeytabState) (slots : List Slot) (t : SizeTree) (o : Option ℕ) (looks : ℕ) → IsIndex k slots t → looks ≡ looks_for t.height o → (height : ℕ) → IsHeightFor (length k.contents.cells) height → looks ≡ looks_for height o
-looks_are k slots t o looks i is height least =
-    let len : length slots ≡ length k.contents.cells = ap length i.table ∙ slots_len 2 k.contents.cells in
-    is ∙ ap (λ (h : ℕ). looks_for h o) (one_height (length slots) t.height height i.height (subst (λ (n : ℕ). IsHeightFor n height) (sym len) least))
-
-place_of_hole : (o : Option PlacedCell) → option_map (λ (x : PlacedCell). x.0) o ≡ option_map (λ (h : Hole). h.place) (option_map hole_of o)
-place_of_hole None = refl
-place_of_hole (Some x) = refl
-
-pub fit_place : (k : KeytabState) (need : ℕ) (h : Option Hole) → hole_from 2 (max need 1) k.contents.cells ≡ h → option_map (λ (x : Hole). x.place) h ≡ fit_of k need
-fit_place k need h is = sym (place_of_hole (first_hole 2 (max need 1) k.contents.cells) ∙ ap (option_map (λ (x : Hole). x.place)) is)
+looks_are k slots t o looks i is height least = search (arith, slots_len, one_height)

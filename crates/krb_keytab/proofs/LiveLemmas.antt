@@ -1,15 +1,10 @@
 -- The slot of one cell among others, and the live cell with a number.
-use Rattle.krb_keytab.proofs.Cited.{◌≡◌, ◌≢◌, ℕ, zero, suc, ◌+◌, ◌<◌, ◌≤◌, true, false, List, [], ◌∷◌, ◌++◌, length, map, take, drop, get_or, Option, Some, None, refl, sym, ap, subst, ◌∙◌, arith, inl, inr, length-append, IsSome, AllByRecursion, set, cases_lt, take_at, take_all, append-nil, KtFormat, is_some_has, bytes_from, Cell, Live, Free, IsCell, IsSound, KeytabState, store_of, store_cell, end_place, Slot, is_free, slots_from, slot_of, places, IsRank, slot_at, IsLiveNumber}
-use Rattle.std.proofs.Math.Seq.{set-append_seam, get_or-append_seam, drop-cons}
-use Rattle.std.proofs.lemmas.List.Elements.{All-from_recursion}
+use Rattle.krb_keytab.proofs.Cited.{◌≡◌, ◌≢◌, ℕ, zero, suc, ◌+◌, ◌<◌, ◌≤◌, true, false, List, [], ◌∷◌, ◌++◌, length, map, take, drop, get_or, Option, None, refl, sym, ap, subst, ◌∙◌, arith, inl, inr, length-append, IsSome, AllByRecursion, set, cases_lt, take_at, take_all, append-nil, KtFormat, is_some_has, bytes_from, Cell, Live, Free, IsCell, IsSound, KeytabState, store_of, store_cell, end_place, Slot, is_free, slots_from, slot_of, places, IsRank, slot_at, IsLiveNumber, nat_tests, set-append_seam, get_or-append_seam, drop-cons, All-from_recursion, bytes_ahead, live_is_place}
 use Rattle.krb_walk.specs.Store.{Cell as StoreCell, live_bytes}
-use Rattle.krb_walk.proofs.Splits.{bytes_ahead}
-use Rattle.krb_cells.proofs.Cuts.{live_is_place}
 use Rattle.krb_keytab.specs.Cells as cells
 use Rattle.krb_keytab.proofs.Cuts.{live_there, store_sound}
 use Rattle.krb_keytab.proofs.Replacements.{IsAt, live_is_at, is_at_sound as sound_there}
 use Rattle.krb_keytab.proofs.PlaceLemmas.{slots_len, cells_at_rank, end_rises}
-use Rattle.krb_keytab.proofs.SlotLemmas.{live_slot, free_slot}
 use Rattle.krb_keytab.proofs.IndexLemmas.{slot_place, at_rank}
 
 -- ---- the slot of one cell among others
@@ -28,7 +23,7 @@ set_slot at front back c d same =
     ∙ ap (λ (n : ℕ). set (slots_from at front ++ (slot_of (p, c) ∷ slots_from (p + (4 + cells.size c)) back)) n (slot_of (p, d))) (sym (slots_len at front))
     ∙ set-append_seam (slots_from at front) (slot_of (p, c)) (slots_from (p + (4 + cells.size c)) back) (slot_of (p, d)))
 
-pub slot_seam : (k : KeytabState) (front back : List Cell) (c : Cell) → k.contents.cells ≡ front ++ (c ∷ back) → slot_at k (length front) ≡ slot_of (end_place 2 front, c)
+slot_seam : (k : KeytabState) (front back : List Cell) (c : Cell) → k.contents.cells ≡ front ++ (c ∷ back) → slot_at k (length front) ≡ slot_of (end_place 2 front, c)
 slot_seam k front back c parts =
     let none : Slot = record { place = 0; field = 0 } in
     let s = slots_from 2 front in
@@ -55,16 +50,13 @@ number_is cs front rest i parts lt same =
 -- ---- the live cell at a place
 
 pub none_of : (o : Option (List ℕ)) → (IsSome o → ⊥) → o ≡ None
-none_of None h = refl
-none_of (Some b) h = absurd (h refl)
+none_of o h = search arith
 
 free_none : (f : KtFormat) (c : Cell) (p : ℕ) → IsCell f c → is_free (slot_of (p, c)) ≡ true → (store_cell c).live ≡ None
-free_none f (Free b) p sound h = refl
-free_none f (Live b) p sound h = let no = live_slot p b (sound.0, sound.1) in absurd (cc (no, h))
+free_none f c p sound h = grind (arith, nat_tests)
 
 live_some : (f : KtFormat) (c : Cell) (p : ℕ) → IsCell f c → is_free (slot_of (p, c)) ≡ false → IsSome (store_cell c).live
-live_some f (Live b) p sound h = refl
-live_some f (Free b) p sound h = let is = free_slot p b sound in absurd (cc (is, h))
+live_some f c p sound h = grind (arith, nat_tests)
 
 -- the slot of the cell with a number
 slot_is : (at : ℕ) (cs : List Cell) (i : ℕ) (d : Cell) (e : Slot) → i < length cs → get_or (slots_from at cs) i e ≡ slot_of (end_place at (take i cs), get_or cs i d)

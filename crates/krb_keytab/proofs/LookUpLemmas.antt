@@ -1,6 +1,5 @@
 -- Considering one entry after the other finds the result of the look-up.
-use Rattle.krb_keytab.proofs.Cited.{◌≡◌, ℕ, ◌<◌, ◌≤◌, Bool, true, false, cond, ltb, List, [], ◌∷◌, ◌++◌, Option, Some, None, Ok, refl, sym, ap, subst, ◌∙◌, arith, inl, inr, ◌&&◌, ◌||◌, ◌==◌, max, filter, find, append-nil, cases_lt, lt-ltb, le-ltb, eq-eqb, ne_eqb, eqb_tells, Parts, have_same_name, answer, IsFoundAmong, PlacedEntry, is_match, greatest, selected_version, first_or_missing, look_up_in}
-use Rattle.std.proofs.lemmas.List.Elements.{filter-append}
+use Rattle.krb_keytab.proofs.Cited.{◌≡◌, ℕ, Bool, true, false, cond, ltb, List, [], ◌∷◌, ◌++◌, Option, Some, None, Ok, refl, sym, ap, subst, ◌∙◌, arith, inl, inr, ◌&&◌, ◌||◌, ◌==◌, max, filter, find, append-nil, eqb_tells, Parts, have_same_name, answer, IsFoundAmong, PlacedEntry, is_match, greatest, selected_version, first_or_missing, look_up_in, nat_tests, filter-append}
 use Rattle.krb_keytab.proofs.HasNameLemmas.{and_true}
 
 -- ---- one entry after the other
@@ -37,8 +36,7 @@ stays v x [] e = refl
 stays v x (y ∷ ys) e = rw e (stays v x ys e)
 
 first_by : (v : ℕ) (x : PlacedEntry) (xs : List PlacedEntry) (b : Bool) → (v == 0) ≡ false → (x.1.version == v) ≡ b → best_after v None xs ≡ find (λ y. y.1.version == v) xs → best_after v None (x ∷ xs) ≡ find (λ y. y.1.version == v) (x ∷ xs)
-first_by v x xs true e is ih = rw (e, is) (stays v x xs e)
-first_by v x xs false e is ih = rw (e, is) ih
+first_by v x xs b e is ih = search (arith, stays)
 
 first_with : (v : ℕ) (xs : List PlacedEntry) → (v == 0) ≡ false → best_after v None xs ≡ find (λ y. y.1.version == v) xs
 first_with v [] e = refl
@@ -50,44 +48,10 @@ first_with v (x ∷ xs) e = first_by v x xs (x.1.version == v) e refl (first_wit
 abbrev with_version : ℕ → List PlacedEntry → Option PlacedEntry
 with_version m xs = find (λ y. y.1.version == m) xs
 
-skips : (m : ℕ) (x : PlacedEntry) (xs : List PlacedEntry) → (x.1.version == m) ≡ false → with_version m (x ∷ xs) ≡ with_version m xs
-skips m x xs e = rw e refl
-
-takes : (m : ℕ) (x : PlacedEntry) (xs : List PlacedEntry) → (x.1.version == m) ≡ true → with_version m (x ∷ xs) ≡ Some x
-takes m x xs e = rw e refl
-
--- an entry with a greater version replaces the one found
-greater : (b y : PlacedEntry) (ys : List PlacedEntry) → b.1.version < y.1.version → best_after 0 (Some y) ys ≡ with_version (max y.1.version (greatest ys)) (y ∷ ys)
-    → best_after 0 (Some b) (y ∷ ys) ≡ with_version (max b.1.version (max y.1.version (greatest ys))) (b ∷ y ∷ ys)
-greater b y ys lt ih =
-    let better : ltb b.1.version y.1.version ≡ true = lt-ltb _ _ lt in
-    let m = max b.1.version (max y.1.version (greatest ys)) in
-    let same : m ≡ max y.1.version (greatest ys) = omega (arith, lt) in
-    let no : (b.1.version == m) ≡ false = ne_eqb b.1.version m (λ e. omega (arith, lt, e)) in
-    rw better (ih ∙ ap (λ (n : ℕ). with_version n (y ∷ ys)) (sym same) ∙ sym (skips m b (y ∷ ys) no))
-
 -- one with no greater version changes nothing
-no_greater : (b y : PlacedEntry) (ys : List PlacedEntry) → y.1.version ≤ b.1.version → best_after 0 (Some b) ys ≡ with_version (max b.1.version (greatest ys)) (b ∷ ys)
-    → best_after 0 (Some b) (y ∷ ys) ≡ with_version (max b.1.version (max y.1.version (greatest ys))) (b ∷ y ∷ ys)
-no_greater b y ys le ih =
-    let worse : ltb b.1.version y.1.version ≡ false = le-ltb _ _ le in
-    let m = max b.1.version (max y.1.version (greatest ys)) in
-    let same : max b.1.version (greatest ys) ≡ m = omega (arith, le) in
-    rw worse (ih ∙ ap (λ (n : ℕ). with_version n (b ∷ ys)) same ∙ elim (eqb_tells b.1.version m) [
-      | inl is ↦ takes m b ys is.0 ∙ sym (takes m b (y ∷ ys) is.0)
-      | inr not ↦
-          let no : (y.1.version == m) ≡ false = ne_eqb y.1.version m (λ e. not.1 (omega (arith, le, e))) in
-          skips m b ys not.0 ∙ sym (skips m y ys no) ∙ sym (skips m b (y ∷ ys) not.0)
-    ])
-
 first_greatest : (b : PlacedEntry) (xs : List PlacedEntry) → best_after 0 (Some b) xs ≡ with_version (max b.1.version (greatest xs)) (b ∷ xs)
-first_greatest b [] =
-    let is : (b.1.version == max b.1.version 0) ≡ true = eq-eqb b.1.version (max b.1.version 0) (omega arith) in
-    sym (takes (max b.1.version 0) b [] is)
-first_greatest b (y ∷ ys) = elim (cases_lt b.1.version y.1.version) [
-  | inl lt ↦ greater b y ys lt (first_greatest y ys)
-  | inr le ↦ no_greater b y ys le (first_greatest b ys)
-]
+first_greatest b [] = grind (arith, nat_tests)
+first_greatest b (y ∷ ys) = grind (arith, nat_tests, first_greatest y ys, first_greatest b ys)
 
 -- ---- look-up
 
@@ -104,26 +68,18 @@ best_found v x xs = elim (eqb_tells v 0) [
 ]
 
 answer_found : (o : Option PlacedEntry) → answer true o ≡ first_or_missing o
-answer_found None = refl
-answer_found (Some x) = refl
+answer_found o = search arith
 
 -- what is found after all entries is the result of the look-up
 looked_up : (v : ℕ) (xs : List PlacedEntry) → answer (some_of xs) (best_after v None xs) ≡ look_up_in v xs
-looked_up v [] = refl
-looked_up v (x ∷ xs) = ap (answer true) (best_found v x xs) ∙ answer_found (with_version (selected_version v (x ∷ xs)) (x ∷ xs))
+looked_up v xs = search (arith, best_found, answer_found)
 
 -- one result has one entry
 same_best : (n m : Bool) (a b : Option PlacedEntry) → answer n a ≡ answer m b → a ≡ b
-same_best n m (Some x) (Some y) e = cc
-same_best n true (Some x) None e = absurd cc
-same_best n false (Some x) None e = absurd cc
-same_best true m None (Some y) e = absurd cc
-same_best false m None (Some y) e = absurd cc
-same_best n m None None e = refl
+same_best n m a b e = search arith
 
 answer_cond : (better : Bool) (x : PlacedEntry) (best : Option PlacedEntry) → answer true (cond better (Some x) best) ≡ cond better (Ok x) (answer true best)
-answer_cond true x best = refl
-answer_cond false x best = refl
+answer_cond better x best = search arith
 
 -- the next entry, whether it is the better one or not
 pub next_found : (v : ℕ) (named : Bool) (best : Option PlacedEntry) (xs : List PlacedEntry) (x : PlacedEntry) (version : ℕ) (better : Bool) → x.1.version ≡ version → better ≡ is_better v best version → answer named best ≡ look_up_in v xs

@@ -1,30 +1,22 @@
 -- Entries that are rewritten.
-use Rattle.krb_keytab.proofs.Cited.{◌≡◌, ℕ, ◌+◌, ◌^◌, ◌<◌, List, [], ◌∷◌, ◌++◌, length, map, Option, Some, None, true, refl, sym, ap, ◌∙◌, arith, ◌&&◌, option_map, filter_map, flat_map, cons_option, w16, w32, Order, Big, KtFormat, V2, Parts, count_field, name_fits, is_short, byte_at, number_at, data16_at, kt_principal_at, IsBytes, wide16, wide32, number_takes, data16_takes, lengths_of, lengths_fit, Record, records, EntryParts, entry_at, Spells, cell, KeytabState, store_of, entries, image_of, PlacedEntry, placed_entries, fits, new_record, rewrite_of}
-use Rattle.std.proofs.lemmas.List.{length-map, length-append}
-use Rattle.krb_wire.proofs.Principals.{kt_principal_takes}
+use Rattle.krb_keytab.proofs.Cited.{◌≡◌, ℕ, ◌+◌, ◌^◌, List, [], ◌∷◌, ◌++◌, length, map, Some, true, refl, sym, ap, ◌∙◌, arith, ◌&&◌, option_map, filter_map, flat_map, w16, w32, Order, Big, KtFormat, V2, Parts, name_fits, is_short, byte_at, number_at, data16_at, kt_principal_at, IsBytes, wide16, wide32, number_takes, data16_takes, Record, records, EntryParts, entry_at, Spells, cell, KeytabState, store_of, entries, image_of, PlacedEntry, placed_entries, fits, new_record, rewrite_of, nat_tests, length-map, length-append, kt_principal_takes, byte_takes}
 use Rattle.krb_keytab.proofs.WrittenLemmas.{fits_yes}
-use Rattle.krb_wire.proofs.Fields.{byte_takes}
 
 -- the bytes of the new records of entries
 abbrev pub new_records : List PlacedEntry → List ℕ
 new_records xs = flat_map (cell Big) (map new_record (map (λ x. x.1) xs))
 
 -- the places do not matter
-without_place : (place : ℕ) (o : Option EntryParts) (xs : List PlacedEntry) (es : List EntryParts) → map (λ (x : PlacedEntry). x.1) xs ≡ es → map (λ (x : PlacedEntry). x.1) (cons_option (option_map (λ (e : EntryParts). (place, e)) o) xs) ≡ cons_option o es
-without_place place None xs es others = others
-without_place place (Some e) xs es others = ap (λ (t : List EntryParts). e ∷ t) others
-
 without_places : (f : KtFormat) (rs : List Record) → map (λ (x : PlacedEntry). x.1) (filter_map (λ (r : Record). option_map (λ (e : EntryParts). (r.place, e)) (entry_at f r.bytes)) rs) ≡ filter_map (λ (r : Record). entry_at f r.bytes) rs
 without_places f [] = refl
-without_places f (r ∷ rs) = without_place r.place (entry_at f r.bytes) _ _ (without_places f rs)
+without_places f (r ∷ rs) = search (arith, without_places f rs)
 
 -- those of all entries are the new cells
 pub new_records_all : (k : KeytabState) (xs : List PlacedEntry) → xs ≡ placed_entries k → flat_map (cell Big) (rewrite_of k).contents.cells ≡ new_records xs
 new_records_all k xs is = sym (ap new_records is ∙ ap (λ (es : List EntryParts). flat_map (cell Big) (map new_record es)) (without_places k.format (records (store_of k))))
 
 pub len_all : (k : KeytabState) (xs : List PlacedEntry) → xs ≡ placed_entries k → 2 + length (new_records xs) ≡ length (image_of (rewrite_of k))
-len_all k xs is =
-    omega (arith, ap length (new_records_all k xs is), length-append (flat_map (cell Big) (rewrite_of k).contents.cells) [])
+len_all k xs is = search (arith, new_records_all, length-append)
 
 -- there are as many new cells as entries
 pub count_all : (k : KeytabState) (xs : List PlacedEntry) → xs ≡ placed_entries k → length xs ≡ length (rewrite_of k).contents.cells
@@ -36,17 +28,11 @@ new_records_next xs ys x is = ap new_records is
 
 -- ---- an entry that was read fits version 2
 
-count_fits : (f : KtFormat) (n : ℕ) → count_field f n < 2 ^ 16 → count_field V2 n < 2 ^ 16
-count_fits f n lt = omega (arith, lt)
-
 name_fits_v2 : (f : KtFormat) (p : Parts) → name_fits f p ≡ true → name_fits V2 p ≡ true
-name_fits_v2 f p h = let l = lengths_of f p h in lengths_fit V2 p (record { count = count_fits f (length p.components) l.count; realm = l.realm; components = l.components })
+name_fits_v2 f p h = grind (arith, nat_tests)
 
 pub fits_v2 : (f : KtFormat) (e : EntryParts) (b : List ℕ) → Spells f e b → fits V2 e ≡ true
-fits_v2 f e b s =
-    let name : name_fits V2 e.principal ≡ true = ap (λ (x : EntryParts). name_fits V2 x.principal) s.entry ∙ name_fits_v2 f s.fields.principal s.fit.principal.lengths in
-    let key : e.key ≡ s.fields.key = ap (λ (x : EntryParts). x.key) s.entry in
-    sym (fits_yes V2 e name (omega (arith, s.fit.key, ap length key)))
+fits_v2 f e b s = grind (arith, nat_tests)
 
 -- what is read part by part fits it
 pub read_fits : (f : KtFormat) (o : Order) (bytes : List ℕ) (name : Parts × List ℕ) (timestamp low enctype : ℕ × List ℕ) (key : List ℕ × List ℕ) → IsBytes bytes

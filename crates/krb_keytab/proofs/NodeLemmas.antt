@@ -1,9 +1,6 @@
 -- What holds of the nodes of a tree.
-use Rattle.krb_keytab.proofs.Cited.{◌≡◌, ℕ, zero, suc, ◌+◌, ◌-◌, ◌*◌, ◌^◌, ◌<◌, ◌≤◌, true, false, List, length, drop, get_or, refl, sym, ap, subst, ◌∙◌, arith, inl, inr, cases_lt, lt-ltb, le-ltb, lt-leb, le-leb, leb_tells, get_or-drop, length-drop, pow-suc, pow-succ', mul-le-mul_left, AreNodes, IsTree, child_with, first_fit}
-use Rattle.std.specs.Prelude.{nat_le, slice_index, Some, None}
+use Rattle.krb_keytab.proofs.Cited.{◌≡◌, ℕ, zero, suc, ◌+◌, ◌-◌, ◌*◌, ◌^◌, ◌<◌, ◌≤◌, true, false, List, length, drop, get_or, refl, sym, ap, subst, ◌∙◌, arith, inl, inr, cases_lt, lt-ltb, le-ltb, lt-leb, le-leb, leb_tells, get_or-drop, length-drop, pow-suc, pow-succ', mul-le-mul_left, AreNodes, IsTree, child_with, first_fit, nat_le, slice_index, Some, None, pow_pos, pow-add, pow_mono}
 use Rattle.std.proofs.lemmas.List.Sums.{position_or_len_is}
-use Rattle.std.proofs.lemmas.Nat.{pow_pos, pow-add}
-use Rattle.std.proofs.Math.Pow.{pow_mono}
 
 -- after this many levels a descent is at a node of the next: a leaf under it is large enough, and no leaf before those under it is
 pub record Descends (height : ℕ) (nodes : List ℕ) (need level node : ℕ) : Type 0 where
@@ -56,16 +53,6 @@ has_children height nodes need level node tree is_at lt =
     let lower : 2 ^ suc level ≤ 2 ^ height = pow_mono (omega arith) in
     (omega (arith, pow_pos level, is_at.from), omega (arith, lower, pow-suc 2 level, is_at.to))
 
--- it starts at the root
-pub descends_from_root : (height : ℕ) (nodes : List ℕ) (need : ℕ) → need ≤ slice_index nodes 1 → Descends height nodes need 0 1
-descends_from_root height nodes need fits = record {
-  low = omega arith;
-  from = omega arith;
-  to = omega arith;
-  fits = fits;
-  before = λ i rest e low high. let is : rest ≡ height = omega arith in absurd (omega (arith, low, high, ap (λ (n : ℕ). 1 * 2 ^ n) is));
-}
-
 -- no leaf before those under the left child is large enough, and if that child is not, none under it
 before_left : (height : ℕ) (nodes : List ℕ) (need level node : ℕ) → Descends height nodes need level node → (i rest : ℕ) → rest + suc level ≡ height → 2 ^ height ≤ i → i < 2 * node * 2 ^ rest → slice_index nodes i < need
 before_left height nodes need level node is_at i rest e low high =
@@ -99,15 +86,7 @@ descends_right height nodes need level node tree is_at lt small =
     }
 
 descends_left : (height : ℕ) (nodes : List ℕ) (need level node : ℕ) → IsTree height nodes → Descends height nodes need level node → level < height → need ≤ slice_index nodes (2 * node) → Descends height nodes need (suc level) (2 * node)
-descends_left height nodes need level node tree is_at lt fits =
-    let p = pow-suc 2 level in
-    record {
-      low = omega arith;
-      from = omega (arith, p, is_at.from);
-      to = omega (arith, p, is_at.to);
-      fits = fits;
-      before = before_left height nodes need level node is_at;
-    }
+descends_left height nodes need level node tree is_at lt fits = search (arith, before_left)
 
 -- it goes on to the child that is chosen
 pub descends_on : (height : ℕ) (nodes : List ℕ) (need level node next : ℕ) → IsTree height nodes → Descends height nodes need level node → level < height → next ≡ child_with need node nodes → Descends height nodes need (level + 1) next

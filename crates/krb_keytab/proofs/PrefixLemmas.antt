@@ -1,8 +1,6 @@
 -- The spelling of a name up to its name type is a prefix of each entry of the name.
-use Rattle.krb_keytab.proofs.Cited.{◌≡◌, ℕ, ◌+◌, ◌-◌, Bool, true, false, List, [], ◌∷◌, ◌++◌, length, take, drop, Option, Some, refl, sym, ap, subst, ◌∙◌, append_assoc, length-append, arith, nat_eq, w16, flat_map, splice, starts_with, bytes_eq, and_right, false_from_ne_true, true≢false, Decides-eqb, take_at, KtFormat, Parts, order_of, digits, data16, count_field, kt_principal, name_type_field, have_same_name, IsBytes, and_both, EntryParts, entry_at, PlacedEntry, IsFoundAmong}
-use Rattle.std.specs.Cmp.Lexicographic.{pointwise}
+use Rattle.krb_keytab.proofs.Cited.{◌≡◌, ℕ, ◌+◌, ◌-◌, Bool, true, false, List, [], ◌∷◌, ◌++◌, length, take, drop, Option, Some, refl, sym, ap, subst, ◌∙◌, append_assoc, length-append, arith, nat_eq, w16, flat_map, splice, starts_with, and_right, false_from_ne_true, true≢false, Decides-eqb, take_at, KtFormat, Parts, order_of, digits, data16, count_field, kt_principal, name_type_field, have_same_name, IsBytes, and_both, EntryParts, entry_at, PlacedEntry, IsFoundAmong, IsPrefix}
 use Rattle.std.proofs.lemmas.Slice.Eq.{bytes_eq-Decides, slice_eq-Decides, starts_is}
-use Rattle.krb_keytab.specs.LookUp.{IsPrefix}
 use Rattle.krb_keytab.proofs.EntryLemmas.{entry_spelled}
 use Rattle.krb_keytab.proofs.LookUpLemmas.{no_match}
 
@@ -18,11 +16,7 @@ untyped_first f p rest = simp append_assoc
 
 -- it is the same for names that are the same
 same_untyped : (f : KtFormat) (p q : Parts) → have_same_name p q ≡ true → untyped f p ≡ untyped f q
-same_untyped f p q same =
-    let both = and_both (bytes_eq p.realm q.realm) (pointwise bytes_eq p.components q.components) same in
-    let realm : p.realm ≡ q.realm = (bytes_eq-Decides p.realm q.realm).0 both.0 in
-    let components : p.components ≡ q.components = (slice_eq-Decides bytes_eq-Decides p.components q.components (pointwise bytes_eq p.components q.components) refl).0 both.1 in
-    rw (realm, components) refl
+same_untyped f p q same = search (arith, and_both, bytes_eq-Decides, slice_eq-Decides)
 
 -- so each entry of the name begins with it
 untyped_is_prefix : (f : KtFormat) (name : Parts) → IsPrefix f name (untyped f name)

@@ -1,5 +1,5 @@
 -- What a look-up finds is a record that can be removed.
-use Rattle.krb_keytab.proofs.Cited.{◌≡◌, ℕ, ◌+◌, Bool, true, false, cond, List, [], ◌∷◌, ◌++◌, map, Option, Some, None, Ok, Err, length, refl, sym, ap, subst, ◌∙◌, append_assoc, inl, inr, ◌==◌, is_some, option_map, filter, find, IfSome, filter_map, cons_option, AllByRecursion, Parts, some_is, bytes_from, EntryParts, entry_at, Cell, Live, Free, size, KeytabState, store_cell, store_of, end_place, PlacedEntry, is_match, selected_version, first_or_missing, look_up_in, look_up, find_result, placed_entry, placed_entries, with_hole, cut_result}
+use Rattle.krb_keytab.proofs.Cited.{◌≡◌, ℕ, ◌+◌, Bool, true, cond, List, [], ◌∷◌, ◌++◌, map, Option, Some, Ok, Err, length, refl, sym, ap, ◌∙◌, append_assoc, inl, inr, is_some, filter, find, filter_map, AllByRecursion, Parts, bytes_from, Cell, Live, Free, size, KeytabState, store_cell, store_of, end_place, PlacedEntry, is_match, first_or_missing, look_up_in, look_up, find_result, placed_entry, placed_entries, with_hole, cut_result, arith, nat_tests}
 use Rattle.krb_walk.specs.declared.refusal.Code.TheVariants.{Damaged, NotLive}
 use Rattle.krb_walk.specs.Store.{fault_of, live_bytes as store_bytes, standing, record_of}
 use Rattle.krb_keytab.proofs.CellLemmas.{chosen}
@@ -11,37 +11,19 @@ IsLiveAt k x = is_some (store_bytes (store_of k) x.0) ≡ true
 
 -- ---- lists
 
-all_cons : {X : Type 0} (P : X → Type 0) (o : Option X) (xs : List X) → IfSome o P → AllByRecursion P xs → AllByRecursion P (cons_option o xs)
-all_cons P (Some x) xs h all = (h, all)
-all_cons P None xs h all = all
-
-all_kept : {X : Type 0} (P : X → Type 0) (test : X → Bool) (x : X) (xs : List X) (b : Bool) → P x → AllByRecursion P xs → AllByRecursion P (cond b (x ∷ xs) xs)
-all_kept P test x xs true h all = (h, all)
-all_kept P test x xs false h all = all
-
 all_filter : {X : Type 0} (P : X → Type 0) (test : X → Bool) (xs : List X) → AllByRecursion P xs → AllByRecursion P (filter test xs)
 all_filter P test [] all = tt
-all_filter P test (x ∷ xs) all = all_kept P test x (filter test xs) (test x) all.0 (all_filter P test xs all.1)
+all_filter P test (x ∷ xs) all = search (arith, all_filter P test xs all.1)
 
 all_find : {X : Type 0} (P : X → Type 0) (test : X → Bool) (xs : List X) (y : X) → AllByRecursion P xs → find test xs ≡ Some y → P y
 all_find P test [] y all e = absurd cc
-all_find P test (x ∷ xs) y all e = elim (chosen (test x) (Some x) (find test xs) (Some y) e) [
-  | inl h ↦ subst P (some_is x y h.1) all.0
-  | inr h ↦ all_find P test xs y all.1 h.1
-]
+all_find P test (x ∷ xs) y all e = grind (arith, nat_tests, all_find P test xs y all.1)
 
 -- ---- entries
-
-if_placed : (k : KeytabState) (p : ℕ) (o : Option EntryParts) → is_some (store_bytes (store_of k) p) ≡ true → IfSome (option_map (λ (e : EntryParts). (p, e)) o) (IsLiveAt k)
-if_placed k p (Some e) h = h
-if_placed k p None h = tt
 
 -- a live cell after others holds its bytes in the store
 pub holds : (k : KeytabState) (front back : List Cell) (b : List ℕ) (p : ℕ) → k.contents.cells ≡ front ++ (Live b ∷ back) → p ≡ end_place 2 front → store_bytes (store_of k) p ≡ Some b
 holds k front back b p parts place = ap (λ (cs : List Cell). bytes_from 2 (map store_cell cs) p) parts ∙ live_there front back (Live b) p place
-
-is_at : (k : KeytabState) (front back : List Cell) (b : List ℕ) (p : ℕ) → k.contents.cells ≡ front ++ (Live b ∷ back) → p ≡ end_place 2 front → is_some (store_bytes (store_of k) p) ≡ true
-is_at k front back b p parts place = ap is_some (holds k front back b p parts place)
 
 -- the place after one more cell
 next_place : (front : List Cell) (c : Cell) (p : ℕ) → p ≡ end_place 2 front → p + (4 + size c) ≡ end_place 2 (front ++ c ∷ [])
@@ -50,20 +32,14 @@ next_place front c p place = ap (λ (n : ℕ). n + (4 + size c)) place ∙ sym (
 -- the entries of the cells from one on are at live places
 all_live : (k : KeytabState) (front cs : List Cell) (p : ℕ) → k.contents.cells ≡ front ++ cs → p ≡ end_place 2 front → AllByRecursion (IsLiveAt k) (filter_map (placed_entry k) (filter_map record_of (standing p (map store_cell cs))))
 all_live k front [] p parts place = tt
-all_live k front (Live b ∷ cs) p parts place =
-    let others = all_live k (front ++ Live b ∷ []) cs (p + (4 + length b)) (parts ∙ sym (append_assoc front (Live b ∷ []) cs)) (next_place front (Live b) p place) in
-    all_cons (IsLiveAt k) _ _ (if_placed k p (entry_at k.format b) (is_at k front cs b p parts place)) others
-all_live k front (Free b ∷ cs) p parts place =
-    all_live k (front ++ Free b ∷ []) cs (p + (4 + length b)) (parts ∙ sym (append_assoc front (Free b ∷ []) cs)) (next_place front (Free b) p place)
+all_live k front (Live b ∷ cs) p parts place = search (arith, append_assoc, end_place-append, holds, all_live k (front ++ Live b ∷ []) cs (p + (4 + length b)) (parts ∙ sym (append_assoc front (Live b ∷ []) cs)) (next_place front (Live b) p place))
+all_live k front (Free b ∷ cs) p parts place = search (arith, append_assoc, end_place-append, holds, all_live k (front ++ Free b ∷ []) cs (p + (4 + length b)) (parts ∙ sym (append_assoc front (Free b ∷ []) cs)) (next_place front (Free b) p place))
 
 some_found : (o : Option PlacedEntry) (x : PlacedEntry) → first_or_missing o ≡ Ok x → o ≡ Some x
-some_found (Some y) x e = cc
-some_found None x e = absurd cc
+some_found o x e = search arith
 
 found_live : (k : KeytabState) (v : ℕ) (xs : List PlacedEntry) (x : PlacedEntry) → AllByRecursion (IsLiveAt k) xs → look_up_in v xs ≡ Ok x → IsLiveAt k x
-found_live k v [] x all e = absurd cc
-found_live k v (y ∷ ys) x all e =
-    all_find (IsLiveAt k) (λ z. z.1.version == selected_version v (y ∷ ys)) (y ∷ ys) x all (some_found (find (λ z. z.1.version == selected_version v (y ∷ ys)) (y ∷ ys)) x e)
+found_live k v xs x all e = search (arith, all_find, some_found)
 
 -- the record that was found is removed
 pub found_is_cut : (k : KeytabState) (n : Parts) (v t : ℕ) (x : PlacedEntry) → find_result k n v t ≡ Ok x → cut_result k x.0 ≡ Ok (with_hole k x.0)

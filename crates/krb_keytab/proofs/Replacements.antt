@@ -1,10 +1,8 @@
 -- Replacing a cell by another of the same size.
-use Rattle.krb_keytab.proofs.Cited.{◌≡◌, ℕ, ◌+◌, ◌<◌, ◌≤◌, true, false, eqb, List, [], ◌∷◌, ◌++◌, length, map, take, drop, Some, refl, sym, ap, subst, ◌∙◌, append_assoc, length-append, arith, inl, inr, flat_map, splice, AllByRecursion, eq-eqb, ne_eqb, eqb_tells, take_at, drop_at, take-append-drop, length-take, drop-drop, flat_map-cons, Order, KtFormat, order_of, IsBytes, IsBytes-drop, some_is, record_of_some, bytes_of_some, bytes_from, end_from-ge, CellsEnd, Cell, Live, Free, End, Contents, cell, end_bytes, spelling, contents, IsCell, IsSound, size, ends, IsKnownEnd, IsChanged, store_cell, end_place, PlacedCell, replaced_at, is_hole, first_hole}
-use Rattle.std.proofs.lemmas.Grind.{flat_map-append}
+use Rattle.krb_keytab.proofs.Cited.{◌≡◌, ℕ, ◌+◌, ◌<◌, ◌≤◌, true, List, [], ◌∷◌, ◌++◌, length, map, take, drop, Some, refl, sym, ap, subst, ◌∙◌, append_assoc, length-append, arith, inl, inr, flat_map, splice, AllByRecursion, eqb_tells, take_at, drop_at, take-append-drop, length-take, drop-drop, Order, KtFormat, order_of, IsBytes, IsBytes-drop, some_is, record_of_some, bytes_of_some, bytes_from, end_from-ge, CellsEnd, Cell, Live, End, Contents, cell, spelling, contents, IsCell, IsSound, size, ends, IsKnownEnd, IsChanged, store_cell, end_place, PlacedCell, replaced_at, is_hole, first_hole, flat_map-append, all_front, all_back, all_join}
 use Rattle.krb_keytab.proofs.CellLemmas.{chosen, contents_spelled, contents_again}
 use Rattle.krb_keytab.proofs.Cuts.{cell_len, end_place_is, end_place-append}
 use Rattle.krb_keytab.proofs.Splices.{splice-len, splice-behind}
-use Rattle.krb_wire.proofs.Lists.{all_front, all_back, all_join}
 
 -- ---- where a cell is
 
@@ -22,8 +20,7 @@ further : (c d : Cell) (cs : List Cell) (at p : ℕ) → IsAt cs (at + (4 + size
 further c d cs at p s = record { front = c ∷ s.front; back = s.back; parts = ap (λ (xs : List Cell). c ∷ xs) s.parts; place = s.place }
 
 is_live : (at : ℕ) (c : Cell) (b : List ℕ) → bytes_of_some (record_of_some (Some (record { place = at; cell = store_cell c }))) ≡ Some b → c ≡ Live b
-is_live at (Live x) b e = ap (λ (y : List ℕ). Live y) (some_is x b e)
-is_live at (Free x) b e = absurd cc
+is_live at c b e = search (arith, some_is)
 
 pub live_is_at : (cs : List Cell) (at p : ℕ) (b : List ℕ) → bytes_from at (map store_cell cs) p ≡ Some b → IsAt cs at p (Live b)
 live_is_at [] at p b e = absurd cc
@@ -58,17 +55,11 @@ hole_is_at (d ∷ cs) at n p c e =
 
 not_replaced : (change : Cell → Cell) (p at : ℕ) (cs : List Cell) → p < at → replaced_at at change p cs ≡ cs
 not_replaced change p at [] lt = refl
-not_replaced change p at (c ∷ cs) lt =
-    let no : eqb at p ≡ false = ne_eqb at p (λ e. omega arith) in
-    rw no (ap (λ (xs : List Cell). c ∷ xs) (not_replaced change p (at + (4 + size c)) cs (omega arith)))
+not_replaced change p at (c ∷ cs) lt = search (arith, not_replaced change p (at + (4 + size c)) cs (omega arith))
 
 replaced_one : (change : Cell → Cell) (at p : ℕ) (front back : List Cell) (c : Cell) → p ≡ end_place at front → replaced_at at change p (front ++ (c ∷ back)) ≡ front ++ (change c ∷ back)
-replaced_one change at p [] back c is =
-    let yes : eqb at p ≡ true = eq-eqb at p (sym is) in
-    rw yes (ap (λ (xs : List Cell). change c ∷ xs) (not_replaced change p (at + (4 + size c)) back (omega arith)))
-replaced_one change at p (x ∷ front) back c is =
-    let no : eqb at p ≡ false = ne_eqb at p (λ e. omega (arith, end_from-ge (at + (4 + size x)) (map store_cell front))) in
-    rw no (ap (λ (xs : List Cell). x ∷ xs) (replaced_one change (at + (4 + size x)) p front back c is))
+replaced_one change at p [] back c is = search (arith, not_replaced, end_from-ge)
+replaced_one change at p (x ∷ front) back c is = search (arith, not_replaced, end_from-ge, replaced_one change (at + (4 + size x)) p front back c is)
 
 -- all cells but the one at the place are unchanged
 pub replaced_cells : (change : Cell → Cell) (cs : List Cell) (p : ℕ) (c : Cell) (s : IsAt cs 2 p c) → replaced_at 2 change p cs ≡ s.front ++ (change c ∷ s.back)
@@ -78,11 +69,7 @@ replaced_cells change cs p c s = ap (replaced_at 2 change p) s.parts ∙ replace
 
 -- the spelling, split around one cell
 spelling_cut : (o : Order) (front back : List Cell) (c : Cell) (e : End) → spelling o (record { cells = front ++ (c ∷ back); end = e }) ≡ flat_map (cell o) front ++ (cell o c ++ spelling o (record { cells = back; end = e }))
-spelling_cut o front back c e =
-    let F = flat_map (cell o) front in
-    let G = flat_map (cell o) back in
-    ap (λ (b : List ℕ). b ++ end_bytes o e) (flat_map-append (cell o) front (c ∷ back) ∙ ap (λ (b : List ℕ). F ++ b) (flat_map-cons (cell o) c back))
-    ∙ append_assoc F (cell o c ++ G) (end_bytes o e) ∙ ap (λ (b : List ℕ). F ++ b) (append_assoc (cell o c) G (end_bytes o e))
+spelling_cut o front back c e = search (arith, flat_map-append, append_assoc)
 
 -- replacing the bytes in the middle
 swap_middle : (h f old new g image : List ℕ) (p n : ℕ) → image ≡ h ++ (f ++ (old ++ g)) → p ≡ length h + length f → n ≡ p + length old → splice image p n new ≡ h ++ (f ++ (new ++ g))
@@ -120,13 +107,7 @@ replaced_bytes f image front back old new e p r fits =
 -- what is known of the end stays true if the cells still end there and the bytes from there on are the same
 known_kept : (f : KtFormat) (image image' : List ℕ) (e : CellsEnd) → IsKnownEnd f image e → end_place 2 (contents f (drop 2 image')).cells ≡ end_place 2 (contents f (drop 2 image)).cells
     → (contents f (drop 2 image')).end ≡ (contents f (drop 2 image)).end → length image' ≡ length image → drop e.place image' ≡ drop e.place image → IsKnownEnd f image' e
-known_kept f image image' e known place end len tail =
-    record {
-      place = place ∙ known.place;
-      within = omega (arith, known.within, len);
-      same = end ∙ known.same ∙ ap (λ (b : List ℕ). (contents f b).end) (sym tail);
-      ending = ap (contents f) tail ∙ known.ending ∙ ap (λ (b : List ℕ). record { cells = []; end = ends b e.ending }) (sym tail);
-    }
+known_kept f image image' e known place end len tail = search (arith, ends)
 
 -- the contents with the other cell
 pub replaced : (f : KtFormat) (image image' : List ℕ) (front back : List Cell) (old new : Cell) (e : End) (p : ℕ) (end : CellsEnd) → IsReplaced f image front back old new e p → IsBytes image → IsBytes image' → IsKnownEnd f image end

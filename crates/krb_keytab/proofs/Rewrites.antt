@@ -1,8 +1,7 @@
 -- A rewritten keytab, as a store.
-use Rattle.krb_keytab.proofs.Cited.{◌≡◌, ℕ, suc, ◌+◌, ◌^◌, ◌<◌, ◌≤◌, Bool, true, false, cond, List, [], ◌∷◌, ◌++◌, length, map, drop, Option, Some, None, Result, Ok, Err, refl, sym, ap, subst, ◌∙◌, append_assoc, length-append, arith, is_some, nat_lt, ◌==◌, w32, filter_map, flat_map, cons_option, AllByRecursion, append-nil, flat_map-cons, Order, Big, KtFormat, V1, V2, order_of, digits, HasNameType, number_at, IsBytes, IsBytes-drop, is_some_has, wide32, number_takes, Rewrites, records_of, EntryParts, entry_at, front, entry_of, Spells, version_by, Cell, Live, Free, Bare, Contents, bytes_of, length_field, cell, end_bytes, contents, IsCell, IsSound, KeytabState, store_cell, store_of, end_place, image_of, entries, written_form, fits, IsEntry, new_record, rewrite_of, rewrite_result, IsKnownEnd, drop_of_length-le}
-use Rattle.krb_walk.specs.declared.refusal.Code.{Code}
+use Rattle.krb_keytab.proofs.Cited.{◌≡◌, ℕ, ◌+◌, ◌^◌, ◌<◌, ◌≤◌, true, List, [], ◌∷◌, ◌++◌, length, map, drop, Option, Some, None, Ok, refl, sym, ap, subst, ◌∙◌, append_assoc, length-append, arith, is_some, w32, filter_map, flat_map, cons_option, AllByRecursion, append-nil, flat_map-cons, Order, Big, KtFormat, V2, order_of, digits, HasNameType, number_at, IsBytes, IsBytes-drop, is_some_has, wide32, number_takes, Rewrites, records_of, EntryParts, entry_at, front, entry_of, Spells, version_by, Cell, Live, Free, Bare, Contents, bytes_of, length_field, cell, end_bytes, contents, IsCell, IsSound, KeytabState, store_cell, store_of, end_place, image_of, entries, written_form, fits, IsEntry, new_record, rewrite_of, rewrite_result, IsKnownEnd, drop_of_length-le, nat_tests, IsBytes-front, IsBytes-back}
 use Rattle.krb_walk.specs.declared.refusal.Code.TheVariants as code
-use Rattle.krb_walk.specs.Store.{Cell as StoreCell, fault_of}
+use Rattle.krb_walk.specs.Store.{Cell as StoreCell}
 use Rattle.krb_walk.proofs.Lives.{lives}
 use Rattle.krb_keytab.specs.declared.image.Ending.TheVariants as ending
 use Rattle.krb_keytab.proofs.CellLemmas.{contents_again}
@@ -12,7 +11,6 @@ use Rattle.krb_keytab.proofs.EntryLemmas.{entry_spelled, entry_again}
 use Rattle.krb_keytab.proofs.WrittenLemmas.{written_spells, written_len}
 use Rattle.krb_keytab.proofs.Stores.{keytab_of}
 use Rattle.krb_keytab.proofs.NewRecords.{fits_v2}
-use Rattle.krb_wire.proofs.Fields.{IsBytes-front, IsBytes-back}
 
 -- ---- the entries of cells
 
@@ -21,12 +19,12 @@ entries_of f [] = []
 entries_of f (Free b ∷ cs) = entries_of f cs
 entries_of f (Live b ∷ cs) = cons_option (entry_at f b) (entries_of f cs)
 
-pub entries_is : (f : KtFormat) (at : ℕ) (cs : List Cell) → filter_map (λ r. entry_at f r.bytes) (records_of at (map store_cell cs)) ≡ entries_of f cs
+entries_is : (f : KtFormat) (at : ℕ) (cs : List Cell) → filter_map (λ r. entry_at f r.bytes) (records_of at (map store_cell cs)) ≡ entries_of f cs
 entries_is f at [] = refl
 entries_is f at (Free b ∷ cs) = entries_is f (at + (4 + length b)) cs
 entries_is f at (Live b ∷ cs) = ap (cons_option (entry_at f b)) (entries_is f (at + (4 + length b)) cs)
 
-pub entries_all : (k : KeytabState) → entries k ≡ entries_of k.format k.contents.cells
+entries_all : (k : KeytabState) → entries k ≡ entries_of k.format k.contents.cells
 entries_all k = entries_is k.format 2 k.contents.cells
 
 -- the new cells
@@ -39,12 +37,10 @@ entries_live f b e cs is = ap (λ (o : Option EntryParts). cons_option o (entrie
 
 -- ---- as many live cells
 
-pub as_many_of : (f : KtFormat) (cs : List Cell) (at to : ℕ) → AllByRecursion (IsCell f) cs → length (lives to (map store_cell (new_cells f cs))) ≡ length (lives at (map store_cell cs))
+as_many_of : (f : KtFormat) (cs : List Cell) (at to : ℕ) → AllByRecursion (IsCell f) cs → length (lives to (map store_cell (new_cells f cs))) ≡ length (lives at (map store_cell cs))
 as_many_of f [] at to sound = refl
 as_many_of f (Free b ∷ cs) at to sound = as_many_of f cs (at + (4 + length b)) to sound.1
-as_many_of f (Live b ∷ cs) at to sound =
-    let e = is_some_has (entry_at f b) sound.0.2 in
-    ap (λ (es : List EntryParts). length (lives to (map store_cell (map new_record es)))) (entries_live f b e.0 cs e.1) ∙ ap suc (as_many_of f cs (at + (4 + length b)) (to + (4 + length (written_form V2 e.0))) sound.1)
+as_many_of f (Live b ∷ cs) at to sound = grind (arith, nat_tests, as_many_of f cs (at + (4 + length b)))
 
 all_live_of : (es : List EntryParts) → AllByRecursion (λ (c : StoreCell). is_some c.live ≡ true) (map store_cell (map new_record es))
 all_live_of [] = tt
@@ -53,16 +49,10 @@ all_live_of (e ∷ es) = (refl, all_live_of es)
 -- ---- an entry that was read is read again
 
 type_fits : (f : KtFormat) (t : ℕ) → HasNameType f t → t < 2 ^ 32
-type_fits (V1 o) t h = omega (arith, h)
-type_fits V2 t h = h
-
-one_below : (b : Bool) (low n : ℕ) → low < 256 → n < 2 ^ 32 → cond b low n < 2 ^ 32
-one_below true low n x y = omega arith
-one_below false low n x y = y
+type_fits f t h = search arith
 
 version_fits_by : (low : ℕ) (read : Option (ℕ × List ℕ)) → low < 256 → ((n : ℕ × List ℕ) → read ≡ Some n → n.0 < 2 ^ 32) → version_by low read < 2 ^ 32
-version_fits_by low None lt h = omega arith
-version_fits_by low (Some n) lt h = one_below (n.0 == 0) low n.0 lt (h n refl)
+version_fits_by low read lt h = search arith
 
 is_entry : (f : KtFormat) (e : EntryParts) (b : List ℕ) → IsBytes b → Spells f e b → IsEntry e
 is_entry f e b fits s =
@@ -79,7 +69,7 @@ pub record GivesBack (e : EntryParts) : Type 0 where
   pub entry : IsEntry e
   pub back : entry_at V2 (written_form V2 e) ≡ Some e
 
-pub gives_back : (f : KtFormat) (b : List ℕ) (e : EntryParts) → IsBytes b → entry_at f b ≡ Some e → GivesBack e
+gives_back : (f : KtFormat) (b : List ℕ) (e : EntryParts) → IsBytes b → entry_at f b ≡ Some e → GivesBack e
 gives_back f b e fits is =
     let s = entry_spelled f b e fits is in
     let fit = fits_v2 f e b s in
@@ -88,7 +78,7 @@ gives_back f b e fits is =
 
 -- ---- the new cells are sound
 
-pub cell_bytes : (o : Order) (cs : List Cell) (more : List ℕ) → IsBytes (flat_map (cell o) cs ++ more) → AllByRecursion (λ c. IsBytes (bytes_of c)) cs
+cell_bytes : (o : Order) (cs : List Cell) (more : List ℕ) → IsBytes (flat_map (cell o) cs ++ more) → AllByRecursion (λ c. IsBytes (bytes_of c)) cs
 cell_bytes o [] more fits = tt
 cell_bytes o (c ∷ cs) more fits =
     let grouped : flat_map (cell o) (c ∷ cs) ++ more ≡ cell o c ++ (flat_map (cell o) cs ++ more) = ap (λ (b : List ℕ). b ++ more) (flat_map-cons (cell o) c cs) ∙ append_assoc (cell o c) (flat_map (cell o) cs) more in
@@ -98,7 +88,7 @@ cell_bytes o (c ∷ cs) more fits =
 written_some : (e : EntryParts) → 0 < length (written_form V2 e)
 written_some e = let len = written_len V2 e in omega (arith, len)
 
-pub new_cells_sound : (f : KtFormat) (cs : List Cell) → AllByRecursion (IsCell f) cs → AllByRecursion (λ c. IsBytes (bytes_of c)) cs → length (flat_map (cell Big) (new_cells f cs)) < 2 ^ 31 → AllByRecursion (IsCell V2) (new_cells f cs)
+new_cells_sound : (f : KtFormat) (cs : List Cell) → AllByRecursion (IsCell f) cs → AllByRecursion (λ c. IsBytes (bytes_of c)) cs → length (flat_map (cell Big) (new_cells f cs)) < 2 ^ 31 → AllByRecursion (IsCell V2) (new_cells f cs)
 new_cells_sound f [] sound fits small = tt
 new_cells_sound f (Free b ∷ cs) sound fits small = new_cells_sound f cs sound.1 fits.1 small
 new_cells_sound f (Live b ∷ cs) sound fits small =
@@ -121,7 +111,7 @@ kept_by f b cs (Some e) is fits kept =
     let g = gives_back f b e fits is in
     ap (λ (es : List EntryParts). entries_of V2 (map new_record es)) (entries_live f b e cs is) ∙ entries_live V2 (written_form V2 e) e (new_cells f cs) g.back ∙ ap (λ (es : List EntryParts). e ∷ es) kept ∙ sym (entries_live f b e cs is)
 
-pub kept_of : (f : KtFormat) (cs : List Cell) → AllByRecursion (λ c. IsBytes (bytes_of c)) cs → entries_of V2 (new_cells f cs) ≡ entries_of f cs
+kept_of : (f : KtFormat) (cs : List Cell) → AllByRecursion (λ c. IsBytes (bytes_of c)) cs → entries_of V2 (new_cells f cs) ≡ entries_of f cs
 kept_of f [] fits = refl
 kept_of f (Free b ∷ cs) fits = kept_of f cs fits.1
 kept_of f (Live b ∷ cs) fits = kept_by f b cs (entry_at f b) refl fits.0 (kept_of f cs fits.1)
@@ -146,16 +136,9 @@ entries_kept k fits =
     entries_all (rewrite_of k) ∙ ap (λ (es : List EntryParts). entries_of V2 (map new_record es)) (entries_all k)
     ∙ kept_of k.format cells (cell_bytes o cells (end_bytes o k.contents.end) inner) ∙ sym (entries_all k)
 
--- the result of a rewrite
-made_is : (k new : KeytabState) (damaged full : Bool) → cond {A = Result KeytabState Code} damaged (Err code.Damaged) (cond full (Err code.Full) (Ok (rewrite_of k))) ≡ Ok new → rewrite_of k ≡ new
-made_is k new true full made = absurd cc
-made_is k new false true made = absurd cc
-made_is k new false false made = cc
-
 -- it has the same entries
 pub rewritten_keeps : (k new : KeytabState) → IsBytes (image_of k) → rewrite_result k ≡ Ok new → entries new ≡ entries k
-rewritten_keeps k new fits made =
-    ap entries (sym (made_is k new (is_some (fault_of (store_of k))) (nat_lt k.limit (length (image_of (rewrite_of k)))) made)) ∙ entries_kept k fits
+rewritten_keeps k new fits made = search (arith, entries_kept)
 
 pub rewrite_contents : (k : KeytabState) (new : List ℕ) → IsSound V2 (rewrite_of k).contents → new ≡ image_of (rewrite_of k) → IsBytes new → contents V2 (drop 2 new) ≡ (rewrite_of k).contents
 rewrite_contents k new sound is fits =
@@ -185,5 +168,4 @@ rewrites_store k was sound whole = record {
 
 -- the new image, as a keytab
 pub rewrite_held : (f : KtFormat) (limit : ℕ) (image new : List ℕ) (k : KeytabState) → keytab_of f limit image ≡ k → contents V2 (drop 2 new) ≡ (rewrite_of k).contents → keytab_of V2 limit new ≡ rewrite_of k
-rewrite_held f limit image new k is spelled =
-    ap (λ (x : Contents). record { format = V2; limit = limit; contents = x }) spelled ∙ ap (λ (n : ℕ). record { format = V2; limit = n; contents = (rewrite_of k).contents }) (ap (λ (s : KeytabState). s.limit) is)
+rewrite_held f limit image new k is spelled = search arith

@@ -1,6 +1,5 @@
 -- Lists of sizes.
-use Rattle.krb_keytab.proofs.Cited.{◌≡◌, ℕ, suc, ◌+◌, ◌-◌, ◌*◌, ◌^◌, ◌<◌, ◌≤◌, List, [], ◌∷◌, ◌++◌, length, map, take, drop, get_or, replicate, sym, ap, ◌∙◌, append_assoc, add-one, arith, drop-cons, set, pow-suc, take_at, length-take, length-drop, length-map, map-append, drop-append-le, drop-replicate}
-use Rattle.std.proofs.Math.Seq.{take-suc, set-append_seam, drop-append-add}
+use Rattle.krb_keytab.proofs.Cited.{◌≡◌, ℕ, suc, ◌+◌, ◌-◌, ◌*◌, ◌^◌, ◌<◌, ◌≤◌, List, [], ◌∷◌, ◌++◌, length, map, take, drop, get_or, replicate, sym, ap, ◌∙◌, append_assoc, add-one, arith, drop-cons, set, pow-suc, take_at, length-take, length-drop, length-map, map-append, drop-append-le, drop-replicate, take-suc, set-append_seam, drop-append-add}
 
 -- one more size is written
 pub write_next : {X : Type 0} (f : X → ℕ) (xs : List X) (old sizes : List ℕ) (i : ℕ) (d : X) → sizes ≡ map f (take i xs) ++ drop i old → i < length xs → length xs ≤ length old → set sizes i (f (get_or xs i d)) ≡ map f (take (i + 1) xs) ++ drop (i + 1) old

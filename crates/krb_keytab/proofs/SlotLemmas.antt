@@ -1,9 +1,8 @@
 -- The table of cells.
-use Rattle.krb_keytab.proofs.Cited.{◌≡◌, ℕ, ◌<◌, ◌≤◌, true, false, List, length, get_or, ap, sym, subst, arith, inl, inr, nat_lt, slice_index, cases_lt, lt-ltb, ltb-true, ltb-false, length-map, get_or-map, Live, Free, size_of, HasField, Slot}
+use Rattle.krb_keytab.proofs.Cited.{◌≡◌, ℕ, ◌<◌, ◌≤◌, true, false, List, length, get_or, sym, subst, arith, inl, inr, nat_lt, slice_index, cases_lt, lt-ltb, ltb-true, ltb-false, length-map, get_or-map, Slot}
 use Rattle.std.specs.List.Sorted.{IsPartitionedBy, IsPartitionPoint}
 use Rattle.krb_keytab.specs.declared.length.Length.TheVariants as says
-use Rattle.krb_keytab.specs.Slot.{is_free, is_hole, room_of, size, free_size, slot_of, places, IsRising, IsRank}
-use Rattle.krb_keytab.proofs.LengthLemmas.{length_again}
+use Rattle.krb_keytab.specs.Slot.{places, IsRising, IsRank}
 
 -- ---- the rank of a place
 
@@ -32,21 +31,3 @@ is_rank slots p rank bound point =
       below = λ i lt. let yes = ltb-true _ _ (point.0 i none (omega arith) lt) in omega (arith, yes, place_at slots i none (omega arith));
       rest = λ i le lt. let no = ltb-false _ _ (point.1 i none le (omega (arith, len, lt))) in omega (arith, no, place_at slots i none (omega (arith, len, lt)));
     }
-
--- ---- a cell by its slot
-
-pub live_slot : (at : ℕ) (b : List ℕ) → HasField (says.Live (length b)) → is_free (slot_of (at, Live b)) ≡ false
-live_slot at b has = ap is_hole (length_again (says.Live (length b)) has)
-
-pub free_slot : (at : ℕ) (b : List ℕ) → HasField (says.Free (length b)) → is_free (slot_of (at, Free b)) ≡ true
-free_slot at b has = ap is_hole (length_again (says.Free (length b)) has)
-
-pub hole_size : (at : ℕ) (b : List ℕ) → HasField (says.Free (length b)) → size (slot_of (at, Free b)) ≡ length b
-hole_size at b has = ap size_of (length_again (says.Free (length b)) has)
-
--- the free size of a cell
-pub live_room : (at : ℕ) (b : List ℕ) → HasField (says.Live (length b)) → free_size (slot_of (at, Live b)) ≡ 0
-live_room at b has = ap room_of (length_again (says.Live (length b)) has)
-
-pub hole_room : (at : ℕ) (b : List ℕ) → HasField (says.Free (length b)) → free_size (slot_of (at, Free b)) ≡ length b
-hole_room at b has = ap room_of (length_again (says.Free (length b)) has)

@@ -1,7 +1,6 @@
 -- Bytes written over others.
-use Rattle.krb_keytab.proofs.Cited.{◌≡◌, ℕ, ◌+◌, ◌-◌, ◌≤◌, List, ◌++◌, length, take, drop, sym, ap, ◌∙◌, append_assoc, arith, splice, Puts}
+use Rattle.krb_keytab.proofs.Cited.{◌≡◌, ℕ, ◌+◌, ◌-◌, ◌≤◌, List, ◌++◌, length, take, drop, sym, ap, ◌∙◌, append_assoc, arith, splice, Puts, drop_at, length-append, length-take, length-drop, drop-drop}
 use Rattle.krb_wire.specs.declared.pen.Pen.{Pen}
-use Rattle.std.proofs.lemmas.List.{drop_at, length-append, length-take, length-drop, drop-drop}
 
 pub splice-len : (xs a : List ℕ) (i j : ℕ) → j ≤ length xs → j ≡ i + length a → length (splice xs i j a) ≡ length xs
 splice-len xs a i j within is_j = omega (arith, length-append (take i xs) (a ++ drop j xs), length-append a (drop j xs), length-take i xs, length-drop j xs)
@@ -19,6 +18,4 @@ splice-behind xs a i j k within is_j le =
 
 -- what a pen wrote that started at a place of some bytes
 pub written_over : (image text : List ℕ) (at end : ℕ) (old new : Pen) → Puts old new text → old.out.now ≡ image → old.at ≡ at → end ≡ at + length text → new.out.now ≡ splice image at end text
-written_over image text at end old new puts is place to =
-    puts.bytes ∙ ap (λ (n : ℕ). splice old.out.now old.at n text) (puts.place ∙ ap (λ (n : ℕ). n + length text) place ∙ sym to)
-    ∙ ap (λ (n : ℕ). splice old.out.now n end text) place ∙ ap (λ (xs : List ℕ). splice xs at end text) is
+written_over image text at end old new puts is place to = search arith

@@ -1,6 +1,5 @@
 -- An addition to a keytab, and a removal from it, change one cell of its store.
-use Rattle.krb_keytab.proofs.Cited.{◌≡◌, ℕ, ◌+◌, true, List, [], ◌∷◌, map, length, Some, None, Result, Ok, Err, inl, inr, refl, sym, ap, subst, ◌∙◌, arith, IfOk, OnOk, map-append, length-replicate, leb-true, cuts-extends, place_kept, EntryParts, Cell, Live, Free, End, Bare, Mark, Damaged, kind_of, KeytabState, store_cell, store_of, entry_at_place, written_form, read_back, IsEntry, replaced_at, zero_hole, is_hole, with_zeros, record_in, with_record_in, with_last, end_after, with_hole, put_result, cut_result, without}
-use Rattle.krb_walk.specs.declared.refusal.Code.{Code}
+use Rattle.krb_keytab.proofs.Cited.{◌≡◌, ℕ, ◌+◌, true, List, [], ◌∷◌, map, length, Some, None, Result, Ok, Err, inl, inr, refl, sym, ap, subst, ◌∙◌, arith, IfOk, OnOk, map-append, length-replicate, leb-true, cuts-extends, place_kept, EntryParts, Cell, Live, Free, End, kind_of, KeytabState, store_cell, store_of, entry_at_place, written_form, read_back, IsEntry, replaced_at, zero_hole, is_hole, with_zeros, record_in, with_record_in, with_last, end_after, with_hole, put_result, cut_result, without, Code, keytab_rules, whole_of}
 use Rattle.krb_walk.specs.declared.refusal.Refusal.{Refusal}
 use Rattle.krb_walk.specs.declared.event.Event.TheVariants.{Cut}
 use Rattle.krb_walk.specs.Store.{end_of, live_bytes as store_bytes, IsPlace}
@@ -8,14 +7,12 @@ use Rattle.krb_walk.specs.Changes.{OneCell, Puts, Cuts, Changes}
 use Rattle.krb_walk.specs.Events.{SessionState, cut_reply, cut_store}
 use Rattle.krb_walk.specs.History.{IsReady, AllLawful, history, replies, state_after}
 use Rattle.krb_walk.proofs.Runs.{ran_of}
-use Rattle.krb_keytab.specs.Rewrite.{keytab_rules}
 use Rattle.krb_keytab.specs.Laws.{AreRuns}
 use Rattle.krb_walk.specs.Rules.{PutGives, CutGives}
 use Rattle.krb_keytab.proofs.AfterChanges.{added_reads, put_gives, cut_gives, removed_none}
 use Rattle.krb_keytab.proofs.Cuts.{store_sound}
 use Rattle.krb_keytab.proofs.ImageChanges.{padded_len}
 use Rattle.krb_keytab.proofs.Replacements.{IsAt, live_is_at, hole_is_at, replaced_cells}
-use Rattle.krb_walk.proofs.Splits.{whole_of}
 
 -- replacing one cell changes one cell of the store
 replaced_cell : (k : KeytabState) (change : Cell → Cell) (p : ℕ) (c : Cell) → IsAt k.contents.cells 2 p c
@@ -46,18 +43,14 @@ cuts_at k p b whole held =
     }
 
 pub removal_cuts : (k new : KeytabState) (p : ℕ) (result : Result (Unit {0}) Code) → CutGives (cut_result k p) k result new → OnOk result (Cuts (store_of k) (store_of new) p)
-removal_cuts k new p (Ok done) a =
-    let c = cut_gives k p new a in
-    subst (λ (x : KeytabState). Cuts (store_of k) (store_of x) p) c.gives (cuts_at k p c.bytes (whole_of _ _ c.whole) c.held)
-removal_cuts k new p (Err refused) a = tt
+removal_cuts k new p result a = search (arith, cut_gives, cuts_at, whole_of)
 
 -- it keeps places
 pub place_stays : (k new : KeytabState) (p q : ℕ) → cut_result k p ≡ Ok new → IsPlace (store_of k) q → IsPlace (store_of new) q
 place_stays k new p q cut at = place_kept (store_of k) (store_of new) q (cuts-extends (store_of k) (store_of new) p (removal_cuts k new p (Ok tt) cut)) at
 
 pub removal_gone : (k new : KeytabState) (p : ℕ) (result : Result (Unit {0}) Code) → CutGives (cut_result k p) k result new → OnOk result (store_bytes (store_of new) p ≡ None)
-removal_gone k new p (Ok done) a = removed_none k p new a
-removal_gone k new p (Err refused) a = tt
+removal_gone k new p result a = search (arith, removed_none)
 
 cut_lawful : (k : KeytabState) (p : ℕ) (given : Result KeytabState Code) → cut_result k p ≡ given → Changes (cut_reply p given) (store_of k) (store_of (cut_store k given))
 cut_lawful k p (Ok new) cut = removal_cuts k new p (Ok tt) cut
@@ -110,9 +103,7 @@ appends_at k x whole still = record {
 
 -- an end without a fault has none after one more record
 still_whole : (e : End) → kind_of e ≡ None → kind_of (end_after e) ≡ None
-still_whole Bare h = refl
-still_whole (Mark rest) h = refl
-still_whole (Damaged kind rest) h = h
+still_whole e h = search arith
 
 pub addition_puts : (k new : KeytabState) (e : EntryParts) (result : Result ℕ Refusal) → PutGives (put_result k e) k result new → IfOk result (Puts (store_of k) (store_of new))
 addition_puts k new e (Ok p) a =
@@ -132,5 +123,4 @@ pub placed_read : (k new : KeytabState) (e : EntryParts) (p : ℕ) → IsEntry e
 placed_read k new e p is put = added_reads k e (p, new) is put
 
 pub addition_read : (k new : KeytabState) (e : EntryParts) (result : Result ℕ Refusal) → IsEntry e → PutGives (put_result k e) k result new → IfOk result (λ p. entry_at_place new p ≡ Some (read_back k.format e))
-addition_read k new e (Ok p) is a = placed_read k new e p is a
-addition_read k new e (Err refusal) is a = tt
+addition_read k new e result is a = search (arith, placed_read)

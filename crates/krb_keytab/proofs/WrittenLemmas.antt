@@ -1,5 +1,5 @@
 -- What is written for an entry: whether it fits, how long it is, its parts, and that it is read back.
-use Rattle.krb_keytab.proofs.Cited.{◌≡◌, ℕ, ◌+◌, ◌%◌, ◌^◌, ◌<◌, ◌≤◌, Bool, true, false, List, ◌∷◌, ◌++◌, length, replicate, Some, refl, sym, ap, ◌∙◌, append_assoc, length-append, arith, inl, inr, ◌&&◌, is_some, w16, w32, ltb-true, lt-ltb, eqb_tells, Order, KtFormat, V1, V2, digits, data16, order_of, kt_principal, IsShort, is_short, name_fits, HasNameType, some_is, wide16, wide32, number_again, EntryParts, front, version_by, Spells, fits, front_of, written_form, kept_type, read_back, IsEntry, IsRecord, and_both, both_and}
+use Rattle.krb_keytab.proofs.Cited.{◌≡◌, ℕ, ◌+◌, ◌%◌, ◌^◌, ◌<◌, ◌≤◌, Bool, true, false, List, ◌++◌, length, replicate, Some, sym, ap, ◌∙◌, append_assoc, length-append, arith, ◌&&◌, is_some, w32, ltb-true, lt-ltb, KtFormat, digits, order_of, kt_principal, IsShort, is_short, name_fits, HasNameType, some_is, wide16, wide32, number_again, EntryParts, front, version_by, Spells, fits, front_of, written_form, kept_type, read_back, IsEntry, IsRecord, and_both, both_and, nat_tests}
 use Rattle.krb_keytab.proofs.EntryLemmas.{entry_again}
 
 -- ---- what fits
@@ -7,7 +7,7 @@ use Rattle.krb_keytab.proofs.EntryLemmas.{entry_again}
 pub name_of_entry_fits : (f : KtFormat) (e : EntryParts) → fits f e ≡ true → name_fits f e.principal ≡ true
 name_of_entry_fits f e h = (and_both (name_fits f e.principal) (is_short e.key) h).0
 
-pub key_of_entry_fits : (f : KtFormat) (e : EntryParts) → fits f e ≡ true → IsShort e.key
+key_of_entry_fits : (f : KtFormat) (e : EntryParts) → fits f e ≡ true → IsShort e.key
 key_of_entry_fits f e h = ltb-true (length e.key) (2 ^ 16) (and_both (name_fits f e.principal) (is_short e.key) h).1
 
 pub fits_no : (f : KtFormat) (e : EntryParts) → false ≡ name_fits f e.principal → false ≡ fits f e
@@ -18,33 +18,19 @@ fits_yes f e h le = sym (both_and (name_fits f e.principal) (is_short e.key) h (
 
 -- ---- how long it is
 
-data16_len : (o : Order) (c : List ℕ) → length (data16 o c) ≡ 2 + length c
-data16_len o c = omega (arith, length-append (digits o w16 (length c)) c, (wide16 o).len (length c))
-
 pub written_len : (f : KtFormat) (e : EntryParts) → length (written_form f e) ≡ length (kt_principal f e.principal) + 13 + length e.key
-written_len f e =
-    let o = order_of f in
-    let d1 = digits o w32 e.timestamp in
-    let d3 = digits o w16 e.enctype in
-    let d4 = data16 o e.key in
-    let d5 = digits o w32 e.version in
-    omega (arith, length-append (front f (front_of e)) d5, length-append (kt_principal f e.principal) (d1 ++ ((e.version % 256) ∷ (d3 ++ d4))), length-append d1 ((e.version % 256) ∷ (d3 ++ d4)), length-append d3 d4, data16_len o e.key, (wide32 o).len e.timestamp, (wide16 o).len e.enctype, (wide32 o).len e.version)
+written_len f e = search (arith, length-append, wide32, wide16)
 
 -- ---- that it is read again
 
 same_front : (f : KtFormat) (e : EntryParts) → front f (front_of e) ≡ front f (front_of (read_back f e))
-same_front (V1 o) e = refl
-same_front V2 e = refl
+same_front f e = search arith
 
 kept_fits : (f : KtFormat) (t : ℕ) → t < 2 ^ 32 → HasNameType f (kept_type f t)
-kept_fits (V1 o) t lt = refl
-kept_fits V2 t lt = lt
+kept_fits f t lt = search arith
 
 version_back : (v : ℕ) (rest : List ℕ) → version_by (v % 256) (Some (v, rest)) ≡ v
-version_back v rest = elim (eqb_tells v 0) [
-  | inl y ↦ let yes = y.0 in rw yes (let zero_is : v ≡ 0 = y.1 in rw zero_is refl)
-  | inr n ↦ let no = n.0 in rw no refl
-]
+version_back v rest = grind (arith, nat_tests)
 
 pub written_spells : (f : KtFormat) (e : EntryParts) (n : ℕ) → fits f e ≡ true → IsEntry e → Spells f (read_back f e) (written_form f e ++ replicate n 0)
 written_spells f e n fit is =

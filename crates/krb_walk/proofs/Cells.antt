@@ -27,18 +27,9 @@ rows_of_next n (Some r) = record { event = n; stood = r } ∷ []
 pub stop_skips : (at c w : ℕ) (live : Option (List ℕ)) (cells : List Cell) → (nat_le c at && is_some live) ≡ false → stop_from at (record { width = w; live = live } ∷ cells) c ≡ stop_from (at + w) cells c
 stop_skips at c w live cells e = ap (stop_cursor (end_from (at + w) cells)) (next_skips at c w live cells e)
 
-stop_from-ge_cons : (at c w : ℕ) (live : Option (List ℕ)) (b : Bool) (cells : List Cell) → (nat_le c at) ≡ b → at + w ≤ stop_from (at + w) cells c → at ≤ stop_from at (record { width = w; live = live } ∷ cells) c
-stop_from-ge_cons at c w None b cells e ih =
-    let skip : (nat_le c at && false) ≡ false = grind (arith, nat_tests) in
-    omega (arith, stop_skips at c w None cells skip)
-stop_from-ge_cons at c w (Some bytes) true cells e ih = omega (arith, ap (stop_cursor (end_from (at + w) cells)) (next_stops at c w bytes cells (leb-true c at e)))
-stop_from-ge_cons at c w (Some bytes) false cells e ih =
-    let skip : (nat_le c at && true) ≡ false = grind (arith, nat_tests) in
-    omega (arith, stop_skips at c w (Some bytes) cells skip)
-
-pub stop_from-ge : (at c : ℕ) (cells : List Cell) → at ≤ stop_from at cells c
+stop_from-ge : (at c : ℕ) (cells : List Cell) → at ≤ stop_from at cells c
 stop_from-ge at c [] = omega arith
-stop_from-ge at c (x ∷ cells) = stop_from-ge_cons at c x.width x.live (nat_le c at) cells refl (stop_from-ge (at + x.width) c cells)
+stop_from-ge at c (x ∷ cells) = grind (arith, nat_tests, stop_from-ge (at + x.width) c cells)
 
 -- functions that agree from a place on give the same rows there
 pub same_from : (f g : ℕ → Option Row) (at : ℕ) (ws : List ℕ) → ((p : ℕ) → at ≤ p → f p ≡ g p) → filter_map f (spots at ws) ≡ filter_map g (spots at ws)
@@ -102,8 +93,7 @@ pub record StopsLive (s : Store) (c p n : ℕ) : Type 0 where
   pub is_there : live_bytes s p ≡ Some bytes
 
 live_no_end : (p n end : ℕ) (fault : Option FaultKind) → Live p n ≡ end_stop end fault → ⊥
-live_no_end p n end None e = cc
-live_no_end p n end (Some kind) e = cc
+live_no_end p n end fault e = search arith
 
 stops_live_of : (s : Store) (c p n : ℕ) (found : Option Record) → IsSound s → next_live s c ≡ found → Live p n ≡ stop_of s found → StopsLive s c p n
 stops_live_of s c p n None sound is e = absurd (live_no_end p n (end_of s) s.fault e)
@@ -122,6 +112,4 @@ stops_live s c p n sound e = stops_live_of s c p n (next_live s c) sound refl e
 
 -- the reply to a step with that stop
 pub gave_reply : (s : Store) (w c p n : ℕ) (items : List ℕ) → StopsLive s c p n → live_bytes s p ≡ Some items → Gave w p n items ≡ stop_reply s w (next_live s c)
-gave_reply s w c p n items live here =
-    let same : items ≡ live.bytes = cc (here, live.is_there) in
-    ap (Gave w p n) same ∙ sym (ap (stop_reply s w) live.next)
+gave_reply s w c p n items live here = search arith

@@ -7,10 +7,10 @@ pub use Rattle.std.specs.List.{AllByRecursion, filter_map, list_any, find, drop-
 pub use Rattle.std.specs.Option.{option_to_list, option_or, option_map}
 pub use Rattle.std.specs.Prelude.{◌==◌, ◌&&◌, nat_lt, nat_le, ◌⊎◌, slice_get, filter, is_some, ◌||◌, IsSomeAnd, IsSome, IfOk, OnErr, slice_set, OnOk, insert, remove}
 pub use Rattle.krb_walk.specs.Changes.{Changes, Puts, Cuts, Appends, Fills, OneCell}
-pub use Rattle.krb_walk.specs.Fair.{CursorIsSound, KeepsSide, CursorMayGo}
+pub use Rattle.krb_walk.specs.Fair.{CursorIsSound, KeepsSide, CursorMayGo, IsFair, additions}
 pub use Rattle.krb_walk.specs.Due.{rows_at_event, row_of, given_over, due_over, due_by_steps, turn, due_at_event, rows_between, row_at_turn}
 pub use Rattle.krb_walk.specs.Events.{stop_cursor, SessionState, after, reply_to, session_of, stop_reply, cursors_after, step_cursors, rewrite_reply, store_after, cut_reply, end_reply, cut_store, rewrite_cursors, put_reply, step_reply, put_store}
-pub use Rattle.krb_walk.specs.History.{IsReady, Row, state_after, history, AllLawful, IsLawful, moment, rows_of_reply, AllPlain, Moment, replies, given, given_from, steps_walk}
+pub use Rattle.krb_walk.specs.History.{IsReady, Row, state_after, history, AllLawful, IsLawful, moment, rows_of_reply, AllPlain, Moment, replies, given, given_from, steps_walk, IsKept, place_after}
 pub use Rattle.krb_walk.specs.Ran.{Ran}
 pub use Rattle.krb_walk.specs.Ranks.{live_places, rank, carry, nth_or, Rewrites}
 pub use Rattle.krb_walk.specs.Records.{place_among, is_name, passes_record, rows_at, place_of, HasTurn, turn_of, goes_past_some, rows_of, OneRow, rows_here, rows_at_some, EachComesAsDue, place_at_first, ComeInTurn, IsNamed, begins, IsAliveUntilDone, IsAddedAt, IsCutBefore}
@@ -23,3 +23,8 @@ pub use Rattle.krb_walk.specs.declared.event.Event.{Event}
 pub use Rattle.krb_walk.specs.declared.event.Event.TheVariants.{Step, Resume, Start, Rewrite, Put, Cut}
 pub use Rattle.krb_walk.specs.declared.fault.FaultKind.{FaultKind}
 pub use Rattle.krb_walk.specs.declared.refusal.Code.{Code}
+pub use Rattle.krb_walk.specs.Damage.{GiveToFault, RefusesChange, RefusesChanges, as_walk, gave, step_replies}
+pub use Rattle.krb_walk.specs.Joins.{IsThereOrResumes, Join, Next, joined, track_then}
+pub use Rattle.krb_wire.proofs.Lists.{all_back, all_front, all_join}
+pub use Rattle.std.proofs.Math.Seq.{drop-append-add, drop-append_seam, take-append_seam, take-set-lt}
+pub use Rattle.std.proofs.lemmas.Grind.{flat_map-append}

@@ -1,6 +1,5 @@
 -- The laws of records, over rewrites too.
-use Rattle.krb_walk.proofs.Cited.{◌≡◌, ℕ, suc, ◌+◌, ◌<◌, ◌≤◌, Bool, true, false, cond, List, [], ◌∷◌, ◌++◌, length, take, drop, Option, Some, None, inl, inr, refl, sym, ap, ◌∙◌, subst, arith, ◌&&◌, ◌||◌, ◌==◌, ◌⊎◌, nat_le, nat_lt, IsSome, AllByRecursion, list_any, nat_tests, length-append, Store, end_of, IsSound, live_places, Puts, Cuts, Changes, ReplyContent, Placed, Gone, completes, is_step_reply, is_rewritten, Row, rows_of_reply, RecordName, WalkEvent, Track, first_names, names_after, IsWalkEvent, IsTrack, IsWalk, rows_at_event, rows_at, OneRow, begins, is_name, place_among, place_of, place_at_first, rows_at_some, rows_here, rows_of, passes_record, turn_of, HasTurn, IsAliveUntilDone, IsCutBefore, IsAddedAt, EachComesAsDue}
-use Rattle.std.proofs.lemmas.Grind.{flat_map-append}
+use Rattle.krb_walk.proofs.Cited.{◌≡◌, ℕ, suc, ◌+◌, ◌<◌, ◌≤◌, Bool, true, false, cond, List, [], ◌∷◌, ◌++◌, length, take, drop, Option, Some, None, inl, inr, refl, sym, ap, ◌∙◌, subst, arith, ◌&&◌, ◌==◌, ◌⊎◌, nat_le, nat_lt, IsSome, AllByRecursion, list_any, nat_tests, length-append, Store, end_of, IsSound, live_places, Puts, Cuts, Changes, ReplyContent, Placed, Gone, completes, is_step_reply, is_rewritten, Row, rows_of_reply, RecordName, WalkEvent, Track, first_names, names_after, IsWalkEvent, IsTrack, IsWalk, rows_at_event, OneRow, begins, is_name, place_among, place_of, place_at_first, rows_at_some, rows_here, rows_of, passes_record, turn_of, HasTurn, IsAliveUntilDone, IsCutBefore, IsAddedAt, EachComesAsDue, flat_map-append}
 use Rattle.krb_walk.proofs.Lives.{lives_lt, puts_insert, cuts_insert}
 use Rattle.krb_walk.proofs.Names.{any_lt, apart}
 use Rattle.krb_walk.proofs.WalkEvents.{end_of_step, effect_of, ends_of, completes_stepped, carry_by-same, carry_by-own}
@@ -16,35 +15,20 @@ empty_by [] row le = refl
 empty_by (x ∷ rows) row le = absurd (omega (arith, length-append rows (row ∷ [])))
 
 one_of_rest : (r : RecordName) (t u : Track) → length (rows_of r (t ++ u)) ≤ 1 → OneRow (rows_of r u) → OneRow (rows_of r (t ++ u))
-one_of_rest r t u le one =
-    let split : rows_of r (t ++ u) ≡ rows_of r t ++ one.row ∷ [] = flat_map-append (rows_here r) t u ∙ ap (λ (rows : List Row). rows_of r t ++ rows) one.only in
-    let none = empty_by (rows_of r t) one.row (omega (arith, ap length split)) in
-    record { row = one.row; only = split ∙ ap (λ (rows : List Row). rows ++ one.row ∷ []) none }
+one_of_rest r t u le one = search (arith, flat_map-append, empty_by)
 
 -- ---- alive until the walk is done
 record HasPlace (o : Option ℕ) : Type 0 where
   at : ℕ
   is : o ≡ Some at
 
-place_in : (o : Option ℕ) → IsSome o → HasPlace o
-place_in (Some p) h = record { at = p; is = refl }
-place_in None h = cc
-
 place_next : (r : RecordName) (n : ℕ) (s : Store) (names : List RecordName) (c : Option ℕ) (steps : Track) (done : WalkEvent) (later : Track) (last : Store) → IsTrack n s names c (steps ++ done ∷ later) last
     → AllByRecursion (λ x. IsSome (place_of r x)) steps → IsSome (place_of r done) → HasPlace (place_among r names (live_places s))
-place_next r n s names c [] done later last h all some = let at = place_in (place_of r done) some in record { at = at.at; is = sym (place_here r n s names c done h.0) ∙ at.is }
-place_next r n s names c (x ∷ steps) done later last h all some = let at = place_in (place_of r x) all.0 in record { at = at.at; is = sym (place_here r n s names c x h.0) ∙ at.is }
+place_next r n s names c [] done later last h all some = grind (arith, nat_tests)
+place_next r n s names c (x ∷ steps) done later last h all some = grind (arith, nat_tests)
 
 ahead_on : (was is : Option ℕ) (c d p : ℕ) → (is ≡ None) ⊎ Still was is c d → was ≡ Some p → c ≤ p → HasPlace is → (q : ℕ) → is ≡ Some q → d ≤ q
-ahead_on was is c d p h at le is_there q e = elim h [
-  | inl none ↦ cc (none, e)
-  | inr still ↦ (
-      let same_p : still.p ≡ p = cc (still.was_at, at) in
-      let same_q : still.q ≡ q = cc (still.is_at, e) in
-      let lt : c ≤ still.p = omega arith in
-      let on = still.side.on lt in
-      omega arith)
-]
+ahead_on was is c d p h at le is_there q e = search arith
 
 has_now : (r : RecordName) (x : WalkEvent) (xs : Track) → passes_record r x ≡ true → HasTurn r (x ∷ xs)
 has_now r x xs e = record { at = x; is = turn_first r x xs e; alive = passes_alive r x e }
@@ -85,24 +69,13 @@ done_has r n s names c (x ∷ steps) done later last start p h k at is le all so
     (λ next q to there near. done_has r (suc n) x.after _ x.to steps done later last next q h.1 (keeps_next n s names c x h.0 k) to there near all.1 some completed)
 
 begins_is : (n : ℕ) (s : Store) (names : List RecordName) (c : Option ℕ) (u : Track) (last : Store) (d : ℕ) → IsTrack n s names c u last → begins u ≡ Some d → c ≡ Some d
-begins_is n s names c [] last d h is = cc
-begins_is n s names c (y ∷ ys) last d h is = sym h.0.from ∙ is
+begins_is n s names c u last d h is = search arith
 
 first_is : (r : RecordName) (n : ℕ) (s : Store) (names : List RecordName) (c : Option ℕ) (u : Track) (last : Store) (p : ℕ) → IsTrack n s names c u last → place_at_first r u ≡ Some p → place_among r names (live_places s) ≡ Some p
-first_is r n s names c [] last p h is = cc
-first_is r n s names c (y ∷ ys) last p h is = sym (place_here r n s names c y h.0) ∙ is
+first_is r n s names c u last p h is = grind (arith, nat_tests)
 
 throughout_once : (r : RecordName) (n : ℕ) (s : Store) (names : List RecordName) (c : Option ℕ) (t : Track) (last : Store) → IsTrack n s names c t last → Keeps n s names → IsAliveUntilDone r t → OneRow (rows_of r t)
-throughout_once r n s names c t last h k a =
-    let on = a.steps ++ a.done ∷ a.later in
-    let whole : IsTrack n s names c (a.earlier ++ on) last = subst (λ (z : Track). IsTrack n s names c z last) a.track_is h in
-    let rest = track_rest n s names c a.earlier on last whole in
-    let kept = keeps_rest n s names c a.earlier on last whole k in
-    let at = begins_is _ _ _ _ on last a.start rest a.began in
-    let stood = first_is r _ _ _ _ on last a.place rest a.stood in
-    let has = done_has r _ _ _ _ a.steps a.done a.later last a.start a.place rest kept at stood a.ahead a.alive a.alive_last a.completed in
-    let one = row_if_turn r on (comes r _ _ _ _ on last rest kept) has in
-    subst (λ (z : Track). OneRow (rows_of r z)) (sym a.track_is) (one_of_rest r a.earlier on (at_most_one r (a.earlier ++ on) (comes r n s names c (a.earlier ++ on) last whole k)) one)
+throughout_once r n s names c t last h k a = search (arith, track_rest, keeps_rest, begins_is, first_is, done_has, row_if_turn, comes, one_of_rest, at_most_one)
 
 -- ---- cut before a step passed it
 dead_none : (r : RecordName) (n : ℕ) (s : Store) (names : List RecordName) (c : Option ℕ) (t : Track) (last : Store) → IsTrack n s names c t last → Keeps n s names → r.birth < n → place_among r names (live_places s) ≡ None → turn_of r t ≡ None
@@ -130,47 +103,20 @@ cut_none r n p old new names sound cuts k is =
     ])
 
 cut_never : (r : RecordName) (n : ℕ) (s : Store) (names : List RecordName) (c : Option ℕ) (t : Track) (last : Store) → IsTrack n s names c t last → Keeps n s names → IsCutBefore r t → rows_of r t ≡ []
-cut_never r n s names c t last h k a =
-    let x = a.cut in
-    let whole : IsTrack n s names c (a.earlier ++ x ∷ a.later) last = subst (λ (z : Track). IsTrack n s names c z last) a.track_is h in
-    let rest = track_rest n s names c a.earlier (x ∷ a.later) last whole in
-    let kept = keeps_rest n s names c a.earlier (x ∷ a.later) last whole k in
-    let kx = keeps_here _ _ _ _ x rest.0 kept in
-    let kn = keeps_next _ _ _ _ x rest.0 kept in
-    let cuts : Cuts x.before x.after a.place = subst (λ (content : ReplyContent). Changes content x.before x.after) a.gone rest.0.changes in
-    let dead : place_among r (names_after x.number x.reply x.before x.after x.names) (live_places x.after) ≡ None =
-    ap (λ (content : ReplyContent). place_among r (names_after x.number content x.before x.after x.names) (live_places x.after)) a.gone ∙ cut_none r x.number a.place x.before x.after x.names rest.0.sound cuts kx a.stood in
-    let born : r.birth < suc (n + length a.earlier) = omega (arith, among_born x.number r x.names (live_places x.before) a.place kx.born a.stood, rest.0.number) in
-    let none = dead_none r _ x.after _ x.to a.later last rest.1 kn born dead in
-    let later : rows_of r a.later ≡ [] = none_if r a.later (comes r _ x.after _ x.to a.later last rest.1 kn) none in
-    let pre = a.earlier ++ x ∷ [] in
-    let joined : IsTrack n s names c (pre ++ a.later) last = subst (λ (z : Track). IsTrack n s names c z last) (sym (split_at a.earlier x a.later)) whole in
-    let front = track_front n s names c pre a.later last joined in
-    let first : rows_of r pre ≡ [] = none_if r pre (comes r n s names c pre _ front k) a.no_turn in
-    ap (rows_of r) (a.track_is ∙ sym (split_at a.earlier x a.later)) ∙ flat_map-append (rows_here r) pre a.later ∙ ap (λ (rows : List Row). rows ++ rows_of r a.later) first ∙ later
+cut_never r n s names c t last h k a = search (arith, track_rest, keeps_rest, keeps_here, keeps_next, cut_none, among_born, dead_none, none_if, comes, split_at, track_front, flat_map-append)
 
 -- ---- added on the way
 early_none : (r : RecordName) (n : ℕ) (s : Store) (names : List RecordName) (c : Option ℕ) (t : Track) (last : Store) → IsTrack n s names c t last → Keeps n s names → n + length t ≤ r.birth → turn_of r t ≡ None
 early_none r n s names c [] last h k le = refl
-early_none r n s names c (x ∷ t) last h k le =
-    let kx = keeps_here n s names c x h.0 k in
-    turn_later r x t (passes_none r x (among_none r x.names (live_places x.before) (unborn x.number r x.names kx.born (omega (arith, h.0.number)))))
-    ∙ early_none r (suc n) x.after _ x.to t last h.1 (keeps_next n s names c x h.0 k) (omega arith)
+early_none r n s names c (x ∷ t) last h k le = search (arith, keeps_here, turn_later, passes_none, among_none, unborn, keeps_next, early_none r (suc n) x.after _ x.to t last h.1 (keeps_next n s names c x h.0 k) (omega arith))
 
 self_by : (r nm : RecordName) (b d : Bool) → (r.place == nm.place) ≡ b → (r.birth == nm.birth) ≡ d → r.place ≡ nm.place → r.birth ≡ nm.birth → is_name r nm ≡ true
-self_by r nm true true e f p q = rw (e, f) refl
-self_by r nm true false e f p q = let yes_it : (r.birth == nm.birth) ≡ true = grind (arith, nat_tests) in cc (f, yes_it)
-self_by r nm false d e f p q = let yes_it : (r.place == nm.place) ≡ true = grind (arith, nat_tests) in cc (e, yes_it)
-
-among_self_cons : (r x : RecordName) (p q : ℕ) (b : Bool) (rest : Option ℕ) (others : List RecordName) → is_name r x ≡ b → list_any (is_name r) (x ∷ others) ≡ false → (list_any (is_name r) others ≡ false → rest ≡ Some p) → cond b (Some q) rest ≡ Some p
-among_self_cons r x p q true rest others e h ih = cc (ap (λ (d : Bool). d || list_any (is_name r) others) e, h)
-among_self_cons r x p q false rest others e h ih = ih (sym (ap (λ (d : Bool). d || list_any (is_name r) others) e) ∙ h)
+self_by r nm b d e f p q = search arith
 
 among_self : (r nm : RecordName) (p : ℕ) (front back : List ℕ) (names : List RecordName) → is_name r nm ≡ true → list_any (is_name r) names ≡ false → length names ≡ length (front ++ back) → place_among r (take (length front) names ++ nm ∷ drop (length front) names) (front ++ p ∷ back) ≡ Some p
 among_self r nm p [] back names own new e = ap (λ (b : Bool). cond b (Some p) (place_among r names back)) own
 among_self r nm p (q ∷ front) back [] own new e = absurd (omega (arith, e))
-among_self r nm p (q ∷ front) back (x ∷ names) own new e =
-    among_self_cons r x p q (is_name r x) _ names refl new (λ rest. among_self r nm p front back names own rest (let s : length names ≡ length (front ++ back) = omega (arith, e) in s))
+among_self r nm p (q ∷ front) back (x ∷ names) own new e = search (arith, among_self r nm p front back names own)
 
 put_is_at : (r : RecordName) (n : ℕ) (old new : Store) (names : List RecordName) → IsSound old → Puts old new r.place → Keeps n old names → r.birth ≡ n → place_among r (names_after n (Placed r.place) old new names) (live_places new) ≡ Some r.place
 put_is_at r n old new names sound puts k born =
@@ -183,8 +129,7 @@ not_step : (w : ℕ) (content : ReplyContent) (p : ℕ) → content ≡ Placed p
 not_step w content p e = (ap (is_step_reply w) e, ap is_rewritten e)
 
 some_empty : (o : Option ℕ) (rows : List Row) → rows ≡ [] → rows_at_some o rows ≡ []
-some_empty None rows e = refl
-some_empty (Some p) rows e = ap (rows_at p) e
+some_empty o rows e = search arith
 
 behind_never : (r : RecordName) (at n : ℕ) (s : Store) (names : List RecordName) (c : Option ℕ) (t : Track) (last : Store) → IsTrack n s names c t last → Keeps n s names → (a : IsAddedAt r at t) → r.place < at → rows_of r t ≡ []
 behind_never r at n s names c t last h k a lt =

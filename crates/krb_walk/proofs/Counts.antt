@@ -1,48 +1,30 @@
 -- How many steps give a record, and that each row is of a record that is alive.
-use Rattle.krb_walk.proofs.Cited.{◌≡◌, ℕ, suc, ◌+◌, ◌<◌, ◌≤◌, Bool, true, false, cond, List, [], ◌∷◌, ◌++◌, length, map, Option, Some, None, inl, inr, refl, sym, ap, ◌∙◌, subst, arith, ◌==◌, nat_le, nat_lt, filter, AllByRecursion, list_any, length-append, nat_tests, Store, Record, end_of, IsSound, records, next_live, Changes, ReplyContent, Placed, Gone, Rewritten, is_placed, stop_cursor, Row, live_places, carry, RecordName, WalkEvent, Track, carry_by, IsTrack, rows_at_event, given_over, is_name, place_among, IsNamed, records_from}
-use Rattle.krb_walk.specs.Fair.{additions}
+use Rattle.krb_walk.proofs.Cited.{◌≡◌, ℕ, suc, ◌+◌, ◌<◌, ◌≤◌, Bool, true, false, cond, List, [], ◌∷◌, ◌++◌, length, map, Option, Some, None, inl, inr, refl, sym, ap, ◌∙◌, subst, arith, ◌==◌, nat_le, filter, AllByRecursion, list_any, length-append, nat_tests, Store, Record, end_of, IsSound, records, next_live, Changes, ReplyContent, Placed, Gone, Rewritten, is_placed, stop_cursor, Row, live_places, carry, RecordName, WalkEvent, Track, carry_by, IsTrack, rows_at_event, given_over, is_name, place_among, IsNamed, records_from, additions}
 use Rattle.krb_walk.proofs.Stops.{stops_give_records}
 use Rattle.krb_walk.proofs.Cells.{rows_of_next}
-use Rattle.krb_walk.proofs.Places.{or_cases, or_true}
+use Rattle.krb_walk.proofs.Places.{or_cases}
 use Rattle.krb_walk.proofs.WalkEvents.{end_of_step, effect_of, carry_by-own}
 use Rattle.krb_walk.proofs.Lives.{lives_lt, puts_insert, cuts_insert}
-use Rattle.krb_walk.proofs.Names.{or_left}
 use Rattle.krb_walk.proofs.Carries.{below, carry_keeps_rank}
 use Rattle.krb_walk.proofs.Ranked.{AreDistinct, Keeps, among_none, same_name_is}
 use Rattle.krb_walk.proofs.Comes.{keeps_here, keeps_next}
 
 -- counts of places at or after a cursor
-less_more : (b : Bool) (k x : ℕ) (xs ys : List ℕ) → length xs ≤ length ys + k → length (cond b (x ∷ xs) xs) ≤ length (cond b (x ∷ ys) ys) + k
-less_more true k x xs ys h = omega arith
-less_more false k x xs ys h = h
-
-one_more : (b : Bool) (x : ℕ) (xs : List ℕ) → length (cond b (x ∷ xs) xs) ≤ length xs + 1
-one_more true x xs = omega arith
-one_more false x xs = omega arith
-
-no_less : (b : Bool) (x : ℕ) (xs : List ℕ) → length xs ≤ length (cond b (x ∷ xs) xs) + 0
-no_less true x xs = omega arith
-no_less false x xs = omega arith
-
 count_in : (f : ℕ → Bool) (front back : List ℕ) (p : ℕ) → length (filter f (front ++ p ∷ back)) ≤ length (filter f (front ++ back)) + 1
-count_in f [] back p = one_more (f p) p (filter f back)
-count_in f (x ∷ front) back p = less_more (f x) 1 x (filter f (front ++ p ∷ back)) (filter f (front ++ back)) (count_in f front back p)
+count_in f [] back p = search arith
+count_in f (x ∷ front) back p = search (arith, count_in f front back p)
 
 count_out : (f : ℕ → Bool) (front back : List ℕ) (p : ℕ) → length (filter f (front ++ back)) ≤ length (filter f (front ++ p ∷ back)) + 0
-count_out f [] back p = no_less (f p) p (filter f back)
-count_out f (x ∷ front) back p = less_more (f x) 0 x (filter f (front ++ back)) (filter f (front ++ p ∷ back)) (count_out f front back p)
+count_out f [] back p = search arith
+count_out f (x ∷ front) back p = search (arith, count_out f front back p)
 
 -- the number of places at or after c
 abbrev ahead_of : ℕ → List ℕ → ℕ
 ahead_of c ps = length (filter (λ p. nat_le c p) ps)
 
-ahead_cons : (b : Bool) (r : Record) (rs : List Record) (p : ℕ) (ps : List ℕ) → length rs ≡ length ps → length (cond b (r ∷ rs) rs) ≡ length (cond b (p ∷ ps) ps)
-ahead_cons true r rs p ps e = ap suc e
-ahead_cons false r rs p ps e = e
-
 ahead_places : (c : ℕ) (rs : List Record) → length (filter (λ r. nat_le c r.place) rs) ≡ ahead_of c (map (λ r. r.place) rs)
 ahead_places c [] = refl
-ahead_places c (r ∷ rs) = ahead_cons (nat_le c r.place) r (filter (λ x. nat_le c x.place) rs) r.place (filter (λ p. nat_le c p) (map (λ x. x.place) rs)) (ahead_places c rs)
+ahead_places c (r ∷ rs) = search (arith, ahead_places c rs)
 
 -- no record is left at the end
 left_none : (e : ℕ) (rs : List Record) → AllByRecursion (λ q. q < e) (map (λ r. r.place) rs) → filter (λ r. nat_le e r.place) rs ≡ []
@@ -54,22 +36,15 @@ none_at_end s sound = left_none (end_of s) (records s) (lives_lt s.first s.cells
 
 -- a step gives the first record left
 go_count : (n : ℕ) (s : Store) (c : ℕ) (found : Option Record) → IsSound s → next_live s c ≡ found → length (rows_of_next n found) + length (records_from s (stop_cursor (end_of s) found)) ≤ length (records_from s c)
-go_count n s c None sound is = omega (arith, ap length (none_at_end s sound))
-go_count n s c (Some r) sound is = omega (arith, ap length (stops_give_records s c r sound is).first)
+go_count n s c found sound is = search (arith, none_at_end, stops_give_records)
 
 -- 1 if a reply accepts an addition, or else 0
 abbrev added : ReplyContent → ℕ
 added content = cond (is_placed content) 1 0
 
-ahead_below_by : (a b : Bool) (p : ℕ) (xs ys : List ℕ) (n : ℕ) → (a ≡ true → b ≡ false) → (a ≡ false → b ≡ true) → length xs + length ys ≡ n → length (cond a (p ∷ xs) xs) + length (cond b (p ∷ ys) ys) ≡ suc n
-ahead_below_by true true p xs ys n h k e = cc (h refl)
-ahead_below_by true false p xs ys n h k e = omega (arith, e)
-ahead_below_by false true p xs ys n h k e = omega (arith, e)
-ahead_below_by false false p xs ys n h k e = cc (k refl)
-
 ahead_below : (c : ℕ) (ps : List ℕ) → ahead_of c ps + below c ps ≡ length ps
 ahead_below c [] = refl
-ahead_below c (p ∷ ps) = ahead_below_by (nat_le c p) (nat_lt p c) p (filter (λ q. nat_le c q) ps) (filter (λ q. nat_lt q c) ps) (length ps) (λ e. grind (arith, nat_tests)) (λ e. grind (arith, nat_tests)) (ahead_below c ps)
+ahead_below c (p ∷ ps) = search (arith, ahead_below c ps)
 
 shift_count : (content : ReplyContent) (old new : Store) (c : ℕ) → IsSound old → Changes content old new → length (records_from new (carry_by content old new c)) ≤ length (records_from old c) + added content
 shift_count (Placed p) old new c sound h = let i = puts_insert old new p sound h in omega (arith, count_in (λ q. nat_le c q) i.front i.back p, ap (ahead_of c) i.lo_is, ap (ahead_of c) i.hi_is, ahead_places c (records old), ahead_places c (records new))
@@ -79,8 +54,7 @@ shift_count (Rewritten p) old new c sound h =
 shift_count content old new c sound h = omega (arith, ap (λ (s : Store). length (records_from s c)) h)
 
 additions_cons : (x : WalkEvent) (xs : Track) (b : Bool) → is_placed x.reply ≡ b → additions (x ∷ xs) ≡ added x.reply + additions xs
-additions_cons x xs true e = rw e (omega arith)
-additions_cons x xs false e = rw e (omega arith)
+additions_cons x xs b e = search arith
 
 -- the rows that a walk is given are at most the live cells ahead and the additions since
 pub few_steps : (n : ℕ) (s : Store) (names : List RecordName) (c : Option ℕ) (t u : Track) (last : Store) (d : ℕ) → IsTrack n s names c (t ++ u) last → c ≡ Some d → length (given_over t) ≤ length (records_from s d) + additions t
@@ -115,8 +89,7 @@ named_head : (x : RecordName) (q p : ℕ) (names : List RecordName) (ps : List �
 named_head x q p names ps e = let same : q ≡ p = grind (arith, nat_tests) in record { name = x; is_there = ap (λ (b : Bool). cond b (Some q) (place_among x names ps)) (itself x) ∙ ap Some same }
 
 named_tail : (x : RecordName) (q p : ℕ) (b : Bool) (names : List RecordName) (ps : List ℕ) → (n : Named names ps p) → is_name n.name x ≡ b → list_any (is_name x) names ≡ false → Named (x ∷ names) (q ∷ ps) p
-named_tail x q p true names ps n e apart = let same : n.name ≡ x = same_name_is n.name x e in cc (n.is_there, among_none n.name names ps (subst (λ (y : RecordName). list_any (is_name y) names ≡ false) (sym same) apart))
-named_tail x q p false names ps n e apart = record { name = n.name; is_there = ap (λ (b : Bool). cond b (Some q) (place_among n.name names ps)) e ∙ n.is_there }
+named_tail x q p b names ps n e apart = search (arith, same_name_is, among_none)
 
 named_of : (p : ℕ) (names : List RecordName) (ps : List ℕ) → AreDistinct names → length names ≡ length ps → list_any (λ q. q == p) ps ≡ true → Named names ps p
 named_of p [] [] d e h = cc
@@ -127,17 +100,9 @@ named_of p (x ∷ names) (q ∷ ps) d e h = elim (or_cases (q == p) (list_any (�
   | inr b ↦ (let rest = named_of p names ps d.1 (let s : length names ≡ length ps = omega (arith, e) in s) b in named_tail x q p (is_name rest.name x) names ps rest refl d.0)
 ]
 
-in_filtered_by : (b : Bool) (x r : Record) (rs kept rest : List Record) → cond b (x ∷ kept) kept ≡ r ∷ rest → (kept ≡ r ∷ rest → list_any (λ q. q == r.place) (map (λ y. y.place) rs) ≡ true) → list_any (λ q. q == r.place) (map (λ y. y.place) (x ∷ rs)) ≡ true
-in_filtered_by true x r rs kept rest is ih =
-    let same : x ≡ r = cc in
-    let place : x.place ≡ r.place = ap (λ (y : Record). y.place) same in
-    let here : (x.place == r.place) ≡ true = grind (arith, nat_tests) in
-    or_left (x.place == r.place) _ here
-in_filtered_by false x r rs kept rest is ih = or_true (x.place == r.place) _ (ih is)
-
 in_filtered : (f : Record → Bool) (rs : List Record) (r : Record) (rest : List Record) → filter f rs ≡ r ∷ rest → list_any (λ q. q == r.place) (map (λ y. y.place) rs) ≡ true
 in_filtered f [] r rest is = cc
-in_filtered f (x ∷ rs) r rest is = in_filtered_by (f x) x r rs (filter f rs) rest is (in_filtered f rs r rest)
+in_filtered f (x ∷ rs) r rest is = grind (arith, nat_tests, in_filtered f rs r rest)
 
 named_next : (x : WalkEvent) (c : ℕ) (found : Option Record) → IsSound x.before → Keeps x.number x.before x.names → next_live x.before c ≡ found → AllByRecursion (λ row. IsNamed x row.stood.place) (rows_of_next x.number found)
 named_next x c None sound k is = tt

@@ -1,7 +1,7 @@
 -- What each event does to a walk, and the law of histories.
-use Rattle.krb_walk.proofs.Cited.{◌≡◌, ◌≢◌, ℕ, zero, suc, ◌+◌, Bool, true, false, cond, List, [], ◌∷◌, ◌++◌, length, map, Option, Some, None, Result, Ok, Err, inl, inr, refl, sym, ap, ◌∙◌, subst, arith, ◌&&◌, ◌==◌, ◌⊎◌, nat_lt, is_some, slice_get, slice_set, nat_tests, Event, Start, Resume, Step, Put, Cut, Rewrite, FaultKind, Code, Cell, Store, Record, end_from, end_of, is_place_from, IsSound, fault_from, is_place, next_live, Changes, ReplyContent, Placed, Gone, Rewritten, is_step_reply, is_rewritten, Rules, SessionState, after, reply_to, store_after, cursors_after, stop_cursor, stop_reply, end_reply, put_reply, cut_reply, cut_store, rewrite_reply, rewrite_cursors, step_reply, step_cursors, IsReady, IsLawful, AllLawful, AllPlain, moment, history, state_after, steps_walk, rank, nth_or, carry, carry_by, AnswersStep}
+use Rattle.krb_walk.proofs.Cited.{◌≡◌, ◌≢◌, ℕ, zero, suc, ◌+◌, Bool, true, false, cond, List, [], ◌∷◌, ◌++◌, length, map, Option, Some, None, Result, Ok, Err, inl, inr, refl, sym, ap, ◌∙◌, subst, arith, ◌&&◌, ◌==◌, ◌⊎◌, nat_lt, is_some, slice_get, nat_tests, Event, Start, Resume, Step, Put, Cut, Rewrite, Code, Cell, Store, Record, end_from, end_of, is_place_from, IsSound, is_place, next_live, Changes, ReplyContent, Placed, Gone, Rewritten, is_step_reply, is_rewritten, Rules, SessionState, after, reply_to, store_after, cursors_after, stop_cursor, stop_reply, put_reply, cut_reply, cut_store, rewrite_reply, rewrite_cursors, step_reply, step_cursors, IsReady, IsLawful, AllLawful, AllPlain, moment, history, state_after, steps_walk, rank, nth_or, carry, carry_by, AnswersStep}
 use Rattle.krb_walk.proofs.Lists.{get-push, get-append, get-set, get-set_other, get-set_same}
-use Rattle.krb_walk.proofs.Places.{Extends, extends_self, extends_on, puts-extends, cuts-extends, sound_kept, place_kept, place_first, stop_place, or_true}
+use Rattle.krb_walk.proofs.Places.{Extends, extends_self, extends_on, puts-extends, cuts-extends, sound_kept, place_kept, place_first, stop_place}
 use Rattle.krb_walk.proofs.Stops.{is_place_from-first}
 use Rattle.krb_walk.proofs.Lives.{lives}
 use Rattle.krb_walk.proofs.WalkEvents.{carry_by-same}
@@ -24,37 +24,19 @@ cut_extends p (Ok given) old new h = cuts-extends old new p h
 cut_extends p (Err code) old new h = same_extends old new h
 
 -- an event that leaves the store unchanged is lawful
-changes_end : (w end : ℕ) (fault : Option FaultKind) (s : Store) → Changes (end_reply w end fault) s s
-changes_end w end None s = refl
-changes_end w end (Some kind) s = refl
-
-changes_stop : (s : Store) (w : ℕ) (found : Option Record) → Changes (stop_reply s w found) s s
-changes_stop s w None = changes_end w (end_of s) s.fault s
-changes_stop s w (Some r) = refl
-
-changes_step : (s : Store) (w : ℕ) (o : Option ℕ) → Changes (step_reply s w o) s s
-changes_step s w None = refl
-changes_step s w (Some c) = changes_stop s w (next_live s c)
-
 pub lawful_step : {S I : Type 0} (r : Rules S I) (s : SessionState S) (w : ℕ) → IsLawful {I = I} r (moment r s (Step w))
-lawful_step r s w = changes_step (r.seen s.store) w (slice_get s.cursors w)
+lawful_step r s w = search arith
 
 -- a cursor is carried to a place
-place_at_nth_cons : (at w : ℕ) (live : Option (List ℕ)) (cells : List Cell) (k : ℕ) → ((j : ℕ) → is_place_from (at + w) cells (nth_or (end_from (at + w) cells) (lives (at + w) cells) j) ≡ true)
-    → is_place_from at (record { width = w; live = live } ∷ cells) (nth_or (end_from (at + w) cells) (lives at (record { width = w; live = live } ∷ cells)) k) ≡ true
-place_at_nth_cons at w None cells k ih = or_true (at == nth_or (end_from (at + w) cells) (lives (at + w) cells) k) _ (ih k)
-place_at_nth_cons at w (Some bytes) cells zero ih = is_place_from-first at (record { width = w; live = Some bytes } ∷ cells)
-place_at_nth_cons at w (Some bytes) cells (suc k) ih = or_true (at == nth_or (end_from (at + w) cells) (lives (at + w) cells) k) _ (ih k)
-
 place_at_nth : (at : ℕ) (cells : List Cell) (k : ℕ) → is_place_from at cells (nth_or (end_from at cells) (lives at cells) k) ≡ true
 place_at_nth at [] k = is_place_from-first at []
-place_at_nth at (x ∷ cells) k = place_at_nth_cons at x.width x.live cells k (λ j. place_at_nth (at + x.width) cells j)
+place_at_nth at (x ∷ cells) k = grind (arith, nat_tests, place_at_nth (at + x.width) cells)
 
 pub place_carried : (old new : Store) (c : ℕ) → is_place new (carry old new c) ≡ true
 place_carried old new c = place_at_nth new.first new.cells (rank old c)
 
 -- elements of a mapped table
-pub get_map : (f : ℕ → ℕ) (xs : List ℕ) (w d : ℕ) → slice_get xs w ≡ Some d → slice_get (map f xs) w ≡ Some (f d)
+get_map : (f : ℕ → ℕ) (xs : List ℕ) (w d : ℕ) → slice_get xs w ≡ Some d → slice_get (map f xs) w ≡ Some (f d)
 get_map f [] w d h = cc
 get_map f (x ∷ xs) zero d h = let same : x ≡ d = cc in ap (λ (y : ℕ). Some (f y)) same
 get_map f (x ∷ xs) (suc w) d h = get_map f xs w d h
@@ -72,39 +54,21 @@ was_map f (x ∷ xs) (suc w) c h = was_map f xs w c h
 abbrev pub AtPlaces : Store → List ℕ → Type 0
 AtPlaces s cursors = (w c : ℕ) → slice_get cursors w ≡ Some c → is_place s c ≡ true
 
-pub at_push : (s : Store) (cursors : List ℕ) (p : ℕ) → AtPlaces s cursors → is_place s p ≡ true → AtPlaces s (cursors ++ p ∷ [])
-at_push s cursors p all here w c h = elim (get-push cursors p w c h) [ inl e ↦ all w c e | inr e ↦ rw e here ]
-
-at_set : (s : Store) (cursors : List ℕ) (v p : ℕ) → AtPlaces s cursors → is_place s p ≡ true → AtPlaces s (slice_set cursors v p)
-at_set s cursors v p all here w c h = elim (get-set cursors v p w c h) [ inl e ↦ all w c e | inr e ↦ rw e here ]
-
 at_start : (s : Store) (cursors : List ℕ) (p : ℕ) (b : Bool) → AtPlaces s cursors → (b ≡ true → is_place s p ≡ true) → AtPlaces s (cond b (cursors ++ p ∷ []) cursors)
-at_start s cursors p true all here = at_push s cursors p all (here refl)
-at_start s cursors p false all here = all
+at_start s cursors p b all here = search (arith, get-push)
 
 and_right : (a b : Bool) → (a && b) ≡ true → b ≡ true
-and_right true b h = h
-and_right false b h = cc
+and_right a b h = search arith
 
 at_step : (s : Store) (cursors : List ℕ) (v : ℕ) (o : Option ℕ) → AtPlaces s cursors → AtPlaces s (step_cursors s cursors v o)
-at_step s cursors v None all = all
-at_step s cursors v (Some c) all = at_set s cursors v _ all (stop_place s c)
+at_step s cursors v o all = search (arith, stop_place, get-set)
 
 at_rewrite : {S : Type 0} (seen : S → Store) (old : S) (cursors : List ℕ) (given : Result S Code) → AtPlaces (seen old) cursors → AtPlaces (seen (cut_store old given)) (rewrite_cursors seen old cursors given)
 at_rewrite seen old cursors (Ok new) all w c e = let was = was_map (carry (seen old) (seen new)) cursors w c e in subst (λ (p : ℕ). is_place (seen new) p ≡ true) was.is (place_carried (seen old) (seen new) was.at)
 at_rewrite seen old cursors (Err code) all w c e = all w c e
 
-rewrite_sound : {S : Type 0} (seen : S → Store) (old : S) (given : Result S Code) → Changes (rewrite_reply seen given) (seen old) (seen (cut_store old given)) → IsSound (seen old) → IsSound (seen (cut_store old given))
-rewrite_sound seen old (Ok new) h sound = h.sound
-rewrite_sound seen old (Err code) h sound = sound
-
 sound_after : {S I : Type 0} (r : Rules S I) (s : SessionState S) (e : Event I) → IsSound (r.seen s.store) → IsLawful r (moment r s e) → IsSound (r.seen (store_after r s e))
-sound_after r s Start sound h = sound
-sound_after r s (Resume p) sound h = sound
-sound_after r s (Step v) sound h = sound
-sound_after r s (Put item) sound h = sound_kept _ _ (put_extends (r.put s.store item) _ _ h) sound
-sound_after r s (Cut p) sound h = sound_kept _ _ (cut_extends p (r.cut s.store p) _ _ h) sound
-sound_after r s Rewrite sound h = rewrite_sound r.seen s.store (r.rewrite s.store) h sound
+sound_after r s e sound h = search (arith, sound_kept, put_extends, cut_extends)
 
 at_after : {S I : Type 0} (r : Rules S I) (s : SessionState S) (e : Event I) → AtPlaces (r.seen s.store) s.cursors → IsLawful r (moment r s e) → AtPlaces (r.seen (store_after r s e)) (cursors_after r s e)
 at_after r s Start all h = at_start (r.seen s.store) s.cursors _ (nat_lt (length s.cursors) 1024) all (λ _. place_first (r.seen s.store))
@@ -115,10 +79,7 @@ at_after r s (Cut p) all h = λ w c e. place_kept _ _ c (cut_extends p (r.cut s.
 at_after r s Rewrite all h = at_rewrite r.seen s.store s.cursors (r.rewrite s.store) all
 
 pub ready_after : {S I : Type 0} (r : Rules S I) (s : SessionState S) (e : Event I) → IsReady r s → IsLawful r (moment r s e) → IsReady r (after r s e)
-ready_after r s e ready h = record {
-  sound = sound_after r s e ready.sound h;
-  cursors = at_after r s e ready.cursors h;
-}
+ready_after r s e ready h = search (arith, sound_after, at_after)
 
 -- an event that is no step of a walk, and one that is
 pub record Unmoved {S I : Type 0} (r : Rules S I) (s : SessionState S) (e : Event I) (w : ℕ) : Type 0 where
@@ -135,73 +96,45 @@ pub record Moves {S I : Type 0} (r : Rules S I) (s : SessionState S) (e : Event 
 
 -- replies that are not to a step of the walk
 other_cond : (w : ℕ) (b : Bool) (x y : ReplyContent) → is_step_reply w x ≡ false → is_step_reply w y ≡ false → is_step_reply w (cond b x y) ≡ false
-other_cond w true x y h k = h
-other_cond w false x y h k = k
+other_cond w b x y h k = search arith
 
 other_put : {S : Type 0} (w : ℕ) (given : Result (ℕ × S) Code) → is_step_reply w (put_reply given) ≡ false
-other_put w (Ok given) = refl
-other_put w (Err code) = refl
+other_put w given = search arith
 
 other_cut : {S : Type 0} (w p : ℕ) (given : Result S Code) → is_step_reply w (cut_reply p given) ≡ false
-other_cut w p (Ok given) = refl
-other_cut w p (Err code) = refl
+other_cut w p given = search arith
 
 other_rewrite : {S : Type 0} (w : ℕ) (seen : S → Store) (given : Result S Code) → is_step_reply w (rewrite_reply seen given) ≡ false
-other_rewrite w seen (Ok new) = refl
-other_rewrite w seen (Err code) = refl
+other_rewrite w seen given = search arith
 
 -- replies that accept no rewrite
 plain_cond : (b : Bool) (x y : ReplyContent) → is_rewritten x ≡ false → is_rewritten y ≡ false → is_rewritten (cond b x y) ≡ false
-plain_cond true x y h k = h
-plain_cond false x y h k = k
-
-plain_end : (w end : ℕ) (fault : Option FaultKind) → is_rewritten (end_reply w end fault) ≡ false
-plain_end w end None = refl
-plain_end w end (Some kind) = refl
-
-plain_stop : (s : Store) (w : ℕ) (found : Option Record) → is_rewritten (stop_reply s w found) ≡ false
-plain_stop s w None = plain_end w (end_of s) s.fault
-plain_stop s w (Some r) = refl
+plain_cond b x y h k = search arith
 
 plain_step : (s : Store) (w : ℕ) (o : Option ℕ) → is_rewritten (step_reply s w o) ≡ false
-plain_step s w None = refl
-plain_step s w (Some c) = plain_stop s w (next_live s c)
+plain_step s w o = search arith
 
 plain_put : {S : Type 0} (given : Result (ℕ × S) Code) → is_rewritten (put_reply given) ≡ false
-plain_put (Ok given) = refl
-plain_put (Err code) = refl
+plain_put given = search arith
 
 plain_cut : {S : Type 0} (p : ℕ) (given : Result S Code) → is_rewritten (cut_reply p given) ≡ false
-plain_cut p (Ok given) = refl
-plain_cut p (Err code) = refl
+plain_cut p given = search arith
 
 stays_plain : (content : ReplyContent) (old new : Store) (q : Option ℕ) (d : ℕ) → is_rewritten content ≡ false → q ≡ Some d → q ≡ Some (carry_by content old new d)
 stays_plain content old new q d plain h = h ∙ sym (ap Some (carry_by-same content old new d plain))
 
 rewrite_stays : {S : Type 0} (seen : S → Store) (old : S) (cursors : List ℕ) (given : Result S Code) (w d : ℕ) → slice_get cursors w ≡ Some d → slice_get (rewrite_cursors seen old cursors given) w ≡ Some (carry_by (rewrite_reply seen given) (seen old) (seen (cut_store old given)) d)
-rewrite_stays seen old cursors (Ok new) w d h = get_map (carry (seen old) (seen new)) cursors w d h
-rewrite_stays seen old cursors (Err code) w d h = h
-
-other_end : (w v end : ℕ) (fault : Option FaultKind) → (v == w) ≡ false → is_step_reply w (end_reply v end fault) ≡ false
-other_end w v end None e = e
-other_end w v end (Some kind) e = e
+rewrite_stays seen old cursors given w d h = search (arith, get_map)
 
 other_walk : (s : Store) (w v : ℕ) (found : Option Record) → (v == w) ≡ false → is_step_reply w (stop_reply s v found) ≡ false
-other_walk s w v None e = other_end w v (end_of s) s.fault e
-other_walk s w v (Some found) e = e
+other_walk s w v found e = search arith
 
 pub get_push_cond : (b : Bool) (cursors : List ℕ) (p w d : ℕ) → slice_get cursors w ≡ Some d → slice_get (cond b (cursors ++ p ∷ []) cursors) w ≡ Some d
-get_push_cond true cursors p w d h = get-append cursors (p ∷ []) w d h
-get_push_cond false cursors p w d h = h
+get_push_cond b cursors p w d h = search (arith, get-append)
 
 -- the reply to a step of the walk
-answered_none : (s : Store) (w c : ℕ) (fault : Option FaultKind) → next_live s c ≡ None → s.fault ≡ fault → AnswersStep s w c (end_reply w (end_of s) fault) (end_of s)
-answered_none s w c None is e = (refl, is, e, refl, refl)
-answered_none s w c (Some kind) is e = (refl, is, ap (fault_from (end_of s)) e, refl)
-
 answered_by : (s : Store) (w c : ℕ) (found : Option Record) → next_live s c ≡ found → AnswersStep s w c (stop_reply s w found) (stop_cursor (end_of s) found)
-answered_by s w c None is = answered_none s w c s.fault is refl
-answered_by s w c (Some r) is = (refl, is, refl)
+answered_by s w c found is = search arith
 
 pub record OwnStep {S I : Type 0} (r : Rules S I) (s : SessionState S) (w c : ℕ) : Type 0 where
   pub is_there : slice_get (cursors_after r s (Step w)) w ≡ Some (stop_cursor (end_of (r.seen s.store)) (next_live (r.seen s.store) c))
@@ -224,10 +157,7 @@ moves_own r s w c is =
 
 -- a step of another walk, or of none
 idle_none : (cursors : List ℕ) (v w : ℕ) (b : Bool) → slice_get cursors v ≡ None → (v == w) ≡ b → ((v == w) && is_some (slice_get cursors w)) ≡ false
-idle_none cursors v w true is e =
-    let same : v ≡ w = grind (arith, nat_tests) in
-    ap (λ (b : Bool). b && is_some (slice_get cursors w)) e ∙ ap (λ (o : Option ℕ). is_some o) (ap (slice_get cursors) (sym same) ∙ is)
-idle_none cursors v w false is e = ap (λ (b : Bool). b && is_some (slice_get cursors w)) e
+idle_none cursors v w b is e = search arith
 
 effect_step : {S I : Type 0} (r : Rules S I) (s : SessionState S) (v w : ℕ) (o : Option ℕ) (b : Bool) → slice_get s.cursors v ≡ o → (v == w) ≡ b → Unmoved r s (Step v) w ⊎ Moves r s (Step v) w
 effect_step r s v w None b is e =

@@ -1,8 +1,5 @@
 -- The laws of a walk, over one run and over joined runs.
-use Rattle.krb_walk.proofs.Cited.{◌≡◌, ℕ, suc, ◌+◌, ◌≤◌, List, [], ◌∷◌, ◌++◌, length, Option, Some, None, refl, sym, ap, ◌∙◌, subst, arith, AllByRecursion, Event, Store, Rules, SessionState, Moment, Row, IsReady, AllLawful, history, state_after, given, given_from, rows_of_reply, RecordName, WalkEvent, Track, PlacesStay, first_names, track_on, track, last_names, IsTrack, IsWalk, rows_at_event, given_over, due_over, due_by_steps, CursorIsSound, records_from}
-use Rattle.std.proofs.lemmas.Grind.{flat_map-append}
-use Rattle.krb_walk.specs.Fair.{IsFair, additions}
-use Rattle.krb_walk.specs.Joins.{Join, joined}
+use Rattle.krb_walk.proofs.Cited.{◌≡◌, ℕ, suc, ◌+◌, ◌≤◌, List, [], ◌∷◌, ◌++◌, length, Option, Some, None, refl, sym, ap, ◌∙◌, subst, arith, AllByRecursion, Event, Store, Rules, SessionState, Moment, Row, IsReady, AllLawful, history, state_after, given, given_from, rows_of_reply, RecordName, WalkEvent, Track, PlacesStay, first_names, track_on, track, last_names, IsTrack, IsWalk, rows_at_event, given_over, due_over, due_by_steps, CursorIsSound, records_from, flat_map-append, IsFair, additions, Join, joined}
 use Rattle.krb_walk.proofs.WalkEvents.{cursor_is_sound}
 use Rattle.krb_walk.proofs.Tracks.{track_gives, track_gives_by_steps}
 use Rattle.krb_walk.proofs.Ranked.{first_keeps}
@@ -28,24 +25,7 @@ cursors_keep n s names c (x ∷ xs) last h = (λ d at. cursor_is_sound n s names
 
 -- each walk satisfies `IsFair`, over one run or over joined runs
 pub walk_fair : (first : Store) (start : Option ℕ) (t : Track) (last : Store) → IsWalk first start t last → IsFair t last
-walk_fair first start t last walk =
-    let names = first_names first in
-    let k = first_keeps first walk.sound in
-    record {
-      given_is_due = track_gives_by_steps 1 first names start t last walk.is;
-      given_is_due_at_places = λ keeps. track_gives 1 first names start t last keeps walk.is;
-      turn_of_a_place_is_unique = λ keeps p. one_past p 1 first names start t last keeps walk.is;
-      names_are_as_many = names_many 1 first names start t last walk.is k;
-      names_are_at_places = λ keeps. names_at 1 first names start t last keeps walk.is (first_named first);
-      rows_are_of_records = rows_named 1 first names start t last walk.is k;
-      each = each_comes first start t last walk;
-      sides = λ r. sides_kept r 1 first names start t last walk.is k;
-      few_steps = few_of 1 first names start t last walk.is;
-      steps_get_replies = steps_replied 1 first names start t last walk.is;
-      other_steps_end = others_end 1 first names start t last walk.is;
-      damaged_gives_then_faults = faulted_from 1 first names start t last walk.is;
-      cursor = cursors_keep 1 first names start t last walk.is;
-    }
+walk_fair first start t last walk = search (arith, first_keeps, track_gives_by_steps, track_gives, one_past, names_many, names_at, first_named, rows_named, each_comes, sides_kept, few_steps, few_of, steps_replied, others_end, faulted_from, cursors_keep)
 
 pub history_fair : {S I : Type 0} (r : Rules S I) (s : SessionState S) (es : List (Event I)) (w : ℕ) → IsReady r s → AllLawful r (history r s es) → IsFair (track r s w (history r s es)) (r.seen (state_after r s es).store)
 history_fair r s es w ready h = walk_fair _ _ _ _ (history_walks r s es w ready h)

@@ -1,7 +1,5 @@
 -- Over a store with a fault, the steps of a walk give the records from its cursor on, and then the fault.
-use Rattle.krb_walk.proofs.Cited.{◌≡◌, ℕ, zero, suc, ◌≤◌, Bool, true, false, cond, List, [], ◌∷◌, ◌++◌, length, map, take, replicate, Option, Some, None, inl, inr, refl, sym, ap, ◌∙◌, subst, arith, filter, AllByRecursion, option_to_list, FaultKind, Store, Record, end_of, IsSound, next_live, fault_from, Changes, ReplyContent, Started, Gave, Ended, Faulted, Placed, Gone, Rewritten, Refused, is_step_reply, completes, is_gave, is_rewritten, stop_cursor, stop_reply, end_reply, RecordName, WalkEvent, Track, AnswersStep, IsTrack, records_from}
-use Rattle.krb_walk.specs.declared.fault.Fault.{Fault}
-use Rattle.krb_walk.specs.Damage.{GiveToFault, as_walk, gave, step_replies}
+use Rattle.krb_walk.proofs.Cited.{◌≡◌, ℕ, zero, suc, ◌≤◌, Bool, true, false, cond, List, [], ◌∷◌, ◌++◌, length, map, take, replicate, Option, Some, None, inl, inr, refl, sym, ap, ◌∙◌, subst, arith, filter, AllByRecursion, option_to_list, FaultKind, Store, Record, end_of, IsSound, next_live, Changes, ReplyContent, Faulted, is_step_reply, completes, is_gave, is_rewritten, stop_cursor, stop_reply, end_reply, RecordName, WalkEvent, Track, AnswersStep, IsTrack, records_from, nat_tests, GiveToFault, as_walk, gave, step_replies}
 use Rattle.krb_walk.proofs.Stops.{stops_give_records, stops_end}
 use Rattle.krb_walk.proofs.WalkEvents.{end_of_step, effect_of, carry_by-same}
 use Rattle.krb_walk.proofs.Counts.{none_at_end}
@@ -16,7 +14,7 @@ records_next s c (Some r) sound is = (stops_give_records s c r sound is).first
 abbrev pub damaged_replies : Store → ℕ → ℕ → ℕ → FaultKind → List ReplyContent
 damaged_replies s w c m kind = map (gave w) (records_from s c) ++ replicate m (Faulted w (record { place = end_of s; kind = kind }))
 
-pub damaged_step : (s : Store) (w c m k : ℕ) (kind : FaultKind) (found : Option Record) (rest : List ReplyContent) → s.fault ≡ Some kind → next_live s c ≡ found → records_from s c ≡ option_to_list found ++ records_from s (stop_cursor (end_of s) found)
+damaged_step : (s : Store) (w c m k : ℕ) (kind : FaultKind) (found : Option Record) (rest : List ReplyContent) → s.fault ≡ Some kind → next_live s c ≡ found → records_from s c ≡ option_to_list found ++ records_from s (stop_cursor (end_of s) found)
     → (found ≡ None → records_from s (end_of s) ≡ []) → suc k ≤ m → ((j : ℕ) → k ≤ j → rest ≡ take k (damaged_replies s w (stop_cursor (end_of s) found) j kind)) → stop_reply s w found ∷ rest ≡ take (suc k) (damaged_replies s w c m kind)
 damaged_step s w c zero k kind found rest fault is from empty le ih = absurd (omega arith)
 damaged_step s w c (suc m) k kind None rest fault is from empty le ih =
@@ -31,30 +29,15 @@ abbrev pub RepliesBy : List ReplyContent → Store → ℕ → ℕ → ℕ → F
 RepliesBy content s w c m kind = length content ≤ m → content ≡ take (length content) (damaged_replies s w c m kind)
 
 -- the reply to a step, with another number for its walk
-fault_reply : (w end : ℕ) (o : Option FaultKind) (f : Fault) → fault_from end o ≡ Some f → end_reply w end o ≡ Faulted w f
-fault_reply w end None f is = cc
-fault_reply w end (Some kind) f is = let same : record { place = end; kind = kind } ≡ f = cc in ap (Faulted w) same
-
 answer_is : (s : Store) (w c u : ℕ) (content : ReplyContent) (to : ℕ) → AnswersStep s w c content to → as_walk u content ≡ stop_reply s u (next_live s c)
-answer_is s w c u (Gave v p next bytes) to a = sym (ap (stop_reply s u) a.1)
-answer_is s w c u (Ended v next) to a = ap (Ended u) a.3 ∙ sym (ap (stop_reply s u) a.1 ∙ ap (end_reply u (end_of s)) a.2)
-answer_is s w c u (Faulted v fault) to a = sym (ap (stop_reply s u) a.1 ∙ fault_reply u (end_of s) s.fault fault a.2)
-answer_is s w c u (Started v next) to a = absurd a
-answer_is s w c u (Placed p) to a = absurd a
-answer_is s w c u (Gone p) to a = absurd a
-answer_is s w c u (Rewritten p) to a = absurd a
-answer_is s w c u (Refused code) to a = absurd a
+answer_is s w c u content to a = search arith
 
 -- a store with a fault is unchanged, and is not rewritten
 fault_stays : (content : ReplyContent) (old new : Store) (kind : FaultKind) → old.fault ≡ Some kind → Changes content old new → new ≡ old
-fault_stays (Placed p) old new kind fault h = cc (fault, h.whole)
-fault_stays (Gone p) old new kind fault h = cc (fault, h.whole)
-fault_stays (Rewritten p) old new kind fault h = cc (fault, h.whole)
-fault_stays content old new kind fault h = h
+fault_stays content old new kind fault h = search arith
 
 fault_plain : (content : ReplyContent) (old new : Store) (kind : FaultKind) → old.fault ≡ Some kind → Changes content old new → is_rewritten content ≡ false
-fault_plain (Rewritten p) old new kind fault h = cc (fault, h.whole)
-fault_plain content old new kind fault h = refl
+fault_plain content old new kind fault h = search arith
 
 replies_idle : (w : ℕ) (x : WalkEvent) (xs : Track) → x.stepped ≡ false → step_replies w (x ∷ xs) ≡ step_replies w xs
 replies_idle w x xs e = ap (λ (b : Bool). map (λ y. as_walk w y.reply) (cond {A = Track} b (x ∷ filter (λ y. y.stepped) xs) (filter (λ y. y.stepped) xs))) e
@@ -96,20 +79,10 @@ faulted_from n s names c t last h earlier x later d kind is at fault =
     subst (λ (z : Store). GiveToFault z x.walk d kind all) (sym rest.0.before) (faulted_replies x.walk _ _ _ _ (x ∷ later) last d (length all) kind fault_s rest (sym rest.0.from ∙ at) (omega arith))
 
 -- each step of the walk gets a reply to it; without a record, the reply is the end or the fault
-answer_completes : (s : Store) (w c : ℕ) (content : ReplyContent) (to : ℕ) → AnswersStep s w c content to → is_step_reply w content ≡ true → is_gave content ≡ false → completes w content ≡ true
-answer_completes s w c (Gave v p next bytes) to a own e = cc
-answer_completes s w c (Ended v next) to a own e = own
-answer_completes s w c (Faulted v fault) to a own e = own
-answer_completes s w c (Started v next) to a own e = absurd a
-answer_completes s w c (Placed p) to a own e = absurd a
-answer_completes s w c (Gone p) to a own e = absurd a
-answer_completes s w c (Rewritten p) to a own e = absurd a
-answer_completes s w c (Refused code) to a own e = absurd a
-
 pub steps_replied : (n : ℕ) (s : Store) (names : List RecordName) (c : Option ℕ) (t : Track) (last : Store) → IsTrack n s names c t last → AllByRecursion (λ x. is_step_reply x.walk x.reply ≡ x.stepped) t
 steps_replied n s names c [] last h = tt
 steps_replied n s names c (x ∷ xs) last h = (elim (effect_of x h.0.effect) [ inl holds ↦ holds.other ∙ sym holds.idle | inr goes ↦ goes.own ∙ sym goes.stepped ], steps_replied (suc n) x.after _ x.to xs last h.1)
 
 pub others_end : (n : ℕ) (s : Store) (names : List RecordName) (c : Option ℕ) (t : Track) (last : Store) → IsTrack n s names c t last → AllByRecursion (λ x. x.stepped ≡ true → is_gave x.reply ≡ false → completes x.walk x.reply ≡ true) t
 others_end n s names c [] last h = tt
-others_end n s names c (x ∷ xs) last h = (λ step e. elim (effect_of x h.0.effect) [ inl holds ↦ cc (step, holds.idle) | inr goes ↦ answer_completes x.before x.walk goes.at x.reply _ goes.answered goes.own e ], others_end (suc n) x.after _ x.to xs last h.1)
+others_end n s names c (x ∷ xs) last h = grind (arith, nat_tests, others_end (suc n) x.after _ x.to xs last h.1)

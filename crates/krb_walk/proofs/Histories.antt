@@ -1,8 +1,7 @@
 -- The track of a walk over a history.
-use Rattle.krb_walk.proofs.Cited.{◌≡◌, ℕ, suc, true, false, List, [], ◌∷◌, Option, Some, None, inl, inr, refl, ap, sym, ◌∙◌, subst, slice_get, IsSomeAnd, option_or, Event, Store, is_place, ReplyContent, is_rewritten, Rules, SessionState, after, reply_to, store_after, cursors_after, IsReady, AllLawful, history, state_after, RecordName, track_on, carry_by, AnswersStep, IsTrack}
+use Rattle.krb_walk.proofs.Cited.{◌≡◌, ℕ, suc, true, false, List, [], ◌∷◌, Option, Some, None, inl, inr, refl, ap, sym, subst, slice_get, IsSomeAnd, option_or, Event, Store, is_place, ReplyContent, is_rewritten, Rules, SessionState, after, reply_to, store_after, cursors_after, IsReady, AllLawful, history, state_after, RecordName, track_on, carry_by, AnswersStep, IsTrack, arith, nat_tests}
 use Rattle.krb_walk.proofs.Places.{place_kept}
 use Rattle.krb_walk.proofs.Effects.{ready_after, effect, changes-extends}
-use Rattle.krb_walk.proofs.WalkEvents.{carry_by-same}
 
 -- if the event starts the walk, it starts at c, and until then no event rewrites the store
 pub record Fits {S I : Type 0} (c : Option ℕ) (r : Rules S I) (w : ℕ) (s : SessionState S) (e : Event I) : Type 0 where
@@ -19,13 +18,10 @@ made_none r w s (e ∷ es) = (record { made = λ d a is. cc; plain = λ d is. cc
 
 stays_on : (content : ReplyContent) (old new : Store) (c o q : Option ℕ) → ((d : ℕ) → o ≡ Some d → q ≡ Some (carry_by content old new d)) → ((d a : ℕ) → c ≡ Some d → o ≡ None → q ≡ Some a → a ≡ d) → ((d : ℕ) → c ≡ Some d → o ≡ None → is_rewritten content ≡ false)
     → (d : ℕ) → option_or o c ≡ Some d → option_or q c ≡ Some (carry_by content old new d)
-stays_on content old new c (Some x) q stays made plain d h = let same : x ≡ d = cc in ap (λ (z : Option ℕ). option_or z c) (stays x refl) ∙ ap (λ (y : ℕ). Some (carry_by content old new y)) same
-stays_on content old new c None None stays made plain d h = h ∙ sym (ap Some (carry_by-same content old new d (plain d h refl)))
-stays_on content old new c None (Some a) stays made plain d h = ap Some (made d a h refl refl) ∙ sym (ap Some (carry_by-same content old new d (plain d h refl)))
+stays_on content old new c o q stays made plain d h = grind (arith, nat_tests)
 
 places_on : {S I : Type 0} (r : Rules S I) (s : SessionState S) (c o : Option ℕ) → ((d : ℕ) → o ≡ Some d → is_place (r.seen s.store) d ≡ true) → ((d : ℕ) → c ≡ Some d → o ≡ None → is_place (r.seen s.store) d ≡ true) → (d : ℕ) → option_or o c ≡ Some d → is_place (r.seen s.store) d ≡ true
-places_on r s c None all made d h = made d h refl
-places_on r s c (Some x) all made d h = all d h
+places_on r s c o all made d h = search arith
 
 -- a walk that does not exist after an event did not exist before it
 not_made : {S I : Type 0} (r : Rules S I) (s : SessionState S) (e : Event I) (w : ℕ) (o : Option ℕ) → slice_get s.cursors w ≡ o → slice_get (cursors_after r s e) w ≡ None → o ≡ None

@@ -1,8 +1,7 @@
 -- Joined runs.
-use Rattle.krb_walk.proofs.Cited.{◌≡◌, ℕ, suc, ◌+◌, Bool, true, false, cond, List, [], ◌∷◌, ◌++◌, length, Option, Some, None, inl, inr, refl, sym, ap, ◌∙◌, subst, arith, ◌&&◌, nat_lt, slice_get, AllByRecursion, option_or, Event, Resume, Store, is_place, Started, Refused, is_rewritten, Rules, SessionState, after, reply_to, cursors_after, Moment, IsReady, AllLawful, history, state_after, RecordName, Track, first_names, track_on, track, last_names, last_cursor, IsTrack, IsWalk}
+use Rattle.krb_walk.proofs.Cited.{◌≡◌, ℕ, suc, ◌+◌, Bool, true, false, cond, List, [], ◌∷◌, ◌++◌, length, Option, Some, None, inl, inr, refl, sym, ap, ◌∙◌, subst, arith, nat_lt, slice_get, AllByRecursion, option_or, Event, Resume, Store, is_place, Started, Refused, is_rewritten, Rules, SessionState, after, reply_to, cursors_after, Moment, IsReady, AllLawful, history, state_after, RecordName, Track, first_names, track_on, track, last_names, last_cursor, IsTrack, IsWalk, IsThereOrResumes, Next, track_then, Join}
 use Rattle.std.proofs.lemmas.Option.{slice_get_within}
 use Rattle.krb_walk.specs.declared.refusal.Code.TheVariants.{NotAPlace, TooManyWalks}
-use Rattle.krb_walk.specs.Joins.{IsThereOrResumes, Next, track_then, Join}
 use Rattle.krb_walk.proofs.Effects.{effect}
 use Rattle.krb_walk.proofs.Tracks.{tracks_join}
 use Rattle.krb_walk.proofs.Histories.{MadeAt, made_none, track_is}
@@ -12,13 +11,13 @@ pub record HasCursor (cursors : List ℕ) (w : ℕ) : Type 0 where
   pub at : ℕ
   pub is : slice_get cursors w ≡ Some at
 
-pub cursor_after_event : {S I : Type 0} (r : Rules S I) (s : SessionState S) (e : Event I) (w : ℕ) → HasCursor s.cursors w → HasCursor (cursors_after r s e) w
+cursor_after_event : {S I : Type 0} (r : Rules S I) (s : SessionState S) (e : Event I) (w : ℕ) → HasCursor s.cursors w → HasCursor (cursors_after r s e) w
 cursor_after_event r s e w is_there = elim (effect r s e w) [
   | inl still ↦ record { at = _; is = still.stays is_there.at is_there.is }
   | inr moves ↦ record { at = _; is = moves.is_there }
 ]
 
-pub cursor_to_end : {S I : Type 0} (r : Rules S I) (s : SessionState S) (es : List (Event I)) (w : ℕ) → HasCursor s.cursors w → HasCursor (state_after r s es).cursors w
+cursor_to_end : {S I : Type 0} (r : Rules S I) (s : SessionState S) (es : List (Event I)) (w : ℕ) → HasCursor s.cursors w → HasCursor (state_after r s es).cursors w
 cursor_to_end r s [] w is_there = is_there
 cursor_to_end r s (e ∷ es) w is_there = cursor_to_end r (after r s e) es w (cursor_after_event r s e w is_there)
 
@@ -31,13 +30,8 @@ record Resumed (cursors after : List ℕ) (p w c : ℕ) : Type 0 where
   place : p ≡ c
   made : after ≡ cursors ++ p ∷ []
 
-resumed_by : (b d : Bool) (cursors : List ℕ) (p w c : ℕ) → cond b (cond d (Started (length cursors) p) (Refused NotAPlace)) (Refused TooManyWalks) ≡ Started w c → Resumed cursors (cond (b && d) (cursors ++ p ∷ []) cursors) p w c
-resumed_by true true cursors p w c e = record { number = cc; place = cc; made = refl }
-resumed_by true false cursors p w c e = cc
-resumed_by false d cursors p w c e = cc
-
 resumed : {S I : Type 0} (r : Rules S I) (s : SessionState S) (p w c : ℕ) → reply_to r s (Resume p) ≡ Started w c → Resumed s.cursors (cursors_after r s (Resume p)) p w c
-resumed r s p w c e = resumed_by (nat_lt (length s.cursors) 1024) (is_place (r.seen s.store) p) s.cursors p w c e
+resumed r s p w c e = search arith
 
 get_last : (xs : List ℕ) (p : ℕ) → slice_get (xs ++ p ∷ []) (length xs) ≡ Some p
 get_last [] p = refl
@@ -47,9 +41,7 @@ not_yet : (cursors : List ℕ) (w : ℕ) → length cursors ≡ w → HasCursor 
 not_yet cursors w e is_there = omega (arith, e, slice_get_within cursors w is_there.at is_there.is)
 
 plain_resume : (b d : Bool) (k p : ℕ) → is_rewritten (cond b (cond d (Started k p) (Refused NotAPlace)) (Refused TooManyWalks)) ≡ false
-plain_resume true true k p = refl
-plain_resume true false k p = refl
-plain_resume false d k p = refl
+plain_resume b d k p = search arith
 
 resumes_fits : {S I : Type 0} (r : Rules S I) (s : SessionState S) (w c : ℕ) (earlier later : List (Event I)) → reply_to r (state_after r s earlier) (Resume c) ≡ Started w c → AllByRecursion (λ m. is_rewritten m.reply ≡ false) (history r s earlier) → MadeAt (Some c) r w s (earlier ++ Resume c ∷ later)
 resumes_fits r s w c [] later content plain =
@@ -65,14 +57,10 @@ resumes_fits r s w c (e ∷ earlier) later content plain = (
 )
 
 made_at : {S I : Type 0} (r : Rules S I) (s : SessionState S) (es : List (Event I)) (w c : ℕ) → IsThereOrResumes r s es w c → MadeAt (Some c) r w s es
-made_at r s es w c on = elim on [
-  | inl at ↦ cursor_fits r s es w (Some c) (record { at = c; is = at })
-  | inr res ↦ subst (MadeAt (Some c) r w s) (sym res.events_are) (resumes_fits r s w c res.earlier res.later res.content res.plain)
-]
+made_at r s es w c on = search (arith, cursor_fits, resumes_fits)
 
 begins_none : (cursors : List ℕ) (w c : ℕ) (o : Option ℕ) → slice_get cursors w ≡ o → (HasCursor cursors w → ⊥) → option_or o (Some c) ≡ Some c
-begins_none cursors w c None is no_walk = refl
-begins_none cursors w c (Some d) is no_walk = absurd (no_walk (record { at = d; is = is }))
+begins_none cursors w c o is no_walk = search arith
 
 begins_at : {S I : Type 0} (r : Rules S I) (s : SessionState S) (es : List (Event I)) (w c : ℕ) → IsThereOrResumes r s es w c → option_or (slice_get s.cursors w) (Some c) ≡ Some c
 begins_at r s es w c on = elim on [
@@ -90,8 +78,7 @@ length_track r n w names c [] = refl
 length_track r n w names c (m ∷ ms) = ap suc (length_track r (suc n) w _ c ms)
 
 or_none : (o : Option ℕ) → option_or o None ≡ o
-or_none None = refl
-or_none (Some c) = refl
+or_none o = search arith
 
 -- the track of a history is that of a walk
 pub history_walks : {S I : Type 0} (r : Rules S I) (s : SessionState S) (es : List (Event I)) (w : ℕ) → IsReady r s → AllLawful r (history r s es) → IsWalk (r.seen s.store) (slice_get s.cursors w) (track r s w (history r s es)) (r.seen (state_after r s es).store)

@@ -1,36 +1,26 @@
 -- The places of live cells, and how a change affects them.
-use Rattle.krb_walk.proofs.Cited.{◌≡◌, ℕ, ◌+◌, ◌<◌, ◌≤◌, true, false, List, [], ◌∷◌, ◌++◌, length, map, Option, Some, None, inl, inr, refl, sym, ap, ◌∙◌, subst, arith, nat_lt, filter, AllByRecursion, append-nil, nat_tests, Cell, Store, end_from, IsSound, Puts, Cuts, live_places, rank}
+use Rattle.krb_walk.proofs.Cited.{◌≡◌, ℕ, ◌+◌, ◌<◌, ◌≤◌, true, false, List, [], ◌∷◌, ◌++◌, length, map, Option, Some, None, inl, inr, refl, sym, ap, ◌∙◌, subst, arith, nat_lt, filter, AllByRecursion, append-nil, nat_tests, Cell, Store, end_from, IsSound, Puts, Cuts, live_places, rank, all_front, all_back}
 use Rattle.krb_walk.proofs.Stops.{records_of, end_from-ge}
 use Rattle.krb_walk.proofs.Places.{sound_kept, puts-extends}
-use Rattle.krb_wire.proofs.Lists.{all_front, all_back}
 
 -- the places of the live cells among cells from a place on
 abbrev pub lives : ℕ → List Cell → List ℕ
 lives at cells = map (λ r. r.place) (records_of at cells)
 
-lives_append_cons : (at w : ℕ) (live : Option (List ℕ)) (xs ys : List Cell) → lives (at + w) (xs ++ ys) ≡ lives (at + w) xs ++ lives (end_from (at + w) xs) ys → lives at (record { width = w; live = live } ∷ (xs ++ ys)) ≡ lives at (record { width = w; live = live } ∷ xs) ++ lives (end_from (at + w) xs) ys
-lives_append_cons at w None xs ys ih = ih
-lives_append_cons at w (Some bytes) xs ys ih = ap (λ (ps : List ℕ). at ∷ ps) ih
-
-pub lives_append : (at : ℕ) (xs ys : List Cell) → lives at (xs ++ ys) ≡ lives at xs ++ lives (end_from at xs) ys
+lives_append : (at : ℕ) (xs ys : List Cell) → lives at (xs ++ ys) ≡ lives at xs ++ lives (end_from at xs) ys
 lives_append at [] ys = refl
-lives_append at (x ∷ xs) ys = lives_append_cons at x.width x.live xs ys (lives_append (at + x.width) xs ys)
+lives_append at (x ∷ xs) ys = search (arith, lives_append (at + x.width) xs ys)
 
 all_weaken : (P Q : ℕ → Type 0) (ps : List ℕ) → ((p : ℕ) → P p → Q p) → AllByRecursion P ps → AllByRecursion Q ps
 all_weaken P Q [] f h = tt
 all_weaken P Q (p ∷ ps) f h = (f p h.0, all_weaken P Q ps f h.1)
 
-lives_ge_cons : (at w : ℕ) (live : Option (List ℕ)) (xs : List Cell) → AllByRecursion (λ q. at ≤ q) (lives (at + w) xs) → AllByRecursion (λ q. at ≤ q) (lives at (record { width = w; live = live } ∷ xs))
-lives_ge_cons at w None xs ih = ih
-lives_ge_cons at w (Some bytes) xs ih = (omega arith, ih)
-
 pub lives_ge : (at : ℕ) (xs : List Cell) → AllByRecursion (λ q. at ≤ q) (lives at xs)
 lives_ge at [] = tt
-lives_ge at (x ∷ xs) = lives_ge_cons at x.width x.live xs (all_weaken (λ q. at + x.width ≤ q) (λ q. at ≤ q) _ (λ p h. omega arith) (lives_ge (at + x.width) xs))
+lives_ge at (x ∷ xs) = search (arith, all_weaken, lives_ge (at + x.width) xs)
 
 lives_lt_cons : (at w end : ℕ) (live : Option (List ℕ)) (xs : List Cell) → at < end → AllByRecursion (λ q. q < end) (lives (at + w) xs) → AllByRecursion (λ q. q < end) (lives at (record { width = w; live = live } ∷ xs))
-lives_lt_cons at w end None xs lt ih = ih
-lives_lt_cons at w end (Some bytes) xs lt ih = (lt, ih)
+lives_lt_cons at w end live xs lt ih = search arith
 
 pub lives_lt : (at : ℕ) (xs : List Cell) → AllByRecursion (λ c. 0 < c.width) xs → AllByRecursion (λ q. q < end_from at xs) (lives at xs)
 lives_lt at [] sound = tt
@@ -85,6 +75,4 @@ puts_insert old new p sound puts =
     ]
 
 pub cuts_insert : (old new : Store) (p : ℕ) → IsSound old → Cuts old new p → Inserts new old p
-cuts_insert old new p sound cuts =
-    let f = cuts.how in
-    cell_inserts new old old.first p f.width f.bytes f.cell.before f.cell.after f.cell.first refl f.cell.place f.cell.new_cells f.cell.old_cells sound
+cuts_insert old new p sound cuts = search (arith, cell_inserts)

@@ -1,10 +1,7 @@
 -- The names of records follow the live cells.
-use Rattle.krb_walk.proofs.Cited.{◌≡◌, ℕ, zero, suc, ◌+◌, ◌<◌, ◌≤◌, Bool, true, false, List, [], ◌∷◌, ◌++◌, length, map, take, drop, Option, Some, None, inl, inr, refl, sym, ap, ◌∙◌, arith, ◌&&◌, ◌||◌, ◌==◌, insert, remove, AllByRecursion, list_any, take-map, drop-map, map-append, nat_tests, Cell, Store, Record, IsSound, Changes, ReplyContent, Placed, Gone, Rewritten, is_rewritten, live_places, rank, RecordName, first_names, names_after}
-use Rattle.std.proofs.Math.Seq.{take-append_seam, drop-append_seam, drop-append-add}
+use Rattle.krb_walk.proofs.Cited.{◌≡◌, ℕ, zero, suc, ◌+◌, ◌<◌, ◌≤◌, Bool, true, false, List, [], ◌∷◌, ◌++◌, length, map, take, drop, Option, Some, None, refl, sym, ap, ◌∙◌, arith, ◌&&◌, ◌||◌, ◌==◌, insert, remove, AllByRecursion, list_any, take-map, drop-map, map-append, nat_tests, Cell, Store, Record, IsSound, Changes, ReplyContent, Placed, Gone, Rewritten, is_rewritten, live_places, rank, RecordName, first_names, names_after, take-append_seam, drop-append_seam, drop-append-add, all_join}
 use Rattle.krb_walk.proofs.Cells.{live_from, find_head, find_tail}
-use Rattle.krb_walk.proofs.Places.{or_cases}
 use Rattle.krb_walk.proofs.Lives.{lives, lives_ge, puts_insert, cuts_insert}
-use Rattle.krb_wire.proofs.Lists.{all_join}
 
 -- the names have the places of the live cells, in order
 abbrev pub AreNamed : Store → List RecordName → Type 0
@@ -40,22 +37,15 @@ first_named s = map_place (live_places s)
 
 -- a name is alive: there is a live cell at its place
 pub or_left : (b c : Bool) → b ≡ true → (b || c) ≡ true
-or_left true c e = refl
-or_left false c e = cc
+or_left b c e = search arith
 
 any_ge : (m p : ℕ) (ps : List ℕ) → AllByRecursion (λ q. m ≤ q) ps → list_any (λ q. q == p) ps ≡ true → m ≤ p
 any_ge m p [] all h = cc
-any_ge m p (q ∷ ps) all h = elim (or_cases (q == p) (list_any (λ x. x == p) ps) h) [
-  | inl e ↦ (let same : q ≡ p = grind (arith, nat_tests) in omega (arith, all.0))
-  | inr e ↦ any_ge m p ps all.1 e
-]
+any_ge m p (q ∷ ps) all h = grind (arith, nat_tests, any_ge m p ps all.1)
 
 pub any_lt : (m p : ℕ) (ps : List ℕ) → AllByRecursion (λ q. q < m) ps → list_any (λ q. q == p) ps ≡ true → p < m
 any_lt m p [] all h = cc
-any_lt m p (q ∷ ps) all h = elim (or_cases (q == p) (list_any (λ x. x == p) ps) h) [
-  | inl e ↦ (let same : q ≡ p = grind (arith, nat_tests) in omega (arith, all.0))
-  | inr e ↦ any_lt m p ps all.1 e
-]
+any_lt m p (q ∷ ps) all h = grind (arith, nat_tests, any_lt m p ps all.1)
 
 pub record LivesAt (at : ℕ) (cells : List Cell) (p : ℕ) : Type 0 where
   pub held : Record
@@ -63,12 +53,10 @@ pub record LivesAt (at : ℕ) (cells : List Cell) (p : ℕ) : Type 0 where
 
 -- a test that fails, with another
 pub and_false : (a b : Bool) → b ≡ false → (a && b) ≡ false
-and_false true b e = e
-and_false false b e = refl
+and_false a b e = search arith
 
-pub or_rest : (b c : Bool) → b ≡ false → (b || c) ≡ true → c ≡ true
-or_rest true c e h = cc
-or_rest false c e h = h
+or_rest : (b c : Bool) → b ≡ false → (b || c) ≡ true → c ≡ true
+or_rest b c e h = search arith
 
 in_lives_cons : (at w p : ℕ) (live : Option (List ℕ)) (b : Bool) (cells : List Cell) → (at == p) ≡ b → 0 < w → (list_any (λ q. q == p) (lives (at + w) cells) ≡ true → LivesAt (at + w) cells p)
     → list_any (λ q. q == p) (lives at (record { width = w; live = live } ∷ cells)) ≡ true → LivesAt at (record { width = w; live = live } ∷ cells) p
@@ -109,15 +97,7 @@ born_later n [] h = tt
 born_later n (x ∷ names) h = (omega (arith, h.0), born_later n names h.1)
 
 pub born_after : (n : ℕ) (content : ReplyContent) (old new : Store) (names : List RecordName) → AreBorn n names → AreBorn (suc n) (names_after n content old new names)
-born_after n (Placed p) old new names h =
-    let P : RecordName → Type 0 = λ x. x.birth < suc n in
-    let all = born_later n names h in
-    all_join P (take (rank new p) names) _ (all_take P (rank new p) names all) (omega arith, all_drop P (rank new p) names all)
-born_after n (Gone p) old new names h =
-    let P : RecordName → Type 0 = λ x. x.birth < suc n in
-    let all = born_later n names h in
-    all_join P (take (rank old p) names) _ (all_take P (rank old p) names all) (all_drop P (suc (rank old p)) names all)
-born_after n content old new names h = born_later n names h
+born_after n content old new names h = search (arith, born_later, all_join, all_take, all_drop)
 
 first_born_of : (ps : List ℕ) → AreBorn 1 (map {A = ℕ} {B = RecordName} (λ p. record { place = p; birth = 0 }) ps)
 first_born_of [] = tt
@@ -129,11 +109,5 @@ first_born s = first_born_of (live_places s)
 -- no name of a removed cell is left
 pub apart : (p : ℕ) (front back : List ℕ) → AllByRecursion (λ q. q < p) front → AllByRecursion (λ q. p < q) back → list_any (λ q. q == p) (front ++ back) ≡ true → ⊥
 apart p [] [] h k e = cc
-apart p [] (q ∷ back) h k e = elim (or_cases (q == p) (list_any (λ x. x == p) back) e) [
-  | inl a ↦ (let same : q ≡ p = grind (arith, nat_tests) in omega (arith, k.0))
-  | inr b ↦ apart p [] back tt k.1 b
-]
-apart p (q ∷ front) back h k e = elim (or_cases (q == p) (list_any (λ x. x == p) (front ++ back)) e) [
-  | inl a ↦ (let same : q ≡ p = grind (arith, nat_tests) in omega (arith, h.0))
-  | inr b ↦ apart p front back h.1 k b
-]
+apart p [] (q ∷ back) h k e = grind (arith, nat_tests, apart p [] back tt k.1)
+apart p (q ∷ front) back h k e = grind (arith, nat_tests, apart p front back h.1 k)

@@ -1,5 +1,5 @@
 -- A walk gives records in file order, and events keep records on their side of its cursor.
-use Rattle.krb_walk.proofs.Cited.{◌≡◌, ℕ, suc, ◌<◌, ◌≤◌, Bool, true, false, List, [], ◌∷◌, ◌++◌, Option, Some, None, inl, inr, refl, sym, ◌∙◌, subst, arith, ◌&&◌, AllByRecursion, nat_tests, Store, live_places, RecordName, WalkEvent, Track, carry_by, IsWalkEvent, IsTrack, place_of, goes_past_some, passes_record, HasTurn, ComeInTurn, KeepsSide}
+use Rattle.krb_walk.proofs.Cited.{◌≡◌, ℕ, suc, ◌<◌, ◌≤◌, Bool, true, false, List, [], ◌∷◌, ◌++◌, Option, Some, inl, inr, refl, sym, ◌∙◌, subst, arith, ◌&&◌, AllByRecursion, Store, live_places, RecordName, WalkEvent, Track, carry_by, IsWalkEvent, IsTrack, place_of, goes_past_some, passes_record, HasTurn, ComeInTurn, KeepsSide}
 use Rattle.krb_walk.proofs.WalkEvents.{effect_of}
 use Rattle.krb_walk.proofs.Ranked.{Keeps, still_after}
 use Rattle.krb_walk.proofs.Comes.{among_born, keeps_here, keeps_next, place_here, turn_later, IsBehind, behind_event, passed, comes, turn_if_row}
@@ -37,11 +37,7 @@ record BeginsBefore (from : Option ℕ) (p : ℕ) : Type 0 where
   le : at ≤ p
 
 begins_before : (b : Bool) (o from to : Option ℕ) (p : ℕ) → (b && goes_past_some o from to) ≡ true → o ≡ Some p → BeginsBefore from p
-begins_before true None from to p h is = cc
-begins_before true (Some q) None to p h is = cc
-begins_before true (Some q) (Some c) None p h is = cc
-begins_before true (Some q) (Some c) (Some d) p h is = let same : q ≡ p = cc in let le : c ≤ q = grind (arith, nat_tests) in record { at = c; is = refl; le = omega arith }
-begins_before false o from to p h is = cc
+begins_before b o from to p h is = search arith
 
 -- of two records that come in turn, the first is before the second
 pub in_order : (q r : RecordName) (n : ℕ) (s : Store) (names : List RecordName) (c : Option ℕ) (t : Track) (last : Store) → IsTrack n s names c t last → Keeps n s names → (a : ComeInTurn q r t) → a.first_place < a.second_place

@@ -1,21 +1,12 @@
 -- Each record comes as it is due, along a track on which the store may be rewritten.
-use Rattle.krb_walk.proofs.Cited.{◌≡◌, ℕ, zero, suc, ◌<◌, ◌≤◌, Bool, true, false, cond, List, [], ◌∷◌, ◌++◌, length, map, take, drop, Option, Some, None, inl, inr, refl, sym, ap, ◌∙◌, subst, arith, ◌&&◌, ◌||◌, ◌==◌, ◌⊎◌, list_any, nat_tests, Store, end_of, IsSound, live_places, rank, Changes, ReplyContent, Placed, Gone, Rewritten, RecordName, first_names, names_after, carry_by, is_name, place_among}
+use Rattle.krb_walk.proofs.Cited.{◌≡◌, ℕ, zero, suc, ◌<◌, ◌≤◌, Bool, true, false, cond, List, [], ◌∷◌, ◌++◌, length, map, take, drop, Option, Some, None, inl, inr, refl, sym, ap, ◌∙◌, subst, arith, ◌||◌, ◌==◌, ◌⊎◌, list_any, nat_tests, Store, end_of, IsSound, live_places, rank, Changes, ReplyContent, Placed, Gone, Rewritten, RecordName, first_names, names_after, carry_by, is_name, place_among}
 use Rattle.krb_walk.proofs.Lives.{puts_insert, cuts_insert}
 use Rattle.krb_walk.proofs.Names.{AreBorn, born_after, first_born, and_false}
 use Rattle.krb_walk.proofs.Carries.{Rises, places_rise, SameSide, carry_same_side, still_some}
 
 -- neither of two tests
-or_false : (a b : Bool) → a ≡ false → b ≡ false → (a || b) ≡ false
-or_false true b e f = cc
-or_false false b e f = f
-
-left_false : (a b : Bool) → (a || b) ≡ false → a ≡ false
-left_false true b e = cc
-left_false false b e = refl
-
 right_false : (a b : Bool) → (a || b) ≡ false → b ≡ false
-right_false true b e = cc
-right_false false b e = e
+right_false a b e = search arith
 
 -- names of which no two are the same
 abbrev pub AreDistinct : List RecordName → Type 0
@@ -25,28 +16,25 @@ AreDistinct (x ∷ names) = (list_any (is_name x) names ≡ false) × AreDistinc
 younger : (r x : RecordName) → r.birth < x.birth → is_name r x ≡ false
 younger r x lt = let e : (r.birth == x.birth) ≡ false = grind (arith, nat_tests) in and_false (r.place == x.place) _ e
 
-older : (r x : RecordName) → x.birth < r.birth → is_name r x ≡ false
-older r x lt = let e : (r.birth == x.birth) ≡ false = grind (arith, nat_tests) in and_false (r.place == x.place) _ e
-
 pub unborn : (n : ℕ) (r : RecordName) (names : List RecordName) → AreBorn n names → n ≤ r.birth → list_any (is_name r) names ≡ false
 unborn n r [] h le = refl
-unborn n r (x ∷ names) h le = or_false (is_name r x) _ (older r x (omega (arith, h.0))) (unborn n r names h.1 le)
+unborn n r (x ∷ names) h le = grind (arith, nat_tests, unborn n r names h.1 le)
 
 pub among_none : (r : RecordName) (names : List RecordName) (ps : List ℕ) → list_any (is_name r) names ≡ false → place_among r names ps ≡ None
 among_none r [] ps e = refl
 among_none r (x ∷ names) [] e = refl
-among_none r (x ∷ names) (p ∷ ps) e = ap (λ (b : Bool). cond b (Some p) (place_among r names ps)) (left_false (is_name r x) _ e) ∙ among_none r names ps (right_false (is_name r x) _ e)
+among_none r (x ∷ names) (p ∷ ps) e = search (arith, among_none r names ps (right_false (is_name r x) _ e))
 
 any_insert : (f : RecordName → Bool) (k : ℕ) (names : List RecordName) (nm : RecordName) → f nm ≡ false → list_any f names ≡ false → list_any f (take k names ++ nm ∷ drop k names) ≡ false
-any_insert f zero names nm e h = or_false (f nm) _ e h
-any_insert f (suc k) [] nm e h = or_false (f nm) false e refl
-any_insert f (suc k) (x ∷ names) nm e h = or_false (f x) _ (left_false (f x) _ h) (any_insert f k names nm e (right_false (f x) _ h))
+any_insert f zero names nm e h = search arith
+any_insert f (suc k) [] nm e h = search arith
+any_insert f (suc k) (x ∷ names) nm e h = search (arith, any_insert f k names nm e (right_false (f x) _ h))
 
 any_remove : (f : RecordName → Bool) (k : ℕ) (names : List RecordName) → list_any f names ≡ false → list_any f (take k names ++ drop (suc k) names) ≡ false
 any_remove f zero [] h = refl
-any_remove f zero (x ∷ names) h = right_false (f x) _ h
+any_remove f zero (x ∷ names) h = search arith
 any_remove f (suc k) [] h = refl
-any_remove f (suc k) (x ∷ names) h = or_false (f x) _ (left_false (f x) _ h) (any_remove f k names (right_false (f x) _ h))
+any_remove f (suc k) (x ∷ names) h = search (arith, any_remove f k names (right_false (f x) _ h))
 
 distinct_insert : (n p k : ℕ) (names : List RecordName) → AreDistinct names → AreBorn n names → AreDistinct (take k names ++ record { place = p; birth = n } ∷ drop k names)
 distinct_insert n p zero names d h = (unborn n (record { place = p; birth = n }) names h (omega arith), d)
@@ -61,9 +49,7 @@ distinct_remove (suc k) (x ∷ names) d = (any_remove (is_name x) k names d.0, d
 
 first_apart : (p lo end : ℕ) (ps : List ℕ) → p < lo → Rises lo ps end → list_any (is_name (record { place = p; birth = 0 })) (map {A = ℕ} {B = RecordName} (λ q. record { place = q; birth = 0 }) ps) ≡ false
 first_apart p lo end [] lt h = refl
-first_apart p lo end (q ∷ ps) lt h =
-    let e : (p == q) ≡ false = grind (arith, nat_tests, h.0) in
-    or_false (is_name (record { place = p; birth = 0 }) (record { place = q; birth = 0 })) _ (ap (λ (b : Bool). b && (0 == 0)) e) (first_apart p (suc q) end ps (omega (arith, h.0)) h.1)
+first_apart p lo end (q ∷ ps) lt h = search (arith, first_apart p (suc q) end ps (omega (arith, h.0)) h.1)
 
 first_distinct_of : (lo end : ℕ) (ps : List ℕ) → Rises lo ps end → AreDistinct (map {A = ℕ} {B = RecordName} (λ p. record { place = p; birth = 0 }) ps)
 first_distinct_of lo end [] h = tt
@@ -129,29 +115,20 @@ same_still : (was is : Option ℕ) (c : ℕ) → is ≡ was → (is ≡ None) �
 same_still was None c e = inl refl
 same_still was (Some p) c e = inr (record { p = p; q = p; was_at = sym e; is_at = refl; side = record { on = λ h. h; back = λ h. h } })
 
-pub among_insert : (r nm : RecordName) (p : ℕ) (front back : List ℕ) (names : List RecordName) → is_name r nm ≡ false → length names ≡ length (front ++ back) → place_among r (take (length front) names ++ nm ∷ drop (length front) names) (front ++ p ∷ back) ≡ place_among r names (front ++ back)
+among_insert : (r nm : RecordName) (p : ℕ) (front back : List ℕ) (names : List RecordName) → is_name r nm ≡ false → length names ≡ length (front ++ back) → place_among r (take (length front) names ++ nm ∷ drop (length front) names) (front ++ p ∷ back) ≡ place_among r names (front ++ back)
 among_insert r nm p [] back names diff e = ap (λ (b : Bool). cond b (Some p) (place_among r names back)) diff
 among_insert r nm p (q ∷ front) back [] diff e = absurd (omega (arith, e))
 among_insert r nm p (q ∷ front) back (x ∷ names) diff e = ap (λ (o : Option ℕ). cond (is_name r x) (Some q) o) (among_insert r nm p front back names diff (let s : length names ≡ length (front ++ back) = omega (arith, e) in s))
 
-same_by : (r x : RecordName) (b d : Bool) → (r.place == x.place) ≡ b → (r.birth == x.birth) ≡ d → (b && d) ≡ true → r ≡ x
-same_by r x true true e f h =
-    let place : r.place ≡ x.place = grind (arith, nat_tests) in
-    let birth : r.birth ≡ x.birth = grind (arith, nat_tests) in
-    ap (λ (p : ℕ). record { place = p; birth = r.birth }) place ∙ ap (λ (n : ℕ). record { place = x.place; birth = n }) birth
-same_by r x true false e f h = cc
-same_by r x false d e f h = cc
-
 pub same_name_is : (r x : RecordName) → is_name r x ≡ true → r ≡ x
-same_name_is r x e = same_by r x (r.place == x.place) (r.birth == x.birth) refl refl e
+same_name_is r x e = search arith
 
 among_removed : (r x : RecordName) (p : ℕ) (b : Bool) (names : List RecordName) (back : List ℕ) → is_name r x ≡ b → list_any (is_name x) names ≡ false → (place_among r names back ≡ None) ⊎ (place_among r names back ≡ cond b (Some p) (place_among r names back))
 among_removed r x p true names back e d = let same : r ≡ x = same_name_is r x e in inl (among_none r names back (subst (λ (y : RecordName). list_any (is_name y) names ≡ false) (sym same) d))
 among_removed r x p false names back e d = inr refl
 
 among_later : (b : Bool) (q : ℕ) (after before : Option ℕ) → (after ≡ None) ⊎ (after ≡ before) → (cond b (Some q) after ≡ None) ⊎ (cond b (Some q) after ≡ cond b (Some q) before)
-among_later true q after before h = inr refl
-among_later false q after before h = h
+among_later b q after before h = search arith
 
 pub among_remove : (r : RecordName) (p : ℕ) (front back : List ℕ) (names : List RecordName) → AreDistinct names → length names ≡ length (front ++ p ∷ back)
     → (place_among r (take (length front) names ++ drop (suc (length front)) names) (front ++ back) ≡ None) ⊎ (place_among r (take (length front) names ++ drop (suc (length front)) names) (front ++ back) ≡ place_among r names (front ++ p ∷ back))

@@ -1,20 +1,19 @@
 -- Extending a run by one event.
-use Rattle.krb_walk.proofs.Cited.{IfOk, OnOk, OnErr, ◌≡◌, ℕ, Result, Ok, Err, List, [], ◌∷◌, ◌++◌, refl, sym, ap, ◌∙◌, subst, append_assoc, append-nil, Event, Step, ReplyContent, content_of, Rules, SessionState, after, reply_to, IsReady, IsLawful, AllLawful, moment, history, state_after, replies, track_of, due_over, Ran}
+use Rattle.krb_walk.proofs.Cited.{IfOk, OnOk, OnErr, ◌≡◌, ℕ, Result, List, [], ◌∷◌, ◌++◌, refl, sym, ap, ◌∙◌, subst, append_assoc, append-nil, Event, Step, ReplyContent, content_of, Rules, SessionState, after, reply_to, IsReady, IsLawful, AllLawful, moment, history, state_after, replies, track_of, due_over, Ran, arith, IsFair}
 use Rattle.krb_walk.specs.declared.event.Reply.{Reply}
-use Rattle.krb_walk.specs.Fair.{IsFair}
 use Rattle.krb_walk.proofs.Effects.{ready_to_last, lawful_step}
 use Rattle.krb_walk.proofs.Fair.{history_fair, gives_due, gives_due_at_places}
 use Rattle.krb_walk.proofs.Damaged.{damaged_refuses}
 
-pub replies_more : {S I : Type 0} (r : Rules S I) (s : SessionState S) (es : List (Event I)) (e : Event I) → replies (history r s (es ++ e ∷ [])) ≡ replies (history r s es) ++ reply_to r (state_after r s es) e ∷ []
+replies_more : {S I : Type 0} (r : Rules S I) (s : SessionState S) (es : List (Event I)) (e : Event I) → replies (history r s (es ++ e ∷ [])) ≡ replies (history r s es) ++ reply_to r (state_after r s es) e ∷ []
 replies_more r s [] e = refl
 replies_more r s (x ∷ es) e = ap (λ (content : List ReplyContent). reply_to r s x ∷ content) (replies_more r (after r s x) es e)
 
-pub state_more : {S I : Type 0} (r : Rules S I) (s : SessionState S) (es : List (Event I)) (e : Event I) → state_after r s (es ++ e ∷ []) ≡ after r (state_after r s es) e
+state_more : {S I : Type 0} (r : Rules S I) (s : SessionState S) (es : List (Event I)) (e : Event I) → state_after r s (es ++ e ∷ []) ≡ after r (state_after r s es) e
 state_more r s [] e = refl
 state_more r s (x ∷ es) e = state_more r (after r s x) es e
 
-pub lawful_more : {S I : Type 0} (r : Rules S I) (s : SessionState S) (es : List (Event I)) (e : Event I) → AllLawful r (history r s es) → IsLawful r (moment r (state_after r s es) e) → AllLawful r (history r s (es ++ e ∷ []))
+lawful_more : {S I : Type 0} (r : Rules S I) (s : SessionState S) (es : List (Event I)) (e : Event I) → AllLawful r (history r s es) → IsLawful r (moment r (state_after r s es) e) → AllLawful r (history r s (es ++ e ∷ []))
 lawful_more r s [] e all last = (last, tt)
 lawful_more r s (x ∷ es) e all last = (all.0, lawful_more r (after r s x) es e all.1 last)
 
@@ -43,7 +42,7 @@ ran_more {S} r old mid new es e t u v ready ran is lawful content =
     (lawful_more r old es e ran.run.lawful (subst (λ (s : SessionState S). IsLawful r (moment r s e)) ran.state lawful))
 
 -- a run of one event
-pub ran_one : {S I : Type 0} (r : Rules S I) (old new : SessionState S) (e : Event I) (content : ReplyContent) → IsReady r old → content ≡ reply_to r old e → new ≡ after r old e → IsLawful r (moment r old e) → Ran r old new (e ∷ []) [] (content ∷ [])
+ran_one : {S I : Type 0} (r : Rules S I) (old new : SessionState S) (e : Event I) (content : ReplyContent) → IsReady r old → content ≡ reply_to r old e → new ≡ after r old e → IsLawful r (moment r old e) → Ran r old new (e ∷ []) [] (content ∷ [])
 ran_one r old new e content ready says is lawful = ran_of r old new (e ∷ []) [] (content ∷ []) ready (ap (λ (x : ReplyContent). x ∷ []) says) is (lawful, tt)
 
 -- a step whose reply is not appended
@@ -52,10 +51,8 @@ ran_step r old new w ready is = ran_one r old new (Step w) _ ready refl is (lawf
 
 -- an event that is applied, or runs out of memory
 pub ran_applied : {S I A E : Type 0} (r : Rules S I) (old new : SessionState S) (e : Event I) (result : Result (Reply A) E) → IsReady r old → IfOk result (λ x. content_of x ≡ reply_to r old e) → OnOk result (new ≡ after r old e) → OnOk result (IsLawful r (moment r old e)) → IfOk result (λ x. Ran r old new (e ∷ []) [] (content_of x ∷ []))
-ran_applied r old new e (Ok x) ready says is lawful = ran_one r old new e (content_of x) ready says is lawful
-ran_applied r old new e (Err want) ready says is lawful = tt
+ran_applied r old new e result ready says is lawful = search (arith, ran_one)
 
 -- what always holds, holds if there is an error
 pub on_err : {T E P : Type 0} (r : Result T E) → P → OnErr r P
-on_err (Ok _) holds = tt
-on_err (Err _) holds = holds
+on_err r holds = search arith

@@ -1,8 +1,7 @@
 -- Cells split at a place: lemmas for implementations of `Placed`.
-use Rattle.krb_walk.proofs.Cited.{◌≡◌, ℕ, ◌+◌, ◌<◌, ◌≤◌, Bool, true, false, List, [], ◌∷◌, ◌++◌, Option, Some, None, refl, sym, ap, ◌∙◌, arith, ◌&&◌, ◌==◌, nat_le, is_some, AllByRecursion, nat_tests, Cell, end_from, is_place_from, bytes_of_some, FaultKind}
+use Rattle.krb_walk.proofs.Cited.{◌≡◌, ℕ, ◌+◌, ◌<◌, ◌≤◌, Bool, true, false, List, [], ◌∷◌, ◌++◌, Option, Some, None, refl, sym, ap, ◌∙◌, arith, ◌&&◌, ◌==◌, nat_le, is_some, AllByRecursion, nat_tests, Cell, end_from, is_place_from, FaultKind, fault_from}
 use Rattle.krb_walk.proofs.Stops.{next_from, bytes_from, next_skips, end_from-ge, is_place_from-first, is_place_from-cons}
 use Rattle.krb_walk.proofs.Cells.{find_head, find_tail}
-use Rattle.krb_walk.specs.Store.{fault_from}
 
 -- ---- from a split
 
@@ -27,22 +26,18 @@ next_ahead at p (c ∷ before) after sound le =
 -- so does a look-up of bytes
 pub bytes_ahead : (at p : ℕ) (before after : List Cell) → AllByRecursion (λ c. 0 < c.width) before → end_from at before ≤ p → bytes_from at (before ++ after) p ≡ bytes_from (end_from at before) after p
 bytes_ahead at p [] after sound le = refl
-bytes_ahead at p (c ∷ before) after sound le =
-    ap bytes_of_some (find_tail at c.width p c.live (before ++ after) (omega (arith, end_from-ge (at + c.width) before, sound.0, le))) ∙ bytes_ahead (at + c.width) p before after sound.1 le
+bytes_ahead at p (c ∷ before) after sound le = search (arith, find_tail, end_from-ge, bytes_ahead (at + c.width) p before after sound.1 le)
 
 bytes_of_cell : (at w : ℕ) (live : Option (List ℕ)) (cells : List Cell) → bytes_from at (record { width = w; live = live } ∷ cells) at ≡ live
-bytes_of_cell at w None cells = ap bytes_of_some (find_head at w None cells)
-bytes_of_cell at w (Some bytes) cells = ap bytes_of_some (find_head at w (Some bytes) cells)
+bytes_of_cell at w live cells = grind (arith, nat_tests)
 
 -- the bytes at a split are those of the cell there
 pub bytes_here : (at w : ℕ) (live : Option (List ℕ)) (before after : List Cell) → AllByRecursion (λ c. 0 < c.width) before → bytes_from at (before ++ record { width = w; live = live } ∷ after) (end_from at before) ≡ live
-bytes_here at w live before after sound =
-    bytes_ahead at (end_from at before) before (record { width = w; live = live } ∷ after) sound (omega arith) ∙ bytes_of_cell (end_from at before) w live after
+bytes_here at w live before after sound = search (arith, bytes_ahead, find_head)
 
 -- there is no fault if none is reported
 pub whole_of : (place : ℕ) (kind : Option FaultKind) → is_some (fault_from place kind) ≡ false → kind ≡ None
-whole_of place None h = refl
-whole_of place (Some kind) h = absurd cc
+whole_of place kind h = search arith
 
 -- ---- to a split
 

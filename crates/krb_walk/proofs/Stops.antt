@@ -1,5 +1,5 @@
 -- Where a walk stops: at the first record left.
-use Rattle.krb_walk.proofs.Cited.{◌≡◌, ℕ, ◌+◌, ◌<◌, ◌≤◌, Bool, true, false, List, [], ◌∷◌, Option, Some, None, refl, sym, ap, subst, ◌∙◌, arith, ◌&&◌, ◌||◌, ◌==◌, nat_le, is_some, filter, find, filter_map, AllByRecursion, nat_tests, leb-true, leb-false, le-leb, lt-leb, Cell, Record, standing, end_from, is_place_from, record_of, record_of_some, bytes_of_some, StopsEnd, StopsGiveRecords, WalksBeginWithAll}
+use Rattle.krb_walk.proofs.Cited.{◌≡◌, ℕ, ◌+◌, ◌<◌, ◌≤◌, Bool, true, false, List, [], ◌∷◌, Option, Some, None, refl, sym, ap, subst, ◌∙◌, arith, ◌&&◌, ◌==◌, nat_le, is_some, filter, find, filter_map, AllByRecursion, nat_tests, leb-true, leb-false, le-leb, Cell, Record, standing, end_from, is_place_from, record_of, record_of_some, bytes_of_some, StopsEnd, StopsGiveRecords, WalksBeginWithAll}
 
 -- the first record at or after p, the records, and the cell at p, of cells from a place on
 abbrev pub next_from : ℕ → List Cell → ℕ → Option Record
@@ -32,21 +32,13 @@ free_is_passed : (at p : ℕ) → (nat_le p at && false) ≡ false
 free_is_passed at p = grind (arith, nat_tests)
 
 -- from their first place, or from before it, all records are left
-all_left_cons : (at w p : ℕ) (live : Option (List ℕ)) (cells : List Cell) → p ≤ at → left p (records_of (at + w) cells) ≡ records_of (at + w) cells → left p (records_of at (record { width = w; live = live } ∷ cells)) ≡ records_of at (record { width = w; live = live } ∷ cells)
-all_left_cons at w p None cells le ih = ih
-all_left_cons at w p (Some bytes) cells le ih = rw (le-leb p at le) (ap (λ (rs : List Record). record { place = at; next = at + w; bytes = bytes } ∷ rs) ih)
-
-pub all_left : (at p : ℕ) (cells : List Cell) → p ≤ at → left p (records_of at cells) ≡ records_of at cells
+all_left : (at p : ℕ) (cells : List Cell) → p ≤ at → left p (records_of at cells) ≡ records_of at cells
 all_left at p [] le = refl
-all_left at p (c ∷ cells) le = all_left_cons at c.width p c.live cells le (all_left (at + c.width) p cells (omega arith))
+all_left at p (c ∷ cells) le = search (arith, all_left (at + c.width) p cells (omega arith))
 
 -- a cell that begins before a place is not among the records left there
 left_behind : (at w q : ℕ) (live : Option (List ℕ)) (cells : List Cell) → at < q → left q (records_of at (record { width = w; live = live } ∷ cells)) ≡ left q (records_of (at + w) cells)
-left_behind at w q None cells lt = refl
-left_behind at w q (Some bytes) cells lt = rw (lt-leb q at lt) refl
-
-bytes_behind : (at w q : ℕ) (live : Option (List ℕ)) (cells : List Cell) → at < q → bytes_from at (record { width = w; live = live } ∷ cells) q ≡ bytes_from (at + w) cells q
-bytes_behind at w q live cells lt = let e : (at == q) ≡ false = grind (arith, nat_tests) in rw e refl
+left_behind at w q live cells lt = search arith
 
 bytes_here : (at w : ℕ) (bytes : List ℕ) (cells : List Cell) → bytes_from at (record { width = w; live = Some bytes } ∷ cells) at ≡ Some bytes
 bytes_here at w bytes cells = let e : (at == at) ≡ true = grind (arith, nat_tests) in rw e refl
@@ -56,12 +48,8 @@ pub is_place_from-first : (at : ℕ) (cells : List Cell) → is_place_from at ce
 is_place_from-first at [] = let e : (at == at) ≡ true = grind (arith, nat_tests) in e
 is_place_from-first at (c ∷ cells) = let e : (at == at) ≡ true = grind (arith, nat_tests) in rw e refl
 
-or_true : (b : Bool) → (b || true) ≡ true
-or_true true = refl
-or_true false = refl
-
 pub is_place_from-cons : (at w q : ℕ) (live : Option (List ℕ)) (cells : List Cell) → is_place_from (at + w) cells q ≡ true → is_place_from at (record { width = w; live = live } ∷ cells) q ≡ true
-is_place_from-cons at w q live cells e = ap (λ (b : Bool). (at == q) || b) e ∙ or_true (at == q)
+is_place_from-cons at w q live cells e = search arith
 
 -- what holds of a stop at a record, for cells from a place on
 pub record Found (at : ℕ) (cells : List Cell) (p : ℕ) (r : Record) : Type 0 where
@@ -75,18 +63,7 @@ pub record Found (at : ℕ) (cells : List Cell) (p : ℕ) (r : Record) : Type 0 
 
 -- the record is found after a cell that is passed
 found_after : (at w p : ℕ) (live : Option (List ℕ)) (cells : List Cell) (r : Record) → 0 < w → left p (records_of at (record { width = w; live = live } ∷ cells)) ≡ left p (records_of (at + w) cells) → Found (at + w) cells p r → Found at (record { width = w; live = live } ∷ cells) p r
-found_after at w p live cells r some same rest =
-    let lt : at < r.place = omega (arith, rest.begins) in
-    let next_lt : at < r.next = omega (arith, lt, rest.ahead) in
-    record {
-      first = same ∙ rest.first ∙ ap (λ (rs : List Record). r ∷ rs) (sym (left_behind at w r.next live cells next_lt));
-      bytes = bytes_behind at w r.place live cells lt ∙ rest.bytes;
-      place = is_place_from-cons at w r.next live cells rest.place;
-      begins = omega (arith, lt);
-      at_or_after = rest.at_or_after;
-      ahead = rest.ahead;
-      within = rest.within;
-    }
+found_after at w p live cells r some same rest = grind (arith, nat_tests)
 
 -- or the record is the first cell
 found_here : (at w p : ℕ) (bytes : List ℕ) (cells : List Cell) → 0 < w → p ≤ at → Found at (record { width = w; live = Some bytes } ∷ cells) p (record { place = at; next = at + w; bytes = bytes })
@@ -123,16 +100,9 @@ found at p [] r sound is = cc
 found at p (c ∷ cells) r sound is = found_cons at c.width p c.live (nat_le p at) cells r refl sound.0 (λ e. found (at + c.width) p cells r sound.1 e) is
 
 -- if no record is found, none is left
-none_cons : (at w p : ℕ) (live : Option (List ℕ)) (b : Bool) (cells : List Cell) → nat_le p at ≡ b → (next_from (at + w) cells p ≡ None → left p (records_of (at + w) cells) ≡ []) → next_from at (record { width = w; live = live } ∷ cells) p ≡ None → left p (records_of at (record { width = w; live = live } ∷ cells)) ≡ []
-none_cons at w p (Some bytes) true cells e ih is = let stops = next_stops at p w bytes cells (leb-true p at e) in cc
-none_cons at w p None b cells e ih is = ih (sym (next_skips at p w None cells (free_is_passed at p)) ∙ is)
-none_cons at w p (Some bytes) false cells e ih is =
-    let skip : (nat_le p at && true) ≡ false = rw e refl in
-    left_behind at w p (Some bytes) cells (leb-false p at e) ∙ ih (sym (next_skips at p w (Some bytes) cells skip) ∙ is)
-
 pub none_left : (at p : ℕ) (cells : List Cell) → next_from at cells p ≡ None → left p (records_of at cells) ≡ []
 none_left at p [] is = refl
-none_left at p (c ∷ cells) is = none_cons at c.width p c.live (nat_le p at) cells refl (λ e. none_left (at + c.width) p cells e) is
+none_left at p (c ∷ cells) is = grind (arith, nat_tests, none_left (at + c.width) p cells)
 
 -- ---- the laws
 

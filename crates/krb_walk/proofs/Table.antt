@@ -1,9 +1,7 @@
 -- How the events change a session's table of cursors.
-use Rattle.krb_walk.proofs.Cited.{◌≡◌, ℕ, ◌<◌, ◌≤◌, true, List, ◌++◌, length, map, take, drop, set, Option, Some, None, Result, Ok, Err, refl, sym, ap, ◌∙◌, subst, arith, IfOk, OnOk, OnErr, slice_get, length-take, length-append, length-map, take-append-drop, Code, FaultKind, Store, Record, end_of, end_stop, stop_of, stop_at, next_live, is_place, Puts, Cuts, carry, Rewrites, Rules, PutGives, CutGives, RewriteGives, SessionState, stop_cursor}
-use Rattle.std.proofs.Math.Seq.{take-set-lt, take-append_seam}
+use Rattle.krb_walk.proofs.Cited.{◌≡◌, ℕ, ◌<◌, ◌≤◌, true, List, ◌++◌, length, map, take, drop, set, Result, Ok, Err, refl, sym, ap, ◌∙◌, subst, arith, IfOk, OnOk, OnErr, slice_get, length-take, length-append, length-map, take-append-drop, Code, Store, end_of, stop_at, next_live, is_place, Puts, Cuts, carry, Rewrites, Rules, PutGives, CutGives, RewriteGives, SessionState, stop_cursor, take-set-lt, take-append_seam, IsKept, place_after}
 use Rattle.krb_walk.specs.declared.refusal.Refusal.{Refusal}
 use Rattle.krb_walk.specs.declared.refusal.Refusal.TheVariants.{Code as ByCode, NoMemory}
-use Rattle.krb_walk.specs.History.{IsKept, place_after}
 use Rattle.krb_walk.proofs.Places.{Extends, puts-extends, cuts-extends, sound_kept, place_kept}
 use Rattle.krb_walk.proofs.Effects.{was_map, place_carried}
 
@@ -12,16 +10,8 @@ abbrev pub shown : {S : Type 0} → S → List ℕ → ℕ → SessionState S
 shown store table count = record { store = store; cursors = take count table }
 
 -- the place after a stop is where the cursor goes
-place_after_end : (end : ℕ) (fault : Option FaultKind) → place_after (end_stop end fault) ≡ end
-place_after_end end None = refl
-place_after_end end (Some kind) = refl
-
-place_after_of : (s : Store) (found : Option Record) → place_after (stop_of s found) ≡ stop_cursor (end_of s) found
-place_after_of s None = place_after_end (end_of s) s.fault
-place_after_of s (Some r) = refl
-
 pub place_after-stop_at : (s : Store) (c : ℕ) → place_after (stop_at s c) ≡ stop_cursor (end_of s) (next_live s c)
-place_after-stop_at s c = place_after_of s (next_live s c)
+place_after-stop_at s c = search arith
 
 -- a cursor is written
 pub go_shown : {S : Type 0} (s : SessionState S) (store : S) (table : List ℕ) (count walk to : ℕ) → shown store table count ≡ s → walk < length s.cursors → shown store (set table walk to) count ≡ record { store = s.store; cursors = set s.cursors walk to }

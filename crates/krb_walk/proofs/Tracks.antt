@@ -6,27 +6,22 @@ use Rattle.krb_walk.proofs.Effects.{same_extends, changes-extends}
 use Rattle.krb_walk.proofs.WalkEvents.{end_of_step, Advances, effect_of, stays_put}
 
 -- a cursor that does not move passes no place
-pub past_none : (p : ℕ) (o q : Option ℕ) → ((d : ℕ) → o ≡ Some d → q ≡ Some d) → goes_past p o q ≡ false
-past_none p None q h = refl
-past_none p (Some d) q h = ap (goes_past p (Some d)) (h d refl) ∙ grind (arith, nat_tests)
+past_none : (p : ℕ) (o q : Option ℕ) → ((d : ℕ) → o ≡ Some d → q ≡ Some d) → goes_past p o q ≡ false
+past_none p o q h = grind (arith, nat_tests)
 
 pub past_by : (p c d : ℕ) (o q : Option ℕ) → o ≡ Some c → q ≡ Some d → goes_past p o q ≡ (nat_le c p && nat_lt p d)
 past_by p c d o q is_c is_d = ap (λ (x : Option ℕ). goes_past p x q) is_c ∙ ap (goes_past p (Some c)) is_d
 
-pub none_due : (ps : List ℕ) → filter_map {X = ℕ} {Y = Row} (λ p. None) ps ≡ []
+none_due : (ps : List ℕ) → filter_map {X = ℕ} {Y = Row} (λ p. None) ps ≡ []
 none_due [] = refl
 none_due (p ∷ ps) = none_due ps
 
 -- one track after another is a track
 pub tracks_join : (n : ℕ) (s : Store) (names : List RecordName) (c : Option ℕ) (t u : Track) (mid last : Store) → IsTrack n s names c t mid → IsTrack (n + length t) mid (last_names names t) (last_cursor c t) u last → IsTrack n s names c (t ++ u) last
-tracks_join n s names c [] u mid last h k =
-    let e : n + 0 ≡ n = omega arith in
-    subst (λ (m : ℕ). IsTrack m s names c u last) e (subst (λ (z : Store). IsTrack (n + 0) z names c u last) h k)
-tracks_join n s names c (x ∷ xs) u mid last h k =
-    let e : n + suc (length xs) ≡ suc n + length xs = omega arith in
-    (h.0, tracks_join (suc n) x.after _ x.to xs u mid last h.1 (subst (λ (m : ℕ). IsTrack m mid (last_names names (x ∷ xs)) (last_cursor c (x ∷ xs)) u last) e k))
+tracks_join n s names c [] u mid last h k = search arith
+tracks_join n s names c (x ∷ xs) u mid last h k = search (arith, tracks_join (suc n) x.after _ x.to xs u mid last h.1)
 
-pub track_extends : (n : ℕ) (s : Store) (names : List RecordName) (c : Option ℕ) (t : Track) (last : Store) → PlacesStay t → IsTrack n s names c t last → Extends s last
+track_extends : (n : ℕ) (s : Store) (names : List RecordName) (c : Option ℕ) (t : Track) (last : Store) → PlacesStay t → IsTrack n s names c t last → Extends s last
 track_extends n s names c [] last k h = same_extends s last h
 track_extends n s names c (x ∷ xs) last k h = extends_on s x.after last (subst (λ (z : Store). Extends z x.after) h.0.before (changes-extends x.reply x.before x.after k.0 h.0.changes)) (track_extends (suc n) x.after _ x.to xs last k.1 h.1)
 

@@ -1,5 +1,5 @@
 -- What one event does to a walk's cursor, and what it gives.
-use Rattle.krb_walk.proofs.Cited.{◌≡◌, ℕ, true, false, List, [], Option, Some, None, inl, inr, refl, sym, ap, ◌∙◌, subst, arith, ◌==◌, ◌⊎◌, IsSomeAnd, nat_tests, Store, end_of, next_live, ReplyContent, Started, Gave, Ended, Faulted, Placed, Gone, Rewritten, Refused, is_step_reply, completes, is_rewritten, stop_cursor, rows_of_reply, RecordName, WalkEvent, carry_by, AnswersStep, Stays, MovesCursor, IsWalkEvent, rows_at_event, CursorIsSound, CursorMayGo}
+use Rattle.krb_walk.proofs.Cited.{◌≡◌, ℕ, true, false, List, [], Option, Some, inl, inr, refl, sym, ap, ◌∙◌, subst, arith, ◌⊎◌, IsSomeAnd, nat_tests, Store, end_of, next_live, ReplyContent, is_step_reply, completes, is_rewritten, stop_cursor, rows_of_reply, RecordName, WalkEvent, carry_by, AnswersStep, Stays, MovesCursor, IsWalkEvent, rows_at_event, CursorIsSound, CursorMayGo}
 use Rattle.krb_walk.proofs.Cells.{rows_of_next}
 use Rattle.krb_walk.proofs.Places.{stop_forward}
 
@@ -23,11 +23,6 @@ pub record Advances (x : WalkEvent) : Type 0 where
   pub answered : AnswersStep x.before x.walk at x.reply (end_of_step x at)
   pub own : is_step_reply x.walk x.reply ≡ true
 
--- a reply that is not to a step of the walk gives no row
-silent_of : (w n : ℕ) (content : ReplyContent) → is_step_reply w content ≡ false → rows_of_reply w n content ≡ []
-silent_of w n (Gave v p next bytes) e = rw e refl
-silent_of w n content e = refl
-
 -- what holds of a step with its reply
 record Answered (s : Store) (w c : ℕ) (content : ReplyContent) (to : ℕ) : Type 0 where
   leads : to ≡ stop_cursor (end_of s) (next_live s c)
@@ -35,95 +30,25 @@ record Answered (s : Store) (w c : ℕ) (content : ReplyContent) (to : ℕ) : Ty
   own : is_step_reply w content ≡ true
 
 answered : (s : Store) (w c : ℕ) (content : ReplyContent) (to : ℕ) → AnswersStep s w c content to → Answered s w c content to
-answered s w c (Gave v p next bytes) to a =
-    let same : v ≡ w = a.0 in
-    let own : (v == w) ≡ true = grind (arith, nat_tests) in
-    record {
-      leads = a.2 ∙ sym (ap (stop_cursor (end_of s)) a.1);
-      same_rows = λ n. rw own (sym (ap (rows_of_next n) a.1));
-      own = own;
-    }
-answered s w c (Ended v next) to a =
-    let same : v ≡ w = a.0 in
-    record {
-      leads = a.4 ∙ sym (ap (stop_cursor (end_of s)) a.1);
-      same_rows = λ n. sym (ap (rows_of_next n) a.1);
-      own = grind (arith, nat_tests);
-    }
-answered s w c (Faulted v fault) to a =
-    let same : v ≡ w = a.0 in
-    record {
-      leads = a.3 ∙ sym (ap (stop_cursor (end_of s)) a.1);
-      same_rows = λ n. sym (ap (rows_of_next n) a.1);
-      own = grind (arith, nat_tests);
-    }
-answered s w c (Started v next) to a = absurd a
-answered s w c (Placed p) to a = absurd a
-answered s w c (Gone p) to a = absurd a
-answered s w c (Rewritten p) to a = absurd a
-answered s w c (Refused code) to a = absurd a
-
-goes_by : (x : WalkEvent) (at : ℕ) (to : Option ℕ) → x.stepped ≡ true → x.from ≡ Some at → x.to ≡ to → IsSomeAnd to (AnswersStep x.before x.walk at x.reply) → Advances x
-goes_by x at (Some d) step stood is a =
-    let content = answered x.before x.walk at x.reply d a in
-    record {
-      stepped = step;
-      at = at;
-      stood = stood;
-      is_there = is ∙ ap Some content.leads;
-      same_rows = content.same_rows x.number;
-      answered = subst (AnswersStep x.before x.walk at x.reply) content.leads a;
-      own = content.own;
-    }
-goes_by x at None step stood is a = absurd a
+answered s w c content to a = search arith
 
 pub effect_of : (x : WalkEvent) → Stays x ⊎ MovesCursor x → Holds x ⊎ Advances x
-effect_of x effect = elim effect [
-  | inl stays ↦ inl (record { idle = stays.idle; other = stays.other; stays = stays.stays; silent = silent_of x.walk x.number x.reply stays.other })
-  | inr steps ↦ inr (goes_by x steps.at x.to steps.stepped steps.stood refl steps.answered)
-]
+effect_of x effect = grind (arith, nat_tests)
 
 -- after a reply that no record is left, the walk's cursor is at the end
-pub completes_is_reply : (w : ℕ) (content : ReplyContent) → completes w content ≡ true → is_step_reply w content ≡ true
-completes_is_reply w (Gave v p next bytes) h = cc
-completes_is_reply w (Ended v next) h = h
-completes_is_reply w (Faulted v fault) h = h
-completes_is_reply w content h = h
-
-ends_at : (s : Store) (w c : ℕ) (content : ReplyContent) (to : ℕ) → AnswersStep s w c content to → completes w content ≡ true → to ≡ end_of s
-ends_at s w c (Gave v p next bytes) to a h = cc
-ends_at s w c (Ended v next) to a h = a.4
-ends_at s w c (Faulted v fault) to a h = a.3
-ends_at s w c (Started v next) to a h = absurd a
-ends_at s w c (Placed p) to a h = absurd a
-ends_at s w c (Gone p) to a h = absurd a
-ends_at s w c (Rewritten p) to a h = absurd a
-ends_at s w c (Refused code) to a h = absurd a
-
 pub ends_of : (x : WalkEvent) → Stays x ⊎ MovesCursor x → completes x.walk x.reply ≡ true → x.to ≡ Some (end_of x.before)
-ends_of x effect content = elim (effect_of x effect) [
-  | inl holds ↦ cc (holds.other, completes_is_reply x.walk x.reply content)
-  | inr goes ↦ goes.is_there ∙ ap Some (ends_at x.before x.walk goes.at x.reply _ goes.answered content)
-]
+ends_of x effect content = grind (arith, nat_tests)
 
 pub completes_stepped : (x : WalkEvent) → Stays x ⊎ MovesCursor x → completes x.walk x.reply ≡ true → x.stepped ≡ true
-completes_stepped x effect content = elim (effect_of x effect) [
-  | inl holds ↦ cc (holds.other, completes_is_reply x.walk x.reply content)
-  | inr goes ↦ goes.stepped
-]
+completes_stepped x effect content = grind (arith, nat_tests)
 
 -- without an accepted rewrite, a cursor is not carried
 pub carry_by-same : (content : ReplyContent) (old new : Store) (c : ℕ) → is_rewritten content ≡ false → carry_by content old new c ≡ c
-carry_by-same (Rewritten p) old new c e = cc
-carry_by-same content old new c e = refl
-
-own_no_rewrite : (w : ℕ) (content : ReplyContent) → is_step_reply w content ≡ true → is_rewritten content ≡ false
-own_no_rewrite w (Rewritten p) e = cc
-own_no_rewrite w content e = refl
+carry_by-same content old new c e = search arith
 
 -- at a step, a cursor is not carried
 pub carry_by-own : (w : ℕ) (content : ReplyContent) (old new : Store) (c : ℕ) → is_step_reply w content ≡ true → carry_by content old new c ≡ c
-carry_by-own w content old new c e = carry_by-same content old new c (own_no_rewrite w content e)
+carry_by-own w content old new c e = grind (arith, nat_tests)
 
 pub stays_put : (x : WalkEvent) (d : ℕ) → Holds x → is_rewritten x.reply ≡ false → x.from ≡ Some d → x.to ≡ Some d
 stays_put x d holds put_by at = holds.stays d at ∙ ap Some (carry_by-same x.reply x.before x.after d put_by)

@@ -1,10 +1,8 @@
-use Rattle.krb_keytab.proofs.Cited.{◌∙◌, ap, subst, Puts, name_fits, puts_then, EntryParts, written_form}
-use Rattle.krb_keytab.proofs.WrittenLemmas.{name_of_entry_fits}
+use Rattle.krb_keytab.proofs.Cited.{subst, Puts, puts_then, EntryParts, written_form, arith, nat_tests}
 use Rattle.krb_keytab.proofs.form.put_entry.Goals as goal
 
 pub put_kt_principal-requires-clause-spelled : goal.put_kt_principal-requires-clause-spelled
-put_kt_principal-requires-clause-spelled g c =
-    ap (λ (e : EntryParts). name_fits c.args.format e.principal) c.entry.view_is ∙ name_of_entry_fits c.args.format c.args.entry.now c.requires.fits
+put_kt_principal-requires-clause-spelled g c = grind (arith, nat_tests)
 
 pub returns : goal.returns
 returns g c =

@@ -10,6 +10,4 @@ returns-in-Ok c =
     (passed c.args.format c.args.image.now c.args.at c.in-Ok.length (λ i. omega (arith, c.type_inv.image i)) c.requires.within within.1 value)
 
 pub returns-in-Err : goal.returns-in-Err
-returns-in-Err c =
-    let value = rw c.tail.ensures at c.in-Err.ensures.value in
-    ends_there c.args.format c.args.image.now c.args.at c.in-Err.ending (λ i. omega (arith, c.type_inv.image i)) value
+returns-in-Err c = search (arith, ends_there)

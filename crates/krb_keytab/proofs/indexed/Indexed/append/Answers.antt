@@ -9,9 +9,7 @@ use Rattle.krb_keytab.proofs.PlaceLemmas.{slots_len}
 use Rattle.krb_keytab.proofs.indexed.Indexed.append.Goals as goal
 
 pub reserve_one-requires : goal.reserve_one-requires
-reserve_one-requires g c =
-    let i = c.self.inside in
-    omega (arith, c.count-few.ensures.few, c.count-few.ensures.count, ap length c.self.invariant.0.table, slots_len 2 i.keytab.state.contents.cells, ap (λ (y : KeytabState). length y.contents.cells) (state_is c.self.view_is), i.slots.ok)
+reserve_one-requires g c = search (arith, slots_len, state_is)
 
 pub returns-in_err-reserve_one-clause-appended : goal.returns-in_err-reserve_one-clause-appended
 returns-in_err-reserve_one-clause-appended g c =
@@ -28,9 +26,7 @@ returns-in_err-reserve_one-clause-appended g c =
     )
 
 pub push_live-requires-clause-few : goal.push_live-requires-clause-few
-push_live-requires-clause-few g c =
-    let i = c.self.inside in
-    omega (arith, c.count-few.ensures.few, c.count-few.ensures.count, ap length c.self.invariant.0.table, slots_len 2 i.keytab.state.contents.cells, ap (λ (y : KeytabState). length y.contents.cells) (state_is c.self.view_is), i.slots.ok, c.reserve_one.ensures.len)
+push_live-requires-clause-few g c = search (arith, slots_len, state_is)
 
 pub invariant_of-self-2 : goal.invariant_of-self-2
 invariant_of-self-2 g c =

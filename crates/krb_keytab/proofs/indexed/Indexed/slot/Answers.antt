@@ -5,8 +5,7 @@ use Rattle.krb_keytab.proofs.PlaceLemmas.{slots_len}
 use Rattle.krb_keytab.proofs.indexed.Indexed.slot.Goals as goal
 
 pub index-requires : goal.index-requires
-index-requires g c =
-    omega (arith, ap length (table_held c.self.invariant.0 (state_is c.self.view_is) refl), slots_len 2 c.args.self.now.state.contents.cells, c.requires, c.self.inside.slots.ok)
+index-requires g c = search (arith, table_held, state_is, slots_len)
 
 pub returns : goal.returns
 returns g c =

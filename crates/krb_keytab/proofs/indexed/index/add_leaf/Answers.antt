@@ -1,14 +1,12 @@
-use Rattle.krb_keytab.proofs.Cited.{◌≡◌, ◌*◌, ◌+◌, ◌^◌, ℕ, arith, ap, ◌∙◌, pow-suc}
-use Rattle.krb_keytab.proofs.GrownLemmas.{stays_grown, doubles_grown, grown_height, height_low}
+use Rattle.krb_keytab.proofs.Cited.{◌≡◌, ◌*◌, ◌+◌, ◌^◌, ℕ, arith, ap, ◌∙◌, pow-suc, nat_tests}
+use Rattle.krb_keytab.proofs.GrownLemmas.{stays_grown, doubles_grown, grown_height}
 use Rattle.krb_keytab.proofs.indexed.index.add_leaf.Goals as goal
 
 pub returns-then-count-leaves : goal.returns-then-count-leaves
 returns-then-count-leaves g c = record { grown = stays_grown c.args.tree.now c.args.count c.requires.height (omega (arith, c.leaves.ensures.power)) }
 
 pub double-requires-clause-low : goal.double-requires-clause-low
-double-requires-clause-low g c =
-    let full : c.args.count ≡ 2 ^ c.args.tree.now.height = omega (arith, c.leaves.ensures.power, c.requires.height.0) in
-    height_low c.args.count c.args.tree.now.height full c.requires.few
+double-requires-clause-low g c = grind (arith, nat_tests)
 
 pub double-requires-clause-room : goal.double-requires-clause-room
 double-requires-clause-room g c =

@@ -1,17 +1,14 @@
 -- The descent from the root ends at the first leaf that is large enough.
-use Rattle.krb_keytab.proofs.Cited.{◌≡◌, ℕ, ◌-◌, ◌/◌, ◌^◌, length, ap, arith, subst, sym, ◌∙◌}
+use Rattle.krb_keytab.proofs.Cited.{◌≡◌, ℕ, ◌-◌, ◌/◌, ◌^◌, length, ap, arith, subst, sym, ◌∙◌, nat_tests}
 use Rattle.std.specs.Prelude.{Some}
-use Rattle.krb_keytab.proofs.NodeLemmas.{has_children, descends_from_root, descends_on, descends_to, none_fits, Descends}
+use Rattle.krb_keytab.proofs.NodeLemmas.{has_children, descends_on, descends_to, none_fits, Descends}
 use Rattle.krb_keytab.proofs.indexed.nodes.first_leaf.Goals as goal
 
 pub returns-then-look-need-clause-first : goal.returns-then-look-need-clause-first
 returns-then-look-need-clause-first c = sym (none_fits _ _ _ c.requires (omega (arith, c.look.ensures.value)))
 
 pub levels-init : goal.levels-init
-levels-init c = record {
-  is_at = descends_from_root _ _ _ (omega (arith, c.look.ensures.value));
-  looks = omega arith;
-}
+levels-init c = grind (arith, nat_tests)
 
 pub child_with-node-requires-clause-there : goal.child_with-node-requires-clause-there
 child_with-node-requires-clause-there c =

@@ -1,4 +1,4 @@
-use Rattle.krb_keytab.proofs.Cited.{◌≤◌, arith, OnTrue_from, OnFalse_from, leb-true, leb-false}
+use Rattle.krb_keytab.proofs.Cited.{arith, OnTrue_from, OnFalse_from, leb-true, leb-false, nat_tests}
 use Rattle.krb_keytab.proofs.Stores.{state_is}
 use Rattle.krb_keytab.proofs.Additions.{appends, append_full, append_fits}
 use Rattle.krb_keytab.proofs.keytab.Keytab.has_room.Goals as goal
@@ -14,6 +14,4 @@ returns-clause-full g c =
     OnFalse_from _ _ (λ no. append_full _ _ _ _ _ _ c.len_with.result a (leb-false _ _ no))
 
 pub returns-clause-small : goal.returns-clause-small
-returns-clause-small g c = OnTrue_from _ _ (λ yes.
-    let within : c.len_with.result ≤ c.self.inside.limit = leb-true _ _ yes in
-    omega (arith, within, c.self.invariant.0.limit_fits, c.len_with.ensures, c.len.ensures.len))
+returns-clause-small g c = grind (arith, nat_tests)

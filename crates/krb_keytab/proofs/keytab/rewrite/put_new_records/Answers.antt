@@ -1,12 +1,9 @@
-use Rattle.krb_keytab.proofs.Cited.{ap, arith, ◌∙◌, Big, left_all, left_next, left_room, left_none, cell, new_record}
+use Rattle.krb_keytab.proofs.Cited.{ap, arith, Big, left_all, left_next, left_room, left_none, cell, new_record}
 use Rattle.krb_keytab.proofs.NewRecords.{new_records, new_records_all, new_records_next}
 use Rattle.krb_keytab.proofs.keytab.rewrite.put_new_records.Goals as goal
 
 pub entries-init : goal.entries-init
-entries-init g c = record {
-  left = left_all (new_records_all c.args.keytab.now.state c.into_iter-entry-iterator.result (c.into_iter-entry-iterator.ensures.into_iter_gives ∙ c.entries-entry-items.ensures)) c.requires.room;
-  small = c.requires.small;
-}
+entries-init g c = search (arith, left_all, new_records_all)
 
 pub put_new_record-requires-clause-room : goal.put_new_record-requires-clause-room
 put_new_record-requires-clause-room g c =

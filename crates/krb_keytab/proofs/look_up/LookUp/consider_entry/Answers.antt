@@ -1,11 +1,9 @@
-use Rattle.krb_keytab.proofs.Cited.{true, false, sym, filter, PlacedEntry, is_match}
+use Rattle.krb_keytab.proofs.Cited.{true, false, sym, filter, PlacedEntry, is_match, arith}
 use Rattle.krb_keytab.proofs.LookUpLemmas.{no_match, one_match, match_by_enctype}
 use Rattle.krb_keytab.proofs.look_up.LookUp.consider_entry.Goals as goal
 
 pub returns-then-not-has_enctype : goal.returns-then-not-has_enctype
-returns-then-not-has_enctype c = λ n xs same so_far.
-    let x : PlacedEntry = (c.args.place, c.args.entry) in
-    no_match n c.args.kvno c.args.enctype xs x c.args.self.now.named c.args.self.now.best (match_by_enctype n c.args.enctype x false same c.if-not-has_enctype.ensures) so_far
+returns-then-not-has_enctype c = search (arith, no_match, match_by_enctype)
 
 pub returns-then-is_better : goal.returns-then-is_better
 returns-then-is_better c = λ n xs same so_far.

@@ -1,4 +1,4 @@
-use Rattle.krb_keytab.proofs.Cited.{◌≡◌, ℕ, List, Some, false, sym, ap, refl, ◌∙◌, length, IsTrue, bytes_eq, components_of_count}
+use Rattle.krb_keytab.proofs.Cited.{◌≡◌, ℕ, List, Some, false, sym, ap, refl, ◌∙◌, length, IsTrue, bytes_eq, components_of_count, arith}
 use Rattle.krb_keytab.proofs.HasNameLemmas.{none_opens, no_realm, begins, other_count, by_components, same_by, other_components}
 use Rattle.krb_keytab.proofs.look_up.has_name.has_name.Goals as goal
 
@@ -6,8 +6,7 @@ pub returns-in_default : goal.returns-in_default
 returns-in_default g c = λ e read. absurd (none_opens c.args.format c.args.bytes.now e c.order-order.result c.order-order.ensures c.in_default.ensures read)
 
 pub returns-in_default-split_data16 : goal.returns-in_default-split_data16
-returns-in_default-split_data16 g c = λ e read.
-    absurd (no_realm c.args.format c.args.bytes.now e c.order-order.result c.in-Some.field c.in-Some.rest.now c.order-order.ensures c.in-Some.ensures c.in_default-split_data16.ensures read)
+returns-in_default-split_data16 g c = search (arith, no_realm)
 
 pub returns-then-not-is_count : goal.returns-then-not-is_count
 returns-then-not-is_count g c = λ e read.
