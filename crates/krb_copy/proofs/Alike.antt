@@ -1,6 +1,7 @@
 -- Twins are alike in the same way in both directions and over three entries.
-use Rattle.krb_copy.proofs.Cited.{Bool, true, false, refl, ◌≡◌, ◌&&◌, EntryParts, are_twins, are_same}
+use Rattle.krb_copy.proofs.Cited.{true, false, ◌≡◌, ◌∙◌, sym, EntryParts, are_twins, are_same}
 use Rattle.std.specs.Cmp.{IsEquivalence}
+use Rattle.std.proofs.lemmas.Bool.{and_parts}
 use Rattle.std.proofs.lemmas.Cmp.{nat_eq_equiv, on_equiv, and_equiv, nat_list_eq_equiv}
 use Rattle.krb_audit.proofs.FirstNumbers.{same_equiv as names_equiv}
 
@@ -10,9 +11,13 @@ twins_equiv = and_equiv (on_equiv (λ (x : EntryParts). x.principal) names_equiv
 pub same_equiv : IsEquivalence are_same
 same_equiv = and_equiv twins_equiv (on_equiv (λ (x : EntryParts). x.key) nat_list_eq_equiv)
 
-first_holds : (a b : Bool) → (a && b) ≡ true → a ≡ true
-first_holds true b e = refl
-first_holds false b e = e
-
 pub same_are_twins : (x y : EntryParts) → are_same x y ≡ true → are_twins x y ≡ true
-same_are_twins x y e = first_holds (are_twins x y) _ e
+same_are_twins x y e = (and_parts (are_twins x y) _ e).0
+
+-- twins have the same twins
+pub alike : (x y : EntryParts) → are_twins x y ≡ true → are_twins x ≡ are_twins y
+alike x y twin = λ i z. twins_equiv.congr x y z twin i
+
+-- a twin of one of two that are no twins is none of the other
+pub apart : (x y z : EntryParts) → are_twins x y ≡ false → are_twins y z ≡ true → are_twins x z ≡ false
+apart x y z other twin = twins_equiv.symm x z ∙ sym (twins_equiv.congr y z x twin) ∙ twins_equiv.symm y x ∙ other

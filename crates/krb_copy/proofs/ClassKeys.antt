@@ -1,19 +1,18 @@
 -- Entries are twins iff their keys in a map compare equal.
-use Rattle.krb_copy.proofs.Cited.{◌≡◌, ℕ, ◌+◌, ◌<◌, Bool, true, false, cond, List, [], ◌∷◌, ◌++◌, length, None, Ok, refl, sym, ap, subst, ◌∙◌, arith, ◌&&◌, ◌==◌, map, bytes_eq, name_text, EntryParts, are_twins, ClassKey, ◌*◌, ◌/◌, join_with_byte, IsClassKey, class_cmp, emptiness, kind_of}
-use Rattle.std.specs.Prelude.{Result, nat_lt}
+use Rattle.krb_copy.proofs.Cited.{◌≡◌, ℕ, ◌+◌, ◌<◌, Bool, true, cond, List, [], ◌∷◌, ◌++◌, length, None, refl, sym, ap, subst, ◌∙◌, arith, ◌&&◌, ◌==◌, map, bytes_eq, name_text, EntryParts, are_twins, ClassKey, ◌*◌, ◌/◌, join_with_byte, eqb-true, eq-eqb, IsClassKey, class_cmp, emptiness, kind_of}
 use Rattle.std.specs.declared.cmp.Ordering.{Ordering}
-use Rattle.std.specs.declared.cmp.Ordering.TheVariants.{Less, Equal, Greater}
 use Rattle.std.specs.Ordering.{is_eq, nat_cmp, ordering_then}
 use Rattle.std.specs.Cmp.Lexicographic.{slice_cmp}
+use Rattle.std.proofs.lemmas.Bool.Decides.{nat_tests}
 use Rattle.std.proofs.lemmas.Map.Text.{is_eq-slice_cmp}
 use Rattle.std.proofs.lemmas.Slice.Eq.{bytes_eq-Decides}
 use Rattle.krb_wire.specs.Spelling.{Parts}
+use Rattle.krb_wire.proofs.Fields.{ok_is}
 use Rattle.krb_wire.specs.Names.{joined_components, quote, have_same_name}
 use Rattle.krb_wire.specs.NameOf.{name_of}
 use Rattle.krb_wire.proofs.NamesCompared.{same_name_is, and_both, both_and}
 use Rattle.krb_wire.proofs.RoundTrip.{name_of-name_text}
 use Rattle.krb_audit.specs.Names.{hash_of}
-use Rattle.krb_audit.proofs.FirstNumbers.{same_bool}
 
 -- the key that the fields of an entry have is that of the entry
 pub key_of_fields : (x fields : EntryParts) (name : List ℕ) (k : ClassKey) → fields ≡ x → name ≡ name_text x.principal → (name ≡ name_text fields.principal → IsClassKey fields k) → IsClassKey x k
@@ -25,12 +24,9 @@ key_of_fields x fields name k is named key = subst (λ (e : EntryParts). (name �
 abbrev SameParts : Parts → Parts → Type 0
 SameParts p q = (p.realm ≡ q.realm) × (p.components ≡ q.components)
 
-ok_is : {X E : Type 0} (x y : X) (r : Result X E) → r ≡ Ok x → r ≡ Ok y → x ≡ y
-ok_is x y r e f = cc
-
 by_text : (p q : Parts) → 0 < length p.components → 0 < length q.components → name_text p ≡ name_text q → SameParts p q
 by_text p q some others e =
-    let same = ok_is (record p { name_type = 1 }) (record q { name_type = 1 }) (name_of (name_text p) None) (name_of-name_text p None some) (ap (λ (t : List ℕ). name_of t None) e ∙ name_of-name_text q None others) in
+    let same = ok_is (record p { name_type = 1 }) (record q { name_type = 1 }) (sym (name_of-name_text p None some) ∙ ap (λ (t : List ℕ). name_of t None) e ∙ name_of-name_text q None others) in
     (ap (λ (x : Parts). x.realm) same, ap (λ (x : Parts). x.components) same)
 
 -- a name without components has the text of one with an empty component
@@ -43,7 +39,7 @@ abbrev bit_of : List (List ℕ) → ℕ
 bit_of cs = cond (length cs == 0) 1 0
 
 bit_some : (c : List ℕ) (cs : List (List ℕ)) → bit_of (c ∷ cs) ≡ 0
-bit_some c cs = let e : (length (c ∷ cs) == 0) ≡ false = grind arith in ap (λ (b : Bool). let bit : ℕ = cond b 1 0 in bit) e
+bit_some c cs = grind (arith, nat_tests)
 
 by_emptiness : (p q : Parts) (a b : List (List ℕ)) → p.components ≡ a → q.components ≡ b → bit_of a ≡ bit_of b → name_text p ≡ name_text q → SameParts p q
 by_emptiness p q [] [] ep eq n e =
@@ -56,70 +52,32 @@ by_emptiness p q (a ∷ as') (b ∷ bs) ep eq n e =
 -- ---- comparisons
 
 pub then_is : (a b : Ordering) → is_eq (ordering_then a b) ≡ (is_eq a && is_eq b)
-then_is Less b = refl
-then_is Equal b = refl
-then_is Greater b = refl
-
-by_tests : (a b : Bool) → (a ≡ true → b ≡ false) → is_eq (cond a Less (cond b Equal Greater)) ≡ b
-by_tests true true h = sym (h refl)
-by_tests true false h = refl
-by_tests false true h = refl
-by_tests false false h = refl
-
-less_differs : (m n : ℕ) → nat_lt m n ≡ true → (m == n) ≡ false
-less_differs m n lt = grind arith
+then_is a b = grind arith
 
 pub nat_is : (m n : ℕ) → is_eq (nat_cmp m n) ≡ (m == n)
-nat_is m n = by_tests (nat_lt m n) (m == n) (λ lt. less_differs m n lt)
-
-same_number : (m n : ℕ) → (m == n) ≡ true → m ≡ n
-same_number m n e = grind arith
-
-number_same : (m n : ℕ) → m ≡ n → (m == n) ≡ true
-number_same m n e = grind arith
+nat_is m n = grind (arith, nat_tests)
 
 -- both or neither have no components, and the texts are equal, iff the names are the same
 names_agree : (p q : Parts) → (emptiness p == emptiness q && bytes_eq (name_text p) (name_text q)) ≡ have_same_name p q
 names_agree p q = same_name_is p q (emptiness p == emptiness q && bytes_eq (name_text p) (name_text q))
     (λ e. let both = and_both (emptiness p == emptiness q) (bytes_eq (name_text p) (name_text q)) e in
-    by_emptiness p q p.components q.components refl refl (same_number _ _ both.0) ((bytes_eq-Decides (name_text p) (name_text q)).0 both.1))
-    (λ realm components. both_and _ _ (number_same _ _ (ap bit_of components))
+    by_emptiness p q p.components q.components refl refl (eqb-true _ _ both.0) ((bytes_eq-Decides (name_text p) (name_text q)).0 both.1))
+    (λ realm components. both_and _ _ (eq-eqb _ _ (ap bit_of components))
     ((bytes_eq-Decides (name_text p) (name_text q)).1 (ap (λ (r : List ℕ). name_text (record p { realm = r })) realm ∙ ap (λ (cs : List (List ℕ)). name_text (record q { components = cs })) components)))
 
 regroup : (k n t : Bool) → ((k && n) && t) ≡ ((n && t) && k)
-regroup true true true = refl
-regroup true true false = refl
-regroup true false t = refl
-regroup false true true = refl
-regroup false true false = refl
-regroup false false t = refl
-
-and_false : (b : Bool) → (b && false) ≡ false
-and_false true = refl
-and_false false = refl
+regroup k n t = grind arith
 
 -- equal texts have equal hashes, which leave the kinds to be compared
 drop_hash : (h g a b : ℕ) (t : Bool) → (t ≡ true → h ≡ g) → ((h + a == g + b) && t) ≡ ((a == b) && t)
-drop_hash h g a b true same = let is = same refl in
-    ap (λ (e : Bool). e && true) (same_bool (h + a == g + b) (a == b) (λ e. let sums = same_number (h + a) (g + b) e in number_same a b (omega (arith, is, sums))) (λ e. let kinds = same_number a b e in number_same (h + a) (g + b) (omega (arith, is, kinds))))
-drop_hash h g a b false same = and_false (h + a == g + b) ∙ sym (and_false (a == b))
-
-both_by : (a b c : Bool) → (a ≡ true → (b ≡ true) × (c ≡ true)) → (b ≡ true → c ≡ true → a ≡ true) → a ≡ (b && c)
-both_by true b c down up = sym (both_and b c (down refl).0 (down refl).1)
-both_by false true true down up = up refl refl
-both_by false true false down up = refl
-both_by false false c down up = refl
+drop_hash h g a b t same = grind (arith, nat_tests)
 
 bit_small : (cs : List (List ℕ)) → bit_of cs < 2
-bit_small [] = omega arith
-bit_small (c ∷ cs) = let none = bit_some c cs in omega (arith, none)
+bit_small cs = grind (arith, nat_tests)
 
 -- a version, an enctype of 16 bits and a bit are equal iff they are as one number
 kinds_agree : (v e w f a b : ℕ) → e < 65536 → f < 65536 → a < 2 → b < 2 → ((v * 65536 + e) * 2 + a == (w * 65536 + f) * 2 + b) ≡ ((v == w && e == f) && a == b)
-kinds_agree v e w f a b small other bit bit' = both_by ((v * 65536 + e) * 2 + a == (w * 65536 + f) * 2 + b) (v == w && e == f) (a == b)
-    (λ same. let is = same_number ((v * 65536 + e) * 2 + a) ((w * 65536 + f) * 2 + b) same in
-    (both_and (v == w) (e == f) (number_same v w (omega (arith, is, small, other, bit, bit'))) (number_same e f (omega (arith, is, small, other, bit, bit'))), number_same a b (omega (arith, is, bit, bit'))))
-    (λ kinds bits. let ks = and_both (v == w) (e == f) kinds in let vs = same_number v w ks.0 in let es = same_number e f ks.1 in let as' = same_number a b bits in number_same _ _ (omega (arith, vs, es, as')))
+kinds_agree v e w f a b small other bit bit' = grind (arith, nat_tests)
 
 -- entries are twins iff their keys compare equal
 pub classes_agree : (x y : EntryParts) (k l : ClassKey) → IsClassKey x k → IsClassKey y l → is_eq (class_cmp k l) ≡ are_twins x y

@@ -1,11 +1,13 @@
 -- What is known of all classes, before a run and after each entry asked for.
-use Rattle.krb_copy.proofs.Cited.{◌≡◌, ℕ, Bool, true, false, cond, List, [], ◌∷◌, ◌++◌, Option, Some, None, refl, sym, ap, subst, ◌∙◌, map, filter, not, ◌&&◌, ◌||◌, list_any, bytes_eq, append-nil, list_any-append, EntryParts, are_twins, are_same, Held, as_found, as_copied, twins, There, Clash, step_among, step_of, with_copy, AreClasses, ClassKey, unwrap_or, map_push, is_kept, HaveClass, IsClass, IsClassKey, class_cmp, has_key, places_of, stays, step_at}
+use Rattle.krb_copy.proofs.Cited.{◌≡◌, ℕ, Bool, true, false, cond, List, [], ◌∷◌, ◌++◌, Option, Some, None, refl, arith, sym, ap, subst, ◌∙◌, map, filter, not, ◌&&◌, ◌||◌, list_any, bytes_eq, append-nil, list_any-append, EntryParts, are_twins, are_same, Held, as_found, as_copied, twins, There, Clash, step_among, step_of, with_copy, AreClasses, ClassKey, unwrap_or, map_push, is_kept, HaveClass, IsClass, IsClassKey, class_cmp, has_key, places_of, stays, step_at}
 use Rattle.std.specs.BTreeMap.{BTreeMap, get, Updates}
-use Rattle.std.proofs.lemmas.List.Elements.{filter-append, filter_agree}
+use Rattle.std.proofs.Math.Bool.{not-and_self, or_assoc, or-false, or-true}
+use Rattle.std.proofs.lemmas.List.Elements.{filter-append}
 use denote.Ref.{Bor}
 use Rattle.krb_copy.specs.declared.class.Class.{Class}
 use Rattle.krb_copy.specs.declared.class.Class.TheVariants.{Empty, Kept}
-use Rattle.krb_copy.proofs.Alike.{twins_equiv}
+use Rattle.krb_copy.proofs.Alike.{alike, apart, twins_equiv}
+use Rattle.krb_copy.proofs.Passing.{any_either, any_left, filter_twice}
 use Rattle.krb_copy.proofs.ClassKeys.{classes_agree}
 use Rattle.krb_copy.proofs.LawLemmas.{there_by}
 
@@ -15,73 +17,48 @@ use Rattle.krb_copy.proofs.LawLemmas.{there_by}
 twins_more : (y : EntryParts) (held : List Held) (h : Held) (t : Bool) → are_twins y h.entry ≡ t → twins y (held ++ h ∷ []) ≡ twins y held ++ cond t (h ∷ []) []
 twins_more y held h t e = filter-append (λ (g : Held). are_twins y g.entry) held (h ∷ []) ∙ ap (λ (b : Bool). twins y held ++ cond b (h ∷ []) []) e
 
-other : (x y : EntryParts) → are_twins x y ≡ false → are_twins y x ≡ false
-other x y e = twins_equiv.symm y x ∙ e
-
-or_none : (b : Bool) → (b || false) ≡ b
-or_none true = refl
-or_none false = refl
-
--- one more entry asked for has one of its twins stay, if its key is there
-kept_by : (c b s : Bool) → (c || (b || (s || false))) ≡ ((c || b) || s)
-kept_by true b s = refl
-kept_by false true s = refl
-kept_by false false s = or_none s
-
+-- one more entry asked for has what is its own stay
 kept_after : (before : List EntryParts) (x : EntryParts) (h : Held) → is_kept (before ++ x ∷ []) h ≡ (is_kept before h || are_same x h.entry)
-kept_after before x h = ap (λ (b : Bool). h.is_copied || b) (list_any-append (λ a. are_same a h.entry) before (x ∷ [])) ∙ kept_by h.is_copied (list_any (λ a. are_same a h.entry) before) (are_same x h.entry)
-
-swap : (k s r t : Bool) → ((k || s) || (r || t)) ≡ ((k || r) || (s || t))
-swap true s r t = refl
-swap false true true t = refl
-swap false true false t = refl
-swap false false r t = refl
-
-kept_here : (t k s : Bool) (h : Held) (p q e : Held → Bool) (others : List Held) → (t ≡ true → p h ≡ (q h || e h)) → list_any p others ≡ (list_any q others || list_any e others) → list_any p (cond t (h ∷ others) others) ≡ (list_any q (cond t (h ∷ others) others) || list_any e (cond t (h ∷ others) others))
-kept_here true k s h p q e others here ih = ap (λ (b : Bool). b || list_any p others) (here refl) ∙ ap (λ (b : Bool). (q h || e h) || b) ih ∙ swap (q h) (e h) (list_any q others) (list_any e others)
-kept_here false k s h p q e others here ih = ih
+kept_after before x h = rw (list_any-append (λ a. are_same a h.entry) before (x ∷ []), or-false (are_same x h.entry)) (sym (or_assoc h.is_copied _ _))
 
 -- of its own twins
 kept_twins : (before : List EntryParts) (x : EntryParts) (held : List Held) → list_any (is_kept (before ++ x ∷ [])) (twins x held) ≡ (list_any (is_kept before) (twins x held) || list_any (λ h. bytes_eq x.key h.entry.key) (twins x held))
-kept_twins before x [] = refl
-kept_twins before x (h ∷ hs) = kept_here (are_twins x h.entry) true true h (is_kept (before ++ x ∷ [])) (is_kept before) (λ g. bytes_eq x.key g.entry.key) (twins x hs)
-    (λ twin. kept_after before x h ∙ ap (λ (b : Bool). is_kept before h || (b && bytes_eq x.key h.entry.key)) twin)
-    (kept_twins before x hs)
-
-apart_here : (t : Bool) (h : Held) (p q : Held → Bool) (others : List Held) → (t ≡ true → p h ≡ q h) → list_any p others ≡ list_any q others → list_any p (cond t (h ∷ others) others) ≡ list_any q (cond t (h ∷ others) others)
-apart_here true h p q others here ih = ap (λ (b : Bool). b || list_any p others) (here refl) ∙ ap (λ (b : Bool). q h || b) ih
-apart_here false h p q others here ih = ih
+kept_twins before x held =
+    let t : Held → Bool = λ h. are_twins x h.entry in
+    let key : Held → Bool = λ h. bytes_eq x.key h.entry.key in
+    rw (any_left t (is_kept (before ++ x ∷ [])) held, any_left t (is_kept before) held, any_left t key held)
+    (ap (λ (q : Held → Bool). list_any q held) (λ i h. (ap (λ (b : Bool). t h && b) (kept_after before x h) ∙ by (t h) (is_kept before h) (key h)) i) ∙ any_either (λ h. t h && is_kept before h) (λ h. t h && key h) held)
+  where
+    by : (t k s : Bool) → (t && (k || (t && s))) ≡ ((t && k) || (t && s))
+    by t k s = grind arith
 
 -- it changes nothing for others
 kept_others : (before : List EntryParts) (x y : EntryParts) (held : List Held) → are_twins x y ≡ false → list_any (is_kept (before ++ x ∷ [])) (twins y held) ≡ list_any (is_kept before) (twins y held)
-kept_others before x y [] other = refl
-kept_others before x y (h ∷ hs) other = apart_here (are_twins y h.entry) h (is_kept (before ++ x ∷ [])) (is_kept before) (twins y hs)
-    (λ twin. kept_after before x h
-    ∙ ap (λ (b : Bool). is_kept before h || (b && bytes_eq x.key h.entry.key)) (twins_equiv.symm x h.entry ∙ twins_equiv.congr h.entry y x (twins_equiv.symm h.entry y ∙ twin) ∙ twins_equiv.symm y x ∙ other)
-    ∙ or_none (is_kept before h))
-    (kept_others before x y hs other)
+kept_others before x y held other =
+    let t : Held → Bool = λ h. are_twins y h.entry in
+    rw (any_left t (is_kept (before ++ x ∷ [])) held, any_left t (is_kept before) held)
+    (ap (λ (q : Held → Bool). list_any q held) (λ i h. (ap (λ (b : Bool). t h && b) (kept_after before x h) ∙ by (t h) (is_kept before h) (are_twins x h.entry) _ (apart x y h.entry other)) i))
+  where
+    by : (t k u s : Bool) → (t ≡ true → u ≡ false) → (t && (k || (u && s))) ≡ (t && k)
+    by t k u s other = grind arith
 
 -- twins have the same twins
 same_twins : (x y : EntryParts) (held : List Held) → are_twins x y ≡ true → twins x held ≡ twins y held
-same_twins x y held twin = filter_agree (λ (h : Held). are_twins x h.entry) (λ (h : Held). are_twins y h.entry) (λ h. twins_equiv.congr x y h.entry twin) held
+same_twins x y held twin = ap (λ (t : EntryParts → Bool). filter (λ h. t h.entry) held) (alike x y twin)
 
-gone_by : (t s : Bool) (h : Held) (p : Held → Bool) (others : List Held) → p h ≡ s → s ≡ t → filter p others ≡ [] → filter p (cond (not t) (h ∷ others) others) ≡ []
-gone_by true s h p others is same ih = ih
-gone_by false s h p others is same ih = ap (λ (b : Bool). cond b (h ∷ filter p others) (filter p others)) (is ∙ same) ∙ ih
+filter_none : (held : List Held) → filter (λ h. false) held ≡ []
+filter_none [] = refl
+filter_none (h ∷ hs) = filter_none hs
 
 gone : (x y : EntryParts) (held : List Held) → are_twins x y ≡ true → twins y (filter (λ h. not (are_twins x h.entry)) held) ≡ []
-gone x y [] twin = refl
-gone x y (h ∷ hs) twin = gone_by (are_twins x h.entry) (are_twins y h.entry) h (λ g. are_twins y g.entry) (filter (λ g. not (are_twins x g.entry)) hs) refl (sym (twins_equiv.congr x y h.entry twin)) (gone x y hs twin)
-
-left_by : (t s : Bool) (h : Held) (p : Held → Bool) (others left : List Held) → p h ≡ s → (s ≡ true → t ≡ false) → filter p others ≡ left → filter p (cond (not t) (h ∷ others) others) ≡ cond s (h ∷ left) left
-left_by true true h p others left is apart ih = let clash : true ≡ false = apart refl in absurd cc
-left_by true false h p others left is apart ih = ih
-left_by false s h p others left is apart ih = ap (λ (b : Bool). cond b (h ∷ filter p others) (filter p others)) is ∙ ap (λ l. cond s (h ∷ l) l) ih
+gone x y held twin = ap (λ (t : EntryParts → Bool). twins y (filter (λ h. not (t h.entry)) held)) (alike x y twin)
+    ∙ filter_twice (λ h. not (are_twins y h.entry)) (λ h. are_twins y h.entry) held ∙ ap (λ (q : Held → Bool). filter q held) (λ i h. not-and_self (are_twins y h.entry) i) ∙ filter_none held
 
 left : (x y : EntryParts) (held : List Held) → are_twins x y ≡ false → twins y (filter (λ h. not (are_twins x h.entry)) held) ≡ twins y held
-left x y [] other = refl
-left x y (h ∷ hs) other = left_by (are_twins x h.entry) (are_twins y h.entry) h (λ g. are_twins y g.entry) (filter (λ g. not (are_twins x g.entry)) hs) (twins y hs) refl
-    (λ twin. twins_equiv.symm x h.entry ∙ twins_equiv.congr h.entry y x (twins_equiv.symm h.entry y ∙ twin) ∙ twins_equiv.symm y x ∙ other) (left x y hs other)
+left x y held other = filter_twice (λ h. not (are_twins x h.entry)) (λ h. are_twins y h.entry) held ∙ ap (λ (q : Held → Bool). filter q held) (λ i h. by (are_twins x h.entry) (are_twins y h.entry) (apart x y h.entry other) i)
+  where
+    by : (t s : Bool) → (s ≡ true → t ≡ false) → (not t && s) ≡ s
+    by t s other = grind arith
 
 copy_alone : (x y : EntryParts) (held : List Held) (place : ℕ) → are_twins x y ≡ true → twins y (with_copy held x place) ≡ as_copied place x ∷ []
 copy_alone x y held place twin = twins_more y (filter (λ h. not (are_twins x h.entry)) held) (as_copied place x) true (twins_equiv.symm y x ∙ twin) ∙ ap (λ (hs : List Held). hs ++ as_copied place x ∷ []) (gone x y held twin)
@@ -89,23 +66,18 @@ copy_alone x y held place twin = twins_more y (filter (λ h. not (are_twins x h.
 copy_apart : (x y : EntryParts) (held : List Held) (place : ℕ) → are_twins x y ≡ false → twins y (with_copy held x place) ≡ twins y held
 copy_apart x y held place other = twins_more y (filter (λ h. not (are_twins x h.entry)) held) (as_copied place x) false (twins_equiv.symm y x ∙ other) ∙ append-nil (twins y (filter (λ h. not (are_twins x h.entry)) held)) ∙ left x y held other
 
-or_true : (b : Bool) → (b || true) ≡ true
-or_true true = refl
-or_true false = refl
-
 -- ---- one class
 
 -- one more entry may have a key
 pub or_added : (old b : Bool) → cond b true old ≡ (old || b)
-or_added old true = sym (or_true old)
-or_added old false = sym (or_none old)
+or_added old b = grind arith
 
 -- of one entry
 of_one : {A : Type 0} (before : List EntryParts) (h : Held) (key : Bor (List ℕ)) (c : Class A) → places_of c ≡ h.place ∷ [] → ((k : List ℕ) → has_key c k ≡ bytes_eq k key.now) → key.now ≡ h.entry.key → stays c ≡ is_kept before h → IsClass before (h ∷ []) c
 of_one before h key c places keys key_is kept = record {
   places = places;
-  keys = λ k. keys k ∙ ap (bytes_eq k) key_is ∙ sym (or_none (bytes_eq k h.entry.key));
-  kept = kept ∙ sym (or_none (is_kept before h));
+  keys = λ k. keys k ∙ ap (bytes_eq k) key_is ∙ sym (or-false (bytes_eq k h.entry.key));
+  kept = kept ∙ sym (or-false (is_kept before h));
 }
 
 -- of one entry more, which does not stay
@@ -114,8 +86,8 @@ of_more : {A : Type 0} (before : List EntryParts) (held : List Held) (h : Held) 
 of_more before held h key old new c places keys key_is same goes = record {
   places = places ∙ ap (λ (ps : List ℕ). ps ++ h.place ∷ []) c.places ∙ sym (map_push (λ (g : Held). g.place) held h);
   keys = λ k. keys k ∙ ap (λ (b : Bool). b || bytes_eq k key.now) (c.keys k) ∙ ap (λ (b : List ℕ). list_any (λ g. bytes_eq k g.entry.key) held || bytes_eq k b) key_is
-      ∙ ap (λ (b : Bool). list_any (λ g. bytes_eq k g.entry.key) held || b) (sym (or_none (bytes_eq k h.entry.key))) ∙ sym (list_any-append (λ g. bytes_eq k g.entry.key) held (h ∷ []));
-  kept = same ∙ c.kept ∙ sym (list_any-append (is_kept before) held (h ∷ []) ∙ ap (λ (b : Bool). list_any (is_kept before) held || (b || false)) goes ∙ or_none (list_any (is_kept before) held));
+      ∙ ap (λ (b : Bool). list_any (λ g. bytes_eq k g.entry.key) held || b) (sym (or-false (bytes_eq k h.entry.key))) ∙ sym (list_any-append (λ g. bytes_eq k g.entry.key) held (h ∷ []));
+  kept = same ∙ c.kept ∙ sym (list_any-append (is_kept before) held (h ∷ []) ∙ ap (λ (b : Bool). list_any (is_kept before) held || (b || false)) goes ∙ or-false (list_any (is_kept before) held));
 }
 
 -- of the same entries, of which one stays iff one stayed before
@@ -140,7 +112,7 @@ updated_by before before' held held' x y c o false apart is leaves old = let l =
 
 -- one more entry leaves other classes
 found_leaves : (held : List Held) (x : EntryParts) (place : ℕ) → Leaves [] [] held (held ++ as_found (place, x) ∷ []) x
-found_leaves held x place y apart = (twins_more y held (as_found (place, x)) false (other x y apart) ∙ append-nil (twins y held), refl)
+found_leaves held x place y apart = (twins_more y held (as_found (place, x)) false (twins_equiv.symm y x ∙ apart) ∙ append-nil (twins y held), refl)
 
 -- it leaves what stays of other classes
 asked_leaves : (before : List EntryParts) (held : List Held) (x : EntryParts) → Leaves before (before ++ x ∷ []) held held x
@@ -177,8 +149,8 @@ step_is {A} {before} {held} {x} {k} {old} {c} replace key m same = step_by repla
 
 -- an entry that clashes is not there
 clash_step : (b replace : Bool) (before : List EntryParts) (hs : List Held) (place : ℕ) → cond b There (step_among replace before hs) ≡ Clash place → b ≡ false
-clash_step true replace before hs place e = absurd cc
-clash_step false replace before hs place e = refl
+clash_step b replace before [] place e = grind arith
+clash_step b replace before (h ∷ hs) place e = grind arith
 
 not_there : (replace : Bool) (before : List EntryParts) (held : List Held) (x : EntryParts) (place : ℕ) → step_of replace before held x ≡ Clash place → list_any (λ h. bytes_eq x.key h.entry.key) (twins x held) ≡ false
 not_there replace before held x place e = clash_step (list_any (λ h. bytes_eq x.key h.entry.key) (twins x held)) replace before (twins x held) place e
@@ -197,13 +169,13 @@ module _ {A : Type 0} {before : List EntryParts} {held : List Held} {x : EntryPa
   pub after_there : (replace : Bool) → There ≡ step_of replace before held x → places_of c ≡ places_of was → ((key : List ℕ) → has_key c key ≡ has_key was key) → ((key : List ℕ) → has_key was key ≡ true → stays c ≡ true) → AreClasses (before ++ x ∷ []) held after
   after_there replace step places keys kept =
       let there = there_by (list_any (λ h. bytes_eq x.key h.entry.key) (twins x held)) replace before (twins x held) (sym step) in
-      let one_stays : list_any (is_kept (before ++ x ∷ [])) (twins x held) ≡ true = kept_twins before x held ∙ ap (λ (b : Bool). list_any (is_kept before) (twins x held) || b) there ∙ or_true (list_any (is_kept before) (twins x held)) in
+      let one_stays : list_any (is_kept (before ++ x ∷ [])) (twins x held) ≡ true = kept_twins before x held ∙ ap (λ (b : Bool). list_any (is_kept before) (twins x held) || b) there ∙ or-true (list_any (is_kept before) (twins x held)) in
       updated (before ++ x ∷ []) held (record { places = places ∙ m.is.places; keys = λ key. keys key ∙ m.is.keys key; kept = kept x.key (m.is.keys x.key ∙ there) ∙ sym one_stays }) (asked_leaves before held x)
 
   -- it clashes: its class stays as it is
   pub after_clash : (replace : Bool) (twin : ℕ) → c ≡ was → Clash twin ≡ step_of replace before held x → AreClasses (before ++ x ∷ []) held after
   after_clash replace twin is step =
-      let kept : list_any (is_kept (before ++ x ∷ [])) (twins x held) ≡ list_any (is_kept before) (twins x held) = kept_twins before x held ∙ ap (λ (b : Bool). list_any (is_kept before) (twins x held) || b) (not_there replace before held x twin (sym step)) ∙ or_none (list_any (is_kept before) (twins x held)) in
+      let kept : list_any (is_kept (before ++ x ∷ [])) (twins x held) ≡ list_any (is_kept before) (twins x held) = kept_twins before x held ∙ ap (λ (b : Bool). list_any (is_kept before) (twins x held) || b) (not_there replace before held x twin (sym step)) ∙ or-false (list_any (is_kept before) (twins x held)) in
       updated (before ++ x ∷ []) held (subst (IsClass (before ++ x ∷ []) (twins x held)) (sym is) (record { places = m.is.places; keys = m.is.keys; kept = m.is.kept ∙ sym kept })) (asked_leaves before held x)
 
   -- it is copied: it is the only one of its class, and stays

@@ -1,9 +1,11 @@
 -- A change of one cell leaves the entries of all others.
-use Rattle.krb_copy.proofs.Cited.{◌≡◌, ℕ, ◌+◌, ◌<◌, Bool, true, false, cond, List, [], ◌∷◌, ◌++◌, Option, Some, None, Result, Ok, Err, refl, sym, ap, subst, ◌∙◌, inl, inr, arith, map, ◌==◌, ◌||◌, AllByRecursion, list_any, append-nil, some_is, Code, EntryParts, PlacedEntry, placed_entries, KeytabState, entry_at_place, put_result, without, ◌≤◌, option_map, filter_map, cons_option, find, ne_eqb, bind_some, cut_store, entry_at, store_of, store_cell, cut_result, cut_gives, put_gives, removal_cuts, addition_puts}
+use Rattle.krb_copy.proofs.Cited.{◌≡◌, ℕ, ◌+◌, ◌<◌, Bool, true, false, cond, List, [], ◌∷◌, ◌++◌, Option, Some, None, Result, Ok, Err, refl, sym, ap, subst, ◌∙◌, inl, inr, arith, map, ◌==◌, ◌||◌, AllByRecursion, list_any, append-nil, some_is, Code, EntryParts, PlacedEntry, placed_entries, KeytabState, entry_at_place, put_result, without, ◌≤◌, option_map, filter_map, cons_option, find, ne_eqb, eqb-true, or_right, cut_store, entry_at, store_of, store_cell, cut_result, cut_gives, put_gives, removal_cuts, addition_puts}
+use Rattle.std.proofs.lemmas.Option.{none-some}
 use Rattle.krb_wire.specs.declared.format.KtFormat.{KtFormat}
+use Rattle.krb_wire.proofs.Lists.{all_front}
 use Rattle.krb_wire.specs.Reading.{◌>>=◌}
 use Rattle.krb_walk.specs.Store.{Cell, Store, Standing, Record, standing, end_from, record_of, record_of_some, bytes_of_some, live_bytes}
-use Rattle.krb_walk.specs.Changes.{OneCell, Fills, Appends}
+use Rattle.krb_walk.specs.Changes.{OneCell, Puts}
 use Rattle.krb_walk.proofs.Stops.{bytes_from}
 use Rattle.krb_walk.proofs.Splits.{bytes_ahead, bytes_here}
 use Rattle.krb_walk.proofs.Cells.{find_head, find_tail}
@@ -15,83 +17,71 @@ same_head : (b : Bool) (x : Standing) (o o' : Option Standing) → bytes_of_some
 same_head true x o o' e = refl
 same_head false x o o' e = e
 
-one_elsewhere : (at q w : ℕ) (live live' : Option (List ℕ)) (before after : List Cell) → (q ≡ end_from at before → ⊥) → bytes_from at (before ++ record { width = w; live = live } ∷ after) q ≡ bytes_from at (before ++ record { width = w; live = live' } ∷ after) q
-one_elsewhere at q w live live' [] after other =
-    let e : (at == q) ≡ false = ne_eqb at q (λ s. other (sym s)) in
-    rw e refl
-one_elsewhere at q w live live' (c ∷ before) after other = same_head (at == q) (record { place = at; cell = c }) _ _ (one_elsewhere (at + c.width) q w live live' before after other)
+-- cells that agree at a place agree there behind others
+behind_same : (at q : ℕ) (before xs ys : List Cell) → bytes_from (end_from at before) xs q ≡ bytes_from (end_from at before) ys q → bytes_from at (before ++ xs) q ≡ bytes_from at (before ++ ys) q
+behind_same at q [] xs ys e = e
+behind_same at q (c ∷ before) xs ys e = same_head (at == q) (record { place = at; cell = c }) _ _ (behind_same (at + c.width) q before xs ys e)
 
-pub appended_elsewhere : (at q : ℕ) (c : Cell) (cells : List Cell) → (q ≡ end_from at cells → ⊥) → bytes_from at (cells ++ c ∷ []) q ≡ bytes_from at cells q
-appended_elsewhere at q c [] other =
-    let e : (at == q) ≡ false = ne_eqb at q (λ s. other (sym s)) in
-    rw e refl
-appended_elsewhere at q c (d ∷ cells) other = same_head (at == q) (record { place = at; cell = d }) _ _ (appended_elsewhere (at + d.width) q c cells other)
+-- ---- one cell becomes another of its width, or is added
 
-front_sound : (before after : List Cell) → AllByRecursion (λ c. 0 < c.width) (before ++ after) → AllByRecursion (λ c. 0 < c.width) before
-front_sound [] after s = tt
-front_sound (c ∷ before) after s = (s.0, front_sound before after s.1)
-
-none_at_end : (at : ℕ) (cells : List Cell) → AllByRecursion (λ c. 0 < c.width) cells → bytes_from at cells (end_from at cells) ≡ None
-none_at_end at cells sound = ap (λ (cs : List Cell). bytes_from at cs (end_from at cells)) (sym (append-nil cells)) ∙ bytes_ahead at (end_from at cells) cells [] sound (omega arith)
-
--- ---- one cell becomes another of its width
-
-pub elsewhere : (old new : Store) (p q w : ℕ) (was is : Option (List ℕ)) → OneCell old new p (record { width = w; live = was }) (record { width = w; live = is }) → (q ≡ p → ⊥) → live_bytes new q ≡ live_bytes old q
+elsewhere : (old new : Store) (p q w : ℕ) (was is : Option (List ℕ)) → OneCell old new p (record { width = w; live = was }) (record { width = w; live = is }) → (q ≡ p → ⊥) → live_bytes new q ≡ live_bytes old q
 elsewhere old new p q w was is one other =
     ap (λ (at : ℕ). bytes_from at new.cells q) one.first ∙ ap (λ (cs : List Cell). bytes_from old.first cs q) one.new_cells
-    ∙ one_elsewhere old.first q w is was one.before one.after (λ s. other (s ∙ sym one.place))
+    ∙ behind_same old.first q one.before (record { width = w; live = is } ∷ one.after) (record { width = w; live = was } ∷ one.after) (rw (ne_eqb (end_from old.first one.before) q (λ s. other (sym s ∙ sym one.place))) refl)
     ∙ sym (ap (λ (cs : List Cell). bytes_from old.first cs q) one.old_cells)
 
-no_none : {X : Type 0} (x : X) (o : Option X) → o ≡ Some x → o ≡ None → ⊥
-no_none x o s n = let clash : Some x ≡ None = sym s ∙ n in cc
+puts_elsewhere : (old new : Store) (p q : ℕ) → Puts old new p → (q ≡ p → ⊥) → live_bytes new q ≡ live_bytes old q
+puts_elsewhere old new p q puts other = elim puts.how [
+  | inl f ↦ elsewhere old new p q f.width None (Some f.bytes) f.cell other
+  | inr a ↦
+      ap (λ (at : ℕ). bytes_from at new.cells q) a.first ∙ ap (λ (cs : List Cell). bytes_from old.first cs q) a.cells
+      ∙ behind_same old.first q old.cells (record { width = a.width; live = Some a.bytes } ∷ []) [] (rw (ne_eqb (end_from old.first old.cells) q (λ s. other (sym s ∙ sym a.place))) refl)
+      ∙ ap (λ (cs : List Cell). bytes_from old.first cs q) (append-nil old.cells)
+]
 
-fills_elsewhere : (old new : Store) (p q : ℕ) (b : List ℕ) → AllByRecursion (λ c. 0 < c.width) old.cells → Fills old new p → live_bytes old q ≡ Some b → live_bytes new q ≡ Some b
-fills_elsewhere old new p q b sound f held =
-    let one = f.cell in
-    let front = front_sound one.before (record { width = f.width; live = None } ∷ one.after) (subst (λ (cs : List Cell). AllByRecursion (λ c. 0 < c.width) cs) one.old_cells sound) in
-    let hole : live_bytes old p ≡ None = ap (λ (cs : List Cell). bytes_from old.first cs p) one.old_cells ∙ ap (bytes_from old.first (one.before ++ record { width = f.width; live = None } ∷ one.after)) one.place ∙ bytes_here old.first f.width None one.before one.after front in
-    elsewhere old new p q f.width None (Some f.bytes) one (λ s. no_none b (live_bytes old q) held (ap (live_bytes old) s ∙ hole)) ∙ held
-
-appends_elsewhere : (old new : Store) (p q : ℕ) (b : List ℕ) → AllByRecursion (λ c. 0 < c.width) old.cells → Appends old new p → live_bytes old q ≡ Some b → live_bytes new q ≡ Some b
-appends_elsewhere old new p q b sound a held =
-    ap (λ (at : ℕ). bytes_from at new.cells q) a.first ∙ ap (λ (cs : List Cell). bytes_from old.first cs q) a.cells
-    ∙ appended_elsewhere old.first q (record { width = a.width; live = Some a.bytes }) old.cells (λ s. no_none b (live_bytes old q) held (ap (live_bytes old) s ∙ none_at_end old.first old.cells sound)) ∙ held
+-- where a record is put there was none
+puts_free : (old new : Store) (p : ℕ) → AllByRecursion (λ c. 0 < c.width) old.cells → Puts old new p → live_bytes old p ≡ None
+puts_free old new p sound puts = elim puts.how [
+  | inl f ↦
+      let one = f.cell in
+      let hole = record { width = f.width; live = None } ∷ one.after in
+      ap (λ (cs : List Cell). bytes_from old.first cs p) one.old_cells ∙ ap (bytes_from old.first (one.before ++ hole)) one.place
+      ∙ bytes_here old.first f.width None one.before one.after (all_front (λ c. 0 < c.width) one.before hole (subst (AllByRecursion (λ c. 0 < c.width)) one.old_cells sound))
+  | inr a ↦ ap (live_bytes old) a.place ∙ ap (λ (cs : List Cell). bytes_from old.first cs (end_from old.first old.cells)) (sym (append-nil old.cells)) ∙ bytes_ahead old.first (end_from old.first old.cells) old.cells [] sound (omega arith)
+]
 
 -- ---- a keytab
 
--- an entry that is read in one store is read in another with the same bytes
-same_entry : (k new : KeytabState) (q : ℕ) (e : EntryParts) → new.format ≡ k.format → ((b : List ℕ) → live_bytes (store_of k) q ≡ Some b → live_bytes (store_of new) q ≡ Some b) → entry_at_place k q ≡ Some e → entry_at_place new q ≡ Some e
-same_entry k new q e format bytes held =
-    let b = bind_some (live_bytes (store_of k) q) (entry_at k.format) e held in
-    ap (λ (o : Option (List ℕ)). o >>= entry_at new.format) (bytes b.0 b.1) ∙ ap (λ (f : KtFormat). entry_at f b.0) format ∙ b.2
+-- where two stores have the same bytes, the same entry is read
+same_read : (k new : KeytabState) (q : ℕ) → new.format ≡ k.format → live_bytes (store_of new) q ≡ live_bytes (store_of k) q → entry_at_place new q ≡ entry_at_place k q
+same_read k new q format bytes = ap (λ (o : Option (List ℕ)). o >>= entry_at new.format) bytes ∙ ap (λ (f : KtFormat). live_bytes (store_of k) q >>= entry_at f) format
 
-cut_by : (k : KeytabState) (p q : ℕ) (e : EntryParts) (given : Result KeytabState Code) → cut_result k p ≡ given → (q ≡ p → ⊥) → entry_at_place k q ≡ Some e → entry_at_place (cut_store k given) q ≡ Some e
-cut_by k p q e (Ok new) cut other held =
+-- a removal leaves the others
+pub cut_apart : (k : KeytabState) (p q : ℕ) (given : Result KeytabState Code) → cut_result k p ≡ given → (q ≡ p → ⊥) → entry_at_place (cut_store k given) q ≡ entry_at_place k q
+cut_apart k p q (Ok new) cut other =
     let f = (removal_cuts k new p (Ok tt) cut).how in
-    same_entry k new q e (sym (ap (λ (x : KeytabState). x.format) (cut_gives k p new cut).gives)) (λ b at. elsewhere (store_of k) (store_of new) p q f.width (Some f.bytes) None f.cell other ∙ at) held
-cut_by k p q e (Err code) cut other held = held
+    same_read k new q (sym (ap (λ (x : KeytabState). x.format) (cut_gives k p new cut).gives)) (elsewhere (store_of k) (store_of new) p q f.width (Some f.bytes) None f.cell other)
+cut_apart k p q (Err code) cut other = refl
 
 -- an entry stays while records at other places are removed
 pub without_elsewhere : (k : KeytabState) (places : List ℕ) (q : ℕ) (e : EntryParts) → AllByRecursion (λ p. q ≡ p → ⊥) places → entry_at_place k q ≡ Some e → entry_at_place (without k places) q ≡ Some e
 without_elsewhere k [] q e others held = held
-without_elsewhere k (p ∷ ps) q e others held = without_elsewhere (cut_store k (cut_result k p)) ps q e others.1 (cut_by k p q e (cut_result k p) refl others.0 held)
+without_elsewhere k (p ∷ ps) q e others held = without_elsewhere (cut_store k (cut_result k p)) ps q e others.1 (cut_apart k p q (cut_result k p) refl others.0 ∙ held)
 
-pub put_format : (k : KeytabState) (x : EntryParts) (given : ℕ × KeytabState) → put_result k x ≡ Ok given → given.1.format ≡ k.format
-put_format k x given put =
-    elim (put_gives k x given put).how [
+-- an addition leaves the others
+pub put_apart : (k : KeytabState) (x : EntryParts) (given : ℕ × KeytabState) (q : ℕ) → put_result k x ≡ Ok given → (q ≡ given.0 → ⊥) → entry_at_place given.1 q ≡ entry_at_place k q
+put_apart k x given q put other = same_read k given.1 q
+    (elim (put_gives k x given put).how [
       | inl h ↦ sym (ap (λ (y : ℕ × KeytabState). y.1.format) h.gives)
       | inr last ↦ sym (ap (λ (y : ℕ × KeytabState). y.1.format) last)
-    ]
+    ])
+    (puts_elsewhere (store_of k) (store_of given.1) given.0 q (addition_puts k given.1 x (Ok given.0) put) other)
 
 -- an entry stays when another is added
 pub put_elsewhere : (k : KeytabState) (x : EntryParts) (given : ℕ × KeytabState) (q : ℕ) (e : EntryParts) → put_result k x ≡ Ok given → entry_at_place k q ≡ Some e → entry_at_place given.1 q ≡ Some e
-put_elsewhere k x given q e put held =
-    let sound = store_sound k.contents.cells in
-    same_entry k given.1 q e (put_format k x given put)
-    (λ b at. elim (addition_puts k given.1 x (Ok given.0) put).how [
-      | inl fills ↦ fills_elsewhere (store_of k) (store_of given.1) given.0 q b sound fills at
-      | inr appends ↦ appends_elsewhere (store_of k) (store_of given.1) given.0 q b sound appends at
-    ]) held
+put_elsewhere k x given q e put held = put_apart k x given q put (λ s.
+    let free = puts_free (store_of k) (store_of given.1) given.0 (store_sound k.contents.cells) (addition_puts k given.1 x (Ok given.0) put) in
+    none-some e (sym (ap (λ (o : Option (List ℕ)). o >>= entry_at k.format) free) ∙ ap (entry_at_place k) (sym s) ∙ held)) ∙ held
 
 -- ---- the entries of a keytab, and their places
 
@@ -132,10 +122,6 @@ entries_read k = all_mapped (IsReadFrom k.format 2 (map store_cell k.contents.ce
 
 -- ---- an entry that is read is one of the entries
 
-or_true : (a b : Bool) → b ≡ true → (a || b) ≡ true
-or_true true b e = refl
-or_true false b e = e
-
 -- the cell at a place, of cells behind one
 abbrev find_at : ℕ → ℕ → ℕ → List Cell → Option Standing
 find_at at w q cells = find (λ x. x.place == q) (standing (at + w) cells)
@@ -149,16 +135,13 @@ any_first at q (Some x) e p others here is holds =
 
 any_later : (at : ℕ) (o : Option EntryParts) (p : PlacedEntry → Bool) (others : List PlacedEntry) → list_any p others ≡ true → list_any p (cons_option (option_map (λ (x : EntryParts). (at, x)) o) others) ≡ true
 any_later at None p others later = later
-any_later at (Some x) p others later = or_true (p (at, x)) (list_any p others) later
-
-test_same : (m n : ℕ) → (m == n) ≡ true → m ≡ n
-test_same m n e = grind arith
+any_later at (Some x) p others later = or_right (p (at, x)) (list_any p others) later
 
 any_by : (f : KtFormat) (at w q : ℕ) (live : Option (List ℕ)) (cells : List Cell) (e : EntryParts) (p : PlacedEntry → Bool) (b : Bool) → (at == q) ≡ b → p (q, e) ≡ true
     → (bytes_of_some (record_of_some (cond b (Some (record { place = at; cell = record { width = w; live = live } })) (find_at at w q cells))) >>= entry_at f) ≡ Some e
     → ((bytes_from (at + w) cells q >>= entry_at f) ≡ Some e → list_any p (entries_from f (at + w) cells) ≡ true) → list_any p (entries_from f at (record { width = w; live = live } ∷ cells)) ≡ true
 any_by f at w q None cells e p true here holds read ih = absurd cc
-any_by f at w q (Some bytes) cells e p true here holds read ih = any_first at q (entry_at f bytes) e p (entries_from f (at + w) cells) (test_same at q here) read holds
+any_by f at w q (Some bytes) cells e p true here holds read ih = any_first at q (entry_at f bytes) e p (entries_from f (at + w) cells) (eqb-true at q here) read holds
 any_by f at w q None cells e p false here holds read ih = ih read
 any_by f at w q (Some bytes) cells e p false here holds read ih = any_later at (entry_at f bytes) p (entries_from f (at + w) cells) (ih read)
 

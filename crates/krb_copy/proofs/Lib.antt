@@ -1,5 +1,6 @@
 pub mod Cited
 pub mod Alike
+pub mod Passing
 pub mod ClassKeys
 pub mod ClassesAfter
 pub mod FoundTexts
@@ -9,12 +10,11 @@ pub mod DiffLines
 pub mod Runs
 pub mod Elsewhere
 pub mod LawLemmas
+pub mod RunSteps
 pub mod LawRuns
 pub mod Gone
 pub mod LawHistories
 pub mod NothingElse
 pub mod Silent
-pub mod NoDifference
-pub mod BothWays
-pub mod Mirrored
+pub mod Differences
 pub mod OnLiterals

@@ -1,9 +1,11 @@
 -- After a run nothing else is in the keytab than was there or is asked for.
-use Rattle.krb_copy.proofs.Cited.{◌≡◌, ℕ, Bool, true, false, cond, List, [], ◌∷◌, ◌++◌, Some, inl, inr, Result, Ok, Err, refl, sym, ap, subst, ◌∙◌, append_assoc, ◌==◌, ◌||◌, filter, map, AllByRecursion, list_any, append-nil, list_any-append, some_is, Code, EntryParts, PlacedEntry, placed_entries, KeytabState, entry_at_place, put_result, without, are_same, Held, Run, Step, There, Clash, Copy, as_copied, as_found, copy_run, go_on, has_lines, run_added, run_after, run_over, run_start, step_of, with_copy, cases_Bool, eqb-true, or_right, NothingElse}
+use Rattle.krb_copy.proofs.Cited.{◌≡◌, ℕ, Bool, true, List, [], ◌∷◌, ◌++◌, Some, inl, inr, Ok, refl, sym, ap, subst, ◌∙◌, append_assoc, ◌==◌, ◌||◌, map, AllByRecursion, list_any, append-nil, list_any-append, some_is, EntryParts, PlacedEntry, placed_entries, KeytabState, entry_at_place, are_same, Held, Run, as_copied, as_found, copy_run, run_over, run_start, with_copy, cases_Bool, eqb-true, or_right, NothingElse}
+use Rattle.std.proofs.lemmas.List.Elements.{All-filter, All-from_recursion, recursion_from_All}
+use Rattle.krb_wire.proofs.Lists.{all_join}
 use Rattle.krb_copy.proofs.Alike.{same_equiv}
 use Rattle.krb_copy.proofs.Gone.{goes_by_its_entries}
-use Rattle.krb_copy.proofs.LawLemmas.{AreThere, all_append}
-use Rattle.krb_copy.proofs.LawRuns.{ended, ok_is}
+use Rattle.krb_copy.proofs.LawLemmas.{AreThere}
+use Rattle.krb_copy.proofs.RunSteps.{kept_over}
 
 -- an entry has name, version, enctype and key of one of these
 abbrev IsAmong : List PlacedEntry → EntryParts → Type 0
@@ -33,38 +35,12 @@ found_among all (y ∷ ys) h = (h.0, found_among all ys h.1)
 
 -- ---- one entry asked for
 
-filter_by : (all : List PlacedEntry) (b : Bool) (h : Held) (hs : List Held) → IsAmong all h.entry → AreAmong all hs → AreAmong all (cond b (h ∷ hs) hs)
-filter_by all true h hs here rest = (here, rest)
-filter_by all false h hs here rest = rest
-
-filter_among : (all : List PlacedEntry) (p : Held → Bool) (held : List Held) → AreAmong all held → AreAmong all (filter p held)
-filter_among all p [] are = tt
-filter_among all p (h ∷ hs) are = filter_by all (p h) h (filter p hs) are.0 (filter_among all p hs are.1)
-
 copied_among : (all : List PlacedEntry) (held : List Held) (x : EntryParts) (place : ℕ) → IsAmong all x → AreAmong all held → AreAmong all (with_copy held x place)
-copied_among all held x place is are = all_append (λ (h : Held). IsAmong all h.entry) _ (as_copied place x ∷ []) (filter_among all _ held are) (is, tt)
-
-added_among : (all : List PlacedEntry) (run next : Run) (x : EntryParts) (places : List ℕ) (r : Result (ℕ × KeytabState) Code) → run_added run x places r ≡ Ok next → IsAmong all x → AreAmong all run.held → AreAmong all next.held
-added_among all run next x places (Err code) e is are = absurd cc
-added_among all run next x places (Ok given) e is are =
-    subst (λ (n : Run). AreAmong all n.held) (ok_is _ next (run_added run x places (Ok given)) refl e) (copied_among all run.held x given.0 is are)
-
-step_among : (all : List PlacedEntry) (run next : Run) (x : PlacedEntry) (s : Step) → run_after run x s ≡ Ok next → IsAmong all x.1 → AreAmong all run.held → AreAmong all next.held
-step_among all run next x There e is are = subst (λ (n : Run). AreAmong all n.held) (ok_is _ next (run_after run x There) refl e) are
-step_among all run next x (Clash twin) e is are = subst (λ (n : Run). AreAmong all n.held) (ok_is _ next (run_after run x (Clash twin)) refl e) are
-step_among all run next x (Copy places) e is are = added_among all run next x.1 places (put_result (without run.keytab places) x.1) e is are
-
--- ---- all entries asked for
-
-over_by : (all : List PlacedEntry) (replace : Bool) (x : PlacedEntry) (xs : List PlacedEntry) (run final : Run) (r : Result Run Code) → run_after run x (step_of replace run.before run.held x.1) ≡ r → go_on (run_over replace xs) run r ≡ Ok final → IsAmong all x.1 → AreAmong all run.held
-    → ((next : Run) → run_over replace xs next ≡ Ok final → AreAmong all next.held → AreAmong all final.held) → AreAmong all final.held
-over_by all replace x xs run final (Ok next) step e is are ih = ih next e (step_among all run next x (step_of replace run.before run.held x.1) step is are)
-over_by all replace x xs run final (Err code) step e is are ih = subst (λ (n : Run). AreAmong all n.held) (ended (has_lines run.clashes) run final code refl e).0 are
+copied_among all held x place is are = all_join (λ (h : Held). IsAmong all h.entry) _ (as_copied place x ∷ [])
+    (recursion_from_All (λ h. IsAmong all h.entry) _ (All-filter _ (λ h. IsAmong all h.entry) held (All-from_recursion (λ h. IsAmong all h.entry) held are))) (is, tt)
 
 over : (all : List PlacedEntry) (replace : Bool) (asked : List PlacedEntry) (run final : Run) → run_over replace asked run ≡ Ok final → AllByRecursion (λ x. IsAmong all x.1) asked → AreAmong all run.held → AreAmong all final.held
-over all replace [] run final e is are = subst (λ (n : Run). AreAmong all n.held) (ok_is run final (Ok run) refl e) are
-over all replace (x ∷ xs) run final e is are =
-    over_by all replace x xs run final (run_after run x (step_of replace run.before run.held x.1)) refl e is.0 are (λ next f more. over all replace xs next final f is.1 more)
+over all replace = kept_over replace (λ x. IsAmong all x.1) (λ run. AreAmong all run.held) (λ x run is are e. are) (λ x run twin is are e. are) (λ x run places given is are e put. copied_among all run.held x.1 given.0 is are)
 
 -- ---- the entries of the keytab
 

@@ -1,5 +1,5 @@
 -- The numbers of classes, one entry after the other.
-use Rattle.krb_copy.proofs.Cited.{◌≡◌, ◌||◌, ℕ, ◌+◌, ◌<◌, Bool, true, false, cond, List, [], ◌∷◌, ◌++◌, length, take, drop, get_or, Option, Some, None, refl, sym, ap, ◌∙◌, arith, map, not, ◌==◌, is_some, unwrap_or, append_assoc, map_push, take_more, drop_more, list_any, eq-eqb, ne_eqb, some_is, EntryParts, PlacedEntry, are_twins, ClassKey, class_cmp}
+use Rattle.krb_copy.proofs.Cited.{◌≡◌, ℕ, ◌+◌, ◌<◌, Bool, true, cond, List, [], ◌∷◌, ◌++◌, length, take, drop, get_or, Option, Some, None, refl, sym, ap, ◌∙◌, arith, map, not, ◌==◌, is_some, unwrap_or, append_assoc, map_push, take_more, drop_more, list_any, eq-eqb, ne_eqb, EntryParts, PlacedEntry, are_twins, ClassKey, class_cmp}
 use Rattle.std.specs.Option.{option_or}
 use Rattle.std.specs.List.{position_from}
 use Rattle.std.specs.BTreeMap.{BTreeMap, get, Updates}
@@ -7,81 +7,61 @@ use Rattle.krb_copy.specs.Classes.{IsClassKey}
 use Rattle.krb_copy.specs.Diff.{has_twin}
 use Rattle.krb_copy.specs.DiffRows.{AreNumbers, class_number, row_due, rows_due, shown}
 use Rattle.krb_copy.specs.declared.numbering.Row.{Row}
-use Rattle.krb_copy.proofs.Alike.{twins_equiv}
+use Rattle.std.proofs.lemmas.Iterator.Adapters.{position_from-zero}
+use Rattle.std.proofs.lemmas.List.Quantifiers.{position-Some}
+use Rattle.krb_copy.proofs.Alike.{alike, twins_equiv}
 use Rattle.krb_copy.proofs.ClassKeys.{classes_agree}
 
 -- ---- positions
 
-both_by : (b : Bool) (n : ℕ) (all some others : Option ℕ) → all ≡ option_or some others → cond b (Some n) all ≡ option_or (cond b (Some n) some) others
-both_by true n all some others e = refl
-both_by false n all some others e = e
-
 position-append : {K : Type 0} (t : K → Bool) (n m : ℕ) (xs ys : List K) → length xs + n ≡ m → position_from t n (xs ++ ys) ≡ option_or (position_from t n xs) (position_from t m ys)
 position-append t n m [] ys e = let same : n ≡ m = omega (arith, e) in ap (λ k. position_from t k ys) same
-position-append t n m (x ∷ xs) ys e = both_by (t x) n (position_from t (n + 1) (xs ++ ys)) (position_from t (n + 1) xs) (position_from t m ys) (position-append t (n + 1) m xs ys (omega (arith, e)))
-
-below_by : (b : Bool) (n m i : ℕ) (others : Option ℕ) → cond b (Some n) others ≡ Some i → n < m → (others ≡ Some i → i < m) → i < m
-below_by true n m i others e lt rest = let is : n ≡ i = some_is n i e in omega (arith, is, lt)
-below_by false n m i others e lt rest = rest e
-
-pub position_below : {K : Type 0} (t : K → Bool) (n i : ℕ) (xs : List K) → position_from t n xs ≡ Some i → i < length xs + n
-position_below t n i [] e = absurd cc
-position_below t n i (x ∷ xs) e = below_by (t x) n (length (x ∷ xs) + n) i (position_from t (n + 1) xs) e (omega arith) (λ h. let lt = position_below t (n + 1) i xs h in omega (arith, lt))
-
-pub position_agree : {K : Type 0} (t u : K → Bool) → ((x : K) → t x ≡ u x) → (n : ℕ) (xs : List K) → position_from t n xs ≡ position_from u n xs
-position_agree t u each n [] = refl
-position_agree t u each n (x ∷ xs) = ap (λ (b : Bool). cond b (Some n) (position_from t (n + 1) xs)) (each x) ∙ ap (cond (u x) (Some n)) (position_agree t u each (n + 1) xs)
-
-any_by : (b : Bool) (n : ℕ) (any : Bool) (others : Option ℕ) → any ≡ is_some others → (b || any) ≡ is_some (cond b (Some n) others)
-any_by true n any others e = refl
-any_by false n any others e = e
+position-append t n m (x ∷ xs) ys e = let ih = position-append t (n + 1) m xs ys (omega (arith, e)) in grind (arith, ih)
 
 position_any : {K : Type 0} (t : K → Bool) (n : ℕ) (xs : List K) → list_any t xs ≡ is_some (position_from t n xs)
 position_any t n [] = refl
-position_any t n (x ∷ xs) = any_by (t x) n (list_any t xs) (position_from t (n + 1) xs) (position_any t (n + 1) xs)
+position_any t n (x ∷ xs) = grind (arith, position_any t (n + 1) xs)
+
+-- the element at a position passes
+pub position_at : {K : Type 0} (t : K → Bool) (xs : List K) (i : ℕ) (d : K) → position_from t 0 xs ≡ Some i → (i < length xs) × (t (get_or xs i d) ≡ true)
+position_at t xs i d e = let p = position-Some t xs i d (position_from-zero t xs ∙ e) in (p.0, p.1)
+
+-- twins have the same number
+pub number_alike : (x y : EntryParts) (all : List PlacedEntry) → are_twins x y ≡ true → class_number x all ≡ class_number y all
+number_alike x y all twin = ap (λ (t : EntryParts → Bool). position_from (λ z. t z.1) 0 all) (alike x y twin)
 
 -- ---- one entry
 
-or_some : (o : Option ℕ) (n : ℕ) → option_or o (Some n) ≡ Some (unwrap_or o n)
-or_some None n = refl
-or_some (Some m) n = refl
-
-or_none : (o : Option ℕ) → option_or o None ≡ o
-or_none None = refl
-or_none (Some m) = refl
-
-number_here : (all before rest : List PlacedEntry) (x : PlacedEntry) (next : ℕ) → before ++ x ∷ rest ≡ all → next ≡ length before → class_number x.1 all ≡ Some (unwrap_or (class_number x.1 before) next)
-number_here all before rest x next parts is =
-    ap (class_number x.1) (sym parts) ∙ position-append (λ (y : PlacedEntry). are_twins x.1 y.1) 0 next before (x ∷ rest) (omega (arith, is))
-    ∙ ap (λ (b : Bool). option_or (class_number x.1 before) (cond b (Some next) (position_from (λ (y : PlacedEntry). are_twins x.1 y.1) (next + 1) rest))) (twins_equiv.refl x.1)
-    ∙ or_some (class_number x.1 before) next
-
-first_by : (o : Option ℕ) (next : ℕ) → ((i : ℕ) → o ≡ Some i → i < next) → (unwrap_or o next == next) ≡ not (is_some o)
-first_by None next below = eq-eqb next next refl
-first_by (Some i) next below = let lt = below i refl in ne_eqb i next (λ e. omega (arith, lt, e))
+-- with one entry more, after which there may be others
+number_with : (x : EntryParts) (before rest : List PlacedEntry) (y : PlacedEntry) (next : ℕ) → next ≡ length before → class_number x (before ++ y ∷ rest) ≡ option_or (class_number x before) (cond (are_twins x y.1) (Some next) (position_from (λ z. are_twins x z.1) (next + 1) rest))
+number_with x before rest y next is = position-append (λ (z : PlacedEntry). are_twins x z.1) 0 next before (y ∷ rest) (omega (arith, is))
 
 -- its row
 pub row_is : (all before rest : List PlacedEntry) (x : PlacedEntry) (number next : ℕ) → before ++ x ∷ rest ≡ all → next ≡ length before → number ≡ unwrap_or (class_number x.1 before) next → (Some number, (number == next), x) ≡ row_due all before x
 row_is all before rest x number next parts is number_is =
-    let t : PlacedEntry → Bool = λ y. are_twins x.1 y.1 in
-    let due = sym (number_here all before rest x next parts is) in
-    let first : (number == next) ≡ not (has_twin x.1 before) =
-    ap (λ (n : ℕ). n == next) number_is ∙ first_by (class_number x.1 before) next (λ i e. let lt = position_below t 0 i before e in omega (arith, lt, is)) ∙ ap not (sym (position_any t 0 before)) in
-    λ i. ((ap (λ (n : ℕ). Some n) number_is ∙ due) i, first i, x)
+    let o = class_number x.1 before in
+    let due : Some number ≡ class_number x.1 all = by (are_twins x.1 x.1) o number_is (twins_equiv.refl x.1) ∙ sym (number_with x.1 before rest x next is) ∙ ap (class_number x.1) parts in
+    let first : (number == next) ≡ not (has_twin x.1 before) = rw (position_any (λ (y : PlacedEntry). are_twins x.1 y.1) 0 before) (first_by o number_is (λ i e. let lt = (position_at (λ (y : PlacedEntry). are_twins x.1 y.1) before i x e).0 in omega (arith, lt, is))) in
+    λ i. (due i, first i, x)
+  where
+    by : (t : Bool) (o : Option ℕ) → number ≡ unwrap_or o next → t ≡ true → Some number ≡ option_or o (cond t (Some next) (position_from (λ (z : PlacedEntry). are_twins x.1 z.1) (next + 1) rest))
+    by t o e twin = grind arith
 
-next_by : (x y : EntryParts) (before : List PlacedEntry) (next number : ℕ) (b : Bool) → are_twins x y ≡ b → number ≡ unwrap_or (class_number x before) next → cond b (Some number) (class_number y before) ≡ option_or (class_number y before) (cond b (Some next) None)
-next_by x y before next number true twin is =
-    ap (λ (n : ℕ). Some n) is ∙ sym (or_some (class_number x before) next) ∙ ap (λ (o : Option ℕ). option_or o (Some next)) (position_agree (λ (z : PlacedEntry). are_twins x z.1) (λ (z : PlacedEntry). are_twins y z.1) (λ z. twins_equiv.congr x y z.1 twin) 0 before)
-next_by x y before next number false apart is = sym (or_none (class_number y before))
+    first_by : (o : Option ℕ) → number ≡ unwrap_or o next → ((i : ℕ) → o ≡ Some i → i < next) → (number == next) ≡ not (is_some o)
+    first_by None e below = eq-eqb number next e
+    first_by (Some i) e below = let lt = below i refl in ne_eqb number next (λ same. omega (arith, lt, e, same))
 
 -- the map after it
 pub numbers_next : (before : List PlacedEntry) (x : PlacedEntry) (k : ClassKey) (number next : ℕ) (old new : BTreeMap ClassKey ℕ) → AreNumbers before old → IsClassKey x.1 k → next ≡ length before → number ≡ unwrap_or (get class_cmp old k) next → Updates class_cmp old new k (Some number) → AreNumbers (before ++ x ∷ []) new
 numbers_next before x k number next old new are of_x is number_is updates y q of_y =
     let b = are_twins x.1 y in
+    let is_due : number ≡ unwrap_or (class_number x.1 before) next = number_is ∙ ap (λ (o : Option ℕ). unwrap_or o next) (are x.1 k of_x) in
     updates.0 q ∙ ap (λ (t : Bool). cond t (Some number) (get class_cmp old q)) (classes_agree x.1 y k q of_x of_y) ∙ ap (cond b (Some number)) (are y q of_y)
-    ∙ next_by x.1 y before next number b refl (number_is ∙ ap (λ (o : Option ℕ). unwrap_or o next) (are x.1 k of_x))
-    ∙ ap (λ (t : Bool). option_or (class_number y before) (cond t (Some next) None)) (twins_equiv.symm x.1 y)
-    ∙ sym (position-append (λ (z : PlacedEntry). are_twins y z.1) 0 next before (x ∷ []) (omega (arith, is)))
+    ∙ by b (class_number x.1 before) (class_number y before) (λ twin. number_alike x.1 y before twin) is_due
+    ∙ ap (λ (t : Bool). option_or (class_number y before) (cond t (Some next) None)) (twins_equiv.symm x.1 y) ∙ sym (number_with y before [] x next is)
+  where
+    by : (b : Bool) (o p : Option ℕ) → (b ≡ true → o ≡ p) → number ≡ unwrap_or o next → cond b (Some number) p ≡ option_or p (cond b (Some next) None)
+    by b o p same e = grind arith
 
 -- ---- entries in turn
 

@@ -1,4 +1,4 @@
-use Rattle.krb_copy.proofs.Mirrored.{are_mirrored}
+use Rattle.krb_copy.proofs.Differences.{are_mirrored}
 use Rattle.krb_copy.proofs.laws.differences_are_mirrored.Goals as goal
 
 pub returns : goal.returns

@@ -1,7 +1,8 @@
-use Rattle.krb_copy.proofs.Cited.{◌≡◌, ◌∙◌, sym, ap, refl, cond, true, false, not, Bool, ◌&&◌, ◌==◌, bytes_eq}
+use Rattle.krb_copy.proofs.Cited.{◌∙◌, sym, ap, refl, cond, true, false, Bool, ◌&&◌, ◌==◌, bytes_eq}
 use Rattle.std.specs.Ordering.{is_eq, nat_cmp}
 use Rattle.std.specs.Cmp.Lexicographic.{slice_cmp}
 use Rattle.std.specs.BTreeSet.{contains_by}
+use Rattle.std.proofs.lemmas.Bool.{not-false}
 use Rattle.std.proofs.lemmas.Cmp.{nat_list_eq_equiv}
 use Rattle.std.proofs.lemmas.Map.Text.{is_eq-slice_cmp}
 use Rattle.std.proofs.lemmas.Slice.Eq.{bytes_eq-Decides}
@@ -9,10 +10,6 @@ use Rattle.krb_copy.specs.DiffRows.{to_key}
 use Rattle.krb_copy.proofs.ClassKeys.{nat_is, then_is}
 use Rattle.krb_copy.proofs.DiffKeys.{first_added, key_added, key_known}
 use Rattle.krb_copy.proofs.diff.Keys.push.Goals as goal
-
-is_not : (b : Bool) → not b ≡ false → b ≡ true
-is_not true e = refl
-is_not false e = sym e
 
 pub returns-in-None-clause-keys : goal.returns-in-None-clause-keys
 returns-in-None-clause-keys g c = λ rows lt are. first_added rows c.args.row.now c.args.self.now _ c.key-key.result are lt (sym c.in-None.ensures) c.key-key.ensures c.set_first.ensures refl
@@ -30,4 +27,4 @@ returns-in_ok-insert-in-Some-clause-keys g c = λ rows lt are.
 pub returns-else-ne-clause-keys : goal.returns-else-ne-clause-keys
 returns-else-ne-clause-keys g c = λ rows lt are.
     key_known rows c.args.row.now c.args.self.now _ (c.in-Some._place, c.in-Some.first) are c.in-Some.ensures refl refl
-    ((bytes_eq-Decides c.in-Some.first.now c.key-key.result.now).0 (is_not (bytes_eq c.in-Some.first.now c.key-key.result.now) (sym c.ne.ensures ∙ c.if-ne.false)) ∙ c.key-key.ensures)
+    ((bytes_eq-Decides c.in-Some.first.now c.key-key.result.now).0 (not-false (bytes_eq c.in-Some.first.now c.key-key.result.now) (sym c.ne.ensures ∙ c.if-ne.false)) ∙ c.key-key.ensures)
