@@ -120,12 +120,9 @@ pub record IsAt (v : Version) (at : ℕ) (cs : List CredParts) (p : ℕ) (c : Cr
   pub parts : cs ≡ before ++ c ∷ after
   pub live : is_marked c ≡ false
 
-some_cred : (c d : CredParts) → ◌≡◌ {A = Option CredParts} (Some c) (Some d) → c ≡ d
-some_cred c d e = cc
-
 live_is : (c d : CredParts) (b : Bool) → is_marked d ≡ b → if_live d ≡ Some c → (d ≡ c) × (is_marked d ≡ false)
 live_is c d true e is = let none : if_live d ≡ None = rw e refl in absurd (let no = sym none ∙ is in cc)
-live_is c d false e is = let some : if_live d ≡ Some d = rw e refl in (some_cred d c (sym some ∙ is), e)
+live_is c d false e is = let some : if_live d ≡ Some d = rw e refl in (some_is d c (sym some ∙ is), e)
 
 is_at_cons : (v : Version) (at p : ℕ) (d : CredParts) (cs : List CredParts) (c : CredParts) (b : Bool) → (at == p) ≡ b → (live_of (find (λ x. x.0 == p) (placed_from v (at + length (credential v d)) cs)) ≡ Some c → IsAt v (at + length (credential v d)) cs p c)
     → live_of (find (λ x. x.0 == p) (placed_from v at (d ∷ cs))) ≡ Some c → IsAt v at (d ∷ cs) p c

@@ -7,6 +7,8 @@ pub mod Open
 pub mod Changes
 pub mod SetConfig
 pub mod Laws
+pub mod Der
+pub mod Ticket
 -- For private contracts only.
 pub mod Credentials
 pub mod Rewrite

@@ -8,6 +8,7 @@ mod cells;
 mod config;
 mod credential;
 mod credentials;
+mod der;
 mod laws;
 mod mark;
 mod new_image;
@@ -15,6 +16,7 @@ mod offset;
 mod open;
 mod placed;
 mod preamble;
+mod ticket;
 mod version;
 
 pub use ccache::Ccache;
@@ -30,4 +32,5 @@ pub use laws::{
 };
 pub use offset::Offset;
 pub use open::{CcOpenFault, CcOpenRefused};
+pub use ticket::{TicketEncryption, ticket_encryption};
 pub use version::Version;

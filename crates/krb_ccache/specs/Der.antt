@@ -1,0 +1,75 @@
+-- DER (X.690), as far as a ticket needs it: elements with a tag of one byte, and INTEGERs.
+use Rattle.std.specs.Prelude.{ℕ, ◌+◌, ◌*◌, ◌-◌, ◌==◌, ℤ, pos, negsuc, List, [], ◌∷◌, length, Bool, true, false, not, ◌&&◌, ◌||◌, nat_lt, nat_le, if◌then◌else◌, Option, None, Some, slice_index}
+use Rattle.std.specs.List.{fold}
+use Rattle.krb_wire.specs.Reading.{◌>>=◌, byte_at, bytes_at}
+
+-- the digit in base 256 that a byte is, or its complement
+abbrev pub digit : Bool → ℕ → ℕ
+digit is_complement byte = if is_complement then 255 - byte else byte
+
+-- the number whose digits the bytes are, the highest first
+abbrev pub base_256 : Bool → List ℕ → ℕ
+base_256 is_complement bytes = fold (λ n byte. n * 256 + digit is_complement byte) 0 bytes
+
+-- ---- elements
+
+-- a length of 128 or more, without a zero before it (10.1)
+unfoldable pub long_length : List ℕ → Option ℕ
+long_length bytes =
+    if (slice_index bytes 0 == 0) || (nat_lt 8 (length bytes) || nat_lt (base_256 false bytes) 128) then None
+    else Some (base_256 false bytes)
+
+-- the definite length that the bytes begin with, in its shortest form (8.1.3)
+unfoldable pub length_at : List ℕ → Option (ℕ × List ℕ)
+length_at bytes = do
+  first ← byte_at bytes
+  if nat_lt first.0 128 then Some first else (do
+    digits ← bytes_at (first.0 - 128) first.1
+    len ← long_length digits.0
+    Some (len, digits.1))
+
+-- the content of the element with this tag that the bytes begin with (8.1)
+unfoldable pub element_at : ℕ → List ℕ → Option (List ℕ × List ℕ)
+element_at tag bytes = do
+  first ← byte_at bytes
+  len ← if first.0 == tag then length_at first.1 else None
+  bytes_at len.0 len.1
+
+-- what was read, if no bytes are left
+abbrev pub whole : {X : Type 0} → Option (X × List ℕ) → Option X
+whole None = None
+whole (Some (x, [])) = Some x
+whole (Some (x, b ∷ rest)) = None
+
+-- the content of the one element, with this tag, that the bytes are
+unfoldable pub element_in : ℕ → List ℕ → Option (List ℕ)
+element_in tag bytes = whole (element_at tag bytes)
+
+-- ---- INTEGERs
+
+-- the first nine bits are not all the same, if there are nine (8.3.2)
+abbrev pub is_shortest : List ℕ → Bool
+is_shortest [] = false
+is_shortest (a ∷ []) = true
+is_shortest (a ∷ b ∷ rest) = not (((a == 0) && nat_lt b 128) || ((a == 255) && nat_le 128 b))
+
+-- the number in two's complement: one below 0 by the complements of its bytes, which count from -1 down (8.3.3)
+abbrev pub twos_complement : List ℕ → ℤ
+twos_complement bytes = if nat_le 128 (slice_index bytes 0) then negsuc (base_256 true bytes) else pos (base_256 false bytes)
+
+-- the number of 64 bits that the content of an INTEGER is
+unfoldable pub integer_in : List ℕ → Option ℤ
+integer_in content = if is_shortest content && nat_le (length content) 8 then Some (twos_complement content) else None
+
+-- the INTEGER alone in the element with this tag that the bytes begin with
+unfoldable pub integer_at : ℕ → List ℕ → Option (ℤ × List ℕ)
+integer_at tag bytes = do
+  element ← element_at tag bytes
+  content ← element_in 2 element.0
+  n ← integer_in content
+  Some (n, element.1)
+
+-- a number that the code keeps as whether it is below 0, and how far above 0 or below -1
+abbrev pub signed : Bool × ℕ → ℤ
+signed (true, n) = negsuc n
+signed (false, n) = pos n

@@ -1,0 +1,55 @@
+-- The encryption of a ticket (RFC 4120 5.2.9 and 5.3).
+use Rattle.std.specs.Prelude.{ℕ, suc, Bool, false, ◌^◌, ◌-◌, ◌==◌, ℤ, pos, negsuc, List, nat_lt, if◌then◌else◌, Option, None, Some, slice_index}
+use Rattle.krb_wire.specs.Reading.{◌>>=◌}
+use Rattle.krb_ccache.specs.declared.ticket.TicketEncryption.{TicketEncryption}
+use Rattle.krb_ccache.specs.Der.{element_at, element_in, integer_at}
+
+-- an enctype: an Int32
+abbrev pub etype_of : ℤ → Option ℤ
+etype_of (pos n) = if nat_lt n (2 ^ 31) then Some (pos n) else None
+etype_of (negsuc n) = if nat_lt n (2 ^ 31) then Some (negsuc n) else None
+
+-- a kvno: a UInt32; read-only domain controllers of Windows write one from 2 ^ 31 on as that number less 2 ^ 32
+abbrev pub kvno_of : ℤ → Option ℕ
+kvno_of (pos n) = if nat_lt n (2 ^ 32) then Some n else None
+kvno_of (negsuc n) = if nat_lt n (2 ^ 31) then Some (2 ^ 32 - suc n) else None
+
+-- the kvno, [1], that the bytes begin with, or none if they begin with another element
+unfoldable pub kvno_at : List ℕ → Option (Option ℕ × List ℕ)
+kvno_at bytes =
+    if slice_index bytes 0 == 0xa1 then (do
+      n ← integer_at 0xa1 bytes
+      kvno ← kvno_of n.0
+      Some (Some kvno, n.1))
+    else Some (None, bytes)
+
+-- the fields of EncryptedData: etype [0], perhaps kvno [1], and cipher [2]
+unfoldable pub encrypted_data : List ℕ → Option TicketEncryption
+encrypted_data fields = do
+  n ← integer_at 0xa0 fields
+  etype ← etype_of n.0
+  kvno ← kvno_at n.1
+  cipher ← element_in 0xa2 kvno.1
+  Some (record { etype = etype; kvno = kvno.0 })
+
+-- the version of the protocol
+abbrev pub is_five : ℤ → Bool
+is_five (pos n) = n == 5
+is_five (negsuc n) = false
+
+-- the fields of Ticket: tkt-vno [0], realm [1], sname [2], and enc-part [3]
+unfoldable pub ticket_fields : List ℕ → Option TicketEncryption
+ticket_fields fields = do
+  version ← integer_at 0xa0 fields
+  realm ← if is_five version.0 then element_at 0xa1 version.1 else None
+  sname ← element_at 0xa2 realm.1
+  enc_part ← element_in 0xa3 sname.1
+  encrypted ← element_in 0x30 enc_part
+  encrypted_data encrypted
+
+-- the encryption of a ticket, [APPLICATION 1]
+unfoldable pub ticket_encryption : List ℕ → Option TicketEncryption
+ticket_encryption bytes = do
+  ticket ← element_in 0x61 bytes
+  fields ← element_in 0x30 ticket
+  ticket_fields fields
