@@ -1,57 +1,44 @@
 -- What is found when one more entry is checked.
-use Rattle.krb_audit.proofs.Cited.{◌≡◌, ℕ, suc, ◌≤◌, arith, Bool, true, false, cond, List, [], ◌∷◌, ◌++◌, length, Option, Some, None, refl, sym, ap, ◌∙◌, append_assoc, ◌||◌, filter, fold, list_any, PlacedEntry, placed_entries, filter_map, cons_option, or-false, list_any-append, cells_of, entry_in, ends_mit, marked_after, marks_of}
+use Rattle.krb_audit.proofs.Cited.{◌≡◌, ℕ, suc, ◌≤◌, arith, Bool, true, false, cond, List, [], ◌∷◌, ◌++◌, length, Option, Some, None, refl, sym, ap, ◌∙◌, append_assoc, ◌||◌, filter, list_any, PlacedEntry, placed_entries, filter_map, cons_option, or-false, list_any-append, cells_of, entry_in, ends_mit, marked_after, marks_of}
 use Rattle.krb_keytab.specs.Changes.{placed_cells}
 use Rattle.krb_keytab.specs.Store.{KeytabState}
 use Rattle.krb_keytab.proofs.EntryLists.{entries_of_cells}
 use Rattle.krb_keytab.proofs.ImageChanges.{placed_len}
 use Rattle.krb_audit.specs.declared.findings.Before.{Before}
-use Rattle.krb_audit.specs.declared.finding_set.FindingSet.{FindingSet}
-use Rattle.krb_audit.specs.declared.marks.Mark.{Mark}
+use Rattle.krb_audit.specs.declared.marks.Marks.{Marks}
 use Rattle.krb_audit.specs.Before.{IsBefore}
-use Rattle.krb_audit.specs.CheckUp.{about_entries}
 use Rattle.krb_audit.specs.Findings.{Marked, reported}
-use Rattle.krb_audit.specs.Table.{has_mark, none, with_marks}
+use Rattle.krb_audit.specs.Table.{has_some}
 
 -- those of some entries about which something is found
 abbrev pub reported_of : List Marked → List Marked
-reported_of ms = filter (λ m. has_mark m.1) ms
-
--- a set with what is found about an entry
-abbrev pub with_entry : FindingSet → Marked → FindingSet
-with_entry s m = with_marks s m.1
+reported_of ms = filter (λ m. has_some m.1.findings) ms
 
 -- some entries are checked, and others are still to come
-pub record IsCheckedUpTo {A : Type 0} (aged_by : Option ℕ) (k : KeytabState) (rest : List PlacedEntry) (b : Before A) (entries : List Marked) (findings : FindingSet) : Type 0 where
+pub record IsCheckedUpTo {A : Type 0} (aged_by : Option ℕ) (k : KeytabState) (rest : List PlacedEntry) (b : Before A) (entries : List Marked) : Type 0 where
   pub before : List PlacedEntry
   pub known : IsBefore k before rest b
   pub entries_are : entries ++ reported_of (marked_after aged_by k before rest) ≡ reported aged_by k
-  pub findings_are : fold with_entry findings (reported_of (marked_after aged_by k before rest)) ≡ about_entries (reported aged_by k)
 
-pub none_checked : {A : Type 0} (aged_by : Option ℕ) (k : KeytabState) (b : Before A) → IsBefore k [] (placed_entries k) b → IsCheckedUpTo aged_by k (placed_entries k) b [] none
-none_checked aged_by k b known = record { before = []; known = known; entries_are = refl; findings_are = refl }
+pub none_checked : {A : Type 0} (aged_by : Option ℕ) (k : KeytabState) (b : Before A) → IsBefore k [] (placed_entries k) b → IsCheckedUpTo aged_by k (placed_entries k) b []
+none_checked aged_by k b known = record { before = []; known = known; entries_are = refl }
 
 listed_if : (b : Bool) (m : Marked) (entries after : List Marked) → cond b (entries ++ m ∷ []) entries ++ after ≡ entries ++ cond b (m ∷ after) after
 listed_if true m entries after = append_assoc entries (m ∷ []) after
 listed_if false m entries after = refl
 
-found_if : (b : Bool) (m : Marked) (s : FindingSet) (after : List Marked) → fold with_entry (cond b (with_entry s m) s) after ≡ fold with_entry s (cond b (m ∷ after) after)
-found_if true m s after = refl
-found_if false m s after = refl
-
 -- the next entry is checked
-pub one_checked : {A : Type 0} (aged_by : Option ℕ) (k : KeytabState) (x : PlacedEntry) (rest : List PlacedEntry) (b c : Before A) (marks : List (Option Mark)) (entries entries' : List Marked) (s s' : FindingSet) → IsCheckedUpTo aged_by k (x ∷ rest) b entries s
+pub one_checked : {A : Type 0} (aged_by : Option ℕ) (k : KeytabState) (x : PlacedEntry) (rest : List PlacedEntry) (b c : Before A) (marks : Marks) (entries entries' : List Marked) (is_found : Bool) → IsCheckedUpTo aged_by k (x ∷ rest) b entries
     → ((before : List PlacedEntry) → IsBefore k before (x ∷ rest) b → (marks ≡ marks_of aged_by k before x) × IsBefore k (before ++ x ∷ []) rest c)
-    → entries' ≡ cond (has_mark marks) (entries ++ (x, marks) ∷ []) entries → s' ≡ cond (has_mark marks) (with_marks s marks) s → IsCheckedUpTo aged_by k rest c entries' s'
-one_checked aged_by k x rest b c marks entries entries' s s' h gives listed found =
+    → has_some marks.findings ≡ is_found → entries' ≡ cond is_found (entries ++ (x, marks) ∷ []) entries → IsCheckedUpTo aged_by k rest c entries'
+one_checked aged_by k x rest b c marks entries entries' is_found h gives found listed =
     let given = gives h.before h.known in
     let after = reported_of (marked_after aged_by k (h.before ++ x ∷ []) rest) in
     record {
       before = h.before ++ x ∷ [];
       known = given.1;
-      entries_are = ap (λ (es : List Marked). es ++ after) listed ∙ listed_if (has_mark marks) (x, marks) entries after
-          ∙ ap (λ (ms : List (Option Mark)). entries ++ cond (has_mark ms) ((x, ms) ∷ after) after) given.0 ∙ h.entries_are;
-      findings_are = ap (λ (t : FindingSet). fold with_entry t after) found ∙ found_if (has_mark marks) (x, marks) s after
-          ∙ ap (λ (ms : List (Option Mark)). fold with_entry s (cond (has_mark ms) ((x, ms) ∷ after) after)) given.0 ∙ h.findings_are;
+      entries_are = ap (λ (es : List Marked). es ++ after) (listed ∙ ap (λ (t : Bool). cond t (entries ++ (x, marks) ∷ []) entries) (sym found)) ∙ listed_if (has_some marks.findings) (x, marks) entries after
+          ∙ ap (λ (ms : Marks). entries ++ cond (has_some ms.findings) ((x, ms) ∷ after) after) given.0 ∙ h.entries_are;
     }
 
 -- whether MIT's programs stop before one of these entries or the next

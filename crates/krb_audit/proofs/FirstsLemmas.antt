@@ -2,8 +2,8 @@
 use Rattle.krb_audit.proofs.Cited.{◌≡◌, ℕ, Bool, true, false, cond, List, [], ◌∷◌, ◌++◌, Option, Some, None, refl, sym, ap, ◌∙◌, ◌&&◌, ◌==◌, option_map, bytes_eq, have_same_name, PlacedEntry, first_number, find, and_assoc, on_equiv, and_equiv, nat_eq_equiv, find-append, as_alike, is_alike}
 use Rattle.std.specs.Cmp.{IsEquivalence}
 use Rattle.std.specs.Option.{option_or, unwrap_or}
-use Rattle.krb_audit.specs.declared.marks.Mark.{Mark}
-use Rattle.krb_audit.specs.Findings.{alike_finding}
+use Rattle.krb_audit.specs.declared.firsts.Alike.{Alike}
+use Rattle.krb_audit.specs.Findings.{first_alike}
 use Rattle.krb_audit.specs.Before.{AreFirsts, Key, same_key}
 use Rattle.krb_audit.proofs.FirstNumbers.{number_test, same_equiv}
 
@@ -55,14 +55,14 @@ firsts_next all xs x i look new firsts number puts y j number_too =
     ∙ ap (λ (t : Bool). option_map first_of (option_or (find (is_alike y) xs) (cond t (Some x) None))) (alike_equiv.symm x y)
     ∙ ap (option_map first_of) (sym (find-append (is_alike y) xs (x ∷ [])))
 
--- what an entry with this secret key reports of an earlier one, from its place and secret key
-abbrev pub alike_to : List ℕ → ℕ × List ℕ → Mark
-alike_to secret v = record { finding = alike_finding (bytes_eq v.1 secret); first = Some v.0 }
+-- what is known of an earlier entry, with its place and secret key, if a later one with this secret key is alike
+abbrev pub alike_to : List ℕ → ℕ × List ℕ → Alike
+alike_to secret v = record { place = v.0; has_same_key = bytes_eq v.1 secret }
 
 alike_mapped : (x : PlacedEntry) (o : Option PlacedEntry) → option_map (alike_to x.1.key) (option_map first_of o) ≡ option_map (as_alike x) o
 alike_mapped x None = refl
 alike_mapped x (Some y) = refl
 
--- what it reports of the first that is alike
-pub alike_here : (all xs : List PlacedEntry) (x : PlacedEntry) (i : ℕ) (look : Key → Option (ℕ × List ℕ)) → AreFirsts all xs look → first_number x.1.principal all ≡ Some i → option_map (alike_to x.1.key) (look (key_in i x)) ≡ option_map (as_alike x) (find (is_alike x) xs)
+-- the same of the first entry that is alike
+pub alike_here : (all xs : List PlacedEntry) (x : PlacedEntry) (i : ℕ) (look : Key → Option (ℕ × List ℕ)) → AreFirsts all xs look → first_number x.1.principal all ≡ Some i → option_map (alike_to x.1.key) (look (key_in i x)) ≡ first_alike xs x
 alike_here all xs x i look firsts number = ap (option_map (alike_to x.1.key)) (firsts x i number) ∙ alike_mapped x (find (is_alike x) xs)

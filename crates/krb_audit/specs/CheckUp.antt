@@ -15,7 +15,7 @@ use Rattle.krb_audit.specs.declared.finding.TheConstants.{FINDINGS}
 use Rattle.krb_audit.specs.declared.finding_set.FindingSet.{FindingSet}
 use Rattle.krb_audit.specs.declared.weak_etypes.WeakEtypes.{WeakEtypes}
 use Rattle.krb_audit.specs.Findings.{Marked, reported, weak_among}
-use Rattle.krb_audit.specs.Table.{has, has_some, joined, none, only_if, row_of, with_marks}
+use Rattle.krb_audit.specs.Table.{has, has_some, joined, none, row_of, with_if}
 
 -- ---- the mode
 
@@ -89,13 +89,12 @@ checked mode aged_by wanted k = record {
 
 -- what is found about some entries
 abbrev pub about_entries : List Marked → FindingSet
-about_entries entries = fold (λ s m. with_marks s m.1) none entries
+about_entries entries = fold (λ s m. joined s m.1.findings) none entries
 
 -- which findings there are
 abbrev pub findings_of : CheckParts → FindingSet
 findings_of c =
-    joined (about_entries c.entries)
-    (joined (only_if (has_mode is_open c.mode) Mode) (joined (only_if c.is_empty Empty) (only_if (nat_lt 0 (length c.missing)) Missing)))
+    with_if (nat_lt 0 (length c.missing)) Missing (with_if c.is_empty Empty (with_if (has_mode is_open c.mode) Mode (about_entries c.entries)))
 
 -- nothing is found
 abbrev pub is_well : CheckParts → Bool

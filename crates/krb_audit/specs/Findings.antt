@@ -8,10 +8,11 @@ use Rattle.krb_keytab.specs.Store.{KeytabState}
 use Rattle.krb_text.specs.Etype.{is_key_size, is_weak}
 use Rattle.krb_audit.specs.declared.finding.Finding.{Finding}
 use Rattle.krb_audit.specs.declared.finding.Finding.TheVariants.{Weak, Hidden, Same, Clash, Old, Size, Aged}
-use Rattle.krb_audit.specs.declared.marks.Mark.{Mark}
+use Rattle.krb_audit.specs.declared.firsts.Alike.{Alike}
+use Rattle.krb_audit.specs.declared.marks.Marks.{Marks}
 use Rattle.krb_audit.specs.declared.weak_etypes.WeakEtypes.{WeakEtypes}
 use Rattle.krb_audit.specs.Newest.{is_old}
-use Rattle.krb_audit.specs.Table.{has_mark, only}
+use Rattle.krb_audit.specs.Table.{has_some, set_of}
 use Rattle.krb_audit.specs.Twins.{are_twins}
 
 -- a count or a length with which MIT's programs read no entry
@@ -44,13 +45,23 @@ hides_added k added = option_and_then (hidden_at added) (hidden_from k)
 abbrev pub is_alike : PlacedEntry → PlacedEntry → Bool
 is_alike x y = are_twins x.1 y.1
 
--- the finding about an entry that is alike, by whether it has the same key
-abbrev pub alike_finding : Bool → Finding
-alike_finding has_same_key = if has_same_key then Same else Clash
+-- what is known of an entry `y` that is alike to a later one, `x`: its place, and whether it has the same key
+abbrev pub as_alike : PlacedEntry → PlacedEntry → Alike
+as_alike x y = record { place = y.0; has_same_key = bytes_eq y.1.key x.1.key }
 
--- what a later entry `x` that is alike reports of an entry `y`: its place, and whether it has the same key
-abbrev pub as_alike : PlacedEntry → PlacedEntry → Mark
-as_alike x y = record { finding = alike_finding (bytes_eq y.1.key x.1.key); first = Some y.0 }
+-- the same of the first of the entries before `x` that is alike, if there is one
+abbrev pub first_alike : List PlacedEntry → PlacedEntry → Option Alike
+first_alike before x = option_map (as_alike x) (find (is_alike x) before)
+
+-- there is one, with the same key
+abbrev pub repeats : Option Alike → Bool
+repeats None = false
+repeats (Some first) = first.has_same_key
+
+-- there is one, with another key
+abbrev pub clashes : Option Alike → Bool
+clashes None = false
+clashes (Some first) = not first.has_same_key
 
 -- a key is not as long as its enctype's, if that has a length
 abbrev pub has_odd_size : EntryParts → Bool
@@ -61,16 +72,23 @@ abbrev pub is_aged : Option ℕ → EntryParts → Bool
 is_aged None e = false
 is_aged (Some by) e = not (e.timestamp == 0) && nat_le e.timestamp by
 
--- what is found about an entry of a keytab, in this order, if `before` are the entries before it
-abbrev pub marks_of : Option ℕ → KeytabState → List PlacedEntry → PlacedEntry → List (Option Mark)
-marks_of aged_by k before x =
-    only (is_weak x.1.enctype) Weak
-    ∷ only (has_odd_size x.1) Size
-    ∷ only (ends_mit x.1 && not (list_any (λ y. ends_mit y.1) before)) Hidden
-    ∷ option_map (as_alike x) (find (is_alike x) before)
-    ∷ only (is_old (placed_entries k) x.1) Old
-    ∷ only (not (is_old (placed_entries k) x.1) && is_aged aged_by x.1) Aged
-    ∷ []
+-- a finding about an entry of a keytab, if `before` are the entries before it
+abbrev pub is_found : Option ℕ → KeytabState → List PlacedEntry → PlacedEntry → Finding → Bool
+is_found aged_by k before x Weak = is_weak x.1.enctype
+is_found aged_by k before x Size = has_odd_size x.1
+is_found aged_by k before x Hidden = ends_mit x.1 && not (list_any (λ y. ends_mit y.1) before)
+is_found aged_by k before x Same = repeats (first_alike before x)
+is_found aged_by k before x Clash = clashes (first_alike before x)
+is_found aged_by k before x Old = is_old (placed_entries k) x.1
+is_found aged_by k before x Aged = not (is_old (placed_entries k) x.1) && is_aged aged_by x.1
+is_found aged_by k before x finding = false
+
+-- what is found about it
+abbrev pub marks_of : Option ℕ → KeytabState → List PlacedEntry → PlacedEntry → Marks
+marks_of aged_by k before x = record {
+  findings = set_of (is_found aged_by k before x);
+  first = option_map (λ first. first.place) (first_alike before x);
+}
 
 -- a weak enctype that one of some entries has
 abbrev pub is_weak_among : List PlacedEntry → ℕ → Bool
@@ -82,7 +100,7 @@ weak_among xs = record { found = map (is_weak_among xs) (range_with_len 0 27) }
 
 -- an entry, and what is found about it
 abbrev pub Marked : Type 0
-Marked = PlacedEntry × List (Option Mark)
+Marked = PlacedEntry × Marks
 
 -- some entries, with what is found about each, if `before` are the entries before them
 abbrev pub marked_after : Option ℕ → KeytabState → List PlacedEntry → List PlacedEntry → List Marked
@@ -91,4 +109,4 @@ marked_after aged_by k before (x ∷ xs) = (x, marks_of aged_by k before x) ∷ 
 
 -- the entries of a keytab about which something is found, with that
 abbrev pub reported : Option ℕ → KeytabState → List Marked
-reported aged_by k = filter (λ m. has_mark m.1) (marked_after aged_by k [] (placed_entries k))
+reported aged_by k = filter (λ m. has_some m.1.findings) (marked_after aged_by k [] (placed_entries k))

@@ -6,10 +6,11 @@ use Rattle.krb_keytab.specs.Find.{PlacedEntry}
 use Rattle.krb_text.specs.Listing.{placed_line, fault_line}
 use Rattle.krb_audit.specs.declared.counts.Counts.{Counts}
 use Rattle.krb_audit.specs.declared.finding.Finding.TheVariants.{Mode, Missing, Empty}
-use Rattle.krb_audit.specs.declared.marks.Mark.{Mark}
+use Rattle.krb_audit.specs.declared.finding.Finding.{Finding}
+use Rattle.krb_audit.specs.declared.finding.TheConstants.{ABOUT_ENTRIES}
 use Rattle.krb_audit.specs.CheckUp.{CheckParts, is_open}
 use Rattle.krb_audit.specs.Findings.{Marked}
-use Rattle.krb_audit.specs.Table.{row_of}
+use Rattle.krb_audit.specs.Table.{first_for, has, row_of}
 
 -- a number in octal without leading zeros: at most its last `places` digits
 abbrev pub octal : ℕ → ℕ → List ℕ
@@ -30,14 +31,13 @@ abbrev pub placed_rest : Option ℕ → PlacedEntry → List ℕ
 placed_rest None x = placed_line (codes " ") x
 placed_rest (Some first) x = codes " " ++ (decimal x.0 ++ placed_line (codes " ") (first, x.1))
 
--- the line of what a mark reports of an entry, if there is one
-abbrev pub mark_line : List ℕ → PlacedEntry → Option Mark → List ℕ
-mark_line label x None = []
-mark_line label x (Some mark) = label ++ ((row_of mark.finding).word ++ placed_rest mark.first x)
+-- the line of a finding, if it is found about an entry
+abbrev pub finding_line : List ℕ → Marked → Finding → List ℕ
+finding_line label m finding = if has m.1.findings finding then label ++ ((row_of finding).word ++ placed_rest (first_for m.1 finding) m.0) else []
 
 -- the lines of what is found about an entry
-abbrev pub mark_lines : List ℕ → Marked → List ℕ
-mark_lines label m = flat_map (mark_line label m.0) m.1
+abbrev pub finding_lines : List ℕ → Marked → List ℕ
+finding_lines label m = flat_map (finding_line label m) ABOUT_ENTRIES
 
 -- the line of a keytab without an entry
 abbrev pub empty_line : List ℕ → Bool → List ℕ
@@ -61,5 +61,5 @@ count_line label c =
 abbrev pub report : List ℕ → CheckParts → List ℕ
 report label c =
     mode_line label c.mode
-    ++ (flat_map (mark_lines label) c.entries
+    ++ (flat_map (finding_lines label) c.entries
     ++ (empty_line label c.is_empty ++ (flat_map (missing_line label) c.missing ++ (labelled_fault label c.fault ++ count_line label c.counts))))

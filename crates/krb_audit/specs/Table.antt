@@ -1,10 +1,10 @@
 -- The table of findings, and sets of them.
-use Rattle.std.specs.Prelude.{ℕ, ◌^◌, ◌-◌, bit_and, bit_or, List, codes, Bool, true, false, not, ◌==◌, if◌then◌else◌, Option, None, Some, is_some, fold}
-use Rattle.std.specs.List.{list_any}
+use Rattle.std.specs.Prelude.{ℕ, ◌^◌, ◌-◌, bit_and, bit_or, List, codes, Bool, true, false, not, ◌==◌, if◌then◌else◌, Option, None, fold}
 use Rattle.krb_audit.specs.declared.finding.Finding.{Finding}
 use Rattle.krb_audit.specs.declared.finding.Finding.TheVariants.{Weak, Hidden, Same, Clash, Old, Mode, Size, Aged, Missing, Empty}
+use Rattle.krb_audit.specs.declared.finding.TheConstants.{ABOUT_ENTRIES}
 use Rattle.krb_audit.specs.declared.finding_set.FindingSet.{FindingSet}
-use Rattle.krb_audit.specs.declared.marks.Mark.{Mark}
+use Rattle.krb_audit.specs.declared.marks.Marks.{Marks}
 
 -- what is said of a finding: the word that its line begins with, its phrase, and whether it makes the status 1
 pub record Row : Type 0 where
@@ -64,21 +64,18 @@ has s finding = not (bit_and s.bits (bit_of finding) == 0)
 abbrev pub has_some : FindingSet → Bool
 has_some s = not (s.bits == 0)
 
+-- a set, and a finding if it holds
+abbrev pub with_if : Bool → Finding → FindingSet → FindingSet
+with_if holds finding s = joined s (only_if holds finding)
+
 -- ---- what is found about an entry
 
--- a finding, if it holds
-abbrev pub only : Bool → Finding → Option Mark
-only holds finding = if holds then Some (record { finding = finding; first = None }) else None
+-- the findings about an entry for which a test holds
+abbrev pub set_of : (Finding → Bool) → FindingSet
+set_of test = fold (λ s f. with_if (test f) f s) none ABOUT_ENTRIES
 
--- something is found
-abbrev pub has_mark : List (Option Mark) → Bool
-has_mark marks = list_any is_some marks
-
--- a set with what a mark reports, if there is one
-abbrev pub with_mark : FindingSet → Option Mark → FindingSet
-with_mark s None = s
-with_mark s (Some mark) = joined s (only_if true mark.finding)
-
--- a set with what is found about an entry
-abbrev pub with_marks : FindingSet → List (Option Mark) → FindingSet
-with_marks s marks = fold with_mark s marks
+-- the place of the first entry that is alike, if a finding is about that
+abbrev pub first_for : Marks → Finding → Option ℕ
+first_for marks Same = marks.first
+first_for marks Clash = marks.first
+first_for marks finding = None

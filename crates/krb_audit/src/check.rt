@@ -2,7 +2,7 @@
 
 ghost use Rattle.std.specs.Prelude.{◌≡◌, IfOk, map};
 ghost use Rattle.std.specs.Vec.{vec_items};
-ghost use Rattle.krb_audit.specs.CheckUp.{checked, findings_of, is_empty, is_well, is_wrong};
+ghost use Rattle.krb_audit.specs.CheckUp.{about_entries, checked, findings_of, is_empty, is_well, is_wrong};
 
 use crate::counts::{Counts, counts_of};
 use crate::finding::Finding;
@@ -121,6 +121,17 @@ impl<'k, A: Allocator> CheckUp<'k, A> {
     }
 }
 
+// Returns what is found about some entries.
+fn about_entries(entries: &[Marked<'_>]) -> FindingSet
+    ensures { result ≡ about_entries entries.now }
+{
+    let mut findings = FindingSet::none();
+    'entries: for (_, marks) in entries {
+        findings = findings.and(marks.findings);
+    }
+    findings
+}
+
 /// Checks a keytab and, if it is given, the `mode` of its plain file. An entry is aged by the second `aged_by`, if that
 /// is given, and the names `wanted` have to be there, as they are printed. Takes time n log n in the bytes of the keytab.
 pub fn check_up<'k, A: Allocator + Copy, B: Allocator, C: Allocator>(
@@ -136,18 +147,18 @@ pub fn check_up<'k, A: Allocator + Copy, B: Allocator, C: Allocator>(
     let missing = missing_among(alloc, wanted, keytab)?;
     let fault = keytab.fault();
     let is_empty = pass.count == 0 && fault.is_none();
-    let about_file = FindingSet::only_if(is_open_file(mode), Finding::Mode).and(FindingSet::only_if(
-        is_empty,
-        Finding::Empty,
-    ).and(FindingSet::only_if(!missing.is_empty(), Finding::Missing)));
+    let findings = about_entries(&pass.entries)
+        .with_if(is_open_file(mode), Finding::Mode)
+        .with_if(is_empty, Finding::Empty)
+        .with_if(!missing.is_empty(), Finding::Missing);
     Ok(CheckUp {
         mode,
-        findings: pass.reported.findings.and(about_file),
-        entries: pass.reported.entries,
+        entries: pass.entries,
         is_empty,
         missing,
         fault,
         counts: counts_of(pass.count, keytab),
         weak_etypes: pass.weak_etypes,
+        findings,
     })
 }

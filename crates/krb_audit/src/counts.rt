@@ -39,7 +39,7 @@ fn count_holes<A: Allocator>(keytab: &Keytab<A>) -> Holes
     holes
 }
 
-/// Returns the counts of a keytab that has so many entries.
+/// Returns the counts of a keytab with this number of entries.
 pub(crate) fn counts_of<A: Allocator>(entries: u32, keytab: &Keytab<A>) -> Counts
     requires { entries ≡ length (placed_entries keytab.now.state) }
     ensures { result ≡ counts_of keytab.now.state }

@@ -1,6 +1,6 @@
 //! What a check of a keytab can find: one table, which lines, words, JSON and `--allow` read.
 
-ghost use Rattle.std.specs.Prelude.{◌≡◌, false, true};
+ghost use Rattle.std.specs.Prelude.{◌≡◌};
 ghost use Rattle.std.specs.List.{find};
 ghost use Rattle.std.specs.Str.{bytes_eq};
 ghost use Rattle.krb_audit.specs.Table.{bit_of, row_of};
@@ -35,6 +35,17 @@ pub const FINDINGS: [Finding; 10] = [
     Finding::Empty,
 ];
 
+/// The findings about an entry, in the order of its lines.
+pub const ABOUT_ENTRIES: [Finding; 7] = [
+    Finding::Weak,
+    Finding::Size,
+    Finding::Hidden,
+    Finding::Same,
+    Finding::Clash,
+    Finding::Old,
+    Finding::Aged,
+];
+
 /// What is said of a finding.
 #[derive(Clone, Copy, Debug)]
 pub struct FindingRow {
@@ -45,29 +56,15 @@ pub struct FindingRow {
     pub counts: bool,
 }
 
-// Returns the row of a finding that makes the status 1.
-fn wrong(word: &'static str, phrase: &'static str) -> FindingRow
+fn row(word: &'static str, phrase: &'static str, counts: bool) -> FindingRow
     ensures word { result.word.now ≡ word.now }
     ensures phrase { result.phrase.now ≡ phrase.now }
-    ensures counts { result.counts ≡ true }
+    ensures counts { result.counts ≡ counts }
 {
     FindingRow {
         word,
         phrase,
-        counts: true,
-    }
-}
-
-// Returns the row of a finding that makes no status.
-fn harmless(word: &'static str, phrase: &'static str) -> FindingRow
-    ensures word { result.word.now ≡ word.now }
-    ensures phrase { result.phrase.now ≡ phrase.now }
-    ensures counts { result.counts ≡ false }
-{
-    FindingRow {
-        word,
-        phrase,
-        counts: false,
+        counts,
     }
 }
 
@@ -79,22 +76,28 @@ impl Finding {
         ensures counts { result.counts ≡ (row_of self).counts }
     {
         match self {
-            Finding::Weak => wrong(
+            Finding::Weak => row(
                 "weak",
                 "an encryption type that MIT calls weak or deprecated",
+                true,
             ),
-            Finding::Hidden => wrong("hidden", "MIT's programs see no entry from this one on"),
-            Finding::Same => wrong("same", "this key stands there twice"),
-            Finding::Clash => wrong("clash", "two keys for one name, version and type"),
-            Finding::Old => harmless("old", "a newer version of this name stands there"),
-            Finding::Mode => harmless(
+            Finding::Hidden => row(
+                "hidden",
+                "MIT's programs see no entry from this one on",
+                true,
+            ),
+            Finding::Same => row("same", "this key stands there twice", true),
+            Finding::Clash => row("clash", "two keys for one name, version and type", true),
+            Finding::Old => row("old", "a newer version of this name stands there", false),
+            Finding::Mode => row(
                 "mode",
                 "users other than the owner may read or change this file",
+                false,
             ),
-            Finding::Size => wrong("size", "a key that is not as long as its type's"),
-            Finding::Aged => wrong("aged", "a key that is older than was asked"),
-            Finding::Missing => wrong("missing", "no entry of a name that was asked for"),
-            Finding::Empty => wrong("empty", "a keytab without an entry"),
+            Finding::Size => row("size", "a key that is not as long as its type's", true),
+            Finding::Aged => row("aged", "a key that is older than was asked", true),
+            Finding::Missing => row("missing", "no entry of a name that was asked for", true),
+            Finding::Empty => row("empty", "a keytab without an entry", true),
         }
     }
 

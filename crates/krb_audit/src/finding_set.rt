@@ -2,10 +2,9 @@
 
 ghost use Rattle.std.specs.Prelude.{◌≡◌};
 ghost use Rattle.krb_audit.specs.CheckUp.{counts_at, some_counts};
-ghost use Rattle.krb_audit.specs.Table.{has, has_some, joined, none, only_if, with_mark, with_marks, without};
+ghost use Rattle.krb_audit.specs.Table.{has, has_some, joined, none, only_if, with_if, without};
 
 use crate::finding::{FINDINGS, Finding};
-use crate::marks::{Mark, Marks};
 use crate::mode::is_open_to_all;
 
 /// A set of findings.
@@ -50,6 +49,13 @@ impl FindingSet {
         }
     }
 
+    /// Returns these findings, and that one if it holds.
+    pub(crate) fn with_if(self, holds: bool, finding: Finding) -> FindingSet
+        ensures { result ≡ with_if holds finding self }
+    {
+        self.and(FindingSet::only_if(holds, finding))
+    }
+
     /// Returns these findings without the others.
     pub fn without(self, others: FindingSet) -> FindingSet
         ensures { result ≡ without self others }
@@ -71,23 +77,6 @@ impl FindingSet {
         ensures { result ≡ has_some self }
     {
         self.bits != 0
-    }
-
-    // Adds what a mark reports, if there is one.
-    fn with_mark(self, mark: &Option<Mark>) -> FindingSet
-        ensures { result ≡ with_mark self mark.now }
-    {
-        match mark {
-            Some(mark) => self.and(FindingSet::only_if(true, mark.finding)),
-            None => self,
-        }
-    }
-
-    /// Adds what is found about one more entry.
-    pub(crate) fn with_marks(self, marks: &Marks) -> FindingSet
-        ensures { result ≡ with_marks self marks.now }
-    {
-        marks.iter().fold(self, FindingSet::with_mark)
     }
 
     /// Returns whether one of these findings makes the status 1 and is not allowed.

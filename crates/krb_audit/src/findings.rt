@@ -1,22 +1,20 @@
 //! What is found about the entries of a keytab.
 
-ghost use Rattle.std.specs.Prelude.{◌≡◌, ◌∷◌, ◌++◌, ◌&&◌, ◌||◌, [], List, length, not, IfOk, if◌then◌else◌, OnOk};
+ghost use Rattle.std.specs.Prelude.{◌≡◌, ◌∷◌, ◌++◌, ◌&&◌, ◌||◌, [], List, length, not, option_map, IfOk};
 ghost use Rattle.krb_keytab.specs.Entry.{EntryParts};
 ghost use Rattle.krb_keytab.specs.Find.{PlacedEntry, placed_entries};
 ghost use Rattle.krb_keytab.specs.Store.{KeytabState};
 ghost use Rattle.krb_audit.specs.Before.{IsBefore};
-ghost use Rattle.krb_audit.specs.CheckUp.{about_entries};
-ghost use Rattle.krb_audit.specs.Findings.{has_odd_size, is_aged, marks_of, reported, weak_among};
+ghost use Rattle.krb_audit.specs.Findings.{clashes, has_odd_size, is_aged, marks_of, repeats, reported, weak_among};
 ghost use Rattle.krb_audit.specs.declared.selection.SelectedKvno.TheVariants.{Old};
 ghost use Rattle.krb_audit.specs.KvnoMarks.{AreMarks};
 ghost use Rattle.krb_audit.specs.Rows.{AreRows};
-ghost use Rattle.krb_audit.specs.Table.{has_mark, with_marks};
 
 use crate::finding::Finding;
 use crate::finding_set::FindingSet;
-use crate::firsts::Firsts;
+use crate::firsts::{Alike, Firsts};
 use crate::kvno_marks::{marks_of, next_mark};
-use crate::marks::{Mark, Marks, has_mark};
+use crate::marks::Marks;
 use crate::mit::ends_mit;
 use crate::rows::{Row, next_number, rows_of};
 use crate::selection::SelectedKvno;
@@ -74,6 +72,32 @@ fn is_aged(by: Option<u32>, old: bool, entry: &EntryView<'_>) -> bool
     }
 }
 
+// Returns whether an entry that is alike comes before, with the same key.
+fn repeats(alike: Option<Alike>) -> bool
+    ensures { result ≡ repeats alike }
+{
+    match alike {
+        Some(alike) => alike.has_same_key,
+        None => false,
+    }
+}
+
+// Returns whether one does with another key.
+fn clashes(alike: Option<Alike>) -> bool
+    ensures { result ≡ clashes alike }
+{
+    match alike {
+        Some(alike) => !alike.has_same_key,
+        None => false,
+    }
+}
+
+fn place_of(alike: Option<Alike>) -> Option<u32>
+    ensures { result ≡ option_map (λ first. first.place) alike }
+{
+    Some(alike?.place)
+}
+
 impl<'a, A: Allocator + Copy> Before<'a, A> {
     // Returns what is known before the first entry of a keytab.
     fn first(alloc: A, rows: Vec<Row, A>, are_old: Vec<bool, A>) -> Before<'a, A>
@@ -110,49 +134,29 @@ impl<'a, A: Allocator + Copy> Before<'a, A> {
         let key = (first, kvno, etype);
         let alike = self.firsts.consider(key, place, entry.key())?;
         self.has_ended = either(self.has_ended, ends);
-        self.weak_etypes = self.weak_etypes.with(etype);
-        Ok([
-            Mark::only(is_weak(etype), Finding::Weak),
-            Mark::only(has_odd_size(entry), Finding::Size),
-            Mark::only(hidden, Finding::Hidden),
-            alike,
-            Mark::only(old, Finding::Old),
-            Mark::only(is_aged(aged_by, old, entry), Finding::Aged),
-        ])
+        self.weak_etypes.add(etype);
+        Ok(Marks {
+            findings: FindingSet::none()
+                .with_if(is_weak(etype), Finding::Weak)
+                .with_if(has_odd_size(entry), Finding::Size)
+                .with_if(hidden, Finding::Hidden)
+                .with_if(repeats(alike), Finding::Same)
+                .with_if(clashes(alike), Finding::Clash)
+                .with_if(old, Finding::Old)
+                .with_if(is_aged(aged_by, old, entry), Finding::Aged),
+            first: place_of(alike),
+        })
     }
 }
 
 /// An entry, its place, and what is found about it.
 pub type Marked<'k> = ((u32, EntryView<'k>), Marks);
 
-/// The entries of a keytab about which something is found.
-#[derive(Drop)]
-pub(crate) struct Reported<'k, A: Allocator> {
-    pub entries: Vec<Marked<'k>, A>,
-    pub findings: FindingSet,
-}
-
-impl<'k, A: Allocator> Reported<'k, A> {
-    // Adds an entry if something is found about it.
-    fn add(&mut self, place: u32, entry: EntryView<'k>, marks: Marks) -> Result<(), NoMemory>
-        ensures entries { OnOk result (self.new.entries.items
-            ≡ (if has_mark marks then self.old.entries.items ++ ((place, entry.entry), marks) ∷ [] else self.old.entries.items)) }
-        ensures findings { OnOk result (self.new.findings
-            ≡ (if has_mark marks then with_marks self.old.findings marks else self.old.findings)) }
-    {
-        if !has_mark(&marks) {
-            return Ok(());
-        }
-        self.findings = self.findings.with_marks(&marks);
-        self.entries.push(((place, entry), marks))?;
-        Ok(())
-    }
-}
-
 /// What a pass over the entries of a keytab came to.
 #[derive(Drop)]
 pub(crate) struct Pass<'k, A: Allocator> {
-    pub reported: Reported<'k, A>,
+    /// The entries about which something is found.
+    pub entries: Vec<Marked<'k>, A>,
     pub weak_etypes: WeakEtypes,
     /// The number of entries.
     pub count: u32,
@@ -164,8 +168,7 @@ pub(crate) fn check_entries<'k, A: Allocator + Copy, B: Allocator>(
     aged_by: Option<u32>,
     keytab: &'k Keytab<B>,
 ) -> Result<Pass<'k, A>, NoMemory>
-    ensures entries { IfOk result (λ pass. pass.reported.entries.items ≡ reported aged_by keytab.now.state) }
-    ensures findings { IfOk result (λ pass. pass.reported.findings ≡ about_entries (reported aged_by keytab.now.state)) }
+    ensures entries { IfOk result (λ pass. pass.entries.items ≡ reported aged_by keytab.now.state) }
     ensures weak_etypes { IfOk result (λ pass. pass.weak_etypes ≡ weak_among (placed_entries keytab.now.state)) }
     ensures count { IfOk result (λ pass. pass.count ≡ length (placed_entries keytab.now.state)) }
 {
@@ -175,16 +178,15 @@ pub(crate) fn check_entries<'k, A: Allocator + Copy, B: Allocator>(
     let _few = keytab.cell_count();
     let count = rows.len() as u32;
     let mut before = Before::first(alloc, rows, are_old);
-    let mut reported = Reported {
-        entries: Vec::new(alloc),
-        findings: FindingSet::none(),
-    };
+    let mut entries = Vec::new(alloc);
     'entries: for (place, entry) in keytab.entries() {
         let marks = before.marks(aged_by, place, &entry)?;
-        reported.add(place, entry, marks)?;
+        if marks.findings.has_some() {
+            entries.push(((place, entry), marks))?;
+        }
     }
     Ok(Pass {
-        reported,
+        entries,
         weak_etypes: before.weak_etypes,
         count,
     })

@@ -1,13 +1,10 @@
 //! The first entry of each name, kvno and enctype.
 
-ghost use Rattle.std.specs.Prelude.{◌≡◌, None, Some, OnOk, IfOk, option_map, if◌then◌else◌};
-ghost use Rattle.krb_audit.specs.Findings.{alike_finding};
-ghost use Rattle.std.specs.Option.{unwrap_or};
+ghost use Rattle.std.specs.Prelude.{◌≡◌, None, Some, OnOk, IfOk, false, not, option_map, if◌then◌else◌};
+ghost use Rattle.std.specs.Option.{option_map_or, unwrap_or};
 ghost use Rattle.std.specs.Str.{bytes_eq};
 ghost use Rattle.krb_audit.specs.Before.{Key, looked, same_key};
 
-use crate::finding::Finding;
-use crate::marks::Mark;
 use krb_wire::NoMemory;
 use std::alloc::Allocator;
 use std::collections::BTreeMap;
@@ -15,14 +12,11 @@ use std::collections::BTreeMap;
 /// A name, as the number of its first entry, a kvno and an enctype.
 pub type Key = (u32, u32, u16);
 
-fn alike_finding(has_same_key: bool) -> Finding
-    ensures { result ≡ alike_finding has_same_key }
-{
-    if has_same_key {
-        Finding::Same
-    } else {
-        Finding::Clash
-    }
+/// The first entry with the name, the kvno and the enctype of a later one.
+#[derive(Clone, Copy)]
+pub struct Alike {
+    pub place: u32,
+    pub has_same_key: bool,
 }
 
 /// Maps each `Key` to the place and the secret key of its first entry.
@@ -47,9 +41,9 @@ impl<'a, A: Allocator + Copy> Firsts<'a, A> {
         key: Key,
         place: u32,
         secret: &'a [u8],
-    ) -> Result<Option<Mark>, NoMemory>
+    ) -> Result<Option<Alike>, NoMemory>
         ensures alike { IfOk result (λ alike. alike
-            ≡ option_map (λ v. record { finding = alike_finding (bytes_eq v.1 secret.now); first = Some v.0 }) (looked self.old key)) }
+            ≡ option_map (λ v. record { place = v.0; has_same_key = bytes_eq v.1 secret.now }) (looked self.old key)) }
         ensures kept { OnOk result ((k : Key) → looked self.new k
             ≡ (if same_key key k then Some (unwrap_or (looked self.old key) (place, secret.now)) else looked self.old k)) }
     {
@@ -57,11 +51,10 @@ impl<'a, A: Allocator + Copy> Firsts<'a, A> {
             return Ok(None);
         };
         // The first entry stays in the map.
-        let (first_place, first_secret) = first;
         let _ = self.map.insert(key, first)?;
-        Ok(Some(Mark {
-            finding: alike_finding(first_secret == secret),
-            first: Some(first_place),
+        Ok(Some(Alike {
+            place: first.0,
+            has_same_key: first.1 == secret,
         }))
     }
 }

@@ -1,41 +1,27 @@
 //! What is found about an entry.
 
-ghost use Rattle.std.specs.Prelude.{◌≡◌, is_some};
-ghost use Rattle.std.specs.List.{list_any};
-ghost use Rattle.krb_audit.specs.Table.{has_mark, only};
+ghost use Rattle.std.specs.Prelude.{◌≡◌};
+ghost use Rattle.krb_audit.specs.Table.{first_for};
 
 use crate::finding::Finding;
+use crate::finding_set::FindingSet;
 
-/// A finding about an entry.
+/// What is found about an entry.
 #[derive(Clone, Copy, Debug, PartialEq, Eq)]
-pub struct Mark {
-    pub finding: Finding,
-    /// The place of the first entry with the same name, kvno and enctype, if it is about that.
+pub struct Marks {
+    pub findings: FindingSet,
+    /// The place of the first entry with the same name, kvno and enctype, if that is an earlier one.
     pub first: Option<u32>,
 }
 
-/// What is found about an entry, in the order of the lines.
-pub type Marks = [Option<Mark>; 6];
-
-impl Mark {
-    /// Returns a finding if it holds.
-    pub(crate) fn only(holds: bool, finding: Finding) -> Option<Mark>
-        ensures { result ≡ only holds finding }
+impl Marks {
+    /// Returns the place of that entry if a finding is about it.
+    pub fn first_for(self, finding: Finding) -> Option<u32>
+        ensures { result ≡ first_for self finding }
     {
-        if holds {
-            Some(Mark {
-                finding,
-                first: None,
-            })
-        } else {
-            None
+        match finding {
+            Finding::Same | Finding::Clash => self.first,
+            _ => None,
         }
     }
-}
-
-/// Returns whether something is found about an entry.
-pub fn has_mark(marks: &Marks) -> bool
-    ensures { result ≡ has_mark marks.now }
-{
-    marks.iter().any(|mark| mark.is_some())
 }

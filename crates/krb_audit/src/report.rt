@@ -2,14 +2,13 @@
 
 ghost use Rattle.std.specs.Prelude.{◌≡◌, ◌++◌, OnOk, map};
 ghost use Rattle.std.specs.List.{flat_map};
-ghost use Rattle.krb_audit.specs.Report.{count_line, empty_line, labelled_fault, mark_line, mark_lines, missing_line, mode_line, placed_rest, report};
+ghost use Rattle.krb_audit.specs.Report.{count_line, empty_line, finding_line, finding_lines, labelled_fault, missing_line, mode_line, placed_rest, report};
 ghost use Rattle.krb_audit.specs.Table.{row_of};
 
 use crate::check::CheckUp;
 use crate::counts::Counts;
-use crate::finding::Finding;
+use crate::finding::{ABOUT_ENTRIES, Finding};
 use crate::findings::Marked;
-use crate::marks::Mark;
 use crate::mode::{append_mode_digits, is_open};
 use krb_keytab::EntryView;
 use krb_text::{append, append_byte, append_fault_line, append_labelled, append_placed};
@@ -63,33 +62,32 @@ fn append_rest<A: Allocator>(
     }
 }
 
-fn append_mark<A: Allocator>(
+// Appends the line of a finding, if it is found about the entry.
+fn append_finding<A: Allocator>(
     label: &[u8],
-    place: u32,
-    entry: &EntryView<'_>,
-    mark: &Option<Mark>,
+    marked: &Marked<'_>,
+    finding: Finding,
     out: &mut Vec<u8, A>,
 ) -> Result<(), NoMemory>
-    ensures { OnOk result (out.new.items ≡ out.old.items ++ mark_line label.now (place, entry.now) mark.now) }
+    ensures { OnOk result (out.new.items ≡ out.old.items ++ finding_line label.now marked.now finding) }
 {
-    let Some(mark) = mark else {
+    let ((place, entry), marks) = marked;
+    if !marks.findings.has(finding) {
         return Ok(());
-    };
-    append_word(label, mark.finding, out)?;
-    append_rest(mark.first, place, entry, out)
+    }
+    append_word(label, finding, out)?;
+    append_rest(marks.first_for(finding), *place, entry, out)
 }
 
-fn append_marks<A: Allocator>(
+fn append_findings<A: Allocator>(
     label: &[u8],
-    place: u32,
-    entry: &EntryView<'_>,
-    marks: &[Option<Mark>],
+    marked: &Marked<'_>,
     out: &mut Vec<u8, A>,
 ) -> Result<(), NoMemory>
-    ensures { OnOk result (out.new.items ≡ out.old.items ++ mark_lines label.now ((place, entry.now), marks.now)) }
+    ensures { OnOk result (out.new.items ≡ out.old.items ++ finding_lines label.now marked.now) }
 {
-    'marks: for mark in marks {
-        append_mark(label, place, entry, mark, out)?;
+    'findings: for finding in &ABOUT_ENTRIES {
+        append_finding(label, marked, *finding, out)?;
     }
     Ok(())
 }
@@ -99,10 +97,10 @@ fn append_entries<A: Allocator>(
     entries: &[Marked<'_>],
     out: &mut Vec<u8, A>,
 ) -> Result<(), NoMemory>
-    ensures { OnOk result (out.new.items ≡ out.old.items ++ flat_map (mark_lines label.now) entries.now) }
+    ensures { OnOk result (out.new.items ≡ out.old.items ++ flat_map (finding_lines label.now) entries.now) }
 {
-    'entries: for ((place, entry), marks) in entries {
-        append_marks(label, *place, entry, marks, out)?;
+    'entries: for marked in entries {
+        append_findings(label, marked, out)?;
     }
     Ok(())
 }

@@ -64,17 +64,6 @@ impl<'a, A: Allocator + Copy> Names<'a, A> {
     }
 }
 
-// Returns how many entries a keytab has.
-fn entry_count<B: Allocator>(keytab: &Keytab<B>) -> usize {
-    let mut count: usize = 0;
-    for (_place, cell) in keytab.cells() {
-        if let KtCell::Live(_) = cell {
-            count = count.saturating_add(1);
-        }
-    }
-    count
-}
-
 /// Returns the rows of a keytab's entries, in file order.
 pub fn rows_of<A: Allocator + Copy, B: Allocator>(
     alloc: A,
@@ -85,7 +74,7 @@ pub fn rows_of<A: Allocator + Copy, B: Allocator>(
     let format = keytab.format();
     let mut names = Names {
         numbers: BTreeMap::new(alloc),
-        rows: Vec::with_capacity(alloc, entry_count(keytab))?,
+        rows: Vec::with_capacity(alloc, keytab.cell_count() as usize)?,
     };
     for (_place, cell) in keytab.cells() {
         if let KtCell::Live(bytes) = cell {

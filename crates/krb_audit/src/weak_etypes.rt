@@ -21,16 +21,14 @@ impl WeakEtypes {
         WeakEtypes { found: [false; 27] }
     }
 
-    /// Returns those of these entries and of one more, with this enctype.
+    /// Adds the enctype of one more entry.
     #[tactic(auto, using(crate::proofs::WeakNumbers::weak_below, crate::proofs::WeakNumbers::with_other, crate::proofs::WeakNumbers::with_weak))]
-    pub(crate) fn with(self, etype: u16) -> WeakEtypes
-        ensures { (xs : List PlacedEntry) (x : PlacedEntry) → self ≡ weak_among xs → etype ≡ x.1.enctype
-            → result ≡ weak_among (xs ++ x ∷ []) }
+    pub(crate) fn add(&mut self, etype: u16)
+        ensures { (xs : List PlacedEntry) (x : PlacedEntry) → self.old ≡ weak_among xs → etype ≡ x.1.enctype
+            → self.new ≡ weak_among (xs ++ x ∷ []) }
     {
-        let mut found = self.found;
         if is_weak(etype) {
-            found[usize::from(etype)] = true;
+            self.found[usize::from(etype)] = true;
         }
-        WeakEtypes { found }
     }
 }

@@ -3,4 +3,4 @@ use Rattle.krb_audit.proofs.findings.check_entries.Given as goal
 
 -- the entries so far are checked, and the others are still to come
 abbrev pub invariant-entries : goal.invariant-entries
-invariant-entries g l = IsCheckedUpTo l.aged_by l.keytab.state l.place-iterator l.before l.reported.entries.items l.reported.findings
+invariant-entries g l = IsCheckedUpTo l.aged_by l.keytab.state l.place-iterator l.before l.entries.items

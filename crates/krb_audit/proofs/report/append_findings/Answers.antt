@@ -1,0 +1,14 @@
+use Rattle.krb_audit.proofs.Cited.{◌≡◌, ℕ, ◌+◌, ◌<◌, List, ◌++◌, length, take, get_or, flat_map, sym, ap, ◌∙◌, arith}
+use Rattle.std.proofs.lemmas.List.{flat_map_more, take_more}
+use Rattle.krb_audit.specs.declared.finding.TheConstants.{ABOUT_ENTRIES}
+use Rattle.krb_audit.specs.Report.{finding_line}
+use Rattle.krb_audit.proofs.report.append_findings.Goals as goal
+
+lines_more : {X : Type 0} (f : X → List ℕ) (xs : List X) (i : ℕ) (d : X) (first old new : List ℕ) → i < length xs → old ≡ first ++ flat_map f (take i xs) → new ≡ old ++ f (get_or xs i d) → new ≡ first ++ flat_map f (take (i + 1) xs)
+lines_more f xs i d first old new lt is more =
+    more ∙ ap (λ (s : List ℕ). s ++ f (get_or xs i d)) is ∙ flat_map_more f first (take i xs) (get_or xs i d) ∙ ap (λ l. first ++ flat_map f l) (sym (take_more xs i d lt))
+
+pub findings-preserved : goal.findings-preserved
+findings-preserved g c =
+    let below : c.findings.finding-index < length ABOUT_ENTRIES = omega arith in
+    lines_more (finding_line c.args.label.now c.args.marked.now) ABOUT_ENTRIES c.findings.finding-index _ _ _ _ below c.findings.invariant c.in_ok-append_finding.ensures

@@ -1,0 +1,8 @@
+use Rattle.krb_audit.proofs.Cited.{◌≡◌, ◌++◌, take, flat_map}
+use Rattle.krb_audit.specs.declared.finding.TheConstants.{ABOUT_ENTRIES}
+use Rattle.krb_audit.specs.Report.{finding_line}
+use Rattle.krb_audit.proofs.report.append_findings.Given as goal
+
+-- the lines of the findings so far are appended
+abbrev pub invariant-findings : goal.invariant-findings
+invariant-findings g l = l.out.items ≡ l.initial.out.items ++ flat_map (finding_line l.label l.marked) (take l.finding-index ABOUT_ENTRIES)
