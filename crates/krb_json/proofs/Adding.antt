@@ -1,5 +1,5 @@
 -- Elements of an array, some after others.
-use Rattle.krb_json.proofs.Cited.{◌≡◌, ℕ, ◌+◌, ◌<◌, Bool, true, List, [], ◌∷◌, ◌++◌, length, take, drop, fold, flat_map, map, Result, Ok, Err, refl, sym, ap, ◌∙◌, append_assoc, append-nil, IfOk-weaker, on_ok_weaker, Json, Token, Gathers, element_text, elements_text, ArePlain, Adds, missing_value}
+use Rattle.krb_json.proofs.Cited.{◌≡◌, ℕ, ◌+◌, ◌<◌, Bool, true, List, [], ◌∷◌, ◌++◌, length, take, drop, fold, flat_map, map, Option, None, Some, cons_option, Result, Ok, Err, refl, sym, subst, ap, ◌∙◌, append_assoc, append-nil, IsFalse, on_ok_weaker, Json, Gathers, passed_none, element_text, elements_text, ArePlain, Adds, AddsAfter, Elements, missing_value}
 use Rattle.std.proofs.Common.{Bor, get_or}
 use Rattle.std.proofs.lemmas.Grind.{flat_map-append}
 use Rattle.std.proofs.lemmas.List.{take-append-drop, take_more, flat_map_more}
@@ -18,35 +18,69 @@ plain_append [] ws h k = k
 plain_append (v ∷ vs) ws h k = (h.0, plain_append vs ws h.1 k)
 
 -- some elements, and then others
-pub adds_two : {o p q : Watch} {b c d : List ℕ} {s t : List Token} {a a' : Bool} {r : Result Bool OutFault} (vs ws : List Json) → Adds o p b c s a (Ok a') vs → Adds p q c d t a' r ws → Adds o q b d t a r (vs ++ ws)
-adds_two {o} {p} {q} {b} {c} {d} {s} {t} {a} {a'} {r} vs ws first second =
-    let both : Gathers o q b d r (elements_text a vs ++ elements_text a' ws) = gathers_three o p q b (elements_text a vs) [] (elements_text a' ws) c c d a' r first.gathers (sym (append-nil c)) second.gathers in
+pub adds_two : {A : Type 0} {o p q : Watch} {b : List ℕ} {f : Bool} {c d : Elements A} {r : Result (Unit {0}) OutFault} (vs ws : List Json) → AddsAfter o p b f c (Ok tt) vs → Adds p q c d r ws → AddsAfter o q b f d r (vs ++ ws)
+adds_two {o = o} {p = p} {q = q} {b = b} {f = f} {c = c} {d = d} {r = r} vs ws first second =
+    let both : Gathers o q b d.gathered.items r (elements_text f vs ++ elements_text c.is_after ws) =
+    gathers_three o p q b (elements_text f vs) [] (elements_text c.is_after ws) c.gathered.items c.gathered.items d.gathered.items tt r first.gathers (sym (append-nil c.gathered.items)) second.gathers in
     record {
-      gathers = rw (elements_append a vs ws, ← first.has) both;
-      has = IfOk-weaker r _ _ (λ b e. e ∙ ap (λ t. fold (λ _ _. true) t ws) first.has ∙ sym (fold-append (λ _ _. true) a vs ws)) second.has;
+      gathers = rw (elements_append f vs ws, ← first.is_after) both;
+      is_after = on_ok_weaker r (λ e. e ∙ ap (λ t. fold (λ _ _. true) t ws) first.is_after ∙ sym (fold-append (λ _ _. true) f vs ws)) second.is_after;
       plain = on_ok_weaker r (λ h. plain_append vs ws first.plain h) second.plain;
       empty = second.empty;
     }
 
 -- if some elements fail, so do they with others
-pub adds_fails : {o p : Watch} {b c : List ℕ} {s : List Token} {a : Bool} {e : OutFault} (vs ws : List Json) → Adds o p b c s a (Err e) vs → Adds o p b c s a (Err e) (vs ++ ws)
-adds_fails {o} {p} {b} {c} {s} {a} {e} vs ws h =
-    record { gathers = rw (elements_append a vs ws) (gathers_two_fails _ _ _ _ _ _ _ _ h.gathers); has = tt; plain = tt; empty = tt }
+pub adds_fails : {A : Type 0} {o p : Watch} {b : List ℕ} {f : Bool} {c : Elements A} {e : OutFault} (vs ws : List Json) → AddsAfter o p b f c (Err e) vs → AddsAfter o p b f c (Err e) (vs ++ ws)
+adds_fails {f = f} vs ws h =
+    record { gathers = rw (elements_append f vs ws) (gathers_two_fails _ _ _ _ _ _ _ _ h.gathers); is_after = tt; plain = tt; empty = tt }
 
 -- the elements of a list's items so far, and then those of the next
-pub adds_next : {X : Type 0} {o p q : Watch} {b c d : List ℕ} {s t : List Token} {a a' : Bool} {r : Result Bool OutFault} (f : X → List Json) (xs : List X) (i : ℕ) (x : X) → i < length xs → Adds o p b c s a (Ok a') (flat_map f (take i xs)) → Adds p q c d t a' r (f (get_or xs i x))
-    → Adds o q b d t a r (flat_map f (take (i + 1) xs))
-adds_next f xs i x lt h k =
-    let more = ap (flat_map f) (take_more xs i x lt) ∙ sym (flat_map_more f [] (take i xs) (get_or xs i x)) in
-    rw more (adds_two (flat_map f (take i xs)) (f (get_or xs i x)) h k)
+pub adds_next : {A X : Type 0} {o p q : Watch} {b : List ℕ} {f : Bool} {c d : Elements A} {r : Result (Unit {0}) OutFault} (g : X → List Json) (xs : List X) (i : ℕ) (x : X) → i < length xs → AddsAfter o p b f c (Ok tt) (flat_map g (take i xs)) → Adds p q c d r (g (get_or xs i x))
+    → AddsAfter o q b f d r (flat_map g (take (i + 1) xs))
+adds_next g xs i x lt h k =
+    let more = ap (flat_map g) (take_more xs i x lt) ∙ sym (flat_map_more g [] (take i xs) (get_or xs i x)) in
+    rw more (adds_two (flat_map g (take i xs)) (g (get_or xs i x)) h k)
 
 -- if those of the next fail, so do those of the list
-pub adds_stop : {X : Type 0} {o p q : Watch} {b c d : List ℕ} {s t : List Token} {a a' : Bool} {e : OutFault} (f : X → List Json) (xs : List X) (i : ℕ) (x : X) → i < length xs → Adds o p b c s a (Ok a') (flat_map f (take i xs)) → Adds p q c d t a' (Err e) (f (get_or xs i x))
-    → Adds o q b d t a (Err e) (flat_map f xs)
-adds_stop f xs i x lt h k =
-    let whole = ap (flat_map f) (sym (take-append-drop (i + 1) xs)) ∙ flat_map-append f (take (i + 1) xs) (drop (i + 1) xs) in
-    rw whole (adds_fails (flat_map f (take (i + 1) xs)) (flat_map f (drop (i + 1) xs)) (adds_next f xs i x lt h k))
+pub adds_stop : {A X : Type 0} {o p q : Watch} {b : List ℕ} {f : Bool} {c d : Elements A} {e : OutFault} (g : X → List Json) (xs : List X) (i : ℕ) (x : X) → i < length xs → AddsAfter o p b f c (Ok tt) (flat_map g (take i xs)) → Adds p q c d (Err e) (g (get_or xs i x))
+    → AddsAfter o q b f d (Err e) (flat_map g xs)
+adds_stop g xs i x lt h k =
+    let whole = ap (flat_map g) (sym (take-append-drop (i + 1) xs)) ∙ flat_map-append g (take (i + 1) xs) (drop (i + 1) xs) in
+    rw whole (adds_fails (flat_map g (take (i + 1) xs)) (flat_map g (drop (i + 1) xs)) (adds_next g xs i x lt h k))
 
 pub missing_are : (names : List (Bor (List ℕ))) → flat_map (λ t. missing_value t.now ∷ []) names ≡ map missing_value (map (λ t. t.now) names)
 missing_are [] = refl
 missing_are (name ∷ names) = ap (λ l. missing_value name.now ∷ l) (missing_are names)
+
+-- ---- over an iterator
+
+-- of all elements some are added, and the rest is still to come
+pub record AddsSome {A : Type 0} (old new : Watch) (before : List ℕ) (follows : Bool) (after : Elements A) (rest all : List Json) : Type 0 where
+  pub added : List Json
+  pub adds : AddsAfter old new before follows after (Ok tt) added
+  pub whole : added ++ rest ≡ all
+
+pub adds_none : {A : Type 0} (o : Watch) (c : Elements A) (rest all : List Json) → IsFalse o.failed → c.piece ≡ [] → rest ≡ all → AddsSome o o c.gathered.items c.is_after c rest all
+adds_none o c rest all well empty is = record {
+  added = [];
+  adds = record { gathers = record { ok = passed_none _ _ [] _ refl; prefix = tt; failed = well }; is_after = refl; plain = tt; empty = empty };
+  whole = is;
+}
+
+-- the next are added
+pub adds_more : {A : Type 0} {o p q : Watch} {b : List ℕ} {f : Bool} {c d : Elements A} (ws rest all : List Json) → AddsSome o p b f c (ws ++ rest) all → Adds p q c d (Ok tt) ws → AddsSome o q b f d rest all
+adds_more ws rest all h k = record { added = h.added ++ ws; adds = adds_two h.added ws h.adds k; whole = append_assoc h.added ws rest ∙ h.whole }
+
+-- they fail
+pub adds_no_more : {A : Type 0} {o p q : Watch} {b : List ℕ} {f : Bool} {c d : Elements A} {e : OutFault} (ws rest all : List Json) → AddsSome o p b f c (ws ++ rest) all → Adds p q c d (Err e) ws → AddsAfter o q b f d (Err e) all
+adds_no_more {o = o} {q = q} {b = b} {f = f} {d = d} {e = e} ws rest all h k =
+    subst (AddsAfter o q b f d (Err e)) (append_assoc h.added ws rest ∙ h.whole) (adds_fails (h.added ++ ws) rest (adds_two h.added ws h.adds k))
+
+-- all are added
+pub adds_all : {A : Type 0} {o p : Watch} {b : List ℕ} {f : Bool} {c : Elements A} (all : List Json) → AddsSome o p b f c [] all → AddsAfter o p b f c (Ok tt) all
+adds_all {o = o} {p = p} {b = b} {f = f} {c = c} all h = subst (AddsAfter o p b f c (Ok tt)) (sym (append-nil h.added) ∙ h.whole) h.adds
+
+-- an element, if there is one, and others
+pub cons_front : (o : Option Json) (vs : List Json) → cons_option o vs ≡ cons_option o [] ++ vs
+cons_front None vs = refl
+cons_front (Some v) vs = refl

@@ -7,15 +7,13 @@ use Rattle.krb_json.proofs.Arrays.{members_append, members_end_object}
 pub chain : {X : Type 0} (a b c x y : List X) → b ≡ a ++ x → c ≡ b ++ y → c ≡ a ++ (x ++ y)
 chain a b c x y is_b is_c = is_c ∙ ap (λ t. t ++ y) is_b ∙ append_assoc a x y
 
--- ---- encryption types
+-- members one after the other
+pub two_members : (a b : Member) (old t new : List Token) → t ≡ old ++ member_tokens a → new ≡ t ++ member_tokens b → new ≡ old ++ tokens_of (a ∷ b ∷ [])
+two_members a b old t new e1 e2 = rw (e2, e1) (simp (append_assoc, append-nil))
 
-pub named_etype : (old mid new : List Token) (etype : ℕ) (o : Option (List ℕ)) (name : List ℕ) → o ≡ Some name → mid ≡ old ++ member_tokens (codes "etype", number_of etype)
-    → new ≡ mid ++ key (codes "etype_name") ∷ string name ∷ [] → new ≡ old ++ tokens_of ((codes "etype", number_of etype) ∷ (codes "etype_name", text_or_null o) ∷ [])
-named_etype old mid new etype o name is is_mid is_new = rw is (chain old mid new (member_tokens (codes "etype", number_of etype)) (key (codes "etype_name") ∷ string name ∷ []) is_mid is_new)
-
-pub unnamed_etype : (old mid new : List Token) (etype : ℕ) (o : Option (List ℕ)) → o ≡ None → mid ≡ old ++ member_tokens (codes "etype", number_of etype)
-    → new ≡ mid ++ key (codes "etype_name") ∷ null ∷ [] → new ≡ old ++ tokens_of ((codes "etype", number_of etype) ∷ (codes "etype_name", text_or_null o) ∷ [])
-unnamed_etype old mid new etype o is is_mid is_new = rw is (chain old mid new (member_tokens (codes "etype", number_of etype)) (key (codes "etype_name") ∷ null ∷ []) is_mid is_new)
+pub three_members : (a b c : Member) (old t u new : List Token) → t ≡ old ++ member_tokens a → u ≡ t ++ member_tokens b → new ≡ u ++ member_tokens c
+    → new ≡ old ++ tokens_of (a ∷ b ∷ c ∷ [])
+three_members a b c old t u new e1 e2 e3 = rw (e3, e2, e1) (simp (append_assoc, append-nil))
 
 -- ---- objects
 
@@ -59,12 +57,10 @@ written_by_five a b c d e old t u v w x y new e1 e2 e3 e4 e5 e6 e7 =
     rw (e7, e6, e5, e4, e3, e2, e1, object_by_five a b c d e) (simp append_assoc)
 
 -- the tokens before an array's first element
-pub head_written : (ms : List Member) (name : List ℕ) (none t u : List Token) → none ≡ [] → t ≡ none ++ begin_object ∷ tokens_of ms → u ≡ t ++ key name ∷ begin_array ∷ [] → u ≡ head_tokens ms name
-head_written ms name none t u is_none is_t is_u = is_u ∙ ap (λ l. l ++ key name ∷ begin_array ∷ []) (is_t ∙ ap (λ l. l ++ begin_object ∷ tokens_of ms) is_none)
+pub head_written : (ms : List Member) (name : List ℕ) (none t : List Token) → none ≡ [] → t ≡ none ++ begin_object ∷ tokens_of ms → t ++ key name ∷ begin_array ∷ [] ≡ head_tokens ms name
+head_written ms name none t is_none is_t = ap (λ l. l ++ key name ∷ begin_array ∷ []) (is_t ∙ ap (λ l. l ++ begin_object ∷ tokens_of ms) is_none)
 
--- the same with one more member
-pub head_written_more : (ms : List Member) (m : Member) (name : List ℕ) (none t u v : List Token) → none ≡ [] → t ≡ none ++ begin_object ∷ tokens_of ms → u ≡ t ++ member_tokens m
-    → v ≡ u ++ key name ∷ begin_array ∷ [] → v ≡ head_tokens (ms ++ m ∷ []) name
-head_written_more ms m name none t u v is_none is_t is_u is_v =
-    head_written (ms ++ m ∷ []) name [] u v refl
-    (is_u ∙ ap (λ l. l ++ member_tokens m) (is_t ∙ ap (λ l. l ++ begin_object ∷ tokens_of ms) is_none) ∙ ap (λ l. begin_object ∷ l) (sym (tokens_push ms m))) is_v
+-- one more member
+pub one_more_member : (ms : List Member) (m : Member) (none t u : List Token) → t ≡ none ++ begin_object ∷ tokens_of ms → u ≡ t ++ member_tokens m → u ≡ none ++ begin_object ∷ tokens_of (ms ++ m ∷ [])
+one_more_member ms m none t u is_t is_u =
+    is_u ∙ ap (λ l. l ++ member_tokens m) is_t ∙ append_assoc none (begin_object ∷ tokens_of ms) (member_tokens m) ∙ ap (λ l. none ++ begin_object ∷ l) (sym (tokens_push ms m))

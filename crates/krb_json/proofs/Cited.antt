@@ -5,9 +5,9 @@ pub use Rattle.std.proofs.lemmas.Result.{on_ok_weaker, err_from_is_err_and, on_e
 pub use Rattle.std.specs.List.{flat_map, list_any, cons_option, prefix_len}
 pub use Rattle.std.specs.Prelude.{IsFalse, ltb, filter, ⊤}
 pub use Rattle.std.specs.Str.{is_utf8, bytes_eq}
-pub use Rattle.krb_json.specs.Cache.{config_values, ticket_values, shown_values, about_member, cache_json_text, shown_by}
-unfoldable pub use Rattle.krb_json.specs.Cache.{size_members, flag_members, time_members, ticket_value, party_members, cache_value, config_value}
-pub use Rattle.krb_json.specs.Check.{mode_value, finding_value, first_members, missing_value, file_findings, mark_findings, entry_findings, finding_values, check_json_text, refused_json_text}
+pub use Rattle.krb_json.specs.Cache.{integer_or_null, name_of_etype, config_values, ticket_values, shown_values, about_member, cache_json_text, shown_by}
+unfoldable pub use Rattle.krb_json.specs.Cache.{encryption_members, size_members, flag_members, time_members, ticket_value, party_members, cache_value, config_value}
+pub use Rattle.krb_json.specs.Check.{mode_value, finding_value, first_members, missing_value, file_findings, entry_finding, entry_findings, finding_values, check_json_text, refused_json_text}
 unfoldable pub use Rattle.krb_json.specs.Check.{check_members, about_members, check_value, refused_value}
 pub use Rattle.krb_json.specs.Escaped.{text_of, is_special, is_pair, json_text, escape, is_second, held, single}
 unfoldable pub use Rattle.krb_json.specs.Escaped.{escaped}
@@ -15,7 +15,8 @@ pub use Rattle.krb_json.specs.Keytab.{entry_values, keytab_json_text}
 unfoldable pub use Rattle.krb_json.specs.Keytab.{entry_value, keytab_value, key_members, owner_members}
 pub use Rattle.krb_json.specs.Members.{number_of, Member, object_of, members_of, text_or_null, fault_value, array_of, digits_of, status_members}
 unfoldable pub use Rattle.krb_json.specs.Members.{file_members, etype_members, text_member}
-pub use Rattle.krb_json.specs.Pieces.{elements_text, ArePlain, member_tokens, head_tokens, between_tokens, element_text, tokens_of, tail_tokens, comma_after, IfPlain, arrays_text, IsPlain, element_if, Adds}
+pub use Rattle.krb_json.specs.Pieces.{elements_text, ArePlain, member_tokens, head_tokens, between_tokens, element_text, tokens_of, tail_tokens, comma_after, arrays_text, IsPlain, Adds, AddsAfter, Begins}
+pub use Rattle.krb_json.specs.declared.elements.Elements.{Elements}
 pub use Rattle.json.specs.Json.{Json, document, if_last, max_depth, value}
 pub use Rattle.json.specs.Token.{key, begin_object, string, Token, begin_array, end_object, end_array, null, boolean, number, bad}
 pub use Rattle.json.specs.Tree.{json_tokens, depth, HasNumbers, members_tokens, members_depth, ItemsHaveNumbers, items_depth, items_tokens, MembersHaveNumbers}

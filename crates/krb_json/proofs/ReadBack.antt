@@ -1,8 +1,9 @@
 -- What is written is read back.
-use Rattle.krb_json.proofs.Cited.{◌≡◌, ℕ, ◌<◌, ◌≤◌, ◌^◌, Bool, true, false, cond, List, [], ◌∷◌, ◌++◌, codes, Option, None, Some, lit<, refl, arith, length, is_utf8, depth, items_depth, members_depth, HasNumbers, ItemsHaveNumbers, MembersHaveNumbers, name_text, CacheState, PlacedCredential, placed_credentials, ConfigParts, json_text, Member, object_of, mode_value, check_members, first_members, about_members, finding_value, finding_values, missing_value, check_value, refused_value, members_of, etype_members, file_members, text_member, text_or_null, fault_value, digits_of, owner_members, key_members, entry_value, entry_values, keytab_value, party_members, time_members, flag_members, size_members, about_member, ticket_value, config_value, ticket_values, config_values, cache_value, IsPlain, ArePlain}
+use Rattle.krb_json.proofs.Cited.{◌≡◌, ℕ, ◌<◌, ◌≤◌, ◌^◌, Bool, true, false, cond, List, [], ◌∷◌, ◌++◌, codes, Option, None, Some, lit<, refl, arith, length, is_utf8, depth, items_depth, members_depth, HasNumbers, ItemsHaveNumbers, MembersHaveNumbers, name_text, CacheState, PlacedCredential, placed_credentials, ConfigParts, json_text, Member, object_of, mode_value, check_members, first_members, about_members, finding_value, finding_values, missing_value, check_value, refused_value, members_of, etype_members, file_members, text_member, text_or_null, fault_value, digits_of, owner_members, key_members, entry_value, entry_values, keytab_value, party_members, time_members, flag_members, integer_or_null, name_of_etype, encryption_members, size_members, about_member, ticket_value, config_value, ticket_values, config_values, cache_value, IsPlain, ArePlain}
 use Rattle.json.specs.Json.{Json, string, document}
 use Rattle.json.specs.Value.{items_of}
-use Rattle.json.proofs.Printed.Decimals.{IsNumber-decimal}
+use Rattle.json.proofs.Printed.Decimals.{IsNumber-decimal, IsNumber-signed_decimal}
+use Rattle.std.proofs.Common.{ℤ, pos, option_map, FitsSigned, w64}
 use Rattle.krb_wire.specs.declared.format.KtFormat.{KtFormat}
 use Rattle.krb_wire.specs.declared.format.KtFormat.TheVariants.{V1, V2}
 use Rattle.krb_wire.specs.Spelling.{Parts, version_byte}
@@ -17,6 +18,8 @@ use Rattle.krb_ccache.specs.declared.version.Version.{Version}
 use Rattle.krb_ccache.specs.declared.version.Version.TheVariants.{V3, V4}
 use Rattle.krb_ccache.specs.Store as cache
 use Rattle.krb_ccache.specs.Credential.{FitsTimes}
+use Rattle.krb_ccache.specs.declared.ticket.TicketEncryption.{TicketEncryption}
+use Rattle.krb_ccache.specs.Ticket.{ticket_encryption}
 use Rattle.krb_audit.specs.CheckUp.{CheckParts}
 use Rattle.krb_audit.specs.declared.counts.Counts.{Counts}
 use Rattle.krb_audit.specs.declared.finding.Finding.{Finding}
@@ -68,14 +71,27 @@ entry_is_plain shows_keys x place version enctype timestamp =
 
 -- ---- credentials
 
-pub ticket_is_plain : (x : PlacedCredential) → x.0 < 2 ^ 32 → FitsTimes x.1.times → x.1.flags < 2 ^ 32 → x.1.key.enctype < 2 ^ 16 → length x.1.addresses < 2 ^ 64 → length x.1.ticket < 2 ^ 64 → IsPlain (ticket_value x)
+pub integer_numbers : (n : ℤ) → FitsSigned w64 n → HasNumbers (integer_or_null (Some n))
+integer_numbers n small = IsNumber-signed_decimal n small.sfits
+
+integer_depth : (o : Option ℤ) → depth (integer_or_null o) ≡ 0
+integer_depth None = refl
+integer_depth (Some n) = refl
+
+encryption_depth : (o : Option TicketEncryption) → members_depth (members_of (encryption_members o)) ≡ 0
+unfolding encryption_members
+encryption_depth None = omega arith
+encryption_depth (Some e) = omega (arith, or_null_depth (name_of_etype e.etype), integer_depth (option_map pos e.kvno))
+
+pub ticket_is_plain : (x : PlacedCredential) → x.0 < 2 ^ 32 → FitsTimes x.1.times → x.1.flags < 2 ^ 32 → x.1.key.enctype < 2 ^ 16 → length x.1.addresses < 2 ^ 64 → length x.1.ticket < 2 ^ 64
+    → MembersHaveNumbers (members_of (encryption_members (ticket_encryption x.1.ticket))) → IsPlain (ticket_value x)
 unfolding ticket_value party_members time_members flag_members etype_members size_members
-ticket_is_plain x place times flags enctype addresses ticket =
+ticket_is_plain x place times flags enctype addresses ticket encryption =
     let client = name_text x.1.client in
     let server = name_text x.1.server in
     record {
-      numbers = search (arith, IsNumber-decimal, text_numbers, or_null_numbers, times.authtime, times.starttime, times.endtime, times.renew_till);
-      flat = omega (arith, text_depth (codes "client") client, text_depth (codes "server") server, or_null_depth (etype_name_of x.1.key.enctype));
+      numbers = search (arith, IsNumber-decimal, text_numbers, or_null_numbers, times.authtime, times.starttime, times.endtime, times.renew_till, encryption);
+      flat = omega (arith, text_depth (codes "client") client, text_depth (codes "server") server, or_null_depth (etype_name_of x.1.key.enctype), encryption_depth (ticket_encryption x.1.ticket));
     }
 
 about_numbers : (o : Option (List ℕ)) → HasNumbers (about_member o).1

@@ -1,33 +1,9 @@
--- Elements of an array, one after the other.
-use Rattle.krb_json.proofs.Cited.{◌≡◌, ℕ, Bool, ◌||◌, List, [], ◌++◌, Option, None, Some, is_some, Result, Ok, Err, refl, sym, ap, ◌∙◌, append_assoc, append-nil, IsFalse, cons_option, on_ok_weaker, on_err_weaker, Json, Token, json_tokens, Passed, Gathers, Prints, passed_gather, passed_last, passed_fail, gathers_memory, text_of, comma_after, element_text, element_if, elements_text, IfPlain, ArePlain}
+-- Texts that are gathered and sent, one after the other.
+use Rattle.krb_json.proofs.Cited.{◌≡◌, ℕ, List, [], ◌++◌, Option, Result, Ok, Err, refl, sym, ap, ◌∙◌, append_assoc, append-nil, IsFalse, on_ok_weaker, on_err_weaker, Passed, Gathers, Prints, passed_last, passed_fail, gathers_memory}
 use Rattle.krb_files.specs.declared.output.OutFault.{OutFault}
 use Rattle.krb_files.specs.declared.output.OutFault.TheVariants.{NoMemory}
 use Rattle.krb_files.specs.Bytes.{Watch}
 use Rattle.krb_files.proofs.Prefixes.{Appends-trans, AppendsPrefix-longer, AppendsPrefix-none}
-
-elements_step : (after : Bool) (x : Option Json) (vs : List Json) → elements_text after (cons_option x vs) ≡ element_if after x ++ elements_text (is_some x || after) vs
-elements_step after None vs = refl
-elements_step after (Some v) vs = refl
-
--- an element, if there is one, is gathered
-pub gathers_if : (o p : Option (List ℕ)) (whole : List ℕ) (after : Bool) (x : Option Json) (vs : List Json) (b more : List ℕ)
-    → Passed o p whole (elements_text after (cons_option x vs)) b → more ≡ b ++ element_if after x → Passed o p whole (elements_text (is_some x || after) vs) more
-gathers_if o p whole after x vs b more h e =
-    let split = rw (elements_step after x vs) at h in
-    passed_gather o p whole (element_if after x) (elements_text (is_some x || after) vs) b more split e
-
--- the text of an element, after what was gathered
-pub element_behind : (after : Bool) (v : Json) (none tokens : List Token) (b more : List ℕ) → none ≡ [] → tokens ≡ none ++ json_tokens v → more ≡ b ++ (comma_after after ++ text_of tokens)
-    → more ≡ b ++ element_text after v
-element_behind after v none tokens b more is_none is_tokens is_more =
-    is_more ∙ ap (λ t. b ++ (comma_after after ++ text_of t)) (is_tokens ∙ ap (λ t. t ++ json_tokens v) is_none)
-
--- an element, if there is one, is plain, and so are those after it
-pub plain_if : (x : Option Json) (vs : List Json) → IfPlain x → ArePlain vs → ArePlain (cons_option x vs)
-plain_if None vs h rest = rest
-plain_if (Some v) vs h rest = (h, rest)
-
--- ---- pieces after pieces
 
 -- a whole text passed, and then another after what is gathered
 passed_on : (o p q : Option (List ℕ)) (whole x b more : List ℕ) → Passed o p whole [] b → Passed p q (b ++ x) [] more → Passed o q (whole ++ x) [] more

@@ -1,17 +1,21 @@
 -- A credential cache as a JSON value, and as its text.
-use Rattle.std.specs.Prelude.{ℕ, ◌==◌, List, [], ◌∷◌, ◌++◌, length, codes, not, Option, None, Some, filter_map}
-use Rattle.json.specs.Json.{Json, null, boolean, string}
+use Rattle.std.specs.Prelude.{ℕ, ◌^◌, ◌==◌, ℤ, pos, negsuc, List, [], ◌∷◌, ◌++◌, length, codes, not, nat_lt, if◌then◌else◌, Option, None, Some, option_map, option_and_then, filter_map}
+use Rattle.std.specs.Fmt.{signed_decimal}
+use Rattle.json.specs.Json.{Json, null, boolean, number, string}
 use Rattle.krb_wire.specs.Names.{name_text}
 use Rattle.krb_walk.specs.Store.{fault_of}
 use Rattle.krb_ccache.specs.declared.credential.times.Times.{Times}
 use Rattle.krb_ccache.specs.Credential.{CredParts}
+use Rattle.krb_ccache.specs.declared.ticket.TicketEncryption.{TicketEncryption}
+use Rattle.krb_ccache.specs.Ticket.{ticket_encryption}
 use Rattle.krb_ccache.specs.Config.{ConfigParts, config_name}
 use Rattle.krb_ccache.specs.Store.{CacheState, PlacedCredential, version_byte, store_of, placed_credentials}
+use Rattle.krb_text.specs.Etype.{etype_name_of}
 use Rattle.krb_text.specs.Flags.{flag_letters_of}
 use Rattle.krb_json.specs.declared.cache.Shown.{Shown}
 use Rattle.krb_json.specs.declared.cache.Shown.TheVariants.{Tickets, Configs}
 use Rattle.krb_json.specs.Escaped.{json_text}
-use Rattle.krb_json.specs.Members.{Member, object_of, array_of, number_of, text_member, etype_members, fault_value, file_members}
+use Rattle.krb_json.specs.Members.{Member, object_of, array_of, number_of, text_member, text_or_null, etype_members, fault_value, file_members}
 
 -- a ticket's place, client and server
 unfoldable pub party_members : PlacedCredential → List Member
@@ -34,13 +38,32 @@ time_members t =
 unfoldable pub flag_members : ℕ → List Member
 flag_members flags = (codes "flags", string (flag_letters_of flags)) ∷ (codes "flags_value", number_of flags) ∷ []
 
--- whether it is encrypted in another ticket's session key, its number of addresses, and the ticket's length
+-- the name of an enctype of 32 bits, if it has one
+abbrev pub name_of_etype : ℤ → Option (List ℕ)
+name_of_etype (pos n) = if nat_lt n (2 ^ 16) then etype_name_of n else None
+name_of_etype (negsuc n) = None
+
+-- an integer, or null if there is none
+abbrev pub integer_or_null : Option ℤ → Json
+integer_or_null None = null
+integer_or_null (Some n) = number (signed_decimal n)
+
+-- a ticket's own enctype, its name, and the kvno, each null if the ticket does not tell it
+unfoldable pub encryption_members : Option TicketEncryption → List Member
+encryption_members encryption =
+    (codes "ticket_etype", integer_or_null (option_map (λ e. e.etype) encryption))
+    ∷ (codes "ticket_etype_name", text_or_null (option_and_then (λ e. name_of_etype e.etype) encryption))
+    ∷ (codes "ticket_kvno", integer_or_null (option_and_then (λ e. option_map pos e.kvno) encryption))
+    ∷ []
+
+-- whether it is encrypted in another ticket's session key, its number of addresses, the ticket's length, and its own
+-- encryption
 unfoldable pub size_members : CredParts → List Member
 size_members c =
     (codes "is_skey", boolean (not (c.is_skey == 0)))
     ∷ (codes "addresses", number_of (length c.addresses))
     ∷ (codes "ticket_length", number_of (length c.ticket))
-    ∷ []
+    ∷ encryption_members (ticket_encryption c.ticket)
 
 -- a ticket
 unfoldable pub ticket_value : PlacedCredential → Json

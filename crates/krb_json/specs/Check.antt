@@ -7,11 +7,11 @@ use Rattle.krb_keytab.specs.Find.{PlacedEntry}
 use Rattle.krb_audit.specs.declared.counts.Counts.{Counts}
 use Rattle.krb_audit.specs.declared.finding.Finding.{Finding}
 use Rattle.krb_audit.specs.declared.finding.Finding.TheVariants.{Mode, Missing, Empty}
-use Rattle.krb_audit.specs.declared.marks.Mark.{Mark}
+use Rattle.krb_audit.specs.declared.finding.TheConstants.{ABOUT_ENTRIES}
 use Rattle.krb_audit.specs.CheckUp.{CheckParts, has_mode, is_open}
 use Rattle.krb_audit.specs.Findings.{Marked}
 use Rattle.krb_audit.specs.Report.{mode_digits}
-use Rattle.krb_audit.specs.Table.{row_of}
+use Rattle.krb_audit.specs.Table.{first_for, has, row_of}
 use Rattle.krb_json.specs.Escaped.{json_text}
 use Rattle.krb_json.specs.Members.{Member, object_of, array_of, number_of, text_member, fault_value, status_members}
 
@@ -50,14 +50,13 @@ about_members first x =
     ∷ (first_members first
     ++ ((codes "kvno", number_of x.1.version) ∷ (codes "etype", number_of x.1.enctype) ∷ text_member (codes "principal") (name_text x.1.principal) ∷ []))
 
--- what a mark reports of an entry, if there is one
-abbrev pub mark_findings : PlacedEntry → Option Mark → List Json
-mark_findings x None = []
-mark_findings x (Some mark) = finding_value mark.finding (about_members mark.first x) ∷ []
+-- a finding, if it is found about an entry
+abbrev pub entry_finding : Marked → Finding → List Json
+entry_finding m finding = if has m.1.findings finding then finding_value finding (about_members (first_for m.1 finding) m.0) ∷ [] else []
 
 -- what is found about an entry
 abbrev pub entry_findings : Marked → List Json
-entry_findings m = flat_map (mark_findings m.0) m.1
+entry_findings m = flat_map (entry_finding m) ABOUT_ENTRIES
 
 -- a name that is missing
 abbrev pub missing_value : List ℕ → Json

@@ -1,5 +1,5 @@
 -- The text of a value in pieces: for private contracts.
-use Rattle.std.specs.Prelude.{ℕ, ◌≡◌, ◌≤◌, ⊤, List, [], ◌∷◌, ◌++◌, flat_map, fold, codes, Bool, true, false, if◌then◌else◌, Option, None, Some, Result, OnOk, IfOk}
+use Rattle.std.specs.Prelude.{ℕ, ◌≡◌, ◌≤◌, List, [], ◌∷◌, ◌++◌, flat_map, fold, codes, Bool, true, false, if◌then◌else◌, Result, OnOk}
 use Rattle.std.specs.List.{AllByRecursion}
 use Rattle.json.specs.Json.{Json}
 use Rattle.json.specs.Token.{Token, begin_object, end_object, begin_array, end_array, key}
@@ -8,6 +8,7 @@ use Rattle.krb_ccache.specs.Store.{CacheState, PlacedCredential, placed_credenti
 use Rattle.krb_files.specs.declared.output.OutFault.{OutFault}
 use Rattle.krb_files.specs.Bytes.{Watch}
 use Rattle.krb_text.specs.Gathered.{Gathers}
+use Rattle.krb_json.specs.declared.elements.Elements.{Elements}
 use Rattle.krb_json.specs.Escaped.{json_text, text_of}
 use Rattle.krb_json.specs.Members.{Member}
 use Rattle.krb_json.specs.Cache.{ticket_values, config_values}
@@ -32,11 +33,6 @@ element_text is_after v = comma_after is_after ++ json_text v
 abbrev pub elements_text : Bool → List Json → List ℕ
 elements_text is_after [] = []
 elements_text is_after (v ∷ vs) = element_text is_after v ++ elements_text true vs
-
--- an element, if there is one
-abbrev pub element_if : Bool → Option Json → List ℕ
-element_if is_after None = []
-element_if is_after (Some v) = element_text is_after v
 
 -- the tokens of an object up to an array in it, after these members
 abbrev pub head_tokens : List Member → List ℕ → List Token
@@ -63,18 +59,23 @@ pub record IsPlain (v : Json) : Type 0 where
   pub numbers : HasNumbers v
   pub flat : depth v ≤ 1
 
--- such a value, if there is one
-abbrev pub IfPlain : Option Json → Type 0
-IfPlain None = ⊤
-IfPlain (Some v) = IsPlain v
-
 -- such values
 abbrev pub ArePlain : List Json → Type 0
 ArePlain vs = AllByRecursion IsPlain vs
 
--- elements of an array, which a reader reads back, were gathered, and the piece is empty; the result is whether the array has an element now
-pub record Adds (old new : Watch) (before after : List ℕ) (piece : List Token) (is_after : Bool) (result : Result Bool OutFault) (vs : List Json) : Type 0 where
-  pub gathers : Gathers old new before after result (elements_text is_after vs)
-  pub has : IfOk result (λ b. b ≡ fold (λ _ _. true) is_after vs)
+-- the text of tokens was gathered after what was gathered before, and an array begins
+pub record Begins {A : Type 0} (before : List ℕ) (after : Elements A) (ts : List Token) : Type 0 where
+  pub text : after.gathered.items ≡ before ++ text_of ts
+  pub empty : after.piece ≡ []
+  pub first : after.is_after ≡ false
+
+-- elements of an array, which a reader reads back, were gathered after what was gathered before, and after others or as the first
+pub record AddsAfter {A : Type 0} (old new : Watch) (before : List ℕ) (follows : Bool) (after : Elements A) (result : Result (Unit {0}) OutFault) (vs : List Json) : Type 0 where
+  pub gathers : Gathers old new before after.gathered.items result (elements_text follows vs)
+  pub is_after : OnOk result (after.is_after ≡ fold (λ _ _. true) follows vs)
   pub plain : OnOk result (ArePlain vs)
-  pub empty : OnOk result (piece ≡ [])
+  pub empty : OnOk result (after.piece ≡ [])
+
+-- elements of an array were gathered
+abbrev pub Adds : {A : Type 0} → Watch → Watch → Elements A → Elements A → Result (Unit {0}) OutFault → List Json → Type 0
+Adds old new before after result vs = AddsAfter old new before.gathered.items before.is_after after result vs

@@ -11,7 +11,7 @@ ghost use Rattle.krb_json.specs.Pieces.{member_tokens, tokens_of, IsPlain};
 
 use crate::piece::Piece;
 use crate::put::Label;
-use krb_audit::{Counts, Finding, Mark};
+use krb_audit::{Counts, Finding};
 use krb_keytab::EntryView;
 use krb_wire::NoMemory;
 use std::alloc::Allocator;
@@ -89,16 +89,21 @@ impl<A: Allocator> Piece<A> {
         self.name(Label::Principal, entry.principal())
     }
 
-    /// Writes a finding about an entry as an object.
+    /// Writes a finding about an entry as an object, with the place of the first entry that is alike if it is given.
     #[tactic(auto, using(crate::proofs::ReadBack::finding_is_plain))]
-    pub fn mark(&mut self, place: u32, entry: &EntryView<'_>, mark: Mark) -> Result<(), NoMemory>
+    pub fn entry_finding(
+        &mut self,
+        finding: Finding,
+        first: Option<u32>,
+        place: u32,
+        entry: &EntryView<'_>,
+    ) -> Result<(), NoMemory>
         ensures tokens { OnOk result (self.new
-            ≡ self.old ++ json_tokens (finding_value mark.finding (about_members mark.first (place, entry.now)))) }
-        ensures plain { OnOk result
-            (IsPlain (finding_value mark.finding (about_members mark.first (place, entry.now)))) }
+            ≡ self.old ++ json_tokens (finding_value finding (about_members first (place, entry.now)))) }
+        ensures plain { OnOk result (IsPlain (finding_value finding (about_members first (place, entry.now)))) }
     {
-        self.begin_finding(mark.finding)?;
-        self.about_entry(mark.first, place, entry)?;
+        self.begin_finding(finding)?;
+        self.about_entry(first, place, entry)?;
         self.end_object()
     }
 

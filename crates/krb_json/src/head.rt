@@ -1,18 +1,14 @@
-//! The object of a file before its first array and after its last, and the end of its text.
+//! The object of a file before its first array and after its last.
 
-ghost use Rattle.std.specs.Prelude.{◌≡◌, ◌++◌, [], ◌∷◌, OnOk, codes, IsFalse};
-ghost use Rattle.krb_text.specs.Gathered.{Prints};
+ghost use Rattle.std.specs.Prelude.{◌≡◌, ◌++◌, ◌∷◌, OnOk, codes};
 ghost use Rattle.json.specs.Token.{begin_object};
 ghost use Rattle.krb_json.specs.Members.{file_members, fault_value, status_members};
-ghost use Rattle.krb_json.specs.Pieces.{member_tokens, tokens_of, between_tokens, tail_tokens, IsPlain};
-ghost use Rattle.krb_json.specs.Escaped.{text_of};
+ghost use Rattle.krb_json.specs.Pieces.{member_tokens, tokens_of, tail_tokens, IsPlain};
 
 use crate::piece::Piece;
-use krb_files::{OutFault, Watched, put};
 use krb_walk::Fault;
 use krb_wire::NoMemory;
 use std::alloc::Allocator;
-use std::io::Write;
 
 impl<A: Allocator> Piece<A> {
     /// Begins the object of a file, and writes its name, its kind and its format version.
@@ -24,14 +20,6 @@ impl<A: Allocator> Piece<A> {
         self.string("file", file)?;
         self.string("kind", kind)?;
         self.number("version", version)
-    }
-
-    /// Ends an array of an object and begins the next.
-    pub fn next_array(&mut self, name: &str) -> Result<(), NoMemory>
-        ensures { OnOk result (self.new ≡ self.old ++ between_tokens name.now) }
-    {
-        self.end_array()?;
-        self.begin_array(name)
     }
 
     // Writes the kind and the place of the fault, or null if there is none.
@@ -71,39 +59,4 @@ impl<A: Allocator> Piece<A> {
         self.status(status)?;
         self.end_object()
     }
-}
-
-// Appends the text after the last element of a file, and a newline.
-fn append_tail<A: Allocator + Copy>(
-    fault: Option<Fault>,
-    status: Option<u8>,
-    piece: &mut Piece<A>,
-    gathered: &mut Vec<u8, A>,
-) -> Result<(), NoMemory>
-    requires { piece.old ≡ [] }
-    ensures text { OnOk result (gathered.new.items ≡ gathered.old.items
-        ++ (text_of (tail_tokens ((codes "fault", fault_value fault) ∷ status_members status)) ++ codes "\n")) }
-    ensures plain { OnOk result (IsPlain (fault_value fault)) }
-{
-    piece.end_file(fault, status)?;
-    piece.append_to(false, gathered)?;
-    Ok(gathered.push(b'\n')?)
-}
-
-/// Writes what is gathered, then the text after the last element of a file, and a newline.
-pub fn send_tail<A: Allocator + Copy, W: Write>(
-    fault: Option<Fault>,
-    status: Option<u8>,
-    piece: &mut Piece<A>,
-    gathered: &mut Vec<u8, A>,
-    out: &mut Watched<W>,
-) -> Result<(), OutFault>
-    requires well { IsFalse out.old.failed }
-    requires empty { piece.old ≡ [] }
-    ensures prints { Prints out.old out.new result (gathered.old.items
-        ++ (text_of (tail_tokens ((codes "fault", fault_value fault) ∷ status_members status)) ++ codes "\n")) }
-    ensures plain { OnOk result (IsPlain (fault_value fault)) }
-{
-    append_tail(fault, status, piece, gathered)?;
-    put(out, gathered)
 }

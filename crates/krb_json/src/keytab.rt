@@ -1,21 +1,20 @@
 //! A keytab as JSON.
 
-ghost use Rattle.std.specs.Prelude.{◌≡◌, ◌++◌, [], Some, OnOk, IsFalse, false, codes, ◌<◌, ◌^◌};
+ghost use Rattle.std.specs.Prelude.{◌≡◌, ◌++◌, [], ◌∷◌, Some, OnOk, IsFalse, codes, ◌<◌, ◌^◌};
 ghost use Rattle.krb_wire.specs.Spelling.{version_byte};
-ghost use Rattle.krb_text.specs.Gathered.{Gathers, Prints};
+ghost use Rattle.krb_text.specs.Gathered.{Prints};
 ghost use Rattle.json.specs.Json.{document};
-ghost use Rattle.krb_json.specs.Escaped.{json_text, text_of};
+ghost use Rattle.krb_json.specs.Escaped.{json_text};
 ghost use Rattle.krb_json.specs.Members.{file_members};
 ghost use Rattle.krb_json.specs.Keytab.{entry_values, keytab_value, keytab_json_text, owner_members, key_members, entry_value};
-ghost use Rattle.krb_json.specs.Pieces.{elements_text, head_tokens, ArePlain, tokens_of, IsPlain};
+ghost use Rattle.krb_json.specs.Pieces.{Adds, Begins, head_tokens, tokens_of, IsPlain};
 ghost use Rattle.json.specs.Tree.{json_tokens};
 
-use crate::head::send_tail;
+use crate::elements::Elements;
 use crate::piece::Piece;
 use crate::put::Label;
 use krb_files::{OutFault, Watched};
 use krb_keytab::{EntryView, Keytab};
-use krb_text::{room_to_gather, send_if_full};
 use krb_wire::{KtFormat, NoMemory};
 use std::alloc::Allocator;
 use std::io::Write;
@@ -63,44 +62,51 @@ impl<A: Allocator> Piece<A> {
     }
 }
 
-// Appends the text before the first entry.
-fn append_head<A: Allocator + Copy>(
+// Gathers the text before the first entry.
+fn begin<A: Allocator + Copy>(
     file: &str,
     format: KtFormat,
-    piece: &mut Piece<A>,
-    gathered: &mut Vec<u8, A>,
+    elements: &mut Elements<A>,
 ) -> Result<(), NoMemory>
-    requires { piece.old ≡ [] }
-    ensures text { OnOk result (gathered.new.items ≡ gathered.old.items
-        ++ text_of (head_tokens (file_members file.now (codes "keytab") (version_byte format)) (codes "entries"))) }
-    ensures empty { OnOk result (piece.new ≡ []) }
+    requires { elements.old.piece ≡ [] }
+    ensures { OnOk result (Begins elements.old.gathered.items elements.new
+        (head_tokens (file_members file.now (codes "keytab") (version_byte format)) (codes "entries"))) }
 {
-    piece.begin_file(file, "keytab", format.version() as u64)?;
-    piece.begin_array("entries")?;
-    piece.append_to(false, gathered)
+    elements
+        .piece
+        .begin_file(file, "keytab", format.version() as u64)?;
+    elements.begin_array("entries")
 }
 
-// Gathers all entries, and writes them as they fill up.
-fn send_entries<A: Allocator + Copy, B: Allocator, W: Write>(
-    keytab: &Keytab<B>,
+// Sends an entry.
+fn send_entry<A: Allocator + Copy, W: Write>(
+    place: u32,
+    entry: &EntryView<'_>,
     shows_keys: bool,
-    piece: &mut Piece<A>,
-    gathered: &mut Vec<u8, A>,
+    elements: &mut Elements<A>,
     out: &mut Watched<W>,
 ) -> Result<(), OutFault>
     requires well { IsFalse out.old.failed }
-    requires empty { piece.old ≡ [] }
-    ensures gathers { Gathers out.old out.new gathered.old.items gathered.new.items result
-        (elements_text false (entry_values shows_keys keytab.now.state)) }
-    ensures empty { OnOk result (piece.new ≡ []) }
-    ensures plain { OnOk result (ArePlain (entry_values shows_keys keytab.now.state)) }
+    requires empty { elements.old.piece ≡ [] }
+    ensures { Adds out.old out.new elements.old elements.new result (entry_value shows_keys (place, entry.now) ∷ []) }
 {
-    let mut is_after = false;
+    elements.piece.entry(place, entry, shows_keys)?;
+    elements.send(out)
+}
+
+// Sends all entries.
+fn send_entries<A: Allocator + Copy, B: Allocator, W: Write>(
+    keytab: &Keytab<B>,
+    shows_keys: bool,
+    elements: &mut Elements<A>,
+    out: &mut Watched<W>,
+) -> Result<(), OutFault>
+    requires well { IsFalse out.old.failed }
+    requires empty { elements.old.piece ≡ [] }
+    ensures { Adds out.old out.new elements.old elements.new result (entry_values shows_keys keytab.now.state) }
+{
     'entries: for (place, entry) in keytab.entries() {
-        piece.entry(place, &entry, shows_keys)?;
-        piece.append_to(is_after, gathered)?;
-        send_if_full(gathered, out)?;
-        is_after = true;
+        send_entry(place, &entry, shows_keys, elements, out)?;
     }
     Ok(())
 }
@@ -122,9 +128,8 @@ pub fn keytab_json<A: Allocator + Copy, B: Allocator, W: Write>(
         (keytab_value file.now shows_keys keytab.now.state))
         ≡ Some (keytab_value file.now shows_keys keytab.now.state)) }
 {
-    let mut gathered = room_to_gather(alloc)?;
-    let mut piece = Piece::new(alloc);
-    append_head(file, keytab.format(), &mut piece, &mut gathered)?;
-    send_entries(keytab, shows_keys, &mut piece, &mut gathered, out)?;
-    send_tail(keytab.fault(), None, &mut piece, &mut gathered, out)
+    let mut elements = Elements::new(alloc)?;
+    begin(file, keytab.format(), &mut elements)?;
+    send_entries(keytab, shows_keys, &mut elements, out)?;
+    elements.end_file(keytab.fault(), None, out)
 }

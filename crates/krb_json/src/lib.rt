@@ -3,6 +3,7 @@
 
 mod cache;
 mod check;
+mod elements;
 mod escape;
 mod finding;
 mod head;

@@ -1,12 +1,14 @@
 //! A piece of JSON text, made of tokens.
 
-ghost use Rattle.std.specs.Prelude.{◌≡◌, ◌++◌, [], ◌∷◌, OnOk, not};
+ghost use Rattle.std.specs.Prelude.{◌≡◌, ◌++◌, [], ◌∷◌, OnOk, not, option_copied};
 ghost use Rattle.json.specs.Token.{begin_object, end_object, begin_array, end_array, key, string, boolean, null};
+ghost use Rattle.json.specs.Tree.{HasNumbers};
 ghost use Rattle.krb_wire.specs.Names.{name_text};
 ghost use Rattle.krb_text.specs.Flags.{flag_letters_of};
+ghost use Rattle.krb_json.specs.Cache.{integer_or_null};
 ghost use Rattle.krb_json.specs.Check.{mode_value};
 ghost use Rattle.krb_json.specs.Escaped.{text_of};
-ghost use Rattle.krb_json.specs.Members.{label_text, number_of, digits_of, text_member, etype_members};
+ghost use Rattle.krb_json.specs.Members.{label_text, number_of, digits_of, text_member, text_or_null, etype_members};
 ghost use Rattle.krb_json.specs.Pieces.{member_tokens, tokens_of, comma_after};
 
 use crate::escape::append_escaped;
@@ -141,12 +143,37 @@ impl<A: Allocator> Piece<A> {
         Ok(self.writer.u64(value)?)
     }
 
+    /// Writes a member that is an integer, or null if there is none.
+    #[tactic(auto, using(crate::proofs::ReadBack::integer_numbers))]
+    pub fn integer(&mut self, name: &str, value: Option<i64>) -> Result<(), NoMemory>
+        ensures tokens { OnOk result (self.new
+            ≡ self.old ++ member_tokens (name.now, integer_or_null value)) }
+        ensures numbers { OnOk result (HasNumbers (integer_or_null value)) }
+    {
+        let Some(value) = value else {
+            return self.null(name);
+        };
+        self.writer.key(name)?;
+        Ok(self.writer.i64(value)?)
+    }
+
     /// Writes a member that is a string of the program's own.
     pub fn string(&mut self, name: &str, value: &str) -> Result<(), NoMemory>
         ensures { OnOk result (self.new ≡ self.old ++ key name.now ∷ string value.now ∷ []) }
     {
         self.writer.key(name)?;
         Ok(self.writer.string(value)?)
+    }
+
+    /// Writes a member that is a string of the program's own, or null if there is none.
+    pub fn string_or_null(&mut self, name: &str, value: Option<&str>) -> Result<(), NoMemory>
+        ensures { OnOk result (self.new
+            ≡ self.old ++ member_tokens (name.now, text_or_null (option_copied value.entry))) }
+    {
+        match value {
+            Some(value) => self.string(name, value),
+            None => self.null(name),
+        }
     }
 
     /// Writes a member that is bytes in lower-case hexadecimal.
@@ -211,9 +238,6 @@ impl<A: Allocator> Piece<A> {
         ensures { OnOk result (self.new ≡ self.old ++ tokens_of (etype_members etype)) }
     {
         self.number("etype", etype as u64)?;
-        match etype_name(etype) {
-            Some(name) => self.string("etype_name", name),
-            None => self.null("etype_name"),
-        }
+        self.string_or_null("etype_name", etype_name(etype))
     }
 }

@@ -1,17 +1,34 @@
 //! JSON of the tickets and of the configuration entries of a cache.
 
-ghost use Rattle.std.specs.Prelude.{◌≡◌, ◌<◌, ◌^◌, length, ◌++◌, OnOk, option_copied};
+ghost use Rattle.std.specs.Prelude.{◌≡◌, ◌<◌, ◌^◌, length, ◌++◌, OnOk, pos, option_map, option_and_then, option_copied};
 ghost use Rattle.krb_ccache.specs.Credential.{FitsTimes};
 ghost use Rattle.krb_ccache.specs.Config.{config_parts};
-ghost use Rattle.json.specs.Tree.{json_tokens};
-ghost use Rattle.krb_json.specs.Cache.{party_members, time_members, flag_members, size_members, ticket_value, about_member, config_value};
+ghost use Rattle.krb_ccache.specs.Ticket.{ticket_encryption};
+ghost use Rattle.json.specs.Tree.{json_tokens, MembersHaveNumbers};
+ghost use Rattle.krb_json.specs.Cache.{party_members, time_members, flag_members, name_of_etype, encryption_members, size_members, ticket_value, about_member, config_value};
+ghost use Rattle.krb_json.specs.Members.{members_of};
 ghost use Rattle.krb_json.specs.Pieces.{tokens_of, IsPlain, member_tokens};
 
 use crate::piece::Piece;
 use crate::put::Label;
-use krb_ccache::{ConfigName, CredView};
+use krb_ccache::{ConfigName, CredView, TicketEncryption, ticket_encryption};
+use krb_text::etype_name;
 use krb_wire::NoMemory;
 use std::alloc::Allocator;
+
+// Returns the name of a ticket's own enctype, if it has one.
+fn name_of(encryption: Option<TicketEncryption>) -> Option<&'static str>
+    ensures { option_copied result ≡ option_and_then (λ e. name_of_etype e.etype) encryption }
+{
+    etype_name(u16::try_from(encryption?.etype).ok()?)
+}
+
+// Returns a ticket's own kvno, if it has one.
+fn kvno_of(encryption: Option<TicketEncryption>) -> Option<i64>
+    ensures { result ≡ option_and_then (λ e. option_map pos e.kvno) encryption }
+{
+    Some(encryption?.kvno? as i64)
+}
 
 impl<A: Allocator> Piece<A> {
     // Writes a ticket's place, client and server.
@@ -43,15 +60,30 @@ impl<A: Allocator> Piece<A> {
         self.number("flags_value", flags as u64)
     }
 
-    // Writes whether it is encrypted in another ticket's session key, its number of addresses, and the ticket's length.
+    // Writes its own enctype, the name of that, and the kvno, or null for what it does not tell.
+    #[tactic(auto, unfolding(crate::specs::Cache::encryption_members))]
+    fn encryption(&mut self, encryption: Option<TicketEncryption>) -> Result<(), NoMemory>
+        ensures tokens { OnOk result (self.new ≡ self.old ++ tokens_of (encryption_members encryption)) }
+        ensures numbers { OnOk result (MembersHaveNumbers (members_of (encryption_members encryption))) }
+    {
+        self.integer("ticket_etype", encryption.map(|it| it.etype as i64))?;
+        self.string_or_null("ticket_etype_name", name_of(encryption))?;
+        self.integer("ticket_kvno", kvno_of(encryption))
+    }
+
+    // Writes whether it is encrypted in another ticket's session key, its number of addresses, the ticket's length, and
+    // its own encryption.
     fn sizes(&mut self, ticket: &CredView<'_>) -> Result<(), NoMemory>
         ensures tokens { OnOk result (self.new ≡ self.old ++ tokens_of (size_members ticket.now)) }
         ensures addresses { OnOk result (length ticket.now.addresses < 2 ^ 64) }
         ensures ticket { OnOk result (length ticket.now.ticket < 2 ^ 64) }
+        ensures numbers { OnOk result (MembersHaveNumbers
+            (members_of (encryption_members (ticket_encryption ticket.now.ticket)))) }
     {
         self.boolean("is_skey", ticket.is_skey() != 0)?;
         self.number("addresses", ticket.address_count() as u64)?;
-        self.number("ticket_length", ticket.ticket().len() as u64)
+        self.number("ticket_length", ticket.ticket().len() as u64)?;
+        self.encryption(ticket_encryption(ticket.ticket()))
     }
 
     /// Writes a ticket of a cache as an object.

@@ -2,31 +2,31 @@ use Rattle.krb_json.proofs.Cited.{err_from_is_err_and}
 use Rattle.krb_json.proofs.Adding.{adds_two, adds_fails, missing_are}
 use Rattle.krb_json.proofs.check.send_findings.Goals as goal
 
-pub returns-in_err-is_after : goal.returns-in_err-is_after
-returns-in_err-is_after g c =
+pub returns-in_err-send_if : goal.returns-in_err-send_if
+returns-in_err-send_if g c =
     let p = err_from_is_err_and c.from_residual.result c.from_residual.ensures.1 in
-    let mode = rw (c.is_open_file-is_open.ensures, c.mode.ensures) at c.in_err-is_after.ensures in
+    let mode = rw (c.is_open_file.ensures, c.mode.ensures) at c.in_err-send_if.ensures in
     rw (p.1, p.2) (adds_fails _ _ mode)
 
-pub returns-in_err-is_after-2 : goal.returns-in_err-is_after-2
-returns-in_err-is_after-2 g c =
-    let p = err_from_is_err_and c.from_residual-in_err-is_after-2.result c.from_residual-in_err-is_after-2.ensures.1 in
-    let mode = rw (c.is_open_file-is_open.ensures, c.mode.ensures) at c.in_ok-is_after.ensures in
-    let entries = rw c.entries.ensures at c.in_err-is_after-2.ensures in
+pub returns-in_err-send_entries : goal.returns-in_err-send_entries
+returns-in_err-send_entries g c =
+    let p = err_from_is_err_and c.from_residual-in_err-send_entries.result c.from_residual-in_err-send_entries.ensures.1 in
+    let mode = rw (c.is_open_file.ensures, c.mode.ensures) at c.in_ok-send_if.ensures in
+    let entries = rw c.entries.ensures at c.in_err-send_entries.ensures in
     rw (p.1, p.2) (adds_two _ _ mode (adds_fails _ _ entries))
 
-pub returns-in_err-is_after-3 : goal.returns-in_err-is_after-3
-returns-in_err-is_after-3 g c =
-    let p = err_from_is_err_and c.from_residual-in_err-is_after-3.result c.from_residual-in_err-is_after-3.ensures.1 in
-    let mode = rw (c.is_open_file-is_open.ensures, c.mode.ensures) at c.in_ok-is_after.ensures in
-    let entries = rw c.entries.ensures at c.in_ok-is_after-2.ensures in
-    let empty = rw c.is_empty.ensures at c.in_err-is_after-3.ensures in
+pub returns-in_err-send_if-2 : goal.returns-in_err-send_if-2
+returns-in_err-send_if-2 g c =
+    let p = err_from_is_err_and c.from_residual-in_err-send_if-2.result c.from_residual-in_err-send_if-2.ensures.1 in
+    let mode = rw (c.is_open_file.ensures, c.mode.ensures) at c.in_ok-send_if.ensures in
+    let entries = rw c.entries.ensures at c.in_ok-send_entries.ensures in
+    let empty = rw c.is_empty.ensures at c.in_err-send_if-2.ensures in
     rw (p.1, p.2) (adds_two _ _ mode (adds_two _ _ entries (adds_fails _ _ empty)))
 
 pub returns : goal.returns
 returns g c =
-    let mode = rw (c.is_open_file-is_open.ensures, c.mode.ensures) at c.in_ok-is_after.ensures in
-    let entries = rw c.entries.ensures at c.in_ok-is_after-2.ensures in
-    let empty = rw c.is_empty.ensures at c.in_ok-is_after-3.ensures in
+    let mode = rw (c.is_open_file.ensures, c.mode.ensures) at c.in_ok-send_if.ensures in
+    let entries = rw c.entries.ensures at c.in_ok-send_entries.ensures in
+    let empty = rw c.is_empty.ensures at c.in_ok-send_if-2.ensures in
     let names = rw (missing_are c.missing.result.now, c.missing.ensures) at c.send_missing.ensures in
     adds_two _ _ mode (adds_two _ _ entries (adds_two _ _ empty names))

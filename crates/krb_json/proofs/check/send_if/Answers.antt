@@ -1,4 +1,4 @@
 use Rattle.krb_json.proofs.check.send_if.Goals as goal
 
 pub returns : goal.returns
-returns g c = rw c.if-not-holds.false (c.send_element.ensures _ _ c.in_ok-file_finding.ensures.tokens c.requires.empty c.in_ok-file_finding.ensures.plain)
+returns g c = rw c.if-not-holds.false (c.send.ensures _ _ c.in_ok-file_finding.ensures.tokens c.requires.empty c.in_ok-file_finding.ensures.plain)

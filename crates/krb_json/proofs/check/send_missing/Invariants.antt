@@ -2,4 +2,4 @@ use Rattle.krb_json.proofs.Cited.{take, Ok, flat_map, ◌∷◌, [], missing_val
 use Rattle.krb_json.proofs.check.send_missing.Given as goal
 
 abbrev pub invariant-names : goal.invariant-names
-invariant-names g l = Adds l.fn.out l.out l.fn.gathered.items l.gathered.items l.piece l.initial.is_after (Ok l.is_after) (flat_map (λ t. missing_value t.now ∷ []) (take l.name-index l.names))
+invariant-names g l = Adds l.fn.out l.out l.fn.elements l.elements (Ok tt) (flat_map (λ t. missing_value t.now ∷ []) (take l.name-index l.names))

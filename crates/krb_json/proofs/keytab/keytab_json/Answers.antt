@@ -4,26 +4,26 @@ use Rattle.krb_json.proofs.ReadBack.{keytab_is_read}
 use Rattle.krb_json.proofs.Wholes.{keytab_text}
 use Rattle.krb_json.proofs.keytab.keytab_json.Goals as goal
 
-pub returns-in_err-append_head-clause-prints : goal.returns-in_err-append_head-clause-prints
-returns-in_err-append_head-clause-prints g c =
-    let p = err_from_is_err_and c.from_residual-in_err-append_head.result c.from_residual-in_err-append_head.ensures.1 in
+pub returns-in_err-begin-clause-prints : goal.returns-in_err-begin-clause-prints
+returns-in_err-begin-clause-prints g c =
+    let p = err_from_is_err_and c.from_residual-in_err-begin.result c.from_residual-in_err-begin.ensures.1 in
     rw p.1 (prints_memory _ _ p.0 c.requires p.2)
 
 pub returns-in_err-send_entries-clause-prints : goal.returns-in_err-send_entries-clause-prints
 returns-in_err-send_entries-clause-prints g c =
     let p = err_from_is_err_and c.from_residual-in_err-send_entries.result c.from_residual-in_err-send_entries.ensures.1 in
-    let head = rw c.format.ensures at c.in_ok-append_head.ensures.text in
+    let head = rw c.format.ensures at c.in_ok-begin.ensures.text in
     rw (p.1, p.2, keytab_text c.args.file.now c.args.shows_keys c.args.keytab.now.state)
-    (gathers_fails _ _ _ _ _ _ _ _ _ c.in_ok-gathered.ensures head c.in_err-send_entries.ensures.gathers)
+    (gathers_fails _ _ _ _ _ _ _ _ _ c.in_ok-elements.ensures.none head (rw c.in_ok-begin.ensures.first at c.in_err-send_entries.ensures.gathers))
 
 pub returns-clause-prints : goal.returns-clause-prints
 returns-clause-prints g c =
-    let head = rw c.format.ensures at c.in_ok-append_head.ensures.text in
-    let tail = rw c.fault.ensures at c.send_tail.ensures.prints in
+    let head = rw c.format.ensures at c.in_ok-begin.ensures.text in
+    let tail = rw c.fault.ensures at c.end_file.ensures.prints in
     rw (keytab_text c.args.file.now c.args.shows_keys c.args.keytab.now.state)
-    (gathers_prints _ _ _ _ _ _ _ _ _ _ _ c.in_ok-gathered.ensures head c.in_ok-send_entries.ensures.gathers tail)
+    (gathers_prints _ _ _ _ _ _ _ _ _ _ _ c.in_ok-elements.ensures.none head (rw c.in_ok-begin.ensures.first at c.in_ok-send_entries.ensures.gathers) tail)
 
 pub returns-clause-reads_back : goal.returns-clause-reads_back
 returns-clause-reads_back g c =
     let k = c.args.keytab.now.state in
-    on_ok_weaker c.send_tail.result (λ plain. keytab_is_read c.args.file.now c.args.shows_keys k c.in_ok-send_entries.ensures.plain (rw c.fault.ensures at plain)) c.send_tail.ensures.plain
+    on_ok_weaker c.end_file.result (λ plain. keytab_is_read c.args.file.now c.args.shows_keys k c.in_ok-send_entries.ensures.plain (rw c.fault.ensures at plain)) c.end_file.ensures.plain

@@ -1,4 +1,5 @@
-use Rattle.krb_json.proofs.Cited.{codes, ◌∷◌, [], ◌==◌, not, length, on_ok_weaker, key, boolean, number_of, size_members, member_tokens}
+use Rattle.krb_json.proofs.Cited.{codes, ◌∷◌, [], ◌==◌, not, length, on_ok_weaker, key, boolean, number_of, encryption_members, size_members, member_tokens, tokens_of}
+use Rattle.krb_ccache.specs.Ticket.{ticket_encryption}
 use Rattle.krb_json.proofs.Chains.{chain}
 use Rattle.krb_json.proofs.piece.Piece.sizes.Goals as goal
 
@@ -8,6 +9,9 @@ returns-clause-tokens g c =
     let t = c.args.ticket.now in
     let first = rw c.is_skey.ensures at c.in_ok-boolean.ensures in
     let second = rw c.address_count.ensures at c.in_ok-number.ensures in
-    on_ok_weaker c.number-2.result (λ last.
+    let third = rw c.ticket.ensures at c.in_ok-number-2.ensures in
+    on_ok_weaker c.encryption.result (λ last.
     chain _ _ _ (key (codes "is_skey") ∷ boolean (not (t.is_skey == 0)) ∷ []) _ first
-    (chain _ _ _ (member_tokens (codes "addresses", number_of (length t.addresses))) (member_tokens (codes "ticket_length", number_of (length t.ticket))) second (rw c.ticket.ensures at last))) c.number-2.ensures
+    (chain _ _ _ (member_tokens (codes "addresses", number_of (length t.addresses))) _ second
+    (chain _ _ _ (member_tokens (codes "ticket_length", number_of (length t.ticket))) (tokens_of (encryption_members (ticket_encryption t.ticket))) third
+    (rw (c.ticket_encryption.ensures, c.ticket-2.ensures) at last)))) c.encryption.ensures.tokens

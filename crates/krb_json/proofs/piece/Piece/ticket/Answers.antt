@@ -19,4 +19,4 @@ returns-clause-plain g c =
     let enctype : t.key.enctype < 2 ^ 16 = rw (sym c.enctype.ensures) (search rules) in
     let flags : t.flags < 2 ^ 32 = rw (sym c.flags.ensures) (search rules) in
     on_ok_weaker c.end_object.result (λ _.
-    ticket_is_plain (c.args.place, t) (search rules) c.in_ok-times.ensures.fit flags enctype c.in_ok-sizes.ensures.addresses c.in_ok-sizes.ensures.ticket) c.end_object.ensures
+    ticket_is_plain (c.args.place, t) (search rules) c.in_ok-times.ensures.fit flags enctype c.in_ok-sizes.ensures.addresses c.in_ok-sizes.ensures.ticket c.in_ok-sizes.ensures.numbers) c.end_object.ensures

@@ -2,11 +2,10 @@ use Rattle.krb_json.proofs.Cited.{codes, on_ok_weaker, about_members}
 use Rattle.krb_audit.specs.Table.{row_of}
 use Rattle.json.specs.Json as json
 use Rattle.krb_json.proofs.Chains.{written_by_one}
-use Rattle.krb_json.proofs.piece.Piece.mark.Goals as goal
+use Rattle.krb_json.proofs.piece.Piece.entry_finding.Goals as goal
 
 pub returns-clause-tokens : goal.returns-clause-tokens
 returns-clause-tokens g c =
-    let mark = c.args.mark in
     on_ok_weaker c.end_object.result (λ last.
-    written_by_one (codes "finding", json.string (row_of mark.finding).word) (about_members mark.first (c.args.place, c.args.entry.now)) _ _ _ _
+    written_by_one (codes "finding", json.string (row_of c.args.finding).word) (about_members c.args.first (c.args.place, c.args.entry.now)) _ _ _ _
     c.in_ok-begin_finding.ensures c.in_ok-about_entry.ensures.tokens last) c.end_object.ensures
