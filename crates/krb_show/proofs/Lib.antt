@@ -1,0 +1,4 @@
+pub mod Cited
+pub mod OnLiterals
+pub mod Distinct
+pub mod EntryLines

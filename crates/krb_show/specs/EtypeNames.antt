@@ -1,0 +1,35 @@
+-- Short names of encryption types.
+use Rattle.std.specs.Prelude.{ℕ, ◌^◌, ◌==◌, nat_lt, ℤ, pos, negsuc, List, [], ◌∷◌, ◌++◌, codes, decimal, unwrap_or, Option, None, Some, if◌then◌else◌}
+use Rattle.std.specs.Fmt.{signed_decimal}
+use Rattle.std.specs.Map.{lookup}
+use Rattle.krb_text.specs.Etype.{is_weak}
+use Rattle.krb_ccache.specs.declared.ticket.TicketEncryption.{TicketEncryption}
+
+-- the enctypes that have a short name
+abbrev pub short_names : List (ℕ × List ℕ)
+short_names =
+    (16, codes "des3") ∷ (17, codes "aes128") ∷ (18, codes "aes256") ∷ (19, codes "aes128-sha2") ∷ (20, codes "aes256-sha2")
+    ∷ (23, codes "rc4") ∷ (25, codes "camellia128") ∷ (26, codes "camellia256") ∷ []
+
+-- the short name of an enctype, or its number
+abbrev pub short_name : ℕ → List ℕ
+short_name n = unwrap_or (lookup (λ m. n == m) short_names) (decimal n)
+
+-- an enctype as a cell: `!` is behind a weak one
+unfoldable pub etype_cell : ℕ → List ℕ
+etype_cell n = short_name n ++ (if is_weak n then codes "!" else [])
+
+-- an enctype of 32 bits as a cell
+abbrev pub wide_etype_cell : ℤ → List ℕ
+wide_etype_cell (pos n) = if nat_lt n (2 ^ 16) then etype_cell n else decimal n
+wide_etype_cell (negsuc n) = signed_decimal (negsuc n)
+
+-- a kvno after an enctype, if there is one
+abbrev pub kvno_words : Option ℕ → List ℕ
+kvno_words None = []
+kvno_words (Some kvno) = codes " kvno " ++ decimal kvno
+
+-- how a ticket is encrypted as a cell: the enctype, and the kvno of the key
+abbrev pub encryption_cell : Option TicketEncryption → List ℕ
+encryption_cell None = codes "-"
+encryption_cell (Some e) = wide_etype_cell e.etype ++ kvno_words e.kvno

@@ -1,0 +1,153 @@
+-- A keytab as it is shown to people: a heading, and a table with a line for each name and version.
+use Rattle.std.specs.Prelude.{ℕ, ◌-◌, ◌==◌, max, List, [], ◌∷◌, ◌++◌, length, take, filter, Bool, true, false, not, codes, decimal, Option, unwrap_or, if◌then◌else◌}
+use Rattle.std.specs.List.{flat_map, fold, list_any}
+use Rattle.std.specs.BTreeMap.{insert_entry, is_at}
+use Rattle.std.specs.Map.{lookup}
+use Rattle.std.specs.Ordering.{bool_cmp, nat_cmp, ordering_then}
+use Rattle.std.specs.declared.cmp.Ordering.{Ordering}
+use Rattle.std.specs.declared.cmp.Reverse.{Reverse}
+use Rattle.krb_wire.specs.Names.{name_text}
+use Rattle.krb_wire.specs.Spelling.{Parts}
+use Rattle.krb_walk.specs.Store.{fault_of}
+use Rattle.krb_keytab.specs.Entry.{EntryParts}
+use Rattle.krb_keytab.specs.Find.{PlacedEntry, placed_entries}
+use Rattle.krb_keytab.specs.Store.{KeytabState, store_of}
+use Rattle.krb_text.specs.Listing.{fault_line}
+use Rattle.krb_audit.specs.Newest.{is_old}
+use Rattle.krb_audit.specs.Rows.{first_number}
+use Rattle.krb_show.specs.declared.keys.KeyWidths.{KeyWidths}
+use Rattle.krb_show.specs.Ago.{time_cell}
+use Rattle.krb_show.specs.Columns.{asked_width, counted, padded, padded_unless}
+use Rattle.krb_show.specs.EtypeNames.{etype_cell}
+
+-- ---- the lines
+
+-- where a line is in the table: the number of its name's first entry, whether it is old, and its version
+abbrev pub LineKey : Type 0
+LineKey = ℕ × Bool × Reverse ℕ
+
+-- the order of lines: names by their first entries, of a name the newest version first, and then versions falling
+abbrev pub line_cmp : LineKey → LineKey → Ordering
+line_cmp k l = ordering_then (ordering_then (nat_cmp k.0 l.0) (bool_cmp k.1 l.1)) (nat_cmp l.2.0 k.2.0)
+
+-- the line of an entry among all
+abbrev pub line_key : List PlacedEntry → EntryParts → LineKey
+line_key all e = (unwrap_or (first_number e.principal all) 0, is_old all e, record { 0 = e.version })
+
+-- entries of a name and version: their name, their latest time, and their enctypes in order
+pub record LineParts : Type 0 where
+  pub principal : Parts
+  pub added : ℕ
+  pub etypes : List ℕ
+
+-- the line of a name, still without entries
+abbrev pub begun : Parts → LineParts
+begun principal = record { principal = principal; added = 0; etypes = [] }
+
+-- a line with one more entry's time and enctype
+abbrev pub grown : LineParts → ℕ → ℕ → LineParts
+grown l time etype = record { principal = l.principal; added = max l.added time; etypes = l.etypes ++ etype ∷ [] }
+
+-- a line, or one that begins, with one more entry
+abbrev pub with_entry : Option LineParts → EntryParts → LineParts
+with_entry line e = grown (unwrap_or line (begun e.principal)) e.timestamp e.enctype
+
+-- the line of an entry with that entry, in its place among the lines so far
+abbrev pub put_entry : LineKey → EntryParts → List (LineKey × LineParts) → List (LineKey × LineParts)
+put_entry key e lines = insert_entry line_cmp lines key (with_entry (lookup (is_at (line_cmp key)) lines) e)
+
+-- the lines so far with those of the entries that follow, in order; all entries say which are old
+abbrev pub lines_from : List PlacedEntry → List (LineKey × LineParts) → List PlacedEntry → List (LineKey × LineParts)
+lines_from all lines [] = lines
+lines_from all lines (x ∷ xs) = lines_from all (put_entry (line_key all x.1) x.1 lines) xs
+
+-- the lines of entries, in order
+abbrev pub lines_of : List PlacedEntry → List (LineKey × LineParts)
+lines_of xs = lines_from xs [] xs
+
+-- ---- the cells of a line
+
+-- numbers with one more, unless it is among them
+abbrev pub with_number : List ℕ → ℕ → List ℕ
+with_number ns n = if list_any (λ m. m == n) ns then ns else ns ++ n ∷ []
+
+-- each number once, where it comes first
+unfoldable pub distinct : List ℕ → List ℕ
+distinct ns = fold with_number [] ns
+
+-- enctypes with a blank before each, but before the first only if others are before them
+abbrev pub spaced : Bool → List ℕ → List ℕ
+spaced first [] = []
+spaced first (n ∷ ns) = (if first then [] else codes " ") ++ (etype_cell n ++ spaced false ns)
+
+-- how many types more than are shown
+abbrev pub more_types : ℕ → List ℕ
+more_types n = if n == 0 then [] else codes " and " ++ (decimal n ++ codes " more")
+
+-- at most eight types, how many more there are, and whether they are those of an old version
+unfoldable pub keys_cell : Bool → List ℕ → List ℕ
+keys_cell is_old etypes =
+    spaced true (take 8 (distinct etypes))
+    ++ (more_types (length (distinct etypes) - 8) ++ (if is_old then codes " old" else []))
+
+-- the widths that the cells of a line ask for
+abbrev pub asked_widths : ℕ → LineKey × LineParts → KeyWidths
+asked_widths now x = record {
+  kvno = asked_width (decimal x.0.2.0);
+  added = asked_width (time_cell now x.1.added);
+  keys = asked_width (keys_cell x.0.1 x.1.etypes);
+}
+
+-- ---- the table
+
+-- the greater of two widths, of each column
+abbrev pub wider : KeyWidths → KeyWidths → KeyWidths
+wider v w = record { kvno = max v.kvno w.kvno; added = max v.added w.added; keys = max v.keys w.keys }
+
+-- the widths of the titles
+abbrev pub title_widths : KeyWidths
+title_widths = record { kvno = 4; added = 5; keys = 4 }
+
+-- the widths of the columns of some lines
+abbrev pub key_widths : ℕ → List (LineKey × LineParts) → KeyWidths
+key_widths now lines = fold (λ w x. wider w (asked_widths now x)) title_widths lines
+
+-- the line of titles
+abbrev pub key_titles : KeyWidths → List ℕ
+key_titles w =
+    padded w.kvno (codes "KVNO") ++ (padded w.added (codes "ADDED") ++ (padded w.keys (codes "KEYS") ++ codes "PRINCIPAL\n"))
+
+-- the cells of a line before its name
+abbrev pub key_cells : ℕ → KeyWidths → LineKey × LineParts → List ℕ
+key_cells now w x =
+    padded w.kvno (decimal x.0.2.0) ++ (padded w.added (time_cell now x.1.added)
+    ++ padded_unless x.0.1 w.keys (keys_cell x.0.1 x.1.etypes))
+
+-- the name, at the first line of its versions: that of the newest
+abbrev pub shown_name : LineKey × LineParts → List ℕ
+shown_name x = if x.0.1 then [] else name_text x.1.principal
+
+-- a line of the table
+abbrev pub key_line : ℕ → KeyWidths → LineKey × LineParts → List ℕ
+key_line now w x = key_cells now w x ++ (shown_name x ++ codes "\n")
+
+-- the table of some lines, if there are any
+abbrev pub key_table : ℕ → List (LineKey × LineParts) → List ℕ
+key_table now lines =
+    if length lines == 0 then []
+    else key_titles (key_widths now lines) ++ flat_map (key_line now (key_widths now lines)) lines
+
+-- how many names lines have: each has one line of its newest version
+abbrev pub name_count : List (LineKey × LineParts) → ℕ
+name_count lines = length (filter (λ x. not x.0.1) lines)
+
+-- the heading: the file's name, the number of keys, and the number of names
+abbrev pub keytab_heading : List ℕ → ℕ → ℕ → List ℕ
+keytab_heading name keys names =
+    name ++ (codes ": keytab, " ++ (counted keys (codes "key") ++ (codes " of " ++ (counted names (codes "principal") ++ codes "\n"))))
+
+-- what is shown of a keytab whose file has this name, at a second
+abbrev pub keytab_view : List ℕ → ℕ → KeytabState → List ℕ
+keytab_view name now k =
+    let lines = lines_of (placed_entries k) in
+    keytab_heading name (length (placed_entries k)) (name_count lines) ++ (key_table now lines ++ fault_line (fault_of (store_of k)))

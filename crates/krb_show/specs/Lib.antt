@@ -1,0 +1,8 @@
+-- The definitions that the contracts of this crate use.
+pub mod Ago
+pub mod Columns
+pub mod EtypeNames
+pub mod CacheView
+pub mod KeytabView
+-- For private contracts alone.
+pub mod Lines

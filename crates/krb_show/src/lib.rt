@@ -1,0 +1,14 @@
+//! Keytabs and credential caches as they are shown to people.
+#![tactic(auto)]
+
+mod ago;
+mod cache;
+mod columns;
+mod etypes;
+mod keys;
+mod keytab;
+mod lines;
+mod tickets;
+
+pub use cache::append_cache_view;
+pub use keytab::append_keytab_view;

@@ -1,0 +1,111 @@
+//! The lines of a keytab's table: one for each name and version.
+
+ghost use Rattle.std.specs.Prelude.{◌≡◌, ◌∷◌, ℕ, List, IfOk, OnOk};
+ghost use Rattle.krb_keytab.specs.Find.{PlacedEntry, placed_entries};
+ghost use Rattle.krb_show.specs.KeytabView.{grown, lines_of, put_entry};
+ghost use Rattle.krb_show.specs.Lines.{AreSoFar};
+
+use krb_audit::{Row, SelectedKvno, marks_of, next_mark, next_number, rows_of};
+use krb_keytab::{EntryView, Keytab};
+use krb_wire::NoMemory;
+use std::alloc::Allocator;
+use std::cmp::Reverse;
+use std::collections::BTreeMap;
+use std::marker::Model;
+use std::vec::IntoIter;
+
+/// Where a line is in the table: the number of its name's first entry, whether it is old, and its kvno, the greatest
+/// first.
+pub type LineKey = (u32, bool, Reverse<u32>);
+
+/// Entries of a name and version.
+#[derive(Drop)]
+pub struct Line<'a, A: Allocator> {
+    /// One with the name.
+    pub entry: EntryView<'a>,
+    /// Their latest time.
+    pub added: u32,
+    pub etypes: Vec<u16, A>,
+}
+
+impl<'a, A: Allocator> Model for Line<'a, A> {
+    ghost use Rattle.krb_show.specs.KeytabView.{LineParts};
+
+    ghost Value = { LineParts };
+
+    ghost view = { λ l. record { principal = l.entry.principal; added = l.added; etypes = l.etypes.items } };
+}
+
+/// The lines of a table, in order.
+pub type Lines<'a, A> = BTreeMap<LineKey, Line<'a, A>, A>;
+
+impl<'a, A: Allocator> Line<'a, A> {
+    // Adds the time and the enctype of an entry.
+    fn add(&mut self, timestamp: u32, etype: u16) -> Result<(), NoMemory>
+        ensures { OnOk result (self.new ≡ grown self.old timestamp etype) }
+    {
+        self.added = self.added.max(timestamp);
+        self.etypes.push(etype)?;
+        Ok(())
+    }
+}
+
+// Adds an entry to the line with its key.
+fn put_entry<'a, A: Allocator + Copy>(
+    alloc: A,
+    key: LineKey,
+    entry: EntryView<'a>,
+    lines: &mut Lines<'a, A>,
+) -> Result<(), NoMemory>
+    ensures { OnOk result (lines.new.entries ≡ put_entry key entry.entry lines.old.entries) }
+{
+    let (timestamp, etype) = (entry.timestamp(), entry.enctype());
+    let begun = Line {
+        entry,
+        added: 0,
+        etypes: Vec::new(alloc),
+    };
+    lines.entry(key)?.or_insert(begun).add(timestamp, etype)?;
+    Ok(())
+}
+
+// The lines of the entries so far, and what is known of those to come: the numbers of their names, and whether they are old.
+#[derive(Drop)]
+struct SoFar<'a, A: Allocator> {
+    rows: IntoIter<Row, A>,
+    are_old: IntoIter<bool, A>,
+    lines: Lines<'a, A>,
+}
+
+impl<'a, A: Allocator + Copy> SoFar<'a, A> {
+    // Adds the next entry.
+    fn add(&mut self, alloc: A, entry: EntryView<'a>) -> Result<(), NoMemory>
+        ensures { (all rest : List PlacedEntry) (place : ℕ) → AreSoFar all ((place, entry.entry) ∷ rest) self.old
+            → OnOk result (AreSoFar all rest self.new) }
+    {
+        let number = next_number(&mut self.rows);
+        let is_old = next_mark(&mut self.are_old);
+        let key = (number, is_old, Reverse(entry.kvno()));
+        put_entry(alloc, key, entry, &mut self.lines)
+    }
+}
+
+/// Returns the lines of a keytab's entries.
+pub fn lines_of<'a, A: Allocator + Copy, B: Allocator>(
+    alloc: A,
+    keytab: &'a Keytab<B>,
+) -> Result<Lines<'a, A>, NoMemory>
+    ensures { IfOk result (λ lines. lines.entries ≡ lines_of (placed_entries keytab.now.state)) }
+{
+    let rows = rows_of(alloc, keytab)?;
+    let are_old = marks_of(alloc, &rows, SelectedKvno::Old, 0)?;
+    let mut so_far = SoFar {
+        rows: rows.into_iter(),
+        are_old: are_old.into_iter(),
+        lines: BTreeMap::new(alloc),
+    };
+    'entries: for (_, entry) in keytab.entries() {
+        so_far.add(alloc, entry)?;
+    }
+    Ok(so_far.lines)
+}
