@@ -27,7 +27,7 @@ use Rattle.krb_driver.specs.declared.file_name.NameSource.{NameSource}
 use Rattle.krb_driver.specs.declared.file_name.NameSource.TheVariants.{Word, CacheVariable, KeytabVariable, Default}
 use Rattle.krb_driver.specs.declared.error.RunError.TheVariants as error
 use Rattle.krb_driver.specs.declared.verdict.FileKind.{FileKind}
-use Rattle.krb_driver.specs.declared.verdict.FileKind.TheVariants.{Keytab, Cache}
+use Rattle.krb_driver.specs.declared.verdict.FileKind.TheVariants.{Keytab}
 use Rattle.krb_driver.specs.declared.reporting.details.Details.{Details}
 use Rattle.krb_driver.specs.declared.reporting.reported.Failure.{Failure}
 use Rattle.krb_driver.specs.declared.reporting.reported.Failure.TheVariants.{Refused, Faulted}
@@ -66,12 +66,12 @@ cache_phrase code = keytab_phrase code
 -- the phrase for a refusal by a keytab or a cache
 abbrev pub refusal_phrase : FileKind → Code → List ℕ
 refusal_phrase Keytab code = keytab_phrase code
-refusal_phrase Cache code = cache_phrase code
+refusal_phrase kind code = cache_phrase code
 
 -- why nothing was removed from a file
 abbrev pub nothing_phrase : FileKind → List ℕ
 nothing_phrase Keytab = codes "no entry has what was asked for"
-nothing_phrase Cache = codes "no ticket has what was asked for"
+nothing_phrase kind = codes "no ticket has what was asked for"
 
 -- why an image is not a keytab, by whether it begins as a cache
 abbrev pub no_keytab_phrase : KtOpenFault → Bool → List ℕ
@@ -87,6 +87,11 @@ list_phrase fault is_cache = no_keytab_phrase fault is_cache
 abbrev pub no_cache_phrase : CcOpenFault → Bool → List ℕ
 no_cache_phrase cc.BadVersion true = codes "a keytab (list it with -k), or a cache of version 1 or 2 (not read)"
 no_cache_phrase fault is_keytab = cc_phrase fault
+
+-- why a file that does not begin as a keytab is no cache
+abbrev pub show_phrase : CcOpenFault → List ℕ
+show_phrase cc.BadVersion = codes "it does not begin as a keytab or a cache"
+show_phrase fault = cc_phrase fault
 
 -- why a file that is held as a cache is none, by whether it begins as a keytab
 abbrev pub hold_phrase : CcOpenFault → Bool → List ℕ
@@ -123,7 +128,7 @@ type_words line name = words_line line (codes "only files are read, and this is 
 -- a name is that of a collection of caches
 abbrev pub is_collection : FileKind → List ℕ → Bool
 is_collection Keytab name = false
-is_collection Cache name = starts_with nat_eq name (codes "DIR:")
+is_collection kind name = starts_with nat_eq name (codes "DIR:")
 
 -- the words for a name of a type that is not read, of a file that is to be of that kind
 abbrev pub other_type_words : Option ℕ → FileKind → List ℕ → List ℕ
@@ -216,6 +221,7 @@ error_words file line details (error.NotAKeytab why) = phrase_line line (no_keyt
 error_words file line details (error.NotAKeytabToList why) = phrase_line line (list_phrase why.fault why.is_cache)
 error_words file line details (error.NotACache why) = phrase_line line (no_cache_phrase why.fault why.is_keytab)
 error_words file line details (error.NotACacheToHold why) = phrase_line line (hold_phrase why.fault why.is_keytab)
+error_words file line details (error.NeitherToShow fault) = phrase_line line (show_phrase fault)
 error_words file line details (error.Refused kind code) = phrase_line line (refusal_phrase kind code)
 error_words file line details error.NothingToCopy = phrase_line line (nothing_phrase Keytab)
 error_words file line details (error.NothingSelected kind) = phrase_line line (nothing_phrase kind)

@@ -5,7 +5,7 @@ use Rattle.std.specs.Option.{option_or}
 use Rattle.krb_driver.specs.declared.file_name.FileName.{FileName}
 use Rattle.krb_driver.specs.declared.file_name.NameSource.{NameSource}
 use Rattle.krb_driver.specs.declared.verdict.FileKind.{FileKind}
-use Rattle.krb_driver.specs.declared.verdict.FileKind.TheVariants.{Keytab, Cache}
+use Rattle.krb_driver.specs.declared.verdict.FileKind.TheVariants.{Keytab, Cache, Either}
 
 -- a byte is not an ASCII letter
 abbrev pub is_no_letter : ℕ → Bool
@@ -35,10 +35,15 @@ stripped [] word = Some word
 stripped (p ∷ ps) [] = None
 stripped (p ∷ ps) (b ∷ bs) = if b == p then stripped ps bs else None
 
--- a word without the type of files that are read, if it begins with that: one cache of a collection is such a file too
+-- a word without the type that files of that kind alone have: one cache of a collection is a file too
+abbrev pub without_own : FileKind → List ℕ → Option (List ℕ)
+without_own Keytab word = stripped (codes "WRFILE:") word
+without_own Cache word = stripped (codes "DIR::") word
+without_own Either word = option_or (stripped (codes "WRFILE:") word) (stripped (codes "DIR::") word)
+
+-- a word without the type of files that are read, if it begins with that
 abbrev pub untyped : FileKind → List ℕ → Option (List ℕ)
-untyped Keytab word = option_or (stripped (codes "FILE:") word) (stripped (codes "WRFILE:") word)
-untyped Cache word = option_or (stripped (codes "FILE:") word) (stripped (codes "DIR::") word)
+untyped kind word = option_or (stripped (codes "FILE:") word) (without_own kind word)
 
 -- the name of the file that a word names; or, of a type that is not read, the word
 abbrev pub bare_name : FileKind → List ℕ → List ℕ

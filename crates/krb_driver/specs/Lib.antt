@@ -9,6 +9,7 @@ pub mod EndingWords
 pub mod Runs
 pub mod Mistakes
 pub mod Loading
+pub mod Either
 pub mod Effects
 pub mod Commands
 pub mod Several

@@ -130,6 +130,7 @@ said_of_file (error.NotAKeytab why) = numbered (codes "not a keytab (") (open_fa
 said_of_file (error.NotAKeytabToList why) = numbered (codes "not a keytab (") (open_fault_number why.fault) (codes ")")
 said_of_file (error.NotACache why) = numbered (codes "not a cache (") (cache_fault_number why.fault) (codes ")")
 said_of_file (error.NotACacheToHold why) = numbered (codes "not a cache (") (cache_fault_number why.fault) (codes ")")
+said_of_file (error.NeitherToShow fault) = numbered (codes "not a cache (") (cache_fault_number fault) (codes ")")
 said_of_file (error.Refused kind code) = refused code
 said_of_file error.NothingToCopy = refused NotFound
 said_of_file other = []

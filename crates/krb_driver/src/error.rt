@@ -10,6 +10,7 @@ use crate::file_name::NameSource;
 use crate::first_word::FirstWord;
 use crate::loading::{NoKeytab, NotCache, NotKeytab};
 use crate::verdict::{FileKind, Verdict};
+use krb_ccache::CcOpenFault;
 use krb_files::{Aftermath, LoadFault, OutFault, SaveFault};
 use krb_text::{LineFault, ScriptRefusal};
 use krb_walk::{Code, Fault};
@@ -47,6 +48,8 @@ pub enum RunError {
     NotACache(NotCache),
     /// Of a file that was to be held as one.
     NotACacheToHold(NotCache),
+    /// Of a file to show, which does not begin as a keytab and is no cache.
+    NeitherToShow(CcOpenFault),
     /// A file of that kind refused what the run was to do.
     Refused(FileKind, Code),
     /// No entry of the file is selected, so there is nothing to copy.

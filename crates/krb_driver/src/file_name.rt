@@ -2,7 +2,7 @@
 
 ghost use Rattle.std.specs.Prelude.{◌≡◌, ◌<◌, ◌++◌, IfSome, OnOk, false, length, option_copied, option_map};
 ghost use Rattle.std.specs.List.{list_any, position_from};
-ghost use Rattle.krb_driver.specs.FileNames.{IsNamed, has_type, is_colon, is_no_letter, is_type, name_byte, shown_name, stripped, type_of, untyped};
+ghost use Rattle.krb_driver.specs.FileNames.{IsNamed, has_type, is_colon, is_no_letter, is_type, name_byte, shown_name, stripped, type_of, untyped, without_own};
 
 use crate::verdict::FileKind;
 use krb_wire::NoMemory;
@@ -86,19 +86,33 @@ fn stripped<'a>(word: &'a str, prefix: &str) -> Option<&'a str>
     word.strip_prefix(prefix)
 }
 
+// Returns a word without the type that files of that kind alone have, if it begins with that.
+fn without_own(kind: FileKind, word: &str) -> Option<&str>
+    ensures { option_map (λ rest. rest.now) result ≡ without_own kind word.now }
+{
+    match kind {
+        FileKind::Keytab => stripped(word, "WRFILE:"),
+        FileKind::Cache => stripped(word, "DIR::"),
+        FileKind::Either => match stripped(word, "WRFILE:") {
+            None => stripped(word, "DIR::"),
+            name => name,
+        },
+    }
+}
+
 // Returns a word without the type of files that are read, if it begins with that.
 fn untyped(kind: FileKind, word: &str) -> Option<&str>
     ensures { option_map (λ rest. rest.now) result ≡ untyped kind word.now }
 {
-    match (stripped(word, "FILE:"), kind) {
-        (None, FileKind::Keytab) => stripped(word, "WRFILE:"),
-        (None, FileKind::Cache) => stripped(word, "DIR::"),
-        (name, _) => name,
+    match stripped(word, "FILE:") {
+        None => without_own(kind, word),
+        name => name,
     }
 }
 
 impl<'a> FileName<'a> {
-    /// Returns the name that a word gives: without `FILE:`, of a keytab also without `WRFILE:`, of a cache without `DIR::`.
+    /// Returns the name that a word gives: without `FILE:`, of a keytab also without `WRFILE:`, of a cache without `DIR::`,
+    /// of either without any of them.
     pub fn of(kind: FileKind, word: &'a str, source: NameSource) -> FileName<'a>
         ensures named { IsNamed kind word.now source result }
         ensures in_place { result.in_place ≡ false }

@@ -3,6 +3,7 @@
 
 mod command;
 mod command_line;
+mod either;
 mod error;
 mod file_name;
 mod first_word;
@@ -20,6 +21,7 @@ pub use command_line::spelled::{
     Spelled, spelled_etype, spelled_etypes, spelled_name, spelled_names, spelled_seconds,
 };
 pub use command_line::words::{CommandName, CommandWords, DRY_RUN, IN_PLACE, V1_BIG, Word};
+pub use either::{Contents, open_either};
 pub use error::{RunError, is_spent};
 pub use file_name::{FileName, NameSource, append_name, type_of};
 pub use first_word::FirstWord;

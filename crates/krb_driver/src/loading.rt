@@ -55,7 +55,8 @@ fn begins_as_cache(image: &[u8]) -> bool
     image.starts_with(&[5, 3]) || image.starts_with(&[5, 4])
 }
 
-fn begins_as_keytab(image: &[u8]) -> bool
+/// Returns whether an image begins as a keytab, or as a cache of version 1 or 2.
+pub fn begins_as_keytab(image: &[u8]) -> bool
     ensures { result ≡ begins_as_keytab image.now }
 {
     image.starts_with(&[5, 1]) || image.starts_with(&[5, 2])

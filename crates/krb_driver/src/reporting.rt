@@ -16,9 +16,8 @@ mod writing;
 
 ghost use Rattle.std.specs.Prelude.{◌≡◌, IsFalse};
 ghost use Rattle.krb_driver.specs.Messages.{pieces_text};
-ghost use Rattle.krb_driver.specs.Runs.{Writes, Shows, Reports, aftermath_text, ending_text, words_if, Adds};
+ghost use Rattle.krb_driver.specs.Runs.{Writes, Shows, Reports, aftermath_text, ending_text, Adds};
 ghost use Rattle.krb_driver.specs.RunErrors.{ending_message, error_message, verdict_message};
-ghost use Rattle.krb_driver.specs.EndingWords.{ending_words};
 
 use crate::error::{RunError, end_status};
 use crate::reporting::details::Details;
@@ -107,23 +106,6 @@ fn ending_message(ending: Result<Verdict, RunError>, file: &[u8]) -> Line<'_>
     }
 }
 
-// Adds the words that explain the end of a run, if they are shown.
-fn add_words<E: Write>(
-    explains: bool,
-    ending: Result<Verdict, RunError>,
-    file: &[u8],
-    line: Option<u64>,
-    details: Details<'_>,
-    gathered: &mut Gathered,
-    err: &mut Watched<E>,
-)
-    ensures { Adds err.old gathered.old.items err.new gathered.new.items (words_if explains (ending_words file.now line details.entry ending)) }
-{
-    if explains {
-        add_ending_words(ending, file, line, details, gathered, err);
-    }
-}
-
 // Adds what a save left behind, if that is to be told and is a message, or words are shown.
 fn add_aftermath<E: Write>(
     explains: bool,
@@ -156,7 +138,9 @@ fn write_ending<E: Write>(
 {
     let mut gathered = ArrayVec::new();
     add_pieces(&ending_message(ending, file), &mut gathered, err);
-    add_words(explains, ending, file, line, details, &mut gathered, err);
+    if explains {
+        add_ending_words(ending, file, line, details, &mut gathered, err);
+    }
     add_aftermath(explains, details.aftermath, file, line, &mut gathered, err);
     send(&gathered, err);
 }

@@ -1,18 +1,20 @@
 //! The verdict of a run that did its work.
 
 ghost use Rattle.std.specs.Prelude.{◌≡◌};
-ghost use Rattle.krb_driver.specs.RunErrors.{hiding, verdict_status};
+ghost use Rattle.krb_driver.specs.RunErrors.{hiding, listing_verdict, verdict_status};
 
 use crate::reporting::reported::Reported;
 use krb_audit::{FindingSet, WeakEtypes};
 use krb_walk::Fault;
 use krb_wire::Order;
 
-/// The kind of file that a run changes.
+/// What a file is to be.
 #[derive(Clone, Copy)]
 pub enum FileKind {
     Keytab,
     Cache,
+    /// A keytab or a cache, as its first bytes say.
+    Either,
 }
 
 /// What was found about a keytab: which findings are to be explained, which weak enctypes its entries have, the fault,
@@ -51,6 +53,16 @@ pub enum Verdict {
 }
 
 impl Verdict {
+    /// Returns the verdict of a listing, which reports the fault if there is one.
+    pub fn of_listing(fault: Option<Fault>) -> Verdict
+        ensures { result ≡ listing_verdict fault }
+    {
+        match fault {
+            Some(fault) => Verdict::Listed(fault),
+            None => Verdict::Well,
+        }
+    }
+
     /// Returns the verdict of the same run if it added an entry that MIT's programs do not see, as they see none from
     /// `place` on.
     pub fn hiding(self, place: Option<u32>) -> Verdict

@@ -19,6 +19,7 @@ pub enum Word {
 #[derive(Clone, Copy)]
 pub enum CommandName {
     Klist,
+    Show,
     Ktedit,
     Ktfind,
     Ktremove,

@@ -65,7 +65,7 @@ pub fn other_type_words(
     ensures { pieces_text result ≡ other_type_words line kind name.now ++ source_words source }
 {
     match kind {
-        FileKind::Cache if name.starts_with(b"DIR:") => {
+        FileKind::Cache | FileKind::Either if name.starts_with(b"DIR:") => {
             words_before(line, Text(COLLECTION), NONE, source_line(source))
         }
         _ => type_words(line, name, source),

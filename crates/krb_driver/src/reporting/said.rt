@@ -67,6 +67,9 @@ impl Said {
             RunError::NotACache(why) | RunError::NotACacheToHold(why) => {
                 Said::numbered("not a cache (", why.fault.number(), ")")
             }
+            RunError::NeitherToShow(fault) => {
+                Said::numbered("not a cache (", fault.number(), ")")
+            }
             RunError::Refused(_, code) => Said::refused(code),
             RunError::NothingToCopy => Said::refused(Code::NotFound),
             _ => Said::alone(""),

@@ -2,7 +2,7 @@
 
 ghost use Rattle.std.specs.Prelude.{◌≡◌, option_map};
 ghost use Rattle.krb_driver.specs.Messages.{phrase_line, words_line, piece_text, pieces_text};
-ghost use Rattle.krb_driver.specs.EndingWords.{cache_phrase, cause_words, error_words, fault_with, hold_phrase, keytab_phrase, line_fault_phrase, list_phrase, listed_words, no_cache_phrase, no_keytab_phrase, nothing_phrase, refusal_phrase, unknown_words, verdict_words, way_words};
+ghost use Rattle.krb_driver.specs.EndingWords.{cache_phrase, cause_words, error_words, fault_with, hold_phrase, keytab_phrase, line_fault_phrase, list_phrase, listed_words, no_cache_phrase, no_keytab_phrase, nothing_phrase, refusal_phrase, show_phrase, unknown_words, verdict_words, way_words};
 
 use crate::error::RunError;
 use crate::first_word::FirstWord;
@@ -56,7 +56,7 @@ pub fn refusal_phrase(kind: FileKind, code: Code) -> &'static str
 {
     match kind {
         FileKind::Keytab => keytab_phrase(code),
-        FileKind::Cache => cache_phrase(code),
+        FileKind::Cache | FileKind::Either => cache_phrase(code),
     }
 }
 
@@ -66,7 +66,7 @@ fn nothing_phrase(kind: FileKind) -> &'static str
 {
     match kind {
         FileKind::Keytab => "no entry has what was asked for",
-        FileKind::Cache => "no ticket has what was asked for",
+        FileKind::Cache | FileKind::Either => "no ticket has what was asked for",
     }
 }
 
@@ -99,6 +99,16 @@ fn no_cache_phrase(why: NotCache) -> &'static str
             "a keytab (list it with -k), or a cache of version 1 or 2 (not read)"
         }
         (fault, _) => fault.phrase(),
+    }
+}
+
+// Returns why an image that does not begin as a keytab is no cache.
+fn show_phrase(fault: CcOpenFault) -> &'static str
+    ensures { result.now ≡ show_phrase fault }
+{
+    match fault {
+        CcOpenFault::BadVersion => "it does not begin as a keytab or a cache",
+        fault => fault.phrase(),
     }
 }
 
@@ -209,6 +219,7 @@ pub fn error_words<'a>(
         RunError::NotAKeytabToList(why) => phrase(line, list_phrase(why)),
         RunError::NotACache(why) => phrase(line, no_cache_phrase(why)),
         RunError::NotACacheToHold(why) => phrase(line, hold_phrase(why)),
+        RunError::NeitherToShow(fault) => phrase(line, show_phrase(fault)),
         RunError::OutputIsTerminal => phrase(line, "the image is for a program; give it a pipe"),
         RunError::ClockNotRead => phrase(line, "the clock is before 1970 or after 2106, or failed"),
         RunError::NoMemory => nothing(),

@@ -1,0 +1,39 @@
+-- What a file is that may be a keytab or a cache.
+use Rattle.std.specs.Prelude.{ℕ, List, if◌then◌else◌, Option, Result, Ok, Err}
+use Rattle.krb_wire.specs.declared.format.Order.{Order}
+use Rattle.krb_walk.specs.Store.{fault_of}
+use Rattle.krb_walk.specs.declared.fault.Fault.{Fault}
+use Rattle.krb_keytab.specs.Store.{KeytabState, store_of}
+use Rattle.krb_ccache.specs.Store.{CacheState, open_result as cache_result, store_of as cache_store}
+use Rattle.krb_files.specs.Loading.{Answer, most_bytes}
+use Rattle.krb_driver.specs.declared.either.Contents.{Contents}
+use Rattle.krb_driver.specs.declared.either.Contents.TheVariants as contents
+use Rattle.krb_driver.specs.declared.error.RunError.{RunError}
+use Rattle.krb_driver.specs.declared.error.RunError.TheVariants.{NeitherToShow}
+use Rattle.krb_driver.specs.Loading.{begins_as_keytab, keytab_in, result_map, result_map_err}
+use Rattle.krb_driver.specs.RunErrors.{load_error}
+
+-- a keytab or a cache
+pub data EitherState : Type 0 where
+  OfKeytab : KeytabState → EitherState
+  OfCache : CacheState → EitherState
+
+abbrev pub state_of : {A : Type 0} → Contents A → EitherState
+state_of (contents.Keytab keytab) = OfKeytab keytab.state
+state_of (contents.Cache cache) = OfCache cache.state
+
+-- the fault, if it is damaged
+abbrev pub damage_of : EitherState → Option Fault
+damage_of (OfKeytab k) = fault_of (store_of k)
+damage_of (OfCache k) = fault_of (cache_store k)
+
+-- an image that begins as a keytab is opened as one, and any other as a cache
+abbrev pub contents_of : Order → List ℕ → Result EitherState RunError
+contents_of order image =
+    if begins_as_keytab image then result_map OfKeytab (keytab_in order (Ok image))
+    else result_map OfCache (result_map_err NeitherToShow (cache_result most_bytes image))
+
+-- the keytab or the cache in a file, or the error: the file is missing or was not read, or it is neither
+abbrev pub contents_in : Order → Answer → Result EitherState RunError
+contents_in order (Ok image) = contents_of order image
+contents_in order (Err fault) = Err (load_error fault)
