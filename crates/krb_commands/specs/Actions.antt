@@ -5,8 +5,9 @@ use Rattle.krb_files.specs.declared.files.Files.{Ghosts}
 use Rattle.krb_audit.specs.declared.selection.SelectedKvno.{SelectedKvno}
 use Rattle.krb_audit.specs.declared.selection.SelectedKvno.TheVariants.{OldFor}
 use Rattle.krb_commands.specs.declared.action.Action.{Action}
+use Rattle.krb_commands.specs.declared.needs.LeftOut.{LeftOut}
 use Rattle.krb_commands.specs.declared.needs.Needs.{Needs}
-use Rattle.krb_commands.specs.declared.action.Action.TheVariants.{CheckTicket, Overview, Ccedit, Ccremove, Klist, Ktcheck, Ktcopy, Ktdiff, Ktedit, Ktfind, Ktremove, Ktutil, Hold, HoldOnTerminal, Help}
+use Rattle.krb_commands.specs.declared.action.Action.TheVariants.{CheckTicket, Overview, Ccedit, Ccremove, Klist, Ktcheck, Ktcopy, Ktdiff, Ktedit, Ktfind, Ktremove, Ktutil, Show, Hold, HoldOnTerminal, Help}
 use Rattle.krb_driver.specs.declared.command_line.mistake.WordFault.{WordFault}
 use Rattle.krb_driver.specs.declared.command_line.mistake.WordFault.TheVariants as word
 use Rattle.krb_driver.specs.declared.command_line.words.CommandName.{CommandName}
@@ -16,7 +17,7 @@ use Rattle.krb_driver.specs.declared.file_name.FileName.{FileName}
 use Rattle.krb_driver.specs.declared.file_name.NameSource.{NameSource}
 use Rattle.krb_driver.specs.declared.file_name.NameSource.TheVariants.{Word}
 use Rattle.krb_driver.specs.declared.verdict.FileKind.{FileKind}
-use Rattle.krb_driver.specs.declared.verdict.FileKind.TheVariants.{Keytab, Cache}
+use Rattle.krb_driver.specs.declared.verdict.FileKind.TheVariants.{Keytab, Cache, Either}
 use Rattle.krb_driver.specs.declared.verdict.Verdict.TheVariants.{Well}
 use Rattle.krb_driver.specs.declared.command.World.{World}
 use Rattle.krb_driver.specs.FileNames.{IsNamed, bare_name, is_other_type}
@@ -28,6 +29,7 @@ use Rattle.krb_readers.specs.Klist.{file_kind, list_mistake, list_options, Lists
 use Rattle.krb_readers.specs.Overview.{SurveysAll, overview_mistake}
 use Rattle.krb_readers.specs.declared.klist.ticket_check.TicketCheck.{TicketCheck}
 use Rattle.krb_readers.specs.Ktcheck.{SpellsCheck, check_mistake, ChecksAll}
+use Rattle.krb_readers.specs.Show.{ShowsAll, show_mistake, show_options}
 use Rattle.krb_editors.specs.Hold.{RunsHold, file_kind as held_kind, hold_kind, hold_mistake}
 use Rattle.krb_editors.specs.Ktedit.{ktedit_fairly, ktedit_plan}
 use Rattle.krb_readers.specs.Ktfind.{SpellsEntry, find_mistake, ktfind_plan}
@@ -92,6 +94,11 @@ abbrev pub AsksKtcheck : Matched → Action → Type 0
 AsksKtcheck words (Ktcheck options names) = SpellsCheck words options × AreFiles Keytab words names.items
 AsksKtcheck words action = ⊥
 
+-- the action is the one that the words of show ask for
+abbrev pub AsksShow : Matched → Action → Type 0
+AsksShow words (Show options names) = (options ≡ show_options words) × AreFiles Either words names.items
+AsksShow words action = ⊥
+
 -- a file is the keytab, or the cache, that the word of that operand names, and is to be saved in place if the words ask for that
 abbrev pub IsEdited : FileKind → Matched → List ℕ → FileName → Type 0
 IsEdited kind words operand file = IsNamed kind (words.operand operand) Word file × (file.in_place ≡ words.flag (codes "in-place"))
@@ -110,6 +117,7 @@ Asks name.Ktremove words (Ktremove options names) = SpellsRemoval words options 
 Asks name.Ktcopy words (Ktcopy options from to) = SpellsCopy words options × IsNamed Keytab (words.operand (codes "FROM")) Word from × IsEdited Keytab words (codes "TO") to
 Asks name.Ktdiff words (Ktdiff options ours others) = SpellsDiff words options × IsNamed Keytab (words.operand (codes "A")) Word ours × IsNamed Keytab (words.operand (codes "B")) Word others
 Asks name.Ktcheck words action = AsksKtcheck words action
+Asks name.Show words action = AsksShow words action
 Asks name.Ccedit words (Ccedit file) = IsEdited Cache words (codes "FILE") file
 Asks name.Ccremove words (Ccremove options names) = SpellsTickets words options × AreFiles Cache words names.items
 Asks name.Ktutil words (Ktutil options) = (options.v1_order ≡ v1_order words) × (options.in_place ≡ words.flag (codes "in-place"))
@@ -128,6 +136,7 @@ line_mistake name.Ktremove words = remove_mistake words
 line_mistake name.Ktcopy words = copy_mistake words
 line_mistake name.Ktdiff words = bad_criteria words
 line_mistake name.Ktcheck words = check_mistake words
+line_mistake name.Show words = show_mistake words
 line_mistake name.Ccremove words = ticket_mistake words
 line_mistake name.Hold words = hold_mistake words
 line_mistake command words = None
@@ -153,20 +162,33 @@ are_several names = nat_lt 1 (length names)
 abbrev pub edits_all : List FileName → Bool → Needs
 edits_all names clock = record nothing { clock = clock; no_pipes = are_several names; in_place = list_any (λ file. file.in_place) names }
 
--- a file of that kind is left out by that command, unless the line names one
-abbrev pub left_out : Bool → FileKind → CommandName → Option (FileKind × CommandName)
-left_out is_named kind command = if is_named then None else Some (kind, command)
+-- a file of that kind, which that command's line leaves out
+abbrev pub left_out_of : FileKind → CommandName → LeftOut
+left_out_of kind command = record { default = kind; kind = kind; command = command }
 
--- what a line needs that reads files of that kind
-abbrev pub reads : List FileName → FileKind → CommandName → Needs
-reads names kind command = record nothing { no_pipes = are_several names; left_out = left_out (not (length names == 0)) kind command }
+-- a file is left out, unless the line names one
+abbrev pub left_out : Bool → LeftOut → Option LeftOut
+left_out is_named file = if is_named then None else Some file
+
+-- what a line needs that reads files
+abbrev pub reads : List FileName → LeftOut → Needs
+reads names file = record nothing { no_pipes = are_several names; left_out = left_out (not (length names == 0)) file }
+
+-- what show needs
+abbrev pub shows : List FileName → FileKind → Needs
+shows names default = record (reads names (record { default = default; kind = Either; command = name.Show })) { clock = true }
+
+-- what a line needs that asks for the valid tickets of plain caches
+abbrev pub surveys : Bool → Bool → Needs
+surveys is_named json = record nothing { clock = true; plain = true; json = json; left_out = left_out is_named (left_out_of Cache name.Klist) }
 
 -- what an action needs
 abbrev pub needs : Action → Needs
-needs (Klist options names) = record (reads names.items (file_kind options.kind) name.Klist) { json = options.json }
-needs (Overview json names) = record nothing { clock = true; plain = true; json = json; left_out = left_out (not (length names.items == 0)) Cache name.Klist }
-needs (CheckTicket check file) = record nothing { clock = true; plain = true; left_out = left_out (is_some file) Cache name.Klist }
-needs (Ktcheck options names) = record (reads names.items Keytab name.Ktcheck) { clock = is_some options.older; json = options.json }
+needs (Klist options names) = record (reads names.items (left_out_of (file_kind options.kind) name.Klist)) { json = options.json }
+needs (Overview json names) = surveys (not (length names.items == 0)) json
+needs (CheckTicket check file) = surveys (is_some file) false
+needs (Ktcheck options names) = record (reads names.items (left_out_of Keytab name.Ktcheck)) { clock = is_some options.older; json = options.json }
+needs (Show options names) = shows names.items options.default
 needs (Ktedit order file) = edits file true
 needs (Ccedit file) = edits file true
 needs (Ktremove options names) = edits_all names.items (is_timed options.selection.kvno)
@@ -233,6 +255,7 @@ module _ {F R W E : Type 0} (trait : Ghosts F) (old new : World F R W E) (status
   EndsAction (Ktfind options file) = Runs trait (always (ktfind_plan options file)) any old new status
   EndsAction (Ktedit order file) = RunsScript trait old new status (ktedit_plan order file) (ktedit_fairly order file) event_in
   EndsAction (Ktcheck options names) = RunsOn trait old new status (ChecksAll trait options now old new status) (files_or names.items default)
+  EndsAction (Show options names) = RunsOn trait old new status (λ files. ShowsAll trait options.v1_order old new status files now) (files_or names.items default)
   EndsAction (Ktremove options names) = RemovesWith trait Keytab names.items old new status (ktremove_plan options) (needed_time options.selection.kvno now)
   EndsAction (Ktcopy options from to) = Runs trait (always (ktcopy_plan options from to)) any old new status
   EndsAction (Ktdiff options ours others) = Runs trait (always (ktdiff_plan options ours others)) any old new status

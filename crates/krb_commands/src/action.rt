@@ -1,12 +1,13 @@
 //! The commands, and the actions of their command lines.
 
 ghost use Rattle.std.specs.Prelude.{◌≡◌, codes, map, IfErr, IfOk, None, OnOk};
-ghost use Rattle.krb_commands.specs.Actions.{AreNamed, Asks, AsksHold, AsksKlist, AsksKtcheck, AsksListing, AsksOverview, IsEdited, NamesFile, at_terminal, klist_mistake, line_mistake};
+ghost use Rattle.krb_commands.specs.Actions.{AreNamed, Asks, AsksHold, AsksKlist, AsksKtcheck, AsksListing, AsksOverview, AsksShow, IsEdited, NamesFile, at_terminal, klist_mistake, line_mistake};
 ghost use Rattle.krb_driver.specs.FileNames.{IsNamed};
 ghost use Rattle.krb_driver.specs.declared.file_name.NameSource.TheVariants.{Word};
 ghost use Rattle.krb_readers.specs.Ktcheck.{check_mistake};
 ghost use Rattle.krb_readers.specs.Klist.{list_mistake};
 ghost use Rattle.krb_readers.specs.Overview.{overview_mistake};
+ghost use Rattle.krb_readers.specs.Show.{show_mistake};
 ghost use Rattle.krb_editors.specs.Hold.{hold_mistake};
 ghost use Rattle.krb_driver.specs.Mistakes.{first_value, IsRefusal, Reads};
 
@@ -21,15 +22,17 @@ use krb_editors::{
 };
 use krb_ktutil::KTUTIL;
 use krb_readers::{
-    CheckOptions, FindOptions, KLIST, KTCHECK, KTFIND, KlistOptions, ListKind, TicketCheck,
-    check_options, find_options, klist_options, overview_json, ticket_check,
+    CheckOptions, FindOptions, KLIST, KTCHECK, KTFIND, KlistOptions, ListKind, SHOW, ShowOptions,
+    TicketCheck, check_options, find_options, klist_options, overview_json, show_options,
+    ticket_check,
 };
 use krb_wire::Order;
 use std::alloc::{AllocError, Global};
 
 /// The commands, in the order in which help lists them.
-pub const COMMANDS: [CommandName; 11] = [
+pub const COMMANDS: [CommandName; 12] = [
     CommandName::Klist,
+    CommandName::Show,
     CommandName::Ktedit,
     CommandName::Ktfind,
     CommandName::Ktremove,
@@ -46,6 +49,7 @@ pub const COMMANDS: [CommandName; 11] = [
 pub fn words_of(command: CommandName) -> CommandWords {
     match command {
         CommandName::Klist => KLIST,
+        CommandName::Show => SHOW,
         CommandName::Ktedit => KTEDIT,
         CommandName::Ktfind => KTFIND,
         CommandName::Ktremove => KTREMOVE,
@@ -79,6 +83,7 @@ pub enum Action<'a> {
     /// With the byte order of version 1 keytabs.
     Ktedit(Order, FileName<'a>),
     Ktcheck(CheckOptions<Global>, Vec<FileName<'a>>),
+    Show(ShowOptions, Vec<FileName<'a>>),
     Ktremove(RemoveOptions<Global>, Vec<FileName<'a>>),
     /// From the first keytab into the second.
     Ktcopy(CopyOptions<Global>, FileName<'a>, FileName<'a>),
@@ -219,6 +224,15 @@ fn parsed_ktcheck<'a, M: Matches<'a>>(
     Ok(Action::Ktcheck(options, names))
 }
 
+// Returns the action for the words of show.
+fn parsed_show<'a, M: Matches<'a>>(alloc: Global, matches: &M) -> Result<Action<'a>, WordFault<'a>>
+    ensures { Reads (show_mistake (M.matched matches.now)) (AsksShow (M.matched matches.now)) result }
+{
+    let options = show_options(matches)?;
+    let names = files_named(alloc, matches, FileKind::Either)?;
+    Ok(Action::Show(options, names))
+}
+
 // Returns the action for the words of hold.
 fn parsed_hold<'a, M: Matches<'a>>(matches: &M) -> Result<Action<'a>, WordFault<'a>>
     ensures { Reads (hold_mistake (M.matched matches.now)) (AsksHold (M.matched matches.now)) result }
@@ -259,6 +273,7 @@ fn parsed<'a, M: Matches<'a>>(
             file_of(matches, FileKind::Keytab, "B"),
         )),
         CommandName::Ktcheck => parsed_ktcheck(alloc, matches),
+        CommandName::Show => parsed_show(alloc, matches),
         CommandName::Ccedit => Ok(Action::Ccedit(cache)),
         CommandName::Ccremove => Ok(Action::Ccremove(
             ticket_options(alloc, matches)?,

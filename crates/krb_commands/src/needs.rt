@@ -2,17 +2,27 @@
 
 ghost use Rattle.std.specs.Prelude.{◌≡◌};
 ghost use Rattle.std.specs.List.{list_any};
-ghost use Rattle.krb_commands.specs.Actions.{are_several, edits, edits_all, left_out, needs, needs_of, nothing, reads};
+ghost use Rattle.krb_commands.specs.Actions.{are_several, edits, edits_all, left_out, left_out_of, needs, needs_of, nothing, reads, shows, surveys};
 
 use crate::action::Action;
 use krb_audit::SelectedKvno;
 use krb_driver::{CommandName, FileKind, FileName, WordFault};
 
+/// A file that a command line leaves out.
+#[derive(Clone, Copy)]
+pub struct LeftOut {
+    /// What the default is that takes its place: a keytab or a cache.
+    pub default: FileKind,
+    /// What the file is to be.
+    pub kind: FileKind,
+    pub command: CommandName,
+}
+
 /// What the run of a command line needs of the system, beside its files.
 #[derive(Clone, Copy)]
 pub struct Needs {
-    /// The time: for entries that ktutil adds, entries that have been old or have had their key for some time, or tickets
-    /// that have expired or will.
+    /// The time: for entries that ktutil adds, entries that have been old or have had their key for some time, tickets
+    /// that have expired or will, or times that are told as ages.
     pub clock: bool,
     /// Only plain files are loaded: any other is refused before it is opened.
     pub plain: bool,
@@ -24,8 +34,7 @@ pub struct Needs {
     pub script: bool,
     /// JSON is printed, which a terminal shows as it is.
     pub json: bool,
-    /// The kind of the file that the line leaves out, and its command.
-    pub left_out: Option<(FileKind, CommandName)>,
+    pub left_out: Option<LeftOut>,
 }
 
 impl Needs {
@@ -81,24 +90,68 @@ fn edits_all(names: &[FileName<'_>], clock: bool) -> Needs
     }
 }
 
-// Returns what is left out if a line does not name its file.
-fn left_out(is_named: bool, kind: FileKind, command: CommandName) -> Option<(FileKind, CommandName)>
-    ensures { result ≡ left_out is_named kind command }
+impl LeftOut {
+    // Returns a file of that kind.
+    fn of(kind: FileKind, command: CommandName) -> LeftOut
+        ensures { result ≡ left_out_of kind command }
+    {
+        LeftOut {
+            default: kind,
+            kind,
+            command,
+        }
+    }
+
+    // Returns it if a line does not name its file.
+    fn unless(self, is_named: bool) -> Option<LeftOut>
+        ensures { result ≡ left_out is_named self }
+    {
+        if is_named { None } else { Some(self) }
+    }
+}
+
+// Returns what a line needs that reads files.
+fn reads(names: &[FileName<'_>], file: LeftOut) -> Needs
+    ensures { result ≡ reads names.now file }
 {
-    if is_named {
-        None
-    } else {
-        Some((kind, command))
+    Needs {
+        no_pipes: are_several(names),
+        left_out: file.unless(!names.is_empty()),
+        ..Needs::nothing()
     }
 }
 
 // Returns what a line needs that reads files of that kind.
-fn reads(names: &[FileName<'_>], kind: FileKind, command: CommandName) -> Needs
-    ensures { result ≡ reads names.now kind command }
+fn reads_kind(names: &[FileName<'_>], kind: FileKind, command: CommandName) -> Needs
+    ensures { result ≡ reads names.now (left_out_of kind command) }
+{
+    reads(names, LeftOut::of(kind, command))
+}
+
+// Returns what show needs.
+fn shows(names: &[FileName<'_>], default: FileKind) -> Needs
+    ensures { result ≡ shows names.now default }
+{
+    let file = LeftOut {
+        default,
+        kind: FileKind::Either,
+        command: CommandName::Show,
+    };
+    Needs {
+        clock: true,
+        ..reads(names, file)
+    }
+}
+
+// Returns what a line needs that asks for the valid tickets of plain caches.
+fn surveys(is_named: bool, json: bool) -> Needs
+    ensures { result ≡ surveys is_named json }
 {
     Needs {
-        no_pipes: are_several(names),
-        left_out: left_out(!names.is_empty(), kind, command),
+        clock: true,
+        plain: true,
+        json,
+        left_out: LeftOut::of(FileKind::Cache, CommandName::Klist).unless(is_named),
         ..Needs::nothing()
     }
 }
@@ -110,26 +163,16 @@ fn action_needs(action: &Action<'_>) -> Needs
     match action {
         Action::Klist(options, names) => Needs {
             json: options.json,
-            ..reads(names, options.kind.file_kind(), CommandName::Klist)
+            ..reads_kind(names, options.kind.file_kind(), CommandName::Klist)
         },
-        Action::Overview(json, names) => Needs {
-            clock: true,
-            plain: true,
-            json: *json,
-            left_out: left_out(!names.is_empty(), FileKind::Cache, CommandName::Klist),
-            ..Needs::nothing()
-        },
-        Action::CheckTicket(_, file) => Needs {
-            clock: true,
-            plain: true,
-            left_out: left_out(file.is_some(), FileKind::Cache, CommandName::Klist),
-            ..Needs::nothing()
-        },
+        Action::Overview(json, names) => surveys(!names.is_empty(), *json),
+        Action::CheckTicket(_, file) => surveys(file.is_some(), false),
         Action::Ktcheck(options, names) => Needs {
             clock: options.older.is_some(),
             json: options.json,
-            ..reads(names, FileKind::Keytab, CommandName::Ktcheck)
+            ..reads_kind(names, FileKind::Keytab, CommandName::Ktcheck)
         },
+        Action::Show(options, names) => shows(names, options.default),
         Action::Ktedit(_, file) | Action::Ccedit(file) => Needs::edits(file, true),
         Action::Ktremove(options, names) => {
             let is_timed = matches!(options.selection.kvno, SelectedKvno::OldFor(_));

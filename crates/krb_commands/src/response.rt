@@ -12,7 +12,7 @@ use krb_editors::{
 use krb_files::Files;
 use krb_ktutil::run_ktutil;
 use krb_readers::{
-    TicketCheck, run_klist, run_ktcheck, run_ktfind, run_overview, run_ticket_check,
+    TicketCheck, run_klist, run_ktcheck, run_ktfind, run_overview, run_show, run_ticket_check,
 };
 use std::alloc::Allocator;
 use std::io::{Read, Write};
@@ -92,6 +92,10 @@ pub fn respond<A: Allocator + Copy, F: Files, R: Read, W: Write, E: Write>(
         Ok(Action::Ktedit(v1_order, file)) => run_ktedit(alloc, *v1_order, *file, world),
         Ok(Action::Ktcheck(options, names)) => match files_or(names, &default) {
             Ok(names) => run_ktcheck(alloc, options, now, names, world),
+            Err(fault) => report_word_fault(fault, &mut world.err),
+        },
+        Ok(Action::Show(options, names)) => match files_or(names, &default) {
+            Ok(names) => run_show(alloc, *options, now, names, world),
             Err(fault) => report_word_fault(fault, &mut world.err),
         },
         Ok(Action::Ktremove(options, names)) => run_ktremove(alloc, options, now, names, world),

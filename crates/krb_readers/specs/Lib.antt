@@ -3,5 +3,6 @@ pub mod Klist
 pub mod Overview
 pub mod Ktfind
 pub mod Ktcheck
+pub mod Show
 
 -- For private contracts only.

@@ -93,13 +93,9 @@ fn show_file<A: Allocator + Copy, W: Write>(
 fn listed_verdict<A: Allocator>(of: &Listed<A>) -> Verdict
     ensures { result ≡ listed_verdict of.now }
 {
-    let fault = match of {
-        Listed::Keytab(_, keytab) => keytab.fault(),
-        Listed::Cache(_, cache) => cache.fault(),
-    };
-    match fault {
-        Some(fault) => Verdict::Listed(fault),
-        None => Verdict::Well,
+    match of {
+        Listed::Keytab(_, keytab) => Verdict::of_listing(keytab.fault()),
+        Listed::Cache(_, cache) => Verdict::of_listing(cache.fault()),
     }
 }
 

@@ -8,12 +8,13 @@ use Rattle.std.specs.declared.env.VarError.TheVariants as var
 use Rattle.std.specs.declared.io.Error.{Error}
 use Rattle.std.specs.declared.io.ErrorKind.TheVariants.{OutOfMemory}
 use Rattle.krb_commands.specs.Actions.{DefaultName}
+use Rattle.krb_commands.specs.declared.needs.LeftOut.{LeftOut}
 use Rattle.krb_driver.specs.declared.command_line.mistake.WordFault.{WordFault}
 use Rattle.krb_driver.specs.declared.command_line.mistake.WordFault.TheVariants.{NoMemory}
 use Rattle.krb_driver.specs.declared.file_name.NameSource.{NameSource}
 use Rattle.krb_driver.specs.declared.file_name.NameSource.TheVariants.{CacheVariable, KeytabVariable}
 use Rattle.krb_driver.specs.declared.verdict.FileKind.{FileKind}
-use Rattle.krb_driver.specs.declared.verdict.FileKind.TheVariants.{Keytab, Cache}
+use Rattle.krb_driver.specs.declared.verdict.FileKind.TheVariants.{Keytab}
 use Rattle.krb_driver.specs.FileNames.{IsNamed}
 use Rattle.krb_driver.specs.Mistakes.{IsOf, IsRefusal, Missing, VariableNotText}
 use Rattle.krb_text.specs.Numbers.{number_in}
@@ -36,20 +37,20 @@ user_in status = user_of (pieces 10 status)
 -- the variable that names a file of that kind, and what a name in it comes from
 abbrev pub variable_of : FileKind → List ℕ × NameSource
 variable_of Keytab = (codes "KRB5_KTNAME", KeytabVariable)
-variable_of Cache = (codes "KRB5CCNAME", CacheVariable)
+variable_of kind = (codes "KRB5CCNAME", CacheVariable)
 
 -- the parts of a found name
 abbrev pub parts_of : FoundName → FileKind × NameSource × Result (List ℕ) WordFault
 parts_of found = (found.kind, found.source, result_map_both string_bytes (λ fault. fault) found.text)
 
 -- the name that the environment's answer gives for a command, or why it gives none; a variable that is not set or is empty leaves it to the default
-abbrev pub GivesName : FileKind → List ℕ → Result (List ℕ) VarError → Option FoundName → Type 0
-GivesName kind command (Ok []) found = found ≡ None
-GivesName kind command (Ok (b ∷ bytes)) (Some found) = parts_of found ≡ (kind, (variable_of kind).1, Ok (b ∷ bytes))
-GivesName kind command (Err var.NotPresent) found = found ≡ None
-GivesName kind command (Err var.NotUnicode) (Some found) = IsErrAnd found.text (IsRefusal command (Some (VariableNotText (variable_of kind).0)))
-GivesName kind command (Err var.OutOfMemory) (Some found) = found.text ≡ Err NoMemory
-GivesName kind command answer found = ⊥
+abbrev pub GivesName : LeftOut → List ℕ → Result (List ℕ) VarError → Option FoundName → Type 0
+GivesName file command (Ok []) found = found ≡ None
+GivesName file command (Ok (b ∷ bytes)) (Some found) = parts_of found ≡ (file.kind, (variable_of file.default).1, Ok (b ∷ bytes))
+GivesName file command (Err var.NotPresent) found = found ≡ None
+GivesName file command (Err var.NotUnicode) (Some found) = IsErrAnd found.text (IsRefusal command (Some (VariableNotText (variable_of file.default).0)))
+GivesName file command (Err var.OutOfMemory) (Some found) = found.text ≡ Err NoMemory
+GivesName file command answer found = ⊥
 
 -- the default name of the cache of a user, unless memory runs out; none if the user is not known
 abbrev pub IsCacheOf : Option ℕ → Result (List ℕ) WordFault → Type 0

@@ -6,7 +6,7 @@ ghost use Rattle.std.specs.Result.{result_map_both};
 ghost use Rattle.krb_driver.specs.Mistakes.{in_command};
 ghost use Rattle.krbfile.specs.DefaultNames.{GivesName, IsCacheName, IsCacheOf, IsFile, first_number, parts_of, user_in, variable_of};
 
-use krb_commands::{DefaultName, FileKind, FileName, Mistake, NameSource, WordFault};
+use krb_commands::{DefaultName, FileKind, FileName, LeftOut, Mistake, NameSource, WordFault};
 use krb_text::{Lines, parse_u32};
 use std::alloc::Global;
 use std::env::VarError;
@@ -106,7 +106,7 @@ fn default_text<R: rt::Files + AllocGlobal>(
 ) -> Result<String, WordFault<'static>> {
     match kind {
         FileKind::Keytab => Ok(String::from_str(rt.alloc(), KEYTAB)?),
-        FileKind::Cache => cache_name(rt.alloc(), fs::read(rt, STATUS)),
+        FileKind::Cache | FileKind::Either => cache_name(rt.alloc(), fs::read(rt, STATUS)),
     }
 }
 
@@ -134,20 +134,20 @@ fn variable_of(kind: FileKind) -> (&'static str, NameSource)
 {
     match kind {
         FileKind::Keytab => ("KRB5_KTNAME", NameSource::KeytabVariable),
-        FileKind::Cache => ("KRB5CCNAME", NameSource::CacheVariable),
+        FileKind::Cache | FileKind::Either => ("KRB5CCNAME", NameSource::CacheVariable),
     }
 }
 
 // Returns the name that the environment's answer gives, or why it gives none. A variable that is not set or is empty
 // leaves it to the default.
 fn given_name(
-    kind: FileKind,
+    file: LeftOut,
     command: &'static str,
     answer: Result<String, VarError>,
 ) -> Option<FoundName>
-    ensures { GivesName kind command.now (result_map_both string_bytes (λ error. error) answer) result }
+    ensures { GivesName file command.now (result_map_both string_bytes (λ error. error) answer) result }
 {
-    let (variable, source) = variable_of(kind);
+    let (variable, source) = variable_of(file.default);
     let text = match answer {
         Ok(text) if text.as_str() == "" => return None,
         Err(VarError::NotPresent) => return None,
@@ -157,17 +157,21 @@ fn given_name(
         }
         Err(VarError::OutOfMemory) => Err(WordFault::NoMemory),
     };
-    Some(FoundName { kind, source, text })
+    Some(FoundName {
+        kind: file.kind,
+        source,
+        text,
+    })
 }
 
 /// Returns the name of a file that the line of that command leaves out: the one in the environment, or else the default.
 pub fn found_name<R: rt::Env + rt::Files + AllocGlobal>(
     rt: &R,
-    kind: FileKind,
+    file: LeftOut,
     command: &'static str,
 ) -> FoundName {
-    match given_name(kind, command, env::var(rt, variable_of(kind).0)) {
+    match given_name(file, command, env::var(rt, variable_of(file.default).0)) {
         Some(found) => found,
-        None => default_name(kind, command, default_text(rt, kind)),
+        None => default_name(file.kind, command, default_text(rt, file.default)),
     }
 }

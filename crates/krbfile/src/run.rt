@@ -123,7 +123,7 @@ pub fn run<H: rt::Clock + rt::Env + rt::Files + AllocGlobal, F: Files, R: Read, 
     let alloc = Wiping::new(rt.alloc());
     let now = if needs.clock { seconds_now(rt) } else { None };
     let name = match needs.left_out {
-        Some((kind, command)) => found_name(rt, kind, command_words(command).name),
+        Some(file) => found_name(rt, file, command_words(file.command).name),
         None => FoundName::none(),
     };
     respond(alloc, parsed, now, name.file(), world)

@@ -1,0 +1,24 @@
+use Rattle.std.proofs.Common.{◌∙◌, ap, inl, inr}
+use Rattle.std.specs.Prelude.{Err}
+use Rattle.std.proofs.lemmas.Result.{err_from_is_err_and}
+unfoldable use Rattle.krb_driver.specs.Commands.{always}
+use Rattle.krb_driver.proofs.Making.{makes-end}
+use Rattle.krb_files.specs.Plan.{Ends}
+use Rattle.krb_readers.specs.Show.{shows}
+use Rattle.krb_readers.proofs.show.ShowFilesOverFiles.make.Goals as goal
+
+pub returns-in_err-of : goal.returns-in_err-of
+unfolding always
+returns-in_err-of g c =
+    let p = err_from_is_err_and c.from_residual.result c.from_residual.ensures.1 in
+    rw (p.1 ∙ ap Err p.2) (record {
+      makes = c.in_err-of.ensures (λ k. Ends (shows c.args.self.now.now c.args.is_after c.args.file.name.now k));
+      fair = inr tt;
+    })
+
+pub returns : goal.returns
+unfolding always
+returns g c = record {
+  makes = c.in_ok-of.ensures (λ k. Ends (shows c.args.self.now.now c.args.is_after c.args.file.name.now k)) _ _ (makes-end g.F.Files c.open_either.new.files _ _ c.shown.ensures);
+  fair = inr tt;
+}

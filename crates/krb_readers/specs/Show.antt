@@ -1,0 +1,64 @@
+-- What show does.
+use Rattle.std.specs.Prelude.{◌≡◌, ℕ, nat_lt, List, ◌++◌, length, codes, Bool, false, ◌&&◌, if◌then◌else◌, Option, None, Some}
+use Rattle.krb_wire.specs.declared.format.Order.{Order}
+use Rattle.krb_files.specs.declared.files.Files.{Ghosts}
+use Rattle.krb_files.specs.Plan.{Ends}
+use Rattle.krb_show.specs.CacheView.{cache_view}
+use Rattle.krb_show.specs.KeytabView.{keytab_view}
+use Rattle.krb_driver.specs.declared.command.World.{World}
+use Rattle.krb_driver.specs.declared.error.RunError.TheVariants.{ClockNotRead}
+use Rattle.krb_driver.specs.declared.file_name.FileName.{FileName}
+use Rattle.krb_driver.specs.declared.verdict.FileKind.{FileKind}
+use Rattle.krb_driver.specs.declared.verdict.FileKind.TheVariants.{Keytab, Cache}
+use Rattle.krb_driver.specs.Commands.{CommandPlan, Displays, Effect, EndsBefore, always, opens, text}
+use Rattle.krb_driver.specs.Either.{EitherState, OfKeytab, OfCache, contents_in, damage_of}
+use Rattle.krb_driver.specs.FileNames.{shown_name}
+use Rattle.krb_driver.specs.Mistakes.{DoNotGoTogether, Matched, MistakeParts, typed, v1_order}
+use Rattle.krb_driver.specs.RunErrors.{listing_verdict}
+use Rattle.krb_driver.specs.Several.{RunsOver, first_round}
+use Rattle.krb_readers.specs.declared.show.words.ShowOptions.{ShowOptions}
+use Rattle.krb_readers.specs.Klist.{gap, printed_after}
+
+-- what is shown of a file of that name, as it is printed, at that second
+abbrev pub view_of : List ℕ → ℕ → EitherState → List ℕ
+view_of name now (OfKeytab k) = keytab_view name now k
+view_of name now (OfCache k) = cache_view name now k
+
+-- the block of a file: what is shown of it, after an empty line if another block was printed before
+abbrev pub block : ℕ → Bool → List ℕ → EitherState → List ℕ
+block now is_after file k = gap false is_after ++ view_of (shown_name file) now k
+
+-- the block is printed, and reports the fault of a damaged file
+abbrev pub shows : ℕ → Bool → List ℕ → EitherState → Effect
+shows now is_after file k = Displays file (text (block now is_after file k) (listing_verdict (damage_of k)))
+
+-- a file is opened as a keytab or a cache, and shown
+abbrev pub show_plan : Order → ℕ → Bool → FileName → CommandPlan
+show_plan order now is_after file = opens file (contents_in order) (λ k. Ends (shows now is_after file.name.now k))
+
+module _ {F R W E : Type 0} (trait : Ghosts F) (order : Order) (old new : World F R W E) (status : ℕ) (names : List FileName) where
+  -- files are shown one after the other, with the greatest status
+  pub record ShowsAt (now : ℕ) : Type 0 where
+    pub printed : Bool
+    pub over : RunsOver trait (λ is_after file. always (show_plan order now is_after file)) printed_after names (first_round false old) (record { world = new; state = printed; status = status })
+
+  -- the same, unless the clock was not read
+  abbrev pub ShowsAll : Option ℕ → Type 0
+  ShowsAll None = EndsBefore trait old new status ClockNotRead
+  ShowsAll (Some now) = ShowsAt now
+
+-- ---- what the words ask for
+
+-- `-k` does not go with a file
+abbrev pub show_mistake : Matched → Option MistakeParts
+show_mistake words =
+    if words.flag (codes "keytab") && nat_lt 0 (length (words.values (codes "FILE")))
+    then Some (DoNotGoTogether (typed words (codes "-k") (codes "--keytab")) (codes "FILE")) else None
+
+-- what the default is: a cache unless `-k` is given
+abbrev pub default_kind : Matched → FileKind
+default_kind words = if words.flag (codes "keytab") then Keytab else Cache
+
+-- the options
+abbrev pub show_options : Matched → ShowOptions
+show_options words = record { default = default_kind words; v1_order = v1_order words }
