@@ -25,14 +25,10 @@ use Rattle.krb_editors.specs.Hold.{frame, framed}
 use Rattle.krb_editors.specs.Ktedit as ktedit
 use Rattle.krb_editors.specs.Removing.{is_none, seen_after}
 use Rattle.krb_editors.specs.declared.removing.FilesSeen.TheVariants as seen
-use Rattle.samples.proofs.Given.{hex, keytab, cache, name, found, old, events, printed, host, b, two, front, ticket, pa_type, worked}
+use Rattle.samples.proofs.Given.{hex, keytab, cache, name, found, old, events, printed, host, b, two, front, ticket, pa_type, worked, three}
 use Rattle.samples.proofs.Unfolded.{on_literals}
 
 -- ---- ktfind
-
--- host/a@R at 2 with version 3, at 53 and 120 with version 5, of encryption types 17, 18 and 17
-abbrev three : List ℕ
-three = hex (codes "0502") ++ (host ++ (hex (codes "0000003f00020001520004686f7374000161000000016553f1000500120020000102030405060708090a0b0c0d0e0f101112131415161718191a1b1c1d1e1f000000050000002f00020001520004686f7374000161000000016553f1000500110010000102030405060708090a0b0c0d0e0f00000005")))
 
 -- the line that a look-up prints, or why there is none
 abbrev found_text : List ℕ → List ℕ → ℕ → ℕ → Result (List ℕ) Code
@@ -219,7 +215,7 @@ json-keytab = refl
 
 -- a cache: its tickets, and its configuration entries apart
 json-cache : cache_json_text (codes "c") (cache worked)
-    ≡ codes "{\"file\":\"c\",\"kind\":\"ccache\",\"version\":4,\"default_principal\":\"u@R\",\"tickets\":[{\"place\":40,\"client\":\"u@R\",\"server\":\"krbtgt/R@R\",\"authtime\":1700000000,\"starttime\":0,\"endtime\":1700036000,\"renew_till\":0,\"flags\":\"FRIA\",\"flags_value\":1088421888,\"etype\":17,\"etype_name\":\"aes128-cts-hmac-sha1-96\",\"is_skey\":false,\"addresses\":0,\"ticket_length\":3}],\"config\":[{\"place\":148,\"key\":\"pa_type\",\"principal\":\"krbtgt/R@R\",\"value\":\"2\"}],\"fault\":null}\n"
+    ≡ codes "{\"file\":\"c\",\"kind\":\"ccache\",\"version\":4,\"default_principal\":\"u@R\",\"tickets\":[{\"place\":40,\"client\":\"u@R\",\"server\":\"krbtgt/R@R\",\"authtime\":1700000000,\"starttime\":0,\"endtime\":1700036000,\"renew_till\":0,\"flags\":\"FRIA\",\"flags_value\":1088421888,\"etype\":17,\"etype_name\":\"aes128-cts-hmac-sha1-96\",\"is_skey\":false,\"addresses\":0,\"ticket_length\":3,\"ticket_etype\":null,\"ticket_etype_name\":null,\"ticket_kvno\":null}],\"config\":[{\"place\":148,\"key\":\"pa_type\",\"principal\":\"krbtgt/R@R\",\"value\":\"2\"}],\"fault\":null}\n"
 unfolding on_literals
 json-cache = refl
 

@@ -9,3 +9,4 @@ mod NamesAndTimes
 mod Edits
 mod Commands
 mod Ends
+mod Shown

@@ -20,7 +20,7 @@ use Rattle.krb_driver.specs.declared.file_name.FileName.{FileName}
 use Rattle.krb_driver.specs.declared.file_name.NameSource.TheVariants.{Word}
 use Rattle.krb_driver.specs.declared.reporting.details.Details.{Details}
 use Rattle.krb_driver.specs.declared.verdict.FileKind.{FileKind}
-use Rattle.krb_driver.specs.declared.verdict.FileKind.TheVariants.{Keytab, Cache}
+use Rattle.krb_driver.specs.declared.verdict.FileKind.TheVariants.{Keytab, Cache, Either}
 use Rattle.krb_driver.specs.FileNames.{bare_name, is_other_type}
 use Rattle.krb_driver.specs.Mistakes.{Matched, first_value, printed_name, v1_order}
 use Rattle.krb_driver.specs.Effects.{about, ending_of}
@@ -30,6 +30,7 @@ use Rattle.krb_readers.specs.Ktcheck.{aged_by, explained_after, findings, plan_o
 use Rattle.krb_readers.specs.declared.ktcheck.words.CheckOptions.{CheckOptions}
 use Rattle.krb_readers.specs.Klist.{file_kind, klist_plan, list_kind, list_options, printed_after, check_of, check_status}
 use Rattle.krb_readers.specs.Overview.{heading, overview_plan}
+use Rattle.krb_readers.specs.Show.{show_plan}
 use Rattle.krb_readers.specs.Ktfind.{ktfind_plan}
 use Rattle.krb_editors.specs.Ccedit.{ccedit_plan}
 use Rattle.krb_editors.specs.Ktcopy.{ktcopy_plan}
@@ -191,6 +192,10 @@ abbrev pub klist_silent : ℕ → FileMap → Matched → Seen
 klist_silent now files ws = record { out = []; err = []; status = status_of (operand ws Cache (codes "FILE")); files = files } where
   status_of : FileName → ℕ
   status_of file = if file.is_other_type then 1 else check_status (now + (check_of ws).seconds) (loaded (files file.name.now) most_bytes)
+
+-- at a second
+abbrev pub show : Bool → ℕ → FileMap → Matched → Seen
+show explains now files ws = over explains (show_plan (v1_order ws) now) printed_after (λ printed. ends explains [] [] (Ok Well)) false files (operands ws Either)
 
 abbrev pub ktfind : Bool → FileMap → Matched → Seen
 ktfind explains files ws = finds (principal_of (name_of (ws.operand (codes "NAME")) None)) where
