@@ -1,4 +1,5 @@
-"""Random runs that read: listings, look-ups, checks, and questions for valid tickets, over random and damaged files."""
+"""Random runs that read: listings, views, look-ups, checks, and questions for valid tickets, over random and damaged
+files."""
 
 from collections.abc import Iterator
 from dataclasses import replace
@@ -110,6 +111,14 @@ def cache_of_tickets(random: Random) -> bytes:
     return cache(*tickets, default=Name(realm=random.choice((b"R", b"R", b"S"))), version=random.choice((3, 4)))
 
 
+def view(random: Random) -> Iterator[Undisturbed]:
+    """Yields a view of up to four files of either kind."""
+    files = {name: random_place(random) for name in "kj"}
+    files |= {name: with_damage(random, cache_of_tickets(random), 0.1) for name in "cd"}
+    words = random.choices([*"kjcdn", "FILE:c", "WRFILE:k", "DIR::d", "DIR:d"], k=random.choice((1, 2, 4)))
+    yield undisturbed(("show", *options(random, "--v1-big"), *words), clock=NOW, **files)
+
+
 def question(random: Random) -> Iterator[Undisturbed]:
     """Yields a question whether a cache has a valid ticket, or one that is valid for a while."""
     made = cache_of_tickets(random)
@@ -123,6 +132,7 @@ TOPICS = (
     Topic("random caches", cache_listing, 60),
     Topic("random overviews", overview, 40),
     Topic("random look-ups", look_up, 80),
+    Topic("random views", view, 40),
     Topic("random checks", checked, 80),
     Topic("random questions for tickets", question, 40),
 )

@@ -10,7 +10,8 @@ KEPT = {"n": "dry-run", "p:": "principal", "k:": "kvno", "e:": "enctype"}
 LETTERS = {
     "klist": {"k": "keytab", "c": "cache", "t": "times", "e": "enctypes", "K": "keys", "f": "flags", "C": "config",
               "l": "list", "s": "silent"},
-    "ktcheck": {"q": "quiet", "H": "with-filename"}, "ktremove": KEPT, "ktcopy": KEPT, "ktdiff": KEPT,
+    "show": {"k": "keytab"}, "ktcheck": {"q": "quiet", "H": "with-filename"}, "ktremove": KEPT, "ktcopy": KEPT,
+    "ktdiff": KEPT,
     "ccremove": {"n": "dry-run", "p:": "service"}, "ktfind": {}, "ktedit": {}, "ccedit": {}, "ktutil": {},
 }
 LONG = ("json", "for=", "v1-big", "in-place", "allow=", "older=", "want=", "age=", "as=", "replace",
@@ -23,13 +24,14 @@ OPERANDS = {"ktfind": ("FILE", "KVNO", "ETYPE", "NAME"), "ktcopy": ("FROM", "TO"
 # What each definition is given before the files, which have an input after them, and klist's by its other options.
 GIVEN = {"klist": ("explains",), "ktfind": ("explains",), "ktcopy": ("explains",), "ktdiff": ("explains",),
          "ktedit": ("explains",), "ccedit": ("explains",), "ktcheck": ("explains", "mode", "clock"),
+         "show": ("explains", "clock"),
          "ktremove": ("explains", "clock"), "ccremove": ("explains", "clock"), "ktutil": ("explains", "clock"),
          "klist_silent": ("clock",), "klist_overview": ("explains", "clock")}
 READING = ("ktedit", "ccedit", "ktutil")
 OTHERS = {"list": "klist_overview", "silent": "klist_silent"}
 
-# The options by which a command asks for the time, and the lines of ktutil that do.
-TIMED, ADDING = {"list", "silent", "age", "older", "expired"}, (b"add_entry", b"addent")
+# The command and the options that ask for the time, and the lines of ktutil that do.
+TIMED, ADDING = {"show", "list", "silent", "age", "older", "expired"}, (b"add_entry", b"addent")
 
 
 class NotComputed(Exception):
@@ -72,7 +74,7 @@ class Words:
 def term_of(case: Case) -> str:
     """Returns what the definitions give for a run."""
     words = Words(case)
-    is_timed = TIMED & {*words.flags, *(name for name, _ in words.values)} or (
+    is_timed = TIMED & {words.command, *words.flags, *(name for name, _ in words.values)} or (
         words.command == "ktutil" and any(word in case.stdin for word in ADDING))
     if case.clock is None and is_timed:
         raise NotComputed

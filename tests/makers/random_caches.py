@@ -9,6 +9,7 @@ from makers.images import (CONFIG_FIRST, CONFIG_REALM, FLAGS, Credential, Name, 
                            offset)
 from makers.mutations import damaged, mutated
 from makers.random_keytabs import random_bytes
+from makers.tickets import random_ticket
 from peers import corpus
 
 # Caches of other programs.
@@ -61,7 +62,8 @@ def random_credential(random: Random) -> Credential:
         key=random_bytes(random, 20), is_skey=random.choice([0, 1, 255]),
         flags=random.choice([0, 2**32 - 1, one_flag, random.randrange(2**32)]),
         addresses=random_list(random), authdata=random_list(random),
-        ticket=random.randbytes(random.choice([0, 1, 3, 20, 300])), second_ticket=random_bytes(random, 12),
+        ticket=random.choice([random_ticket(random), random.randbytes(random.choice([0, 1, 3, 20, 300]))]),
+        second_ticket=random_bytes(random, 12),
         **random_times(random),
     )
 

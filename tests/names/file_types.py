@@ -36,7 +36,7 @@ def rows() -> Iterator[Explained]:
         words = ALL if command in (KLIST, KLIST_CACHE) and not variable else SOME[:-1] if variable else SOME
         places = [(word, place) for word in words for place in (command.run.files[command.file], None)]
         for word, place in (*places, ("k", NEITHER)):
-            name = named(command.kind, word)
+            name = named(word, *command.kinds)
             if variable:
                 name = replace(name, source=NAMED.replace("VARIABLE", command.kind.variable))
             # What is under a name of another type is never read; under that of a type alone nothing is.

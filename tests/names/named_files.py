@@ -14,7 +14,7 @@ from runs.commands import CHANGES, MAKES, READS, SAVING, VALID, file_of
 from runs.harness import Line, files_in, folder_of, run, shown
 from runs.undisturbed import PROGRAM, Undisturbed
 from words.explaining import Explained, Output, for_owner
-from words.phrases import BEGINS_AS_NO_CACHE, BEGINS_AS_NO_KEYTAB, CAUSES, COLLECTION, NOT_READ
+from words.phrases import (BEGINS_AS_NO_CACHE, BEGINS_AS_NO_KEYTAB, CAUSES, COLLECTION, NOT_READ, SHOWN_AS_NEITHER)
 
 
 class Kind(Enum):
@@ -51,25 +51,27 @@ OF_FILES = {"FILE:k": "k", "FILE:FILE:k": "FILE:k", "FILE:": "", "FILE:./k": "./
             "FILE::k": ":k", "FILE: k": " k", "FILE:C:k": "C:k", "FILE:WRFILE:k": "WRFILE:k", "FILE:DIR::k": "DIR::k"}
 OF_KEYTABS = {"WRFILE:k": "k", "WRFILE:FILE:k": "FILE:k", "WRFILE:WRFILE:k": "WRFILE:k"}
 OF_CACHES = {"DIR::k": "k", "DIR::FILE:k": "FILE:k", "DIR::DIR::k": "DIR::k", "DIR:::k": ":k", "DIR::": ""}
+OWN_TYPES = {Kind.KEYTAB: OF_KEYTABS, Kind.CACHE: OF_CACHES}
 # Words of other types, of which nothing is read.
 OTHERS = ("KCM:", "KCM:k", "file:k", "KEYRING:persistent:0", "MEMORY:k", "DIR:k", "DIR:", "Dir::k", "File:k", "FILe:k",
           "FILEX:k", "XFILE:k", "ab:k", "KCM:FILE:k", "wrfile:k", "WRFile:k")
 ALL = (*OWN, *OF_FILES, *OF_KEYTABS, *OF_CACHES, *OTHERS)
 
 
-def named(kind: Kind, word: str) -> FileName:
-    """Returns the file that a word names."""
-    read = OF_FILES | (OF_KEYTABS if kind is Kind.KEYTAB else OF_CACHES)
+def named(word: str, *kinds: Kind) -> FileName:
+    """Returns the file that a word names, which may be of those kinds."""
+    read = OF_FILES | {name: it for kind in kinds for name, it in OWN_TYPES[kind].items()}
     if word in read or word not in (*OF_KEYTABS, *OF_CACHES, *OTHERS):
         return FileName(read.get(word, word))
     its_type = word.partition(":")[0] + ":"
-    is_collection = kind is Kind.CACHE and its_type == "DIR:"
+    is_collection = Kind.CACHE in kinds and its_type == "DIR:"
     return FileName(word, COLLECTION if is_collection else NOT_READ.replace("TYPE", its_type))
 
 
 # A file that is neither a keytab nor a cache.
 NEITHER = b"xy"
-NEITHERS = {Kind.KEYTAB: BEGINS_AS_NO_KEYTAB, Kind.CACHE: BEGINS_AS_NO_CACHE}
+NEITHERS = {(Kind.KEYTAB,): ("keytab", *BEGINS_AS_NO_KEYTAB), (Kind.CACHE,): ("cache", *BEGINS_AS_NO_CACHE),
+            (*Kind,): ("cache", *SHOWN_AS_NEITHER)}
 
 # A file of each kind; its ticket is valid whenever a test runs.
 IMAGES = {Kind.KEYTAB: TWO, Kind.CACHE: VALID}
@@ -91,13 +93,19 @@ class Command:
         return Kind.CACHE if self.file == "c" else Kind.KEYTAB
 
     @property
+    def kinds(self) -> tuple[Kind, ...]:
+        """The kinds that the file may be of."""
+        return (*Kind,) if self.run.words[0] == "show" else (self.kind,)
+
+    @property
     def beside(self) -> dict[str, bytes]:
         """The file beside it."""
         return {BESIDE: image for name, image in self.run.files.items() if name != self.file}
 
     def words(self, name: str | None) -> Line:
         """Returns its words for a name, or for none."""
-        those = {self.file: ("--",) if name is None else ("--", name),
+        keytab = ("-k",) * (name is None and self.run.words == ("show", "k"))
+        those = {self.file: (*keytab, "--", *(() if name is None else (name,))),
                  **{each: (BESIDE,) for each in self.run.files if each != self.file}}
         return tuple(part for word in self.run.words for part in those.get(word, (word,)))
 
@@ -111,8 +119,8 @@ class Command:
     def ended(self, name: FileName, place: bytes | None) -> tuple[int, Output]:
         """Returns the status over what is under a name, and the message, if there is one. Some commands make a missing
         file, but none without a name."""
-        own, (number, why) = name.text, NEITHERS[self.kind]
-        ends = {NEITHER: (1, (f"{own}: not a {self.kind.name.lower()} ({number})", why))}
+        own, (kind, number, why) = name.text, NEITHERS[self.kinds]
+        ends = {NEITHER: (1, (f"{own}: not a {kind} ({number})", why))}
         if name.other or place is None and NAME not in self.usual(False)[1]:
             ends[place] = 1, name.missing()
         elif own == "":
@@ -142,5 +150,5 @@ class Command:
 COMMANDS = (*(Command(each, file_of(each)) for each in READS if each.words[0] not in SAVING),
             *(Command(each, file_of(each)) for each in CHANGES if each.words[0] != "ktutil"),
             *(Command(each, name) for each in MAKES for name in each.files))
-DEFAULTS = tuple(each for each in COMMANDS if each.run.words[0] in ("klist", "ktcheck"))
+DEFAULTS = tuple(each for each in COMMANDS if each.run.words[0] in ("klist", "show", "ktcheck"))
 KLIST, KLIST_CACHE = (next(each for each in COMMANDS if each.kind is kind) for kind in Kind)

@@ -11,6 +11,7 @@ from collections.abc import Callable
 from random import Random
 
 from runs.harness import SECONDS, Report, run
+from theorems import mit_listings
 from theorems.mit_listings import ENTRY, credential_lines, entry_line
 
 # The century of a time, which MIT's programs leave out.
@@ -21,6 +22,9 @@ DASHES = re.compile(r"^----[- ]*\n", re.MULTILINE)
 
 # Where a credential begins.
 CREDENTIAL = re.compile(r"^(?! )(?=.)", re.MULTILINE)
+
+# A ticket's own enctype, below its first line.
+TICKET_TYPE = re.compile(r"Etype \(skey, tkt\): [^,]*, ([^\t]*?) *(?:\t|$)")
 
 # The prompt of MIT's ktutil, which it prints into a pipe too.
 PROMPT = b"ktutil:  "
@@ -61,6 +65,22 @@ def differences_of(program: str, folder: str, *options: str) -> list[str]:
     wanted, got = credentials(mit_klist(folder, *options, "c"), True), credentials(ours.out, False)
     found = [] if got == wanted else [f"{got}, not {wanted}"]
     return found + ([] if (ours.status, ours.err) == (0, b"") else [f"ended with {ours}"])
+
+
+def ticket_types(program: str, folder: str) -> list[tuple[str, str]]:
+    """Returns the enctype of each ticket of the cache `c` by its own bytes: as our klist tells it, and as MIT's."""
+    listed = mit_klist(folder, "-e", "c").decode("latin-1").partition("\n\n")[2].partition("\n")[2]
+    found = (TICKET_TYPE.search(details) for _, details in mit_listings.credentials(listed))
+    ours = ("" if (etype := one["ticket_etype"]) is None else one["ticket_etype_name"] or f"etype {etype}"
+            for one in as_json(program, folder, "c").get("tickets", ()))
+    return [*zip(ours, (mit_listings.etype_name(it[1]) if it else "" for it in found), strict=True)]
+
+
+def differing_types(program: str, folder: str) -> list[str]:
+    """Returns the enctypes that MIT's klist shows otherwise than ours. It shows none where it cannot decode the realm,
+    the service or the cipher, or the kvno is greater than 2^31 - 1."""
+    pairs = ticket_types(program, folder)
+    return [f"{ours}, not {theirs}" for ours, theirs in pairs if ours and theirs not in (ours, "")]
 
 
 def entries_in(listed: bytes) -> list[str]:

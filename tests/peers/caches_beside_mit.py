@@ -18,7 +18,7 @@ from random import Random
 from keytabs.listings import BY_NAME
 from makers.images import Entry, cache, keytab, offset
 from makers.random_caches import random_credential, random_name
-from peers.beside_mit import SURROUNDINGS, Mit, are_there, check_seeds, differences_of, lack, mit_klist
+from peers.beside_mit import SURROUNDINGS, Mit, are_there, check_seeds, differences_of, differing_types, lack, mit_klist
 from runs.harness import SECONDS, Check, Outcome, Report, differences, every, files_in, folder_of, run
 
 # MIT's programs.
@@ -197,13 +197,14 @@ def check_collection(report: Report, program: str, realm_of: Realm) -> None:
 
 def faults_of_random(program: str, random: Random) -> list[str]:
     """Returns how listings differ of a random cache whose tickets all belong to its default principal, none a
-    configuration entry; without enctypes, which MIT's klist prints for real tickets only."""
+    configuration entry; of enctypes only those of the tickets that both can decode."""
     default = random_name(random, False)
     names = (random_name(random, False) for _ in range(random.randrange(8)))
     those = [replace(random_credential(random), client=default, server=name) for name in names]
     image = cache(*those, default=default, fields=offset(5, -10), version=random.choice([3, 4]))
     with folder_of({"c": image}) as folder:
-        return [f"{image.hex()}: {fault}" for fault in differences_of(program, folder, "-f")]
+        found = differences_of(program, folder, "-f") + differing_types(program, folder)
+        return [f"{image.hex()}: {fault}" for fault in found]
 
 
 def in_realm(what: str, *checks: Callable[[Report, str, Realm], None], more: tuple[str, ...] = ()) -> Check:

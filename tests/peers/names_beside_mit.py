@@ -52,7 +52,7 @@ def check_value(kind: Kind, word: str, report: Report, program: str) -> None:
             theirs, ours = (klist(kind, folder, {kind.variable: word}, each) for each in ("", program))
         is_right = taken(ours) == taken(theirs) != (None, False)
         if not OF_FILES[kind].match(word):
-            own = named(kind, word).text.encode()
+            own = named(word, kind).text.encode()
             is_right = theirs.status == 1 and REFUSES.search(theirs.err) and taken(ours)[0] == own
         report.check(f"klist {kind.variable}={word!r}, {len(files)} files",
                      [] if is_right else [f"MIT's: {theirs}, ours: {ours}"])

@@ -23,7 +23,7 @@ VALID = cache(replace(TICKET, endtime=2**32 - 1), PA_TYPE, fields=OFFSET)
 
 @dataclass(frozen=True)
 class Command:
-    """A command, and its runs by what they do. None depends on the clock, but some ask for it."""
+    """A command, and its runs by what they do. None depends on the clock but for its year, though some ask for it."""
 
     # Runs that change their file, and that make it.
     changes: tuple[Undisturbed, ...] = ()
@@ -54,6 +54,7 @@ COMMANDS = {
         *(undisturbed(f"klist {options} k", k=TWO) for options in ("-k", "-k --json", "-kK --json", "-ktKe")),
         *(undisturbed(f"klist {options} c", c=VALID) for options in (
             "-c", "--json", "-l", "-l --json", "-cefC", "-s")))),
+    "show": Command(reads=(undisturbed("show k", k=TWO), undisturbed("show c", c=VALID))),
     "ktfind": Command(prints_early=True, reads=(undisturbed("ktfind k 0 0 b@R", k=TWO),)),
     "ktcheck": Command(reads=tuple(undisturbed(f"ktcheck {options}k", k=TWO)
                                    for options in ("", "--json ", "-H --want b@R "))),
@@ -202,6 +203,7 @@ def usual_runs(size: str, image: bytes, tickets: bytes, rotated: bytes, counts: 
         at_now("klist -cefC c", c=tickets),
         at_now("klist -kK --json k", k=image),
         at_now("klist --json c", c=tickets),
+        at_now("show k c no r", k=image, c=tickets, r=rotated),
         at_now("ktfind k 0 17 -- xxx/3@R", k=image),
         at_now("ktcheck k", k=rotated),
         at_now("ktcheck k no r k", k=image, r=rotated),

@@ -38,8 +38,8 @@ AGE, EXPIRED, OLDER = "ktremove -k old --age 0", "ccremove --expired", "ktcheck 
 ENDED = (
     (NO_CLOCK, (f"{AGE} k", f"{AGE} -n k", f"{AGE} no k", f"{AGE} KCM:k", f"{EXPIRED} c", f"{EXPIRED} -n c",
                 f"{EXPIRED} no c", f"{EXPIRED} KCM:c", f"{EXPIRED} -p krbtgt/R@R c", "klist -l --json no c",
-                f"{OLDER} k", f"{OLDER} -q --json no KCM:k", OLDER)),
-    (EXPLAINED, (f"--explain {AGE} k", f"--explain {EXPIRED} c", f"--explain {OLDER} k")),
+                f"{OLDER} k", f"{OLDER} -q --json no KCM:k", OLDER, "show no k c", "show -k")),
+    (EXPLAINED, (f"--explain {AGE} k", f"--explain {EXPIRED} c", f"--explain {OLDER} k", "--explain show k")),
     (with_mode("old 2 kvno 3 etype 17 host/a@R", "entries 4 free 0 holes 0", is_wrong=False), ("ktcheck k",)),
     (replace(NO_CLOCK, out=HEADING), ("klist -l no c", "klist -l")),
     (Outcome(0, text([X])), ("ktremove -n -k old k",)),

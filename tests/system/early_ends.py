@@ -16,7 +16,7 @@ MISSING, READ_MISSING = message(1, "none: no such file").err, b"rkt none\n"
 OBJECT = unchecked("none", "no such file", 1)
 
 # The commands that take several files, one after the other.
-OVER_FILES = ("klist", "ktcheck", "ktremove", "ccremove")
+OVER_FILES = ("klist", "show", "ktcheck", "ktremove", "ccremove")
 
 # A run's end, and the files after it.
 End = tuple[Outcome, dict[str, bytes]]

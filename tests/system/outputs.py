@@ -87,7 +87,7 @@ def closed(number: int) -> dict[str, object]:
 
 def check_lost(report: Report, program: str) -> None:
     """Makes runs that do not depend on the clock with each stream closed, and with outputs on a full device."""
-    timeless = [run for run in small_runs() if run.words[0] not in ("ccremove", "ktutil")]
+    timeless = [run for run in small_runs() if run.words[0] not in ("ccremove", "ktutil", "show")]
     with open("/dev/full", "wb") as full:
         lost = (("stdin", "closed", closed(0)),
                 ("stdout", "full", {"stdout": full}), ("stdout", "closed", closed(1) | {"stdout": None}),

@@ -27,7 +27,8 @@ PIPES, OTHERS = ("pipe", "link"), (".", "/dev/null", "/dev/full/k")
 SEVERAL = {
     "klist -k pipe k link": listed(HOST_LINE, B_LINE), "klist --json link pipe": b"",
     "klist c pipe": cache_listings.listed(b"u@R", TICKET_LINE), "klist -l pipe": HEADING,
-    "klist -l link c pipe": HEADING + line_of("c", True), "ktcheck pipe k": b"k: entries 2 free 0 holes 0\n",
+    "klist -l link c pipe": HEADING + line_of("c", True), "show pipe link": b"",
+    "ktcheck pipe k": b"k: entries 2 free 0 holes 0\n",
     "ktcheck --json k pipe":
         as_json("k", "600", b"entries 2 free 0 holes 0\n", 0) + unchecked("pipe", "cannot read", 3),
     "ktremove -p b@R pipe k": b"k: removed 53 kvno 3 etype 17 b@R\n", "ktremove -n -p host/a@R pipe link": b"",

@@ -80,7 +80,7 @@ def parts_of(name: str) -> tuple[str, str]:
 
 def credentials(listed: str) -> Iterator[tuple[str, str]]:
     """Yields the first line of each credential, and what is below it."""
-    for line in re.sub(r"\n {8}", "", listed).replace("\n\t", "\t").splitlines():
+    for line in re.findall(".+", re.sub(r"\n {8}", "", listed).replace("\n\t", "\t")):
         first, _, details = line.partition("\t")
         yield first, details
 

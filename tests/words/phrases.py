@@ -1,4 +1,4 @@
-"""What numbers, findings, failed calls and bad command lines are explained by: the lists of the manual page and of
+"""What numbers, findings, failed calls and bad command lines are explained by: the lists of the manual pages and of
 FORMATS, and the phrases that stand in no list. All tests compare with them.
 
 A phrase is in lower case, without a full stop, and has at most 72 characters.
@@ -9,7 +9,7 @@ from functools import partial
 
 from pages.documents import read
 
-PAGE = read("docs/krbfile.1")
+PAGE = read("docs/krbfile.1") + read("docs/krbfile.5")
 FORMATS = read("docs/FORMATS.md")
 
 # Phrases by number, and by the command whose phrase differs.
@@ -49,7 +49,7 @@ LINES = numbered("Faults of lines:")
 # Why a file is not a keytab, and why it is not a cache: each with its number.
 SHORT, LISTED_AS_KEYTAB, BEGINS_AS_CACHE, BEGINS_AS_NO_KEYTAB = NOT_KEYTABS = [
     row[::2] for row in listed("Files that are no keytabs:")]
-_, BEGINS_AS_KEYTAB, HELD_AS_KEYTAB, BEGINS_AS_NO_CACHE, BAD_HEADER, BAD_DEFAULT = NOT_CACHES = [
+_, BEGINS_AS_KEYTAB, HELD_AS_KEYTAB, SHOWN_AS_NEITHER, BEGINS_AS_NO_CACHE, BAD_HEADER, BAD_DEFAULT = NOT_CACHES = [
     row[::2] for row in listed("Files that are no caches:")]
 
 # The library's refusal of an image that is too long: the program says `file too large`.

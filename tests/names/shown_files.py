@@ -1,0 +1,103 @@
+"""`show`: keytabs and caches as tables for people, with ages in place of times, and several files of both kinds."""
+
+from dataclasses import replace
+from functools import partial
+
+from makers.images import B, PA_TYPE, TICKET, Entry, Name, cache, keytab
+from names.several_keytabs import MISSING, UNREAD
+from runs.harness import Case, Line, Outcome, Report, faults_of, shown, words_of
+from runs.system_calls import preloaded
+from words.explaining import FAILED, FULL, Explained, no_keytab
+from words.phrases import BAD_DEFAULT, COLLECTION, FAULTS, NOT_READ, SHORT, SHOWN_AS_NEITHER
+
+# The time of the clock, and times before or after it.
+NOW = 1_700_864_000
+AGES = {1: "1 s", 119: "119 s", 120: "2 min", 7_199: "119 min", 7_200: "2 h", 172_799: "47 h", 172_800: "2 d",
+        730 * 86_400 - 1: "729 d", 730 * 86_400: "2 y", NOW - 1: "53 y"}
+
+
+def table(*rows: str, widths: tuple[int, ...]) -> str:
+    """Returns the lines of a table with columns of those widths, which blanks separate."""
+    cells = ([*zip(row.split("|"), (*widths, 0), strict=True)] for row in rows)
+    return "".join("".join(f"{cell:{width}}  " for cell, width in row).rstrip(" ") + "\n" for row in cells)
+
+
+of_keys, of_tickets = (partial(table, heads) for heads in (
+    "KVNO|ADDED|KEYS|PRINCIPAL", "ENDS|RENEW|SESSION|TICKET|SERVICE"))
+ends = partial(replace, TICKET, authtime=NOW - 9, endtime=0)
+
+
+def added(kvno: int, **more: int) -> Entry:
+    """Returns an entry of that version, made ten days ago unless another time is given."""
+    return replace(Entry(version8=kvno, version32=kvno), **{"timestamp": NOW - 864_000, **more})
+
+
+# Names come in the order of their first entries, and the newest version is the first line of each.
+VERSIONS = (added(1, enctype=23, timestamp=NOW - 10**8), B, added(2), added(2, enctype=18), added(2, timestamp=0),
+            added(9, timestamp=0), added(3, timestamp=0))
+TYPES = [Entry((b"t",), enctype=each, timestamp=0) for each in (17, 18, 19, 20, 23, 16, 25, 26, 3, 0)]
+LONG = Entry((b"l",), enctype=65_535, timestamp=0)
+KEYTABS = {
+    ("7 keys of 2 principals", VERSIONS): of_keys(
+        "9|-|aes128|host/a@R", "3|-|aes128 old|", "2|10 d ago|aes128 aes256 old|", "1|3 y ago|rc4! old|",
+        "3|10 d ago|aes128|b@R", widths=(4, 8, 17)),
+    ("1 key of 1 principal", (replace(B, timestamp=2**32 - 1),)): of_keys(
+        "3|in 82 y|aes128|b@R", widths=(4, 7, 6)),
+    # A cell of more than 40 characters pads nothing.
+    ("11 keys of 2 principals", (*TYPES, LONG)): of_keys(
+        "3|-|aes128 aes256 aes128-sha2 aes256-sha2 rc4! des3! camellia128 camellia256 and 2 more|t@R",
+        "3|-|65535|l@R", widths=(4, 5, 5)),
+    ("0 keys of 0 principals", ()): "",
+    ("20 keys of 20 principals", tuple(
+        Entry((b"%d" % at,), timestamp=NOW - at) for at in (*AGES, *(-it for it in AGES)))):
+        of_keys(*(f"3|{age} ago|aes128|{at}@R" for at, age in AGES.items()),
+                *(f"3|in {age}|aes128|-{at}@R" for at, age in AGES.items()), widths=(4, 11, 6)),
+}
+CACHES = {
+    ("0 tickets", (PA_TYPE, TICKET.removed())): "",
+    ("1 ticket", (PA_TYPE, TICKET)): of_tickets("ended 9 d ago|-|aes128|-|krbtgt/R@R", widths=(13, 5, 7, 6)),
+    ("6 tickets", (ends(), ends(starttime=NOW + 5), ends(endtime=NOW), ends(endtime=NOW + 7_200, renew_till=NOW + 1),
+                   ends(endtime=NOW + 7_200, starttime=NOW + 120, renew_till=NOW, enctype=1),
+                   ends(endtime=NOW + 1, authtime=NOW + 1, server=Name((b"h", b"a")), enctype=77, renew_till=1))):
+        of_tickets("-|-|aes128|-|krbtgt/R@R", "-|-|aes128|-|krbtgt/R@R", "ended now|-|aes128|-|krbtgt/R@R",
+                   "in 2 h|in 1 s|aes128|-|krbtgt/R@R", "starts in 2 min|now|1!|-|krbtgt/R@R",
+                   "starts in 1 s|53 y ago|77|-|h/a@R", widths=(15, 8, 7, 6)),
+}
+
+# Files without a time, and their blocks. The first bytes say that `s` is a cache.
+FILES = {"k": keytab(replace(B, timestamp=0)), "c": cache(ends()), "a\nb": keytab(), "e": cache(), "x": b"xy",
+         "z": b"", "d": keytab(replace(B, timestamp=0), b"\0"), "s": cache()[:5], "FILE:k": b"\5\1"}
+KEY, KEYS = of_keys("3|-|aes128|b@R", widths=(4, 5, 6)), "keytab, 1 key of 1 principal\n"
+K, C = f"k: {KEYS}{KEY}", "c: cache of u@R, 1 ticket\n" + of_tickets("-|-|aes128|-|krbtgt/R@R", widths=(4, 5, 7, 6))
+NONE, E, D = "keytab, 0 keys of 0 principals\n", "e: cache of u@R, 0 tickets\n", f"d: {KEYS}{KEY}fault 1 at 47\n"
+TYPED = ("KCM:k: no such file", NOT_READ.replace("TYPE", "KCM:"))
+
+
+def show(line: str | Line, blocks: list[str], *output: tuple[str, str], status: int = 0, **more) -> Explained:
+    """Returns a view of some of the files, with an empty line between them, and its messages."""
+    words = ("show", *words_of(line))
+    return Explained(shown(words), words, output, FILES, status=status, out="\n".join(blocks).encode(), after=FILES,
+                     **more)
+
+
+CASES = [
+    show(("k", "FILE:c", "WRFILE:e", "DIR::k", "a\nb", "FILE:FILE:k", "--v1-big"),
+         [K, C, E, K, rf"a\x0ab: {NONE}", f"FILE:k: {NONE}"]),
+    # A file of which there is only a message has no block.
+    show("no x k z . d s DIR:c KCM:k e", [K, D, E], MISSING, no_keytab(SHOWN_AS_NEITHER, "x", "cache"),
+         no_keytab(SHORT, "z", "cache"), UNREAD, ("", "d: fault 1 at 47"), ("", FAULTS[1]),
+         no_keytab(BAD_DEFAULT, "s", "cache"), ("DIR:c: no such file", COLLECTION), TYPED, status=3),
+    show("no k x", [], MISSING, FAILED, status=3, options=FULL),
+]
+
+
+def check(report: Report, program: str) -> None:
+    """Shows each keytab and each cache twice at that time, by a clock that can be read once."""
+    under = preloaded(report, program, "what is shown at a time")
+    files = [("keytab", keytab(*those), what, text) for (what, those), text in KEYTABS.items()]
+    files += [("cache of u@R", cache(*those), what, text) for (what, those), text in CACHES.items()]
+    for kind, image, what, text in files if under else ():
+        out = "\n".join([f"f: {kind}, {what}\n{text}"] * 2).encode()
+        case = Case(f"{kind}, {what}", ("show", "f", "f"), Outcome(0, out), {"f": image})
+        got = under.run(case, CLOCK=NOW, FAIL_CLOCK=2)
+        report.check(case.name, faults_of(case, got.outcome, got.files))
