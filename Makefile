@@ -8,19 +8,33 @@
 # make test       proves every crate from nothing, runs all tests, those of the program that this built too, and tries
 #                 the wrong bodies; afterwards the other targets prove nothing again
 # make long-test  runs the long tests of the program, on random and damaged files
-# make install    puts the program into PREFIX/bin, the library and its header into PREFIX/lib and PREFIX/include,
-#                 their manual pages and completions below PREFIX/share, and Python's module into PYTHONDIR
-# make install-program
-#                 puts the program alone there, with its manual page and completions
-# make dist       packs the static program and the library into DIST/krbfile-VERSION-linux-x86_64.tar.gz, where DIST is
-#                 this folder unless it is given: the same files give the same bytes
+# make install    copies what is built, below DESTDIR if it is given: the program, its manual pages and completions
+#                 (make install-program), the C library (install-lib) and Python's module (install-python). PREFIX,
+#                 BINDIR, LIBDIR, INCLUDEDIR, MANDIR, DATADIR, DOCDIR and PYTHONDIR say where. make uninstall removes it
+# make dist       packs the static program, the libraries, samples, examples and documents into
+#                 DIST/krbfile-VERSION-linux-x86_64.tar.gz; the same files give the same bytes, of SOURCE_DATE_EPOCH
+# make deb        packs what is built as Debian packages, in DIST
+# make wheel      packs Python's module, in DIST; it takes python3-build and setuptools, and no network
+# make clean      removes what is built here, but nothing that is proved
+#
+# CC, CFLAGS, LDFLAGS and PYTHON are heard.
 
 PREFIX ?= /usr/local
-# Where python3 looks for modules below PREFIX, or would if it were installed there. Empty without a python3.
-PYTHONDIR ?= $(shell python3 -c 'import site, sys; lib = "$(PREFIX)/lib/"; \
+BINDIR ?= $(PREFIX)/bin
+LIBDIR ?= $(PREFIX)/lib
+INCLUDEDIR ?= $(PREFIX)/include
+DATADIR ?= $(PREFIX)/share
+MANDIR ?= $(DATADIR)/man
+DOCDIR ?= $(DATADIR)/doc/krbfile
+PYTHON ?= python3
+# Where it looks for modules below PREFIX, or would if it were installed there. Empty without a python3.
+PYTHONDIR ?= $(shell $(PYTHON) -c 'import site, sys; lib = "$(PREFIX)/lib/"; \
 	own = lib + "python%d.%d/site-packages" % sys.version_info[:2]; \
 	print(next((path for path in site.getsitepackages() if path.startswith(lib)), own))')
-DIST = .
+DIST ?= .
+# The time of all that is packed: the start of 2026, unless a packager has another.
+export SOURCE_DATE_EPOCH ?= 1767225600
+HARDENED = -Wl,-z,relro,-z,now
 PROGRAM = bin/krbfile
 BUILT = crates/krbfile/out/krbfile
 STATIC = bin/krbfile-static
@@ -34,11 +48,18 @@ VERSION := $(shell sed -n 's/^const VERSION: &str = "\([^ "]*\).*/\1/p' crates/k
 NAME = krbfile-$(VERSION)-linux-x86_64
 PACKED = $(DIST)/$(NAME).tar.gz
 PARTS = $(PACKED).parts
+ROOT = $(PARTS)/$(NAME)
 MODULE = $(wildcard python/krbfile/*.py) python/krbfile/py.typed
-PAGES = README.md docs/krbfile.1 docs/krbfile.3 completions/generate c/krbfile.h c/krbfile.pc.in python/pyproject.toml \
-	$(MODULE)
+DOCUMENTS = README.md CHANGELOG.md SECURITY.md
+EXAMPLES = $(wildcard examples/*)
+# The pages that README names, and the calls that the library's manual page names.
+LINKED := $(filter-out docs/%,$(shell grep -o '[a-z]*/[a-zA-Z_/]*\.md' README.md))
+CALLS := $(sort $(shell sed -n 's/^\.Fn \(krbf_[a-z_]*\).*/\1/p' docs/krbfile.3))
+PAGES = $(DOCUMENTS) $(wildcard docs/*) $(EXAMPLES) $(MODULE) $(LINKED) completions/generate c/krbfile.h c/krbfile.pc.in \
+	python/pyproject.toml.in tests/selftest
 
-.PHONY: all try check static lib cards samples test long-test install-program install dist
+.PHONY: all try check static lib cards samples test long-test install install-program install-lib install-python \
+	uninstall dist deb wheel clean
 
 all: $(PROGRAM)
 
@@ -53,7 +74,7 @@ $(PROGRAM): $(BUILT)
 $(STATIC): $(BUILT)
 	test -f $(BUILT).o || (rm $(BUILT) && tests/prove krbfile)
 	mkdir -p $(dir $(STATIC))
-	$(CC) -static-pie -o $(STATIC).linked $(BUILT).o $(KIT)c/libos_c.a $(KIT)c/liblibc_c.a
+	$(CC) $(CFLAGS) -static-pie $(HARDENED) $(LDFLAGS) -o $(STATIC).linked $(BUILT).o $(KIT)c/libos_c.a $(KIT)c/liblibc_c.a
 	install -m 755 $(STATIC).linked $(STATIC)
 	rm $(STATIC).linked
 
@@ -73,7 +94,8 @@ $(LIBRARY): lib/krbfile.o
 	$(AR) rcs $@ lib/krbfile.o
 
 $(SHARED): lib/krbfile.o c/krbfile.map
-	$(CC) -shared -Wl,-z,defs -Wl,-soname,libkrbfile.so.1 -Wl,--version-script,c/krbfile.map -o $@ lib/krbfile.o
+	$(CC) $(CFLAGS) -shared $(HARDENED) -Wl,-z,defs -Wl,-soname,libkrbfile.so.1 -Wl,--version-script,c/krbfile.map \
+		$(LDFLAGS) -o $@ lib/krbfile.o
 
 $(LINKER_NAME): $(SHARED)
 	ln -sf $(notdir $(SHARED)) $@
@@ -106,7 +128,7 @@ test:
 	tests/samples_of_corpus
 	rt ci
 	touch -c crates/*/out/rlib/*.rlib $(BUILT)
-	$(MAKE) --no-print-directory $(BUILT)
+	$(MAKE) --no-print-directory all
 	-test ! -f $(BUILT).o || $(MAKE) --no-print-directory static
 	$(MAKE) --no-print-directory lib
 	tests/run; run=$$?; tests/wrong && exit $$run
@@ -114,50 +136,84 @@ test:
 long-test: all
 	tests/run --long --program $(PROGRAM)
 
-# Puts the program $(2) below $(1), with its manual page, and the completions that its help gives.
-define put_program
-	install -D -m 755 $(2) $(1)/bin/krbfile
-	install -D -m 644 docs/krbfile.1 $(1)/share/man/man1/krbfile.1
-	completions/generate $(2) $(1)/share
+# Ends unless a file is built.
+need = @test -f $(1) || { echo "there is no $(1): build it by make $(2)" >&2; exit 1; }
+
+# Puts text below DESTDIR.
+put = install -D -m 644 /dev/stdin $(DESTDIR)$(1)
+
+# The program's help gives the completions.
+install-program:
+	$(call need,$(PROGRAM),all)
+	install -D -m 755 $(PROGRAM) $(DESTDIR)$(BINDIR)/krbfile
+	install -D -m 644 -t $(DESTDIR)$(MANDIR)/man1 docs/krbfile.1
+	install -D -m 644 -t $(DESTDIR)$(MANDIR)/man5 docs/krbfile.5
+	install -D -m 644 -t $(DESTDIR)$(DOCDIR) $(DOCUMENTS)
+	install -D -m 644 -t $(DESTDIR)$(DOCDIR)/examples $(EXAMPLES)
+	completions/generate $(PROGRAM) $(DESTDIR)$(DATADIR)
+
+install-lib:
+	$(call need,$(SHARED),lib)
+	install -D -m 644 -t $(DESTDIR)$(INCLUDEDIR) c/krbfile.h
+	install -D -m 644 -t $(DESTDIR)$(LIBDIR) $(LIBRARY)
+	install -D -m 755 -t $(DESTDIR)$(LIBDIR) $(SHARED)
+	ln -sf libkrbfile.so.1 $(DESTDIR)$(LIBDIR)/libkrbfile.so
+	install -D -m 644 -t $(DESTDIR)$(MANDIR)/man3 docs/krbfile.3
+	for call in $(CALLS); do echo .so man3/krbfile.3 | $(call put,$(MANDIR)/man3/$$call.3) || exit 1; done
+	sed -e 's|@PREFIX@|$(or $(PREFIX),$${pcfiledir}/../..)|' -e 's|@LIBDIR@|$(LIBDIR:$(PREFIX)/%=$${prefix}/%)|' \
+		-e 's|@INCLUDEDIR@|$(INCLUDEDIR:$(PREFIX)/%=$${prefix}/%)|' -e 's|@VERSION@|$(VERSION)|' c/krbfile.pc.in | \
+		$(call put,$(LIBDIR)/pkgconfig/krbfile.pc)
+
+install-python:
+	$(if $(PYTHONDIR),install -D -m 644 -t $(DESTDIR)$(PYTHONDIR)/krbfile $(MODULE))
+
+install: install-program install-lib install-python
+
+uninstall:
+	rm -f $(addprefix $(DESTDIR),$(BINDIR)/krbfile $(INCLUDEDIR)/krbfile.h $(LIBDIR)/libkrbfile.a $(LIBDIR)/libkrbfile.so \
+		$(LIBDIR)/libkrbfile.so.1 $(LIBDIR)/pkgconfig/krbfile.pc $(MANDIR)/man1/krbfile.1 $(MANDIR)/man5/krbfile.5 \
+		$(patsubst %,$(MANDIR)/man3/%.3,krbfile $(CALLS)) $(DATADIR)/bash-completion/completions/krbfile \
+		$(DATADIR)/zsh/site-functions/_krbfile $(DATADIR)/fish/vendor_completions.d/krbfile.fish)
+	rm -rf $(DESTDIR)$(DOCDIR) $(if $(PYTHONDIR),$(DESTDIR)$(PYTHONDIR)/krbfile)
+
+# Puts what pip builds the module from into $(1).
+define put_project
+	install -D -m 644 -t $(1)/krbfile $(MODULE)
+	install -m 644 README.md $(1)
+	sed 's|@VERSION@|$(VERSION)|' python/pyproject.toml.in > $(1)/pyproject.toml
 endef
-
-# Puts the library below $(1), with its header and manual page. It is found below $(2).
-define put_library
-	install -D -m 644 docs/krbfile.3 $(1)/share/man/man3/krbfile.3
-	install -D -m 644 c/krbfile.h $(1)/include/krbfile.h
-	install -D -m 644 $(LIBRARY) $(1)/lib/libkrbfile.a
-	install -D -m 755 $(SHARED) $(1)/lib/libkrbfile.so.1
-	ln -sf libkrbfile.so.1 $(1)/lib/libkrbfile.so
-	mkdir -p $(1)/lib/pkgconfig
-	sed 's|@PREFIX@|$(2)|' c/krbfile.pc.in > $(1)/lib/pkgconfig/krbfile.pc
-endef
-
-# Puts Python's module below $(1).
-define put_module
-	mkdir -p $(1)/krbfile
-	install -m 644 $(MODULE) $(1)/krbfile
-endef
-
-install-program: all
-	$(call put_program,$(DESTDIR)$(PREFIX),$(PROGRAM))
-
-install: install-program lib
-	$(call put_library,$(DESTDIR)$(PREFIX),$(PREFIX))
-	$(if $(PYTHONDIR),$(call put_module,$(DESTDIR)$(PYTHONDIR)))
 
 dist: $(PACKED)
 
-# pkg-config finds the library wherever the archive is unpacked.
+# With no PREFIX, pkg-config finds the library wherever the archive is unpacked.
 $(PACKED): $(STATIC) $(LIBRARY) $(SHARED) $(PAGES)
 	rm -rf $(PARTS)
-	$(call put_program,$(PARTS)/$(NAME),$(STATIC))
-	$(call put_library,$(PARTS)/$(NAME),$${pcfiledir}/../..)
-	$(call put_module,$(PARTS)/$(NAME)/python)
-	install -m 644 python/pyproject.toml $(PARTS)/$(NAME)/python/pyproject.toml
-	install -m 644 README.md $(PARTS)/$(NAME)/README.md
-	cd $(PARTS)/$(NAME) && find * -type f | LC_ALL=C sort | xargs sha256sum > ../SHA256SUMS
-	mv $(PARTS)/SHA256SUMS $(PARTS)/$(NAME)
-	tar -C $(PARTS) --format=ustar --sort=name --owner=0 --group=0 --numeric-owner --mode=u=rwX,go=rX \
-		--mtime=2026-01-01T00:00Z -I 'gzip -n' -cf $(PARTS)/packed $(NAME)
+	$(MAKE) --no-print-directory install-program install-lib DESTDIR=$(ROOT) PREFIX= BINDIR=/bin LIBDIR=/lib \
+		INCLUDEDIR=/include DATADIR=/share MANDIR=/share/man DOCDIR=/share/doc/krbfile PROGRAM=$(STATIC)
+	$(call put_project,$(ROOT)/python)
+	cp -r --parents $(DOCUMENTS) docs examples $(LINKED) $(ROOT)
+	ln -s include $(ROOT)/c
+	tests/samples $(ROOT)/samples
+	install -m 755 tests/selftest $(ROOT)
+	cd $(ROOT) && find * -type f | LC_ALL=C sort | xargs sha256sum > ../SHA256SUMS
+	mv $(PARTS)/SHA256SUMS $(ROOT)
+	chmod -R u=rwX,go=rX $(ROOT) && chmod 600 $(ROOT)/samples/*
+	tar -C $(PARTS) --format=ustar --sort=name --owner=0 --group=0 --numeric-owner --mtime=@$(SOURCE_DATE_EPOCH) \
+		-I 'gzip -n' -cf $(PARTS)/packed $(NAME)
 	mv $(PARTS)/packed $@
 	rm -r $(PARTS)
+
+deb:
+	$(call need,$(PROGRAM),all)
+	$(call need,$(SHARED),lib)
+	packaging/deb $(VERSION) $(DIST)
+
+wheel:
+	rm -rf $(PARTS)
+	$(call put_project,$(PARTS))
+	$(PYTHON) -m build --wheel --no-isolation --outdir $(DIST) $(PARTS)
+	rm -r $(PARTS)
+
+clean:
+	rm -rf bin lib samples $(PARTS) $(PACKED) $(DIST)/krbfile-$(VERSION)-py3-none-any.whl
+	rm -f $(foreach name,krbfile libkrbfile1 libkrbfile-dev python3-krbfile,$(wildcard $(DIST)/$(name)_$(VERSION)*.deb))

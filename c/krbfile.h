@@ -3,7 +3,7 @@
  * A caller owes what stands here, and each call then does what it says:
  * - A handle begins as KRBF_NONE. Open and create are given an empty one: KRBF_NONE, or one that they refused or that
  *   was closed. Close is given an empty one, and then does nothing, or an open one. Each other call is given one that
- *   open or create answered with KRBF_DONE and that is not closed.
+ *   open or create returned KRBF_DONE for and that is not closed.
  * - A handle is not copied. It may go to another thread, and is used by one call at a time. No call is made from a
  *   signal handler, or in the forked child of a process with threads.
  * - A pointer is not NULL, but beside a length of 0, and what a call writes to overlaps nothing else that it is given.
@@ -11,7 +11,7 @@
  *   written. The call that changes that may be given it: it copies what it is given first.
  *
  * Nothing else is asked: any image, name, key, number, place and cursor is looked at before it is used. Unless a call
- * answers KRBF_DONE, all is as it was before. Memory is the C library's, and is cleared before it is given back. */
+ * returns KRBF_DONE, all is as it was before. Memory is the C library's, and is cleared before it is given back. */
 #ifndef KRBFILE_H
 #define KRBFILE_H
 
@@ -22,7 +22,7 @@
 extern "C" {
 #endif
 
-/* What a call answers, and the error of MIT's that it stands for. */
+/* What a call returns, and the MIT error that it stands for. */
 enum {
     KRBF_DONE = 0,
     KRBF_NO_MEMORY = 1,                 /* ENOMEM */
@@ -37,7 +37,7 @@ enum {
     KRBF_SECOND_AT = 23,
     KRBF_SLASH_IN_REALM = 24,
     KRBF_DAMAGED = 31,                  /* KRB5_KT_FORMAT, KRB5_CC_FORMAT: a fault ends what can be read */
-    KRBF_TOO_LONG = 32,                 /* a part does not fit the number that tells its length */
+    KRBF_TOO_LONG = 32,                 /* a part does not fit the number that holds its length */
     KRBF_FULL = 33,                     /* the image would be beyond the limit */
     KRBF_NOT_A_PLACE = 34,              /* nothing begins or ends at this cursor */
     KRBF_NOT_LIVE = 35,                 /* nothing that is not removed stands at this place */
@@ -47,7 +47,7 @@ enum {
     KRBF_MARKED = 41                    /* a ticket with endtime 0 and the greatest authtime, as removed ones have */
 };
 
-/* Bytes where they lie. Of none, at is NULL. */
+/* Bytes where they lie. If there are none, at is NULL. */
 typedef struct {
     const uint8_t *at;
     size_t len;

@@ -24,15 +24,6 @@ SOURCES = os.path.join(TOP, "tests", "c")
 STRICT = ("-std=c11", "-D_POSIX_C_SOURCE=200809L", "-Wall", "-Wextra", "-Werror", "-g", "-O1")
 SANITIZED = ("-fsanitize=address,undefined", "-fno-sanitize-recover=all")
 WRAPS = ("-Wl,--wrap=malloc,--wrap=realloc",)
-# What runs the example of krbfile(3) that edits the keytab of its word. The status is 0 iff it saved.
-MAIN = """
-#include <signal.h>
-
-int main(int argc, char **argv) {
-    signal(SIGPIPE, SIG_IGN);
-    return argc != 2 || drop_rc4(argv[1]) != 0;
-}
-"""
 
 
 def lack() -> str:
@@ -89,7 +80,7 @@ PROGRAM_RUNS = (
 
 
 def check_example(report: Report, program: str) -> None:
-    """Checks that the first example of krbfile(3) leaves the same keytab as `ktremove`, and prints no part of one."""
+    """Checks that the example of krbfile(3) leaves the same keytab as `ktremove`, and prints no part of one."""
     mixed, source = SAMPLES["mixed.keytab"], literals("docs/krbfile.3")[0]
     with folder_of({"k": mixed, "filter.c": source.encode()}) as folder:
         built = build(folder, "filter", sources=folder)
@@ -103,17 +94,14 @@ def check_example(report: Report, program: str) -> None:
 
 
 def check_edit(report: Report, program: str) -> None:
-    """Checks that the example of krbfile(3) that edits a file by `krbfile hold` saves it, with its mode, but not while
-    another program has its lock, nor if it is killed between the length and the bytes. On the page a backslash is
-    `\\e`."""
+    """Checks that examples/drop-rc4.c saves a keytab by `krbfile hold`, with its mode, but not while another program has
+    its lock, nor if it is killed between the length and the bytes."""
     old, new = SAMPLES["mixed.keytab"], keytab(HOST, 41)
-    (shown,) = (text for text in literals("docs/krbfile.3") if "posix_spawnp(" in text)
     killed = ("strace", "-o", os.devnull, "-e", "trace=write", "-e", "inject=write:signal=KILL:when=2")
     rows = [((), fcntl.LOCK_UN, Outcome(0), new), ((), fcntl.LOCK_EX, message(1, "k: cannot write"), old)]
     rows += [(killed, fcntl.LOCK_UN, replace(message(1, "input is not whole"), status=-signal.SIGKILL), old)]
-    source = (shown + MAIN).replace("\\e", "\\").encode()
-    with folder_of({"edit.c": source}) as folder, installed(program) as env:
-        built = build(folder, "edit", sources=folder)
+    with folder_of({}) as folder, installed(program) as env:
+        built = build(folder, "drop-rc4", sources=os.path.join(TOP, "examples"))
         for front, lock, wanted, after in rows:
             with folder_of({"k": old}) as at, open(os.path.join(at, "k"), "rb") as file:
                 os.chmod(file.fileno(), 0o640)
@@ -122,7 +110,7 @@ def check_edit(report: Report, program: str) -> None:
                 faults = differences(wanted, run(first, rest, at, env=env))
                 faults += tree_faults({"k": after}, at)
                 faults += [] if owned(os.path.join(at, "k")).mode == 0o640 else ["another mode"]
-            report.check(f"the edit of krbfile(3) ends with {wanted.status}", faults)
+            report.check(f"drop-rc4.c ends with {wanted.status}", faults)
 
 
 def check_given(report: Report, folder: str) -> None:
@@ -163,4 +151,4 @@ def check_programs(report: Report, program: str) -> None:
 
 
 check = every(check_symbols, check_programs, check_example,
-              every(check_edit, of="the edit of krbfile(3)", needs=("strace",)), of="the C library", lack=lack)
+              every(check_edit, of="drop-rc4.c", needs=("strace",)), of="the C library", lack=lack)
