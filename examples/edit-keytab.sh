@@ -2,7 +2,7 @@
 # Gives the bytes of a keytab to a command, and saves what that prints if it ends with status 0. This adds the entries
 # of another as they are, where both are of version 2: edit-keytab.sh FILE sh -c 'cat; tail -c +3 OTHER'
 # krbfile holds the file meanwhile, so be done within seconds. Killed before the last cat, the script saves nothing; by
-# SIGKILL it leaves its folder, which only its user can read.
+# SIGKILL it leaves its directory, which only its user can read.
 set -eu
 umask 077
 file=$1

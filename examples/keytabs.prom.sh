@@ -1,6 +1,6 @@
 #!/bin/sh
 # Writes what is wrong with keytabs, for the textfile collector of Prometheus' node_exporter. Have root's cron run it:
-# keytabs.prom.sh FOLDER/keytabs.prom OPTION.. FILE.., with options of ktcheck, as --older 365d and --want NAME.
+# keytabs.prom.sh DIRECTORY/keytabs.prom OPTION.. FILE.., with options of ktcheck, as --older 365d and --want NAME.
 # krbfile_keytab_status is 0 if nothing is. If the check did not run to its end the text stays as it was.
 set -eu
 PATH=$PATH:/usr/local/bin

@@ -1,6 +1,6 @@
 #!/bin/sh
 # Writes when each ticket of a credential cache ends, for the textfile collector of Prometheus' node_exporter. Have cron
-# run it as the owner of the cache: tickets.prom.sh CACHE FOLDER/tickets.prom
+# run it as the owner of the cache: tickets.prom.sh CACHE DIRECTORY/tickets.prom
 # If the cache is missing or damaged the text stays as it was, and krbfile_ticket_end_seconds - time() goes on falling.
 set -eu
 PATH=$PATH:/usr/local/bin

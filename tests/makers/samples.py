@@ -4,13 +4,35 @@ from contextlib import contextmanager
 from dataclasses import replace
 from pathlib import Path
 
-from makers.images import B, HOST, PA_TYPE, TICKET, TWO, Entry, Name, cache, keytab, old
+from makers.images import B, HOST, PA_TYPE, TICKET, TWO, Credential, Entry, Name, cache, keytab, old
+from makers.tickets import encrypted, integer, ticket
 from runs.harness import folder_of
+
+REALM = b"EXAMPLE.ORG"
+ALICE = Name((b"alice",), REALM)
 
 # A record with a length of 47, of which only 20 bytes are there.
 CUT = (47).to_bytes(4, "big") + HOST.spelled()[:20]
 
+
+def key_of(service: bytes, kvno: int, enctype: int) -> Entry:
+    """Returns an entry of a host's keytab."""
+    return Entry((service, b"www.example.org"), REALM, 1, 1_691_300_000 + (kvno == 4) * 17_000_000, kvno, enctype,
+                 bytes(range(kvno, kvno + (32 if enctype == 18 else 16))), kvno)
+
+
+def ticket_of(first: bytes, second: bytes, kvno: int, enctype: int, renew_till: int = 0) -> Credential:
+    """Returns Alice's ticket for a service."""
+    spelled = ticket(encrypted(integer(enctype), integer(kvno)))
+    return Credential(ALICE, Name((first, second), REALM), 18, key=bytes(32), authtime=1_708_634_600,
+                      endtime=1_708_670_600, renew_till=renew_till, ticket=spelled)
+
+
 SAMPLES = {
+    "krb5.keytab": keytab(key_of(b"host", 3, 18), key_of(b"host", 3, 17), key_of(b"HTTP", 2, 23)),
+    "next.keytab": keytab(key_of(b"host", 4, 18), key_of(b"host", 4, 17)),
+    "alice.ccache": cache(ticket_of(b"krbtgt", REALM, 1, 18, 1_709_239_400),
+                          ticket_of(b"HTTP", b"www.example.org", 2, 23), default=ALICE),
     "host.keytab": TWO,
     "backup.keytab": TWO,
     "other.keytab": keytab(Entry((b"nfs", b"a"), version8=5, enctype=18, key=bytes(32), version32=5)),

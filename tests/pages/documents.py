@@ -88,7 +88,7 @@ def check(report: Report, program: str) -> None:
     """Reads the documents and the sources. The program is not run."""
     check_map(report)
     check_list(report)
-    pages = paths("README.md", "*/README.md", "docs/*.md", "crates/*/CALLING.md")
+    pages = paths("*.md", "*/README.md", "docs/*.md", "crates/*/CALLING.md")
     for path in pages:
         report.check(f"the links of {path}", faults_of_links(path, read(path)))
         report.check(f"the code of {path}", faults_of_code(path, read(path)))

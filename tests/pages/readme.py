@@ -8,10 +8,14 @@ from contextlib import contextmanager
 from itertools import takewhile
 from pathlib import Path
 
-from makers.samples import folder_of_samples
+from makers.samples import make
 from pages.documents import literals, read
 from runs.commands import COMMANDS
 from runs.harness import TOP, Outcome, Report, folder_of, run
+from runs.undisturbed import preload_library
+
+# The time of the clock where ages are shown: 100 days after the times of most samples.
+NOW = 1_708_640_000
 
 LIBRARY = os.path.join(TOP, "lib", "libkrbfile.so.1")
 
@@ -38,6 +42,8 @@ def lacks(command: str) -> str:
     """Returns what a session needs that is missing."""
     if "| jq " in command and shutil.which("jq") is None:
         return "jq is not there"
+    if command.startswith("krbfile show") and preload_library() is None:
+        return "no C compiler built preload.c"
     return "" if command.startswith(("krbfile ", "printf ")) else no_library()
 
 
@@ -58,16 +64,33 @@ def installed(program: str) -> Iterator[dict[str, str]]:
         yield surroundings(programs)
 
 
-def check_session(report: Report, program: str, folder: str, session: tuple[str, bytes]) -> None:
-    """Runs a session in a folder. A fault, or a key that occurs twice, ends with status 1."""
+@contextmanager
+def checkout(program: str) -> Iterator[str]:
+    """Yields a folder with what the sessions need of a checkout: the program, new samples, and the libraries."""
+    with folder_of({}) as top:
+        for name in ("bin", "samples"):
+            os.mkdir(os.path.join(top, name))
+        make(os.path.join(top, "samples"))
+        os.symlink(program, os.path.join(top, "bin", "krbfile"))
+        for name in ("c", "examples", "lib", "python"):
+            os.symlink(os.path.join(TOP, name), os.path.join(top, name))
+        yield top
+
+
+def check_session(report: Report, top: str, session: tuple[str, bytes]) -> None:
+    """Runs a session in a checkout, after README's lines that prepare one. A fault, a finding or a difference has the
+    status 1."""
     command, wanted = session
+    name = f"session: {command.splitlines()[0]}"
     if lack := lacks(command):
-        report.skip(f"session: {command.splitlines()[0]}", lack)
+        report.skip(name, lack)
         return
-    with installed(program) as env:
-        got = run("sh", ("-c", command), folder, env=env)
-    status = 1 if b"\nfault " in wanted or wanted.startswith(b"same ") else 0
-    report.compare(f"session: {command.splitlines()[0]}", Outcome(status, wanted), got)
+    env = {**os.environ, "PYTHONDONTWRITEBYTECODE": "1", "KRBFILE": os.path.join(top, "bin", "krbfile")}
+    clock = f"LD_PRELOAD={preload_library()} CLOCK={NOW} " if command.startswith("krbfile show") else ""
+    before = re.findall(r"^    ((?:cd samples|export) .*)$", read("README.md"), re.MULTILINE)
+    got = run("sh", ("-c", "\n".join([*before, clock + command])), top, env=env)
+    status = 1 if "||" not in command and re.search(rb"\nfault |^(?:same|weak|-) ", wanted) else 0
+    report.compare(name, Outcome(status, wanted), got)
 
 
 def check(report: Report, program: str) -> None:
@@ -76,10 +99,9 @@ def check(report: Report, program: str) -> None:
     wrong = {command.split()[1] for command, _ in examples} ^ {*COMMANDS}
     report.check("the commands of the examples", sorted(wrong))
     report.check("README has sessions", [] if [*sessions()] else ["none"])
-    with folder_of_samples() as folder:
-        Path(folder, "list.c").write_text("".join(re.findall(r"```c\n(.*?)```", read("README.md"), re.DOTALL)), "utf-8")
+    with checkout(program) as top:
         for session in sessions():
-            check_session(report, program, folder, session)
+            check_session(report, top, session)
     for example in examples:
-        with folder_of_samples() as folder:
-            check_session(report, program, folder, example)
+        with checkout(program) as top:
+            check_session(report, top, example)

@@ -12,7 +12,7 @@ from words import phrases
 from words.completions import helped, offered
 from words.mistakes import MISTAKES, NEAR
 
-PAGE = "docs/krbfile.1"
+PAGES = ("docs/krbfile.1", "docs/krbfile.5", "docs/krbfile.3")
 
 
 def of_manual(program: str) -> Iterator[tuple[str, set[object]]]:
@@ -59,11 +59,11 @@ def of_sources() -> Iterator[tuple[str, set[object]]]:
 
 
 def check(report: Report, program: str) -> None:
-    """Reads the pages, the definitions, the module and help; mandoc reads both manual pages."""
+    """Reads the pages, the definitions, the module and help; mandoc reads the manual pages."""
     for name, wrong in (*of_manual(program), *of_mistakes(), *of_sources()):
         report.check(name, sorted(map(str, wrong)))
     if shutil.which("mandoc") is None:
         report.skip("the form of the manual pages", "mandoc is not there")
     else:
-        told = run("mandoc", ("-Tlint", "-Wwarning", PAGE, "docs/krbfile.3"), TOP)
+        told = run("mandoc", ("-Tlint", "-Wwarning", *PAGES), TOP)
         report.check("the form of the manual pages", told.out.decode().splitlines())
