@@ -1,12 +1,10 @@
 -- The cache that an image holds is readable, and the image of a readable cache holds it.
-use Rattle.krb_ccache.proofs.Cited.{◌≡◌, ℕ, ◌+◌, ◌≤◌, List, [], ◌∷◌, ◌++◌, length, drop, map, Option, Some, None, refl, sym, ap, subst, ◌∙◌, length-append, arith, flat_map, AllByRecursion, append-nil, drop_at, drop-drop, length-drop, w16, Big, Parts, digits, data16, cc_principal, IsShort, FitsCc, data16_at, cc_principal_at, IsBytes, IsBytes-drop, bind_some, some_is, Takes, data16_field, cc_principal_field, Contents, More, contents, spelling, next_by, IsCell, IsEnd, end_from, end_of, contents_again, Version, V3, V4, Layout, CredParts, credential, credential_at, FitsCredential, Field, header, header_at, fields_in, CacheState, credentials_format, image_of, store_cell, store_of, first_place, header_in, principal_in, IsImage, cache_of, Holds}
-use Rattle.krb_ccache.specs.declared.open.Places.{Places}
+use Rattle.krb_ccache.proofs.Cited.{◌≡◌, ℕ, ◌+◌, ◌≤◌, List, [], ◌∷◌, ◌++◌, length, drop, Option, Some, refl, sym, ap, subst, ◌∙◌, length-append, arith, flat_map, AllByRecursion, append-nil, drop_at, drop-drop, length-drop, w16, Big, digits, data16, cc_principal, IsShort, FitsCc, data16_at, cc_principal_at, IsBytes, IsBytes-drop, bind_some, some_is, Takes, data16_field, cc_principal_field, More, contents, spelling, next_by, IsCell, IsEnd, end_of, contents_again, Version, V3, V4, Layout, CredParts, credential, credential_at, FitsCredential, Field, header, header_at, fields_in, CacheState, credentials_format, image_of, store_of, first_place, header_in, principal_in, IsImage, cache_of, Holds, Places, IsBytes-front, IsBytes-back}
 use Rattle.krb_ccache.proofs.CredentialField.{credential_field}
 use Rattle.krb_ccache.proofs.HeaderFields.{fields_spell, header_takes}
 use Rattle.krb_ccache.proofs.CellLemmas.{credentials_are, end_is, all_cells}
 use Rattle.krb_ccache.proofs.PlaceLemmas.{header_is, name_is}
 use Rattle.krb_ccache.proofs.ImageLemmas.{image_parts, end_held}
-use Rattle.krb_wire.proofs.Fields.{IsBytes-front, IsBytes-back}
 
 -- a cache whose parts are read back from their spelling, and whose image is not longer than the limit
 pub record IsReadable (k : CacheState) : Type 0 where
@@ -38,11 +36,7 @@ header_front V4 bytes x rest fits e =
     subst P (some_is (b.0, a.0.1) x b.2) (subst (λ (text : List ℕ). header_at V4 (data16 Big text ++ rest) ≡ Some (b.0, rest)) same (header_by a.0.0 b.0 rest t.1 b.1))
 
 pub cell_by : {A : Type 0} (bytes : List ℕ) (o : Option (A × List ℕ)) (c : A) (rest : List ℕ) → next_by bytes o ≡ More c rest → o ≡ Some (c, rest)
-cell_by bytes (Some x) c rest e =
-    let first : x.0 ≡ c = cc in
-    let left : x.1 ≡ rest = cc in
-    ap (λ y. Some (y, x.1)) first ∙ ap (λ (r : List ℕ). Some (c, r)) left
-cell_by bytes None c rest e = absurd cc
+cell_by bytes o c rest e = search arith
 
 -- credentials that are read back from their spelling fit
 pub all_fit : (v : Version) (cs : List CredParts) → AllByRecursion (IsCell (credentials_format v)) cs → IsBytes (flat_map (credential v) cs) → AllByRecursion (FitsCredential v) cs
@@ -106,24 +100,20 @@ readable_image k kept fits =
         within = kept.within;
         limit_fits = kept.limit_fits;
         parts = record {
-          header = read_header ∙ ap (λ (xs : List Field). Some (xs, p ++ text)) (sym fields) ∙ ap (λ (b : List ℕ). Some (header_in v image, b)) (sym after_header);
+          header = rw (fields, after_header) read_header;
           principal_within = omega (arith, len);
-          principal = read_name ∙ ap (λ (q : Parts). Some (q, text)) (sym name) ∙ ap (λ (b : List ℕ). Some (principal_in (drop (2 + length h) image), b)) (sym after_name);
+          principal = rw (name, after_name) read_name;
           first_within = omega (arith, len, len_p);
-          end = ap (λ (c : Contents CredParts (List ℕ)). end_from (first_place k) (map (store_cell v) c.cells)) (sym same);
+          end = rw same refl;
           end_within = omega (arith, len, len_p, len_t, end_is v (first_place k) k.contents.cells);
         };
       };
-      state =
-          ap (λ (xs : List Field). record { version = v; limit = k.limit; header = xs; principal = principal_in (drop (2 + length h) image); contents = contents (credentials_format v) (drop (first_place k) image) }) fields
-          ∙ ap (λ (q : Parts). record { version = v; limit = k.limit; header = k.header; principal = q; contents = contents (credentials_format v) (drop (first_place k) image) }) name
-          ∙ ap (λ (c : Contents CredParts (List ℕ)). record { version = v; limit = k.limit; header = k.header; principal = k.principal; contents = c }) same;
+      state = rw (fields, name, same) refl;
     }
 
 -- the image of a readable cache, with its layout, holds that cache
 pub holds : (k : CacheState) (h : Layout) (image : List ℕ) → IsReadable k → IsBytes image → image ≡ image_of k → h ≡ layout_of k → Holds h image k
-holds k h image kept fits is known =
-    subst (λ (b : List ℕ). Holds h b k) (sym is) (subst (λ (x : Layout). Holds x (image_of k) k) (sym known) (readable_image k kept (subst IsBytes is fits)))
+holds k h image kept fits is known = rw (is, known) (readable_image k kept (subst IsBytes is fits))
 
 -- the layout of an image is that of the cache that it holds
 pub layout_is : (h : Layout) (image : List ℕ) → IsBytes image → IsImage h image → h ≡ layout_of (cache_of h image)
@@ -133,7 +123,4 @@ layout_is h image fits is =
     let xs = header_in v image in
     let t : Takes (drop 2 image) (header v xs) (drop h.places.principal image) = header_takes v (drop 2 image) (xs, drop h.places.principal image) (IsBytes-drop 2 image fits) is.parts.header in
     let principal : h.places.principal ≡ 2 + length (header v xs) = omega (arith, is.long, is.parts.principal_within, ap length t.parts, length-append (header v xs) (drop h.places.principal image), length-drop 2 image, length-drop h.places.principal image) in
-    let end = end_held h image k is in
-    ap (λ (n : ℕ). record { version = v; limit = h.limit; places = record { principal = n; first = h.places.first; end = h.places.end } }) principal
-    ∙ ap (λ (n : ℕ). record { version = v; limit = h.limit; places = record { principal = 2 + length (header v xs); first = n; end = h.places.end } }) k.first
-    ∙ ap (λ (n : ℕ). record { version = v; limit = h.limit; places = record { principal = 2 + length (header v xs); first = first_place (cache_of h image); end = n } }) end
+    rw (← end_held h image k is, ← k.first, ← principal) refl

@@ -1,5 +1,5 @@
 -- The credentials that bytes begin with, one after the other.
-use Rattle.krb_ccache.proofs.Cited.{◌++◌, take, drop, Option, ◌≡◌, ℕ, ◌+◌, List, [], ◌∷◌, length, map, ap, ◌∙◌, length-append, arith, ◌-◌, ◌^◌, ◌<◌, ◌≤◌, Some, None, refl, sym, flat_map, AllByRecursion, take_at, drop_at, flat_map-cons, Big, data32, cc_principal, IsBytes, wide32, contents, IsCell, end_from, ReadsOne, reads_one, reads_none, IsFormat, unframed_cell, unframed_format, seen_in, Version, CredParts, number32, credential, credential_at, is_marked, FitsCredential, credentials_format, store_cell, live_by, CredentialsFrom, BeginsWithCredential}
+use Rattle.krb_ccache.proofs.Cited.{◌++◌, take, drop, Option, ◌≡◌, ℕ, ◌+◌, List, [], ◌∷◌, length, map, ap, ◌∙◌, length-append, arith, ◌-◌, ◌^◌, ◌<◌, ◌≤◌, Some, None, refl, flat_map, AllByRecursion, take_at, drop_at, flat_map-cons, Big, data32, cc_principal, IsBytes, wide32, contents, IsCell, end_from, ReadsOne, reads_one, reads_none, IsFormat, unframed_cell, unframed_format, seen_in, Version, CredParts, number32, credential, credential_at, is_marked, FitsCredential, credentials_format, store_cell, live_by, CredentialsFrom, BeginsWithCredential}
 use Rattle.krb_cells.proofs.Formats.{IsSeen}
 use Rattle.krb_ccache.proofs.CredentialField.{credential_field}
 
@@ -17,8 +17,7 @@ credentials_seen v = record {
 -- credentials that begin at a place end at that place plus the length of their spelling
 pub end_is : (v : Version) (at : ℕ) (cs : List CredParts) → end_from at (map (store_cell v) cs) ≡ at + length (flat_map (credential v) cs)
 end_is v at [] = omega arith
-end_is v at (c ∷ cs) =
-    end_is v (at + length (credential v c)) cs ∙ omega (arith, ap length (flat_map-cons (credential v) c cs), length-append (credential v c) (flat_map (credential v) cs))
+end_is v at (c ∷ cs) = search (arith, end_is v (at + length (credential v c)) cs, flat_map-cons, length-append)
 
 -- one credential was read from the front
 pub read_one : (v : Version) (bytes : List ℕ) (c : CredParts) (after : List ℕ) → IsBytes bytes → credential_at v bytes ≡ Some (c, after) → ReadsOne (credentials_format v) bytes c after
@@ -42,24 +41,13 @@ cell_first v bytes c after live fits e is_live =
     let width : length (credential v c) ≡ n = omega (arith, r.len) in
     let taken : take n bytes ≡ credential v c = ap (take n) t.parts ∙ take_at (credential v c) after n width in
     let left : drop n bytes ≡ after = ap (drop n) t.parts ∙ drop_at (credential v c) after n width in
-    let others = seen_in (credentials_format v) (store_cell v) (drop n bytes) in
-    ap (map (store_cell v)) r.cells ∙ ap (λ (b : List ℕ). store_cell v c ∷ seen_in (credentials_format v) (store_cell v) b) (sym left)
-    ∙ ap (λ (m : ℕ). record { width = m; live = live_by (is_marked c) (credential v c) } ∷ others) width
-    ∙ ap (λ (o : Option (List ℕ)). record { width = n; live = o } ∷ others) (sym (is_live ∙ ap (live_by (is_marked c)) taken))
+    rw (is_live, taken, left, ← width) (ap (map (store_cell v)) r.cells)
 
 -- a credential that was read is the first of those that the bytes begin with
 pub begins : (v : Version) (place : ℕ) (bytes : List ℕ) (c : CredParts) (after : List ℕ) (old : CredentialsFrom) → ReadsOne (credentials_format v) bytes c after → place + length bytes ≤ 2 ^ 30
     → ◌≡◌ {A = CredentialsFrom} (record { version = v; place = place; cells = (contents (credentials_format v) bytes).cells }) old → BeginsWithCredential old place c (record { version = v; place = place + (length bytes - length after); cells = (contents (credentials_format v) after).cells })
 begins v place bytes c after old r small is =
-    let version : v ≡ old.version = ap (λ (x : CredentialsFrom). x.version) is in
-    let next : place + (length bytes - length after) ≡ place + length (credential v c) = omega (arith, r.len) in
-    record {
-      place = ap (λ (x : CredentialsFrom). x.place) is;
-      cells = ap (λ (x : CredentialsFrom). x.cells) (sym is) ∙ r.cells;
-      next = next ∙ ap (λ (w : Version). place + length (credential w c)) version;
-      version = version;
-      small = omega (arith, r.len, small);
-    }
+    rw (← is) (record { place = refl; cells = r.cells; next = omega (arith, r.len); version = refl; small = omega (arith, r.len, small) })
 
 -- one credential fewer is left
 pub fewer_left : (old new : CredentialsFrom) (at : ℕ) (c : CredParts) → BeginsWithCredential old at c new → length new.cells < length old.cells

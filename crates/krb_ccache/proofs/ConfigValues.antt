@@ -1,16 +1,13 @@
 -- After a value is set, exactly one live entry matches.
-use Rattle.krb_ccache.proofs.Cited.{◌≡◌, ℕ, ◌+◌, ◌≤◌, Bool, true, false, List, [], ◌∷◌, ◌++◌, length, map, Option, Some, None, Result, Ok, refl, sym, ap, subst, ◌∙◌, arith, nat_tests, Parts, Code, end_from, end_of, live_bytes, Version, V4, CredParts, credential, is_marked, CacheState, PlacedCredential, store_of, store_cell, first_place, placed_from, is_live, live_of, placed_credentials, credential_at_place, QueryParts, is_match, query_of, add_mark, add_mark_at, with_mark, cut_result, put_result, with_last, without, is_read_only, config_entry, matches_of, HoldsConfig}
-use Rattle.std.specs.Prelude.{filter, find, option_map, not, ◌==◌, ◌&&◌}
+use Rattle.krb_ccache.proofs.Cited.{◌≡◌, ℕ, ◌+◌, ◌≤◌, Bool, true, false, List, [], ◌∷◌, ◌++◌, length, map, Option, Some, Result, Ok, refl, sym, ap, subst, ◌∙◌, arith, nat_tests, Parts, Code, end_from, end_of, Version, V4, CredParts, credential, is_marked, CacheState, PlacedCredential, store_of, store_cell, first_place, placed_from, is_live, live_of, credential_at_place, QueryParts, is_match, query_of, add_mark_at, with_mark, cut_result, put_result, with_last, without, config_entry, matches_of, HoldsConfig, filter, find, not, ◌==◌, ◌&&◌, cut_store, ok_is}
 use Rattle.std.specs.Str.{bytes_eq}
 use Rattle.std.proofs.lemmas.List.Elements.{filter-append}
 use Rattle.std.proofs.lemmas.Slice.Eq.{bytes_eq-Decides}
 use Rattle.krb_wire.specs.Names.{have_same_name}
 use Rattle.krb_wire.proofs.NamesCompared.{same_name_is}
-use Rattle.krb_walk.specs.Events.{cut_store}
 use Rattle.krb_ccache.proofs.CredentialField.{credential_field}
 use Rattle.krb_ccache.proofs.MarkLemmas.{marked_len, unmarked_by, unmarked_after}
 use Rattle.krb_ccache.proofs.Splits.{live_is}
-use Rattle.krb_wire.proofs.Fields.{ok_is}
 
 same_bytes : (b : List ℕ) → bytes_eq b b ≡ true
 same_bytes b = (bytes_eq-Decides b b).1 refl
@@ -20,8 +17,7 @@ name_same p = sym (same_name_is p p true (λ e. (refl, refl)) (λ realm componen
 
 -- the entry of a value matches
 match_by : (owner : Parts) (key : List ℕ) (text : Option (List ℕ)) (value : List ℕ) → is_match (record { owner = owner; key = key; principal = text }) (config_entry owner key text value) ≡ true
-match_by owner key None value = rw (same_bytes key, name_same owner) refl
-match_by owner key (Some t) value = rw (same_bytes key, same_bytes t, name_same owner) refl
+match_by owner key text value = search (arith, same_bytes, name_same)
 
 -- the live credentials that match, with their places
 abbrev matches_from : Version → QueryParts → ℕ → List CredParts → List PlacedCredential
@@ -32,13 +28,11 @@ abbrev matches_in : QueryParts → CacheState → List PlacedCredential
 matches_in q k = matches_from k.version q (first_place k) k.contents.cells
 
 taken : (v : Version) (q : QueryParts) (at : ℕ) (c : CredParts) (cs : List CredParts) → is_marked c ≡ false → is_match q c ≡ true → matches_from v q at (c ∷ cs) ≡ (at, c) ∷ matches_from v q (at + length (credential v c)) cs
-taken v q at c cs live matches = rw (live, matches) refl
+taken v q at c cs live matches = search arith
 
 passed : (v : Version) (q : QueryParts) (at : ℕ) (c : CredParts) (cs : List CredParts) (marked matched : Bool) → is_marked c ≡ marked → is_match q c ≡ matched → (not marked && matched) ≡ false
     → matches_from v q at (c ∷ cs) ≡ matches_from v q (at + length (credential v c)) cs
-passed v q at c cs true matched m e none = rw m refl
-passed v q at c cs false false m e none = rw (m, e) refl
-passed v q at c cs false true m e none = absurd cc
+passed v q at c cs marked matched m e none = search arith
 
 -- ---- the first of them
 
@@ -51,17 +45,11 @@ record IsFirst (v : Version) (q : QueryParts) (at : ℕ) (cs : List CredParts) (
 -- the first match is the first credential
 first_here : (v : Version) (q : QueryParts) (at p : ℕ) (c : CredParts) (cs : List CredParts) (rest : List PlacedCredential) → at ≡ p → is_marked c ≡ false → matches_from v q (at + length (credential v c)) cs ≡ rest → IsFirst v q at (c ∷ cs) p c rest
 first_here v q at p c cs rest is live others =
-    let next = at + length (credential v c) in
     let here : (at == p) ≡ true = grind (arith, nat_tests) in
-    let found : find (λ x. x.0 == p) (placed_from v at (c ∷ cs)) ≡ Some (at, c) = rw here refl in
-    let marked : add_mark_at v at p (c ∷ cs) ≡ add_mark c ∷ add_mark_at v next p cs = rw here refl in
     record {
       from = omega (arith, is);
-      there = ap live_of found ∙ rw live refl;
-      left =
-          ap (matches_from v q at) (marked ∙ ap (λ (xs : List CredParts). add_mark c ∷ xs) (unmarked_after v next p cs (omega (arith, is, (credential_field v).nonempty c))))
-          ∙ passed v q at (add_mark c) cs true (is_match q (add_mark c)) refl refl refl
-          ∙ ap (λ (n : ℕ). matches_from v q (at + n) cs) (marked_len v c) ∙ others;
+      there = rw (here, live) refl;
+      left = rw (here, unmarked_after v (at + length (credential v c)) p cs (omega (arith, is, (credential_field v).nonempty c)), marked_len v c) others;
     }
 
 -- the first match comes after the first credential
@@ -69,11 +57,7 @@ first_after : (v : Version) (q : QueryParts) (at p : ℕ) (c d : CredParts) (cs 
     → IsFirst v q (at + length (credential v d)) cs p c rest → IsFirst v q at (d ∷ cs) p c rest
 first_after v q at p c d cs rest skips first =
     let apart : (at == p) ≡ false = grind (arith, nat_tests, (credential_field v).nonempty d, first.from) in
-    record {
-      from = omega (arith, first.from);
-      there = rw apart first.there;
-      left = ap (matches_from v q at) (unmarked_by v at p d cs apart) ∙ skips (add_mark_at v (at + length (credential v d)) p cs) ∙ first.left;
-    }
+    record { from = omega (arith, first.from); there = rw apart first.there; left = ap (matches_from v q at) (unmarked_by v at p d cs apart) ∙ skips (add_mark_at v (at + length (credential v d)) p cs) ∙ first.left }
 
 first_by : (v : Version) (q : QueryParts) (at p : ℕ) (c d : CredParts) (cs : List CredParts) (rest : List PlacedCredential) (marked matched : Bool) → is_marked d ≡ marked → is_match q d ≡ matched
     → (matches_from v q (at + length (credential v d)) cs ≡ (p, c) ∷ rest → IsFirst v q (at + length (credential v d)) cs p c rest) → matches_from v q at (d ∷ cs) ≡ (p, c) ∷ rest → IsFirst v q at (d ∷ cs) p c rest
@@ -94,10 +78,7 @@ first_is v q at p c (d ∷ cs) rest is = first_by v q at p c d cs rest (is_marke
 -- ---- removals of the first ones
 
 cut_there : (k : CacheState) (p : ℕ) (c : CredParts) → k.version ≡ V4 → k.contents.end ≡ [] → credential_at_place k p ≡ Some c → cut_result k p ≡ Ok (with_mark k p)
-cut_there k p c version whole there =
-    let live : live_bytes (store_of k) p ≡ Some (credential k.version c) = live_is k.version (first_place k) p k.contents.cells ∙ ap (option_map (credential k.version)) there in
-    let writes : is_read_only k.version ≡ false = ap is_read_only version in
-    rw (writes, whole, live) refl
+cut_there k p c version whole there = search (arith, live_is)
 
 -- the matches after them are left
 cut_matches : (q : QueryParts) (k : CacheState) (xs ys : List PlacedCredential) → k.version ≡ V4 → k.contents.end ≡ [] → matches_in q k ≡ xs ++ ys
@@ -114,35 +95,16 @@ cut_matches q k (x ∷ xs) ys version whole is =
 
 placed_last : (v : Version) (at : ℕ) (cs : List CredParts) (c : CredParts) → placed_from v at (cs ++ c ∷ []) ≡ placed_from v at cs ++ (end_from at (map (store_cell v) cs), c) ∷ []
 placed_last v at [] c = refl
-placed_last v at (d ∷ cs) c = ap (λ (xs : List PlacedCredential). (at, d) ∷ xs) (placed_last v (at + length (credential v d)) cs c)
+placed_last v at (d ∷ cs) c = search (arith, placed_last v (at + length (credential v d)) cs c)
 
 -- the new entry is the last match
 match_last : (q : QueryParts) (k : CacheState) (c : CredParts) → is_marked c ≡ false → is_match q c ≡ true → matches_in q (with_last k c) ≡ matches_in q k ++ (end_of (store_of k), c) ∷ []
-match_last q k c live matches =
-    let asks : PlacedCredential → Bool = λ x. is_match q x.1 in
-    let all = placed_from k.version (first_place k) k.contents.cells in
-    let last : List PlacedCredential = (end_of (store_of k), c) ∷ [] in
-    let one : filter asks (filter is_live last) ≡ last = rw (live, matches) refl in
-    ap (λ (xs : List PlacedCredential). filter asks (filter is_live xs)) (placed_last k.version (first_place k) k.contents.cells c)
-    ∙ ap (filter asks) (filter-append is_live all last) ∙ filter-append asks (filter is_live all) (filter is_live last)
-    ∙ ap (λ (xs : List PlacedCredential). filter asks (filter is_live all) ++ xs) one
-
-found_by : (p : PlacedCredential → Bool) (x : PlacedCredential) (xs : List PlacedCredential) (y : PlacedCredential) (b : Bool) → p x ≡ b → (filter p xs ≡ y ∷ [] → find p xs ≡ Some y) → filter p (x ∷ xs) ≡ y ∷ [] → find p (x ∷ xs) ≡ Some y
-found_by p x xs y true e ih is =
-    let kept : filter p (x ∷ xs) ≡ x ∷ filter p xs = rw e refl in
-    let same : x ∷ filter p xs ≡ y ∷ [] = sym kept ∙ is in
-    let found : find p (x ∷ xs) ≡ Some x = rw e refl in
-    let first : x ≡ y = cc in
-    found ∙ ap (λ (z : PlacedCredential). Some z) first
-found_by p x xs y false e ih is =
-    let passed : filter p (x ∷ xs) ≡ filter p xs = rw e refl in
-    let next : find p (x ∷ xs) ≡ find p xs = rw e refl in
-    next ∙ ih (sym passed ∙ is)
+match_last q k c live matches = search (arith, placed_last, filter-append)
 
 -- the only match is the first
 only_first : (p : PlacedCredential → Bool) (xs : List PlacedCredential) (y : PlacedCredential) → filter p xs ≡ y ∷ [] → find p xs ≡ Some y
 only_first p [] y is = absurd cc
-only_first p (x ∷ xs) y is = found_by p x xs y (p x) refl (only_first p xs y) is
+only_first p (x ∷ xs) y is = search (arith, only_first p xs y)
 
 -- ---- after a value was set
 
@@ -152,13 +114,7 @@ pub record IsSet (k new : CacheState) (key : List ℕ) (text : Option (List ℕ)
   pub there : credential_at_place new place ≡ Some (config_entry k.principal key text value)
 
 set_by : (k new : CacheState) (key : List ℕ) (text : Option (List ℕ)) (value : List ℕ) (p : ℕ) → new.principal ≡ k.principal → matches_in (query_of k key text) new ≡ (p, config_entry k.principal key text value) ∷ [] → IsSet k new key text value p
-set_by k new key text value p owner all =
-    let one : matches_of new key text ≡ (p, config_entry new.principal key text value) ∷ [] =
-    subst (λ (o : Parts). matches_in (record { owner = o; key = key; principal = text }) new ≡ (p, config_entry o key text value) ∷ []) (sym owner) all in
-    record {
-      holds = record { one = one; gives = ap (option_map (λ (x : PlacedCredential). x.1.ticket)) (only_first (λ x. is_match (query_of new key text) x.1) (placed_credentials new) _ one) };
-      there = (first_is new.version (query_of k key text) (first_place new) p (config_entry k.principal key text value) new.contents.cells [] all).there;
-    }
+set_by k new key text value p owner all = search (arith, only_first, first_is)
 
 pub is_set : (k mid : CacheState) (key : List ℕ) (text : Option (List ℕ)) (value : List ℕ) (p : ℕ) → k.version ≡ V4 → k.contents.end ≡ [] → put_result k (config_entry k.principal key text value) ≡ Ok (end_of (store_of k), with_last k (config_entry k.principal key text value))
     → put_result k (config_entry k.principal key text value) ≡ Ok (p, mid) → IsSet k (without mid (map (λ x. x.0) (matches_of k key text))) key text value p

@@ -1,15 +1,9 @@
 -- Each field of a credential is spelled by the bytes that it is read from, and is read back from its spelling.
-use Rattle.krb_ccache.proofs.Cited.{◌≡◌, ℕ, ◌^◌, ◌<◌, List, [], ◌∷◌, ◌++◌, length, Option, Some, refl, sym, ap, subst, ◌∙◌, append_assoc, length-append, arith, flat_map, Width, w16, w32, Big, digits, data32, ◌>>=◌, byte_at, number_at, data32_at, IsBytes, IsWide, bind_some, some_is, Takes, Takes-then, wide16, wide32, number_takes, number_again, length_list, list_takes, list_again, IsField, data32_field, Version, V3, V4, TypedData, Key, number32, typed_data, typed_list, second_enctype_field, key, times, FitsTypedData, FitsTypedList, FitsSecondEnctype, FitsKey, FitsTimes, typed_data_at, typed_list_at, second_enctype_at, key_at, times_at}
-use Rattle.krb_ccache.specs.declared.credential.times.Times.{Times}
-use Rattle.krb_wire.proofs.Fields.{byte_takes}
+use Rattle.krb_ccache.proofs.Cited.{◌≡◌, ℕ, ◌^◌, ◌<◌, List, [], ◌∷◌, ◌++◌, length, Option, Some, refl, sym, ap, subst, ◌∙◌, append_assoc, length-append, arith, flat_map, Width, w16, w32, Big, digits, data32, ◌>>=◌, byte_at, number_at, data32_at, IsBytes, IsWide, bind_some, some_is, Takes, Takes-then, wide16, wide32, number_takes, number_again, length_list, list_takes, list_again, IsField, data32_field, Version, V3, V4, TypedData, Key, number32, typed_data, typed_list, second_enctype_field, key, times, FitsTypedData, FitsTypedList, FitsSecondEnctype, FitsKey, FitsTimes, typed_data_at, typed_list_at, second_enctype_at, key_at, times_at, Times, byte_takes}
 
 -- a number of a given width
 pub number_field : (w : Width) (limit : ℕ) → IsWide Big w limit → (0 < length (digits Big w 0)) → IsField (number_at Big w) (digits Big w) (λ n. n < limit)
-number_field w limit wide some = record {
-  takes = λ bytes x fits e. number_takes Big w limit wide bytes x.0 x.1 fits e;
-  again = λ n rest lt. number_again Big w limit wide n rest lt;
-  nonempty = λ n. omega (arith, some, wide.len n, wide.len 0);
-}
+number_field w limit wide some = search (arith, number_takes, number_again, wide, some)
 
 pub field16 : IsField (number_at Big w16) (digits Big w16) (λ n. n < 2 ^ 16)
 field16 = number_field w16 (2 ^ 16) (wide16 Big) (omega (arith, (wide16 Big).len 0))
@@ -18,15 +12,11 @@ pub field32 : IsField (number_at Big w32) (digits Big w32) (λ n. n < 2 ^ 32)
 field32 = number_field w32 (2 ^ 32) (wide32 Big) (omega (arith, (wide32 Big).len 0))
 
 pub byte_field : IsField byte_at (λ n. n ∷ []) (λ n. n < 256)
-byte_field = record {
-  takes = byte_takes;
-  again = λ n rest lt. refl;
-  nonempty = λ n. omega arith;
-}
+byte_field = search (arith, byte_takes)
 
--- two parts before what follows, regrouped by `append_assoc`
-pub part_first : (a b rest all : List ℕ) → b ++ rest ≡ all → (a ++ b) ++ rest ≡ a ++ all
-part_first a b rest all e = append_assoc a b rest ∙ ap (λ (t : List ℕ). a ++ t) e
+-- three parts before what follows
+pub three_first : (a b c rest : List ℕ) → (a ++ (b ++ c)) ++ rest ≡ a ++ (b ++ (c ++ rest))
+three_first a b c rest = simp append_assoc
 
 -- a list that begins with a nonempty one is nonempty
 pub some_more : (a b : List ℕ) → 0 < length a → 0 < length (a ++ b)
@@ -45,12 +35,8 @@ step {read = read} field bytes f y fits e others =
 typed_takes : (bytes : List ℕ) (x : TypedData × List ℕ) → IsBytes bytes → typed_data_at bytes ≡ Some x → Takes bytes (typed_data x.0) x.1 × FitsTypedData x.0
 unfolding typed_data_at
 typed_takes bytes x fits e =
-    let k = bind_some (number_at Big w16 bytes) _ x e in
-    let t = bind_some (data32_at Big k.0.1) _ x k.2 in
-    let tk = field16.takes bytes k.0 fits k.1 in
-    let tt = (data32_field Big).takes k.0.1 t.0 tk.0.rest_fits t.1 in
-    subst (λ (y : TypedData × List ℕ). Takes bytes (typed_data y.0) y.1 × FitsTypedData y.0) (some_is (record { kind = k.0.0; bytes = t.0.0 }, t.0.1) x t.2)
-    (Takes-then _ _ _ _ _ tk.0 tt.0, record { kind = tk.1; bytes = tt.1 })
+    step field16 bytes _ x fits e (λ kind r1 t1 f1 e1. step (data32_field Big) r1 _ x t1.rest_fits e1 (λ text r2 t2 f2 e2.
+    rw (← some_is (record { kind = kind; bytes = text }, r2) x e2) (Takes-then _ _ _ _ _ t1 t2, record { kind = f1; bytes = f2 })))
 
 typed_again : (x : TypedData) (rest : List ℕ) → FitsTypedData x → typed_data_at (typed_data x ++ rest) ≡ Some (x, rest)
 unfolding typed_data_at
@@ -59,20 +45,15 @@ typed_again x rest fits =
     ∙ rw (field16.again x.kind (data32 Big x.bytes ++ rest) fits.kind, (data32_field Big).again x.bytes rest fits.bytes) refl
 
 pub typed_field : IsField typed_data_at typed_data FitsTypedData
-typed_field = record {
-  takes = λ bytes x fits e. typed_takes bytes x fits e;
-  again = λ x rest fits. typed_again x rest fits;
-  nonempty = λ x. some_more (digits Big w16 x.kind) (data32 Big x.bytes) (field16.nonempty x.kind);
-}
+typed_field = search (arith, typed_takes, typed_again, some_more, field16)
 
 typed_list_takes : (bytes : List ℕ) (x : List TypedData × List ℕ) → IsBytes bytes → typed_list_at bytes ≡ Some x → Takes bytes (typed_list x.0) x.1 × FitsTypedList x.0
 unfolding typed_list_at
 typed_list_takes bytes x fits e =
-    let n = bind_some (number_at Big w32 bytes) _ x e in
-    let tn = field32.takes bytes n.0 fits n.1 in
-    let tx = list_takes typed_field n.0.0 n.0.1 x tn.0.rest_fits n.2 in
-    let count : n.0.0 ≡ length x.0 = sym (length_list typed_data_at n.0.0 n.0.1 x n.2) in
-    (subst (λ (m : ℕ). Takes bytes (number32 m ++ flat_map typed_data x.0) x.1) count (Takes-then _ _ _ _ _ tn.0 tx.0), record { count = subst (λ (m : ℕ). m < 2 ^ 32) count tn.1; each = tx.1 })
+    step field32 bytes _ x fits e (λ n r1 t1 f1 e1.
+    let tx = list_takes typed_field n r1 x t1.rest_fits e1 in
+    let count : n ≡ length x.0 = sym (length_list typed_data_at n r1 x e1) in
+    (subst (λ (m : ℕ). Takes bytes (number32 m ++ flat_map typed_data x.0) x.1) count (Takes-then _ _ _ _ _ t1 tx.0), record { count = subst (λ (m : ℕ). m < 2 ^ 32) count f1; each = tx.1 }))
 
 typed_list_again : (xs : List TypedData) (rest : List ℕ) → FitsTypedList xs → typed_list_at (typed_list xs ++ rest) ≡ Some (xs, rest)
 unfolding typed_list_at
@@ -81,11 +62,7 @@ typed_list_again xs rest fits =
     ∙ rw (field32.again (length xs) (flat_map typed_data xs ++ rest) fits.count) (list_again typed_field xs rest fits.each)
 
 pub typed_list_field : IsField typed_list_at typed_list FitsTypedList
-typed_list_field = record {
-  takes = λ bytes x fits e. typed_list_takes bytes x fits e;
-  again = λ xs rest fits. typed_list_again xs rest fits;
-  nonempty = λ xs. some_more (number32 (length xs)) (flat_map typed_data xs) (field32.nonempty (length xs));
-}
+typed_list_field = search (arith, typed_list_takes, typed_list_again, some_more, field32)
 
 -- ---- keys
 
@@ -94,8 +71,7 @@ again_takes V3 bytes x fits e = field16.takes bytes x fits e
 again_takes V4 bytes x fits e = subst (λ (y : ℕ × List ℕ). Takes bytes [] y.1 × (y.0 ≡ 0)) (some_is (0, bytes) x e) (record { parts = refl; rest_fits = fits }, refl)
 
 again_again : (v : Version) (n : ℕ) (rest : List ℕ) → FitsSecondEnctype v n → second_enctype_at v (second_enctype_field v n ++ rest) ≡ Some (n, rest)
-again_again V3 n rest h = field16.again n rest h
-again_again V4 n rest h = ap (λ (m : ℕ). Some (m, rest)) (sym h)
+again_again v n rest h = search (arith, field16)
 
 key_takes : (v : Version) (bytes : List ℕ) (x : Key × List ℕ) → IsBytes bytes → key_at v bytes ≡ Some x → Takes bytes (key v x.0) x.1 × FitsKey v x.0
 unfolding key_at
@@ -112,42 +88,27 @@ key_takes v bytes x fits e =
 key_again : (v : Version) (k : Key) (rest : List ℕ) → FitsKey v k → key_at v (key v k ++ rest) ≡ Some (k, rest)
 unfolding key_at
 key_again v k rest fits =
-    ap (key_at v) (part_first (digits Big w16 k.enctype) (second_enctype_field v k.second_enctype ++ data32 Big k.bytes) rest _ (part_first (second_enctype_field v k.second_enctype) (data32 Big k.bytes) rest _ refl))
+    ap (key_at v) (three_first (digits Big w16 k.enctype) (second_enctype_field v k.second_enctype) (data32 Big k.bytes) rest)
     ∙ rw (field16.again k.enctype (second_enctype_field v k.second_enctype ++ (data32 Big k.bytes ++ rest)) fits.enctype, again_again v k.second_enctype (data32 Big k.bytes ++ rest) fits.second_enctype, (data32_field Big).again k.bytes rest fits.bytes) refl
 
 pub key_field : (v : Version) → IsField (key_at v) (key v) (FitsKey v)
-key_field v = record {
-  takes = λ bytes x fits e. key_takes v bytes x fits e;
-  again = λ k rest fits. key_again v k rest fits;
-  nonempty = λ k. some_more (digits Big w16 k.enctype) (second_enctype_field v k.second_enctype ++ data32 Big k.bytes) (field16.nonempty k.enctype);
-}
+key_field v = search (arith, key_takes, key_again, some_more, field16)
 
 -- ---- times
 
 times_takes : (bytes : List ℕ) (x : Times × List ℕ) → IsBytes bytes → times_at bytes ≡ Some x → Takes bytes (times x.0) x.1 × FitsTimes x.0
 unfolding times_at
 times_takes bytes x fits e =
-    step field32 bytes _ x fits e (λ authtime r1 t1 f1 e1.
-    step field32 r1 _ x t1.rest_fits e1 (λ starttime r2 t2 f2 e2.
-    step field32 r2 _ x t2.rest_fits e2 (λ endtime r3 t3 f3 e3.
-    step field32 r3 _ x t3.rest_fits e3 (λ renew_till r4 t4 f4 e4.
-    let P : Times × List ℕ → Type 0 = λ y. Takes bytes (times y.0) y.1 × FitsTimes y.0 in
-    let made : Times = record { authtime = authtime; starttime = starttime; endtime = endtime; renew_till = renew_till } in
-    subst P (some_is (made, r4) x e4) (Takes-then _ _ _ _ _ t1 (Takes-then _ _ _ _ _ t2 (Takes-then _ _ _ _ _ t3 t4)), record { authtime = f1; starttime = f2; endtime = f3; renew_till = f4 })))))
+    step field32 bytes _ x fits e (λ authtime r1 t1 f1 e1. step field32 r1 _ x t1.rest_fits e1 (λ starttime r2 t2 f2 e2.
+    step field32 r2 _ x t2.rest_fits e2 (λ endtime r3 t3 f3 e3. step field32 r3 _ x t3.rest_fits e3 (λ renew_till r4 t4 f4 e4.
+    rw (← some_is (record { authtime = authtime; starttime = starttime; endtime = endtime; renew_till = renew_till }, r4) x e4)
+    (Takes-then _ _ _ _ _ t1 (Takes-then _ _ _ _ _ t2 (Takes-then _ _ _ _ _ t3 t4)), record { authtime = f1; starttime = f2; endtime = f3; renew_till = f4 })))))
 
 times_again : (t : Times) (rest : List ℕ) → FitsTimes t → times_at (times t ++ rest) ≡ Some (t, rest)
 unfolding times_at
 times_again t rest fits =
-    let a = number32 t.authtime in
-    let b = number32 t.starttime in
-    let d = number32 t.endtime in
-    let f = number32 t.renew_till in
-    ap times_at (part_first a (b ++ (d ++ f)) rest _ (part_first b (d ++ f) rest _ (part_first d f rest _ refl)))
-    ∙ rw (field32.again t.authtime (b ++ (d ++ (f ++ rest))) fits.authtime, field32.again t.starttime (d ++ (f ++ rest)) fits.starttime, field32.again t.endtime (f ++ rest) fits.endtime, field32.again t.renew_till rest fits.renew_till) refl
+    let split : times t ++ rest ≡ number32 t.authtime ++ (number32 t.starttime ++ (number32 t.endtime ++ (number32 t.renew_till ++ rest))) = simp append_assoc in
+    ap times_at split ∙ rw (field32.again t.authtime _ fits.authtime, field32.again t.starttime _ fits.starttime, field32.again t.endtime _ fits.endtime, field32.again t.renew_till rest fits.renew_till) refl
 
 pub times_field : IsField times_at times FitsTimes
-times_field = record {
-  takes = λ bytes x fits e. times_takes bytes x fits e;
-  again = λ t rest fits. times_again t rest fits;
-  nonempty = λ t. some_more (number32 t.authtime) (number32 t.starttime ++ (number32 t.endtime ++ number32 t.renew_till)) (field32.nonempty t.authtime);
-}
+times_field = search (arith, times_takes, times_again, some_more, field32)

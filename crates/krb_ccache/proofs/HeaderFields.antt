@@ -1,17 +1,12 @@
 -- A header is spelled by the bytes that it is read from.
-use Rattle.krb_ccache.proofs.Cited.{◌≡◌, ℕ, ◌<◌, List, [], ◌∷◌, ◌++◌, length, Some, refl, ap, subst, ◌∙◌, append_assoc, arith, Option, None, is_some, ◌==◌, flat_map, filter_map, cons_option, nat_tests, append-nil, w16, Big, digits, data16, number_at, data16_at, IsBytes, bind_some, some_is, Takes, Takes-then, IsField, data16_field, Contents, contents, IsFormat, contents_spelled, unframed_format, reads_one, reads_none, Version, V3, V4, Offset, Field, field, FitsField, header, field_at, fields_format, only_cells, fields_in, header_at, offset_of, first_of}
-use Rattle.krb_ccache.proofs.Fields.{field16, some_more}
-use Rattle.krb_wire.proofs.Fields.{IsBytes-front, IsBytes-back}
+use Rattle.krb_ccache.proofs.Cited.{nat_tests, ◌≡◌, ℕ, ◌<◌, List, [], ◌++◌, length, Some, refl, ap, subst, ◌∙◌, append_assoc, arith, Option, None, is_some, ◌==◌, flat_map, filter_map, cons_option, append-nil, w16, Big, digits, data16, data16_at, IsBytes, bind_some, some_is, Takes, Takes-then, IsField, data16_field, Contents, contents, IsFormat, contents_spelled, unframed_format, reads_one, reads_none, Version, V3, V4, Offset, Field, field, FitsField, header, field_at, fields_format, only_cells, fields_in, header_at, offset_of, first_of, IsBytes-front, IsBytes-back}
+use Rattle.krb_ccache.proofs.Fields.{field16, some_more, step}
 
 field_takes : (bytes : List ℕ) (x : Field × List ℕ) → IsBytes bytes → field_at bytes ≡ Some x → Takes bytes (field x.0) x.1 × FitsField x.0
 unfolding field_at
 field_takes bytes x fits e =
-    let t = bind_some (number_at Big w16 bytes) _ x e in
-    let u = bind_some (data16_at Big t.0.1) _ x t.2 in
-    let tt = field16.takes bytes t.0 fits t.1 in
-    let tu = (data16_field Big).takes t.0.1 u.0 tt.0.rest_fits u.1 in
-    subst (λ (y : Field × List ℕ). Takes bytes (field y.0) y.1 × FitsField y.0) (some_is (record { tag = t.0.0; value = u.0.0 }, u.0.1) x u.2)
-    (Takes-then _ _ _ _ _ tt.0 tu.0, record { tag = tt.1; value = tu.1 })
+    step field16 bytes _ x fits e (λ tag r1 t1 f1 e1. step (data16_field Big) r1 _ x t1.rest_fits e1 (λ value r2 t2 f2 e2.
+    rw (← some_is (record { tag = tag; value = value }, r2) x e2) (Takes-then _ _ _ _ _ t1 t2, record { tag = f1; value = f2 })))
 
 field_again : (x : Field) (rest : List ℕ) → FitsField x → field_at (field x ++ rest) ≡ Some (x, rest)
 unfolding field_at
@@ -20,18 +15,13 @@ field_again x rest fits =
     ∙ rw (field16.again x.tag (data16 Big x.value ++ rest) fits.tag, (data16_field Big).again x.value rest fits.value) refl
 
 pub field_field : IsField field_at field FitsField
-field_field = record {
-  takes = λ bytes x fits e. field_takes bytes x fits e;
-  again = λ x rest fits. field_again x rest fits;
-  nonempty = λ x. some_more (digits Big w16 x.tag) (data16 Big x.value) (field16.nonempty x.tag);
-}
+field_field = search (arith, field_takes, field_again, some_more, field16)
 
 pub fields_are : IsFormat fields_format
 fields_are = unframed_format field_field
 
 whole_by : (bytes : List ℕ) (cells : List Field) (end : List ℕ) (xs : List Field) → bytes ≡ flat_map field cells ++ end → only_cells cells end ≡ Some xs → bytes ≡ flat_map field xs
-whole_by bytes cells [] xs parts e = parts ∙ append-nil (flat_map field cells) ∙ ap (flat_map field) (some_is cells xs e)
-whole_by bytes cells (b ∷ bs) xs parts e = absurd cc
+whole_by bytes cells end xs parts e = search (arith, append-nil, some_is)
 
 -- the fields spell the bytes that they fill
 pub fields_spell : (bytes : List ℕ) (xs : List Field) → IsBytes bytes → fields_in bytes ≡ Some xs → bytes ≡ flat_map field xs
@@ -53,22 +43,11 @@ header_takes V4 bytes x fits e =
 
 -- ---- one field after the other
 
-some_whole : (x : Field) (xs : List Field) (end : List ℕ) → is_some (only_cells (x ∷ xs) end) ≡ is_some (only_cells xs end)
-some_whole x xs [] = refl
-some_whole x xs (b ∷ bs) = refl
-
 pub fields_step : (bytes : List ℕ) (x : Field) (after : List ℕ) → IsBytes bytes → field_at bytes ≡ Some (x, after) → is_some (fields_in bytes) ≡ is_some (fields_in after)
-fields_step bytes x after fits e =
-    let r = reads_one field_field bytes x after fits e in
-    ap (λ (cs : List Field). is_some (only_cells cs (contents fields_format bytes).end)) r.cells ∙ ap (λ (b : List ℕ). is_some (only_cells (x ∷ (contents fields_format after).cells) b)) r.end
-    ∙ some_whole x (contents fields_format after).cells (contents fields_format after).end
-
-none_whole : (bytes : List ℕ) → is_some (only_cells (let none : List Field = [] in none) bytes) ≡ (length bytes == 0)
-none_whole [] = refl
-none_whole (b ∷ bs) = grind (arith, nat_tests)
+fields_step bytes x after fits e = let r = reads_one field_field bytes x after fits e in grind (arith, nat_tests, r.cells, r.end)
 
 pub fields_end : (bytes : List ℕ) → IsBytes bytes → field_at bytes ≡ None → is_some (fields_in bytes) ≡ (length bytes == 0)
-fields_end bytes fits e = ap (λ (k : Contents Field (List ℕ)). is_some (only_cells k.cells k.end)) (reads_none field_field bytes fits e) ∙ none_whole bytes
+fields_end bytes fits e = let none = reads_none field_field bytes fits e in grind (arith, nat_tests, none)
 
 pub field_shrinks : (bytes : List ℕ) (x : Field) (after : List ℕ) → IsBytes bytes → field_at bytes ≡ Some (x, after) → length after < length bytes
 field_shrinks bytes x after fits e = let r = reads_one field_field bytes x after fits e in let len = r.len in let some = r.some in omega (arith, len, some)
@@ -80,22 +59,14 @@ field_left bytes x after fits e = (reads_one field_field bytes x after fits e).f
 abbrev pub offset_among : List ℕ → Option Offset
 offset_among bytes = first_of (filter_map offset_of (contents fields_format bytes).cells)
 
-first_by : (o : Option Offset) (os : List Offset) (p : Offset) → o ≡ Some p → first_of (cons_option o os) ≡ Some p
-first_by (Some q) os p e = e
-first_by None os p e = absurd cc
-
-none_by : (o : Option Offset) (os : List Offset) → o ≡ None → first_of (cons_option o os) ≡ first_of os
-none_by (Some q) os e = absurd cc
-none_by None os e = refl
-
 offset_cons : (bytes : List ℕ) (x : Field) (after : List ℕ) → IsBytes bytes → field_at bytes ≡ Some (x, after) → offset_among bytes ≡ first_of (cons_option (offset_of x) (filter_map offset_of (contents fields_format after).cells))
 offset_cons bytes x after fits e = ap (λ (cs : List Field). first_of (filter_map offset_of cs)) (reads_one field_field bytes x after fits e).cells
 
 pub offset_found : (bytes : List ℕ) (x : Field) (after : List ℕ) (p : Offset) → IsBytes bytes → field_at bytes ≡ Some (x, after) → offset_of x ≡ Some p → offset_among bytes ≡ Some p
-offset_found bytes x after p fits e is = offset_cons bytes x after fits e ∙ first_by (offset_of x) _ p is
+offset_found bytes x after p fits e is = rw (offset_cons bytes x after fits e, is) refl
 
 pub offset_step : (bytes : List ℕ) (x : Field) (after : List ℕ) → IsBytes bytes → field_at bytes ≡ Some (x, after) → offset_of x ≡ None → offset_among bytes ≡ offset_among after
-offset_step bytes x after fits e is = offset_cons bytes x after fits e ∙ none_by (offset_of x) _ is
+offset_step bytes x after fits e is = rw (offset_cons bytes x after fits e, is) refl
 
 pub offset_end : (bytes : List ℕ) → IsBytes bytes → field_at bytes ≡ None → offset_among bytes ≡ None
 offset_end bytes fits e = ap (λ (k : Contents Field (List ℕ)). first_of (filter_map offset_of k.cells)) (reads_none field_field bytes fits e)

@@ -1,12 +1,11 @@
 -- Facts about an image that is a cache.
-use Rattle.krb_ccache.proofs.Cited.{◌≡◌, ◌≢◌, ℕ, ◌+◌, ◌-◌, ◌≤◌, List, [], ◌∷◌, ◌++◌, length, get_or, take, drop, map, Some, None, refl, ap, subst, ◌∙◌, length-append, arith, Ok, false, nat_lt, flat_map, le-ltb, length-drop, length-take, cc_principal, data16_at, Big, IsBytes, IsBytes-drop, Takes, bind_some, some_is, cc_principal_field, Contents, contents, IsSpelled, end_from, end_of, contents_spelled, AreCells, seen_in, Version, V3, V4, Layout, CredParts, credential, Field, header, header_at, fields_format, only_cells, fields_in, offset_in, header_offset, CacheState, credentials_format, store_cell, version_byte, version_in, open_result, image_of, fault_kind, first_place, store_of, header_in, principal_in, cache_of, IsImage, AreCredentials}
+use Rattle.krb_ccache.proofs.Cited.{◌≡◌, ◌≢◌, ℕ, ◌+◌, ◌-◌, ◌≤◌, List, [], ◌∷◌, ◌++◌, length, get_or, take, drop, map, Some, None, ap, ◌∙◌, length-append, arith, Ok, flat_map, le-ltb, length-drop, length-take, cc_principal, IsBytes, IsBytes-drop, Takes, bind_some, some_is, cc_principal_field, Contents, contents, IsSpelled, end_from, end_of, contents_spelled, AreCells, seen_in, Version, Layout, CredParts, credential, Field, header, header_at, only_cells, offset_in, header_offset, CacheState, credentials_format, store_cell, version_byte, version_in, open_result, image_of, fault_kind, first_place, store_of, header_in, principal_in, cache_of, IsImage, AreCredentials, headed}
 use Rattle.krb_walk.specs.declared.fault.FaultKind.TheVariants.{BadCredential}
 use Rattle.krb_cells.proofs.Formats.{are_cells}
 use Rattle.krb_ccache.proofs.HeaderFields.{header_takes}
 use Rattle.krb_ccache.proofs.CellLemmas.{credentials_are, credentials_seen, end_is}
 use Rattle.krb_ccache.proofs.PlaceLemmas.{opens}
 use Rattle.krb_ccache.proofs.Splits.{bare_at}
-use Rattle.krb_wire.proofs.Lists.{headed}
 
 -- where the parts of an image are, and what they spell
 pub record ImageParts (h : Layout) (image : List ℕ) : Type 0 where
@@ -18,27 +17,24 @@ pub record ImageParts (h : Layout) (image : List ℕ) : Type 0 where
 
 pub image_parts : (h : Layout) (image : List ℕ) → IsBytes image → IsImage h image → ImageParts h image
 image_parts h image fits is =
-    let are = is.parts in
-    let xs = header_in h.version image in
+    let v = h.version in
+    let xs = header_in v image in
     let p = principal_in (drop h.places.principal image) in
-    let rest = drop h.places.principal image in
     let bytes = drop h.places.first image in
-    let k = contents (credentials_format h.version) bytes in
-    let th : Takes (drop 2 image) (header h.version xs) rest = header_takes h.version (drop 2 image) (xs, rest) (IsBytes-drop 2 image fits) are.header in
-    let tp : Takes rest (cc_principal p) bytes = (cc_principal_field.takes rest (p, bytes) th.rest_fits are.principal).0 in
-    let spelled = contents_spelled (credentials_format h.version) bytes (credentials_are h.version) tp.rest_fits in
-    let l2 = length-drop h.places.first image in
-    let l5 = ap length spelled.parts ∙ length-append (flat_map (credential h.version) k.cells) k.end in
-    let w2 = are.first_within in
-    let end = are.end ∙ end_is h.version h.places.first k.cells in
+    let k = contents (credentials_format v) bytes in
+    let th : Takes (drop 2 image) (header v xs) (drop h.places.principal image) = header_takes v (drop 2 image) (xs, drop h.places.principal image) (IsBytes-drop 2 image fits) is.parts.header in
+    let tp : Takes (drop h.places.principal image) (cc_principal p) bytes = (cc_principal_field.takes (drop h.places.principal image) (p, bytes) th.rest_fits is.parts.principal).0 in
+    let spelled = contents_spelled (credentials_format v) bytes (credentials_are v) tp.rest_fits in
+    let len = length-drop h.places.first image in
+    let end = is.parts.end ∙ end_is v h.places.first k.cells in
     record {
-      first = omega (arith, is.long, length-drop 2 image, length-drop h.places.principal image, l2, ap length th.parts ∙ length-append (header h.version xs) rest, ap length tp.parts ∙ length-append (cc_principal p) bytes, are.principal_within, w2);
+      first = omega (arith, is.long, length-drop 2 image, length-drop h.places.principal image, len, ap length th.parts ∙ length-append (header v xs) (drop h.places.principal image), ap length tp.parts ∙ length-append (cc_principal p) bytes, is.parts.principal_within, is.parts.first_within);
       spells =
           headed image is.long ∙ ap (λ (a : ℕ). a ∷ get_or image 1 0 ∷ drop 2 image) is.first_byte ∙ ap (λ (b : ℕ). 5 ∷ b ∷ drop 2 image) is.second_byte
-          ∙ ap (λ (b : List ℕ). 5 ∷ version_byte h.version ∷ b) (th.parts ∙ ap (λ (b : List ℕ). header h.version xs ++ b) (tp.parts ∙ ap (λ (b : List ℕ). cc_principal p ++ b) spelled.parts));
+          ∙ ap (λ (b : List ℕ). 5 ∷ version_byte v ∷ b) (th.parts ∙ ap (λ (b : List ℕ). header v xs ++ b) (tp.parts ∙ ap (λ (b : List ℕ). cc_principal p ++ b) spelled.parts));
       spelled = spelled;
       end = end;
-      total = omega (arith, l2, l5, w2, end);
+      total = omega (arith, len, ap length spelled.parts ∙ length-append (flat_map (credential v) k.cells) k.end, is.parts.first_within, end);
     }
 
 pub end_held : (h : Layout) (image : List ℕ) → ImageParts h image → IsImage h image → h.places.end ≡ end_of (store_of (cache_of h image))
@@ -52,12 +48,10 @@ image_end h image k fits is same whole =
 -- ---- what is wrong after them
 
 kind_by : (rest : List ℕ) → length rest ≢ 0 → Some BadCredential ≡ fault_kind rest
-kind_by [] ne = absurd (ne refl)
-kind_by (b ∷ bs) ne = refl
+kind_by rest ne = search arith
 
 no_kind_by : (rest : List ℕ) → length rest ≡ 0 → None ≡ fault_kind rest
-no_kind_by [] e = refl
-no_kind_by (b ∷ bs) e = absurd (omega (arith, e))
+no_kind_by rest e = search arith
 
 pub no_fault : (h : Layout) (image : List ℕ) → ImageParts h image → h.places.end ≡ length image → None ≡ fault_kind (cache_of h image).contents.end
 no_fault h image p e = let total = p.total in no_kind_by (contents (credentials_format h.version) (drop h.places.first image)).end (omega (arith, total, e))
@@ -74,10 +68,10 @@ pub image_credentials : (h : Layout) (image bytes : List ℕ) (k : CacheState) �
     → AreCredentials k h.places.first bytes
 image_credentials h image bytes k fits is same is_bytes =
     let p = image_parts h image fits is in
-    subst (λ (x : CacheState). AreCredentials x h.places.first bytes) same (record {
+    rw (← same, is_bytes) (record {
       place = p.first;
-      contents = ap (contents (credentials_format h.version)) is_bytes ∙ bare_at h.version image (contents (credentials_format h.version) (drop h.places.first image)).end h.places.first h.places.end (contents (credentials_format h.version) (drop h.places.first image)).cells fits p.spelled.parts p.spelled.sound.cells p.end;
-      small = omega (arith, first_ahead h image p, is.within, is.limit_fits, is.parts.end_within, ap length is_bytes, length-take (h.places.end - h.places.first) (drop h.places.first image));
+      contents = bare_at h.version image (contents (credentials_format h.version) (drop h.places.first image)).end h.places.first h.places.end (contents (credentials_format h.version) (drop h.places.first image)).cells fits p.spelled.parts p.spelled.sound.cells p.end;
+      small = omega (arith, first_ahead h image p, is.within, is.limit_fits, is.parts.end_within, length-take (h.places.end - h.places.first) (drop h.places.first image));
     })
 
 -- the credentials of an image are cells
@@ -88,27 +82,16 @@ image_cells v bytes k first fits is are =
 -- ---- the time offset
 
 whole_is : (cells : List Field) (end : List ℕ) (xs : List Field) → only_cells cells end ≡ Some xs → cells ≡ xs
-whole_is cells [] xs e = some_is cells xs e
-whole_is cells (b ∷ bs) xs e = absurd cc
+whole_is cells end xs e = search (arith, some_is)
 
 pub offset_is : (v : Version) (bytes : List ℕ) (xs : List Field) (after : List ℕ) → header_at v bytes ≡ Some (xs, after) → header_offset v bytes ≡ offset_in xs
 unfolding header_at
-offset_is V3 bytes xs after e = ap (λ (x : List Field × List ℕ). offset_in x.0) (some_is ([], bytes) (xs, after) e)
-offset_is V4 bytes xs after e =
-    let a = bind_some (data16_at Big bytes) _ (xs, after) e in
-    let b = bind_some (fields_in a.0.0) _ (xs, after) a.2 in
-    let same = some_is (b.0, a.0.1) (xs, after) b.2 in
-    let cells = whole_is (contents fields_format a.0.0).cells (contents fields_format a.0.0).end b.0 b.1 in
-    rw a.1 (ap offset_in (cells ∙ ap (λ (x : List Field × List ℕ). x.0) same))
+offset_is v bytes xs after e = search (arith, some_is, bind_some, whole_is)
 
 -- ---- opened again
 
 version_is : (v : Version) (image : List ℕ) → get_or image 0 0 ≡ 5 → get_or image 1 0 ≡ version_byte v → version_in image ≡ Some v
-version_is V3 image first second = rw (first, second) refl
-version_is V4 image first second = rw (first, second) refl
+version_is v image first second = search arith
 
 pub reopens : (h : Layout) (most : ℕ) (image : List ℕ) → IsImage h image → h.limit ≤ most → open_result most image ≡ Ok (cache_of (record h { limit = most }) image)
-reopens h most image is le =
-    let long : nat_lt (length image) 2 ≡ false = le-ltb _ _ is.long in
-    let fits : nat_lt most (length image) ≡ false = le-ltb _ _ (omega (arith, is.within, le)) in
-    rw (long, version_is h.version image is.first_byte is.second_byte, fits) (opens h.version most image h.places is.parts)
+reopens h most image is le = search (arith, le-ltb, version_is, opens)

@@ -1,6 +1,5 @@
 -- A cache with a credential appended.
-use Rattle.krb_ccache.proofs.Cited.{◌≡◌, ℕ, ◌+◌, ◌<◌, ◌≤◌, Bool, true, false, Result, Ok, Err, List, [], ◌∷◌, ◌++◌, length, replicate, refl, sym, ap, subst, ◌∙◌, append_assoc, length-append, arith, map, Some, nat_lt, IfOk, ◌==◌, find, lt-ltb, le-ltb, flat_map, splice, append-nil, length-replicate, nat_tests, IsBytes, end_of, end_from, Version, V4, Layout, CredParts, credential, FitsCredential, is_marked, CacheState, image_of, store_of, first_place, store_cell, placed_from, live_of, credential_at_place, with_last, append_result, IsImage, cache_of, Holds}
-use Rattle.std.proofs.lemmas.Grind.{flat_map-append}
+use Rattle.krb_ccache.proofs.Cited.{◌≡◌, ℕ, ◌+◌, ◌<◌, ◌≤◌, false, Result, Ok, Err, List, [], ◌∷◌, ◌++◌, length, replicate, refl, sym, ap, subst, ◌∙◌, append_assoc, length-append, arith, map, Some, IfOk, ◌==◌, find, lt-ltb, le-ltb, flat_map, splice, append-nil, length-replicate, IsBytes, end_of, end_from, Version, V4, Layout, CredParts, credential, FitsCredential, is_marked, CacheState, image_of, store_of, first_place, store_cell, placed_from, credential_at_place, with_last, append_result, IsImage, cache_of, Holds, flat_map-append, ok_is, all_join}
 use Rattle.krb_walk.specs.declared.refusal.Code.TheVariants.{Full}
 use Rattle.krb_walk.specs.declared.refusal.Refusal.{Refusal}
 use Rattle.krb_walk.specs.Rules.{PutGives}
@@ -8,18 +7,15 @@ use Rattle.krb_walk.specs.Changes.{Puts}
 use Rattle.krb_ccache.proofs.CellLemmas.{end_is}
 use Rattle.krb_ccache.proofs.CacheLemmas.{IsReadable, layout_of, image_readable, holds, layout_is}
 use Rattle.krb_ccache.proofs.MarkLemmas.{splice_part}
-use Rattle.krb_ccache.proofs.MarkImage.{front_of, front_len, front_first}
+use Rattle.krb_ccache.proofs.MarkImage.{image_len, front_of, front_first}
 use Rattle.krb_ccache.proofs.CredentialField.{credential_field}
-use Rattle.krb_wire.proofs.Fields.{ok_is}
-use Rattle.krb_wire.proofs.Lists.{all_join}
 use Rattle.krb_ccache.proofs.ImageLemmas.{image_end}
 
 -- bytes written over zeros at the end are appended
 pub put_last : (old new text : List ℕ) (n at to : ℕ) → at ≡ length old → to ≡ at + length text → n ≡ length text → new ≡ splice (old ++ replicate n 0) at to text → new ≡ old ++ text
 put_last old new text n at to is_at is_to is_n put =
-    let zeros = replicate {A = ℕ} n 0 in
-    put ∙ ap (λ (b : List ℕ). splice (old ++ b) at to text) (sym (append-nil zeros))
-    ∙ splice_part old zeros text [] at to is_at (omega (arith, is_to, is_n, length-replicate {A = ℕ} n 0)) ∙ ap (λ (b : List ℕ). old ++ b) (append-nil text)
+    let part = splice_part old (replicate {A = ℕ} n 0) text [] at to is_at (omega (arith, is_to, is_n, length-replicate {A = ℕ} n 0)) in
+    put ∙ simp append-nil at part
 
 group : (x a c : List ℕ) → x ++ ((a ++ (c ++ [])) ++ []) ≡ (x ++ (a ++ [])) ++ c
 group x a c = simp (append_assoc, append-nil)
@@ -35,20 +31,7 @@ last_spelled k c whole =
     ∙ ap (λ (t : List ℕ). (x ++ (flat_map f cs ++ t)) ++ f c) (sym whole) ∙ ap (λ (t : List ℕ). t ++ f c) (sym (front_first k))
 
 pub last_readable : (k : CacheState) (c : CredParts) → IsReadable k → FitsCredential k.version c → length (image_of (with_last k c)) ≤ k.limit → IsReadable (with_last k c)
-last_readable k c kept fit within = record {
-  header = kept.header;
-  principal = kept.principal;
-  cells = all_join (FitsCredential k.version) k.contents.cells (c ∷ []) kept.cells (fit, tt);
-  end = kept.end;
-  within = within;
-  limit_fits = kept.limit_fits;
-}
-
-pub last_end : (k : CacheState) (c : CredParts) → end_of (store_of (with_last k c)) ≡ end_of (store_of k) + length (credential k.version c)
-last_end k c =
-    let f = credential k.version in
-    let cs = k.contents.cells in
-    omega (arith, end_is k.version (first_place k) (cs ++ c ∷ []), end_is k.version (first_place k) cs, ap length (flat_map-append f cs (c ∷ [])), length-append (flat_map f cs) (f c ++ []), length-append (f c) [])
+last_readable k c kept fit within = search (arith, all_join)
 
 -- a version 4 cache with nothing after its last credential, and the layout of its image
 pub record IsAppendable (h : Layout) (k : CacheState) : Type 0 where
@@ -59,12 +42,7 @@ pub record IsAppendable (h : Layout) (k : CacheState) : Type 0 where
 
 -- the cache of an image whose end and version let it be appended to
 pub image_appendable : (h : Layout) (image : List ℕ) (k : CacheState) → IsBytes image → IsImage h image → cache_of h image ≡ k → k.contents.end ≡ [] → k.version ≡ V4 → IsAppendable h k
-image_appendable h image k fits is same whole version = record {
-  readable = subst IsReadable same (image_readable h image fits is);
-  layout = layout_is h image fits is ∙ ap layout_of same;
-  version = version;
-  whole = whole;
-}
+image_appendable h image k fits is same whole version = search (arith, image_readable, layout_is)
 
 -- the cache that an image in memory holds can be appended to, and the image ends where its cells do
 pub appendable_held : {h : Layout} {bytes image : List ℕ} {k : CacheState} → bytes ≡ image → IsBytes bytes → IsImage h image → cache_of h image ≡ k → k.contents.end ≡ [] → k.version ≡ V4 → IsAppendable h k × (length image ≡ h.places.end)
@@ -73,68 +51,44 @@ appendable_held {h} {bytes} {image} {k} same fits is held whole version =
     (image_appendable h image k image_fits is held whole version, image_end h image k image_fits is held whole)
 
 pub appendable_len : (h : Layout) (k : CacheState) → IsAppendable h k → length (image_of k) ≡ h.places.end
-appendable_len h k a =
-    let f = credential k.version in
-    let cs = k.contents.cells in
-    omega (arith, ap (λ (x : Layout). x.places.end) a.layout, ap length (front_first k), length-append (front_of k) (flat_map f cs ++ k.contents.end), length-append (flat_map f cs) k.contents.end, front_len k, end_is k.version (first_place k) cs, ap length a.whole)
+appendable_len h k a = omega (arith, image_len k, ap (λ (x : Layout). x.places.end) a.layout, ap length a.whole)
 
 last_len : (h : Layout) (k : CacheState) (c : CredParts) → IsAppendable h k → length (image_of (with_last k c)) ≡ h.places.end + length (credential V4 c)
-last_len h k c a =
-    ap length (last_spelled k c a.whole) ∙ length-append (image_of k) (credential k.version c) ∙ ap (λ (n : ℕ). n + length (credential k.version c)) (appendable_len h k a)
-    ∙ ap (λ (v : Version). h.places.end + length (credential v c)) a.version
+last_len h k c a = omega (arith, ap length (last_spelled k c a.whole), length-append (image_of k) (credential k.version c), appendable_len h k a, ap (λ (v : Version). length (credential v c)) a.version)
 
 -- the new image holds the cache with the credential appended
 pub last_holds : (h : Layout) (k : CacheState) (new : List ℕ) (c : CredParts) (len end : ℕ) → IsAppendable h k → IsBytes new → FitsCredential V4 c → len ≡ length (credential V4 c) → h.places.end + len ≤ h.limit → end ≡ h.places.end + len → new ≡ image_of k ++ credential V4 c
     → Holds (record { version = h.version; limit = h.limit; places = record { principal = h.places.principal; first = h.places.first; end = end } }) new (with_last k c)
 last_holds h k new c len end a new_fits fit is_len room is_end put =
-    let same : len ≡ length (credential k.version c) = is_len ∙ ap (λ (v : Version). length (credential v c)) (sym a.version) in
     let spelled : image_of (with_last k c) ≡ image_of k ++ credential V4 c = last_spelled k c a.whole ∙ ap (λ (v : Version). image_of k ++ credential v c) a.version in
     let readable = last_readable k c a.readable (subst (λ (v : Version). FitsCredential v c) (sym a.version) fit) (omega (arith, last_len h k c a, is_len, room, ap (λ (x : Layout). x.limit) a.layout)) in
-    let place : end ≡ end_of (store_of (with_last k c)) = omega (arith, is_end, same, last_end k c, ap (λ (x : Layout). x.places.end) a.layout) in
-    holds (with_last k c) _ new readable new_fits (put ∙ sym spelled)
-    (ap (λ (n : ℕ). record { version = h.version; limit = h.limit; places = record { principal = h.places.principal; first = h.places.first; end = n } }) place
-    ∙ ap (λ (x : Layout). record { version = x.version; limit = x.limit; places = record { principal = x.places.principal; first = x.places.first; end = end_of (store_of (with_last k c)) } }) a.layout)
+    let place : end ≡ end_of (store_of (with_last k c)) = omega (arith, is_end, is_len, image_len (with_last k c), last_len h k c a, ap length a.whole) in
+    holds (with_last k c) _ new readable new_fits (put ∙ sym spelled) (rw (a.layout, place) refl)
 
 -- ---- what an addition gives
 
 pub append_full : (h : Layout) (k : CacheState) (c : CredParts) → IsAppendable h k → h.limit < h.places.end + length (credential V4 c) → append_result k c ≡ Err Full
-append_full h k c a long =
-    let full : nat_lt k.limit (length (image_of (with_last k c))) ≡ true = lt-ltb _ _ (omega (arith, ap (λ (x : Layout). x.limit) a.layout, long, last_len h k c a)) in
-    rw full refl
+append_full h k c a long = search (arith, lt-ltb, last_len)
 
 pub append_fits : (h : Layout) (k : CacheState) (c : CredParts) → IsAppendable h k → h.places.end + length (credential V4 c) ≤ h.limit → append_result k c ≡ Ok (end_of (store_of k), with_last k c)
-append_fits h k c a short =
-    let room : nat_lt k.limit (length (image_of (with_last k c))) ≡ false = le-ltb _ _ (omega (arith, ap (λ (x : Layout). x.limit) a.layout, short, last_len h k c a)) in
-    rw room refl
-
-pair_by : (k new : CacheState) (c : CredParts) (p : ℕ) (full : Bool) → nat_lt k.limit (length (image_of (with_last k c))) ≡ full → append_result k c ≡ Ok (p, new) → ◌≡◌ {A = ℕ × CacheState} (end_of (store_of k), with_last k c) (p, new)
-pair_by k new c p true e is = let no : append_result k c ≡ Err Full = rw e refl in absurd (let f = sym no ∙ is in cc)
-pair_by k new c p false e is = let yes : append_result k c ≡ Ok (end_of (store_of k), with_last k c) = rw e refl in ok_is _ _ (sym yes ∙ is)
+append_fits h k c a short = search (arith, le-ltb, last_len)
 
 -- the place and the cache of an addition that was not refused
 pub append_pair : (k new : CacheState) (c : CredParts) (p : ℕ) → append_result k c ≡ Ok (p, new) → ◌≡◌ {A = ℕ × CacheState} (end_of (store_of k), with_last k c) (p, new)
-append_pair k new c p is = pair_by k new c p (nat_lt k.limit (length (image_of (with_last k c)))) refl is
+append_pair k new c p is = search (arith, ok_is)
 
 pub append_puts : (k new : CacheState) (c : CredParts) (result : Result ℕ Refusal) → PutGives (append_result k c) k result new → Puts (store_of k) (store_of (with_last k c)) (end_of (store_of k)) → IfOk result (Puts (store_of k) (store_of new))
-append_puts k new c (Ok p) gives puts = subst (λ (x : ℕ × CacheState). Puts (store_of k) (store_of x.1) x.0) (append_pair k new c p gives) puts
-append_puts k new c (Err e) gives puts = tt
+append_puts k new c result gives puts = search (arith, append_pair)
 
 -- ---- where it is
 
 found_last : (v : Version) (at p : ℕ) (cs : List CredParts) (c : CredParts) → p ≡ end_from at (map (store_cell v) cs) → find (λ x. x.0 == p) (placed_from v at (cs ++ c ∷ [])) ≡ Some (p, c)
-found_last v at p [] c is =
-    let here : (at == p) ≡ true = grind (arith, nat_tests) in
-    let found : find (λ x. x.0 == p) (placed_from v at (c ∷ [])) ≡ Some (at, c) = rw here refl in
-    found ∙ ap (λ (n : ℕ). Some (n, c)) (sym is)
-found_last v at p (d ∷ cs) c is =
-    let passed : (at == p) ≡ false = grind (arith, nat_tests, (credential_field v).nonempty d, end_is v (at + length (credential v d)) cs, is) in
-    let next : find (λ x. x.0 == p) (placed_from v at (d ∷ cs ++ c ∷ [])) ≡ find (λ x. x.0 == p) (placed_from v (at + length (credential v d)) (cs ++ c ∷ [])) = rw passed refl in
-    next ∙ found_last v (at + length (credential v d)) p cs c is
+found_last v at p [] c is = search arith
+found_last v at p (d ∷ cs) c is = search (arith, credential_field, end_is, found_last v (at + length (credential v d)) p cs c is)
 
 last_there : (k : CacheState) (c : CredParts) → is_marked c ≡ false → credential_at_place (with_last k c) (end_of (store_of k)) ≡ Some c
-last_there k c live = ap live_of (found_last k.version (first_place k) (end_of (store_of k)) k.contents.cells c refl) ∙ rw live refl
+last_there k c live = rw (found_last k.version (first_place k) (end_of (store_of k)) k.contents.cells c refl, live) refl
 
 -- an added credential is at the place that was returned
 pub put_there : (k old new : CacheState) (c : CredParts) (result : Result ℕ Refusal) → is_marked c ≡ false → PutGives (append_result k c) old result new → IfOk result (λ p. credential_at_place new p ≡ Some c)
-put_there k old new c (Ok p) live gives = subst (λ (x : ℕ × CacheState). credential_at_place x.1 x.0 ≡ Some c) (append_pair k new c p gives) (last_there k c live)
-put_there k old new c (Err e) live gives = tt
+put_there k old new c result live gives = search (arith, append_pair, last_there)

@@ -1,12 +1,10 @@
 -- The image of a cache after a credential in it is marked, which keeps its length.
-use Rattle.krb_ccache.proofs.Cited.{◌≡◌, ℕ, ◌+◌, ◌≤◌, List, [], ◌∷◌, ◌++◌, length, drop, Some, refl, sym, ap, subst, ◌∙◌, append_assoc, length-append, arith, flat_map, splice, AllByRecursion, drop_at, cc_principal, IsBytes, spelling, end_of, Version, Layout, CredParts, credential, credential_at, FitsCredential, header, CacheState, credentials_format, version_byte, image_of, store_of, first_place, credential_at_place, add_mark, add_mark_at, with_mark, IsImage, cache_of, Holds}
-use Rattle.std.proofs.lemmas.Grind.{flat_map-append}
+use Rattle.krb_ccache.proofs.Cited.{◌≡◌, ℕ, ◌+◌, ◌≤◌, List, ◌∷◌, ◌++◌, length, drop, Some, refl, sym, ap, subst, ◌∙◌, append_assoc, length-append, arith, flat_map, splice, AllByRecursion, drop_at, cc_principal, IsBytes, spelling, end_of, Version, Layout, CredParts, credential, credential_at, FitsCredential, header, CacheState, credentials_format, version_byte, image_of, store_of, first_place, credential_at_place, add_mark, add_mark_at, with_mark, IsImage, cache_of, Holds, flat_map-append, all_join, all_front, all_back}
 use Rattle.krb_ccache.proofs.CredentialField.{credential_field}
 use Rattle.krb_ccache.proofs.CellLemmas.{end_is}
 use Rattle.krb_ccache.proofs.ImageLemmas.{image_parts}
 use Rattle.krb_ccache.proofs.CacheLemmas.{IsReadable, image_readable, holds, layout_is}
 use Rattle.krb_ccache.proofs.MarkLemmas.{IsAt, found_at, marked_one, marked_len, splice_part}
-use Rattle.krb_wire.proofs.Lists.{all_front, all_back, all_join}
 
 -- the bytes before the credentials
 abbrev pub front_of : CacheState → List ℕ
@@ -17,6 +15,13 @@ front_len k = omega (arith, length-append (header k.version k.header) (cc_princi
 
 pub front_first : (k : CacheState) → image_of k ≡ front_of k ++ spelling (credentials_format k.version) k.contents
 front_first k = ap (λ (b : List ℕ). 5 ∷ version_byte k.version ∷ b) (sym (append_assoc (header k.version k.header) (cc_principal k.principal) (spelling (credentials_format k.version) k.contents)))
+
+-- the image ends where the cells do, or with what follows them
+pub image_len : (k : CacheState) → length (image_of k) ≡ end_of (store_of k) + length k.contents.end
+image_len k =
+    let f = credential k.version in
+    let cs = k.contents.cells in
+    omega (arith, ap length (front_first k), length-append (front_of k) (flat_map f cs ++ k.contents.end), length-append (flat_map f cs) k.contents.end, front_len k, end_is k.version (first_place k) cs)
 
 group : (x a c b end : List ℕ) → x ++ ((a ++ (c ++ b)) ++ end) ≡ (x ++ a) ++ (c ++ (b ++ end))
 group x a c b end = simp append_assoc
@@ -34,18 +39,7 @@ texts k before after c end is =
 
 -- a mark keeps the numbers of a credential in their ranges
 pub fits_marked : (v : Version) (c : CredParts) → FitsCredential v c → FitsCredential v (add_mark c)
-fits_marked v c fit = record {
-  client = fit.client;
-  server = fit.server;
-  key = fit.key;
-  times = record { authtime = omega arith; starttime = fit.times.starttime; endtime = omega arith; renew_till = fit.times.renew_till };
-  is_skey = fit.is_skey;
-  flags = fit.flags;
-  addresses = fit.addresses;
-  authdata = fit.authdata;
-  ticket = fit.ticket;
-  second_ticket = fit.second_ticket;
-}
+fits_marked v c fit = search arith
 
 -- a live credential at a place of an image
 pub record LiveIn (h : Layout) (image : List ℕ) (place : ℕ) (c : CredParts) : Type 0 where
@@ -58,29 +52,13 @@ pub live_in : (h : Layout) (image : List ℕ) (place : ℕ) (c : CredParts) → 
 live_in h image place c fits is live =
     let v = h.version in
     let k = cache_of h image in
-    let f = credential v in
-    let kept = image_readable h image fits is in
     let s = found_at v (first_place k) place k.contents.cells c live in
-    let spells = (image_parts h image fits is).spells in
-    let x = front_of k ++ flat_map f s.before in
-    let rest = flat_map f s.after ++ k.contents.end in
-    let parts : image ≡ x ++ (f c ++ rest) = spells ∙ texts k s.before s.after c k.contents.end (ap (λ cs. record { cells = cs; end = k.contents.end }) s.parts) in
-    let len : length x ≡ place = omega (arith, length-append (front_of k) (flat_map f s.before), front_len k, s.place, end_is v (first_place k) s.before) in
-    let left : drop place image ≡ f c ++ rest = ap (drop place) parts ∙ drop_at x (f c ++ rest) place len in
-    let fit = (all_back (FitsCredential v) s.before (c ∷ s.after) (subst (AllByRecursion (FitsCredential v)) s.parts kept.cells)).0 in
-    record {
-      found_at = s;
-      within = omega (arith, ap length parts, length-append x (f c ++ rest), len);
-      after = rest;
-      read = ap (credential_at v) left ∙ (credential_field v).again c rest fit;
-    }
-
-same_text : (v : Version) (before after : List CredParts) (c : CredParts) → length (flat_map (credential v) (before ++ add_mark c ∷ after)) ≡ length (flat_map (credential v) (before ++ c ∷ after))
-same_text v before after c =
-    let f = credential v in
-    let a = flat_map f before in
-    let b = flat_map f after in
-    ap length (flat_map-append f before (add_mark c ∷ after)) ∙ omega (arith, length-append a (f (add_mark c) ++ b), length-append a (f c ++ b), length-append (f (add_mark c)) b, length-append (f c) b, marked_len v c) ∙ sym (ap length (flat_map-append f before (c ∷ after)))
+    let x = front_of k ++ flat_map (credential v) s.before in
+    let parts = (image_parts h image fits is).spells ∙ texts k s.before s.after c k.contents.end (ap (λ cs. record { cells = cs; end = k.contents.end }) s.parts) in
+    let len : length x ≡ place = omega (arith, length-append (front_of k) (flat_map (credential v) s.before), front_len k, s.place, end_is v (first_place k) s.before) in
+    let left = ap (drop place) parts ∙ drop_at x _ place len in
+    let fit = (all_back (FitsCredential v) s.before (c ∷ s.after) (subst (AllByRecursion (FitsCredential v)) s.parts (image_readable h image fits is).cells)).0 in
+    record { found_at = s; within = omega (arith, ap length parts, length-append x (credential v c ++ (flat_map (credential v) s.after ++ k.contents.end)), len); after = flat_map (credential v) s.after ++ k.contents.end; read = rw left ((credential_field v).again c _ fit) }
 
 -- the image with the credential marked holds the cache with the mark
 pub marked_held : (h : Layout) (image new : List ℕ) (place : ℕ) (c : CredParts) → IsBytes image → IsBytes new → IsImage h image → LiveIn h image place c
@@ -101,17 +79,16 @@ marked_held h image new place c fits new_fits is live written =
     let new_parts : image_of d ≡ x ++ (f (add_mark c) ++ rest) = texts d s.before s.after (add_mark c) k.contents.end (ap (λ cs. record { cells = cs; end = k.contents.end }) cells) in
     let is_new : new ≡ image_of d = written ∙ ap (λ (b : List ℕ). splice b place (place + length (f c)) (f (add_mark c))) parts ∙ splice_part x (f c) (f (add_mark c)) rest place (place + length (f c)) (sym len) refl ∙ sym new_parts in
     let same_len : length (image_of d) ≡ length (image_of k) =
-    ap length new_parts ∙ omega (arith, length-append x (f (add_mark c) ++ rest), length-append x (f c ++ rest), length-append (f (add_mark c)) rest, length-append (f c) rest, marked_len v c) ∙ sym (ap length parts) ∙ ap length spells in
-    let end : end_of (store_of d) ≡ end_of (store_of k) =
-    end_is v (first_place k) d.contents.cells ∙ ap (λ (n : ℕ). first_place k + n) (ap (λ cs. length (flat_map f cs)) cells ∙ same_text v s.before s.after c ∙ sym (ap (λ cs. length (flat_map f cs)) s.parts)) ∙ sym (end_is v (first_place k) k.contents.cells) in
+    omega (arith, ap length new_parts, ap length parts, ap length spells, length-append x (f (add_mark c) ++ rest), length-append x (f c ++ rest), length-append (f (add_mark c)) rest, length-append (f c) rest, marked_len v c) in
+    let end : end_of (store_of d) ≡ end_of (store_of k) = omega (arith, same_len, image_len d, image_len k) in
     let fit = subst (AllByRecursion (FitsCredential v)) s.parts kept.cells in
     let back = all_back (FitsCredential v) s.before (c ∷ s.after) fit in
     let new_kept : IsReadable d = record {
       header = kept.header;
       principal = kept.principal;
-      cells = subst (AllByRecursion (FitsCredential v)) (sym cells) (all_join (FitsCredential v) s.before (add_mark c ∷ s.after) (all_front (FitsCredential v) s.before (c ∷ s.after) fit) (fits_marked v c back.0, back.1));
+      cells = rw cells (all_join (FitsCredential v) s.before (add_mark c ∷ s.after) (all_front (FitsCredential v) s.before (c ∷ s.after) fit) (fits_marked v c back.0, back.1));
       end = kept.end;
       within = omega (arith, same_len, kept.within);
       limit_fits = kept.limit_fits;
     } in
-    holds d h new new_kept new_fits is_new (layout_is h image fits is ∙ ap (λ (n : ℕ). record { version = v; limit = h.limit; places = record { principal = 2 + length (header v k.header); first = first_place k; end = n } }) (sym end))
+    holds d h new new_kept new_fits is_new (rw end (layout_is h image fits is))

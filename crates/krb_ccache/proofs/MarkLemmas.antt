@@ -1,8 +1,7 @@
 -- A credential that is marked in place.
-use Rattle.krb_ccache.proofs.Cited.{◌≡◌, ℕ, ◌+◌, ◌<◌, ◌≤◌, Bool, true, false, List, [], ◌∷◌, ◌++◌, length, take, drop, map, Option, Some, None, refl, sym, ap, ◌∙◌, append_assoc, length-append, arith, ◌==◌, find, splice, nat_tests, take_at, drop_at, drop-drop, take-append-drop, length-take, length-drop, Big, cc_principal, data32, IsBytes, IsBytes-drop, some_is, cc_principal_field, end_from, Version, CredParts, number32, typed_list, key, times, credential, credential_at, is_marked, FitsCredential, placed_from, live_of, if_live, store_cell, add_mark, add_mark_at}
-use Rattle.krb_ccache.specs.Credentials.{times_from}
+use Rattle.krb_ccache.proofs.Cited.{IsSome, is_some_has, ◌≡◌, ℕ, ◌+◌, ◌<◌, ◌≤◌, Bool, true, false, List, [], ◌∷◌, ◌++◌, length, take, drop, map, Some, None, refl, sym, ap, ◌∙◌, append_assoc, length-append, arith, ◌==◌, find, splice, nat_tests, take_at, drop_at, take-append-drop, length-take, length-drop, Big, cc_principal, data32, IsBytes, IsBytes-drop, some_is, cc_principal_field, end_from, Version, CredParts, number32, typed_list, key, times, credential, credential_at, is_marked, FitsCredential, placed_from, live_of, if_live, store_cell, add_mark, add_mark_at, times_from}
 use Rattle.krb_ccache.proofs.CredentialField.{credential_field}
-use Rattle.krb_ccache.proofs.Fields.{key_field}
+use Rattle.krb_ccache.proofs.Fields.{key_field, three_first}
 use Rattle.krb_ccache.proofs.CellLemmas.{end_is}
 
 -- ---- one credential
@@ -30,24 +29,24 @@ as_marked v c = as_times v (add_mark c)
 
 -- a mark keeps the length
 pub marked_len : (v : Version) (c : CredParts) → length (credential v (add_mark c)) ≡ length (credential v c)
-marked_len v c = ap length (as_marked v c) ∙ omega (arith, length-append (before_times v c) (number32 4294967295 ++ (number32 c.times.starttime ++ (number32 0 ++ (number32 c.times.renew_till ++ after_times c)))), length-append (before_times v c) (number32 c.times.authtime ++ (number32 c.times.starttime ++ (number32 c.times.endtime ++ (number32 c.times.renew_till ++ after_times c))))) ∙ sym (ap length (as_times v c))
+marked_len v c =
+    let s = number32 c.times.starttime in
+    let others = number32 c.times.renew_till ++ after_times c in
+    omega (arith, ap length (as_times v c), ap length (as_times v (add_mark c)), length-append (before_times v c) (number32 4294967295 ++ (s ++ (number32 0 ++ others))), length-append (before_times v c) (number32 c.times.authtime ++ (s ++ (number32 c.times.endtime ++ others))))
 
 -- a splice over a part of a list replaces that part
 pub splice_part : (a x y b : List ℕ) (i j : ℕ) → i ≡ length a → j ≡ i + length x → splice (a ++ (x ++ b)) i j y ≡ a ++ (y ++ b)
 splice_part a x y b i j is_i is_j =
     let front : take i (a ++ (x ++ b)) ≡ a = take_at a (x ++ b) i (sym is_i) in
-    let back : drop j (a ++ (x ++ b)) ≡ b = ap (λ (n : ℕ). drop n (a ++ (x ++ b))) (is_j ∙ ap (λ (n : ℕ). n + length x) is_i) ∙ sym (drop-drop (length x) (length a) (a ++ (x ++ b))) ∙ ap (drop (length x)) (drop_at a (x ++ b) (length a) refl) ∙ drop_at x b (length x) refl in
+    let back : drop j (a ++ (x ++ b)) ≡ b = ap (drop j) (sym (append_assoc a x b)) ∙ drop_at (a ++ x) b j (omega (arith, is_i, is_j, length-append a x)) in
     rw (front, back) refl
 
 -- the times follow the names and the key
 times_after : (v : Version) (c : CredParts) (rest : List ℕ) → FitsCredential v c → times_from v (before_times v c ++ rest) ≡ Some rest
 unfolding times_from
 times_after v c rest fits =
-    let a = cc_principal c.client in
-    let b = cc_principal c.server in
-    let k = key v c.key in
-    ap (times_from v) (append_assoc a (b ++ k) rest ∙ ap (λ (t : List ℕ). a ++ t) (append_assoc b k rest))
-    ∙ rw (cc_principal_field.again c.client (b ++ (k ++ rest)) fits.client, cc_principal_field.again c.server (k ++ rest) fits.server, (key_field v).again c.key rest fits.key) refl
+    ap (times_from v) (three_first (cc_principal c.client) (cc_principal c.server) (key v c.key) rest)
+    ∙ rw (cc_principal_field.again c.client _ fits.client, cc_principal_field.again c.server _ fits.server, (key_field v).again c.key rest fits.key) refl
 
 -- the parts of an image around the two times of a credential
 pub record AroundTimes (v : Version) (image : List ℕ) (place : ℕ) (c : CredParts) (rest : List ℕ) : Type 0 where
@@ -89,26 +88,17 @@ pub marked_is : (v : Version) (image mid new : List ℕ) (place at i j k : ℕ) 
     → mid ≡ splice image at i (number32 4294967295) → new ≡ splice mid j k (number32 0) → new ≡ splice image place (place + length (credential v c)) (credential v (add_mark c))
 marked_is v image mid new place at i j k c rest w le is_at is_i is_j is_k first second =
     let p = take place image in
-    let f = before_times v c in
-    let a = number32 c.times.authtime in
+    let x = p ++ before_times v c in
     let s = number32 c.times.starttime in
     let e = number32 c.times.endtime in
-    let r = number32 c.times.renew_till in
-    let b = after_times c in
+    let others = number32 c.times.renew_till ++ (after_times c ++ rest) in
     let ff = number32 4294967295 in
-    let zz = number32 0 in
-    let len_p : length p ≡ place = omega (arith, length-take place image, le) in
-    let len_f = length-append p f in
-    let mid_is : mid ≡ (p ++ f) ++ (ff ++ (s ++ (e ++ (r ++ (b ++ rest))))) =
-    first ∙ ap (λ (x : List ℕ). splice x at i ff) w.parts ∙ splice_part (p ++ f) a ff (s ++ (e ++ (r ++ (b ++ rest)))) at i (omega arith) is_i in
-    let mid_split : mid ≡ (((p ++ f) ++ ff) ++ s) ++ (e ++ (r ++ (b ++ rest))) = mid_is ∙ group_three (p ++ f) ff s (e ++ (r ++ (b ++ rest))) in
-    let len_s = length-append ((p ++ f) ++ ff) s in
-    let len_ff = length-append (p ++ f) ff in
-    let new_is : new ≡ (((p ++ f) ++ ff) ++ s) ++ (zz ++ (r ++ (b ++ rest))) =
-    second ∙ ap (λ (x : List ℕ). splice x j k zz) mid_split ∙ splice_part (((p ++ f) ++ ff) ++ s) e zz (r ++ (b ++ rest)) j k (omega arith) is_k in
-    let fit_lens : splice image place (place + length (credential v c)) (credential v (add_mark c)) ≡ p ++ (credential v (add_mark c) ++ rest) =
-    ap (λ (x : List ℕ). splice x place (place + length (credential v c)) (credential v (add_mark c))) w.whole ∙ splice_part p (credential v c) (credential v (add_mark c)) rest place (place + length (credential v c)) (sym len_p) refl in
-    new_is ∙ group_back p f ff s zz r b rest ∙ ap (λ (x : List ℕ). p ++ (x ++ rest)) (sym (as_marked v c)) ∙ sym fit_lens
+    let len : length x ≡ at = omega (arith, length-take place image, le, length-append p (before_times v c), is_at) in
+    let mid_is : mid ≡ ((x ++ ff) ++ s) ++ (e ++ others) = first ∙ ap (λ (b : List ℕ). splice b at i ff) w.parts ∙ splice_part x (number32 c.times.authtime) ff (s ++ (e ++ others)) at i (sym len) is_i ∙ group_three x ff s (e ++ others) in
+    let new_is : new ≡ ((x ++ ff) ++ s) ++ (number32 0 ++ others) = second ∙ ap (λ (b : List ℕ). splice b j k (number32 0)) mid_is ∙ splice_part ((x ++ ff) ++ s) e (number32 0) others j k (omega (arith, is_j, len, length-append (x ++ ff) s, length-append x ff)) is_k in
+    let put : splice image place (place + length (credential v c)) (credential v (add_mark c)) ≡ p ++ (credential v (add_mark c) ++ rest) =
+    ap (λ (b : List ℕ). splice b place (place + length (credential v c)) (credential v (add_mark c))) w.whole ∙ splice_part p (credential v c) (credential v (add_mark c)) rest place (place + length (credential v c)) (omega (arith, length-take place image, le)) refl in
+    new_is ∙ group_back p (before_times v c) ff s (number32 0) (number32 c.times.renew_till) (after_times c) rest ∙ ap (λ (b : List ℕ). p ++ (b ++ rest)) (sym (as_marked v c)) ∙ sym put
 
 -- ---- a credential among others
 
@@ -121,8 +111,7 @@ pub record IsAt (v : Version) (at : ℕ) (cs : List CredParts) (p : ℕ) (c : Cr
   pub live : is_marked c ≡ false
 
 live_is : (c d : CredParts) (b : Bool) → is_marked d ≡ b → if_live d ≡ Some c → (d ≡ c) × (is_marked d ≡ false)
-live_is c d true e is = let none : if_live d ≡ None = rw e refl in absurd (let no = sym none ∙ is in cc)
-live_is c d false e is = let some : if_live d ≡ Some d = rw e refl in (some_is d c (sym some ∙ is), e)
+live_is c d b e is = search (arith, some_is)
 
 is_at_cons : (v : Version) (at p : ℕ) (d : CredParts) (cs : List CredParts) (c : CredParts) (b : Bool) → (at == p) ≡ b → (live_of (find (λ x. x.0 == p) (placed_from v (at + length (credential v d)) cs)) ≡ Some c → IsAt v (at + length (credential v d)) cs p c)
     → live_of (find (λ x. x.0 == p) (placed_from v at (d ∷ cs))) ≡ Some c → IsAt v at (d ∷ cs) p c
@@ -144,24 +133,29 @@ unmarked_by v at p c cs e = rw e refl
 -- a mark leaves the credentials after its place unchanged
 pub unmarked_after : (v : Version) (at p : ℕ) (cs : List CredParts) → p < at → add_mark_at v at p cs ≡ cs
 unmarked_after v at p [] lt = refl
-unmarked_after v at p (c ∷ cs) lt =
-    unmarked_by v at p c cs (grind (arith, nat_tests)) ∙ ap (λ (xs : List CredParts). c ∷ xs) (unmarked_after v (at + length (credential v c)) p cs (omega (arith, lt)))
+unmarked_after v at p (c ∷ cs) lt = search (arith, unmarked_by, unmarked_after v (at + length (credential v c)) p cs)
 
 pub marked_one : (v : Version) (at p : ℕ) (before after : List CredParts) (c : CredParts) → p ≡ end_from at (map (store_cell v) before) → add_mark_at v at p (before ++ c ∷ after) ≡ before ++ add_mark c ∷ after
-marked_one v at p [] after c is =
-    let here : (at == p) ≡ true = grind (arith, nat_tests) in
-    let one : add_mark_at v at p (c ∷ after) ≡ add_mark c ∷ add_mark_at v (at + length (credential v c)) p after = rw here refl in
-    one ∙ ap (λ (xs : List CredParts). add_mark c ∷ xs) (unmarked_after v (at + length (credential v c)) p after (omega (arith, (credential_field v).nonempty c, is)))
-marked_one v at p (d ∷ before) after c is =
-    unmarked_by v at p d (before ++ c ∷ after) (grind (arith, nat_tests, (credential_field v).nonempty d, end_is v (at + length (credential v d)) before, is)) ∙ ap (λ (xs : List CredParts). d ∷ xs) (marked_one v (at + length (credential v d)) p before after c is)
+marked_one v at p [] after c is = search (arith, unmarked_after, credential_field)
+marked_one v at p (d ∷ before) after c is = search (arith, credential_field, unmarked_by, end_is, marked_one v (at + length (credential v d)) p before after c is)
 
 -- ---- what was found
 
 -- the times that were found are those of the credential
 pub times_left : (v : Version) (image bytes times : List ℕ) (place : ℕ) (c : CredParts) (rest : List ℕ) → AroundTimes v image place c rest → bytes ≡ drop place image → times_from v bytes ≡ Some times → (length image ≡ place + length (before_times v c) + length times) × (16 ≤ length times)
-times_left v image bytes times place c rest w same found =
-    let left : w.left ≡ times = some_is w.left times (sym w.is_left ∙ ap (times_from v) (sym same) ∙ found) in
-    (omega (arith, w.at, ap length left), omega (arith, w.room, ap length left))
+times_left v image bytes times place c rest w same found = search (arith, some_is)
 
 pub times_there : (v : Version) (image bytes : List ℕ) (place : ℕ) (c : CredParts) (rest : List ℕ) → AroundTimes v image place c rest → bytes ≡ drop place image → times_from v bytes ≡ None → ⊥
 times_there v image bytes place c rest w same none = let e = sym w.is_left ∙ ap (times_from v) (sym same) ∙ none in absurd cc
+
+-- there is room for both times
+pub times_room : (v : Version) (image bytes times : List ℕ) (place : ℕ) → IsBytes image → place ≤ length image → IsSome (credential_at v (drop place image)) → bytes ≡ drop place image → times_from v bytes ≡ Some times → (length times ≤ length image) × (16 ≤ length times)
+times_room v image bytes times place fits within there same found =
+    let s = is_some_has _ there in
+    let t = times_left v image bytes times place s.0.0 s.0.1 (around v image place s.0.0 s.0.1 fits within s.1) same found in
+    (omega (arith, t.0), t.1)
+
+pub times_here : (v : Version) (image bytes : List ℕ) (place : ℕ) → IsBytes image → place ≤ length image → IsSome (credential_at v (drop place image)) → bytes ≡ drop place image → times_from v bytes ≡ None → ⊥
+times_here v image bytes place fits within there same none =
+    let s = is_some_has _ there in
+    times_there v image bytes place s.0.0 s.0.1 (around v image place s.0.0 s.0.1 fits within s.1) same none

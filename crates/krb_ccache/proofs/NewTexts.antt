@@ -1,8 +1,7 @@
 -- The new texts of credentials in a rewrite.
-use Rattle.krb_ccache.proofs.Cited.{◌≡◌, ℕ, ◌+◌, ◌-◌, ◌<◌, ◌≤◌, Bool, true, false, List, [], ◌∷◌, ◌++◌, length, take, drop, Some, None, refl, sym, ap, ◌∙◌, append_assoc, length-append, arith, flat_map, w16, append-nil, take_at, drop_at, drop-drop, Big, digits, data32, cc_principal, IsBytes, some_is, wide16, cc_principal_field, Contents, Version, V3, V4, CredParts, number32, typed_list, times, credential, credential_at, is_marked, FitsCredential, in_version_4}
-use Rattle.krb_ccache.specs.Rewrite.{new_cells, new_text, new_texts, after_first_enctype, ReadsNewText}
+use Rattle.krb_ccache.proofs.Cited.{IsSome, is_some_has, ◌≡◌, ℕ, ◌+◌, ◌-◌, ◌<◌, ◌≤◌, false, List, [], ◌∷◌, ◌++◌, length, take, drop, Some, None, refl, sym, ap, ◌∙◌, append_assoc, length-append, arith, flat_map, w16, append-nil, take_at, drop_at, drop-drop, Big, digits, data32, cc_principal, IsBytes, some_is, wide16, cc_principal_field, Contents, Version, V3, V4, CredParts, number32, typed_list, times, credential, credential_at, is_marked, FitsCredential, in_version_4, new_cells, new_text, new_texts, after_first_enctype, ReadsNewText}
 use Rattle.krb_ccache.proofs.CredentialField.{credential_field}
-use Rattle.krb_ccache.proofs.Fields.{field16}
+use Rattle.krb_ccache.proofs.Fields.{field16, three_first}
 use Rattle.krb_ccache.proofs.CellLemmas.{read_one, read_left, read_none}
 
 -- ---- one after the other
@@ -13,13 +12,9 @@ new_texts_first v bytes c after fits e = ap (flat_map new_text) (read_one v byte
 pub new_texts_none : (v : Version) (bytes : List ℕ) → IsBytes bytes → credential_at v bytes ≡ None → new_texts v bytes ≡ []
 new_texts_none v bytes fits e = ap (λ (k : Contents CredParts (List ℕ)). flat_map new_text k.cells) (read_none v bytes fits e)
 
-flat_by : (c : CredParts) (cs : List CredParts) (b : Bool) → is_marked c ≡ b → flat_map new_text cs ≡ flat_map (credential V4) (new_cells cs) → flat_map new_text (c ∷ cs) ≡ flat_map (credential V4) (new_cells (c ∷ cs))
-flat_by c cs true e ih = rw e ih
-flat_by c cs false e ih = rw e (ap (λ (t : List ℕ). credential V4 (in_version_4 c) ++ t) ih)
-
 pub flat_new_texts : (cs : List CredParts) → flat_map new_text cs ≡ flat_map (credential V4) (new_cells cs)
 flat_new_texts [] = refl
-flat_new_texts (c ∷ cs) = flat_by c cs (is_marked c) refl (flat_new_texts cs)
+flat_new_texts (c ∷ cs) = search (arith, flat_new_texts cs)
 
 pub live_text : (c : CredParts) → is_marked c ≡ false → credential V4 (in_version_4 c) ≡ new_text c
 live_text c e = rw e refl
@@ -48,11 +43,8 @@ two_parts c = group_two (cc_principal c.client) (cc_principal c.server) (digits 
 after_first : (c : CredParts) (rest : List ℕ) → FitsCredential V3 c → after_first_enctype (before_second c ++ rest) ≡ Some rest
 unfolding after_first_enctype
 after_first c rest fits =
-    let a = cc_principal c.client in
-    let b = cc_principal c.server in
-    let e = digits Big w16 c.key.enctype in
-    ap after_first_enctype (append_assoc a (b ++ e) rest ∙ ap (λ (t : List ℕ). a ++ t) (append_assoc b e rest))
-    ∙ rw (cc_principal_field.again c.client (b ++ (e ++ rest)) fits.client, cc_principal_field.again c.server (e ++ rest) fits.server, field16.again c.key.enctype rest fits.key.enctype) refl
+    ap after_first_enctype (three_first (cc_principal c.client) (cc_principal c.server) (digits Big w16 c.key.enctype) rest)
+    ∙ rw (cc_principal_field.again c.client _ fits.client, cc_principal_field.again c.server _ fits.server, field16.again c.key.enctype rest fits.key.enctype) refl
 
 -- the parts of a version 3 credential around its second enctype
 pub record AroundSecondEnctype (text : List ℕ) (c : CredParts) (rest : List ℕ) : Type 0 where
@@ -87,12 +79,10 @@ pub whole_same : (text : List ℕ) (c : CredParts) → IsBytes text → credenti
 whole_same text c fits e = ((credential_field V4).takes text (c, []) fits e).0.parts ∙ append-nil (credential V4 c)
 
 pub second_left : (text left : List ℕ) (c : CredParts) (rest : List ℕ) → AroundSecondEnctype text c rest → after_first_enctype text ≡ Some left → (length text ≡ length (before_second c) + length left) × (2 ≤ length left)
-second_left text left c rest w found =
-    let same : w.left ≡ left = some_is w.left left (sym w.is_left ∙ found) in
-    (omega (arith, w.at, ap length same), omega (arith, w.room, ap length same))
+second_left text left c rest w found = search (arith, some_is)
 
 pub second_there : (text : List ℕ) (c : CredParts) (rest : List ℕ) → AroundSecondEnctype text c rest → after_first_enctype text ≡ None → ⊥
-second_there text c rest w none = let e = sym w.is_left ∙ none in absurd cc
+second_there text c rest w none = search arith
 
 -- ---- the bytes of the first credential
 
@@ -106,11 +96,7 @@ first_text v bytes c after fits e =
     let t = (credential_field v).takes bytes (c, after) fits e in
     let len = ap length t.0.parts ∙ length-append (credential v c) after in
     let taken : take (length bytes - length after) bytes ≡ credential v c = ap (take (length bytes - length after)) t.0.parts ∙ take_at (credential v c) after (length bytes - length after) (omega arith) in
-    record {
-      len = len;
-      taken = taken;
-      again = ap (credential_at v) (taken ∙ sym (append-nil (credential v c))) ∙ (credential_field v).again c [] t.1;
-    }
+    record { len = len; taken = taken; again = rw (taken, ← append-nil (credential v c)) ((credential_field v).again c [] t.1) }
 
 -- ---- one step
 
@@ -121,7 +107,16 @@ pub record NewTextsStep (v : Version) (bytes put after : List ℕ) : Type 0 wher
   pub less : length after < length bytes
 
 pub new_texts_step : (v : Version) (bytes put after : List ℕ) → IsBytes bytes → ReadsNewText v bytes put after → NewTextsStep v bytes put after
-new_texts_step v bytes put after fits r =
-    let cut = new_texts_first v bytes r.cell after fits r.read ∙ ap (λ (t : List ℕ). t ++ new_texts v after) (sym r.text) in
-    let left = read_left v bytes r.cell after fits r.read in
-    record { cut = cut; len = ap length cut ∙ length-append put (new_texts v after); fits = left.0; less = left.1 }
+new_texts_step v bytes put after fits t = search (arith, new_texts_first, length-append, read_left)
+
+-- there is room for the second enctype
+pub second_room : (v : Version) (text left : List ℕ) → v ≡ V3 → IsBytes text → IsSome (credential_at v text) → after_first_enctype text ≡ Some left → (length left ≤ length text) × (2 ≤ length left)
+second_room v text left is fits there found =
+    let s = is_some_has _ there in
+    let t = second_left text left s.0.0 s.0.1 (around_second text s.0.0 s.0.1 fits (ap (λ (w : Version). credential_at w text) (sym is) ∙ s.1)) found in
+    (omega (arith, t.0), t.1)
+
+pub second_here : (v : Version) (text : List ℕ) → v ≡ V3 → IsBytes text → IsSome (credential_at v text) → after_first_enctype text ≡ None → ⊥
+second_here v text is fits there none =
+    let s = is_some_has _ there in
+    second_there text s.0.0 s.0.1 (around_second text s.0.0 s.0.1 fits (ap (λ (w : Version). credential_at w text) (sym is) ∙ s.1)) none

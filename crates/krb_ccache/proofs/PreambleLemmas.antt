@@ -1,9 +1,8 @@
 -- What is written before the credentials of a new cache.
-use Rattle.krb_ccache.proofs.Cited.{◌≡◌, ℕ, ◌+◌, ◌≤◌, false, Ok, List, [], ◌∷◌, ◌++◌, length, Some, Option, None, refl, sym, ap, subst, ◌∙◌, length-append, arith, nat_lt, le-ltb, w16, w32, cast_unsigned, append-nil, Big, Parts, digits, cc_principal, FitsCc, IsBytes, next_by, V4, Offset, CredParts, number32, header, header_at, FitsHeader, image_of, first_place, new_header, new_preamble, empty_cache, create_result, Holds}
+use Rattle.krb_ccache.proofs.Cited.{◌≡◌, ℕ, ◌+◌, ◌≤◌, false, Ok, List, [], ◌∷◌, ◌++◌, length, Some, Option, refl, sym, ap, subst, ◌∙◌, length-append, arith, nat_lt, le-ltb, w16, w32, cast_unsigned, append-nil, Big, Parts, digits, cc_principal, FitsCc, IsBytes, next_by, V4, Offset, CredParts, number32, header, header_at, FitsHeader, image_of, first_place, new_header, new_preamble, empty_cache, create_result, Holds, IsBytes-front, IsBytes-back}
 use Rattle.krb_ccache.proofs.Reopening.{header_again}
 use Rattle.krb_ccache.proofs.CacheLemmas.{IsReadable, holds}
 use Rattle.krb_ccache.proofs.Splits.{no_credential}
-use Rattle.krb_wire.proofs.Fields.{IsBytes-front, IsBytes-back}
 
 -- the header of an offset, number by number
 pub offset_text : (offset : Option Offset) (o : Offset) (s m : ℕ) → offset ≡ Some o → s ≡ cast_unsigned w32 o.seconds → m ≡ cast_unsigned w32 o.micros
@@ -12,8 +11,7 @@ offset_text offset o s m is is_s is_m = rw (is, is_s, is_m) refl
 
 -- the fields of a new header fit, so it is read back, whatever follows
 fits_new : (offset : Option Offset) → FitsHeader V4 (new_header offset)
-fits_new None = (tt, omega arith)
-fits_new (Some o) = ((record { tag = omega arith; value = omega arith }, tt), omega arith)
+fits_new offset = search arith
 
 pub header_read : (offset : Option Offset) (rest : List ℕ) → IsBytes (header V4 (new_header offset)) → header_at V4 (header V4 (new_header offset) ++ rest) ≡ Some (new_header offset, rest)
 header_read offset rest fits = header_again V4 (new_header offset) rest (fits_new offset) fits
@@ -42,9 +40,7 @@ pub empty_held : (p : Parts) (offset : Option Offset) (limit : ℕ) (image : Lis
 empty_held p offset limit image principal first fit fits is within small is_principal is_first =
     let k = empty_cache p offset limit in
     let place : first ≡ first_place k = omega (arith, is_first, length-append (header V4 (new_header offset)) (cc_principal p)) in
-    holds k _ image (empty_readable p offset limit fit (subst IsBytes is fits) within small) fits (is ∙ sym (front_is p offset limit))
-    (ap (λ (n : ℕ). record { version = V4; limit = limit; places = record { principal = n; first = first; end = first } }) is_principal
-    ∙ ap (λ (n : ℕ). record { version = V4; limit = limit; places = record { principal = 2 + length (header V4 (new_header offset)); first = n; end = n } }) place)
+    holds k _ image (empty_readable p offset limit fit (subst IsBytes is fits) within small) fits (is ∙ sym (front_is p offset limit)) (rw (is_principal, place) refl)
 
 pub create_fits : (p : Parts) (offset : Option Offset) (limit : ℕ) → length (new_preamble p offset) ≤ limit → create_result p offset limit ≡ Ok (empty_cache p offset limit)
 create_fits p offset limit short =

@@ -1,8 +1,7 @@
 -- Opening the image of a cache gives that cache again.
-use Rattle.krb_ccache.proofs.Cited.{◌≡◌, ℕ, false, List, [], ◌∷◌, ◌++◌, length, Some, None, Ok, refl, sym, ap, subst, ◌∙◌, arith, nat_lt, flat_map, AllByRecursion, le-ltb, append-nil, w16, Big, digits, cc_principal, IsBytes, data16_field, cc_principal_field, Contents, NoMore, contents, spelling, next_by, IsCell, contents_again, unframed_cell, Version, V3, V4, CredParts, Field, field, FitsField, header, FitsHeader, field_at, fields_format, only_cells, fields_in, header_at, CacheState, credentials_format, version_byte, version_in, image_of, open_default, open_header, open_result, IsSoundCache}
+use Rattle.krb_ccache.proofs.Cited.{◌≡◌, ℕ, false, List, [], ◌∷◌, ◌++◌, length, Some, None, Ok, refl, sym, ap, subst, ◌∙◌, arith, nat_lt, flat_map, AllByRecursion, le-ltb, append-nil, w16, Big, digits, cc_principal, IsBytes, data16_field, cc_principal_field, Contents, NoMore, contents, spelling, next_by, IsCell, contents_again, unframed_cell, Version, V3, V4, Field, field, FitsField, header, FitsHeader, field_at, fields_format, only_cells, fields_in, header_at, CacheState, credentials_format, version_byte, version_in, image_of, open_result, IsSoundCache, IsBytes-front, IsBytes-back}
 use Rattle.krb_ccache.proofs.HeaderFields.{field_field, fields_are}
 use Rattle.krb_ccache.proofs.CellLemmas.{credentials_are}
-use Rattle.krb_wire.proofs.Fields.{IsBytes-front, IsBytes-back}
 
 no_field : field_at [] ≡ None
 unfolding field_at
@@ -10,7 +9,7 @@ no_field = refl
 
 all_fields : (xs : List Field) → AllByRecursion FitsField xs → AllByRecursion (IsCell fields_format) xs
 all_fields [] fit = tt
-all_fields (x ∷ xs) fit = (unframed_cell field_field x fit.0, all_fields xs fit.1)
+all_fields (x ∷ xs) fit = search (arith, unframed_cell, field_field, all_fields xs fit.1)
 
 -- fields that fit fill their spelling
 fields_again : (xs : List Field) → AllByRecursion FitsField xs → IsBytes (flat_map field xs) → fields_in (flat_map field xs) ≡ Some xs
@@ -29,8 +28,7 @@ header_again V4 xs rest fit fits =
     rw ((data16_field Big).again text rest fit.1, fields_again xs fit.0 (IsBytes-back (digits Big w16 (length text)) text fits)) refl
 
 version_again : (v : Version) (rest : List ℕ) → version_in (5 ∷ version_byte v ∷ rest) ≡ Some v
-version_again V3 rest = refl
-version_again V4 rest = refl
+version_again v rest = search arith
 
 pub opened_again : (k : CacheState) → IsSoundCache k → IsBytes (image_of k) → open_result k.limit (image_of k) ≡ Ok k
 opened_again k sound fits =
@@ -43,8 +41,4 @@ opened_again k sound fits =
     let long : nat_lt (length (image_of k)) 2 ≡ false = le-ltb _ _ (omega arith) in
     let within : nat_lt k.limit (length (image_of k)) ≡ false = le-ltb _ _ sound.within in
     let same : contents (credentials_format v) text ≡ k.contents = contents_again (credentials_format v) k.contents (credentials_are v) sound.contents text_fits in
-    rw (long, version_again v rest, within) (
-    ap (open_header v k.limit) (header_again v k.header named sound.header (IsBytes-front (header v k.header) named rest_fits))
-    ∙ ap (open_default v k.limit k.header) (cc_principal_field.again k.principal text sound.principal)
-    ∙ ap (λ (c : Contents CredParts (List ℕ)). Ok (record { version = v; limit = k.limit; header = k.header; principal = k.principal; contents = c })) same
-    )
+    rw (long, version_again v rest, within, header_again v k.header named sound.header (IsBytes-front (header v k.header) named rest_fits), cc_principal_field.again k.principal text sound.principal, same) refl

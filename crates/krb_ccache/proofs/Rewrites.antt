@@ -1,52 +1,27 @@
 -- A rewritten cache: its image, its store, and where cursors go.
-use Rattle.krb_ccache.proofs.Cited.{◌≡◌, ℕ, suc, ◌+◌, ◌≤◌, Bool, true, false, cond, Result, Ok, Err, Some, None, List, [], ◌∷◌, ◌++◌, length, map, refl, sym, ap, subst, ◌∙◌, append_assoc, length-append, arith, ◌-◌, take, flat_map, AllByRecursion, le-ltb, append-nil, cc_principal, Parts, IsBytes, IsBytes-drop, IsBytes-take, next_by, spelling, Contents, Code, Cell, end_of, fault_of, AreCells, seen_in, Version, V4, CredParts, credential, is_marked, FitsCredential, in_version_4, header, offset_in, CacheState, PlacedCredential, credentials_format, image_of, store_cell, store_of, fault_kind, first_place, live_by, placed_from, is_live, new_header, new_preamble, live_credentials, Holds, IsImage, cache_of, new_text, new_texts, Layout, Offset}
-use Rattle.std.specs.Prelude.{nat_lt, is_some, not, filter, drop, Option, IfOk}
-use Rattle.krb_walk.specs.Ranks.{Rewrites}
+use Rattle.krb_ccache.proofs.Cited.{◌≡◌, ℕ, ◌+◌, ◌≤◌, true, false, Result, Ok, None, List, [], ◌∷◌, ◌++◌, length, map, refl, sym, ap, subst, ◌∙◌, append_assoc, length-append, arith, ◌-◌, take, flat_map, AllByRecursion, le-ltb, append-nil, cc_principal, Parts, IsBytes, IsBytes-drop, IsBytes-take, next_by, spelling, Cell, end_of, fault_of, AreCells, seen_in, Version, V4, CredParts, credential, is_marked, FitsCredential, in_version_4, header, offset_in, CacheState, PlacedCredential, credentials_format, image_of, store_cell, store_of, first_place, placed_from, is_live, new_header, new_preamble, live_credentials, Holds, IsImage, cache_of, new_text, new_texts, Layout, Offset, nat_lt, is_some, not, filter, drop, Option, IfOk, Rewrites, new_cells, rewrite_of, rewrite_result, IsBytes-front, IsBytes-back, whole_of}
 use Rattle.krb_walk.proofs.Lives.{lives}
-use Rattle.krb_walk.specs.declared.fault.FaultKind.{FaultKind}
 use Rattle.krb_cells.specs.Carry.{whole, store_in}
-use Rattle.krb_ccache.specs.Rewrite.{new_cells, rewrite_of, rewrite_result}
 use Rattle.krb_ccache.proofs.Splits.{no_credential}
 use Rattle.krb_ccache.proofs.CellLemmas.{end_is}
 use Rattle.krb_ccache.proofs.CacheLemmas.{IsReadable, holds, image_readable}
 use Rattle.krb_ccache.proofs.PreambleLemmas.{header_read}
 use Rattle.krb_ccache.proofs.NewTexts.{flat_new_texts}
-use Rattle.krb_ccache.proofs.StoreChanges.{cells_wide, live_cell}
+use Rattle.krb_ccache.proofs.StoreChanges.{cells_wide}
 use Rattle.krb_ccache.proofs.ImageLemmas.{image_parts, first_ahead, image_credentials, image_cells}
 use Rattle.krb_walk.specs.declared.refusal.Code.TheVariants as code
-use Rattle.krb_wire.proofs.Fields.{IsBytes-front, IsBytes-back}
-use Rattle.krb_walk.proofs.Splits.{whole_of}
 
 -- ---- the new image
 
 pub image_is : (k : CacheState) → image_of (rewrite_of k) ≡ new_preamble k.principal (offset_in k.header) ++ flat_map new_text k.contents.cells
-image_is k =
-    let h = header V4 (new_header (offset_in k.header)) in
-    let p = cc_principal k.principal in
-    let t = flat_map (credential V4) (new_cells k.contents.cells) in
-    ap (λ (b : List ℕ). 5 ∷ 4 ∷ (h ++ (p ++ b))) (append-nil t) ∙ ap (λ (b : List ℕ). 5 ∷ 4 ∷ b) (sym (append_assoc h p t)) ∙ ap (λ (b : List ℕ). 5 ∷ 4 ∷ ((h ++ p) ++ b)) (sym (flat_new_texts k.contents.cells))
+image_is k = search (arith, append-nil, append_assoc, flat_new_texts)
 
 fits_version_4 : (v : Version) (c : CredParts) → FitsCredential v c → FitsCredential V4 (in_version_4 c)
-fits_version_4 v c fit = record {
-  client = fit.client;
-  server = fit.server;
-  key = record { enctype = fit.key.enctype; second_enctype = refl; bytes = fit.key.bytes };
-  times = fit.times;
-  is_skey = fit.is_skey;
-  flags = fit.flags;
-  addresses = fit.addresses;
-  authdata = fit.authdata;
-  ticket = fit.ticket;
-  second_ticket = fit.second_ticket;
-}
-
-all_by : (v : Version) (c : CredParts) (cs : List CredParts) (b : Bool) → is_marked c ≡ b → FitsCredential V4 (in_version_4 c) → AllByRecursion (FitsCredential V4) (new_cells cs) → AllByRecursion (FitsCredential V4) (new_cells (c ∷ cs))
-all_by v c cs true e fit all = rw e all
-all_by v c cs false e fit all = rw e (fit, all)
+fits_version_4 v c fit = search arith
 
 all_version_4 : (v : Version) (cs : List CredParts) → AllByRecursion (FitsCredential v) cs → AllByRecursion (FitsCredential V4) (new_cells cs)
 all_version_4 v [] all = tt
-all_version_4 v (c ∷ cs) all = all_by v c cs (is_marked c) refl (fits_version_4 v c all.0) (all_version_4 v cs all.1)
+all_version_4 v (c ∷ cs) all = search (arith, fits_version_4, all_version_4 v cs all.1)
 
 pub rewrite_held : (k : CacheState) (image : List ℕ) (limit principal first end : ℕ) → IsReadable k → IsBytes image → image ≡ image_of (rewrite_of k) → limit ≡ k.limit → length (image_of (rewrite_of k)) ≤ limit
     → principal ≡ 2 + length (header V4 (new_header (offset_in k.header))) → first ≡ length (new_preamble k.principal (offset_in k.header)) → end ≡ length (image_of (rewrite_of k))
@@ -67,61 +42,26 @@ rewrite_held k image limit principal first end kept fits is is_limit within is_p
     } in
     let place : first ≡ first_place d = omega (arith, is_first, length-append h (cc_principal k.principal)) in
     let last : end ≡ end_of (store_of d) = omega (arith, is_end, ap length (image_is k), length-append (new_preamble k.principal (offset_in k.header)) (flat_map new_text k.contents.cells), end_is V4 (first_place d) (new_cells k.contents.cells), ap length (flat_new_texts k.contents.cells), place, is_first) in
-    holds d _ image new_kept fits is
-    (ap (λ (n : ℕ). record { version = V4; limit = n; places = record { principal = principal; first = first; end = end } }) is_limit
-    ∙ ap (λ (n : ℕ). record { version = V4; limit = k.limit; places = record { principal = n; first = first; end = end } }) is_principal
-    ∙ ap (λ (n : ℕ). record { version = V4; limit = k.limit; places = record { principal = 2 + length h; first = n; end = end } }) place
-    ∙ ap (λ (n : ℕ). record { version = V4; limit = k.limit; places = record { principal = 2 + length h; first = first_place d; end = n } }) last)
+    holds d _ image new_kept fits is (rw (is_limit, is_principal, place, last) refl)
 
 pub rewrite_fits : (k : CacheState) → is_some (fault_of (store_of k)) ≡ false → length (image_of (rewrite_of k)) ≤ k.limit → rewrite_result k ≡ Ok (rewrite_of k)
 rewrite_fits k whole short = let room : nat_lt k.limit (length (image_of (rewrite_of k))) ≡ false = le-ltb _ _ short in rw (whole, room) refl
 
 -- ---- its store
 
--- a removed credential is left out, and a live one is a live cell
-cells_removed : (c : CredParts) (cs : List CredParts) → is_marked c ≡ true → map (store_cell V4) (new_cells (c ∷ cs)) ≡ map (store_cell V4) (new_cells cs)
-cells_removed c cs e = rw e refl
-
-cells_live : (c : CredParts) (cs : List CredParts) → is_marked c ≡ false
-    → ◌≡◌ {A = List Cell} (map (store_cell V4) (new_cells (c ∷ cs))) (record { width = length (credential V4 (in_version_4 c)); live = Some (credential V4 (in_version_4 c)) } ∷ map (store_cell V4) (new_cells cs))
-cells_live c cs e =
-    let more : new_cells (c ∷ cs) ≡ in_version_4 c ∷ new_cells cs = rw e refl in
-    ap (map (store_cell V4)) more ∙ ap (λ (x : Cell). x ∷ map (store_cell V4) (new_cells cs)) (live_cell V4 (in_version_4 c) e)
-
-old_removed : (v : Version) (c : CredParts) (cs : List CredParts) → is_marked c ≡ true → ◌≡◌ {A = List Cell} (map (store_cell v) (c ∷ cs)) (record { width = length (credential v c); live = None } ∷ map (store_cell v) cs)
-old_removed v c cs e = ap (λ (b : Bool). record { width = length (credential v c); live = live_by b (credential v c) } ∷ map (store_cell v) cs) e
-
 abbrev IsAllLive : List Cell → Type 0
 IsAllLive cells = AllByRecursion (λ (x : Cell). is_some x.live ≡ true) cells
 
-all_live_by : (c : CredParts) (cs : List CredParts) (b : Bool) → is_marked c ≡ b → IsAllLive (map (store_cell V4) (new_cells cs)) → IsAllLive (map (store_cell V4) (new_cells (c ∷ cs)))
-all_live_by c cs true e all = subst IsAllLive (sym (cells_removed c cs e)) all
-all_live_by c cs false e all = subst IsAllLive (sym (cells_live c cs e)) (refl, all)
-
 all_live : (cs : List CredParts) → IsAllLive (map (store_cell V4) (new_cells cs))
 all_live [] = tt
-all_live (c ∷ cs) = all_live_by c cs (is_marked c) refl (all_live cs)
-
-as_many_by : (v : Version) (c : CredParts) (cs : List CredParts) (at to : ℕ) (b : Bool) → is_marked c ≡ b
-    → ((at to : ℕ) → length (lives to (map (store_cell V4) (new_cells cs))) ≡ length (lives at (map (store_cell v) cs)))
-    → length (lives to (map (store_cell V4) (new_cells (c ∷ cs)))) ≡ length (lives at (map (store_cell v) (c ∷ cs)))
-as_many_by v c cs at to true e ih =
-    ap (λ (xs : List Cell). length (lives to xs)) (cells_removed c cs e) ∙ ih (at + length (credential v c)) to ∙ sym (ap (λ (xs : List Cell). length (lives at xs)) (old_removed v c cs e))
-as_many_by v c cs at to false e ih =
-    ap (λ (xs : List Cell). length (lives to xs)) (cells_live c cs e) ∙ ap suc (ih (at + length (credential v c)) (to + length (credential V4 (in_version_4 c)))) ∙ sym (ap (λ (xs : List Cell). length (lives at xs)) (ap (λ (x : Cell). x ∷ map (store_cell v) cs) (live_cell v c e)))
+all_live (c ∷ cs) = search (arith, all_live cs)
 
 as_many : (v : Version) (cs : List CredParts) (at to : ℕ) → length (lives to (map (store_cell V4) (new_cells cs))) ≡ length (lives at (map (store_cell v) cs))
 as_many v [] at to = refl
-as_many v (c ∷ cs) at to = as_many_by v c cs at to (is_marked c) refl (as_many v cs)
+as_many v (c ∷ cs) at to = search (arith, as_many v cs)
 
 pub rewrites_store : (k : CacheState) → is_some (fault_of (store_of k)) ≡ false → Rewrites (store_of k) (store_of (rewrite_of k))
-rewrites_store k whole = record {
-  whole = whole_of (end_of (store_of k)) (fault_kind k.contents.end) whole;
-  fault = refl;
-  sound = cells_wide V4 (new_cells k.contents.cells);
-  all_live = all_live k.contents.cells;
-  as_many = as_many k.version k.contents.cells (first_place k) (first_place (rewrite_of k));
-}
+rewrites_store k whole = search (arith, whole_of, cells_wide, all_live, as_many)
 
 -- ---- its live credentials
 
@@ -132,42 +72,25 @@ live cs = filter (λ c. not (is_marked c)) cs
 abbrev unplaced : List PlacedCredential → List CredParts
 unplaced xs = map (λ x. x.1) xs
 
-unplaced_by : (v : Version) (at : ℕ) (c : CredParts) (cs : List CredParts) (b : Bool) → is_marked c ≡ b → unplaced (filter is_live (placed_from v (at + length (credential v c)) cs)) ≡ live cs → unplaced (filter is_live (placed_from v at (c ∷ cs))) ≡ live (c ∷ cs)
-unplaced_by v at c cs true e same = rw e same
-unplaced_by v at c cs false e same = rw e (ap (λ (xs : List CredParts). c ∷ xs) same)
-
 unplaced_live : (v : Version) (at : ℕ) (cs : List CredParts) → unplaced (filter is_live (placed_from v at cs)) ≡ live cs
 unplaced_live v at [] = refl
-unplaced_live v at (c ∷ cs) = unplaced_by v at c cs (is_marked c) refl (unplaced_live v (at + length (credential v c)) cs)
-
-live_by_mark : (c : CredParts) (cs : List CredParts) (b : Bool) → is_marked c ≡ b → live (new_cells cs) ≡ new_cells cs → live (new_cells (c ∷ cs)) ≡ new_cells (c ∷ cs)
-live_by_mark c cs true e same = rw e same
-live_by_mark c cs false e same = rw (e, e) (ap (λ (xs : List CredParts). in_version_4 c ∷ xs) same)
+unplaced_live v at (c ∷ cs) = search (arith, unplaced_live v (at + length (credential v c)) cs)
 
 live_version_4 : (cs : List CredParts) → live (new_cells cs) ≡ new_cells cs
 live_version_4 [] = refl
-live_version_4 (c ∷ cs) = live_by_mark c cs (is_marked c) refl (live_version_4 cs)
+live_version_4 (c ∷ cs) = search (arith, live_version_4 cs)
 
 credentials_kept : (k : CacheState) → live_credentials (rewrite_of k) ≡ map in_version_4 (live_credentials k)
-credentials_kept k =
-    unplaced_live V4 (first_place (rewrite_of k)) (new_cells k.contents.cells) ∙ live_version_4 k.contents.cells
-    ∙ ap (map in_version_4) (sym (unplaced_live k.version (first_place k) k.contents.cells))
-
--- a rewrite that is not refused gives the rewritten cache
-made_is : (k new : CacheState) (damaged full : Bool) → cond {A = Result CacheState Code} damaged (Err code.Damaged) (cond full (Err code.Full) (Ok (rewrite_of k))) ≡ Ok new → rewrite_of k ≡ new
-made_is k new true full made = absurd cc
-made_is k new false true made = absurd cc
-made_is k new false false made = cc
+credentials_kept k = search (arith, unplaced_live, live_version_4)
 
 -- the rewritten cache has the same live credentials, as version 4 has them
 pub rewritten_keeps : (k new : CacheState) → rewrite_result k ≡ Ok new → live_credentials new ≡ map in_version_4 (live_credentials k)
-rewritten_keeps k new made =
-    ap live_credentials (sym (made_is k new (is_some (fault_of (store_of k))) (nat_lt k.limit (length (image_of (rewrite_of k)))) made)) ∙ credentials_kept k
+rewritten_keeps k new made = search (arith, credentials_kept)
 
 -- ---- the image of a rewrite
 
 pub readable_by : (h : Layout) (image : List ℕ) (k : CacheState) → IsBytes image → IsImage h image → cache_of h image ≡ k → IsReadable k
-readable_by h image k fits is same = subst IsReadable same (image_readable h image fits is)
+readable_by h image k fits is same = rw (← same) (image_readable h image fits is)
 
 -- what a rewrite writes, from what was read
 pub record IsNewImage (h : Layout) (cells : List ℕ) (p : Parts) (o : Option Offset) (k : CacheState) : Type 0 where
@@ -212,17 +135,12 @@ old_store h image bytes k is_bytes fits is same no_fault =
     let text = take (h.places.end - h.places.first) (drop h.places.first image) in
     let are = image_credentials h image text k fits is same refl in
     let version : v ≡ k.version = ap (λ (x : CacheState). x.version) same in
-    subst (λ (b : List ℕ). IsOldStore v b h.places.first h.places.end k) (sym is_bytes) (record {
+    rw is_bytes (record {
       ahead = first_ahead h image (image_parts h image fits is);
       are = image_cells v text k h.places.first (IsBytes-take (h.places.end - h.places.first) (drop h.places.first image) (IsBytes-drop h.places.first image fits)) version are;
-      store =
-          ap (λ (n : ℕ). whole n (seen_in (credentials_format v) (store_cell v) text)) are.place
-          ∙ ap (λ (w : Version). whole (first_place k) (seen_in (credentials_format w) (store_cell w) text)) version
-          ∙ ap (λ (x : Contents CredParts (List ℕ)). whole (first_place k) (map (store_cell k.version) x.cells)) are.contents
-          ∙ ap (λ (y : Option FaultKind). record { first = first_place k; cells = map (store_cell k.version) k.contents.cells; fault = y }) (sym no_fault);
+      store = rw (version, are.contents, are.place, no_fault) refl;
     })
 
 -- rewrites the list in a clause about an `Ok` result by an equation
 pub ok_same : {X E : Type 0} (result : Result X E) (items : X → List ℕ) (a b : List ℕ) → a ≡ b → IfOk result (λ v. items v ≡ a) → IfOk result (λ v. items v ≡ b)
-ok_same (Ok v) items a b same is = is ∙ same
-ok_same (Err e) items a b same is = tt
+ok_same result items a b same is = search arith

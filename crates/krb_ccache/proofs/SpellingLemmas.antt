@@ -1,16 +1,12 @@
 -- What is written for a credential: whether it fits, and its parts.
-use Rattle.krb_ccache.proofs.Cited.{◌≡◌, ℕ, ◌+◌, ◌-◌, ◌^◌, ◌<◌, ◌≤◌, true, List, [], ◌∷◌, ◌++◌, length, sym, ap, subst, ◌∙◌, append_assoc, length-append, arith, sum, Option, None, IfNone, refl, flat_map, AllByRecursion, w16, w32, flat_map-cons, Big, Parts, digits, data32, cc_principal, cc_name_fits, IsLong, FitsCc, wide16, wide32, V4, TypedData, Key, CredParts, number32, typed_data, typed_list, key, times, credential, FitsTypedData, FitsTypedList, FitsTimes, FitsCredential, plain_key, middle_text, lists_text, owned_list, owned_typed, at_drop_more, drop, get_or}
-use Rattle.std.specs.Prelude.{Vec}
+use Rattle.krb_ccache.proofs.Cited.{◌≡◌, ℕ, ◌+◌, ◌-◌, ◌^◌, ◌<◌, ◌≤◌, true, List, [], ◌∷◌, ◌++◌, length, sym, ap, subst, ◌∙◌, append_assoc, length-append, arith, sum, Option, None, IfNone, refl, flat_map, AllByRecursion, w16, w32, flat_map-cons, Big, Parts, digits, data32, cc_principal, cc_name_fits, IsLong, FitsCc, wide16, wide32, V4, TypedData, Key, CredParts, number32, typed_data, typed_list, key, times, credential, FitsTypedData, FitsTypedList, FitsTimes, FitsCredential, plain_key, middle_text, lists_text, owned_list, owned_typed, at_drop_more, drop, get_or, Vec, Times}
 use Rattle.krb_wire.proofs.NamesCompared.{has_cc_len, and_both, long_lengths_of, long_lengths_fit}
-use Rattle.krb_ccache.specs.declared.credential.times.Times.{Times}
 
 -- ---- what fits
 
 -- a name that has a length fits
 pub spelled_fits : (p : Parts) → true ≡ has_cc_len p → p.name_type < 2 ^ 32 → FitsCc p
-spelled_fits p e lt =
-    let l = long_lengths_of p (and_both (cc_name_fits p) _ (sym e)).0 in
-    record { name_type = lt; count = l.count; realm = l.realm; components = l.components }
+spelled_fits p e lt = search (arith, and_both, long_lengths_of)
 
 -- a name that fits can be written
 pub fits_spelled : (p : Parts) → FitsCc p → cc_name_fits p ≡ true
@@ -27,14 +23,7 @@ few_items xs lt each = record { count = omega (arith, lt, items_le xs); each = e
 -- ---- its parts
 
 pub in_four : (c : CredParts) → cc_principal c.client ++ (cc_principal c.server ++ (middle_text c ++ lists_text c)) ≡ credential V4 c
-in_four c =
-    let k = key V4 c.key in
-    let t = times c.times in
-    let s : List ℕ = c.is_skey ∷ [] in
-    let f = number32 c.flags in
-    let rest = lists_text c in
-    ap (λ (b : List ℕ). cc_principal c.client ++ (cc_principal c.server ++ b))
-    (append_assoc k (t ++ (s ++ f)) rest ∙ ap (λ (b : List ℕ). k ++ b) (append_assoc t (s ++ f) rest ∙ ap (λ (b : List ℕ). t ++ b) (append_assoc s f rest)))
+in_four c = search (arith, append_assoc)
 
 -- the same, with the names of an equal credential
 pub four_is : (c d : CredParts) → d ≡ c → cc_principal d.client ++ (cc_principal d.server ++ (middle_text c ++ lists_text c)) ≡ credential V4 c
@@ -127,11 +116,7 @@ pub items_more : {A : Type 0} (items : List (ℕ × Vec ℕ A)) (i : ℕ) (x : �
 items_more items i x lt is = at_drop_more owned_list items i x lt ∙ ap (λ (y : TypedData). y ∷ owned_list (drop (i + 1) items)) (ap owned_typed (sym is))
 
 pub middle_is : (c d : CredParts) (bytes : List ℕ) (t : Times) → d ≡ c → bytes ≡ d.key.bytes → t ≡ c.times → key V4 (plain_key d.key.enctype bytes) ++ (times t ++ ((d.is_skey ∷ []) ++ number32 d.flags)) ≡ middle_text c
-middle_is c d bytes t same is_bytes is_times =
-    let rest = (d.is_skey ∷ []) ++ number32 d.flags in
-    ap (λ (b : List ℕ). key V4 (plain_key d.key.enctype b) ++ (times t ++ rest)) is_bytes
-    ∙ ap (λ (u : Times). key V4 d.key ++ (times u ++ rest)) (is_times ∙ sym (ap (λ (x : CredParts). x.times) same))
-    ∙ ap middle_text same
+middle_is c d bytes t same is_bytes is_times = rw (is_bytes, is_times, same) refl
 
 pub lists_is : (c d : CredParts) (xs ys : List TypedData) (t u : List ℕ) → d ≡ c → xs ≡ d.addresses → ys ≡ d.authdata → t ≡ d.ticket → u ≡ d.second_ticket → typed_list xs ++ (typed_list ys ++ (data32 Big t ++ data32 Big u)) ≡ lists_text c
 lists_is c d xs ys t u same is_xs is_ys is_t is_u = rw (is_xs, is_ys, is_t, is_u) (ap lists_text same)
@@ -152,32 +137,7 @@ pub record PartsFit (d : CredParts) : Type 0 where
 -- they fit if their lengths add up to at most `most`
 pub parts_within : (c d : CredParts) (most len room left : ℕ) (xs ys : List TypedData) → LensWithin c d most len → most ≤ 2 ^ 30 → xs ≡ d.addresses → ys ≡ d.authdata → room + length (flat_map typed_data xs) ≡ most - len → left + length (flat_map typed_data ys) ≡ room
     → true ≡ has_cc_len d.client → true ≡ has_cc_len d.server → d.key.second_enctype ≡ 0 → AllByRecursion FitsTypedData xs → AllByRecursion FitsTypedData ys → PartsFit d
-parts_within c d most len room left xs ys t small is_xs is_ys first second client server one_enctype address element =
-    record {
-      client = client;
-      server = server;
-      one_enctype = one_enctype;
-      key = omega (arith, small, t.within, t.lens);
-      address = subst (AllByRecursion FitsTypedData) is_xs address;
-      addresses = omega (arith, small, first, ap (λ (x : List TypedData). length (flat_map typed_data x)) is_xs);
-      element = subst (AllByRecursion FitsTypedData) is_ys element;
-      authdata = omega (arith, small, first, second, ap (λ (x : List TypedData). length (flat_map typed_data x)) is_ys);
-      ticket = omega (arith, small, t.within, t.lens);
-      second_ticket = omega (arith, small, t.within, t.lens);
-    }
+parts_within c d most len room left xs ys t small is_xs is_ys first second client server one_enctype address element = search arith
 
 pub fits_by : (c d : CredParts) → d ≡ c → PartsFit d → c.client.name_type < 2 ^ 32 → c.server.name_type < 2 ^ 32 → c.key.enctype < 2 ^ 16 → c.is_skey < 256 → c.flags < 2 ^ 32 → FitsTimes c.times → FitsCredential V4 c
-fits_by c d same parts client server enctype is_skey flags times =
-    let p = subst PartsFit same parts in
-    record {
-      client = spelled_fits c.client p.client client;
-      server = spelled_fits c.server p.server server;
-      key = record { enctype = enctype; second_enctype = p.one_enctype; bytes = p.key };
-      times = times;
-      is_skey = is_skey;
-      flags = flags;
-      addresses = few_items c.addresses p.addresses p.address;
-      authdata = few_items c.authdata p.authdata p.element;
-      ticket = p.ticket;
-      second_ticket = p.second_ticket;
-    }
+fits_by c d same parts client server enctype is_skey flags times = search (arith, spelled_fits, few_items)

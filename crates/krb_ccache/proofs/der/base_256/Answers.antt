@@ -1,7 +1,7 @@
-use Rattle.std.proofs.Common.{arith, ℕ, ◌+◌, ◌*◌, ◌<◌, ◌≤◌, ◌^◌}
+use Rattle.krb_ccache.proofs.Cited.{arith, ℕ, ◌+◌, ◌*◌, ◌<◌, ◌≤◌, ◌^◌}
 use Rattle.std.proofs.Math.Nat.{pow-le-pow_right}
-use Rattle.krb_ccache.proofs.der.base_256.Goals as goal
 use Rattle.krb_ccache.proofs.der.base_256.Goals.{then-is_complement, else-is_complement}
+use Rattle.krb_ccache.proofs.der.base_256.Goals as goal
 
 -- eight digits at most fit 64 bits
 room_for_digit : (n i len : ℕ) → n < 256 ^ i → i < len → len ≤ 8 → n * 256 + 255 < 2 ^ 64

@@ -1,4 +1,4 @@
-use Rattle.std.proofs.Common.{◌≡◌, ◌<◌, ◌^◌, take}
+use Rattle.krb_ccache.proofs.Cited.{◌≡◌, ◌<◌, ◌^◌, take}
 use Rattle.krb_ccache.specs.Der.{base_256}
 use Rattle.krb_ccache.proofs.der.base_256.Given as goal
 

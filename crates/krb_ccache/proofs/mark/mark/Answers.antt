@@ -1,33 +1,18 @@
-use Rattle.krb_ccache.proofs.Cited.{refl, arith, is_some_has}
-use Rattle.krb_ccache.proofs.MarkLemmas.{around, marked_is, times_left, times_there}
+use Rattle.krb_ccache.proofs.Cited.{refl, arith}
+use Rattle.krb_ccache.proofs.MarkLemmas.{times_room, times_here, around, marked_is, times_left}
 use Rattle.krb_ccache.proofs.mark.mark.Goals as goal
 
 pub unreachable-requires : goal.unreachable-requires
-unreachable-requires c =
-    let s = is_some_has _ c.requires.there in
-    let w = around c.args.version c.args.image.now c.args.place s.0.0 s.0.1 c.bytes_fit.ensures c.requires.within s.1 in
-    times_there c.args.version c.args.image.now c.tail.result.now c.args.place s.0.0 s.0.1 w c.tail.ensures c.in_default.ensures
+unreachable-requires c = search (arith, times_here)
 
 pub overflow_sub-authtime : goal.overflow_sub-authtime
-overflow_sub-authtime c =
-    let s = is_some_has _ c.requires.there in
-    let w = around c.args.version c.args.image.now c.args.place s.0.0 s.0.1 c.bytes_fit.ensures c.requires.within s.1 in
-    let t = times_left c.args.version c.args.image.now c.tail.result.now c.in-Some.times.now c.args.place s.0.0 s.0.1 w c.tail.ensures c.in-Some.ensures in
-    omega (arith, t.0)
+overflow_sub-authtime c = search (arith, times_room)
 
 pub put_time-requires : goal.put_time-requires
-put_time-requires c =
-    let s = is_some_has _ c.requires.there in
-    let w = around c.args.version c.args.image.now c.args.place s.0.0 s.0.1 c.bytes_fit.ensures c.requires.within s.1 in
-    let t = times_left c.args.version c.args.image.now c.tail.result.now c.in-Some.times.now c.args.place s.0.0 s.0.1 w c.tail.ensures c.in-Some.ensures in
-    omega (arith, t.0, t.1)
+put_time-requires c = search (arith, times_room)
 
 pub put_time-requires-2 : goal.put_time-requires-2
-put_time-requires-2 c =
-    let s = is_some_has _ c.requires.there in
-    let w = around c.args.version c.args.image.now c.args.place s.0.0 s.0.1 c.bytes_fit.ensures c.requires.within s.1 in
-    let t = times_left c.args.version c.args.image.now c.tail.result.now c.in-Some.times.now c.args.place s.0.0 s.0.1 w c.tail.ensures c.in-Some.ensures in
-    omega (arith, t.0, t.1, c.put_time.auto.image)
+put_time-requires-2 c = search (arith, times_room)
 
 pub returns-clause-marked : goal.returns-clause-marked
 returns-clause-marked c = λ x rest read.

@@ -1,11 +1,10 @@
 use Rattle.krb_ccache.proofs.Cited.{ℕ, List, ap, ◌∙◌, arith, is_some, credential_at}
+use Rattle.krb_ccache.proofs.CellLemmas.{read_left}
 use Rattle.krb_ccache.proofs.NewTexts.{first_text, live_text}
 use Rattle.krb_ccache.proofs.new_image.next_text.Goals as goal
 
 pub overflow_sub-bytes : goal.overflow_sub-bytes
-overflow_sub-bytes c =
-    let len = (first_text c.args.version c.args.bytes.now c.in_ok-credential.credential c.in_ok-credential.after.now c.bytes_fit.ensures c.in_ok-credential.ensures).len in
-    omega (arith, len)
+overflow_sub-bytes c = search (arith, read_left)
 
 pub around_second_enctype-requires : goal.around_second_enctype-requires
 around_second_enctype-requires c =

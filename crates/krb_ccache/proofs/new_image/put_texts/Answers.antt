@@ -3,20 +3,13 @@ use Rattle.krb_ccache.proofs.NewTexts.{new_texts_none, new_texts_step}
 use Rattle.krb_ccache.proofs.new_image.put_texts.Goals as goal
 
 pub put_bytes-requires : goal.put_bytes-requires
-put_bytes-requires c =
-    let s = new_texts_step c.args.version c.loop-first.rest.now _ c.in-Some.after.now c.loop-first.invariant.fits c.in-Some.ensures.some in
-    omega (arith, c.loop-first.invariant.left.room, s.len, length-append c.in-Some.first.now c.in-Some.second.now)
+put_bytes-requires c = search (arith, new_texts_step, length-append)
 
 pub put_bytes-requires-in-Some : goal.put_bytes-requires-in-Some
-put_bytes-requires-in-Some c =
-    let s = new_texts_step c.args.version c.loop-first.rest.now _ c.in-Some.after.now c.loop-first.invariant.fits c.in-Some.ensures.some in
-    let first = c.put_bytes.ensures in
-    omega (arith, c.loop-first.invariant.left.room, s.len, length-append c.in-Some.first.now c.in-Some.second.now, first.place, first.length)
+put_bytes-requires-in-Some c = search (arith, new_texts_step, length-append)
 
 pub loop-first-smaller : goal.loop-first-smaller
-loop-first-smaller c =
-    let s = new_texts_step c.args.version c.loop-first.rest.now _ c.in-Some.after.now c.loop-first.invariant.fits c.in-Some.ensures.some in
-    s.less
+loop-first-smaller c = search (arith, new_texts_step)
 
 pub loop-first-preserved : goal.loop-first-preserved
 loop-first-preserved c =

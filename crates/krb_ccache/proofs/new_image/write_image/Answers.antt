@@ -1,6 +1,6 @@
+use Rattle.krb_ccache.proofs.Cited.{◌≡◌, ℕ, ◌+◌, List, length, ap, length-append, arith, IsAt, HasRoom, ◌++◌, refl, left_room, left_next, left_all, new_preamble, new_texts}
 use Rattle.std.specs.Borrow.{MutBor}
 use Rattle.krb_wire.specs.declared.pen.Pen.{Pen}
-use Rattle.krb_ccache.proofs.Cited.{◌≡◌, ℕ, ◌+◌, List, length, ap, length-append, arith, IsAt, HasRoom, ◌++◌, refl, left_room, left_next, left_all, new_preamble, new_texts}
 use Rattle.krb_ccache.proofs.new_image.write_image.Goals as goal
 
 -- there is room for two texts that take up the whole of an image

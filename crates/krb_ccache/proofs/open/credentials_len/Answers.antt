@@ -1,4 +1,4 @@
-use Rattle.std.proofs.Common.{arith}
+use Rattle.krb_ccache.proofs.Cited.{arith}
 use Rattle.krb_ccache.proofs.CellLemmas.{read_left}
 use Rattle.krb_ccache.proofs.PlaceLemmas.{len_step, len_end}
 use Rattle.krb_ccache.proofs.open.credentials_len.Goals as goal
@@ -10,16 +10,7 @@ pub loop-after-smaller : goal.loop-after-smaller
 loop-after-smaller c = (read_left c.args.version c.loop-after.rest.now _ c.in-Some.after.now c.loop-after.invariant.fits c.in-Some.ensures).1
 
 pub loop-after-preserved : goal.loop-after-preserved
-loop-after-preserved c =
-    let step = len_step c.args.version c.loop-after.rest.now _ c.in-Some.after.now c.loop-after.invariant.fits c.in-Some.ensures in
-    let less = (read_left c.args.version c.loop-after.rest.now _ c.in-Some.after.now c.loop-after.invariant.fits c.in-Some.ensures).1 in
-    record {
-      all = omega (arith, step, c.loop-after.invariant.all);
-      within = omega (arith, less, c.loop-after.invariant.within);
-      fits = (read_left c.args.version c.loop-after.rest.now _ c.in-Some.after.now c.loop-after.invariant.fits c.in-Some.ensures).0;
-    }
+loop-after-preserved c = search (arith, len_step, read_left)
 
 pub returns-clause-value : goal.returns-clause-value
-returns-clause-value c =
-    let none = len_end c.args.version c.loop-after.rest.now c.loop-after.invariant.fits c.in_default.ensures in
-    omega (arith, none, c.loop-after.invariant.all, c.loop-after.invariant.within)
+returns-clause-value c = search (arith, len_end)

@@ -1,4 +1,4 @@
-use Rattle.std.proofs.Common.{◌^◌, ◌<◌, subst}
+use Rattle.krb_ccache.proofs.Cited.{◌^◌, ◌<◌, subst}
 use Rattle.krb_ccache.proofs.SpellingLemmas.{spelled_fits}
 use Rattle.krb_ccache.proofs.preamble.preamble_len.Goals as goal
 

@@ -1,4 +1,4 @@
-use Rattle.krb_wire.proofs.PenLemmas.{puts_then}
+use Rattle.krb_ccache.proofs.Cited.{puts_then}
 use Rattle.krb_ccache.proofs.SpellingLemmas.{fits_spelled}
 use Rattle.krb_ccache.proofs.preamble.put_preamble.Goals as goal
 

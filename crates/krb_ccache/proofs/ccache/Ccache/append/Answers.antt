@@ -1,12 +1,10 @@
-use Rattle.krb_ccache.proofs.Cited.{◌≡◌, ◌+◌, ◌≤◌, ℕ, length, Ok, refl, sym, ap, ◌∙◌, arith, IsBytes, V4, credential, CacheState, image_of, with_last, is_refused, InMemory, subst}
+use Rattle.krb_ccache.proofs.Cited.{◌+◌, ◌≤◌, ℕ, length, Ok, sym, ap, ◌∙◌, arith, IsBytes, V4, credential, CacheState, image_of, with_last, InMemory, subst}
 use Rattle.krb_ccache.proofs.ImageLemmas.{image_parts}
 use Rattle.krb_ccache.proofs.LastCredential.{append_full, append_fits, appendable_held}
 use Rattle.krb_ccache.proofs.ccache.Ccache.append.Goals as goal
 
 pub returns-in_default-clause-gives : goal.returns-in_default-clause-gives
-returns-in_default-clause-gives g c =
-    let a = appendable_held c.deref.ensures.value c.bytes_fit.ensures c.self.invariant.0 (ap (λ (m : InMemory). m.state) c.self.view_is) c.requires.whole c.requires.version in
-    (append_full _ _ _ a.0 (omega (arith, c.self.inside.image.ok.0, c.in_default.ensures.none, c.len.ensures, a.1)), refl)
+returns-in_default-clause-gives g c = search (arith, appendable_held, append_full)
 
 pub returns-clause-gives : goal.returns-clause-gives
 returns-clause-gives g c =
@@ -19,12 +17,7 @@ returns-clause-gives g c =
     ∙ ap (λ (s : CacheState). Ok (c.end-place.result, s)) (ap (λ (m : InMemory). with_last m.state x) (sym c.self.view_is) ∙ sym c.in_ok-self-inside.ensures.ok.state)
 
 pub returns-in_err-self-inside-clause-memory : goal.returns-in_err-self-inside-clause-memory
-returns-in_err-self-inside-clause-memory g c = λ refused.
-    let i = c.self.inside in
-    let a = appendable_held c.deref.ensures.value c.bytes_fit.ensures c.self.invariant.0 (ap (λ (m : InMemory). m.state) c.self.view_is) c.requires.whole c.requires.version in
-    let short : i.layout.places.end + length (credential V4 c.args.cred.now) ≤ i.layout.limit = omega (arith, i.image.ok.0, c.in-Some.ensures.some, c.in-Some.ensures.within, c.self.invariant.0.within, c.len.ensures, a.1) in
-    let never = sym (ap is_refused (append_fits _ _ c.args.cred.now a.0 short)) ∙ refused in
-    absurd cc
+returns-in_err-self-inside-clause-memory g c = λ refused. search (arith, appendable_held, append_fits)
 
 pub returns-in_err-self-inside-clause-room : goal.returns-in_err-self-inside-clause-room
 returns-in_err-self-inside-clause-room g c = λ room.

@@ -1,4 +1,4 @@
-use Rattle.krb_ccache.proofs.Cited.{◌≡◌, length, false, ap, ◌∙◌, arith, is_some, IsBytes, fault_of, V4, header, store_of, new_header, InMemory, subst}
+use Rattle.krb_ccache.proofs.Cited.{length, ap, ◌∙◌, arith, IsBytes, V4, header, new_header, InMemory, subst}
 use Rattle.krb_ccache.proofs.Rewrites.{rewrite_fits, rewrites_store, new_image_held}
 use Rattle.krb_ccache.proofs.ccache.Ccache.new_cache.Goals as goal
 
@@ -14,13 +14,7 @@ returns-clause-ok g c =
     (c.header_len.ensures ∙ ap (λ o. length (header V4 (new_header o))) c.offset.ensures) c.in-Some.ensures.first c.in-Some.ensures.len c.in-Some.ensures.within).state
 
 pub returns-clause-gives : goal.returns-clause-gives
-returns-clause-gives g c =
-    let k = c.args.self.now.state in
-    let whole : is_some (fault_of (store_of k)) ≡ false = let a = c.fault.ensures in let b = c.is_some.ensures in let d = c.if-is_some.false in cc in
-    rewrite_fits k whole (omega (arith, c.in-Some.ensures.within, c.in-Some.ensures.len))
+returns-clause-gives g c = search (arith, rewrite_fits)
 
 pub returns-clause-rewrites : goal.returns-clause-rewrites
-returns-clause-rewrites g c =
-    let k = c.args.self.now.state in
-    let whole : is_some (fault_of (store_of k)) ≡ false = let a = c.fault.ensures in let b = c.is_some.ensures in let d = c.if-is_some.false in cc in
-    rewrites_store k whole
+returns-clause-rewrites g c = search (arith, rewrites_store)

@@ -1,5 +1,4 @@
-use Rattle.krb_ccache.proofs.Cited.{◌∙◌, map, sym, ap, subst, AllByRecursion, IsBytes, Store, IsPlace, CacheState, store_of, InMemory}
-use Rattle.krb_walk.specs.Ranks.{carry, Rewrites}
+use Rattle.krb_ccache.proofs.Cited.{◌∙◌, map, sym, ap, subst, AllByRecursion, IsBytes, Store, IsPlace, CacheState, store_of, InMemory, Rewrites, carry}
 use Rattle.krb_ccache.proofs.Rewrites.{old_store}
 use Rattle.krb_ccache.proofs.ccache.Ccache.rewrite.Goals as goal
 

@@ -1,4 +1,4 @@
-use Rattle.krb_ccache.proofs.Cited.{refl, ap, ◌∙◌, owned_list}
+use Rattle.krb_ccache.proofs.Cited.{arith, refl, ap, ◌∙◌, owned_list}
 use Rattle.krb_ccache.proofs.SpellingLemmas.{none_if, client_too_long, server_too_long, lens_within, lens_too_long, LensWithin, addresses_too_long, authdata_too_long, room_within, parts_within, fits_by}
 use Rattle.krb_ccache.proofs.credential.Cred.len_within.Goals as goal
 
@@ -15,11 +15,7 @@ returns-in_err-len-clause-none g c =
     none_if c.from_residual-in_err-len.ensures (lens_too_long c.args.self.now _ c.args.most _ c.self.view_is fit_lens c.in_err-len.ensures.none)
 
 pub returns-in_err-room-clause-none : goal.returns-in_err-room-clause-none
-returns-in_err-room-clause-none g c =
-    let i = c.self.inside in
-    let fit_lens = lens_within c.args.self.now _ _ _ _ _ _ c.self.view_is c.in_ok-client.ensures.len c.in_ok-server.ensures.len (c.len.ensures ∙ i.key.ok.0) (c.len-2.ensures ∙ i.ticket.ok.0) (c.len-3.ensures ∙ i.second_ticket.ok.0) in
-    let t : LensWithin c.args.self.now _ c.args.most c.in_ok-len.len = record { same = c.self.view_is; lens = c.in_ok-len.ensures.some ∙ fit_lens; within = c.in_ok-len.ensures.within } in
-    none_if c.from_residual-in_err-room.ensures (addresses_too_long c.args.self.now _ c.args.most c.in_ok-len.len _ t (ap owned_list c.deref.ensures.value) c.in_err-room.ensures.none)
+returns-in_err-room-clause-none g c = search (arith, lens_within, none_if, addresses_too_long)
 
 pub returns-in_err-room-2-clause-none : goal.returns-in_err-room-2-clause-none
 returns-in_err-room-2-clause-none g c =

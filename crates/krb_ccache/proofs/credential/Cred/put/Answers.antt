@@ -1,4 +1,4 @@
-use Rattle.krb_ccache.proofs.Cited.{◌++◌, refl, sym, ap, subst, ◌∙◌, Puts, cc_name_fits, puts_then, CredParts, left_room, left_next, left_all, cc_principal, principal_parts, middle_text}
+use Rattle.krb_ccache.proofs.Cited.{refl, sym, ap, subst, ◌∙◌, Puts, cc_name_fits, puts_then, CredParts, left_room, left_next, left_all, cc_principal, principal_parts, middle_text}
 use Rattle.krb_ccache.proofs.SpellingLemmas.{four_is, fits_spelled}
 use Rattle.krb_ccache.proofs.credential.Cred.put.Goals as goal
 

@@ -1,4 +1,4 @@
-use Rattle.krb_ccache.proofs.Cited.{◌++◌, refl, sym, ap, subst, ◌∙◌, IsLong, Puts, puts_then, CredParts, FitsTypedList, owned_list, left_room, left_next, left_all, data32, Big, typed_list}
+use Rattle.krb_ccache.proofs.Cited.{refl, sym, ap, subst, ◌∙◌, IsLong, Puts, puts_then, CredParts, FitsTypedList, owned_list, left_room, left_next, left_all, data32, Big, typed_list}
 use Rattle.krb_ccache.proofs.SpellingLemmas.{lists_is}
 use Rattle.krb_ccache.proofs.credential.Cred.put_lists.Goals as goal
 

@@ -1,6 +1,6 @@
-use Rattle.krb_ccache.proofs.Cited.{◌≡◌, ◌+◌, ℕ, List, ◌∷◌, sym, ap, subst, ◌∙◌, flat_map, AllByRecursion, flat_map-cons, HasRoom, Puts, left_next, left_room, TypedData, typed_data, FitsTypedData, owned_typed}
-use Rattle.krb_ccache.proofs.credential.spelling.put_items.Goals as goal
+use Rattle.krb_ccache.proofs.Cited.{◌≡◌, ℕ, List, sym, ap, subst, ◌∙◌, flat_map, AllByRecursion, flat_map-cons, HasRoom, Puts, left_next, left_room, TypedData, typed_data, FitsTypedData, owned_typed}
 use Rattle.krb_ccache.proofs.SpellingLemmas.{items_more}
+use Rattle.krb_ccache.proofs.credential.spelling.put_items.Goals as goal
 
 pub put_item-requires-clause-room : goal.put_item-requires-clause-room
 put_item-requires-clause-room g c =

@@ -1,4 +1,4 @@
-use Rattle.krb_wire.proofs.PenLemmas.{puts_then}
+use Rattle.krb_ccache.proofs.Cited.{puts_then}
 use Rattle.krb_ccache.proofs.credential.spelling.put_times.Goals as goal
 
 pub returns : goal.returns

@@ -1,4 +1,4 @@
-use Rattle.krb_ccache.proofs.Cited.{◌≡◌, ◌+◌, ◌∷◌, sym, subst, ◌∙◌, arith, AllByRecursion, FitsTypedData}
+use Rattle.krb_ccache.proofs.Cited.{sym, subst, arith, AllByRecursion, FitsTypedData}
 use Rattle.krb_ccache.proofs.SpellingLemmas.{none_if, items_len, items_more}
 use Rattle.krb_ccache.proofs.credential.spelling.room_after.Goals as goal
 

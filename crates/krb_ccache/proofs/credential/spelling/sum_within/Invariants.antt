@@ -1,4 +1,4 @@
-use Rattle.std.proofs.Common.{◌≡◌, ◌+◌, take, sum}
+use Rattle.krb_ccache.proofs.Cited.{◌≡◌, ◌+◌, take, sum}
 use Rattle.krb_ccache.proofs.credential.spelling.sum_within.Given as goal
 
 -- the room left by the lengths so far

@@ -1,21 +1,15 @@
-use Rattle.krb_ccache.proofs.Cited.{List, refl, sym, ap, ◌∙◌, arith, CredParts, CredentialsFrom, Contents, ℕ}
-use Rattle.krb_ccache.proofs.CellLemmas.{read_one, read_none, begins, fewer_left}
+use Rattle.krb_ccache.proofs.Cited.{arith}
+use Rattle.krb_ccache.proofs.CellLemmas.{read_left, read_one, read_none, begins, fewer_left}
 use Rattle.krb_ccache.proofs.credentials.AllCredentialsIterator.next.Goals as goal
 
 pub returns-in_err-credential-clause-steps : goal.returns-in_err-credential-clause-steps
-returns-in_err-credential-clause-steps c =
-    let none = read_none c.self.inside.version c.self.inside.bytes.now c.bytes_fit.ensures c.in_err-credential.ensures in
-    rw c.from_residual.ensures (ap (λ (x : CredentialsFrom). x.cells) (sym c.self.view_is) ∙ ap (λ (k : Contents CredParts (List ℕ)). k.cells) none, refl)
+returns-in_err-credential-clause-steps c = search (arith, read_none)
 
 pub overflow_sub-self : goal.overflow_sub-self
-overflow_sub-self c =
-    let len = (read_one c.self.inside.version c.self.inside.bytes.now c.in_ok-credential.credential c.in_ok-credential.after.now c.bytes_fit.ensures c.in_ok-credential.ensures).len in
-    omega (arith, len)
+overflow_sub-self c = search (arith, read_left)
 
 pub invariant_of-self : goal.invariant_of-self
-invariant_of-self c =
-    let len = (read_one c.self.inside.version c.self.inside.bytes.now c.in_ok-credential.credential c.in_ok-credential.after.now c.bytes_fit.ensures c.in_ok-credential.ensures).len in
-    omega (arith, len, c.self.invariant)
+invariant_of-self c = search (arith, read_left)
 
 pub returns-clause-steps : goal.returns-clause-steps
 returns-clause-steps c =

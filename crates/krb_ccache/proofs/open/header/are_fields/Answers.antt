@@ -1,4 +1,4 @@
-use Rattle.std.proofs.Common.{refl, sym, ◌∙◌, arith}
+use Rattle.krb_ccache.proofs.Cited.{refl, sym, ◌∙◌, arith}
 use Rattle.krb_ccache.proofs.HeaderFields.{fields_step, fields_end, field_shrinks, field_left}
 use Rattle.krb_ccache.proofs.open.header.are_fields.Goals as goal
 
@@ -9,10 +9,7 @@ pub loop-after-smaller : goal.loop-after-smaller
 loop-after-smaller c = field_shrinks c.loop-after.rest.now _ c.in-Some.after.now c.loop-after.invariant.fits c.in-Some.ensures
 
 pub loop-after-preserved : goal.loop-after-preserved
-loop-after-preserved c = record {
-  same = sym (fields_step c.loop-after.rest.now _ c.in-Some.after.now c.loop-after.invariant.fits c.in-Some.ensures) ∙ c.loop-after.invariant.same;
-  fits = field_left c.loop-after.rest.now _ c.in-Some.after.now c.loop-after.invariant.fits c.in-Some.ensures;
-}
+loop-after-preserved c = search (arith, fields_step, field_left)
 
 pub returns : goal.returns
 returns c = c.is_empty.ensures ∙ sym (fields_end c.loop-after.rest.now c.loop-after.invariant.fits c.in_default.ensures) ∙ c.loop-after.invariant.same

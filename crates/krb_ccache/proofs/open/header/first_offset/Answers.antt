@@ -1,4 +1,4 @@
-use Rattle.std.proofs.Common.{refl, sym, ◌∙◌, arith}
+use Rattle.krb_ccache.proofs.Cited.{refl, sym, ◌∙◌, arith}
 use Rattle.krb_ccache.proofs.HeaderFields.{offset_found, offset_step, offset_end, field_shrinks, field_left}
 use Rattle.krb_ccache.proofs.open.header.first_offset.Goals as goal
 
