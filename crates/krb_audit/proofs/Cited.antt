@@ -1,11 +1,11 @@
 -- The names that the proofs cite most, passed on from one place. Declares nothing.
 pub use Rattle.std.proofs.Common.{◌≡◌, ◌∙◌, sym, ap, List, ◌∷◌, arith, ℕ, [], refl, subst, Bool, false, length, Some, map, Option, cond, true, None, ◌++◌, ◌+◌, replicate, take, append_assoc, get_or, ◌≤◌, inl, ◌==◌, inr, set, ◌-◌, ◌%◌, drop, suc, append-nil, ◌≢◌, ◌/◌, zero, ◌<◌, ◌⊎◌}
-pub use Rattle.std.proofs.Math.Bool.{or_assoc, or-false, and_assoc}
-pub use Rattle.std.proofs.lemmas.Bool.{eq-eqb, eqb-true, cases_lt, cases_eq, and_from, ne_eqb, ltb-true, or_right, false_from_ne_true, false≢true, and_left}
+pub use Rattle.std.proofs.Math.Bool.{or-false}
+pub use Rattle.std.proofs.lemmas.Bool.{eq-eqb, eqb-true, cases_lt, ne_eqb, ltb-true}
 pub use Rattle.std.proofs.lemmas.Cmp.{on_equiv, and_equiv, lists_equiv, nat_cmp_total, nat_list_eq_equiv, nat_eq_equiv, tied_itself}
 pub use Rattle.std.proofs.lemmas.List.{take_all, get_or-set_same, length-set, get_or-set_other, get_or_past, length-map, length-append, map_push, take_at, length-replicate, get_or-replicate, length_push}
 pub use Rattle.std.proofs.lemmas.List.Folds.{list_any-append, find-append}
-pub use Rattle.std.specs.List.{fold, list_any, All, sum_by, flat_map, AllByRecursion, range_with_len, cons_option, Contains, filter_map}
+pub use Rattle.std.specs.List.{fold, list_any, All, sum_by, flat_map, AllByRecursion, range_with_len, Contains, filter_map}
 pub use Rattle.std.specs.Option.{option_or, option_map_or, MatchOption}
 pub use Rattle.std.specs.Prelude.{◌||◌, ◌&&◌, not, ◌==◌, filter, option_map, find, unwrap_or, nat_lt}
 pub use Rattle.std.specs.Str.{bytes_eq}
@@ -22,11 +22,11 @@ pub use Rattle.krb_audit.specs.declared.rows.Row.{Row}
 pub use Rattle.krb_audit.specs.declared.selection.SelectedKvno.TheVariants.{OldFor, Old, Exactly, Any, Newest}
 pub use Rattle.krb_audit.specs.declared.newest.Stamp.{Stamp}
 pub use Rattle.krb_keytab.specs.CellViews.{cell_of, cells_of, CellsFrom, BeginsWith}
-pub use Rattle.krb_keytab.specs.Cells.{size, Free, Live, Cell}
+pub use Rattle.krb_keytab.specs.Cells.{size, Free, Cell}
 pub use Rattle.krb_keytab.specs.Entries.{entries_in, entry_in}
 pub use Rattle.krb_keytab.specs.Entry.{EntryParts, entry_at, Spells}
 pub use Rattle.krb_keytab.specs.Find.{PlacedEntry, placed_entries}
 pub use Rattle.krb_wire.proofs.Fields.{some_is, is_some_has, wide32}
 pub use Rattle.krb_wire.specs.Names.{have_same_name}
-pub use Rattle.krb_wire.specs.Spelling.{Parts, FitsKt, order_of, kt_principal, name_type_field, count_field, data16, HasNameType, digits}
+pub use Rattle.krb_wire.specs.Spelling.{Parts, FitsKt, order_of, kt_principal, name_type_field, data16, HasNameType, digits}
 pub use Rattle.krb_wire.specs.declared.format.KtFormat.{KtFormat}

@@ -1,26 +1,18 @@
 -- The bytes that encode a name without its type determine the name.
-use Rattle.krb_audit.proofs.Cited.{◌≡◌, ℕ, ◌+◌, List, [], ◌∷◌, ◌++◌, length, take, Some, None, refl, sym, ap, subst, ◌∙◌, append_assoc, arith, bytes_eq, KtFormat, Parts, have_same_name, some_is, EntryParts, kt_name, flat_map, length-append, take_at, digits, data16, order_of, count_field, name_type_field, kt_principal, HasNameType, FitsKt, wide32, Spells, type_len}
+use Rattle.krb_audit.proofs.Cited.{◌≡◌, arith, ℕ, ◌+◌, List, [], ◌∷◌, ◌++◌, length, take, Some, None, sym, ap, subst, ◌∙◌, append_assoc, bytes_eq, KtFormat, Parts, have_same_name, some_is, EntryParts, kt_name, length-append, take_at, digits, data16, order_of, name_type_field, kt_principal, HasNameType, FitsKt, wide32, Spells, type_len}
 use Rattle.std.specs.Int.{w16, w32}
 use Rattle.std.proofs.lemmas.Slice.Eq.{bytes_eq-Decides}
 use Rattle.krb_wire.specs.declared.format.Order.TheVariants.{Big}
-use Rattle.krb_wire.specs.declared.format.KtFormat.TheVariants.{V1, V2}
 use Rattle.krb_wire.specs.Reading.{kt_principal_at}
 use Rattle.krb_wire.proofs.NamesCompared.{same_name_is}
 use Rattle.krb_wire.proofs.Principals.{kt_principal_again}
 
 -- a name is encoded by these bytes and its type
 with_type : (f : KtFormat) (p : Parts) → kt_principal f p ≡ kt_name f p ++ name_type_field f p.name_type
-with_type f p =
-    let o = order_of f in
-    let count = digits o w16 (count_field f (length p.components)) in
-    let realm = data16 o p.realm in
-    let components = flat_map (data16 o) p.components in
-    let type_ = name_type_field f p.name_type in
-    sym (append_assoc count (realm ++ components) type_ ∙ ap (λ (b : List ℕ). count ++ b) (append_assoc realm components type_))
+with_type f p = simp append_assoc
 
 type_length : (f : KtFormat) (t : ℕ) → length (name_type_field f t) ≡ type_len f
-type_length (V1 o) t = refl
-type_length V2 t = (wide32 Big).len t
+type_length f t = grind (arith, (wide32 Big).len t)
 
 -- ---- read
 
@@ -50,9 +42,7 @@ no_none : {X : Type 0} (x : X) → None ≡ Some x → ⊥
 no_none x e = absurd cc
 
 pub is_read : (f : KtFormat) (e : EntryParts) (bytes : List ℕ) → Spells f e bytes → kt_principal_at f bytes ≡ None → ⊥
-is_read f e bytes s none =
-    let o = opens f e bytes s in
-    no_none (e.principal, o.rest) (sym none ∙ o.read)
+is_read f e bytes s none = grind (arith, none, (opens f e bytes s).read)
 
 -- the lengths of a record's parts add up
 pub lengths : (f : KtFormat) (e : EntryParts) (bytes : List ℕ) (p : Parts) (rest : List ℕ) → Spells f e bytes → kt_principal_at f bytes ≡ Some (p, rest) → length bytes ≡ length (kt_name f e.principal) + (type_len f + length rest)
@@ -77,19 +67,16 @@ abbrev untyped : Parts → Parts
 untyped p = record { name_type = 0; realm = p.realm; components = p.components }
 
 no_type : (f : KtFormat) → HasNameType f 0
-no_type (V1 o) = refl
-no_type V2 = omega arith
+no_type f = search arith
 
 read_again : (f : KtFormat) (p : Parts) → FitsKt f p → kt_principal_at f ((kt_name f p ++ name_type_field f 0) ++ []) ≡ Some (untyped p, [])
 read_again f p fits = ap (λ (b : List ℕ). kt_principal_at f (b ++ [])) (sym (with_type f (untyped p))) ∙ kt_principal_again f (untyped p) [] (record { lengths = fits.lengths; name_type = no_type f })
 
 same_untyped : (f : KtFormat) (p q : Parts) → FitsKt f p → FitsKt f q → kt_name f p ≡ kt_name f q → untyped p ≡ untyped q
-same_untyped f p q fp fq e =
-    ap (λ (x : Parts × List ℕ). x.0) (some_is (untyped p, []) (untyped q, []) (sym (read_again f p fp) ∙ ap (λ (b : List ℕ). kt_principal_at f ((b ++ name_type_field f 0) ++ [])) e ∙ read_again f q fq))
+same_untyped f p q fp fq e = grind (arith, e, read_again f p fp, read_again f q fq)
 
 named_alike : (f : KtFormat) (p q : Parts) → p.realm ≡ q.realm → p.components ≡ q.components → kt_name f p ≡ kt_name f q
-named_alike f p q realm components = ap (λ (c : List (List ℕ)). digits (order_of f) w16 (count_field f (length c)) ++ (data16 (order_of f) p.realm ++ flat_map (data16 (order_of f)) c)) components
-    ∙ ap (λ (r : List ℕ). digits (order_of f) w16 (count_field f (length q.components)) ++ (data16 (order_of f) r ++ flat_map (data16 (order_of f)) q.components)) realm
+named_alike f p q realm components = grind (arith, realm, components)
 
 -- two names are the same iff these bytes are equal
 pub same_bytes : (f : KtFormat) (p q : Parts) → FitsKt f p → FitsKt f q → bytes_eq (kt_name f p) (kt_name f q) ≡ have_same_name p q

@@ -1,24 +1,13 @@
 -- The newest entry of a name is one of its entries, and not old.
-use Rattle.krb_audit.proofs.Cited.{◌≡◌, Bool, true, false, cond, List, [], ◌∷◌, Option, Some, None, refl, sym, ap, ◌∙◌, subst, arith, not, eq-eqb, Parts, have_same_name, EntryParts, PlacedEntry, is_old, ◌⊎◌, inl, inr, filter, Contains, is_newer, newer, newest_from, newest, has_other_version}
+use Rattle.krb_audit.proofs.Cited.{◌≡◌, Bool, true, false, cond, List, [], ◌∷◌, Option, Some, None, refl, subst, arith, eq-eqb, Parts, have_same_name, EntryParts, PlacedEntry, is_old, ◌⊎◌, inl, inr, filter, Contains, is_newer, newer, newest_from, newest, has_other_version}
 use Rattle.std.proofs.lemmas.List.Elements.{Contains-append_left, Contains-append_right, Contains-append_cases, Contains-push, Contains-push_cases, filter_agree}
 use Rattle.krb_audit.specs.Laws.{HasEntry}
 use Rattle.krb_audit.proofs.FirstNumbers.{same_equiv}
 
 -- ---- it is one of the entries
 
-one_of_two : (b : Bool) (e later found : EntryParts) → cond b later e ≡ found → (e ≡ found) ⊎ (later ≡ found)
-one_of_two true e later found is = inr is
-one_of_two false e later found is = inl is
-
-some_entry : (a b : EntryParts) → Some a ≡ Some b → a ≡ b
-some_entry a b e = cc
-
 newer_is : (o : Option EntryParts) (later e : EntryParts) → newer o later ≡ Some e → (o ≡ Some e) ⊎ (later ≡ e)
-newer_is None later e is = inr (some_entry later e is)
-newer_is (Some a) later e is = elim (one_of_two (is_newer a later) a later e (some_entry (cond (is_newer a later) later a) e is)) [
-  | inl same ↦ inl (ap (λ (x : EntryParts). Some x) same)
-  | inr same ↦ inr same
-]
+newer_is o later e is = grind (arith, is)
 
 -- the entry is the newest so far, or is one of the entries and has the name
 abbrev Found : Parts → Option EntryParts → List PlacedEntry → EntryParts → Type 0
@@ -83,7 +72,7 @@ there name (y ∷ ys) x same h =
     (λ other. elim (Contains-append_cases (y ∷ []) ys x h) [
       | inl here ↦ elim (Contains-push_cases [] y x here) [
         | inl none ↦ absurd (none_in x none)
-        | inr is ↦ (let clash : true ≡ false = sym same ∙ sym (ap (λ (z : PlacedEntry). have_same_name name z.1.principal) is) ∙ other in absurd cc)
+        | inr is ↦ grind (arith, is, same, other)
       ]
       | inr later ↦ there name ys x same later
     ])
@@ -91,14 +80,10 @@ there name (y ∷ ys) x same h =
 -- ---- and that is not old
 
 not_other : (e : EntryParts) (o : Option EntryParts) → o ≡ Some e → has_other_version e o ≡ false
-not_other e o is = ap (has_other_version e) is ∙ ap not (eq-eqb e.version e.version refl)
+not_other e o is = grind (arith, is, eq-eqb e.version e.version)
 
 pub newest_kept : (name : Parts) (xs : List PlacedEntry) (e : EntryParts) → newest name xs ≡ Some e → is_old xs e ≡ false
-newest_kept name xs e is =
-    let same = (newest_is name xs e is).2 in
-    let alike : filter (λ (x : PlacedEntry). have_same_name e.principal x.1.principal) xs ≡ filter (λ (x : PlacedEntry). have_same_name name x.1.principal) xs
-    = filter_agree (λ (x : PlacedEntry). have_same_name e.principal x.1.principal) (λ (x : PlacedEntry). have_same_name name x.1.principal) (λ x. sym (same_equiv.congr name e.principal x.1.principal same)) xs in
-    not_other e (newest e.principal xs) (ap (newest_from None) alike ∙ is)
+newest_kept name xs e is = grind (arith, is, not_other e (newest e.principal xs), filter_agree _ _ (λ x. same_equiv.congr name e.principal x.1.principal (newest_is name xs e is).2) xs)
 
 pub name_kept : (xs : List PlacedEntry) (x : PlacedEntry) → Contains xs x → (e : EntryParts) × HasEntry xs x.1.principal e × (is_old xs e ≡ false)
 name_kept xs x h =

@@ -1,9 +1,9 @@
 -- The names of entries are numbered, one entry after the other.
-use Rattle.krb_audit.proofs.Cited.{◌≡◌, ℕ, ◌+◌, Bool, true, false, cond, List, [], ◌∷◌, ◌++◌, length, map, Option, Some, None, refl, sym, ap, ◌∙◌, append_assoc, bytes_eq, KtFormat, Parts, have_same_name, PlacedEntry, Row, Stamp, AreNumbered, AreRows, first_number, stamp_of, kt_name, append-nil, unwrap_or, option_or, nat_cmp_total, tied_itself, length_push, map_push, FitsKt, HashedName, name_cmp, to_name, first_from, row_in, shown}
+use Rattle.krb_audit.proofs.Cited.{◌≡◌, arith, ℕ, ◌+◌, Bool, false, cond, List, [], ◌∷◌, ◌++◌, length, map, Option, Some, refl, sym, ap, ◌∙◌, append_assoc, bytes_eq, KtFormat, Parts, have_same_name, PlacedEntry, Row, Stamp, AreNumbered, AreRows, first_number, stamp_of, kt_name, append-nil, unwrap_or, option_or, nat_cmp_total, tied_itself, length_push, map_push, FitsKt, HashedName, name_cmp, to_name, first_from, row_in, shown}
 use Rattle.std.specs.BTreeMap.{BTreeMap, get, get_by, Updates}
 use Rattle.std.specs.Cmp.Lexicographic.{slice_cmp}
 use Rattle.std.specs.declared.cmp.Ordering.{Ordering}
-use Rattle.std.specs.declared.cmp.Ordering.TheVariants.{Less, Equal, Greater}
+use Rattle.std.specs.declared.cmp.Ordering.TheVariants.{Equal}
 use Rattle.std.specs.Ordering.{nat_cmp, ordering_then, is_eq}
 use Rattle.std.proofs.lemmas.Map.Text.{is_eq-slice_cmp}
 use Rattle.std.proofs.lemmas.Slice.Eq.{bytes_eq-Decides}
@@ -24,26 +24,18 @@ abbrev hashed : List ℕ → HashedName
 hashed bytes = (hash_of bytes, record { ref_ptr = (0, 0); now = bytes })
 
 tied : (o : Ordering) (c : Ordering) → o ≡ Equal → is_eq (ordering_then o c) ≡ is_eq c
-tied o c e = ap (λ (x : Ordering). is_eq (ordering_then x c)) e
+tied o c e = grind (arith, e)
 
 untied : (o c : Ordering) → is_eq c ≡ false → is_eq (ordering_then o c) ≡ false
-untied Less c e = refl
-untied Equal c e = e
-untied Greater c e = refl
+untied o c e = grind (arith, e)
 
 -- bytes compare equal together with their hashes iff the bytes are equal
 numbers_agree : (a b : List ℕ) (t : Bool) → bytes_eq a b ≡ t → is_eq (ordering_then (nat_cmp (hash_of a) (hash_of b)) (slice_cmp nat_cmp a b)) ≡ t
-numbers_agree a b true e =
-    let same : a ≡ b = (bytes_eq-Decides a b).0 e in
-    tied (nat_cmp (hash_of a) (hash_of b)) (slice_cmp nat_cmp a b) (ap (λ (x : List ℕ). nat_cmp (hash_of a) (hash_of x)) (sym same) ∙ tied_itself nat_cmp_total (hash_of a)) ∙ is_eq-slice_cmp a b ∙ e
-numbers_agree a b false e = untied (nat_cmp (hash_of a) (hash_of b)) (slice_cmp nat_cmp a b) (is_eq-slice_cmp a b ∙ e)
+numbers_agree a b t e = grind (arith, e, bytes_eq-Decides a b, tied_itself nat_cmp_total (hash_of a), is_eq-slice_cmp a b)
 
 -- look-up of bytes after an insertion
 found_next : (m n : BTreeMap HashedName ℕ) (hash : ℕ) (name : Bor (List ℕ)) (w : ℕ) → hash ≡ hash_of name.now → Updates name_cmp m n (hash, name) (Some w) → (q : List ℕ) → found n q ≡ cond (bytes_eq name.now q) (Some w) (found m q)
-found_next m n hash name w is updates q =
-    updates.0 (hashed q)
-    ∙ ap (λ (h : ℕ). cond (is_eq (ordering_then (nat_cmp h (hash_of q)) (slice_cmp nat_cmp name.now q))) (Some w) (found m q)) is
-    ∙ ap (λ (b : Bool). cond b (Some w) (found m q)) (numbers_agree name.now q (bytes_eq name.now q) refl)
+found_next m n hash name w is updates q = grind (arith, is, updates.0 (hashed q), numbers_agree name.now q (bytes_eq name.now q) refl)
 
 -- ---- the numbers
 
@@ -51,25 +43,17 @@ pub none_numbered : {A : Type 0} (f : KtFormat) (all rest : List PlacedEntry) (n
 none_numbered f all rest names is empty none = record { numbers = λ p fits. rw (empty, none, is) refl; rows = rw (none, is) refl }
 
 or_some : (o : Option ℕ) (n : ℕ) → option_or o (Some n) ≡ Some (unwrap_or o n)
-or_some None n = refl
-or_some (Some m) n = refl
+or_some o n = grind arith
 
 -- the number that the next entry's name gets
 pub first_here : {A : Type 0} (f : KtFormat) (all rest : List PlacedEntry) (x : PlacedEntry) (names : Names A) (hash : ℕ) (name : Bor (List ℕ)) (next first : ℕ) → AreNumbered f all (x ∷ rest) names → FitsKt f x.1.principal → hash ≡ hash_of name.now → name.now ≡ kt_name f x.1.principal → next ≡ length names.rows.items
     → first ≡ unwrap_or (get name_cmp names.numbers (hash, name)) next → first_number x.1.principal all ≡ Some first
-first_here f all rest x names hash name next first h fits hash_is name_is next_is is =
-    let p = x.1.principal in
-    let old : Option ℕ = found names.numbers (kt_name f p) in
-    let n = length names.rows.items in
-    let first_is : first ≡ unwrap_or old n =
-    is ∙ ap (λ (k : ℕ). unwrap_or (get name_cmp names.numbers (k, name)) next) hash_is ∙ ap (λ (b : List ℕ). unwrap_or (found names.numbers b) next) name_is ∙ ap (unwrap_or old) next_is in
-    sym (h.numbers p fits) ∙ ap (λ (b : Bool). option_or old (cond b (Some n) (first_from (n + 1) p rest))) (same_equiv.refl p) ∙ or_some old n ∙ ap (λ (m : ℕ). Some m) (sym first_is)
+first_here f all rest x names hash name next first h fits hash_is name_is next_is is = grind (arith, hash_is, name_is, next_is, is, h.numbers x.1.principal fits, same_equiv.refl x.1.principal, or_some (found names.numbers (kt_name f x.1.principal)) (length names.rows.items))
 
 -- any name's number after it
 number_by : (all rest : List PlacedEntry) (x : PlacedEntry) (p : Parts) (old : Option ℕ) (n first : ℕ) (b : Bool) → have_same_name p x.1.principal ≡ b → first_number x.1.principal all ≡ Some first
     → option_or old (cond (have_same_name p x.1.principal) (Some n) (first_from (n + 1) p rest)) ≡ first_number p all → option_or (cond b (Some first) old) (first_from (n + 1) p rest) ≡ first_number p all
-number_by all rest x p old n first true same here was = sym here ∙ sym (first_alike 0 p x.1.principal all same)
-number_by all rest x p old n first false same here was = ap (λ (b : Bool). option_or old (cond b (Some n) (first_from (n + 1) p rest))) (sym same) ∙ was
+number_by all rest x p old n first b same here was = grind (arith, same, here, was, first_alike 0 p x.1.principal all)
 
 pub numbered_next : {A : Type 0} (f : KtFormat) (all rest : List PlacedEntry) (x : PlacedEntry) (names new : Names A) (hash : ℕ) (name : Bor (List ℕ)) (row : Row) → AreNumbered f all (x ∷ rest) names → FitsKt f x.1.principal → hash ≡ hash_of name.now → name.now ≡ kt_name f x.1.principal
     → first_number x.1.principal all ≡ Some row.first → row.stamp ≡ stamp_of x.1 → Updates name_cmp names.numbers new.numbers (hash, name) (Some row.first) → new.rows.items ≡ names.rows.items ++ row ∷ [] → AreNumbered f all rest new

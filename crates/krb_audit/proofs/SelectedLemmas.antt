@@ -1,5 +1,5 @@
 -- A pass over the entries of a keytab that hands on the selected ones.
-use Rattle.krb_audit.proofs.Cited.{◌≡◌, Bool, true, false, cond, List, [], ◌∷◌, ◌++◌, refl, ap, subst, ◌∙◌, append_assoc, ◌&&◌, ◌||◌, not, list_any, PlacedEntry, filter}
+use Rattle.krb_audit.proofs.Cited.{◌≡◌, arith, Bool, cond, List, [], ◌∷◌, ◌++◌, ap, subst, ◌∙◌, append_assoc, ◌&&◌, ◌||◌, not, list_any, PlacedEntry, filter}
 
 -- the selected ones of the entries before `rest` were taken, and it is known whether one of them is named
 pub record IsOnTheWay {T : Type 0} (has_taken : T → List PlacedEntry → Type 0) (named has_kvno : PlacedEntry → Bool) (all rest : List PlacedEntry) (any : Bool) (taker : T) : Type 0 where
@@ -9,18 +9,13 @@ pub record IsOnTheWay {T : Type 0} (has_taken : T → List PlacedEntry → Type 
   pub names : (any || list_any named rest) ≡ list_any named all
 
 taken_by : (any k n : Bool) → ((not (any && not k) && n) && k) ≡ (n && k)
-taken_by false k n = refl
-taken_by true true n = refl
-taken_by true false true = refl
-taken_by true false false = refl
+taken_by any k n = grind arith
 
 named_by : (any k n others : Bool) → ((any || (not (any && not k) && n)) || others) ≡ (any || (n || others))
-named_by true k n others = refl
-named_by false k n others = refl
+named_by any k n others = grind arith
 
 parts_by : (t : Bool) (x : PlacedEntry) (before others : List PlacedEntry) → cond t (before ++ x ∷ []) before ++ others ≡ before ++ cond t (x ∷ others) others
-parts_by true x before others = append_assoc before (x ∷ []) others
-parts_by false x before others = refl
+parts_by t x before others = grind (arith, append_assoc before (x ∷ []) others)
 
 -- one entry further: whether it is named was asked only if that mattered
 pub one_further : {T : Type 0} (has_taken : T → List PlacedEntry → Type 0) (named has_kvno : PlacedEntry → Bool) (all rest : List PlacedEntry) (x : PlacedEntry) (any k b : Bool) (old new : T) → IsOnTheWay has_taken named has_kvno all (x ∷ rest) any old

@@ -1,5 +1,5 @@
 -- The weak enctypes that were found.
-use Rattle.krb_audit.proofs.Cited.{◌≡◌, ℕ, ◌<◌, Bool, true, false, List, [], ◌∷◌, ◌++◌, Option, Some, None, map, get_or, length, replicate, refl, ap, ◌∙◌, sym, arith, ◌==◌, ◌&&◌, ◌||◌, list_any, eq-eqb, eqb-true, PlacedEntry, set, inl, inr, nat_lt, AllByRecursion, range_with_len, MatchOption, option_map_or, and_from, and_left, cases_eq, cases_lt, false_from_ne_true, false≢true, ltb-true, ne_eqb, or_right, get_or-set_other, get_or-set_same, get_or_past, length-set, list_any-append}
+use Rattle.krb_audit.proofs.Cited.{◌≡◌, ℕ, ◌<◌, Bool, true, false, List, [], ◌∷◌, ◌++◌, Option, map, get_or, length, replicate, refl, ap, ◌∙◌, arith, ◌==◌, ◌&&◌, ◌||◌, list_any, eq-eqb, eqb-true, PlacedEntry, set, inl, inr, nat_lt, AllByRecursion, range_with_len, MatchOption, option_map_or, cases_lt, ltb-true, ne_eqb, get_or-set_other, get_or-set_same, get_or_past, length-set, list_any-append}
 use Rattle.std.proofs.lemmas.List.FromFn.{fill_by_all, get_or-map-range_with_len, length-map-range_with_len}
 use Rattle.krb_text.specs.Etype.{Etype, etype_numbered, etype_table, is_weak}
 use Rattle.krb_text.proofs.Found.{MatchOption-find}
@@ -16,8 +16,7 @@ unfolding etype_table
 all_small = (refl, (refl, (refl, (refl, (refl, (refl, (refl, (refl, (refl, (refl, (refl, (refl, (refl, (refl, (refl, tt)))))))))))))))
 
 row_below : (n : ℕ) (o : Option Etype) → MatchOption o (Unit {0}) (λ e. IsSmall e × ((e.number == n) ≡ true)) → option_map_or (λ e. e.is_weak) o false ≡ true → n < 27
-row_below n (Some e) found h = let same : e.number ≡ n = eqb-true e.number n found.1 in let small : e.number < 27 = ltb-true e.number 27 found.0 in omega (arith, same, small)
-row_below n None found h = absurd (false≢true h)
+row_below n o found h = grind (arith, found, h, eqb-true, ltb-true)
 
 pub weak_below : (n : ℕ) → is_weak n ≡ true → n < 27
 weak_below n h = row_below n (etype_numbered n) (MatchOption-find IsSmall (λ e. e.number == n) etype_table all_small) h
@@ -37,8 +36,7 @@ pub found_at : (xs : List PlacedEntry) (n : ℕ) → get_or (weak_among xs).foun
 unfolding weak_among
 found_at xs n = elim (cases_lt n 27) [
   | inl lt ↦ get_or-map-range_with_len (is_weak_among xs) 0 27 n n false lt (omega arith)
-  | inr le ↦ get_or_past (map (is_weak_among xs) (range_with_len 0 27)) n false (omega (arith, le, length-map-range_with_len (is_weak_among xs) 0 27))
-      ∙ sym (and_left (is_weak n) (has xs n) (false_from_ne_true (is_weak n) (λ h. omega (arith, le, weak_below n h))))
+  | inr le ↦ grind (arith, le, weak_below n, get_or_past (map (is_weak_among xs) (range_with_len 0 27)) n false, length-map-range_with_len (is_weak_among xs) 0 27)
 ]
 
 -- the numbers below 27 as they were found
@@ -52,35 +50,20 @@ many_found xs = length-map-range_with_len (is_weak_among xs) 0 27
 
 -- with one more entry
 more : (xs : List PlacedEntry) (x : PlacedEntry) (n : ℕ) (is : Bool) → (x.1.enctype == n) ≡ is → is_weak_among (xs ++ x ∷ []) n ≡ (is_weak n && (has xs n || (is || false)))
-more xs x n is e = ap (λ (b : Bool). is_weak n && b) (list_any-append (λ y. y.1.enctype == n) xs (x ∷ []) ∙ ap (λ (b : Bool). has xs n || (b || false)) e)
+more xs x n is e = grind (arith, e, list_any-append (λ y. y.1.enctype == n) xs (x ∷ []))
 
 or_none : (b : Bool) → (b || (false || false)) ≡ b
-or_none true = refl
-or_none false = refl
+or_none b = grind arith
 
 -- a number that is not its enctype, or is not weak
 same_found : (xs : List PlacedEntry) (x : PlacedEntry) (n : ℕ) → (x.1.enctype == n) ≡ false → is_weak_among (xs ++ x ∷ []) n ≡ is_weak_among xs n
-same_found xs x n other = more xs x n false other ∙ ap (λ (b : Bool). is_weak n && b) (or_none (has xs n))
+same_found xs x n other = grind (arith, more xs x n false other)
 
 pub with_weak : (xs : List PlacedEntry) (x : PlacedEntry) (w : WeakEtypes) (etype : ℕ) → w ≡ weak_among xs → etype ≡ x.1.enctype → is_weak etype ≡ true → record { found = set w.found etype true } ≡ weak_among (xs ++ x ∷ [])
 with_weak xs x w etype is etype_is weak =
     let long : length w.found ≡ 27 = ap (λ (v : WeakEtypes). length v.found) is ∙ many_found xs in
-    among_is _ (xs ++ x ∷ []) (length-set w.found etype true ∙ long) (λ n lt. elim (cases_eq n etype) [
-      | inl same ↦
-          let here : (x.1.enctype == n) ≡ true = eq-eqb x.1.enctype n (sym etype_is ∙ sym same) in
-          ap (λ m. get_or (set w.found etype true) m false) same ∙ get_or-set_same w.found etype true false (omega (arith, long, weak_below etype weak))
-          ∙ sym (more xs x n true here ∙ and_from (is_weak n) (has xs n || true) (ap is_weak same ∙ weak) (or_right (has xs n) true refl))
-      | inr other ↦
-          let apart : (x.1.enctype == n) ≡ false = ne_eqb x.1.enctype n (λ e. other (sym e ∙ sym etype_is)) in
-          get_or-set_other w.found etype n true false other ∙ ap (λ (v : WeakEtypes). get_or v.found n false) is ∙ found_at xs n ∙ sym (same_found xs x n apart)
-    ])
+    among_is _ (xs ++ x ∷ []) (length-set w.found etype true ∙ long) (λ n lt. grind (arith, is, etype_is, weak, long, found_at xs n, same_found xs x n, more xs x n true, eq-eqb x.1.enctype n, ne_eqb x.1.enctype n, weak_below etype, get_or-set_same w.found etype true false, get_or-set_other w.found etype n true false))
 
 pub with_other : (xs : List PlacedEntry) (x : PlacedEntry) (w : WeakEtypes) (etype : ℕ) → w ≡ weak_among xs → etype ≡ x.1.enctype → is_weak etype ≡ false → w ≡ weak_among (xs ++ x ∷ [])
 with_other xs x w etype is etype_is strong =
-    let long : length w.found ≡ 27 = ap (λ (v : WeakEtypes). length v.found) is ∙ many_found xs in
-    among_is w (xs ++ x ∷ []) long (λ n lt. ap (λ (v : WeakEtypes). get_or v.found n false) is ∙ found_at xs n ∙ elim (cases_eq n etype) [
-      | inl same ↦
-          let none : is_weak n ≡ false = ap is_weak same ∙ strong in
-          and_left (is_weak n) (has xs n) none ∙ sym (and_left (is_weak n) (has (xs ++ x ∷ []) n) none)
-      | inr other ↦ sym (same_found xs x n (ne_eqb x.1.enctype n (λ e. other (sym e ∙ sym etype_is))))
-    ])
+    among_is w (xs ++ x ∷ []) (ap (λ (v : WeakEtypes). length v.found) is ∙ many_found xs) (λ n lt. grind (arith, is, etype_is, strong, found_at xs n, same_found xs x n, eqb-true x.1.enctype n, ne_eqb x.1.enctype n))

@@ -8,7 +8,6 @@ use crate::counts::{Counts, counts_of};
 use crate::finding::Finding;
 use crate::finding_set::FindingSet;
 use crate::findings::{Marked, check_entries};
-use crate::missing::missing_among;
 use crate::mode::is_open_file;
 use crate::weak_etypes::WeakEtypes;
 use krb_keytab::Keytab;
@@ -143,19 +142,18 @@ pub fn check_up<'k, A: Allocator + Copy, B: Allocator, C: Allocator>(
 ) -> Result<CheckUp<'k, A>, NoMemory>
     ensures { IfOk result (λ found. found ≡ checked mode aged_by (map vec_items wanted.now) keytab.now.state) }
 {
-    let pass = check_entries(alloc, aged_by, keytab)?;
-    let missing = missing_among(alloc, wanted, keytab)?;
+    let pass = check_entries(alloc, aged_by, wanted, keytab)?;
     let fault = keytab.fault();
     let is_empty = pass.count == 0 && fault.is_none();
     let findings = about_entries(&pass.entries)
         .with_if(is_open_file(mode), Finding::Mode)
         .with_if(is_empty, Finding::Empty)
-        .with_if(!missing.is_empty(), Finding::Missing);
+        .with_if(!pass.missing.is_empty(), Finding::Missing);
     Ok(CheckUp {
         mode,
         entries: pass.entries,
         is_empty,
-        missing,
+        missing: pass.missing,
         fault,
         counts: counts_of(pass.count, keytab),
         weak_etypes: pass.weak_etypes,

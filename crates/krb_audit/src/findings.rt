@@ -1,10 +1,12 @@
 //! What is found about the entries of a keytab.
 
-ghost use Rattle.std.specs.Prelude.{◌≡◌, ◌∷◌, ◌++◌, ◌&&◌, ◌||◌, [], List, length, not, option_map, IfOk};
+ghost use Rattle.std.specs.Prelude.{◌≡◌, ◌∷◌, ◌++◌, ◌&&◌, ◌||◌, [], List, ℕ, length, map, not, option_map, IfOk};
+ghost use Rattle.std.specs.Vec.{vec_items};
 ghost use Rattle.krb_keytab.specs.Entry.{EntryParts};
 ghost use Rattle.krb_keytab.specs.Find.{PlacedEntry, placed_entries};
 ghost use Rattle.krb_keytab.specs.Store.{KeytabState};
-ghost use Rattle.krb_audit.specs.Before.{IsBefore};
+ghost use Rattle.krb_audit.specs.Before.{IsBefore, IsMissing};
+ghost use Rattle.krb_audit.specs.CheckUp.{missing_among};
 ghost use Rattle.krb_audit.specs.Findings.{clashes, has_odd_size, is_aged, marks_of, repeats, reported, weak_among};
 ghost use Rattle.krb_audit.specs.declared.selection.SelectedKvno.TheVariants.{Old};
 ghost use Rattle.krb_audit.specs.KvnoMarks.{AreMarks};
@@ -15,6 +17,7 @@ use crate::finding_set::FindingSet;
 use crate::firsts::{Alike, Firsts};
 use crate::kvno_marks::{marks_of, next_mark};
 use crate::marks::Marks;
+use crate::missing::Missing;
 use crate::mit::ends_mit;
 use crate::rows::{Row, next_number, rows_of};
 use crate::selection::SelectedKvno;
@@ -23,6 +26,7 @@ use krb_keytab::{EntryView, Keytab};
 use krb_text::{is_weak, key_size};
 use krb_wire::NoMemory;
 use std::alloc::Allocator;
+use std::cmp::Reverse;
 use std::vec::IntoIter;
 
 /// What is known before an entry is checked.
@@ -32,6 +36,7 @@ struct Before<'a, A: Allocator> {
     rows: IntoIter<Row, A>,
     are_old: IntoIter<bool, A>,
     firsts: Firsts<'a, A>,
+    missing: Missing<'a, A>,
     /// True if MIT's programs stop before one of the entries so far.
     has_ended: bool,
     weak_etypes: WeakEtypes,
@@ -100,15 +105,21 @@ fn place_of(alike: Option<Alike>) -> Option<u32>
 
 impl<'a, A: Allocator + Copy> Before<'a, A> {
     // Returns what is known before the first entry of a keytab.
-    fn first(alloc: A, rows: Vec<Row, A>, are_old: Vec<bool, A>) -> Before<'a, A>
-        ensures { (k : KeytabState) → AreRows (placed_entries k) (placed_entries k) rows.items
-            → AreMarks Old 0 (placed_entries k) (placed_entries k) are_old.items
-            → IsBefore k [] (placed_entries k) result }
+    fn first(
+        alloc: A,
+        rows: Vec<Row, A>,
+        are_old: Vec<bool, A>,
+        missing: Missing<'a, A>,
+    ) -> Before<'a, A>
+        ensures { (k : KeytabState) (wanted : List (List ℕ)) → AreRows (placed_entries k) (placed_entries k) rows.items
+            → AreMarks Old 0 (placed_entries k) (placed_entries k) are_old.items → IsMissing wanted [] missing.entry
+            → IsBefore k wanted [] (placed_entries k) result }
     {
         Before {
             rows: rows.into_iter(),
             are_old: are_old.into_iter(),
             firsts: Firsts::new(alloc),
+            missing,
             has_ended: false,
             weak_etypes: WeakEtypes::none(),
         }
@@ -121,9 +132,10 @@ impl<'a, A: Allocator + Copy> Before<'a, A> {
         place: u32,
         entry: &EntryView<'a>,
     ) -> Result<Marks, NoMemory>
-        ensures { (k : KeytabState) (before rest : List PlacedEntry) → IsBefore k before ((place, entry.now) ∷ rest) self.old
+        ensures { (k : KeytabState) (wanted : List (List ℕ)) (before rest : List PlacedEntry)
+            → IsBefore k wanted before ((place, entry.now) ∷ rest) self.old
             → IfOk result (λ marks. (marks ≡ marks_of aged_by k before (place, entry.now))
-            × IsBefore k (before ++ (place, entry.now) ∷ []) rest self.new) }
+            × IsBefore k wanted (before ++ (place, entry.now) ∷ []) rest self.new) }
     {
         let kvno = entry.kvno();
         let etype = entry.enctype();
@@ -131,7 +143,8 @@ impl<'a, A: Allocator + Copy> Before<'a, A> {
         let hidden = is_first(ends, self.has_ended);
         let first = next_number(&mut self.rows);
         let old = next_mark(&mut self.are_old);
-        let key = (first, kvno, etype);
+        self.missing.remove_next(first, place, entry)?;
+        let key = (Reverse(first), kvno, etype);
         let alike = self.firsts.consider(key, place, entry.key())?;
         self.has_ended = either(self.has_ended, ends);
         self.weak_etypes.add(etype);
@@ -157,18 +170,23 @@ pub type Marked<'k> = ((u32, EntryView<'k>), Marks);
 pub(crate) struct Pass<'k, A: Allocator> {
     /// The entries about which something is found.
     pub entries: Vec<Marked<'k>, A>,
+    /// The names that are missing.
+    pub missing: Vec<&'k [u8], A>,
     pub weak_etypes: WeakEtypes,
     /// The number of entries.
     pub count: u32,
 }
 
 /// Returns what is found about the entries of a keytab.
-pub(crate) fn check_entries<'k, A: Allocator + Copy, B: Allocator>(
+pub(crate) fn check_entries<'k, A: Allocator + Copy, B: Allocator, C: Allocator>(
     alloc: A,
     aged_by: Option<u32>,
-    keytab: &'k Keytab<B>,
+    wanted: &'k [Vec<u8, B>],
+    keytab: &'k Keytab<C>,
 ) -> Result<Pass<'k, A>, NoMemory>
     ensures entries { IfOk result (λ pass. pass.entries.items ≡ reported aged_by keytab.now.state) }
+    ensures missing { IfOk result (λ pass. map (λ t. t.now) pass.missing.items
+        ≡ missing_among (map vec_items wanted.now) (placed_entries keytab.now.state)) }
     ensures weak_etypes { IfOk result (λ pass. pass.weak_etypes ≡ weak_among (placed_entries keytab.now.state)) }
     ensures count { IfOk result (λ pass. pass.count ≡ length (placed_entries keytab.now.state)) }
 {
@@ -177,7 +195,8 @@ pub(crate) fn check_entries<'k, A: Allocator + Copy, B: Allocator>(
     // Bounds the number of entries, so that it fits.
     let _few = keytab.cell_count();
     let count = rows.len() as u32;
-    let mut before = Before::first(alloc, rows, are_old);
+    let missing = Missing::new(alloc, wanted)?;
+    let mut before = Before::first(alloc, rows, are_old, missing);
     let mut entries = Vec::new(alloc);
     'entries: for (place, entry) in keytab.entries() {
         let marks = before.marks(aged_by, place, &entry)?;
@@ -185,9 +204,12 @@ pub(crate) fn check_entries<'k, A: Allocator + Copy, B: Allocator>(
             entries.push(((place, entry), marks))?;
         }
     }
+    let weak_etypes = before.weak_etypes;
+    let missing = before.missing;
     Ok(Pass {
         entries,
-        weak_etypes: before.weak_etypes,
+        missing: missing.names,
+        weak_etypes,
         count,
     })
 }

@@ -7,10 +7,12 @@ ghost use Rattle.krb_audit.specs.Before.{Key, looked, same_key};
 
 use krb_wire::NoMemory;
 use std::alloc::Allocator;
+use std::cmp::Reverse;
 use std::collections::BTreeMap;
 
-/// A name, as the number of its first entry, a kvno and an enctype.
-pub type Key = (u32, u32, u16);
+/// A name, as the number of its first entry, a kvno and an enctype. Numbers fall from key to key: a new name, which has
+/// the greatest, comes first in each node of a map.
+pub type Key = (Reverse<u32>, u32, u16);
 
 /// The first entry with the name, the kvno and the enctype of a later one.
 #[derive(Clone, Copy)]

@@ -1,13 +1,15 @@
 //! Names that have to be there, and are missing.
 
-ghost use Rattle.std.specs.Prelude.{◌≡◌, [], ◌++◌, ◌∷◌, IfOk, OnOk, filter, fold, if◌then◌else◌, map, not};
+ghost use Rattle.std.specs.Prelude.{◌≡◌, [], ◌++◌, ◌∷◌, List, ℕ, Some, IfOk, OnOk, filter, fold, if◌then◌else◌, map, not};
 ghost use Rattle.std.specs.List.{list_any};
 ghost use Rattle.std.specs.Str.{bytes_eq};
 ghost use Rattle.std.specs.Vec.{vec_items};
-ghost use Rattle.krb_keytab.specs.Find.{placed_entries};
-ghost use Rattle.krb_audit.specs.CheckUp.{added_once, missing_among, prints_as};
+ghost use Rattle.krb_keytab.specs.Find.{PlacedEntry};
+ghost use Rattle.krb_audit.specs.Before.{IsMissing};
+ghost use Rattle.krb_audit.specs.CheckUp.{added_once, prints_as};
+ghost use Rattle.krb_audit.specs.Rows.{first_number};
 
-use krb_keytab::{EntryView, Keytab};
+use krb_keytab::EntryView;
 use krb_wire::{NoMemory, write_name};
 use std::alloc::Allocator;
 
@@ -49,37 +51,65 @@ fn remove<A: Allocator>(text: &[u8], texts: &mut Vec<&[u8], A>)
     texts.retain(|other| text != *other);
 }
 
-// Removes the text as which an entry's name prints. Prints it over `printed`.
+// Removes the text as which an entry's name prints. Prints it over `printed`, if there are any.
 fn remove_printed<A: Allocator, B: Allocator>(
     place: u32,
     entry: &EntryView<'_>,
-    printed: &mut Vec<u8, B>,
-    missing: &mut Vec<&[u8], A>,
+    printed: &mut Vec<u8, A>,
+    missing: &mut Vec<&[u8], B>,
 ) -> Result<(), NoMemory>
     ensures { OnOk result (missing.new.items ≡ filter (λ t. not (prints_as t.now (place, entry.now))) missing.old.items) }
 {
+    if missing.is_empty() {
+        return Ok(());
+    }
     printed.clear();
     write_name(entry.principal(), printed)?;
     remove(printed, missing);
     Ok(())
 }
 
-/// Returns the texts that no entry's name prints as, each once.
-pub(crate) fn missing_among<'w, A: Allocator + Copy, B: Allocator, C: Allocator>(
-    alloc: A,
-    wanted: &'w [Vec<u8, B>],
-    keytab: &Keytab<C>,
-) -> Result<Vec<&'w [u8], A>, NoMemory>
-    ensures { IfOk result (λ missing. map (λ t. t.now) missing.items
-        ≡ missing_among (map vec_items wanted.now) (placed_entries keytab.now.state)) }
-{
-    let mut missing = each_once(alloc, wanted)?;
-    let mut printed = Vec::new(alloc);
-    'entries: for (place, entry) in keytab.entries() {
-        if missing.is_empty() {
-            return Ok(missing);
-        }
-        remove_printed(place, &entry, &mut printed, &mut missing)?;
+/// The texts that the name of no entry so far prints as.
+#[derive(Drop)]
+pub(crate) struct Missing<'w, A: Allocator> {
+    pub names: Vec<&'w [u8], A>,
+    // Scratch space for the name of an entry.
+    printed: Vec<u8, A>,
+    /// The number of entries so far.
+    count: u32,
+}
+
+impl<'w, A: Allocator + Copy> Missing<'w, A> {
+    /// Returns the texts, each once.
+    #[tactic(auto, using(crate::proofs::MissingLemmas::all_missing))]
+    pub fn new<B: Allocator>(alloc: A, wanted: &'w [Vec<u8, B>]) -> Result<Missing<'w, A>, NoMemory>
+        ensures { IfOk result (IsMissing (map vec_items wanted.now) []) }
+    {
+        let names = each_once(alloc, wanted)?;
+        Ok(Missing {
+            names,
+            printed: Vec::new(alloc),
+            count: 0,
+        })
     }
-    Ok(missing)
+
+    /// Removes the text as which the next entry's name prints. The first entry of the name has the number `first`.
+    pub fn remove_next(
+        &mut self,
+        first: u32,
+        place: u32,
+        entry: &EntryView<'_>,
+    ) -> Result<(), NoMemory>
+        ensures { (wanted : List (List ℕ)) (before rest : List PlacedEntry) → IsMissing wanted before self.old
+            → first_number entry.now.principal (before ++ (place, entry.now) ∷ rest) ≡ Some first
+            → OnOk result (IsMissing wanted (before ++ (place, entry.now) ∷ []) self.new) }
+    {
+        // A name that came before is not missing any more.
+        if first == self.count {
+            remove_printed(place, entry, &mut self.printed, &mut self.names)?;
+        }
+        // A keytab has fewer entries than 2 ^ 32.
+        self.count = self.count.checked_add(1).ok_or(NoMemory)?;
+        Ok(())
+    }
 }

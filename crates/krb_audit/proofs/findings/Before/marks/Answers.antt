@@ -1,4 +1,4 @@
-use Rattle.krb_audit.proofs.Cited.{◌≡◌, List, ℕ, cond, Option, Some, ap, sym, ◌∙◌, ◌∷◌, [], append_assoc, ◌&&◌, ◌||◌, not, list_any, option_map, PlacedEntry, placed_entries, Old, ends_mit}
+use Rattle.krb_audit.proofs.Cited.{◌≡◌, List, ℕ, cond, Option, Some, ap, sym, ◌∙◌, ◌∷◌, [], append_assoc, ◌&&◌, ◌||◌, not, list_any, option_map, PlacedEntry, placed_entries, Old, ends_mit, first_number}
 use Rattle.std.proofs.Common.{ap₂}
 use Rattle.std.specs.Prelude.{Bool}
 use Rattle.std.specs.Option.{unwrap_or}
@@ -13,7 +13,7 @@ use Rattle.krb_audit.proofs.FirstsLemmas.{alike_here, alike_to, firsts_next, key
 use Rattle.krb_audit.proofs.findings.Before.marks.Goals as goal
 
 pub returns : goal.returns
-returns g c = λ k before rest known.
+returns g c = λ k wanted before rest known.
     let all = placed_entries k in
     let x : PlacedEntry = (c.args.place, c.args.entry.now) in
     let old = c.args.self.now in
@@ -21,8 +21,8 @@ returns g c = λ k before rest known.
     let next = c.next_number-first.ensures all rest x known.rows in
     let marked = c.next_mark-old.ensures Old 0 all rest x known.are_old in
     let look : Key → Option (ℕ × List ℕ) = looked old.firsts in
-    let key : Key = (first, c.kvno-kvno.result, c.enctype-etype.result) in
-    let is : key ≡ key_in first x = λ i. (first, c.kvno-kvno.ensures i, c.enctype-etype.ensures i) in
+    let key : Key = (record { 0 = first }, c.kvno-kvno.result, c.enctype-etype.result) in
+    let is : key ≡ key_in first x = λ i. (record { 0 = first }, c.kvno-kvno.ensures i, c.enctype-etype.ensures i) in
     let hidden : c.is_first-hidden.result ≡ (ends_mit x.1 && not (list_any (λ y. ends_mit y.1) before)) =
     c.is_first-hidden.ensures ∙ ap (λ (b : Bool). b && not old.has_ended) c.ends_mit-ends.ensures ∙ ap (λ (b : Bool). ends_mit x.1 && not b) known.has_ended in
     let alike : c.in_ok-alike.alike ≡ first_alike before x =
@@ -42,6 +42,7 @@ returns g c = λ k before rest known.
         all = known.all ∙ sym (append_assoc before (x ∷ []) rest);
         rows = next.1;
         are_old = marked.1;
+        missing = c.in_ok-remove_next.ensures wanted before rest known.missing (ap (first_number x.1.principal) (sym known.all) ∙ next.0);
         firsts = firsts_next all before x first look (looked c.consider.new.self) known.firsts next.0 puts;
         has_ended = c.either-self.ensures ∙ ap (λ (b : Bool). old.has_ended || b) c.ends_mit-ends.ensures ∙ ended_here before x old.has_ended known.has_ended;
         weak_etypes = c.add.ensures before x known.weak_etypes c.enctype-etype.ensures;
