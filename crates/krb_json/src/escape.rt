@@ -83,11 +83,23 @@ fn append_slowly<A: Allocator>(text: &[u8], out: &mut Vec<u8, A>) -> Result<(), 
     Ok(())
 }
 
-// Returns whether a text has a byte that may have to be escaped.
+// Returns whether a byte may have to be escaped.
+fn is_special(byte: u8) -> bool
+    ensures { result ≡ is_special byte }
+{
+    (byte == DELETE) | (byte == FIRST)
+}
+
+// Returns whether a text has such a byte. To look at all bytes, many at once, takes less time than to stop at the first.
+#[tactic(auto, using(std::proofs::lemmas::List::Folds::list_any_more))]
 fn has_special(text: &[u8]) -> bool
     ensures { result ≡ list_any is_special text.now }
 {
-    text.iter().any(|byte| *byte == DELETE || *byte == FIRST)
+    let mut found = false;
+    for byte in text {
+        found |= is_special(*byte);
+    }
+    found
 }
 
 /// Appends a text of JSON, in which those characters are escaped.
