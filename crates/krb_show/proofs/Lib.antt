@@ -1,4 +1,5 @@
 pub mod Cited
 pub mod OnLiterals
+pub mod Tables
 pub mod Distinct
 pub mod EntryLines

@@ -1,23 +1,39 @@
--- Columns of a table, and numbers of things.
-use Rattle.std.specs.Prelude.{◌≡◌, ℕ, ◌-◌, ◌==◌, Result, OnOk, IfOk, nat_le, Bool, List, [], ◌++◌, length, replicate, codes, decimal, if◌then◌else◌}
+-- Tables in columns, and numbers of things.
+use Rattle.std.specs.Prelude.{ℕ, ◌+◌, ◌-◌, ◌==◌, nat_le, max, List, [], ◌∷◌, ◌++◌, length, map, replicate, codes, decimal, if◌then◌else◌, get_or}
+use Rattle.std.specs.List.{flat_map, fold, range_with_len}
+
+-- the cell of a row in a column, empty if there is none
+abbrev pub cell_of : ℕ → List (List ℕ) → List ℕ
+cell_of column row = get_or row column []
 
 -- the width that a cell asks for: its length, but nothing if that is over 40
 abbrev pub asked_width : List ℕ → ℕ
 asked_width cell = if nat_le (length cell) 40 then length cell else 0
 
--- a cell and the blanks behind it: up to the width of its column, and two
-abbrev pub padded : ℕ → List ℕ → List ℕ
-padded width cell = cell ++ (replicate (width - length cell) 32 ++ codes "  ")
+-- the width of a column: the greatest that its cells ask for
+abbrev pub column_width : ℕ → List (List (List ℕ)) → ℕ
+column_width column rows = fold (λ width row. max width (asked_width (cell_of column row))) 0 rows
 
--- the same, without the blanks if nothing follows
-abbrev pub padded_unless : Bool → ℕ → List ℕ → List ℕ
-padded_unless is_last width cell = if is_last then cell else padded width cell
+-- the widths of the first columns
+abbrev pub widths : ℕ → List (List (List ℕ)) → List ℕ
+widths n rows = map (λ column. column_width column rows) (range_with_len 0 n)
+
+-- cells in columns of these widths, behind some blanks: before the next cell its column is filled, and two blanks more
+abbrev pub cells_behind : ℕ → List ℕ → List (List ℕ) → List ℕ
+cells_behind blanks ws [] = []
+cells_behind blanks [] (c ∷ cs) = []
+cells_behind blanks (w ∷ ws) (c ∷ cs) = replicate blanks 32 ++ (c ++ cells_behind (w - length c + 2) ws cs)
+
+-- the line of a row
+abbrev pub row_text : List ℕ → List (List ℕ) → List ℕ
+row_text ws row = cells_behind 0 ws row ++ codes "\n"
+
+-- the table of some rows under their titles, if there are any
+abbrev pub table : List (List ℕ) → List (List (List ℕ)) → List ℕ
+table titles rows =
+    if length rows == 0 then []
+    else flat_map (row_text (widths (length titles) (titles ∷ rows))) (titles ∷ rows)
 
 -- a number of things: the noun has an `s` unless there is one
 abbrev pub counted : ℕ → List ℕ → List ℕ
 counted n noun = decimal n ++ (codes " " ++ (noun ++ (if n == 1 then [] else codes "s")))
-
--- a cell was appended with its blanks, and the result is the width that it asks for
-pub record Places {E : Type 0} (cell shown old new : List ℕ) (result : Result ℕ E) : Type 0 where
-  pub text : OnOk result (new ≡ old ++ shown)
-  pub width : IfOk result (λ width. width ≡ asked_width cell)

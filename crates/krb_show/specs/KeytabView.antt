@@ -1,6 +1,6 @@
 -- A keytab as it is shown to people: a heading, and a table with a line for each name and version.
-use Rattle.std.specs.Prelude.{ℕ, ◌-◌, ◌==◌, max, List, [], ◌∷◌, ◌++◌, length, take, filter, Bool, true, false, not, codes, decimal, Option, unwrap_or, if◌then◌else◌}
-use Rattle.std.specs.List.{flat_map, fold, list_any}
+use Rattle.std.specs.Prelude.{ℕ, ◌-◌, ◌==◌, max, List, [], ◌∷◌, ◌++◌, length, map, take, filter, Bool, true, false, not, codes, decimal, Option, unwrap_or, if◌then◌else◌}
+use Rattle.std.specs.List.{fold, list_any}
 use Rattle.std.specs.BTreeMap.{insert_entry, is_at}
 use Rattle.std.specs.Map.{lookup}
 use Rattle.std.specs.Ordering.{bool_cmp, nat_cmp, ordering_then}
@@ -15,9 +15,8 @@ use Rattle.krb_keytab.specs.Store.{KeytabState, store_of}
 use Rattle.krb_text.specs.Listing.{fault_line}
 use Rattle.krb_audit.specs.Newest.{is_old}
 use Rattle.krb_audit.specs.Rows.{first_number}
-use Rattle.krb_show.specs.declared.keys.KeyWidths.{KeyWidths}
 use Rattle.krb_show.specs.Ago.{time_cell}
-use Rattle.krb_show.specs.Columns.{asked_width, counted, padded, padded_unless}
+use Rattle.krb_show.specs.Columns.{counted, table}
 use Rattle.krb_show.specs.EtypeNames.{etype_cell}
 
 -- ---- the lines
@@ -90,52 +89,17 @@ keys_cell is_old etypes =
     spaced true (take 8 (distinct etypes))
     ++ (more_types (length (distinct etypes) - 8) ++ (if is_old then codes " old" else []))
 
--- the widths that the cells of a line ask for
-abbrev pub asked_widths : ℕ → LineKey × LineParts → KeyWidths
-asked_widths now x = record {
-  kvno = asked_width (decimal x.0.2.0);
-  added = asked_width (time_cell now x.1.added);
-  keys = asked_width (keys_cell x.0.1 x.1.etypes);
-}
+-- the cells of a line: its version, time and types, and the name at the first line of its versions, that of the newest
+abbrev pub key_row : ℕ → LineKey × LineParts → List (List ℕ)
+key_row now x =
+    decimal x.0.2.0 ∷ time_cell now x.1.added ∷ keys_cell x.0.1 x.1.etypes
+    ∷ (if x.0.1 then [] else name_text x.1.principal ∷ [])
 
--- ---- the table
+-- the titles of the columns
+abbrev pub key_titles : List (List ℕ)
+key_titles = codes "KVNO" ∷ codes "ADDED" ∷ codes "KEYS" ∷ codes "PRINCIPAL" ∷ []
 
--- the greater of two widths, of each column
-abbrev pub wider : KeyWidths → KeyWidths → KeyWidths
-wider v w = record { kvno = max v.kvno w.kvno; added = max v.added w.added; keys = max v.keys w.keys }
-
--- the widths of the titles
-abbrev pub title_widths : KeyWidths
-title_widths = record { kvno = 4; added = 5; keys = 4 }
-
--- the widths of the columns of some lines
-abbrev pub key_widths : ℕ → List (LineKey × LineParts) → KeyWidths
-key_widths now lines = fold (λ w x. wider w (asked_widths now x)) title_widths lines
-
--- the line of titles
-abbrev pub key_titles : KeyWidths → List ℕ
-key_titles w =
-    padded w.kvno (codes "KVNO") ++ (padded w.added (codes "ADDED") ++ (padded w.keys (codes "KEYS") ++ codes "PRINCIPAL\n"))
-
--- the cells of a line before its name
-abbrev pub key_cells : ℕ → KeyWidths → LineKey × LineParts → List ℕ
-key_cells now w x =
-    padded w.kvno (decimal x.0.2.0) ++ (padded w.added (time_cell now x.1.added)
-    ++ padded_unless x.0.1 w.keys (keys_cell x.0.1 x.1.etypes))
-
--- the name, at the first line of its versions: that of the newest
-abbrev pub shown_name : LineKey × LineParts → List ℕ
-shown_name x = if x.0.1 then [] else name_text x.1.principal
-
--- a line of the table
-abbrev pub key_line : ℕ → KeyWidths → LineKey × LineParts → List ℕ
-key_line now w x = key_cells now w x ++ (shown_name x ++ codes "\n")
-
--- the table of some lines, if there are any
-abbrev pub key_table : ℕ → List (LineKey × LineParts) → List ℕ
-key_table now lines =
-    if length lines == 0 then []
-    else key_titles (key_widths now lines) ++ flat_map (key_line now (key_widths now lines)) lines
+-- ---- the whole
 
 -- how many names lines have: each has one line of its newest version
 abbrev pub name_count : List (LineKey × LineParts) → ℕ
@@ -150,4 +114,5 @@ keytab_heading name keys names =
 abbrev pub keytab_view : List ℕ → ℕ → KeytabState → List ℕ
 keytab_view name now k =
     let lines = lines_of (placed_entries k) in
-    keytab_heading name (length (placed_entries k)) (name_count lines) ++ (key_table now lines ++ fault_line (fault_of (store_of k)))
+    keytab_heading name (length (placed_entries k)) (name_count lines) ++ (table key_titles (map (key_row now) lines)
+    ++ fault_line (fault_of (store_of k)))

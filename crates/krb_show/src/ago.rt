@@ -3,9 +3,7 @@
 ghost use Rattle.std.specs.Prelude.{◌≡◌, ◌<◌};
 ghost use Rattle.krb_wire.specs.Text.{AppendedPart};
 ghost use Rattle.krb_show.specs.Ago.{ago, span, time_cell, unit_of};
-ghost use Rattle.krb_show.specs.Columns.{Places, padded};
 
-use crate::columns::append_padded;
 use krb_text::{append, append_labelled};
 use krb_wire::NoMemory;
 use std::alloc::Allocator;
@@ -62,27 +60,12 @@ pub fn append_ago<A: Allocator>(now: u32, time: u32, out: &mut Vec<u8, A>) -> Re
     append_span(time - now, out)
 }
 
-// Appends the same, or `-` for the time 0.
-fn append_time<A: Allocator>(now: u32, time: u32, out: &mut Vec<u8, A>) -> Result<(), NoMemory>
+/// Appends the same, or `-` for the time 0.
+pub fn append_time<A: Allocator>(now: u32, time: u32, out: &mut Vec<u8, A>) -> Result<(), NoMemory>
     ensures { AppendedPart (time_cell now time) out.old out.new result }
 {
     if time == 0 {
         return append(b"-", out);
     }
     append_ago(now, time, out)
-}
-
-/// Appends the cell of a time. Returns the width that it asks for.
-pub fn append_time_cell<A: Allocator>(
-    now: u32,
-    width: usize,
-    time: u32,
-    cell: &mut Vec<u8, A>,
-    out: &mut Vec<u8, A>,
-) -> Result<usize, NoMemory>
-    ensures { Places (time_cell now time) (padded width (time_cell now time)) out.old.items out.new.items result }
-{
-    cell.clear();
-    append_time(now, time, cell)?;
-    append_padded(width, cell, out)
 }

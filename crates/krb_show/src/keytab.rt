@@ -1,17 +1,18 @@
 //! A keytab as it is shown to people.
 
-ghost use Rattle.std.specs.Prelude.{◌≡◌, ◌++◌, IfOk, OnOk, length};
-ghost use Rattle.std.specs.List.{flat_map};
+ghost use Rattle.std.specs.Prelude.{◌≡◌, ◌++◌, IfOk, OnOk, length, map};
 ghost use Rattle.krb_keytab.specs.Find.{placed_entries};
-ghost use Rattle.krb_show.specs.KeytabView.{key_line, key_table, key_widths, keytab_heading, keytab_view, name_count};
+ghost use Rattle.krb_show.specs.KeytabView.{key_row, keytab_heading, keytab_view, name_count};
 
-use crate::columns::append_counted;
-use crate::keys::{KeyWidths, append_cells, append_line, append_titles};
+use crate::columns::{Row, append_counted, append_table};
+use crate::keys::row_of;
 use crate::lines::{Lines, lines_of};
 use krb_keytab::Keytab;
 use krb_text::{append, append_byte, append_fault_line};
 use krb_wire::NoMemory;
 use std::alloc::Allocator;
+
+const TITLES: [&[u8]; 4] = [b"KVNO", b"ADDED", b"KEYS", b"PRINCIPAL"];
 
 // Returns the number of entries.
 fn entry_count<B: Allocator>(keytab: &Keytab<B>) -> Result<usize, NoMemory>
@@ -53,59 +54,19 @@ fn append_heading<A: Allocator>(
     append_byte(b'\n', out)
 }
 
-// Returns the widths of the columns.
-fn widths_of<A: Allocator + Copy>(
+// Returns the rows of the lines.
+fn rows_of<A: Allocator + Copy>(
     alloc: A,
     now: u32,
     lines: &Lines<'_, A>,
-) -> Result<KeyWidths, NoMemory>
-    ensures { IfOk result (λ w. w ≡ key_widths now lines.now.entries) }
+) -> Result<Vec<Row<A>, A>, NoMemory>
+    ensures { IfOk result (λ rows. rows.items ≡ map (key_row now) lines.now.entries) }
 {
-    let (mut cell, mut text) = (Vec::new(alloc), Vec::new(alloc));
-    let mut widths = KeyWidths {
-        kvno: 4,
-        added: 5,
-        keys: 4,
-    };
+    let mut rows = Vec::new(alloc);
     'lines: for (key, line) in lines {
-        text.clear();
-        widths = widths.max(append_cells(alloc, now, widths, (key, line), &mut cell, &mut text)?);
+        rows.push(row_of(alloc, now, key, line)?)?;
     }
-    Ok(widths)
-}
-
-// Appends the lines.
-fn append_lines<A: Allocator + Copy>(
-    alloc: A,
-    now: u32,
-    widths: KeyWidths,
-    lines: &Lines<'_, A>,
-    out: &mut Vec<u8, A>,
-) -> Result<(), NoMemory>
-    ensures { OnOk result (out.new.items ≡ out.old.items ++ flat_map (key_line now widths) lines.now.entries) }
-{
-    let mut cell = Vec::new(alloc);
-    'lines: for (key, line) in lines {
-        append_line(alloc, now, widths, (key, line), &mut cell, out)?;
-    }
-    Ok(())
-}
-
-// Appends the table of the lines, if there are any.
-fn append_table<A: Allocator + Copy>(
-    alloc: A,
-    now: u32,
-    lines: &Lines<'_, A>,
-    out: &mut Vec<u8, A>,
-) -> Result<(), NoMemory>
-    ensures { OnOk result (out.new.items ≡ out.old.items ++ key_table now lines.now.entries) }
-{
-    if lines.is_empty() {
-        return Ok(());
-    }
-    let widths = widths_of(alloc, now, lines)?;
-    append_titles(widths, out)?;
-    append_lines(alloc, now, widths, lines, out)
+    Ok(rows)
 }
 
 /// Appends what is shown of a keytab: a heading with the file's name, a table of its principals' keys as they are at the
@@ -121,6 +82,6 @@ pub fn append_keytab_view<A: Allocator + Copy, B: Allocator>(
 {
     let lines = lines_of(alloc, keytab)?;
     append_heading(name, entry_count(keytab)?, name_count(&lines)?, out)?;
-    append_table(alloc, now, &lines, out)?;
+    append_table(alloc, &TITLES, rows_of(alloc, now, &lines)?, out)?;
     append_fault_line(keytab.fault(), out)
 }

@@ -1,55 +1,16 @@
-//! The lines of tickets.
+//! The rows of tickets.
 
-ghost use Rattle.std.specs.Prelude.{◌≡◌, ◌++◌, IfOk, OnOk};
+ghost use Rattle.std.specs.Prelude.{◌≡◌, IfOk};
 ghost use Rattle.krb_wire.specs.Text.{AppendedPart};
-ghost use Rattle.krb_show.specs.Columns.{Places, padded};
-ghost use Rattle.krb_show.specs.EtypeNames.{etype_cell};
-ghost use Rattle.krb_show.specs.CacheView.{asked_widths, end_cell, start, ticket_cell, ticket_cells, ticket_line, ticket_titles, wider};
+ghost use Rattle.krb_show.specs.CacheView.{end_cell, start, ticket_row};
 
-use crate::ago::{append_ago, append_time_cell};
-use crate::columns::append_padded;
+use crate::ago::{append_ago, append_time};
+use crate::columns::Row;
 use crate::etypes::{append_encryption, append_etype};
 use krb_ccache::{CredView, ticket_encryption};
-use krb_text::{append, append_byte};
+use krb_text::append;
 use krb_wire::{NoMemory, write_name};
 use std::alloc::Allocator;
-
-/// The widths of the columns.
-#[derive(Clone, Copy)]
-pub struct TicketWidths {
-    pub ends: usize,
-    pub renew: usize,
-    pub session: usize,
-    pub ticket: usize,
-}
-
-impl TicketWidths {
-    /// Returns the greater of two, for each column.
-    pub fn max(self, other: TicketWidths) -> TicketWidths
-        ensures { result ≡ wider self other }
-    {
-        TicketWidths {
-            ends: self.ends.max(other.ends),
-            renew: self.renew.max(other.renew),
-            session: self.session.max(other.session),
-            ticket: self.ticket.max(other.ticket),
-        }
-    }
-}
-
-/// Appends the line of titles.
-pub fn append_titles<A: Allocator>(
-    widths: TicketWidths,
-    out: &mut Vec<u8, A>,
-) -> Result<(), NoMemory>
-    ensures { OnOk result (out.new.items ≡ out.old.items ++ ticket_titles widths) }
-{
-    append_padded(widths.ends, b"ENDS", out)?;
-    append_padded(widths.renew, b"RENEW", out)?;
-    append_padded(widths.session, b"SESSION", out)?;
-    append_padded(widths.ticket, b"TICKET", out)?;
-    append(b"SERVICE\n", out)
-}
 
 fn start(ticket: &CredView<'_>) -> u32
     ensures { result ≡ start ticket.now.times }
@@ -85,81 +46,27 @@ fn append_end<A: Allocator>(
     append_ago(now, end, out)
 }
 
-fn append_end_cell<A: Allocator>(
+/// Returns the row of a ticket.
+pub fn row_of<A: Allocator + Copy>(
+    alloc: A,
     now: u32,
-    width: usize,
     ticket: &CredView<'_>,
-    cell: &mut Vec<u8, A>,
-    out: &mut Vec<u8, A>,
-) -> Result<usize, NoMemory>
-    ensures { Places (end_cell now ticket.now.times) (padded width (end_cell now ticket.now.times))
-        out.old.items out.new.items result }
+) -> Result<Row<A>, NoMemory>
+    ensures { IfOk result (λ row. row ≡ ticket_row now ticket.now) }
 {
-    cell.clear();
-    append_end(now, ticket, cell)?;
-    append_padded(width, cell, out)
-}
-
-fn append_session_cell<A: Allocator>(
-    width: usize,
-    etype: u16,
-    cell: &mut Vec<u8, A>,
-    out: &mut Vec<u8, A>,
-) -> Result<usize, NoMemory>
-    ensures { Places (etype_cell etype) (padded width (etype_cell etype)) out.old.items out.new.items result }
-{
-    cell.clear();
-    append_etype(etype, cell)?;
-    append_padded(width, cell, out)
-}
-
-fn append_ticket_cell<A: Allocator>(
-    width: usize,
-    ticket: &[u8],
-    cell: &mut Vec<u8, A>,
-    out: &mut Vec<u8, A>,
-) -> Result<usize, NoMemory>
-    ensures { Places (ticket_cell ticket.now) (padded width (ticket_cell ticket.now)) out.old.items out.new.items result }
-{
-    cell.clear();
-    append_encryption(ticket_encryption(ticket), cell)?;
-    append_padded(width, cell, out)
-}
-
-/// Appends the cells of a ticket before its service. Returns the widths that they ask for.
-pub fn append_cells<A: Allocator>(
-    now: u32,
-    widths: TicketWidths,
-    ticket: &CredView<'_>,
-    cell: &mut Vec<u8, A>,
-    out: &mut Vec<u8, A>,
-) -> Result<TicketWidths, NoMemory>
-    ensures text { OnOk result (out.new.items ≡ out.old.items ++ ticket_cells now widths ticket.now) }
-    ensures widths { IfOk result (λ w. w ≡ asked_widths now ticket.now) }
-{
-    let ends = append_end_cell(now, widths.ends, ticket, cell, out)?;
-    let renew = append_time_cell(now, widths.renew, ticket.renew_till(), cell, out)?;
-    let session = append_session_cell(widths.session, ticket.enctype(), cell, out)?;
-    let ticket = append_ticket_cell(widths.ticket, ticket.ticket(), cell, out)?;
-    Ok(TicketWidths {
-        ends,
-        renew,
-        session,
-        ticket,
-    })
-}
-
-/// Appends the line of a ticket.
-pub fn append_line<A: Allocator>(
-    now: u32,
-    widths: TicketWidths,
-    ticket: &CredView<'_>,
-    cell: &mut Vec<u8, A>,
-    out: &mut Vec<u8, A>,
-) -> Result<(), NoMemory>
-    ensures { OnOk result (out.new.items ≡ out.old.items ++ ticket_line now widths ticket.now) }
-{
-    append_cells(now, widths, ticket, cell, out)?;
-    write_name(ticket.server(), out)?;
-    append_byte(b'\n', out)
+    let (mut ends, mut renew) = (Vec::new(alloc), Vec::new(alloc));
+    let (mut session, mut encryption) = (Vec::new(alloc), Vec::new(alloc));
+    let mut service = Vec::new(alloc);
+    append_end(now, ticket, &mut ends)?;
+    append_time(now, ticket.renew_till(), &mut renew)?;
+    append_etype(ticket.enctype(), &mut session)?;
+    append_encryption(ticket_encryption(ticket.ticket()), &mut encryption)?;
+    write_name(ticket.server(), &mut service)?;
+    let mut cells = Vec::with_capacity(alloc, 5)?;
+    cells.push(ends)?;
+    cells.push(renew)?;
+    cells.push(session)?;
+    cells.push(encryption)?;
+    cells.push(service)?;
+    Ok(Row { cells })
 }
