@@ -1,4 +1,4 @@
-//! The commands, and the actions of their command lines.
+//! The actions of command lines.
 
 ghost use Rattle.std.specs.Prelude.{◌≡◌, codes, map, IfErr, IfOk, None, OnOk};
 ghost use Rattle.krb_commands.specs.Actions.{AreNamed, Asks, AsksHold, AsksKlist, AsksKtcheck, AsksListing, AsksOverview, AsksShow, IsEdited, NamesFile, at_terminal, klist_mistake, line_mistake};
@@ -12,56 +12,18 @@ ghost use Rattle.krb_editors.specs.Hold.{hold_mistake};
 ghost use Rattle.krb_driver.specs.Mistakes.{first_value, IsRefusal, Reads};
 
 use krb_driver::{
-    CommandName, CommandWords, FileKind, FileName, Matches, NameSource, WordFault, first_value,
-    v1_order,
+    CommandName, FileKind, FileName, Matches, NameSource, WordFault, first_value, v1_order,
 };
 use krb_editors::{
-    CCEDIT, CCREMOVE, CopyOptions, DiffOptions, HOLD, HoldKind, KTCOPY, KTDIFF, KTEDIT, KTREMOVE,
-    RemoveOptions, TicketOptions, copy_options, diff_options, hold_kind, remove_options,
-    ticket_options,
+    CopyOptions, DiffOptions, HoldKind, RemoveOptions, TicketOptions, copy_options, diff_options,
+    hold_kind, remove_options, ticket_options,
 };
-use krb_ktutil::KTUTIL;
 use krb_readers::{
-    CheckOptions, FindOptions, KLIST, KTCHECK, KTFIND, KlistOptions, ListKind, SHOW, ShowOptions,
-    TicketCheck, check_options, find_options, klist_options, overview_json, show_options,
-    ticket_check,
+    CheckOptions, FindOptions, KlistOptions, ShowOptions, TicketCheck, check_options, find_options,
+    klist_options, overview_json, show_options, ticket_check,
 };
 use krb_wire::Order;
 use std::alloc::{AllocError, Global};
-
-/// The commands, in the order in which help lists them.
-pub const COMMANDS: [CommandName; 12] = [
-    CommandName::Klist,
-    CommandName::Show,
-    CommandName::Ktedit,
-    CommandName::Ktfind,
-    CommandName::Ktremove,
-    CommandName::Ktcopy,
-    CommandName::Ktdiff,
-    CommandName::Ktcheck,
-    CommandName::Ccedit,
-    CommandName::Ccremove,
-    CommandName::Ktutil,
-    CommandName::Hold,
-];
-
-/// Returns the words of a command.
-pub fn words_of(command: CommandName) -> CommandWords {
-    match command {
-        CommandName::Klist => KLIST,
-        CommandName::Show => SHOW,
-        CommandName::Ktedit => KTEDIT,
-        CommandName::Ktfind => KTFIND,
-        CommandName::Ktremove => KTREMOVE,
-        CommandName::Ktcopy => KTCOPY,
-        CommandName::Ktdiff => KTDIFF,
-        CommandName::Ktcheck => KTCHECK,
-        CommandName::Ccedit => CCEDIT,
-        CommandName::Ccremove => CCREMOVE,
-        CommandName::Ktutil => KTUTIL,
-        CommandName::Hold => HOLD,
-    }
-}
 
 /// The options of ktutil.
 #[derive(Clone, Copy)]

@@ -2,10 +2,12 @@
 #![tactic(auto)]
 
 mod action;
+mod commands;
 mod needs;
 mod response;
 
-pub use action::{Action, COMMANDS, KtutilOptions, action_of, at_terminal, words_of};
+pub use action::{Action, KtutilOptions, action_of, at_terminal};
+pub use commands::{COMMANDS, words_of};
 pub use krb_audit::FINDINGS;
 pub use krb_driver::{
     BadLine, CommandName, CommandWords, ErrorOutput, FileKind, FileName, Matches, Mistake, More,

@@ -22,7 +22,7 @@ pub struct LeftOut {
 #[derive(Clone, Copy)]
 pub struct Needs {
     /// The time: for entries that ktutil adds, entries that have been old or have had their key for some time, tickets
-    /// that have expired or will, or times that are told as ages.
+    /// that have expired or will, or times given as ages.
     pub clock: bool,
     /// Only plain files are loaded: any other is refused before it is opened.
     pub plain: bool,

@@ -46,11 +46,7 @@ Example: bring new keys into the keytab in use
   krbfile ktcopy rotated.keytab host.keytab",
     ),
     words: &[
-        Word::Flag(
-            "dry-run",
-            'n',
-            "Tell what would be copied, and save nothing",
-        ),
+        Word::Flag("dry-run", 'n', "Show what would be copied; change nothing"),
         Word::LongFlag("replace", "Replace entries that have another key"),
         OF_PRINCIPAL,
         Word::LongValued("as", "NAME", "Copy under that name; with one -p"),

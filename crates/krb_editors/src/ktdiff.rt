@@ -1,4 +1,4 @@
-//! ktdiff: tells which keys two keytabs do not share.
+//! ktdiff: shows which keys two keytabs do not share.
 
 ghost use Rattle.std.specs.Prelude.{◌≡◌};
 ghost use Rattle.krb_driver.specs.Commands.{IsMade, Makes, Runs, always, any, text_effect};
@@ -24,7 +24,7 @@ use std::io::{Read, Write};
 pub const KTDIFF: CommandWords = CommandWords {
     command: CommandName::Ktdiff,
     name: "ktdiff",
-    about: "Tells which keys two keytabs do not share",
+    about: "Shows which keys two keytabs do not share",
     usage: "krbfile ktdiff [--v1-big] [-p NAME].. [-e ETYPE].. A B",
     after_help: Some(
         "\

@@ -63,7 +63,7 @@ fn command_of<'a>(alloc: Global, line: &CommandWords) -> Result<Command<'a>, All
 
 // Returns the program's command without subcommands.
 fn top_command<'a>(alloc: Global) -> Result<Command<'a>, AllocError> {
-    let help = "Say in words too what goes wrong, as on a terminal; stands first";
+    let help = "Explain errors in words, as on a terminal (must come first)";
     Command::new(alloc, "krbfile")
         .version(VERSION)
         .about("Lists and edits Kerberos keytabs and credential caches")

@@ -53,8 +53,4 @@ pub const IN_PLACE: Word = Word::LongFlag(
 );
 
 /// The flag `-n`, `--dry-run`.
-pub const DRY_RUN: Word = Word::Flag(
-    "dry-run",
-    'n',
-    "Tell what would be removed, and save nothing",
-);
+pub const DRY_RUN: Word = Word::Flag("dry-run", 'n', "Show what would be removed; change nothing");

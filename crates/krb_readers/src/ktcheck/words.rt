@@ -16,7 +16,7 @@ use std::alloc::{Allocator, Global};
 pub const KTCHECK: CommandWords = CommandWords {
     command: CommandName::Ktcheck,
     name: "ktcheck",
-    about: "Tells what is wrong with keytabs",
+    about: "Reports what is wrong with keytabs",
     usage: "\
 krbfile ktcheck [--v1-big] [-q] [-H] [--json] [--allow WORD].. [--older SECONDS]
                        [--want NAME].. [FILE..]",
