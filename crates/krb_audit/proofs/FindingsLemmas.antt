@@ -20,9 +20,6 @@ pub record IsCheckedUpTo {A : Type 0} (aged_by : Option ℕ) (k : KeytabState) (
   pub known : IsBefore k wanted before rest b
   pub entries_are : entries ++ reported_of (marked_after aged_by k before rest) ≡ reported aged_by k
 
-pub none_checked : {A : Type 0} (aged_by : Option ℕ) (k : KeytabState) (wanted : List (List ℕ)) (b : Before A) → IsBefore k wanted [] (placed_entries k) b → IsCheckedUpTo aged_by k wanted (placed_entries k) b []
-none_checked aged_by k wanted b known = record { before = []; known = known; entries_are = refl }
-
 listed_if : (b : Bool) (m : Marked) (entries after : List Marked) → cond b (entries ++ m ∷ []) entries ++ after ≡ entries ++ cond b (m ∷ after) after
 listed_if b m entries after = grind (arith, append_assoc entries (m ∷ []) after)
 

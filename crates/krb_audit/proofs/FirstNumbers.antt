@@ -1,5 +1,5 @@
 -- The number of the first entry of a name.
-use Rattle.krb_audit.proofs.Cited.{◌≡◌, ℕ, ◌+◌, ◌≤◌, Bool, true, false, List, [], ◌∷◌, Some, refl, sym, arith, eq-eqb, eqb-true, Parts, have_same_name, PlacedEntry, first_number, ◌==◌, on_equiv, and_equiv, nat_list_eq_equiv, lists_equiv, first_from}
+use Rattle.krb_audit.proofs.Cited.{◌≡◌, ℕ, ◌+◌, ◌≤◌, true, List, [], ◌∷◌, Some, refl, arith, eq-eqb, eqb-true, Parts, have_same_name, PlacedEntry, first_number, ◌==◌, on_equiv, and_equiv, nat_list_eq_equiv, lists_equiv, first_from}
 use Rattle.std.specs.Cmp.{IsEquivalence}
 
 pub same_equiv : IsEquivalence have_same_name
@@ -19,11 +19,6 @@ first_ge n p (x ∷ xs) i e = grind (arith, e, first_ge (n + 1) p xs i)
 first_number_is : (n : ℕ) (p q : Parts) (xs : List PlacedEntry) (i : ℕ) → first_from n p xs ≡ Some i → first_from n q xs ≡ Some i → have_same_name p q ≡ true
 first_number_is n p q [] i ep eq = absurd cc
 first_number_is n p q (x ∷ xs) i ep eq = grind (arith, ep, eq, first_number_is (n + 1) p q xs i, first_ge (n + 1) p xs i, first_ge (n + 1) q xs i, same_equiv.congr p x.1.principal q, same_equiv.symm x.1.principal q)
-
-pub same_bool : (a b : Bool) → (a ≡ true → b ≡ true) → (b ≡ true → a ≡ true) → a ≡ b
-same_bool true b to from = sym (to refl)
-same_bool false true to from = from refl
-same_bool false false to from = refl
 
 -- two names' numbers are equal iff the names are the same
 pub number_test : (p q : Parts) (xs : List PlacedEntry) (i j : ℕ) → first_number p xs ≡ Some i → first_number q xs ≡ Some j → (i == j) ≡ have_same_name p q

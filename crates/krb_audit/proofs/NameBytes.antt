@@ -38,9 +38,6 @@ opens f e bytes s =
       fits = s.fit.principal;
     })
 
-no_none : {X : Type 0} (x : X) → None ≡ Some x → ⊥
-no_none x e = absurd cc
-
 pub is_read : (f : KtFormat) (e : EntryParts) (bytes : List ℕ) → Spells f e bytes → kt_principal_at f bytes ≡ None → ⊥
 is_read f e bytes s none = grind (arith, none, (opens f e bytes s).read)
 

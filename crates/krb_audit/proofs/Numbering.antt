@@ -1,9 +1,7 @@
 -- The names of entries are numbered, one entry after the other.
-use Rattle.krb_audit.proofs.Cited.{◌≡◌, arith, ℕ, ◌+◌, Bool, false, cond, List, [], ◌∷◌, ◌++◌, length, map, Option, Some, refl, sym, ap, ◌∙◌, append_assoc, bytes_eq, KtFormat, Parts, have_same_name, PlacedEntry, Row, Stamp, AreNumbered, AreRows, first_number, stamp_of, kt_name, append-nil, unwrap_or, option_or, nat_cmp_total, tied_itself, length_push, map_push, FitsKt, HashedName, name_cmp, to_name, first_from, row_in, shown}
+use Rattle.krb_audit.proofs.Cited.{◌≡◌, arith, ℕ, ◌+◌, Bool, cond, List, [], ◌∷◌, ◌++◌, length, map, Option, Some, refl, sym, ap, ◌∙◌, append_assoc, bytes_eq, KtFormat, Parts, have_same_name, PlacedEntry, Row, Stamp, AreNumbered, first_number, stamp_of, kt_name, unwrap_or, option_or, nat_cmp_total, tied_itself, length_push, map_push, FitsKt, HashedName, name_cmp, to_name, first_from, row_in, shown}
 use Rattle.std.specs.BTreeMap.{BTreeMap, get, get_by, Updates}
 use Rattle.std.specs.Cmp.Lexicographic.{slice_cmp}
-use Rattle.std.specs.declared.cmp.Ordering.{Ordering}
-use Rattle.std.specs.declared.cmp.Ordering.TheVariants.{Equal}
 use Rattle.std.specs.Ordering.{nat_cmp, ordering_then, is_eq}
 use Rattle.std.proofs.lemmas.Map.Text.{is_eq-slice_cmp}
 use Rattle.std.proofs.lemmas.Slice.Eq.{bytes_eq-Decides}
@@ -22,12 +20,6 @@ found m bytes = get_by (to_name bytes) m
 -- a name's bytes with their hash
 abbrev hashed : List ℕ → HashedName
 hashed bytes = (hash_of bytes, record { ref_ptr = (0, 0); now = bytes })
-
-tied : (o : Ordering) (c : Ordering) → o ≡ Equal → is_eq (ordering_then o c) ≡ is_eq c
-tied o c e = grind (arith, e)
-
-untied : (o c : Ordering) → is_eq c ≡ false → is_eq (ordering_then o c) ≡ false
-untied o c e = grind (arith, e)
 
 -- bytes compare equal together with their hashes iff the bytes are equal
 numbers_agree : (a b : List ℕ) (t : Bool) → bytes_eq a b ≡ t → is_eq (ordering_then (nat_cmp (hash_of a) (hash_of b)) (slice_cmp nat_cmp a b)) ≡ t
@@ -75,6 +67,3 @@ numbered_next f all rest x names new hash name row h fits hash_is name_is here s
       ∙ append_assoc (map shown names.rows.items) (shown row ∷ []) (map (row_in all) rest)
       ∙ ap (λ (s : Option ℕ × Stamp). map shown names.rows.items ++ s ∷ map (row_in all) rest) is ∙ h.rows;
 }
-
-pub all_numbered : {A : Type 0} (f : KtFormat) (all : List PlacedEntry) (names : Names A) → AreNumbered f all [] names → AreRows all all names.rows.items
-all_numbered f all names h = sym (append-nil (map shown names.rows.items)) ∙ h.rows

@@ -52,9 +52,6 @@ many_found xs = length-map-range_with_len (is_weak_among xs) 0 27
 more : (xs : List PlacedEntry) (x : PlacedEntry) (n : ℕ) (is : Bool) → (x.1.enctype == n) ≡ is → is_weak_among (xs ++ x ∷ []) n ≡ (is_weak n && (has xs n || (is || false)))
 more xs x n is e = grind (arith, e, list_any-append (λ y. y.1.enctype == n) xs (x ∷ []))
 
-or_none : (b : Bool) → (b || (false || false)) ≡ b
-or_none b = grind arith
-
 -- a number that is not its enctype, or is not weak
 same_found : (xs : List PlacedEntry) (x : PlacedEntry) (n : ℕ) → (x.1.enctype == n) ≡ false → is_weak_among (xs ++ x ∷ []) n ≡ is_weak_among xs n
 same_found xs x n other = grind (arith, more xs x n false other)

@@ -13,11 +13,6 @@ pub has_none : (new : Option (List ℕ)) → IsAtEnd new → IfSome new (λ left
 has_none None end = tt
 has_none (Some xs) end = end
 
--- a list of length 0 is empty
-pub no_length : (xs : List ℕ) → length xs ≡ 0 → xs ≡ []
-no_length [] is = refl
-no_length (x ∷ xs) is = absurd (cc)
-
 -- a reader that returned nothing and is at its end had no bytes left before
 pub had_none : (old new : Option (List ℕ)) (given left : List ℕ) (n : ℕ) → n ≡ 0 → Consumes old new (take n given) → IsAtEnd new → left ≡ [] → IfSome old (λ had. had ≡ left)
 had_none old new given left n zero consumed end empty =
