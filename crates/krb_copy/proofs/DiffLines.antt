@@ -1,12 +1,11 @@
 -- The lines of rows are those of differences.
-use Rattle.krb_copy.proofs.Cited.{◌≡◌, ℕ, ◌+◌, ◌<◌, Bool, true, cond, List, [], ◌∷◌, ◌++◌, length, get_or, drop, Option, Some, None, refl, sym, ap, subst, ◌∙◌, arith, map, ◌||◌, ◌&&◌, not, ◌==◌, option_map, bytes_eq, list_any, flat_map, filter_map, find, eqb-true, eq-eqb, some_is, EntryParts, PlacedEntry, are_twins}
+use Rattle.krb_copy.proofs.Cited.{◌≡◌, ℕ, ◌<◌, Bool, true, cond, List, [], ◌∷◌, ◌++◌, length, get_or, drop, Option, Some, None, refl, sym, ap, subst, ◌∙◌, arith, map, ◌||◌, ◌&&◌, not, ◌==◌, option_map, bytes_eq, list_any, flat_map, filter_map, find, eqb-true, eq-eqb, EntryParts, PlacedEntry, are_twins}
 use Rattle.std.specs.Prelude.{codes}
 use Rattle.std.specs.List.{All, AllByRecursion}
 use Rattle.std.proofs.lemmas.List.Concat.{flat_map-append}
 use Rattle.std.proofs.lemmas.List.Elements.{All-from_recursion}
 use Rattle.std.proofs.lemmas.List.Folds.{flat_map-map}
 use Rattle.krb_text.specs.Listing.{placed_line}
-use Rattle.krb_audit.proofs.FirstNumbers.{same_bool}
 use Rattle.krb_copy.specs.Diff.{Difference, Theirs, diff_text, difference_at, difference_by, difference_line, firsts, has_more_keys, has_twin}
 use Rattle.krb_copy.specs.DiffRows.{AreKeys, class_number, first_place, has_key, lacks, row_due, row_line, rows_due, shown}
 use Rattle.krb_copy.specs.declared.diff.Keys.{Keys}
@@ -17,12 +16,9 @@ use Rattle.krb_copy.proofs.Numbers.{number_alike, position_at}
 -- ---- classes have the same number iff their entries are twins
 
 pub numbers_agree : (x y : EntryParts) (all : List PlacedEntry) (n m : ℕ) → class_number x all ≡ Some n → class_number y all ≡ Some m → (m == n) ≡ are_twins x y
-numbers_agree x y all n m of_x of_y = same_bool (m == n) (are_twins x y)
-    (λ same.
+numbers_agree x y all n m of_x of_y =
     let z = get_or all n (0, x) in
-    let of_z = (position_at (λ (w : PlacedEntry). are_twins y w.1) all n (0, x) (of_y ∙ ap (λ (k : ℕ). Some k) (eqb-true m n same))).1 in
-    twins_equiv.congr x z.1 y (position_at (λ (w : PlacedEntry). are_twins x w.1) all n (0, x) of_x).1 ∙ twins_equiv.symm z.1 y ∙ of_z)
-    (λ twin. eq-eqb m n (some_is m n (sym of_y ∙ sym (number_alike x y all twin) ∙ of_x)))
+    grind (arith, of_x, of_y, position_at (λ (w : PlacedEntry). are_twins x w.1) all n (0, x) of_x, position_at (λ (w : PlacedEntry). are_twins y w.1) all n (0, x), twins_equiv.congr x z.1 y, twins_equiv.symm z.1 y, number_alike x y all, eqb-true m n, eq-eqb m n)
 
 -- ---- rows and their entries
 
