@@ -5,6 +5,7 @@ ghost use Rattle.std.specs.List.{list_any};
 ghost use Rattle.krb_json.specs.Escaped.{escape, escaped, held, is_second, is_special};
 
 use krb_wire::NoMemory;
+use memchr::memchr2;
 use std::alloc::Allocator;
 
 // The first of the two bytes of U+0080 to U+009F.
@@ -83,23 +84,11 @@ fn append_slowly<A: Allocator>(text: &[u8], out: &mut Vec<u8, A>) -> Result<(), 
     Ok(())
 }
 
-// Returns whether a byte may have to be escaped.
-fn is_special(byte: u8) -> bool
-    ensures { result ≡ is_special byte }
-{
-    (byte == DELETE) | (byte == FIRST)
-}
-
-// Returns whether a text has such a byte. To look at all bytes, many at once, takes less time than to stop at the first.
-#[tactic(auto, using(std::proofs::lemmas::List::Folds::list_any_more))]
+// Returns whether a text has a byte that may have to be escaped.
 fn has_special(text: &[u8]) -> bool
     ensures { result ≡ list_any is_special text.now }
 {
-    let mut found = false;
-    for byte in text {
-        found |= is_special(*byte);
-    }
-    found
+    memchr2(DELETE, FIRST, text).is_some()
 }
 
 /// Appends a text of JSON, in which those characters are escaped.
