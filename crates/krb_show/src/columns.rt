@@ -1,6 +1,6 @@
 //! Tables in columns, and numbers of things.
 
-ghost use Rattle.std.specs.Prelude.{◌≡◌, ◌+◌, ◌-◌, ◌++◌, IfOk, OnOk, length, map, replicate};
+ghost use Rattle.std.specs.Prelude.{◌≡◌, ◌+◌, ◌-◌, ◌++◌, [], IfOk, OnOk, length, map, replicate};
 ghost use Rattle.std.specs.List.{flat_map};
 ghost use Rattle.krb_wire.specs.Reading.{items_of};
 ghost use Rattle.krb_show.specs.Columns.{asked_width, cell_of, cells_behind, column_width, counted, row_text, table, widths};
@@ -13,6 +13,16 @@ use std::marker::Model;
 
 // A longer cell has no say in the width of its column.
 const MAX_WIDTH: usize = 40;
+
+// Most cells have no more bytes.
+const USUAL_LEN: usize = 32;
+
+/// Returns an empty cell that takes no more memory for what most cells hold.
+pub fn new_cell<A: Allocator>(alloc: A) -> Result<Vec<u8, A>, NoMemory>
+    ensures { IfOk result (λ cell. cell.items ≡ []) }
+{
+    Ok(Vec::with_capacity(alloc, USUAL_LEN)?)
+}
 
 /// A row of a table.
 #[derive(Drop)]

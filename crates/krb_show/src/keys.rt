@@ -5,7 +5,7 @@ ghost use Rattle.krb_show.specs.EtypeNames.{etype_cell};
 ghost use Rattle.krb_show.specs.KeytabView.{distinct, key_row, keys_cell, more_types, spaced};
 
 use crate::ago::append_time;
-use crate::columns::Row;
+use crate::columns::{Row, new_cell};
 use crate::etypes::append_etype;
 use crate::lines::{Line, LineKey};
 use itoa::Buffer;
@@ -99,7 +99,7 @@ pub fn row_of<A: Allocator + Copy>(
 ) -> Result<Row<A>, NoMemory>
     ensures { IfOk result (λ row. row ≡ key_row now (key.now, line.now)) }
 {
-    let (mut kvno, mut added, mut keys) = (Vec::new(alloc), Vec::new(alloc), Vec::new(alloc));
+    let (mut kvno, mut added, mut keys) = (Vec::new(alloc), new_cell(alloc)?, new_cell(alloc)?);
     append_labelled(b"", key.2.0, &mut kvno)?;
     append_time(now, line.added, &mut added)?;
     append_keys(alloc, key.1, &line.etypes, &mut keys)?;
@@ -108,7 +108,7 @@ pub fn row_of<A: Allocator + Copy>(
     cells.push(added)?;
     cells.push(keys)?;
     if !key.1 {
-        let mut name = Vec::new(alloc);
+        let mut name = new_cell(alloc)?;
         write_name(line.entry.principal(), &mut name)?;
         cells.push(name)?;
     }

@@ -5,7 +5,7 @@ ghost use Rattle.krb_wire.specs.Text.{AppendedPart};
 ghost use Rattle.krb_show.specs.CacheView.{end_cell, start, ticket_row};
 
 use crate::ago::{append_ago, append_time};
-use crate::columns::Row;
+use crate::columns::{Row, new_cell};
 use crate::etypes::{append_encryption, append_etype};
 use krb_ccache::{CredView, ticket_encryption};
 use krb_text::append;
@@ -54,9 +54,9 @@ pub fn row_of<A: Allocator + Copy>(
 ) -> Result<Row<A>, NoMemory>
     ensures { IfOk result (λ row. row ≡ ticket_row now ticket.now) }
 {
-    let (mut ends, mut renew) = (Vec::new(alloc), Vec::new(alloc));
-    let (mut session, mut encryption) = (Vec::new(alloc), Vec::new(alloc));
-    let mut service = Vec::new(alloc);
+    let (mut ends, mut renew) = (new_cell(alloc)?, new_cell(alloc)?);
+    let (mut session, mut encryption) = (new_cell(alloc)?, new_cell(alloc)?);
+    let mut service = new_cell(alloc)?;
     append_end(now, ticket, &mut ends)?;
     append_time(now, ticket.renew_till(), &mut renew)?;
     append_etype(ticket.enctype(), &mut session)?;
