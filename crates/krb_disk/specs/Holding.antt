@@ -1,5 +1,5 @@
 -- What a held file is.
-use Rattle.std.specs.Prelude.{◌≡◌, ℕ, List, Option, None, Some, string_bytes}
+use Rattle.std.specs.Prelude.{◌≡◌, ℕ, Bool, false, List, Option, None, Some, Result, Ok, is_ok, string_bytes}
 use Rattle.std.specs.declared.clone.Clone as clone
 use Rattle.std.specs.declared.io.traits.Read as read
 use Rattle.std.specs.declared.io.traits.Seek as seek
@@ -21,6 +21,11 @@ module _ {R F D A : Type 0} {reads : read.Ghosts F} {writes : write.Ghosts F} {s
   HasLoaded found bytes (InPlace old) = IsLoaded found bytes old.snapshot
 
   -- if a file is held, it is the one of that name
-  abbrev pub IsHeldAs : Option (List ℕ) → Option (Held R F D A reads writes seeks lists clones) → Type 0
-  IsHeldAs name None = Unit {0}
-  IsHeldAs name (Some held) = name ≡ Some (name_of held)
+  abbrev pub IsHeldAs : {X : Type 0} → Option (List ℕ) → Option (Result (Held R F D A reads writes seeks lists clones) X) → Type 0
+  IsHeldAs name (Some (Ok held)) = name ≡ Some (name_of held)
+  IsHeldAs name hold = Unit {0}
+
+-- a file was to be held, and could be
+abbrev pub is_held : {H X : Type 0} → Option (Result H X) → Bool
+is_held None = false
+is_held (Some hold) = is_ok hold

@@ -1,15 +1,15 @@
 //! Files on a disk, by name.
 
-ghost use Rattle.std.specs.Prelude.{◌≡◌, ◌≤◌, ◌<◌, true, false, [], ◌∷◌, None, Some, is_ok, is_some, IfOk, OnOk, OnErr, IfErr, IsSome, IsTrue, vec_len};
+ghost use Rattle.std.specs.Prelude.{◌≡◌, ◌≤◌, ◌<◌, true, false, [], ◌∷◌, None, Some, is_ok, IfOk, OnOk, OnErr, IfErr, IsSome, IsTrue, vec_len};
 ghost use Rattle.krb_disk.specs.Aftermaths.{IsDone, IsRefused, load_fault, save_fault};
 ghost use Rattle.krb_disk.specs.DiskFiles.{Disk, Fails, CountsLoad, CountsSave, AnswersFromDisk, SavesToDisk, is_in_place, left};
-ghost use Rattle.krb_disk.specs.Holding.{IsHeldAs, name_of};
+ghost use Rattle.krb_disk.specs.Holding.{IsHeldAs, is_held, name_of};
 
 mod holding;
 
 use crate::calls::Calls;
 use crate::fault::{DiskFault, ReadFault, Unsaved};
-use crate::held::{Held, NotHeld, save_anew};
+use crate::held::{Held, NotHeld};
 use crate::looks::Found;
 use crate::looks::text::check_len;
 use crate::old::Way;
@@ -32,8 +32,7 @@ pub struct DiskFiles<'a, R: rt::Files + Alloc> {
     mode: Option<u32>,
     /// The name of the file to be held, and the hold, or why it could not be held.
     held_name: HeldName,
-    held: Option<Held<R>>,
-    not_held: Option<NotHeld<R::A>>,
+    hold: Option<Result<Held<R>, NotHeld<R::A>>>,
     /// The path at which something is in the way of the last save.
     in_the_way: Option<String<R::A>>,
     only_plain: bool,
@@ -52,7 +51,7 @@ impl<'a, R: rt::Files + Alloc> Model for DiskFiles<'a, R> {
       saved = files.calls.saved.entries;
       mode = files.mode;
       held = files.held_name.name;
-      is_held = is_some files.held;
+      is_held = is_held files.hold;
       only_plain = files.only_plain;
       no_pipes = files.no_pipes;
       in_place = is_in_place files.way;
@@ -60,7 +59,7 @@ impl<'a, R: rt::Files + Alloc> Model for DiskFiles<'a, R> {
     } };
 
     // A counted failure has a cause, and what is held is the file that was to be.
-    ghost invariant = { λ files. (0 < files.failures → IsSome files.cause) × IsHeldAs files.held_name.name files.held };
+    ghost invariant = { λ files. (0 < files.failures → IsSome files.cause) × IsHeldAs files.held_name.name files.hold };
 }
 
 impl<'a, R: rt::Files + Alloc> DiskFiles<'a, R> {
@@ -74,8 +73,7 @@ impl<'a, R: rt::Files + Alloc> DiskFiles<'a, R> {
             cause: None,
             mode: None,
             held_name: HeldName::none(),
-            held: None,
-            not_held: None,
+            hold: None,
             in_the_way: None,
             only_plain: false,
             no_pipes: false,
@@ -172,11 +170,11 @@ where
     {
         self.release();
         self.aftermath = None;
-        let held = Held::take(&self.calls, name, self.way);
-        if let Err(not_held) = &held {
+        let hold = Held::take(&self.calls, name, self.way);
+        if let Err(not_held) = &hold {
             self.note_in_the_way(name, not_held.why);
         }
-        self.keep(name, held);
+        self.keep(name, hold);
     }
 
     fn release(&mut self)
@@ -188,10 +186,10 @@ where
     }
 
     fn check_hold(&mut self) -> Result<(), SaveFault> {
-        let checked = match (&self.held, &self.not_held) {
-            (Some(held), _) => held.check(),
-            (None, Some(not_held)) => Err(not_held.why),
-            (None, None) => Err(DiskFault::Failed(Cause::NoLock)),
+        let checked = match &self.hold {
+            Some(Ok(held)) => held.check(),
+            Some(Err(not_held)) => Err(not_held.why),
+            None => Err(DiskFault::Failed(Cause::NoLock)),
         };
         match checked {
             Ok(()) => Ok(()),

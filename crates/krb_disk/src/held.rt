@@ -1,6 +1,6 @@
 //! A held file, or why a file is not held.
 
-ghost use Rattle.std.specs.Prelude.{◌≡◌, ◌≤◌, ◌∷◌, IfErr, IfOk, OnOk, OnErr, vec_len};
+ghost use Rattle.std.specs.Prelude.{◌≡◌, ◌↔◌, ◌≤◌, ◌∷◌, IsTrue, IfErr, IfOk, OnOk, OnErr, vec_len};
 ghost use Rattle.krb_disk.specs.Aftermaths.{IsDone, IsRefused};
 ghost use Rattle.krb_disk.specs.Holding.{HasLoaded, name_of};
 
@@ -131,18 +131,7 @@ where
     ensures done { IfOk result IsDone }
     ensures refused { IfErr result IsRefused }
 {
-    let target = find_target(calls.looks(), name)?;
-    match way {
-        Way::Replace => {
-            let hold = Replacing::take(calls, target)?;
-            Ok(aftermath_of(hold.save(calls, bytes)?))
-        }
-        Way::InPlace => {
-            let mut deadline = Deadline::new(calls.looks());
-            let old = Old::hold(calls, target, way, &mut deadline)?;
-            save_in_place(calls, old, bytes)
-        }
-    }
+    hold(calls, name, way)?.write(calls, bytes)
 }
 
 impl<R: rt::Files + rt::Clock + Alloc> Held<R>
@@ -186,6 +175,29 @@ where
         }
     }
 
+    // Saves the file that is held, and returns what that left behind. Ends the hold.
+    fn write(self, calls: &mut Calls<'_, R>, bytes: &[u8]) -> Result<Option<Aftermath>, Unsaved>
+        ensures ok { OnOk result (calls.new.saved.entries ≡ (name_of self, bytes.now) ∷ calls.old.saved.entries) }
+        ensures err { OnErr result (calls.new.saved.entries ≡ calls.old.saved.entries) }
+        ensures done { IfOk result IsDone }
+        ensures refused { IfErr result IsRefused }
+    {
+        match self {
+            Held::Replacing(hold) => Ok(aftermath_of(hold.save(calls, bytes)?)),
+            Held::InPlace(old) => save_in_place(calls, old, bytes),
+        }
+    }
+
+    // Returns whether it was taken by that name.
+    fn is_of(&self, name: &str) -> bool
+        ensures { IsTrue result ↔ (name_of self.now ≡ name.now) }
+    {
+        match self {
+            Held::Replacing(hold) => hold.old.is_of(name),
+            Held::InPlace(old) => old.is_of(name),
+        }
+    }
+
     /// Saves the file of that name, and returns what that left behind. If the hold is of another name, releases it and
     /// takes one now. Ends the hold.
     pub fn save(
@@ -200,22 +212,11 @@ where
         ensures done { IfOk result IsDone }
         ensures refused { IfErr result IsRefused }
     {
-        match self {
-            Held::Replacing(hold) => {
-                if hold.old.is_of(name) {
-                    return Ok(aftermath_of(hold.save(calls, bytes)?));
-                }
-                hold.release(calls);
-                save_anew(calls, name, bytes, way)
-            }
-            Held::InPlace(old) => {
-                if old.is_of(name) {
-                    return save_in_place(calls, old, bytes);
-                }
-                drop(old);
-                save_anew(calls, name, bytes, way)
-            }
+        if self.is_of(name) {
+            return self.write(calls, bytes);
         }
+        self.release(calls);
+        save_anew(calls, name, bytes, way)
     }
 
     /// Ends the hold.

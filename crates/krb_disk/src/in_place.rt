@@ -4,7 +4,7 @@ ghost use Rattle.std.specs.Prelude.{◌≡◌, ◌⊎◌, ◌∷◌, length, IfE
 ghost use Rattle.krb_disk.specs.Aftermaths.{IsDone, IsRefused};
 ghost use Rattle.krb_disk.specs.Content.{AtEach, IsPatch, Replaces, TurnsInto, Writes};
 ghost use Rattle.krb_disk.specs.Stages.{HasFailed, IsAftermath, IsToWatch, looked, unlooked};
-ghost use Rattle.krb_disk.specs.declared.stage.PlaceStage.TheVariants.{Same, Ready, Finished, Saved, Whole};
+ghost use Rattle.krb_disk.specs.declared.stage.PlaceStage.TheVariants.{Untouched, Same, Ready, Finished, Saved, Whole};
 
 mod bring_back;
 
@@ -168,6 +168,31 @@ where
     Ok(calls.look_after(file, patch.after))
 }
 
+// Writes these bytes over those that were loaded, once no program has the file locked.
+fn save_over<R: rt::Files + rt::Clock + Alloc>(
+    calls: &mut Calls<'_, R>,
+    file: &mut PlaceFile<R::File>,
+    old: &Old<R>,
+    bytes: &[u8],
+) -> Result<Option<Aftermath>, Unsaved>
+where
+    R::File: WriteInPlace,
+    requires { file.old.stage ≡ Untouched }
+    ensures ok { OnOk result (calls.new.saved.entries
+        ≡ (string_bytes old.now.target.name, bytes.now) ∷ calls.old.saved.entries) }
+    ensures err { OnErr result (calls.new.saved.entries ≡ calls.old.saved.entries) }
+    ensures done { IfOk result IsDone }
+    ensures refused { IfErr result IsRefused }
+{
+    let mut deadline = Deadline::new(calls.looks());
+    check(calls, file, old, &[], &mut deadline)?;
+    let Snapshot::Loaded(_, before) = &old.snapshot else {
+        return Err(Unsaved::from(DiskFault::Failed(Cause::Changed)));
+    };
+    let patch = Patch::between(before, bytes);
+    change(calls, file, old, patch, &mut deadline)
+}
+
 /// Writes these bytes over those of the file, or fails and leaves it unchanged, or says what it has left. Ends the hold.
 pub fn save_in_place<R: rt::Files + rt::Clock + Alloc>(
     calls: &mut Calls<'_, R>,
@@ -187,11 +212,5 @@ where
         return Err(Unsaved::from(DiskFault::Failed(Cause::NoFile)));
     };
     let mut file = file.to_be_written()?;
-    let mut deadline = Deadline::new(calls.looks());
-    check(calls, &mut file, &old, &[], &mut deadline)?;
-    let Snapshot::Loaded(_, before) = &old.snapshot else {
-        return Err(Unsaved::from(DiskFault::Failed(Cause::Changed)));
-    };
-    let patch = Patch::between(before, bytes);
-    change(calls, &mut file, &old, patch, &mut deadline)
+    save_over(calls, &mut file, &old, bytes)
 }

@@ -42,29 +42,20 @@ where
         if self.no_pipes {
             refuse_pipe(looks, name)?;
         }
-        match (&mut self.held, &self.not_held) {
-            (Some(held), _) => held.load(&self.calls, alloc, name, limit),
-            (None, Some(not_held)) => not_held.load(looks, alloc, name, limit),
-            (None, None) => read_file(looks, alloc, name, limit),
+        match &mut self.hold {
+            Some(Ok(held)) => held.load(&self.calls, alloc, name, limit),
+            Some(Err(not_held)) => not_held.load(looks, alloc, name, limit),
+            None => read_file(looks, alloc, name, limit),
         }
     }
 
     /// Keeps a hold until the file is saved or released, or why it could not be had.
-    pub(super) fn keep(&mut self, name: &str, held: Result<Held<R>, NotHeld<R::A>>)
-        requires { IfOk held (λ held. name_of held ≡ name.now) }
-        ensures { self.new ≡ record self.old { held = Some name.now; is_held = is_ok held } }
+    pub(super) fn keep(&mut self, name: &str, hold: Result<Held<R>, NotHeld<R::A>>)
+        requires { IfOk hold (λ held. name_of held ≡ name.now) }
+        ensures { self.new ≡ record self.old { held = Some name.now; is_held = is_ok hold } }
     {
         self.held_name = HeldName::of(name.as_bytes());
-        match held {
-            Ok(held) => {
-                self.held = Some(held);
-                self.not_held = None;
-            }
-            Err(not_held) => {
-                self.held = None;
-                self.not_held = Some(not_held);
-            }
-        }
+        self.hold = Some(hold);
     }
 
     /// Takes the hold, or why it could not be had, so that none is left.
@@ -72,10 +63,10 @@ where
         ensures { self.new ≡ left self.old }
     {
         self.held_name = HeldName::none();
-        let not_held = self.not_held.take();
-        match (self.held.take(), not_held) {
-            (None, Some(not_held)) => Err(not_held.why),
-            (held, _) => Ok(held),
+        match self.hold.take() {
+            Some(Ok(held)) => Ok(Some(held)),
+            Some(Err(not_held)) => Err(not_held.why),
+            None => Ok(None),
         }
     }
 
