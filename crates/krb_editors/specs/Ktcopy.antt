@@ -6,7 +6,6 @@ use Rattle.krb_wire.specs.Reading.{principal_parts}
 use Rattle.krb_keytab.specs.Find.{PlacedEntry}
 use Rattle.krb_keytab.specs.Store.{image_of}
 use Rattle.krb_files.specs.Plan.{Ends}
-use Rattle.krb_text.specs.Etype.{etype_in}
 use Rattle.krb_copy.specs.Copying.{Run, asked_as, copy_run, has_lines}
 use Rattle.krb_audit.specs.declared.selection.SelectedKvno.{SelectedKvno}
 use Rattle.krb_audit.specs.declared.selection.SelectedKvno.TheVariants.{Any, Newest}
@@ -19,11 +18,11 @@ use Rattle.krb_driver.specs.declared.file_name.FileName.{FileName}
 use Rattle.krb_driver.specs.declared.verdict.Verdict.{Verdict}
 use Rattle.krb_driver.specs.declared.verdict.Verdict.TheVariants.{Clashed, Well}
 use Rattle.krb_driver.specs.Commands.{CommandPlan, Effect, Displays, Fails, holds, opens, saves_unless, text}
-use Rattle.krb_driver.specs.Mistakes.{ArePrintedNames, AreSpelled, Matched, bad_name, first_value, twice, v1_order, MistakeParts, OnlyWithOne}
+use Rattle.krb_driver.specs.Mistakes.{Matched, bad_name, first_value, twice, v1_order, MistakeParts, OnlyWithOne}
 use Rattle.krb_driver.specs.Loading.{whole_in, whole_or_empty}
 use Rattle.krb_driver.specs.RunErrors.{hiding}
 use Rattle.krb_editors.specs.declared.ktcopy.CopyOptions.{CopyOptions}
-use Rattle.krb_editors.specs.Selecting.{IsNewName, IsSpelledKvno, asks_for_any, bad_criteria, bad_kvno}
+use Rattle.krb_editors.specs.Selecting.{IsNewName, IsSpelledKvno, SpellsCriteria, asks_for_any, bad_criteria, bad_kvno}
 
 -- any kvno is selected
 abbrev pub is_any_kvno : SelectedKvno → Bool
@@ -80,8 +79,7 @@ copy_mistake words =
 -- each option is what its own word spells
 pub record SpellsCopy {A : Type 0} (words : Matched) (options : CopyOptions A) : Type 0 where
   pub kvno : IsSpelledKvno (codes "new") Newest (first_value words (codes "kvno")) options.selection.kvno
-  pub enctypes : AreSpelled etype_in (words.values (codes "enctype")) options.selection.enctypes
-  pub names : ArePrintedNames (words.values (codes "principal")) options.selection.names
+  pub criteria : SpellsCriteria words options.selection
   pub new_name : IsNewName (first_value words (codes "as")) options.new_name
   pub replace : options.replace ≡ words.flag (codes "replace")
   pub dry_run : options.dry_run ≡ words.flag (codes "dry-run")

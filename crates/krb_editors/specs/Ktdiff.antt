@@ -3,7 +3,6 @@ use Rattle.std.specs.Prelude.{◌≡◌, ℕ, List, [], ◌∷◌, Bool, not, �
 use Rattle.krb_keytab.specs.Find.{PlacedEntry}
 use Rattle.krb_keytab.specs.Store.{KeytabState}
 use Rattle.krb_files.specs.Plan.{Ends}
-use Rattle.krb_text.specs.Etype.{etype_in}
 use Rattle.krb_copy.specs.Diff.{diff_text}
 use Rattle.krb_audit.specs.declared.selection.SelectedKvno.TheVariants.{Any}
 use Rattle.krb_audit.specs.declared.selection.Selection.{Selection}
@@ -14,9 +13,9 @@ use Rattle.krb_driver.specs.declared.verdict.Verdict.{Verdict}
 use Rattle.krb_driver.specs.declared.verdict.Verdict.TheVariants.{Differ, Well}
 use Rattle.krb_driver.specs.Commands.{CommandPlan, Effect, Displays, Fails, opens, text}
 use Rattle.krb_driver.specs.Loading.{whole_in}
-use Rattle.krb_driver.specs.Mistakes.{ArePrintedNames, AreSpelled, Matched, v1_order}
+use Rattle.krb_driver.specs.Mistakes.{Matched, v1_order}
 use Rattle.krb_editors.specs.declared.ktdiff.DiffOptions.{DiffOptions}
-use Rattle.krb_editors.specs.Selecting.{asks_for_any}
+use Rattle.krb_editors.specs.Selecting.{SpellsCriteria, asks_for_any}
 
 -- the verdict of a run that prints these lines: the keytabs have the same keys if there is none
 abbrev pub verdict_of : List ℕ → Verdict
@@ -48,6 +47,5 @@ ktdiff_plan o ours others = opens ours (whole_in o.v1_order) (diffs_from o ours 
 -- each option is what its own word spells
 pub record SpellsDiff {A : Type 0} (words : Matched) (options : DiffOptions A) : Type 0 where
   pub kvno : options.selection.kvno ≡ Any
-  pub enctypes : AreSpelled etype_in (words.values (codes "enctype")) options.selection.enctypes
-  pub names : ArePrintedNames (words.values (codes "principal")) options.selection.names
+  pub criteria : SpellsCriteria words options.selection
   pub v1_order : options.v1_order ≡ v1_order words

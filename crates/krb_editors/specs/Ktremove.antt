@@ -7,7 +7,6 @@ use Rattle.krb_keytab.specs.Changes.{without}
 use Rattle.krb_keytab.specs.Find.{PlacedEntry, placed_entries}
 use Rattle.krb_keytab.specs.Store.{KeytabState, image_of}
 use Rattle.krb_files.specs.Plan.{Ends}
-use Rattle.krb_text.specs.Etype.{etype_in}
 use Rattle.krb_text.specs.Listing.{removed_line}
 use Rattle.krb_text.specs.Numbers.{seconds_in}
 use Rattle.krb_audit.specs.declared.selection.SelectedKvno.{SelectedKvno}
@@ -22,10 +21,10 @@ use Rattle.krb_driver.specs.declared.verdict.FileKind.TheVariants.{Keytab}
 use Rattle.krb_driver.specs.declared.verdict.Verdict.{Verdict}
 use Rattle.krb_driver.specs.declared.verdict.Verdict.TheVariants.{Well, NothingToRemove, Without}
 use Rattle.krb_driver.specs.Commands.{CommandPlan, Effect, Displays, holds, opens, saves_unless, text}
-use Rattle.krb_driver.specs.Mistakes.{ArePrintedNames, AreSpelled, Matched, bad_seconds, first_value, twice, v1_order, MistakeParts, NothingSelects, OnlyWith}
+use Rattle.krb_driver.specs.Mistakes.{Matched, bad_seconds, first_value, twice, v1_order, MistakeParts, NothingSelects, OnlyWith}
 use Rattle.krb_driver.specs.Loading.{whole_in}
 use Rattle.krb_driver.specs.Several.{label_of}
-use Rattle.krb_editors.specs.Selecting.{IsSpelledKvno, asks_for_any, bad_criteria, bad_kvno}
+use Rattle.krb_editors.specs.Selecting.{IsSpelledKvno, SpellsCriteria, asks_for_any, bad_criteria, bad_kvno}
 
 -- old entries are selected
 abbrev pub asks_for_old : SelectedKvno → Bool
@@ -98,7 +97,6 @@ pub record SpellsKvno (words : Matched) (kvno : SelectedKvno) : Type 0 where
 -- each option is what its own word spells
 pub record SpellsRemoval {A : Type 0} (words : Matched) (options : RemoveOptions A) : Type 0 where
   pub kvno : SpellsKvno words options.selection.kvno
-  pub enctypes : AreSpelled etype_in (words.values (codes "enctype")) options.selection.enctypes
-  pub names : ArePrintedNames (words.values (codes "principal")) options.selection.names
+  pub criteria : SpellsCriteria words options.selection
   pub dry_run : options.dry_run ≡ words.flag (codes "dry-run")
   pub v1_order : options.v1_order ≡ v1_order words

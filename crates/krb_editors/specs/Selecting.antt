@@ -5,11 +5,12 @@ use Rattle.std.specs.Str.{bytes_eq}
 use Rattle.krb_wire.specs.declared.principal.Principal.{Principal}
 use Rattle.krb_wire.specs.NameOf.{name_of}
 use Rattle.krb_wire.specs.Reading.{principal_parts}
+use Rattle.krb_text.specs.Etype.{etype_in}
 use Rattle.krb_text.specs.Numbers.{number_in}
 use Rattle.krb_audit.specs.declared.selection.SelectedKvno.{SelectedKvno}
 use Rattle.krb_audit.specs.declared.selection.SelectedKvno.TheVariants.{Any, Exactly}
 use Rattle.krb_audit.specs.declared.selection.Selection.{Selection}
-use Rattle.krb_driver.specs.Mistakes.{Matched, bad_etype, bad_name, first_mistake, MistakeParts, NoVersion}
+use Rattle.krb_driver.specs.Mistakes.{ArePrintedNames, AreSpelled, Matched, bad_etype, bad_name, first_mistake, MistakeParts, NoVersion}
 
 -- neither a name nor an enctype is given
 abbrev pub asks_for_any : {A : Type 0} → Selection A → Bool
@@ -32,6 +33,11 @@ IsSpelledKvno name named (Some word) kvno = kvno_in name named word ≡ Some kvn
 -- the first mistake in the enctypes and names
 abbrev pub bad_criteria : Matched → Option MistakeParts
 bad_criteria words = option_or (first_mistake bad_etype (words.values (codes "enctype"))) (first_mistake bad_name (words.values (codes "principal")))
+
+-- the enctypes and names of a selection are what `-e` and `-p` spell
+pub record SpellsCriteria {A : Type 0} (words : Matched) (selection : Selection A) : Type 0 where
+  pub enctypes : AreSpelled etype_in (words.values (codes "enctype")) selection.enctypes
+  pub names : ArePrintedNames (words.values (codes "principal")) selection.names
 
 -- the new name is the one that the word spells, or there is neither
 abbrev pub IsNewName : {A : Type 0} → Option (List ℕ) → Option (Principal A) → Type 0

@@ -12,13 +12,15 @@ ghost use Rattle.krb_driver.specs.RunErrors.{hiding};
 ghost use Rattle.krb_driver.specs.declared.verdict.Verdict.TheVariants.{Clashed, Well};
 ghost use Rattle.krb_editors.specs.Ktcopy.{SpellsCopy, asks_for_some, copied_effect, copies_from, copies_to, copy_mistake, finds_none, ktcopy_plan, odd_new_name};
 
-use crate::selecting::{OF_ENCTYPE, OF_PRINCIPAL, spelled_kvno, spelled_new_name};
+use crate::selecting::{
+    OF_ENCTYPE, OF_PRINCIPAL, spelled_kvno, spelled_new_name, spelled_selection,
+};
 use krb_audit::{SelectedKvno, Selection, hides_added, selected_entries};
 use krb_copy::{Copied, copy_into};
 use krb_driver::{
     Command, CommandName, CommandWords, FileError, FileName, IN_PLACE, Made, MakeResult, Matches,
     Mistake, Output, RunError, V1_BIG, Verdict, Word, WordFault, World, hold_if, open_whole,
-    open_whole_or_empty, refuse_twice, run, spelled_etypes, spelled_names, times_given, v1_order,
+    open_whole_or_empty, refuse_twice, run, times_given, v1_order,
 };
 use krb_files::Files;
 use krb_keytab::{EntryView, Keytab};
@@ -99,15 +101,10 @@ pub fn copy_options<'a, M: Matches<'a>>(
     refuse_twice(matches, "as", "--as", "--as")?;
     refuse_odd_new_name(matches)?;
     let kvno = spelled_kvno(matches, "new", SelectedKvno::Newest)?;
-    let enctypes = spelled_etypes(alloc, matches, "enctype")?;
-    let names = spelled_names(alloc, matches, "principal")?;
+    let selection = spelled_selection(alloc, matches, kvno)?;
     let new_name = spelled_new_name(alloc, matches)?;
     Ok(CopyOptions {
-        selection: Selection {
-            names: names?,
-            kvno,
-            enctypes: enctypes?,
-        },
+        selection: selection?,
         new_name: new_name?,
         replace: matches.flag("replace"),
         dry_run: matches.flag("dry-run"),

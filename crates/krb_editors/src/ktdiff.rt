@@ -6,13 +6,12 @@ ghost use Rattle.krb_driver.specs.Mistakes.{Reads};
 ghost use Rattle.krb_editors.specs.Ktdiff.{SpellsDiff, differs, diffs_from, finds_none, ktdiff_plan, verdict_of};
 ghost use Rattle.krb_editors.specs.Selecting.{bad_criteria};
 
-use crate::selecting::{OF_ENCTYPE, OF_PRINCIPAL};
+use crate::selecting::{OF_ENCTYPE, OF_PRINCIPAL, spelled_selection};
 use krb_audit::{SelectedKvno, Selection, selected_entries};
 use krb_copy::diff_text;
 use krb_driver::{
     Command, CommandName, CommandWords, FileError, FileName, Made, MakeResult, Matches, Output,
-    RunError, V1_BIG, Verdict, Word, WordFault, World, open_whole, run, spelled_etypes,
-    spelled_names, v1_order,
+    RunError, V1_BIG, Verdict, Word, WordFault, World, open_whole, run, v1_order,
 };
 use krb_files::Files;
 use krb_keytab::{EntryView, Keytab};
@@ -65,14 +64,9 @@ pub fn diff_options<'a, M: Matches<'a>>(
 ) -> Result<DiffOptions<Global>, WordFault<'a>>
     ensures { Reads (bad_criteria (M.matched matches.now)) (SpellsDiff (M.matched matches.now)) result }
 {
-    let enctypes = spelled_etypes(alloc, matches, "enctype")?;
-    let names = spelled_names(alloc, matches, "principal")?;
+    let selection = spelled_selection(alloc, matches, SelectedKvno::Any)?;
     Ok(DiffOptions {
-        selection: Selection {
-            names: names?,
-            kvno: SelectedKvno::Any,
-            enctypes: enctypes?,
-        },
+        selection: selection?,
         v1_order: v1_order(matches),
     })
 }

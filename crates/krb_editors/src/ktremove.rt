@@ -10,13 +10,13 @@ ghost use Rattle.krb_editors.specs.Ktremove.{SpellsKvno, SpellsRemoval, kvno_mis
 ghost use Rattle.krb_driver.specs.Mistakes.{Reads, Refuses, Spells};
 
 use crate::removing::{FilesSeen, end_removals};
-use crate::selecting::{OF_ENCTYPE, OF_PRINCIPAL, spelled_kvno};
+use crate::selecting::{OF_ENCTYPE, OF_PRINCIPAL, spelled_kvno, spelled_selection};
 use krb_audit::{Selected, SelectedKvno, Selection, select};
 use krb_driver::{
     CommandName, CommandWords, DRY_RUN, FileError, FileKind, FileName, IN_PLACE, Made, MakeResult,
     Matches, Mistake, Output, OverFiles, RunEnd, RunError, V1_BIG, Verdict, Word, WordFault, World,
-    end_before, first_value, hold_if, label_of, open_whole, refuse_twice, run_over, spelled_etypes,
-    spelled_names, spelled_seconds, times_given, v1_order,
+    end_before, first_value, hold_if, label_of, open_whole, refuse_twice, run_over,
+    spelled_seconds, times_given, v1_order,
 };
 use krb_files::Files;
 use krb_keytab::Keytab;
@@ -119,14 +119,9 @@ pub fn remove_options<'a, M: Matches<'a>>(
     refuse_twice(matches, "age", "--age", "--age")?;
     refuse_unselected(matches)?;
     let kvno = removed_kvno(matches)?;
-    let enctypes = spelled_etypes(alloc, matches, "enctype")?;
-    let names = spelled_names(alloc, matches, "principal")?;
+    let selection = spelled_selection(alloc, matches, kvno)?;
     Ok(RemoveOptions {
-        selection: Selection {
-            names: names?,
-            kvno,
-            enctypes: enctypes?,
-        },
+        selection: selection?,
         dry_run: matches.flag("dry-run"),
         v1_order: v1_order(matches),
     })

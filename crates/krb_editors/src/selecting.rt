@@ -1,11 +1,13 @@
 //! Which entries the words of a command select, and their new name.
 
-ghost use Rattle.std.specs.Prelude.{codes, option_and_then};
+ghost use Rattle.std.specs.Prelude.{◌≡◌, IfOk, Ok, codes, option_and_then};
 ghost use Rattle.krb_driver.specs.Mistakes.{bad_name, first_value, Spells, SpellsInMemory};
-ghost use Rattle.krb_editors.specs.Selecting.{IsNewName, IsSpelledKvno, bad_kvno};
+ghost use Rattle.krb_editors.specs.Selecting.{IsNewName, IsSpelledKvno, SpellsCriteria, bad_criteria, bad_kvno};
 
-use krb_audit::SelectedKvno;
-use krb_driver::{Matches, Mistake, Spelled, Word, first_value, spelled_name};
+use krb_audit::{SelectedKvno, Selection};
+use krb_driver::{
+    Matches, Mistake, Spelled, Word, first_value, spelled_etypes, spelled_name, spelled_names,
+};
 use krb_text::parse_u32;
 use krb_wire::{NoMemory, Principal};
 use std::alloc::Global;
@@ -43,6 +45,37 @@ pub fn spelled_kvno<'a, M: Matches<'a>>(
             None => Err(Mistake::NoVersion(word)),
         },
     }
+}
+
+// Returns the selection by kvno, name and enctype, unless memory ran out on the way.
+fn selection_of(
+    kvno: SelectedKvno,
+    names: Result<Vec<Vec<u8>>, NoMemory>,
+    enctypes: Result<Vec<u16>, NoMemory>,
+) -> Result<Selection<Global>, NoMemory>
+    ensures names { IfOk result (λ selection. names ≡ Ok selection.names) }
+    ensures enctypes { IfOk result (λ selection. enctypes ≡ Ok selection.enctypes) }
+    ensures kvno { IfOk result (λ selection. selection.kvno ≡ kvno) }
+{
+    Ok(Selection {
+        names: names?,
+        kvno,
+        enctypes: enctypes?,
+    })
+}
+
+/// Returns the selection of these kvnos, and of the enctypes and names that `-e` and `-p` spell.
+pub fn spelled_selection<'a, M: Matches<'a>>(
+    alloc: Global,
+    matches: &M,
+    kvno: SelectedKvno,
+) -> Spelled<'a, Selection<Global>>
+    ensures { SpellsInMemory (bad_criteria (M.matched matches.now))
+        (λ selection. SpellsCriteria (M.matched matches.now) selection × (selection.kvno ≡ kvno)) result }
+{
+    let enctypes = spelled_etypes(alloc, matches, "enctype")?;
+    let names = spelled_names(alloc, matches, "principal")?;
+    Ok(selection_of(kvno, names, enctypes))
 }
 
 /// Returns the new name of what is copied, if one is given.
