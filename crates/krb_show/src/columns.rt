@@ -1,13 +1,16 @@
 //! Tables in columns, and numbers of things.
 
-ghost use Rattle.std.specs.Prelude.{◌≡◌, ◌+◌, ◌-◌, ◌++◌, [], IfOk, OnOk, length, map, replicate};
+ghost use Rattle.std.specs.Prelude.{◌≡◌, ◌+◌, ◌-◌, ◌≤◌, ◌++◌, ◌∷◌, [], IfOk, OnOk, length, map, replicate, vec_capacity};
 ghost use Rattle.std.specs.List.{flat_map};
 ghost use Rattle.krb_wire.specs.Reading.{items_of};
+ghost use Rattle.krb_wire.specs.Names.{name_text};
+ghost use Rattle.krb_show.specs.Ago.{time_cell};
 ghost use Rattle.krb_show.specs.Columns.{asked_width, cell_of, cells_behind, column_width, counted, row_text, table, widths};
 
+use crate::ago::append_time;
 use itoa::Buffer;
 use krb_text::{append, append_byte};
-use krb_wire::NoMemory;
+use krb_wire::{Name, NoMemory, write_name};
 use std::alloc::Allocator;
 use std::marker::Model;
 
@@ -19,7 +22,8 @@ const USUAL_LEN: usize = 32;
 
 /// Returns an empty cell that takes no more memory for what most cells hold.
 pub fn new_cell<A: Allocator>(alloc: A) -> Result<Vec<u8, A>, NoMemory>
-    ensures { IfOk result (λ cell. cell.items ≡ []) }
+    ensures empty { IfOk result (λ cell. cell.items ≡ []) }
+    ensures room { IfOk result (λ cell. 32 ≤ vec_capacity cell) }
 {
     Ok(Vec::with_capacity(alloc, USUAL_LEN)?)
 }
@@ -49,6 +53,39 @@ impl<A: Allocator + Copy> Row<A> {
             cells.push(Vec::from_slice(alloc, title)?)?;
         }
         Ok(Row { cells })
+    }
+
+    /// Returns a row with no cells yet, and room for so many.
+    pub fn new(alloc: A, count: usize) -> Result<Row<A>, NoMemory>
+        ensures { IfOk result (λ row. row ≡ []) }
+    {
+        let cells = Vec::with_capacity(alloc, count)?;
+        Ok(Row { cells })
+    }
+
+    /// Adds a cell.
+    pub fn push(&mut self, cell: Vec<u8, A>) -> Result<(), NoMemory>
+        ensures { OnOk result (self.new ≡ self.old ++ cell.items ∷ []) }
+    {
+        Ok(self.cells.push(cell)?)
+    }
+
+    /// Adds a cell with a time.
+    pub fn push_time(&mut self, alloc: A, now: u32, time: u32) -> Result<(), NoMemory>
+        ensures { OnOk result (self.new ≡ self.old ++ time_cell now time ∷ []) }
+    {
+        let mut cell = new_cell(alloc)?;
+        append_time(now, time, &mut cell)?;
+        self.push(cell)
+    }
+
+    /// Adds a cell with a name.
+    pub fn push_name<N: Name>(&mut self, alloc: A, name: &N) -> Result<(), NoMemory>
+        ensures { OnOk result (self.new ≡ self.old ++ name_text (N.parts name.now) ∷ []) }
+    {
+        let mut cell = new_cell(alloc)?;
+        write_name(name, &mut cell)?;
+        self.push(cell)
     }
 }
 

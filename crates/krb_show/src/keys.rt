@@ -1,16 +1,15 @@
 //! The rows of keys.
 
-ghost use Rattle.std.specs.Prelude.{◌≡◌, ◌++◌, IfOk, OnOk, [], codes, true, if◌then◌else◌};
+ghost use Rattle.std.specs.Prelude.{◌≡◌, ◌++◌, ◌∷◌, IfOk, OnOk, [], codes, decimal, true, if◌then◌else◌};
 ghost use Rattle.krb_show.specs.EtypeNames.{etype_cell};
 ghost use Rattle.krb_show.specs.KeytabView.{distinct, key_row, keys_cell, more_types, spaced};
 
-use crate::ago::append_time;
 use crate::columns::{Row, new_cell};
 use crate::etypes::append_etype;
 use crate::lines::{Line, LineKey};
 use itoa::Buffer;
 use krb_text::{append, append_byte, append_labelled};
-use krb_wire::{NoMemory, write_name};
+use krb_wire::NoMemory;
 use std::alloc::Allocator;
 use std::collections::BTreeSet;
 
@@ -70,6 +69,15 @@ fn append_more<A: Allocator>(count: usize, out: &mut Vec<u8, A>) -> Result<(), N
     append(b" more", out)
 }
 
+// Adds a cell with a kvno.
+fn push_kvno<A: Allocator + Copy>(alloc: A, kvno: u32, row: &mut Row<A>) -> Result<(), NoMemory>
+    ensures { OnOk result (row.new ≡ row.old ++ decimal kvno ∷ []) }
+{
+    let mut cell = new_cell(alloc)?;
+    append_labelled(b"", kvno, &mut cell)?;
+    row.push(cell)
+}
+
 // Appends the types of a line.
 #[tactic(auto, unfolding(crate::specs::KeytabView::keys_cell))]
 fn append_keys<A: Allocator + Copy>(
@@ -90,6 +98,20 @@ fn append_keys<A: Allocator + Copy>(
     Ok(())
 }
 
+// Adds a cell with the types of a line.
+fn push_keys<A: Allocator + Copy>(
+    alloc: A,
+    is_old: bool,
+    etypes: &[u16],
+    row: &mut Row<A>,
+) -> Result<(), NoMemory>
+    ensures { OnOk result (row.new ≡ row.old ++ keys_cell is_old etypes.now ∷ []) }
+{
+    let mut cell = new_cell(alloc)?;
+    append_keys(alloc, is_old, etypes, &mut cell)?;
+    row.push(cell)
+}
+
 /// Returns the row of a line. The name is on the first of its lines, that of the newest version.
 pub fn row_of<A: Allocator + Copy>(
     alloc: A,
@@ -99,18 +121,12 @@ pub fn row_of<A: Allocator + Copy>(
 ) -> Result<Row<A>, NoMemory>
     ensures { IfOk result (λ row. row ≡ key_row now (key.now, line.now)) }
 {
-    let (mut kvno, mut added, mut keys) = (Vec::new(alloc), new_cell(alloc)?, new_cell(alloc)?);
-    append_labelled(b"", key.2.0, &mut kvno)?;
-    append_time(now, line.added, &mut added)?;
-    append_keys(alloc, key.1, &line.etypes, &mut keys)?;
-    let mut cells = Vec::with_capacity(alloc, 4)?;
-    cells.push(kvno)?;
-    cells.push(added)?;
-    cells.push(keys)?;
+    let mut row = Row::new(alloc, 4)?;
+    push_kvno(alloc, key.2.0, &mut row)?;
+    row.push_time(alloc, now, line.added)?;
+    push_keys(alloc, key.1, &line.etypes, &mut row)?;
     if !key.1 {
-        let mut name = new_cell(alloc)?;
-        write_name(line.entry.principal(), &mut name)?;
-        cells.push(name)?;
+        row.push_name(alloc, line.entry.principal())?;
     }
-    Ok(Row { cells })
+    Ok(row)
 }
