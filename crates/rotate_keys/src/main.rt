@@ -38,6 +38,21 @@ fn next_key(
     Ok((next, last))
 }
 
+// Gives the name in a file its next key, while nobody else changes the file, and returns what is in it now.
+fn rotated<F: Files>(
+    alloc: Global,
+    files: &mut F,
+    file: &str,
+    texts: [&str; 3],
+) -> anyhow::Result<Keytab<Global>> {
+    files.hold(file);
+    let mut keytab = keytab_of(alloc, files, file)?;
+    let (next, last) = next_key(alloc, &keytab, texts)?;
+    rotate(alloc, &mut keytab, &next, last)?;
+    files.save(file, keytab.image())?;
+    Ok(keytab)
+}
+
 fn print_versions(rt: &impl Print, keytab: &Keytab<Global>) -> anyhow::Result<()> {
     for (place, entry) in keytab.entries() {
         println!(rt; "{place}: version {}", entry.kvno())?;
@@ -52,11 +67,7 @@ fn main(rt: HostRuntime) -> anyhow::Result<()> {
         bail!("usage: rotate_keys FILE NAME KEY SECONDS");
     };
     let mut files = DiskFiles::new(&rt);
-    files.hold(file.as_str());
-    let mut keytab = keytab_of(alloc, &mut files, file.as_str())?;
     let texts = [name.as_str(), key.as_str(), seconds.as_str()];
-    let (next, last) = next_key(alloc, &keytab, texts)?;
-    rotate(alloc, &mut keytab, &next, last)?;
-    files.save(file.as_str(), keytab.image())?;
+    let keytab = rotated(alloc, &mut files, file.as_str(), texts)?;
     print_versions(&rt, &keytab)
 }

@@ -31,15 +31,21 @@ fn ticket(alloc: &LocalHeap) -> Result<Cred<&LocalHeap>, Refusal> {
     })
 }
 
-/// Returns a cache with a ticket, a copy of it and a value, and the place of the first.
-fn made(alloc: &LocalHeap) -> Result<(Ccache<&LocalHeap>, u32), Refusal> {
-    let user = name_of(alloc, b"u@R")?;
-    let mut cache = Ccache::create(alloc, &user, None, Limits::usual())?;
+/// Adds a ticket and a copy of it, and returns the place of the first.
+fn add_twice(alloc: &LocalHeap, cache: &mut Ccache<&LocalHeap>) -> Result<u32, Refusal> {
     let place = cache.store(&ticket(alloc)?)?;
     if let Some(credential) = cache.cred_at(place) {
         let copy = credential.copy(alloc)?;
         cache.store(&copy)?;
     }
+    Ok(place)
+}
+
+/// Returns a cache with a ticket, a copy of it and a value, and the place of the first.
+fn made(alloc: &LocalHeap) -> Result<(Ccache<&LocalHeap>, u32), Refusal> {
+    let user = name_of(alloc, b"u@R")?;
+    let mut cache = Ccache::create(alloc, &user, None, Limits::usual())?;
+    let place = add_twice(alloc, &mut cache)?;
     cache.set_config(b"k", None, b"old")?;
     cache.set_config(b"k", None, b"new")?;
     Ok((cache, place))

@@ -2,7 +2,7 @@
 
 use super::made::{B, HEAD, HOST, WITH_HOLE, b, host};
 use super::{SIZE, are, fill, in_each_heap, is, joined};
-use krb_keytab::Keytab;
+use krb_keytab::{Keytab, NewEntry};
 use krb_walk::Refusal;
 use krb_wire::{KtFormat, Limits, Order};
 use linked_list_allocator::LocalHeap;
@@ -35,6 +35,20 @@ fn calls_that_take_memory(rt: HostRuntime) -> Result<(), Fail> {
     in_each_heap(rt.alloc(), change)
 }
 
+// Changes a keytab of `joined`, where no memory is left.
+fn change_in_full(
+    keytab: &mut Keytab<&LocalHeap>,
+    entry: &NewEntry<&LocalHeap>,
+    other: &NewEntry<&LocalHeap>,
+) -> Result<(), Fail> {
+    let found = keytab.find(&entry.principal, 0, 0)?.0;
+    let added = keytab.add(other)?;
+    let removed = keytab.remove(&entry.principal, 3, 17)?;
+    keytab.remove_at(added)?;
+    keytab.remove_all(&[104]);
+    is((found, added, removed) == (2, 53, 2), "another place")
+}
+
 #[test]
 fn calls_that_take_none(rt: HostRuntime) -> Result<(), Fail> {
     let heap = LocalHeap::new(rt.alloc(), SIZE)?;
@@ -44,12 +58,7 @@ fn calls_that_take_none(rt: HostRuntime) -> Result<(), Fail> {
     let _taken = fill(rt.alloc(), &heap)?;
     let opened = Keytab::open(image, Order::Little, Limits::usual());
     let mut keytab = opened.map_err(|refused| refused.why)?;
-    let found = keytab.find(&entry.principal, 0, 0)?.0;
-    let added = keytab.add(&other)?;
-    let removed = keytab.remove(&entry.principal, 3, 17)?;
-    keytab.remove_at(added)?;
-    keytab.remove_all(&[104]);
-    is((found, added, removed) == (2, 53, 2), "another place")?;
+    change_in_full(&mut keytab, &entry, &other)?;
     is(
         heap.free() == 0 && keytab.entries().next().is_none(),
         "an entry is left",
