@@ -49,24 +49,14 @@ refusal_reply : (given : Result (ℕ × CacheState) Code) → is_refused given �
 refusal_reply (Ok given) = refl
 refusal_reply (Err refused) = refl
 
--- the events of a setting, by whether its addition is refused
-events_by : (k : CacheState) (s : SettingParts) (entry : CredParts) (refused : Bool) → entry ≡ entry_of k.principal s → is_refusal (put_reply (put_result k entry)) ≡ refused
-    → setting_events k s ≡ Put entry ∷ (if refused then [] else map Cut (match_places k s))
-events_by k s entry refused is answered =
-    let removals : Bool → List (Event CredParts) = λ b. if b then [] else map Cut (match_places k s) in
-    sym (ap (λ (c : CredParts). Put c ∷ removals (is_refused (put_result k c))) is) ∙ ap (λ (b : Bool). Put entry ∷ removals b) (refusal_reply (put_result k entry) ∙ answered)
-
--- if the addition was refused, a setting does nothing else
-pub set_refused : (old new : SessionState CacheState) (s : SettingParts) (entry : CredParts) (t u : List ReplyContent) → entry ≡ entry_of old.store.principal s → is_refusal (reply_to cache_rules old (Put entry)) ≡ true
-    → Ran cache_rules old new (Put entry ∷ []) t u → Ran cache_rules old new (setting_events old.store s) t u
-set_refused old new s entry t u is refused ran = rw (events_by old.store s entry true is refused) ran
-
--- if it was not refused, the removals follow
-pub set_placed : (old mid new : SessionState CacheState) (s : SettingParts) (entry : CredParts) (removals : List (Event CredParts)) (t u v : List ReplyContent) → entry ≡ entry_of old.store.principal s → removals ≡ map Cut (match_places old.store s)
-    → is_refusal (reply_to cache_rules old (Put entry)) ≡ false → Ran cache_rules old mid (Put entry ∷ []) t u → Ran cache_rules mid new removals u v → Ran cache_rules old new (setting_events old.store s) t v
-set_placed old mid new s entry removals t u v is removals_are placed first second =
+-- the addition of a setting was not refused, and the removals follow
+pub set_placed : (old mid new : SessionState CacheState) (s : SettingParts) (removals : List (Event CredParts)) (t u v : List ReplyContent) → removals ≡ map Cut (match_places old.store s)
+    → is_refusal (reply_to cache_rules old (Put (entry_of old.store.principal s))) ≡ false → Ran cache_rules old mid (Put (entry_of old.store.principal s) ∷ []) t u
+    → Ran cache_rules mid new removals u v → Ran cache_rules old new (setting_events old.store s) t v
+set_placed old mid new s removals t u v removals_are placed first second =
+    let entry = entry_of old.store.principal s in
     let joined : Ran cache_rules old new (Put entry ∷ removals) t v = ran_join cache_rules old mid new (Put entry ∷ []) removals t u v first second in
-    rw (events_by old.store s entry false is placed) (subst (λ (es : List (Event CredParts)). Ran cache_rules old new (Put entry ∷ es) t v) removals_are joined)
+    rw (refusal_reply (put_result old.store entry) ∙ placed) (rw removals_are at joined)
 
 -- ---- lines
 

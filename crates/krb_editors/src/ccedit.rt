@@ -2,13 +2,13 @@
 
 ghost use Rattle.std.specs.List.{list_any};
 ghost use Rattle.std.specs.Prelude.{◌≡◌, ℕ, List, IfOk, Ok, OnOk, ◌∷◌, [], map};
-ghost use Rattle.krb_walk.specs.declared.event.Event.TheVariants.{Cut};
+ghost use Rattle.krb_walk.specs.declared.event.Event.TheVariants.{Cut, Put};
 ghost use Rattle.krb_walk.specs.Events.{reply_to};
 ghost use Rattle.krb_walk.specs.History.{state_after};
 ghost use Rattle.krb_walk.specs.Ran.{Ran};
 ghost use Rattle.krb_walk.specs.ReplyContent.{content_of};
 ghost use Rattle.krb_ccache.specs.Rewrite.{cache_rules};
-ghost use Rattle.krb_ccache.specs.SetConfig.{setting_events};
+ghost use Rattle.krb_ccache.specs.SetConfig.{entry_of, match_places, setting_events};
 ghost use Rattle.krb_cache_text.specs.Script.{cache_line_in};
 ghost use Rattle.krb_editors.specs.Ccedit.{RunsFairly, cache_events, cache_session, ccedit_fairly, ccedit_plan, edits, is_refusal, line_events, line_may_change};
 ghost use Rattle.krb_driver.specs.Commands.{text_effect};
@@ -61,10 +61,15 @@ struct EditCache<'f, A: Allocator> {
     lines: Vec<CacheLine<A>, A>,
 }
 
-// Returns a `Cut` for each place.
-fn cuts<A: Allocator + Copy>(alloc: A, places: &[u32]) -> Result<Vec<Event<Cred<A>>, A>, NoMemory>
-    ensures { IfOk result (λ events. events.items ≡ map Cut places.now) }
+// Returns the removals of the entries that a setting replaces.
+fn removals<A: Allocator + Copy>(
+    alloc: A,
+    cache: &Ccache<A>,
+    setting: &Setting<'_>,
+) -> Result<Vec<Event<Cred<A>>, A>, NoMemory>
+    ensures { IfOk result (λ events. events.items ≡ map Cut (match_places cache.now.state setting.now)) }
 {
+    let places = cache.setting_places(alloc, setting)?;
     Ok(
         places
             .iter()
@@ -89,6 +94,22 @@ fn apply<A: Allocator + Copy>(
     Ok(is_refused)
 }
 
+// Adds the entry of a setting. Returns whether it was refused.
+fn put<A: Allocator + Copy>(
+    alloc: A,
+    session: &mut Session<Ccache<A>, A>,
+    setting: &Setting<'_>,
+    replies: &mut Vec<Reply<A>, A>,
+) -> Result<bool, NoMemory>
+    ensures ran { OnOk result (Ran cache_rules (cache_session session.old) (cache_session session.new)
+        (Put (entry_of session.old.store.state.principal setting.now) ∷ []) (map content_of replies.old.items) (map content_of replies.new.items)) }
+    ensures refused { IfOk result (λ b. b ≡ is_refusal (reply_to cache_rules (cache_session session.old)
+        (Put (entry_of session.old.store.state.principal setting.now)))) }
+{
+    let entry = session.store().setting_entry(alloc, setting)?;
+    apply(session, &Event::Put(entry), replies)
+}
+
 // Sets a value: adds its entry and, if that was not refused, removes each entry that it replaces.
 fn set_value<A: Allocator + Copy>(
     alloc: A,
@@ -99,11 +120,8 @@ fn set_value<A: Allocator + Copy>(
     ensures { OnOk result (Ran cache_rules (cache_session session.old) (cache_session session.new)
         (setting_events session.old.store.state setting.now) (map content_of replies.old.items) (map content_of replies.new.items)) }
 {
-    let entry = session.store().setting_entry(alloc, setting)?;
-    let places = session.store().setting_places(alloc, setting)?;
-    let removals = cuts(alloc, &places)?;
-    let is_refused = apply(session, &Event::Put(entry), replies)?;
-    if is_refused {
+    let removals = removals(alloc, session.store(), setting)?;
+    if put(alloc, session, setting, replies)? {
         return Ok(());
     }
     Ok(session.run(&removals, replies)?)
