@@ -55,14 +55,6 @@ impl<A: Allocator + Copy> Row<A> {
         Ok(Row { cells })
     }
 
-    /// Returns a row with no cells yet, and room for so many.
-    pub fn new(alloc: A, count: usize) -> Result<Row<A>, NoMemory>
-        ensures { IfOk result (λ row. row ≡ []) }
-    {
-        let cells = Vec::with_capacity(alloc, count)?;
-        Ok(Row { cells })
-    }
-
     /// Adds a cell.
     pub fn push(&mut self, cell: Vec<u8, A>) -> Result<(), NoMemory>
         ensures { OnOk result (self.new ≡ self.old ++ cell.items ∷ []) }

@@ -121,7 +121,8 @@ pub fn row_of<A: Allocator + Copy>(
 ) -> Result<Row<A>, NoMemory>
     ensures { IfOk result (λ row. row ≡ key_row now (key.now, line.now)) }
 {
-    let mut row = Row::new(alloc, 4)?;
+    let cells = Vec::with_capacity(alloc, 4)?;
+    let mut row = Row { cells };
     push_kvno(alloc, key.2.0, &mut row)?;
     row.push_time(alloc, now, line.added)?;
     push_keys(alloc, key.1, &line.etypes, &mut row)?;

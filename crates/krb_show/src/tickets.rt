@@ -88,7 +88,8 @@ pub fn row_of<A: Allocator + Copy>(
 ) -> Result<Row<A>, NoMemory>
     ensures { IfOk result (λ row. row ≡ ticket_row now ticket.now) }
 {
-    let mut row = Row::new(alloc, 5)?;
+    let cells = Vec::with_capacity(alloc, 5)?;
+    let mut row = Row { cells };
     push_times(alloc, now, ticket, &mut row)?;
     push_types(alloc, ticket, &mut row)?;
     row.push_name(alloc, ticket.server())?;
