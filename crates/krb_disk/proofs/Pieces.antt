@@ -1,5 +1,5 @@
 -- A file compared piece by piece.
-use Rattle.std.proofs.Common.{◌≡◌, ℕ, refl, length, take, List, [], ◌∷◌, ◌++◌, Option, None, Some, IfSome, sym, ap, ◌∙◌}
+use Rattle.std.proofs.Common.{◌≡◌, ℕ, refl, take, List, [], ◌++◌, Option, None, Some, IfSome, sym, ap, ◌∙◌}
 use Rattle.std.specs.Io.KnownBytes.{Consumes, IsAtEnd}
 
 -- if a reader returned `piece` and has `rest` left, it had both before
