@@ -9,7 +9,7 @@ use crate::equals::double_equals;
 use crate::nearest::{meant_command, meant_option};
 use crate::options::before_equals;
 use clap::error::ErrorKind;
-use clap::{ArgMatches, Command};
+use clap::{ArgMatches, Command, Error};
 use krb_commands::{
     Action, BadLine, COMMANDS, FINDINGS, Matches, Mistake, More, WordFault, action_of, words_of,
 };
@@ -143,6 +143,28 @@ fn with_findings(alloc: Global, help: String) -> Result<String, AllocError> {
     Ok(text)
 }
 
+// Returns the help or the version that the words request, or what is wrong with them.
+fn without_matches<'a>(
+    alloc: Global,
+    error: &Error,
+    command: &mut Command<'a>,
+    words: &'a [String],
+    help: &'a mut String,
+) -> Result<Action<'a>, WordFault<'a>> {
+    match error.kind() {
+        ErrorKind::OutOfMemory => Err(WordFault::NoMemory),
+        // Requested help, or the version, is no error.
+        ErrorKind::DisplayHelp | ErrorKind::DisplayVersion => {
+            Ok(Action::Help(with_findings(alloc, format!(in alloc; "{error}")?)?))
+        }
+        _ => {
+            let line = bad_line(command, words);
+            let more = more_of(alloc, command, &line, help)?;
+            Err(WordFault::BadLine(BadLine { more, ..line }))
+        }
+    }
+}
+
 /// Returns the action that the words request; the first word is the program's name. `help` is for a help text that a
 /// fault shows.
 pub fn parse_words<'a>(
@@ -154,20 +176,8 @@ pub fn parse_words<'a>(
     let mut command = krbfile_command(alloc, word.map(|word| word.as_str()))?;
     double_equals(alloc, &command, words)?;
     let words: &'a [String] = words;
-    let error = match command.try_get_matches_from_mut(words) {
-        Ok(matches) => return command_action(alloc, &matches, words),
-        Err(error) => error,
-    };
-    match error.kind() {
-        ErrorKind::OutOfMemory => Err(WordFault::NoMemory),
-        // Requested help, or the version, is no error.
-        ErrorKind::DisplayHelp | ErrorKind::DisplayVersion => {
-            Ok(Action::Help(with_findings(alloc, format!(in alloc; "{error}")?)?))
-        }
-        _ => {
-            let line = bad_line(&command, words);
-            let more = more_of(alloc, &mut command, &line, help)?;
-            Err(WordFault::BadLine(BadLine { more, ..line }))
-        }
+    match command.try_get_matches_from_mut(words) {
+        Ok(matches) => command_action(alloc, &matches, words),
+        Err(error) => without_matches(alloc, &error, &mut command, words, help),
     }
 }
