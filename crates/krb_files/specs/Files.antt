@@ -2,6 +2,8 @@
 use Rattle.std.specs.Prelude.{◌≡◌, ◌≢◌, ◌⊎◌, ℕ, ◌-◌, ◌^◌, ◌<◌, List, length, if◌then◌else◌, nat_lt, Option, None, Some, Result, Ok, Err, Vec}
 use Rattle.krb_files.specs.declared.files.LoadFault.{LoadFault}
 use Rattle.krb_files.specs.declared.files.LoadFault.TheVariants.{Missing, TooLarge}
+use Rattle.krb_files.specs.declared.node.Node.{Node}
+use Rattle.krb_files.specs.declared.node.Node.TheVariants.{Nothing, PlainFile}
 
 -- the bytes of the file of each name, or none if there is no such file
 abbrev pub FileMap : Type 0
@@ -10,6 +12,11 @@ FileMap = List ℕ → Option (List ℕ)
 -- both have the same files
 abbrev pub SameFiles : FileMap → FileMap → Type 0
 SameFiles old new = (name : List ℕ) → new name ≡ old name
+
+-- what lies under a name whose file has these bytes, or that has none
+abbrev pub node_of : Option (List ℕ) → Node
+node_of None = Nothing
+node_of (Some bytes) = PlainFile
 
 -- a file was set: its name has these bytes, and every other name has what it had
 pub record SetsFile (old : FileMap) (name bytes : List ℕ) (new : FileMap) : Type 0 where

@@ -62,6 +62,35 @@ abbrev pub cause_text : Cause → List ℕ
 cause_text (System number) = codes "error " ++ decimal (unsigned_abs number)
 cause_text cause = cause_phrase cause
 
+-- the name that errno.h has for it, or for what is closest
+abbrev pub cause_name : Cause → List ℕ
+cause_name PermissionDenied = codes "EACCES"
+cause_name NoDirectory = codes "ENOENT"
+cause_name NoFile = codes "ENOENT"
+cause_name NotADirectory = codes "ENOTDIR"
+cause_name IsADirectory = codes "EISDIR"
+cause_name NotAPlainFile = codes "EINVAL"
+cause_name TooManyLinks = codes "ELOOP"
+cause_name BadLink = codes "EILSEQ"
+cause_name NoName = codes "ESTALE"
+cause_name NoSpace = codes "ENOSPC"
+cause_name QuotaExceeded = codes "EDQUOT"
+cause_name ReadOnly = codes "EROFS"
+cause_name MountPoint = codes "EBUSY"
+cause_name NameTooLong = codes "ENAMETOOLONG"
+cause_name FileTooLarge = codes "EFBIG"
+cause_name InputOutput = codes "EIO"
+cause_name Interrupted = codes "EINTR"
+cause_name BrokenPipe = codes "EPIPE"
+cause_name InUse = codes "EAGAIN"
+cause_name Changed = codes "ESTALE"
+cause_name OtherFile = codes "ESTALE"
+cause_name NameOfSaves = codes "EINVAL"
+cause_name InTheWay = codes "EEXIST"
+cause_name OwnerNotKept = codes "EPERM"
+cause_name NoLock = codes "ENOLCK"
+cause_name (System number) = codes "EIO"
+
 -- what a save left behind
 abbrev pub aftermath_phrase : Aftermath → List ℕ
 aftermath_phrase Restored = codes "the old bytes are back"

@@ -1,7 +1,7 @@
 //! The causes of failed file calls.
 
 ghost use Rattle.std.specs.Prelude.{◌≡◌, Some, unsigned_abs};
-ghost use Rattle.krb_files.specs.Phrases.{cause_phrase, cause_text};
+ghost use Rattle.krb_files.specs.Phrases.{cause_name, cause_phrase, cause_text};
 
 use std::fmt;
 use std::io::{self, ErrorKind};
@@ -88,6 +88,35 @@ impl Cause {
             Cause::OwnerNotKept => "the owner cannot be kept",
             Cause::NoLock => "no lock can be had",
             Cause::System(_) => "error ",
+        }
+    }
+
+    /// Returns the name that errno.h has for it, or for what is closest.
+    pub fn name(self) -> &'static str
+        ensures { result.now ≡ cause_name self }
+    {
+        match self {
+            Cause::PermissionDenied => "EACCES",
+            Cause::NoDirectory | Cause::NoFile => "ENOENT",
+            Cause::NotADirectory => "ENOTDIR",
+            Cause::IsADirectory => "EISDIR",
+            Cause::NotAPlainFile | Cause::NameOfSaves => "EINVAL",
+            Cause::TooManyLinks => "ELOOP",
+            Cause::BadLink => "EILSEQ",
+            Cause::NoName | Cause::Changed | Cause::OtherFile => "ESTALE",
+            Cause::NoSpace => "ENOSPC",
+            Cause::QuotaExceeded => "EDQUOT",
+            Cause::ReadOnly => "EROFS",
+            Cause::MountPoint => "EBUSY",
+            Cause::NameTooLong => "ENAMETOOLONG",
+            Cause::FileTooLarge => "EFBIG",
+            Cause::InputOutput | Cause::System(_) => "EIO",
+            Cause::Interrupted => "EINTR",
+            Cause::BrokenPipe => "EPIPE",
+            Cause::InUse => "EAGAIN",
+            Cause::InTheWay => "EEXIST",
+            Cause::OwnerNotKept => "EPERM",
+            Cause::NoLock => "ENOLCK",
         }
     }
 }

@@ -1,11 +1,12 @@
 //! Files by name.
 
 ghost use Rattle.std.specs.Prelude.{◌≡◌, ◌≤◌, ◌⊎◌, ℕ, ◌-◌, ◌^◌, Bool, true, List, Option, None, Some, Result, Ok, Err, OnOk, OnErr, IfOk, IfErr, IsErrOf};
-ghost use Rattle.krb_files.specs.Files.{FileMap, SameFiles, SetsFile, CountsFailure, answer_of, loaded};
+ghost use Rattle.krb_files.specs.Files.{FileMap, SameFiles, SetsFile, CountsFailure, answer_of, loaded, node_of};
 ghost use Rattle.krb_files.specs.Phrases.{load_number, save_number, load_phrase, save_phrase};
 
 use crate::aftermath::Aftermath;
 use crate::cause::Cause;
+use crate::node::Node;
 use std::alloc::Allocator;
 use std::fmt;
 use thiserror::Error;
@@ -91,6 +92,7 @@ pub trait Files {
     ghost use Rattle.krb_files.specs.declared.aftermath.Aftermath.{Aftermath};
     ghost use Rattle.krb_files.specs.declared.files.LoadFault.{LoadFault};
     ghost use Rattle.krb_files.specs.declared.files.SaveFault.{SaveFault};
+    ghost use Rattle.krb_files.specs.declared.node.Node.TheVariants as Node;
 
     /// The bytes of the file of each name.
     ghost file: { Self → FileMap };
@@ -119,6 +121,10 @@ pub trait Files {
 
     /// What the last save left behind, beside what it returned.
     ghost aftermath: { Self → Option Aftermath };
+
+    /// Returns what lies under that name, links followed. Opens nothing.
+    fn node(&self, name: &str) -> Node
+        ensures { is_honest self.now → (result ≡ node_of (file self.now name.now)) ⊎ (result ≡ Node.Unknown) };
 
     /// Keeps other programs from changing the file of that name until it is saved or released. If it cannot be held, or
     /// another program changes it all the same, the save fails.

@@ -2,12 +2,13 @@
 
 ghost use Rattle.std.specs.Prelude.{◌≡◌, ◌⊎◌, ◌↔◌, true, None, Some, Ok, IfOk, IfErr, IsErrOf, IsTrue, OnOk, OnErr, option_map, position, string_bytes};
 ghost use Rattle.std.specs.Str.{bytes_eq};
-ghost use Rattle.krb_files.specs.Files.{SetsFile, loaded};
+ghost use Rattle.krb_files.specs.Files.{SetsFile, loaded, node_of};
 ghost use Rattle.krb_files.specs.MemFiles.{Memory, pairs_of, AnswersOf, SavesOf, FaultOf, file_in, with_file, failing_next, after_call, left};
 
 use crate::aftermath::Aftermath;
 use crate::files::{Files, LoadFault, SaveFault};
 use crate::held_name::HeldName;
+use crate::node::Node;
 use std::alloc::{AllocError, Allocator};
 use std::marker::Model;
 
@@ -162,6 +163,15 @@ impl<A: Allocator + Copy> Files for MemFiles<A> {
     ghost is_held = { λ _. true };
 
     ghost aftermath = { λ _. None };
+
+    fn node(&self, name: &str) -> Node
+        ensures { result ≡ node_of (file_in self.now.files name.now) }
+    {
+        match self.get(name) {
+            Some(_) => Node::PlainFile,
+            None => Node::Nothing,
+        }
+    }
 
     fn hold(&mut self, name: &str)
         ensures { self.new ≡ record self.old { held = Some name.now } }
