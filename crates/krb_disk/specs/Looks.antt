@@ -1,5 +1,7 @@
 -- What is seen of files, and of the devices that they are on.
-use Rattle.std.specs.Prelude.{◌≡◌, ◌⊎◌, ℕ, Option, None, Some, bit_and, ◌+◌, ◌*◌, ◌/◌, ◌%◌, ◌^◌, ◌==◌, ◌&&◌, ◌||◌, Bool}
+use Rattle.std.specs.Prelude.{◌≡◌, ◌⊎◌, ℕ, Option, None, Some, bit_and, ◌+◌, ◌*◌, ◌/◌, ◌%◌, ◌^◌, ◌==◌, ◌&&◌, ◌||◌, Bool, if◌then◌else◌}
+use Rattle.krb_files.specs.declared.node.Node.{Node}
+use Rattle.krb_files.specs.declared.node.Node.TheVariants.{PlainFile, Folder, Other}
 use Rattle.krb_disk.specs.declared.looks.Found.{Found}
 use Rattle.krb_disk.specs.declared.looks.device.Device.{Device}
 use Rattle.krb_disk.specs.declared.looks.device.Place.{Place}
@@ -22,6 +24,12 @@ pub record IsUnchanged (old new : Found) : Type 0 where
 -- it is a plain file
 abbrev pub IsPlain : Found → Type 0
 IsPlain file = bit_and file.mode 0o170000 ≡ 0o100000
+
+-- what it is, by the bits of its type
+abbrev pub node_of : Found → Node
+node_of file =
+    let type = bit_and file.mode 0o170000 in
+    if type == 0o100000 then PlainFile else (if type == 0o040000 then Folder else Other)
 
 -- there is none, or it is a plain file
 abbrev pub IsPlainOrNone : Option Found → Type 0

@@ -15,7 +15,7 @@ use crate::looks::text::check_len;
 use crate::old::Way;
 use crate::open_file::{Numbered, SetOwner, TakeLock, WriteInPlace};
 use holding::release;
-use krb_files::{Aftermath, Cause, Files, HeldName, LoadFault, SaveFault};
+use krb_files::{Aftermath, Cause, Files, HeldName, LoadFault, Node, SaveFault};
 use std::alloc::Allocator;
 use std::marker::Model;
 use std::rt;
@@ -164,6 +164,10 @@ where
     ghost is_held = { λ disk. disk.is_held };
 
     ghost aftermath = { λ disk. disk.aftermath };
+
+    fn node(&self, name: &str) -> Node {
+        self.calls.looks().node(name)
+    }
 
     fn hold(&mut self, name: &str)
         ensures { self.new ≡ record self.old { held = Some name.now; is_held = self.new.is_held; aftermath = None } }

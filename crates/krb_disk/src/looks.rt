@@ -2,7 +2,7 @@
 
 ghost use Rattle.std.specs.Prelude.{◌≡◌, ◌↔◌, IsTrue, bit_and};
 ghost use Rattle.krb_disk.specs.DiskFiles.{permissions};
-ghost use Rattle.krb_disk.specs.Looks.{IsSameFile, IsUnchanged};
+ghost use Rattle.krb_disk.specs.Looks.{IsSameFile, IsUnchanged, node_of};
 
 pub mod device;
 pub mod listed;
@@ -10,6 +10,7 @@ pub mod locks;
 pub mod text;
 pub mod users;
 
+use krb_files::Node;
 use std::fs::{self, Metadata, OpenFile};
 use std::io::{self, ErrorKind, Read};
 use std::os::unix::fs::MetadataExt;
@@ -50,6 +51,17 @@ impl Found {
         ensures { IsTrue result ↔ (bit_and self.now.mode 0o170000 ≡ 0o100000) }
     {
         self.mode & 0o170000 == 0o100000
+    }
+
+    /// Returns what lies under a name that leads to it.
+    pub fn node(&self) -> Node
+        ensures { result ≡ node_of self.now }
+    {
+        match self.mode & 0o170000 {
+            0o100000 => Node::PlainFile,
+            0o040000 => Node::Folder,
+            _ => Node::Other,
+        }
     }
 
     /// Returns the permission bits of a plain file, or `None` of any other.
@@ -132,6 +144,15 @@ impl<'a, R: rt::Files> Looks<'a, R> {
     /// Returns the file that `name` leads to. Symbolic links are followed.
     pub fn come_to(&self, name: &str) -> io::Result<Found> {
         Ok(Found::of(&fs::metadata(self.rt, name)?))
+    }
+
+    /// Returns what lies under `name`, symbolic links followed.
+    pub fn node(&self, name: &str) -> Node {
+        match self.come_to(name) {
+            Ok(found) => found.node(),
+            Err(error) if error.kind() == ErrorKind::NotFound => Node::Nothing,
+            Err(_) => Node::Unknown,
+        }
     }
 
     /// Opens a file for reading. Returns `None` if there is none.
