@@ -1,10 +1,10 @@
 -- Each moment of a save is safe.
-use Rattle.std.proofs.Common.{◌≡◌, ◌≢◌, ℕ, ◌+◌, true, false, List, [], ◌∷◌, ◌++◌, Option, None, Some, IsSomeAnd, IsTrue, codes, length, length-append, arith, sym, ap, ◌∙◌}
+use Rattle.std.proofs.Common.{◌≡◌, ◌≢◌, ℕ, ◌+◌, true, false, List, [], ◌∷◌, ◌++◌, Option, None, Some, IsSomeAnd, IsTrue, codes, length, length-append, arith, refl, sym, ap, ◌∙◌}
 use Rattle.std.proofs.lemmas.Bool.{true_from_ne_false}
 use Rattle.krb_disk.specs.declared.stage.Stage.{Stage}
-use Rattle.krb_disk.specs.declared.stage.Stage.TheVariants.{Written, Examined, Permitted, Synced, Ours, Same, Quiet}
-use Rattle.krb_disk.specs.Disk.{File, Names, Save, Call, Permit, Compare, Rename, Intrude, Pass, Moment, Turns, Does, Happens, IsFirst, IsLeft, HasDueMode, IsSafe}
-use Rattle.krb_disk.specs.Stages.{IsQuiet}
+use Rattle.krb_disk.specs.declared.stage.Stage.TheVariants.{Written, Examined, Permitted, Synced, Quiet, Ours, Same}
+use Rattle.krb_disk.specs.Disk.{File, Names, Save, Call, AtPath, Permit, Compare, Watch, Rename, Intrude, Pass, Moment, Turns, Does, Happens, IsFirst, IsLeft, HasDueMode, HasLooked, IsSafe, own}
+use Rattle.krb_disk.specs.Stages.{IsReady, IsSame}
 use Rattle.krb_disk.specs.NewFile.{new_path}
 
 -- the file exists and has the bytes of the save
@@ -63,15 +63,15 @@ first_holds save m first = record {
 }
 
 -- a new file that may be renamed over the old one is whole
-quiet_whole : (save : Save) (s : Stage) (file : Option File) → IsQuiet s → HasCome save s file → IsWhole save file
-quiet_whole save s file quiet come = grind arith
+ready_whole : (save : Save) (s : Stage) (file : Option File) → IsReady s → HasCome save s file → IsWhole save file
+ready_whole save s file ready come = grind arith
 
 -- and by any call
 does_holds : (save : Save) (call : Call) (m n : Moment) → Holds save m → Does save call m n → Holds save n
 does_holds save Compare m n h d = rw d.now (record { old = h.old; whole = h.whole; others = h.others; snapshot = λ is. d.snapshot; come = rw d.due at h.come })
 does_holds save Rename m n h d = rw d.now (record {
   old = λ is. absurd cc;
-  whole = λ is. rw d.named (quiet_whole save m.stage (m.names (new_path save.path)) d.due h.come);
+  whole = λ is. rw d.named (ready_whole save m.stage (m.names (new_path save.path)) d.due h.come);
   others = λ name p q. d.others name p q ∙ h.others name p q;
   snapshot = λ is. absurd cc;
   come = tt;
@@ -100,6 +100,41 @@ does_holds save call m n h d =
       come = keeps save call m.stage (m.names (new_path save.path)) n.stage (n.names (new_path save.path)) h.come d.turns;
     }
 
+-- what the last calls of a save have looked at, at each stage before its rename
+abbrev LooksAre : Stage → List Call → Type 0
+LooksAre (Quiet old) calls = (rest : List Call) × (calls ≡ Watch true ∷ rest)
+LooksAre (Ours old) calls = (rest : List Call) × (calls ≡ AtPath ∷ (Watch true ∷ rest))
+LooksAre (Same old) calls = (rest : List Call) × (calls ≡ Compare ∷ (AtPath ∷ (Watch true ∷ rest)))
+LooksAre _ calls = Unit {0}
+
+-- each call on the new file adds to them what is known of its next stage
+looks_on : (save : Save) (call : Call) (s : Stage) (file : Option File) (t : Stage) (new : Option File) (calls : List Call) → LooksAre s calls → Turns save call s file t new → LooksAre t (call ∷ calls)
+looks_on save (Watch true) (Synced old) file t new calls looks turns = rw turns.0 (calls, refl)
+looks_on save AtPath (Quiet old) file t new calls looks turns = rw turns.0 (looks.0, ap (λ x. AtPath ∷ x) looks.1)
+looks_on save (Watch true) _ file t new calls looks turns = rw turns.0 tt
+looks_on save (Watch false) s file t new calls looks turns = grind arith
+looks_on save call s file t new calls looks turns = grind arith
+
+-- so does each call of the save, and what other programs do adds nothing
+does_look : (save : Save) (call : Call) (m n : Moment) (calls : List Call) → LooksAre m.stage (own calls) → Does save call m n → LooksAre n.stage (own (call ∷ calls))
+does_look save Compare m n calls looks d =
+    let looked : LooksAre (Ours save.old) (own calls) = rw d.due at looks in
+    rw d.now (looked.0, ap (λ x. Compare ∷ x) looked.1)
+does_look save Rename m n calls looks d = rw d.now tt
+does_look save Intrude m n calls looks d = rw d.now looks
+does_look save Pass m n calls looks d = rw d.now looks
+does_look save call m n calls looks d = looks_on save call m.stage (m.names (new_path save.path)) n.stage (n.names (new_path save.path)) (own calls) looks d.turns
+
+-- so they are known at each moment
+happens_look : (save : Save) (calls : List Call) (now : Moment) → Happens save calls now → LooksAre now.stage (own calls)
+happens_look save [] now happens = rw happens.stage tt
+happens_look save (call ∷ calls) now happens = does_look save call happens.0 now calls (happens_look save calls happens.0 happens.1.0) happens.1.1
+
+-- and a file that may be renamed was looked at
+same_looked : (s : Stage) (calls : List Call) → IsSame s → LooksAre s calls → HasLooked calls
+same_looked (Same old) calls same looks = rw looks.1 tt
+same_looked _ calls same looks = absurd same
+
 -- so it holds at each moment
 happens_holds : (save : Save) (calls : List Call) (now : Moment) → Happens save calls now → Holds save now
 happens_holds save [] now happens = first_holds save now happens
@@ -112,7 +147,7 @@ left_whole save (Some f) None whole leaves = absurd leaves
 left_whole save (Some f) (Some g) whole leaves = (leaves.1 whole.1.1 ∙ whole.0, rw leaves.0 whole.1.0)
 
 -- each moment is safe
-pub each_moment : (save : Save) (calls : List Call) (now : Moment) (left : Names) → Happens save calls now → ((name : List ℕ) → IsLeft (now.names name) (left name)) → IsSafe save now left
+pub each_moment : (save : Save) (calls : List Call) (now : Moment) (left : Names) → Happens save calls now → ((name : List ℕ) → IsLeft (now.names name) (left name)) → IsSafe save calls now left
 each_moment save calls now left happens leaves =
     let h : Holds save now = happens_holds save calls now happens in
     record {
@@ -120,4 +155,5 @@ each_moment save calls now left happens leaves =
       whole = λ saved. left_whole save (now.names save.path) (left save.path) (h.whole saved) (leaves save.path);
       others = λ name p q. rw (h.others name p q) at (leaves name);
       snapshot = λ same window. h.snapshot (true_from_ne_false now.fresh (λ is. window (same, is)));
+      looked = λ same. same_looked now.stage (own calls) same (happens_look save calls now happens);
     }

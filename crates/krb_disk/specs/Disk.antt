@@ -3,7 +3,7 @@ use Rattle.std.specs.Prelude.{◌≡◌, ◌≢◌, ℕ, Bool, true, false, List
 use Rattle.krb_disk.specs.declared.looks.Found.{Found}
 use Rattle.krb_disk.specs.declared.stage.Stage.{Stage}
 use Rattle.krb_disk.specs.declared.stage.Stage.TheVariants.{Made, Locked, Agreed, Held, Written, Examined, Permitted, Ours, Same, Lost}
-use Rattle.krb_disk.specs.Stages.{private_mode, IsDueMode, IsFound, IsSame, IsQuiet, stood, watched, synced}
+use Rattle.krb_disk.specs.Stages.{private_mode, IsDueMode, IsFound, IsSame, IsReady, stood, watched, synced}
 use Rattle.krb_disk.specs.NewFile.{new_path}
 
 -- a file, and whether its bytes survive a crash
@@ -82,7 +82,7 @@ pub record Compares (save : Save) (m n : Moment) : Type 0 where
 
 -- the new file is renamed over the old one
 pub record Renames (save : Save) (m n : Moment) : Type 0 where
-  pub due : IsQuiet m.stage
+  pub due : IsReady m.stage
   pub named : n.names save.path ≡ m.names (new_path save.path)
   pub others : (name : List ℕ) → name ≢ save.path → name ≢ new_path save.path → n.names name ≡ m.names name
   pub now : n ≡ record m { stage = Lost; names = n.names; saved = true; fresh = false }
@@ -135,14 +135,27 @@ HasDueMode save mode = (stage : Stage) × IsDueMode save.old stage mode
 abbrev pub IsInWindow : Moment → Type 0
 IsInWindow m = IsSame m.stage × (m.fresh ≡ false)
 
--- whatever a crash leaves, the old name has what others put there or, since the rename, the whole new file with a mode due; each other name but the new file's has what others put there; and outside the window a rename replaces what was seen
-pub record IsSafe (save : Save) (m : Moment) (left : Names) : Type 0 where
+-- the calls of a save, without what other programs do
+abbrev pub own : List Call → List Call
+own [] = []
+own (Intrude ∷ calls) = own calls
+own (Pass ∷ calls) = own calls
+own (call ∷ calls) = call ∷ own calls
+
+-- the last of them, in their order: no program had a lock on the old file, the new one was at its path, and the old one was compared
+abbrev pub HasLooked : List Call → Type 0
+HasLooked (Compare ∷ (AtPath ∷ (Watch true ∷ calls))) = Unit {0}
+HasLooked _ = ⊥
+
+-- whatever a crash leaves, the old name has what others put there or, since the rename, the whole new file with a mode due; each other name but the new file's has what others put there; outside the window a rename replaces what was seen; and it comes right after the comparison, which comes after the look at the locks
+pub record IsSafe (save : Save) (calls : List Call) (m : Moment) (left : Names) : Type 0 where
   pub old : m.saved ≡ false → IsLeft (m.theirs save.path) (left save.path)
   pub whole : m.saved ≡ true → IsSomeAnd (left save.path) (λ f. (f.bytes ≡ save.bytes) × HasDueMode save f.mode)
   pub others : (name : List ℕ) → name ≢ save.path → name ≢ new_path save.path → IsLeft (m.theirs name) (left name)
   pub snapshot : IsSame m.stage → ¬ IsInWindow m → IsTrue (save.is_snapshot (m.names save.path))
+  pub looked : IsSame m.stage → HasLooked (own calls)
 
 -- this holds after any number of calls that are due, and a crash
 abbrev pub EachMomentIsSafe : Type 0
 EachMomentIsSafe = (save : Save) (calls : List Call) (now : Moment) (left : Names)
-    → Happens save calls now → ((name : List ℕ) → IsLeft (now.names name) (left name)) → IsSafe save now left
+    → Happens save calls now → ((name : List ℕ) → IsLeft (now.names name) (left name)) → IsSafe save calls now left

@@ -26,7 +26,7 @@ IsDueMode _ _ mode = ⊥
 -- the stage after it was found under its name
 abbrev pub stood : Stage → Stage
 stood Locked = Agreed
-stood (Synced old) = Ours old
+stood (Quiet old) = Ours old
 stood _ = Ended
 
 -- the stage after the old file was found as it was seen
@@ -36,8 +36,8 @@ compared _ = Lost
 
 -- the stage after the list of locks was read
 abbrev pub watched : Bool → Stage → Stage
-watched true (Same old) = Quiet old
-watched false (Same old) = Synced old
+watched true (Synced old) = Quiet old
+watched false (Synced old) = Synced old
 watched _ _ = Lost
 
 -- the stage after it was synced
@@ -70,13 +70,12 @@ IsLoaded file bytes _ = ⊥
 -- the old file was found as it was seen
 abbrev pub IsSame : Stage → Type 0
 IsSame (Same old) = Unit {0}
-IsSame (Quiet old) = Unit {0}
 IsSame _ = ⊥
 
--- it was, no program had locked it, and it was a plain file or missing
-abbrev pub IsQuiet : Stage → Type 0
-IsQuiet (Quiet old) = IsPlainOrNone old
-IsQuiet _ = ⊥
+-- it was, and it is a plain file or missing
+abbrev pub IsReady : Stage → Type 0
+IsReady (Same old) = IsPlainOrNone old
+IsReady _ = ⊥
 
 -- ---- a save in place
 

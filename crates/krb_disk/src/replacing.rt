@@ -1,11 +1,11 @@
 //! A save that replaces the old file by a new one.
 
-ghost use Rattle.std.specs.Prelude.{◌≡◌, ◌∷◌, IfOk, OnOk, OnErr, string_bytes};
+ghost use Rattle.std.specs.Prelude.{◌≡◌, ◌∷◌, IfOk, IsFalse, IsTrue, OnOk, OnErr, string_bytes};
 ghost use Rattle.std.specs.Path.{path_buf_bytes};
 ghost use Rattle.krb_disk.specs.Looks.{IsPlainOrNone};
 ghost use Rattle.krb_disk.specs.NewFile.{IsHeldAt, new_path};
-ghost use Rattle.krb_disk.specs.Stages.{snapshot_file, watched};
-ghost use Rattle.krb_disk.specs.declared.stage.Stage.TheVariants.{Synced, Same, Quiet};
+ghost use Rattle.krb_disk.specs.Stages.{snapshot_file};
+ghost use Rattle.krb_disk.specs.declared.stage.Stage.TheVariants.{Synced, Quiet, Same};
 
 use crate::calls::{Calls, NewFile};
 use crate::deadline::{Deadline, MOST_TRIES};
@@ -55,7 +55,7 @@ fn compare<R: rt::Files + Alloc>(
     new_file: &mut NewFile<String<R::A>, R::File>,
     old: &Old<R>,
 ) -> Result<(), DiskFault>
-    requires synced { new_file.old.stage ≡ Synced (snapshot_file old.now.snapshot) }
+    requires quiet { new_file.old.stage ≡ Quiet (snapshot_file old.now.snapshot) }
     requires beside { string_bytes new_file.old.path ≡ new_path (path_buf_bytes old.now.target.path) }
     ensures stage { OnOk result (new_file.new ≡ record new_file.old { stage = Same (snapshot_file old.now.snapshot) }) }
     ensures plain { OnOk result (IsPlainOrNone (snapshot_file old.now.snapshot)) }
@@ -68,7 +68,7 @@ fn compare<R: rt::Files + Alloc>(
 }
 
 // Returns whether no program has locked the file to change it. Fails unless the new file is still ours and the file
-// is still as it was seen.
+// is still as it was seen: that is compared last, as a change that another program makes before it is not lost.
 fn is_ready<R: rt::Files + rt::Clock + Alloc>(
     calls: &Calls<'_, R>,
     new_file: &mut NewFile<String<R::A>, R::File>,
@@ -77,16 +77,20 @@ fn is_ready<R: rt::Files + rt::Clock + Alloc>(
 ) -> Result<bool, DiskFault>
     requires synced { new_file.old.stage ≡ Synced (snapshot_file old.now.snapshot) }
     requires beside { string_bytes new_file.old.path ≡ new_path (path_buf_bytes old.now.target.path) }
-    ensures stage { IfOk result (λ is. new_file.new
-        ≡ record new_file.old { stage = watched is (Same (snapshot_file old.now.snapshot)) }) }
-    ensures plain { OnOk result (IsPlainOrNone (snapshot_file old.now.snapshot)) }
+    ensures ready { IfOk result (λ is. IsTrue is
+        → new_file.new ≡ record new_file.old { stage = Same (snapshot_file old.now.snapshot) }) }
+    ensures plain { IfOk result (λ is. IsTrue is → IsPlainOrNone (snapshot_file old.now.snapshot)) }
+    ensures locked { IfOk result (λ is. IsFalse is → new_file.new ≡ new_file.old) }
 {
+    if !calls.watch(new_file, old.listed(), deadline)? {
+        return Ok(false);
+    }
     compare(calls, new_file, old)?;
-    calls.watch(new_file, old.listed(), deadline)
+    Ok(true)
 }
 
-// Fails if another program replaced or removed the new file, changed the file since it was seen, or keeps it locked
-// to change it.
+// Fails if another program keeps the file locked to change it, changed it since it was seen, or replaced or removed the
+// new file.
 fn check<R: rt::Files + rt::Clock + Alloc>(
     calls: &Calls<'_, R>,
     new_file: &mut NewFile<String<R::A>, R::File>,
@@ -94,7 +98,7 @@ fn check<R: rt::Files + rt::Clock + Alloc>(
 ) -> Result<(), DiskFault>
     requires synced { new_file.old.stage ≡ Synced (snapshot_file old.now.snapshot) }
     requires beside { string_bytes new_file.old.path ≡ new_path (path_buf_bytes old.now.target.path) }
-    ensures stage { OnOk result (new_file.new ≡ record new_file.old { stage = Quiet (snapshot_file old.now.snapshot) }) }
+    ensures stage { OnOk result (new_file.new ≡ record new_file.old { stage = Same (snapshot_file old.now.snapshot) }) }
     ensures plain { OnOk result (IsPlainOrNone (snapshot_file old.now.snapshot)) }
 {
     let mut deadline = Deadline::new(calls.looks());

@@ -23,12 +23,12 @@ pub enum Stage {
     /// It has the mode due to a file that replaces this one, or none.
     Permitted(Option<Found>),
     Synced(Option<Found>),
-    /// It was synced, and then found at its path.
+    /// Since it was synced, no program had a lock to write on the old file.
+    Quiet(Option<Found>),
+    /// And then it was found at its path.
     Ours(Option<Found>),
     /// And then the old file was found as it was seen.
     Same(Option<Found>),
-    /// And then no program had a lock to write on the old file.
-    Quiet(Option<Found>),
     /// It was found at its path, and is not to be saved.
     Ended,
     /// It was renamed over the old file, it is no longer at its path, or a comparison or a call failed.
@@ -43,7 +43,7 @@ impl Stage {
     {
         match self {
             Stage::Locked => Stage::Agreed,
-            Stage::Synced(old) => Stage::Ours(old),
+            Stage::Quiet(old) => Stage::Ours(old),
             _ => Stage::Ended,
         }
     }
@@ -58,13 +58,13 @@ impl Stage {
         }
     }
 
-    /// Returns the stage after the list of locks was read. If the old file is locked, all is checked again.
+    /// Returns the stage after the list of locks was read. If the old file is locked, it is read again.
     pub fn watched(self, is_quiet: bool) -> Stage
         ensures { result ≡ watched is_quiet self }
     {
         match (self, is_quiet) {
-            (Stage::Same(old), true) => Stage::Quiet(old),
-            (Stage::Same(old), false) => Stage::Synced(old),
+            (Stage::Synced(old), true) => Stage::Quiet(old),
+            (Stage::Synced(old), false) => Stage::Synced(old),
             _ => Stage::Lost,
         }
     }
@@ -128,7 +128,8 @@ pub enum PlaceStage {
 }
 
 /// After any number of the calls of a save, interleaved with those of other programs, and a crash, the saved name
-/// has the whole new file with the mode due, or what other programs put there.
+/// has the whole new file with the mode due, or what other programs put there. The last call of a save before its rename
+/// compares the old file, after the look at its locks.
 pub fn each_moment_is_safe()
     ensures { EachMomentIsSafe }
 {}

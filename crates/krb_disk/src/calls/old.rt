@@ -4,7 +4,7 @@ ghost use Rattle.std.specs.Prelude.{◌≡◌, ◌∷◌, IfOk, OnOk, OnErr, IsT
 ghost use Rattle.std.specs.Path.{path_buf_bytes};
 ghost use Rattle.krb_disk.specs.Looks.{IsPlainOrNone};
 ghost use Rattle.krb_disk.specs.NewFile.{IsFilled, new_path};
-ghost use Rattle.krb_disk.specs.Stages.{IsQuiet, watched, snapshot_file};
+ghost use Rattle.krb_disk.specs.Stages.{IsReady, watched, snapshot_file};
 ghost use Rattle.krb_disk.specs.declared.stage.Stage.TheVariants.{Ours, Same};
 
 use super::log::Log;
@@ -64,7 +64,7 @@ impl<R: rt::Files + Alloc> Calls<'_, R> {
         target: &Target<R::A>,
         bytes: &[u8],
     ) -> Result<(), DiskFault>
-        requires quiet { IsQuiet file.old.stage }
+        requires ready { IsReady file.old.stage }
         requires filled { IsFilled (new_path (path_buf_bytes target.now.path)) bytes.now file.old }
         ensures ok { OnOk result (self.new.saved.entries
             ≡ (string_bytes target.now.name, bytes.now) ∷ self.old.saved.entries) }
@@ -95,7 +95,7 @@ impl<R: rt::Files + rt::Clock + Alloc> Calls<'_, R> {
         Ok(!is_locked(&self.looks, &file, kind, deadline)?)
     }
 
-    /// Returns whether no program has or awaits a record lock to write on the old file that was compared.
+    /// Returns whether no program has or awaits a record lock to write on the old file.
     pub fn watch(
         &self,
         file: &mut NewFile<String<R::A>, R::File>,
@@ -105,7 +105,7 @@ impl<R: rt::Files + rt::Clock + Alloc> Calls<'_, R> {
         ensures { IfOk result (λ is. file.new ≡ record file.old { stage = watched is file.old.stage }) }
     {
         let is_quiet = match file.stage {
-            Stage::Same(Some(old)) => self.is_quiet(&old, listed, LockKind::Record, deadline)?,
+            Stage::Synced(Some(old)) => self.is_quiet(&old, listed, LockKind::Record, deadline)?,
             _ => true,
         };
         file.stage = file.stage.watched(is_quiet);
