@@ -148,19 +148,19 @@ is_timed kvno = false
 
 -- what a line needs beside its files: nothing
 abbrev pub nothing : Needs
-nothing = record { clock = false; plain = false; no_pipes = false; in_place = false; script = false; json = false; left_out = None }
+nothing = record { clock = false; plain = false; in_place = false; script = false; json = false; left_out = None }
 
 -- a line that edits a file needs what its words say of saves, and perhaps a script
 abbrev pub edits : FileName → Bool → Needs
 edits file script = record nothing { script = script; in_place = file.in_place }
 
--- several files are named: a pipe among them is then refused before it is opened
+-- several files are named: what is no plain file among them is then refused before it is opened
 abbrev pub are_several : List FileName → Bool
 are_several names = nat_lt 1 (length names)
 
 -- a line that edits files without a script needs that of each, and perhaps the time
 abbrev pub edits_all : List FileName → Bool → Needs
-edits_all names clock = record nothing { clock = clock; no_pipes = are_several names; in_place = list_any (λ file. file.in_place) names }
+edits_all names clock = record nothing { clock = clock; plain = are_several names; in_place = list_any (λ file. file.in_place) names }
 
 -- a file of that kind, which that command's line leaves out
 abbrev pub left_out_of : FileKind → CommandName → LeftOut
@@ -172,7 +172,7 @@ left_out is_named file = if is_named then None else Some file
 
 -- what a line needs that reads files
 abbrev pub reads : List FileName → LeftOut → Needs
-reads names file = record nothing { no_pipes = are_several names; left_out = left_out (not (length names == 0)) file }
+reads names file = record nothing { plain = are_several names; left_out = left_out (not (length names == 0)) file }
 
 -- what show needs
 abbrev pub shows : List FileName → FileKind → Needs

@@ -24,10 +24,9 @@ pub struct Needs {
     /// The time: for entries that ktutil adds, entries that have been old or have had their key for some time, tickets
     /// that have expired or will, or times given as ages.
     pub clock: bool,
-    /// Only plain files are loaded: any other is refused before it is opened.
+    /// Only plain files are loaded, as in an overview or where several are named: any other is refused before it is
+    /// opened.
     pub plain: bool,
-    /// A pipe is refused before it is opened, since others come after it.
-    pub no_pipes: bool,
     /// Files are saved in place.
     pub in_place: bool,
     /// A script is read.
@@ -45,7 +44,6 @@ impl Needs {
         Needs {
             clock: false,
             plain: false,
-            no_pipes: false,
             in_place: false,
             script: false,
             json: false,
@@ -84,7 +82,7 @@ fn edits_all(names: &[FileName<'_>], clock: bool) -> Needs
 {
     Needs {
         clock,
-        no_pipes: are_several(names),
+        plain: are_several(names),
         in_place: are_in_place(names),
         ..Needs::nothing()
     }
@@ -115,7 +113,7 @@ fn reads(names: &[FileName<'_>], file: LeftOut) -> Needs
     ensures { result ≡ reads names.now file }
 {
     Needs {
-        no_pipes: are_several(names),
+        plain: are_several(names),
         left_out: file.unless(!names.is_empty()),
         ..Needs::nothing()
     }

@@ -2,10 +2,13 @@
 use Rattle.std.specs.Prelude.{◌≡◌, ◌==◌, ℕ, ◌≤◌, ◌%◌, bit_and, if◌then◌else◌, Bool, true, false, List, ◌∷◌, length, Option, None, Some, IsSome, IsTrue, Result, Ok, Err}
 use Rattle.krb_files.specs.declared.aftermath.Aftermath.{Aftermath}
 use Rattle.krb_files.specs.declared.cause.Cause.{Cause}
+use Rattle.krb_files.specs.declared.cause.Cause.TheVariants.{IsADirectory, NotAPlainFile}
 use Rattle.krb_files.specs.declared.files.LoadFault.{LoadFault}
 use Rattle.krb_files.specs.declared.files.LoadFault.TheVariants as load
 use Rattle.krb_files.specs.declared.files.SaveFault.{SaveFault}
 use Rattle.krb_files.specs.declared.files.SaveFault.TheVariants as save
+use Rattle.krb_files.specs.declared.node.Node.{Node}
+use Rattle.krb_files.specs.declared.node.Node.TheVariants.{Folder, Other}
 use Rattle.krb_files.specs.Files.{CountsFailure}
 use Rattle.krb_disk.specs.Aftermaths.{IsDone, IsUndone}
 use Rattle.krb_disk.specs.declared.fault.DiskFault.{DiskFault}
@@ -16,7 +19,7 @@ use Rattle.krb_disk.specs.declared.looks.Found.{Found}
 use Rattle.krb_disk.specs.declared.old.Way.{Way}
 use Rattle.krb_disk.specs.declared.old.Way.TheVariants.{Replace, InPlace}
 
--- what contracts see of the files on a disk: how many calls failed, the cause of the last failure, the names and bytes of the saves that made all their calls, the last first, the permission bits of the file loaded last, the name of the one to be held and whether that could be held, whether only plain files are loaded, whether pipes are refused, whether files are saved in place, and what the last save left behind
+-- what contracts see of the files on a disk: how many calls failed, the cause of the last failure, the names and bytes of the saves that made all their calls, the last first, the permission bits of the file loaded last, the name of the one to be held and whether that could be held, whether only plain files are loaded, whether files are saved in place, and what the last save left behind
 pub record Disk : Type 0 where
   pub failures : ℕ
   pub cause : Option Cause
@@ -25,7 +28,6 @@ pub record Disk : Type 0 where
   pub held : Option (List ℕ)
   pub is_held : Bool
   pub only_plain : Bool
-  pub no_pipes : Bool
   pub in_place : Bool
   pub aftermath : Option Aftermath
 
@@ -41,6 +43,12 @@ is_in_place Replace = false
 -- the permission bits of a plain file
 abbrev pub permissions : Found → Option ℕ
 permissions found = if bit_and found.mode 0o170000 == 0o100000 then Some (found.mode % 0o10000) else None
+
+-- why what lies under a name is not loaded, if only plain files are
+abbrev pub refused_others : Node → Result (Unit {0}) ReadFault
+refused_others Folder = Err (read.Disk (disk.Failed IsADirectory))
+refused_others Other = Err (read.Disk (disk.Failed NotAPlainFile))
+refused_others _ = Ok tt
 
 -- a failed call is counted and its cause is known; no save was completed, and the hold and the settings stay
 pub record Fails (old new : Disk) : Type 0 where

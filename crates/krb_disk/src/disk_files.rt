@@ -36,7 +36,6 @@ pub struct DiskFiles<'a, R: rt::Files + Alloc> {
     /// The path at which something is in the way of the last save.
     in_the_way: Option<String<R::A>>,
     only_plain: bool,
-    no_pipes: bool,
     way: Way,
     /// What the last save left behind.
     aftermath: Option<Aftermath>,
@@ -53,7 +52,6 @@ impl<'a, R: rt::Files + Alloc> Model for DiskFiles<'a, R> {
       held = files.held_name.name;
       is_held = is_held files.hold;
       only_plain = files.only_plain;
-      no_pipes = files.no_pipes;
       in_place = is_in_place files.way;
       aftermath = files.aftermath;
     } };
@@ -65,7 +63,7 @@ impl<'a, R: rt::Files + Alloc> Model for DiskFiles<'a, R> {
 impl<'a, R: rt::Files + Alloc> DiskFiles<'a, R> {
     /// Returns the files that `rt` reaches, with no failed call yet.
     pub fn new(rt: &'a R) -> DiskFiles<'a, R>
-        ensures { result ≡ record { failures = 0; cause = None; saved = []; mode = None; held = None; is_held = false; only_plain = false; no_pipes = false; in_place = false; aftermath = None } }
+        ensures { result ≡ record { failures = 0; cause = None; saved = []; mode = None; held = None; is_held = false; only_plain = false; in_place = false; aftermath = None } }
     {
         DiskFiles {
             calls: Calls::new(rt),
@@ -76,25 +74,17 @@ impl<'a, R: rt::Files + Alloc> DiskFiles<'a, R> {
             hold: None,
             in_the_way: None,
             only_plain: false,
-            no_pipes: false,
             way: Way::Replace,
             aftermath: None,
         }
     }
 
-    /// From now on loads refuse what is not a plain file, links followed, before they open it: to open a pipe may
-    /// block.
+    /// From now on loads refuse what is not a plain file, links followed, before they open it: to open a pipe or a
+    /// terminal may block.
     pub fn only_plain(&mut self)
         ensures { self.new ≡ record self.old { only_plain = true } }
     {
         self.only_plain = true;
-    }
-
-    /// From now on loads refuse a pipe before they open it.
-    pub fn refuse_pipes(&mut self)
-        ensures { self.new ≡ record self.old { no_pipes = true } }
-    {
-        self.no_pipes = true;
     }
 
     /// From now on files are saved in place: the file keeps all that is not its bytes, and a missing one is not made.

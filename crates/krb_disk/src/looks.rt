@@ -90,10 +90,6 @@ impl Found {
         self.mode & 0o170000 == 0o120000
     }
 
-    pub fn is_directory(&self) -> bool {
-        self.mode & 0o170000 == 0o040000
-    }
-
     /// Returns whether it is a named pipe. Opening one may block.
     pub fn is_pipe(&self) -> bool {
         self.mode & 0o170000 == 0o010000

@@ -1,14 +1,14 @@
 //! Reads and compares files.
 
 ghost use Rattle.std.specs.Prelude.{◌≡◌, ◌≤◌, ◌++◌, [], IfOk, IfSome, IsTrue, vec_len};
-ghost use Rattle.krb_disk.specs.Looks.{IsPlain};
+ghost use Rattle.krb_disk.specs.DiskFiles.{refused_others};
 
 use crate::fault::{DiskFault, ReadFault};
 use crate::looks::{Found, Looks};
 use crate::noted::Noted;
-use krb_files::{Cause, LoadFault, WatchedReader, load};
+use krb_files::{Cause, LoadFault, Node, WatchedReader, load};
 use std::alloc::Allocator;
-use std::io::{self, ErrorKind, Read};
+use std::io::{self, Read};
 use std::rt;
 
 /// How many bytes are compared at once.
@@ -51,47 +51,14 @@ pub fn read_file<R: rt::Files, A: Allocator>(
     Ok((found, bytes))
 }
 
-// Returns the fault of what is not read.
-fn not_read(cause: Cause) -> ReadFault {
-    ReadFault::Disk(DiskFault::Failed(cause))
-}
-
-// Refuses what is not a plain file, links followed.
-fn refuse_others<R: rt::Files>(looks: &Looks<'_, R>, path: &str) -> Result<(), ReadFault> {
-    match looks.come_to(path) {
-        Ok(found) if found.is_file() => Ok(()),
-        Ok(found) if found.is_directory() => Err(not_read(Cause::IsADirectory)),
-        Ok(_) => Err(not_read(Cause::NotAPlainFile)),
-        Err(error) if error.kind() == ErrorKind::NotFound => Err(ReadFault::Missing),
-        Err(error) => Err(ReadFault::from(error)),
-    }
-}
-
-/// Refuses a pipe, links followed, since to open one may block.
-pub fn refuse_pipe<R: rt::Files>(looks: &Looks<'_, R>, path: &str) -> Result<(), ReadFault> {
-    match looks.come_to(path) {
-        Ok(found) if found.is_pipe() => Err(not_read(Cause::NotAPlainFile)),
-        _ => Ok(()),
-    }
-}
-
-/// Like `read_file`, but refuses what is not a plain file. It is looked at before it is opened, since to open a pipe
-/// may block, and again afterwards.
-pub fn read_plain<R: rt::Files, A: Allocator>(
-    looks: &Looks<'_, R>,
-    alloc: A,
-    path: &str,
-    limit: u32,
-) -> Result<(Found, Vec<u8, A>), ReadFault>
-    ensures within { IfOk result (λ read. vec_len read.1 ≤ limit) }
-    ensures plain { IfOk result (λ read. IsPlain read.0) }
+/// Refuses what is there and no plain file. What could not be looked at is left to its load.
+pub fn refuse_others(node: Node) -> Result<(), ReadFault>
+    ensures { result ≡ refused_others node }
 {
-    refuse_others(looks, path)?;
-    let (found, bytes) = read_file(looks, alloc, path, limit)?;
-    if found.is_file() {
-        Ok((found, bytes))
-    } else {
-        Err(not_read(Cause::NotAPlainFile))
+    match node {
+        Node::Folder => Err(ReadFault::Disk(DiskFault::Failed(Cause::IsADirectory))),
+        Node::Other => Err(ReadFault::Disk(DiskFault::Failed(Cause::NotAPlainFile))),
+        Node::PlainFile | Node::Nothing | Node::Unknown => Ok(()),
     }
 }
 

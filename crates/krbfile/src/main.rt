@@ -29,15 +29,11 @@ use std::rt;
 // Returns the files of a run.
 fn files_for<R: rt::Files + Alloc>(rt: &R, needs: Needs) -> DiskFiles<'_, R>
     ensures plain { result.only_plain ≡ needs.plain }
-    ensures no_pipes { result.no_pipes ≡ needs.no_pipes }
     ensures in_place { result.in_place ≡ needs.in_place }
 {
     let mut files = DiskFiles::new(rt);
     if needs.plain {
         files.only_plain();
-    }
-    if needs.no_pipes {
-        files.refuse_pipes();
     }
     if needs.in_place {
         files.save_in_place();

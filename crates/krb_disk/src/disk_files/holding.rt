@@ -13,7 +13,7 @@ use crate::held::{Held, NotHeld, save_anew};
 use crate::looks::Found;
 use crate::looks::text::check_len;
 use crate::open_file::{Numbered, SetOwner, TakeLock, WriteInPlace};
-use crate::read::{read_file, read_plain, refuse_pipe};
+use crate::read::{read_file, refuse_others};
 use crate::target::new_path_of;
 use krb_files::{Aftermath, Cause, HeldName};
 use std::alloc::Allocator;
@@ -23,8 +23,8 @@ impl<R: rt::Files + rt::Clock + Alloc> DiskFiles<'_, R>
 where
     R::File: SetOwner + TakeLock + Numbered + WriteInPlace,
 {
-    /// Reads a file: through the hold, if one is held, unless only plain files are loaded. Refuses a pipe, if pipes are
-    /// not opened.
+    /// Reads a file: through the hold, if one is held. If only plain files are loaded it is looked at before it is opened,
+    /// and again afterwards.
     pub(super) fn read<A: Allocator>(
         &mut self,
         alloc: A,
@@ -37,16 +37,17 @@ where
     {
         let looks = self.calls.looks();
         if self.only_plain {
-            return read_plain(looks, alloc, name, limit);
+            refuse_others(looks.node(name))?;
         }
-        if self.no_pipes {
-            refuse_pipe(looks, name)?;
-        }
-        match &mut self.hold {
+        let (found, bytes) = match &mut self.hold {
             Some(Ok(held)) => held.load(&self.calls, alloc, name, limit),
             Some(Err(not_held)) => not_held.load(looks, alloc, name, limit),
             None => read_file(looks, alloc, name, limit),
+        }?;
+        if self.only_plain {
+            refuse_others(found.node())?;
         }
+        Ok((found, bytes))
     }
 
     /// Keeps a hold until the file is saved or released, or why it could not be had.
