@@ -1,7 +1,7 @@
 """A file that another program changes, by a handle that it has, after the comparison of a save.
 
 If it is replaced, the change is lost. In place it is kept, unless the same bytes were written. Either is told, with
-words or without; the output is as ever.
+words or without; the output is as ever. One before the comparison, which is behind the locks, is kept too.
 """
 
 import os
@@ -12,7 +12,7 @@ from typing import BinaryIO
 
 from makers.images import B, HOST, keytab
 from runs.commands import CHANGES as CHANGES_OF_ALL
-from runs.commands import file_of
+from runs.commands import OLD, file_of
 from runs.harness import EXPLAIN, Case, Report, differences, every, folder_of, shown
 from runs.system_calls import Halt, halted
 from runs.undisturbed import Undisturbed, in_place, undisturbed
@@ -26,8 +26,8 @@ TALK = undisturbed("ktutil", b"rkt j\nwkt k\nfrob\nwkt FILE:k\n", j=keytab(B), k
                    name="adds, is at fault, and is refused")
 CASES_OF_ALL = (*CHANGES_OF_ALL, TALK)
 
-# Where a run is halted: before its rename, at the last reading of the locks, and behind it.
-HALTS = (Halt("openat", 2 * READINGS, ("/proc/locks",)), Halt("?rename,?renameat,?renameat2"))
+# Where a run is halted: at the last reading of the locks, and behind its rename.
+WATCHED, RENAMED = Halt("openat", 2 * READINGS, ("/proc/locks",)), Halt("?rename,?renameat,?renameat2")
 
 # And in place: when its bytes are written over, cut off, and synced, and at the last reading of the locks of one
 # that grows.
@@ -70,7 +70,9 @@ def of_each() -> Iterator[Row]:
     place tells of it and leaves it there."""
     for case in CASES_OF_ALL:
         before, after = images(case)
-        yield from ((one, halt, ADD_MORE) for one in both_ways(case, "lost change") for halt in HALTS)
+        # The load reads the bytes and the end, and so does the comparison.
+        halts = (Halt("read", 4, (file_of(case),)), RENAMED)
+        yield from ((one, halt, ADD_MORE) for one in both_ways(case, "lost change") for halt in halts)
         yield from ((with_more(one), COMPARED if len(after) > len(before) else SYNCED, ADD_MORE)
                     for one in both_ways(in_place(case), "mixed"))
 
@@ -81,24 +83,25 @@ def of_kinds() -> Iterator[Row]:
     _, after = images(placed)
     left = {"bytes at the end": after + MORE, "the last byte": after[:-1] + b"\xff", "no byte any more": b""}
     for name, (change, is_told) in CHANGES.items():
-        yield replace(lost, wanted=told(lost, "lost change")) if is_told else lost, HALTS[1], change
+        yield replace(lost, wanted=told(lost, "lost change")) if is_told else lost, RENAMED, change
         yield replace(placed, wanted=told(placed, "mixed") if is_told else placed.wanted,
                       files_after={"k": left.get(name, after)}), SYNCED, change
 
 
 def of_refused() -> Iterator[Row]:
-    """Yields changes before an old byte is written over or cut off: what another program wrote stays.
+    """Yields changes before an old byte is replaced, written over or cut off: what another program wrote stays.
 
     What was written is taken back, unless another program has written past the old end.
     """
     (before, longer), shorter = images(LONGER), SHORTER.files["k"]
     old_byte: Change = lambda file: file.seek(len(before) - 1) and file.write(b"\xff")
-    rows = [(LONGER, SYNCED, ADD_MORE, longer + MORE, "mixed"),
-            (LONGER, SYNCED, CHANGES["no byte any more"][0], b"", "mixed"),
-            (LONGER, SYNCED, old_byte, before[:-1] + b"\xff", ""),
-            (SHORTER, WRITTEN, ADD_MORE, shorter + MORE, "restored")]
-    for case, halt, change, image, left in rows:
-        placed = in_place(case).as_case()
+    rows = [(ADD, WATCHED, ADD_MORE, OLD + MORE, ""),
+            (in_place(LONGER), SYNCED, ADD_MORE, longer + MORE, "mixed"),
+            (in_place(LONGER), SYNCED, CHANGES["no byte any more"][0], b"", "mixed"),
+            (in_place(LONGER), SYNCED, old_byte, before[:-1] + b"\xff", ""),
+            (in_place(SHORTER), WRITTEN, ADD_MORE, shorter + MORE, "restored")]
+    for one, halt, change, image, left in rows:
+        placed = one.as_case()
         message = [message_of(placed, left)] if left == "mixed" else []
         words = [CAUSES["in use" if left == "mixed" else "changed"]]
         words += [AFTERMATHS[left]] if left == "restored" else []

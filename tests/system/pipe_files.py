@@ -1,11 +1,14 @@
 """A run that is to change what is no plain file, in either way, refuses it. It does not open a pipe of that name, so
-that it does not wait for a writer; nor does one over several files, or an overview.
+that it does not wait for a writer; nor does one over several files, or an overview, which open no terminal either.
 """
 
 import os
+import select
+import stat
 import threading
-from collections.abc import Iterator
-from contextlib import contextmanager, suppress
+from collections.abc import Callable, Iterator
+from contextlib import AbstractContextManager, contextmanager, suppress
+from functools import partial
 from itertools import product
 
 from caches import cache_listings
@@ -36,9 +39,13 @@ SEVERAL = {
 }
 
 
+# What says whether a file was used.
+IsUsed = Callable[[], bool]
+
+
 @contextmanager
-def fed(path: str) -> Iterator[list[bool]]:
-    """Yields a pipe that gives a keytab to who opens it to read, and records that it was opened."""
+def fed(path: str) -> Iterator[IsUsed]:
+    """Makes a pipe that gives a keytab to who opens it to read, and yields what says whether it was opened."""
     opened: list[bool] = []
 
     def feed() -> None:
@@ -50,10 +57,38 @@ def fed(path: str) -> Iterator[list[bool]]:
     feeder = threading.Thread(target=feed)
     feeder.start()
     try:
-        yield opened
+        yield lambda: bool(opened)
     finally:
         os.close(os.open(path, os.O_RDONLY | os.O_NONBLOCK))
         feeder.join()
+
+
+@contextmanager
+def typed(path: str) -> Iterator[IsUsed]:
+    """Makes a link to a terminal on which a line is typed, and yields what says whether that was read."""
+    typist, terminal = os.openpty()
+    os.symlink(os.ttyname(terminal), path)
+    os.write(typist, b"typed\n")
+    try:
+        yield lambda: not select.select([terminal], [], [], 0)[0]
+    finally:
+        os.close(terminal)
+        os.close(typist)
+
+
+@contextmanager
+def made(make: Callable[[str], object], path: str) -> Iterator[IsUsed]:
+    """Makes what does not show whether it was used."""
+    make(path)
+    yield lambda: False
+
+
+# What is no plain file and no folder, each under a name.
+KINDS: dict[str, Callable[[str], AbstractContextManager[IsUsed]]] = {
+    "a pipe": fed, "a terminal": typed,
+    "a socket": partial(made, lambda path: os.mknod(path, stat.S_IFSOCK | 0o600)),
+    "a device": partial(made, partial(os.symlink, "/dev/null")),
+}
 
 
 def check_name(report: Report, program: str, case: Undisturbed, name: str) -> None:
@@ -62,10 +97,10 @@ def check_name(report: Report, program: str, case: Undisturbed, name: str) -> No
     others = {each: data for each, data in case.files.items() if each != file_of(case)}
     with folder_of(others) as folder:
         os.symlink("pipe", os.path.join(folder, "link"))
-        with fed(os.path.join(folder, "pipe")) as opened:
+        with fed(os.path.join(folder, "pipe")) as is_used:
             found = [run(program, (EXPLAIN, *words), folder, one.stdin)
                      for words in (one.words, (one.words[0], IN_PLACE, *one.words[1:]))]
-            faults = ["it was opened"] * len(opened)
+            faults = ["it was opened"] * is_used()
         faults += differences(*found) + ([] if found[0].status else [f"{found[0]}"])
         if name in PIPES:
             output = f"krbfile: {name}: cannot read\nkrbfile: {place}{CAUSES['no plain file']}\n"
@@ -81,17 +116,17 @@ def check_changes(report: Report, program: str) -> None:
 
 
 def check_several(report: Report, program: str) -> None:
-    """Checks runs over a pipe, a link to it, and a file."""
-    for line, out in SEVERAL.items():
+    """Checks runs over a pipe or another such thing, a link to it, and a file."""
+    for (line, out), (kind, make) in product(SEVERAL.items(), KINDS.items()):
         with folder_of({"k": TWO, "c": cache(TICKET)}) as folder:
             for_owner(folder)
             os.symlink("pipe", os.path.join(folder, "link"))
-            with fed(os.path.join(folder, "pipe")) as opened:
+            with make(os.path.join(folder, "pipe")) as is_used:
                 got = run(program, (EXPLAIN, *line.split()), folder)
-                faults = ["it was opened"] * len(opened)
+                faults = ["it was opened"] * is_used()
         told = "".join(f"krbfile: {name}: cannot read\nkrbfile: {CAUSES['no plain file']}\n"
                        for name in line.split() if name in PIPES)
-        report.check(f"a pipe among others: {line}", differences(Outcome(3, out, told.encode()), got) + faults)
+        report.check(f"{kind} among others: {line}", differences(Outcome(3, out, told.encode()), got) + faults)
 
 
 check = every(check_changes, check_several)
