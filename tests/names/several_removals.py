@@ -1,7 +1,10 @@
 """`ktremove` and `ccremove` over several files: each line after the name of its file, what is told of others, and what
-where nothing is asked for."""
+where one is missing, or nothing is asked for."""
+
+import os
 
 from collections.abc import Iterable
+from dataclasses import replace
 
 from caches.valid_tickets import HOST as VALID_HOST, OVER, TGT
 from keytabs.removals import FIVE
@@ -10,7 +13,7 @@ from names.named_files import NEITHER
 from names.several_keytabs import MISSING, NO_KEYTAB, OTHER, UNREAD
 from runs.harness import Line, shown, text, words_of
 from words.explaining import FAILED, FULL, Explained, in_the_way
-from words.phrases import CAUSES, code
+from words.phrases import CAUSES, TO_NAME, code
 
 # Keytabs: `o` alone has an old entry. Caches: `c` has an expired ticket and a service's valid one, the others one each.
 FILES = {
@@ -29,6 +32,14 @@ TGT_C, HOST_C, HOST_H = "c: removed 34 krbtgt/R@R", "c: removed 278 host/a@R", "
 NO_ENTRY, NO_TICKET = (("refused 9", code(9, command)) for command in ("ktremove", "ccremove"))
 DAMAGED, OLD_CACHE = ("d: refused 1", code(1, "ktremove")), ("v: refused 8", code(8, "ccremove"))
 UNSAVED = ("k: cannot write", CAUSES["in the way"].replace("NAME", "k"))
+
+# A principal in the place of a file; and a name of another type.
+NAMED, OTHER_NAMED = ("host/a@R: no such file", TO_NAME), ("KCM:u@R: no such file", OTHER[1])
+
+
+def link_to_nothing(folder: str) -> None:
+    """Makes a link that leads to nothing."""
+    os.symlink("no", os.path.join(folder, "l"))
 
 
 def remove(line: str | Line, out: list[str], *output: tuple[str, str], status: int = 0,
@@ -50,22 +61,30 @@ CASES = [
     # A file that is given twice is two runs.
     remove("ktremove --in-place -p b@R k ./k k", [B_K], left="k"), remove("ktremove -n -p b@R k k", [B_K, B_K]),
     # One that cannot be read has its message, and the next goes on; the status is the greatest.
-    remove("ktremove -p b@R no k . d KCM:k x j", [B_K, B_J], MISSING, UNREAD, DAMAGED, OTHER, NO_KEYTAB, status=3,
-           left="kj"),
+    remove("ktremove -p b@R k . d x j", [B_K, B_J], UNREAD, DAMAGED, NO_KEYTAB, status=3, left="kj"),
+    # If one is missing nothing is done, whatever the others are: each that is has its message, in order.
+    *(remove(line, [], NAMED, status=1) for line in (
+        "ktremove -k old o host/a@R", "ktremove -n -k old o host/a@R", "ktremove -k old host/a@R o", "ktremove -e 17 host/a@R",
+        "ccremove --all-services c FILE:host/a@R", "ccremove --expired c host/a@R")),
+    remove(("ktremove", "-pb@R", "no", "k", "KCM:u@R", ".", "", "d", "KCM:k"), [], MISSING, (*OTHER_NAMED, TO_NAME),
+           (": no such file", ""), OTHER, status=1),
+    replace(remove("ktremove --in-place -p b@R k l", [], ("l: no such file", ""), status=1, setting=link_to_nothing),
+            after=None),
+    remove("ktremove -p b@R no k j", [], MISSING, status=1, options=FULL),
     # It is told last that nothing is asked for anywhere, unless no file could be asked.
     *(remove(f"ktremove {options}", [], *told, NO_ENTRY, status=status) for options, told, status in (
         ("-n -p c@R k k", (), 1), ("-p c@R k d .", (DAMAGED, UNREAD), 3), ("-k old -p c@R k o", (), 1),
-        ("-k old -p host/a@R j no", (MISSING,), 1))),
+        ("-k old -p host/a@R j d", (DAMAGED,), 1))),
     *(remove(f"ccremove {options}", [], *told, NO_TICKET, status=1) for options, told in (
-        ("-p c@R v c", (OLD_CACHE,)), ("--all-services --expired t no", (MISSING,)))),
-    remove("ktremove -p c@R no d", [], MISSING, DAMAGED, status=1),
+        ("-p c@R v c", (OLD_CACHE,)), ("--all-services --expired t v", (OLD_CACHE,)))),
+    remove("ktremove -p c@R x d", [], NO_KEYTAB, DAMAGED, status=1),
     # That nothing is old, or has expired, is no failure.
     remove("ktremove -k old o k", [X_O], left="o"), remove("ktremove -k old -p host/a@R k j", []),
-    remove("ktremove -k old no k", [], MISSING, status=1), remove("ccremove --expired t c h", [TGT_C], left="c"),
+    remove("ktremove -k old d k", [], DAMAGED, status=1), remove("ccremove --expired t c h", [TGT_C], left="c"),
     # A save that fails leaves the others as they are alone, and something was asked for.
     remove("ktremove -p b@R k j", [B_J], UNSAVED, status=3, left="j", setting=in_the_way),
     remove("ktremove -p host/a@R k j", [], UNSAVED, status=3, setting=in_the_way),
     # An output that takes nothing ends the run with the first file of which something would be printed.
-    remove("ktremove -p b@R no k j", [], MISSING, FAILED, status=3, left="k", options=FULL),
-    remove("ktremove -p c@R k no", [], MISSING, NO_ENTRY, status=1, options=FULL),
+    remove("ktremove -p b@R d k j", [], DAMAGED, FAILED, status=3, left="k", options=FULL),
+    remove("ktremove -p c@R k d", [], DAMAGED, NO_ENTRY, status=1, options=FULL),
 ]

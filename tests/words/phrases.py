@@ -92,6 +92,7 @@ COLLECTION = "a collection; give one of its caches, DIR::FILE"
 LEAVE_OUT = "leave out TYPE"
 NAMED = "VARIABLE names it"
 DEFAULT = "the default name (krb5.conf is not read); give FILE"
+TO_NAME = "to name a principal, give -p"
 
 # What `hold` was given, and an output that it prints nothing to.
 NOT_WHOLE = "it is not a length, a newline and just as many bytes"

@@ -1,5 +1,5 @@
 -- The action of a command line, and what it does.
-use Rattle.std.specs.Prelude.{unwrap_or, ◌≡◌, ℕ, List, [], ◌∷◌, codes, map, length, nat_lt, not, ◌==◌, is_some, Bool, true, false, if◌then◌else◌, Option, None, Some, Result, Ok, Err, string_bytes}
+use Rattle.std.specs.Prelude.{unwrap_or, nat_eq, ◌≡◌, ℕ, List, [], ◌∷◌, codes, map, length, nat_lt, not, ◌==◌, is_some, Bool, true, false, if◌then◌else◌, Option, None, Some, Result, Ok, Err, string_bytes}
 use Rattle.std.specs.List.{list_any}
 use Rattle.krb_files.specs.declared.files.Files.{Ghosts}
 use Rattle.krb_audit.specs.declared.selection.SelectedKvno.{SelectedKvno}
@@ -15,7 +15,7 @@ use Rattle.krb_driver.specs.declared.command_line.words.CommandName.TheVariants 
 use Rattle.krb_driver.specs.declared.error.RunError.TheVariants.{OutputIsTerminal}
 use Rattle.krb_driver.specs.declared.file_name.FileName.{FileName}
 use Rattle.krb_driver.specs.declared.file_name.NameSource.{NameSource}
-use Rattle.krb_driver.specs.declared.file_name.NameSource.TheVariants.{Word}
+use Rattle.krb_driver.specs.declared.file_name.NameSource.TheVariants.{Word, LikePrincipal}
 use Rattle.krb_driver.specs.declared.verdict.FileKind.{FileKind}
 use Rattle.krb_driver.specs.declared.verdict.FileKind.TheVariants.{Keytab, Cache, Either}
 use Rattle.krb_driver.specs.declared.verdict.Verdict.TheVariants.{Well}
@@ -55,16 +55,27 @@ NamesFile kind (Some word) None = ⊥
 abbrev pub parts_of : FileName → FileKind × List ℕ × Bool × NameSource × Bool
 parts_of file = (file.kind, file.name.now, file.is_other_type, file.source, file.in_place)
 
-abbrev pub word_parts : FileKind → Bool → List ℕ → FileKind × List ℕ × Bool × NameSource × Bool
-word_parts kind in_place word = (kind, bare_name kind word, is_other_type kind word, Word, in_place)
+-- where the name comes from that a word gives, if one with an `@` comes from there
+abbrev pub source_of : NameSource → List ℕ → NameSource
+source_of with_at word = if list_any (nat_eq 64) word then with_at else Word
+
+abbrev pub word_parts : FileKind → NameSource → Bool → List ℕ → FileKind × List ℕ × Bool × NameSource × Bool
+word_parts kind with_at in_place word = (kind, bare_name kind word, is_other_type kind word, source_of with_at word, in_place)
 
 -- files are those that words name, to be saved in place or not
-abbrev pub AreNamed : FileKind → Bool → List (List ℕ) → List FileName → Type 0
-AreNamed kind in_place words names = map parts_of names ≡ map (word_parts kind in_place) words
+abbrev pub AreNamed : FileKind → NameSource → Bool → List (List ℕ) → List FileName → Type 0
+AreNamed kind with_at in_place words names = map parts_of names ≡ map (word_parts kind with_at in_place) words
 
 -- files are those that a line names, to be saved in place if the words ask for that
+abbrev pub AreFilesBy : NameSource → FileKind → Matched → List FileName → Type 0
+AreFilesBy with_at kind words names = AreNamed kind with_at (words.flag (codes "in-place")) (words.values (codes "FILE")) names
+
 abbrev pub AreFiles : FileKind → Matched → List FileName → Type 0
-AreFiles kind words names = AreNamed kind (words.flag (codes "in-place")) (words.values (codes "FILE")) names
+AreFiles = AreFilesBy Word
+
+-- and one with an `@` may be meant as a principal
+abbrev pub AreChanged : FileKind → Matched → List FileName → Type 0
+AreChanged = AreFilesBy LikePrincipal
 
 -- the action is the overview, or the listing, that the words of klist ask for
 abbrev pub AsksOverview : Matched → Action → Type 0
@@ -113,13 +124,13 @@ abbrev pub Asks : CommandName → Matched → Action → Type 0
 Asks name.Klist words action = AsksKlist words action
 Asks name.Ktedit words (Ktedit order file) = (order ≡ v1_order words) × IsEdited Keytab words (codes "FILE") file
 Asks name.Ktfind words (Ktfind options file) = SpellsEntry words options × IsNamed Keytab (words.operand (codes "FILE")) Word file
-Asks name.Ktremove words (Ktremove options names) = SpellsRemoval words options × AreFiles Keytab words names.items
+Asks name.Ktremove words (Ktremove options names) = SpellsRemoval words options × AreChanged Keytab words names.items
 Asks name.Ktcopy words (Ktcopy options from to) = SpellsCopy words options × IsNamed Keytab (words.operand (codes "FROM")) Word from × IsEdited Keytab words (codes "TO") to
 Asks name.Ktdiff words (Ktdiff options ours others) = SpellsDiff words options × IsNamed Keytab (words.operand (codes "A")) Word ours × IsNamed Keytab (words.operand (codes "B")) Word others
 Asks name.Ktcheck words action = AsksKtcheck words action
 Asks name.Show words action = AsksShow words action
 Asks name.Ccedit words (Ccedit file) = IsEdited Cache words (codes "FILE") file
-Asks name.Ccremove words (Ccremove options names) = SpellsTickets words options × AreFiles Cache words names.items
+Asks name.Ccremove words (Ccremove options names) = SpellsTickets words options × AreChanged Cache words names.items
 Asks name.Ktutil words (Ktutil options) = (options.v1_order ≡ v1_order words) × (options.in_place ≡ words.flag (codes "in-place"))
 Asks name.Hold words action = AsksHold words action
 Asks command words action = ⊥

@@ -1,7 +1,7 @@
 //! The actions of command lines.
 
 ghost use Rattle.std.specs.Prelude.{◌≡◌, codes, map, IfErr, IfOk, None, OnOk};
-ghost use Rattle.krb_commands.specs.Actions.{AreNamed, Asks, AsksHold, AsksKlist, AsksKtcheck, AsksListing, AsksOverview, AsksShow, IsEdited, NamesFile, at_terminal, klist_mistake, line_mistake};
+ghost use Rattle.krb_commands.specs.Actions.{AreNamed, Asks, AsksHold, AsksKlist, AsksKtcheck, AsksListing, AsksOverview, AsksShow, IsEdited, NamesFile, at_terminal, klist_mistake, line_mistake, source_of};
 ghost use Rattle.krb_driver.specs.FileNames.{IsNamed};
 ghost use Rattle.krb_driver.specs.declared.file_name.NameSource.TheVariants.{Word};
 ghost use Rattle.krb_readers.specs.Ktcheck.{check_mistake};
@@ -104,18 +104,30 @@ fn edited_file<'a, M: Matches<'a>>(matches: &M, kind: FileKind, operand: &str) -
     file_of(matches, kind, operand).saved(matches.flag("in-place"))
 }
 
+// Returns where the name comes from that a word gives, if one with an `@` comes from there.
+fn source_of(with_at: NameSource, word: &str) -> NameSource
+    ensures { result ≡ source_of with_at word.now }
+{
+    if word.as_bytes().contains(&b'@') {
+        with_at
+    } else {
+        NameSource::Word
+    }
+}
+
 // Returns the files that words name, to be saved in place or not.
 fn files_of<'a>(
     alloc: Global,
     kind: FileKind,
+    with_at: NameSource,
     in_place: bool,
     words: &[&'a str],
 ) -> Result<Vec<FileName<'a>>, AllocError>
-    ensures { IfOk result (λ names. AreNamed kind in_place (map (λ word. word.now) words.now) names.items) }
+    ensures { IfOk result (λ names. AreNamed kind with_at in_place (map (λ word. word.now) words.now) names.items) }
 {
     let mut names = Vec::new(alloc);
     'words: for word in words {
-        names.push(FileName::of(kind, *word, NameSource::Word).saved(in_place))?;
+        names.push(FileName::of(kind, *word, source_of(with_at, *word)).saved(in_place))?;
     }
     Ok(names)
 }
@@ -125,16 +137,30 @@ fn files_named<'a, M: Matches<'a>>(
     alloc: Global,
     matches: &M,
     kind: FileKind,
+    with_at: NameSource,
 ) -> Result<Vec<FileName<'a>>, AllocError>
-    ensures { IfOk result (λ names. AreNamed kind ((M.matched matches.now).flag (codes "in-place"))
+    ensures { IfOk result (λ names. AreNamed kind with_at ((M.matched matches.now).flag (codes "in-place"))
         ((M.matched matches.now).values (codes "FILE")) names.items) }
 {
     files_of(
         alloc,
         kind,
+        with_at,
         matches.flag("in-place"),
         matches.values("FILE"),
     )
+}
+
+// Returns the files that a line names which only looks at them.
+fn files_to_read<'a, M: Matches<'a>>(
+    alloc: Global,
+    matches: &M,
+    kind: FileKind,
+) -> Result<Vec<FileName<'a>>, AllocError>
+    ensures { IfOk result (λ names. AreNamed kind Word ((M.matched matches.now).flag (codes "in-place"))
+        ((M.matched matches.now).values (codes "FILE")) names.items) }
+{
+    files_named(alloc, matches, kind, NameSource::Word)
 }
 
 // Returns the action for the words of `klist -l`.
@@ -145,7 +171,7 @@ fn parsed_overview<'a, M: Matches<'a>>(
     ensures { Reads (overview_mistake (M.matched matches.now)) (AsksOverview (M.matched matches.now)) result }
 {
     let json = overview_json(matches)?;
-    Ok(Action::Overview(json, files_named(alloc, matches, FileKind::Cache)?))
+    Ok(Action::Overview(json, files_to_read(alloc, matches, FileKind::Cache)?))
 }
 
 // Returns the action for the words of a listing.
@@ -157,7 +183,7 @@ fn parsed_listing<'a, M: Matches<'a>>(
 {
     let options = klist_options(matches)?;
     let kind = options.kind.file_kind();
-    Ok(Action::Klist(options, files_named(alloc, matches, kind)?))
+    Ok(Action::Klist(options, files_to_read(alloc, matches, kind)?))
 }
 
 // Returns the action for the words of klist: with `-l` an overview, with `-s` a check, otherwise a listing.
@@ -182,7 +208,7 @@ fn parsed_ktcheck<'a, M: Matches<'a>>(
     ensures { Reads (check_mistake (M.matched matches.now)) (AsksKtcheck (M.matched matches.now)) result }
 {
     let options = check_options(alloc, matches)?;
-    let names = files_named(alloc, matches, FileKind::Keytab)?;
+    let names = files_to_read(alloc, matches, FileKind::Keytab)?;
     Ok(Action::Ktcheck(options, names))
 }
 
@@ -191,7 +217,7 @@ fn parsed_show<'a, M: Matches<'a>>(alloc: Global, matches: &M) -> Result<Action<
     ensures { Reads (show_mistake (M.matched matches.now)) (AsksShow (M.matched matches.now)) result }
 {
     let options = show_options(matches)?;
-    let names = files_named(alloc, matches, FileKind::Either)?;
+    let names = files_to_read(alloc, matches, FileKind::Either)?;
     Ok(Action::Show(options, names))
 }
 
@@ -222,7 +248,7 @@ fn parsed<'a, M: Matches<'a>>(
         )),
         CommandName::Ktremove => Ok(Action::Ktremove(
             remove_options(alloc, matches)?,
-            files_named(alloc, matches, FileKind::Keytab)?,
+            files_named(alloc, matches, FileKind::Keytab, NameSource::LikePrincipal)?,
         )),
         CommandName::Ktcopy => Ok(Action::Ktcopy(
             copy_options(alloc, matches)?,
@@ -239,7 +265,7 @@ fn parsed<'a, M: Matches<'a>>(
         CommandName::Ccedit => Ok(Action::Ccedit(cache)),
         CommandName::Ccremove => Ok(Action::Ccremove(
             ticket_options(alloc, matches)?,
-            files_named(alloc, matches, FileKind::Cache)?,
+            files_named(alloc, matches, FileKind::Cache, NameSource::LikePrincipal)?,
         )),
         CommandName::Ktutil => Ok(Action::Ktutil(KtutilOptions {
             v1_order: v1_order(matches),

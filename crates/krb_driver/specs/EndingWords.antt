@@ -24,7 +24,7 @@ use Rattle.krb_audit.specs.declared.finding.TheConstants.{FINDINGS}
 use Rattle.krb_audit.specs.declared.finding_set.FindingSet.{FindingSet}
 use Rattle.krb_driver.specs.declared.error.RunError.{RunError}
 use Rattle.krb_driver.specs.declared.file_name.NameSource.{NameSource}
-use Rattle.krb_driver.specs.declared.file_name.NameSource.TheVariants.{Word, CacheVariable, KeytabVariable, Default}
+use Rattle.krb_driver.specs.declared.file_name.NameSource.TheVariants.{Word, LikePrincipal, CacheVariable, KeytabVariable, Default}
 use Rattle.krb_driver.specs.declared.error.RunError.TheVariants as error
 use Rattle.krb_driver.specs.declared.verdict.FileKind.{FileKind}
 use Rattle.krb_driver.specs.declared.verdict.FileKind.TheVariants.{Keytab}
@@ -105,9 +105,10 @@ line_fault_phrase (Some line) fault = ktutil_phrase fault
 
 -- ---- words
 
--- the words that tell where a file's name comes from, if no word of a line gave it
+-- the words that tell where a file's name comes from, if no word of a line gave it; or how a principal is named
 abbrev pub source_words : NameSource → List ℕ
 source_words Word = []
+source_words LikePrincipal = codes "krbfile: to name a principal, give -p\n"
 source_words CacheVariable = codes "krbfile: KRB5CCNAME names it\n"
 source_words KeytabVariable = codes "krbfile: KRB5_KTNAME names it\n"
 source_words Default = codes "krbfile: the default name (krb5.conf is not read); give FILE\n"

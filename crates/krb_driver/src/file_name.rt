@@ -13,6 +13,8 @@ use std::alloc::Allocator;
 pub enum NameSource {
     /// A word of the command line, or of a line of ktutil.
     Word,
+    /// A word with an `@`, of a command that takes principals by `-p`: it may be meant as one.
+    LikePrincipal,
     /// KRB5CCNAME in the environment.
     CacheVariable,
     /// KRB5_KTNAME in the environment.

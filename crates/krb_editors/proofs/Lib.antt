@@ -4,3 +4,4 @@ pub mod RunJoins
 pub mod Copies
 pub mod AddedPlaces
 mod Holding
+mod Looking

@@ -2,6 +2,7 @@
 pub mod Sessions
 pub mod Ktedit
 pub mod Selecting
+pub mod MissingFiles
 pub mod Removing
 pub mod Ktremove
 pub mod Ktcopy

@@ -12,6 +12,7 @@ use Rattle.krb_driver.specs.Commands.{CommandPlan, EndsBefore, Prints, always}
 use Rattle.krb_driver.specs.RunErrors.{Ending}
 use Rattle.krb_driver.specs.Runs.{ends_by}
 use Rattle.krb_driver.specs.Several.{RunsOver, first_round}
+use Rattle.krb_editors.specs.MissingFiles.{LooksFirst}
 use Rattle.krb_editors.specs.declared.removing.FilesSeen.{FilesSeen}
 use Rattle.krb_editors.specs.declared.removing.FilesSeen.TheVariants as seen
 
@@ -50,16 +51,29 @@ module _ {F R W E : Type 0} (trait : Ghosts F) (old new : World F R W E) (status
   abbrev pub EndsRemovals : FileKind → FilesSeen → ℕ → Type 0
   EndsRemovals kind most worst = (IsTrue (is_none most) × TellsNone kind worst) ⊎ (IsFalse (is_none most) × (new ≡ old) × (status ≡ worst))
 
-module _ {F R W E : Type 0} (trait : Ghosts F) (kind : FileKind) (names : List FileName) (old new : World F R W E) (status : ℕ) where
-  -- what is asked for is removed from files, one after the other: `plan` is what is done with each
-  pub record Removes (plan : Bool → FileName → CommandPlan) : Type 0 where
+module _ {F R W E : Type 0} (trait : Ghosts F) (kind : FileKind) (names : List FileName) (old new : World F R W E) (status : ℕ) (plan : Bool → FileName → CommandPlan) where
+  -- what is asked for was removed from files, one after the other: `plan` is what is done with each
+  pub record Removes : Type 0 where
     pub most : FilesSeen
     pub between : World F R W E
     pub worst : ℕ
     pub over : RunsOver trait (λ state file. always (plan (nat_lt 1 (length names)) file)) seen_after names (first_round seen.None old) (record { world = between; state = most; status = worst })
     pub ends : EndsRemovals trait between new status kind most worst
 
+  -- if one of several is missing no file was held, loaded or saved, and the status is 1
+  abbrev pub RemovesUnless : Bool → Type 0
+  RemovesUnless true = (new ≡ old) × (status ≡ 1)
+  RemovesUnless false = Removes
+
+module _ {F R W E : Type 0} (trait : Ghosts F) (kind : FileKind) (names : List FileName) (old new : World F R W E) (status : ℕ) where
+  -- several files were looked for first, and what is asked for was removed, unless one is missing
+  pub record LooksAndRemoves (plan : Bool → FileName → CommandPlan) : Type 0 where
+    pub looked : World F R W E
+    pub missing : Bool
+    pub looks : LooksFirst trait names old looked missing
+    pub removes : RemovesUnless trait kind names looked new status plan missing
+
   -- the same with what it needs first, or the error that there is none ends the run
   abbrev pub RemovesWith : {X : Type 0} → (X → Bool → FileName → CommandPlan) → Result X RunError → Type 0
-  RemovesWith plan (Ok x) = Removes (plan x)
+  RemovesWith plan (Ok x) = LooksAndRemoves (plan x)
   RemovesWith plan (Err why) = EndsBefore trait old new status why

@@ -11,6 +11,7 @@ ghost use Rattle.krb_driver.specs.declared.verdict.FileKind.TheVariants.{Cache a
 ghost use Rattle.krb_editors.specs.Removing.{RemovesWith};
 ghost use Rattle.krb_driver.specs.Mistakes.{Reads};
 
+use crate::missing_files::is_one_missing;
 use crate::removing::{FilesSeen, end_removals};
 use krb_audit::{SelectedTickets, TicketCriteria, select_tickets};
 use krb_ccache::Ccache;
@@ -245,16 +246,18 @@ pub fn run_ccremove<A: Allocator + Copy, B: Allocator, F: Files, R: Read, W: Wri
     ensures { RemovesWith F.Files OfCache names.now world.old world.new result (ccremove_plan options.now)
         (ended_by options.now now) }
 {
-    match ended_by(options, now) {
-        Ok(ended_by) => {
-            let command = RemoveTickets {
-                options,
-                ended_by,
-                are_several: names.len() > 1,
-            };
-            let ran = run_over(alloc, &command, FilesSeen::None, names, world);
-            end_removals(FileKind::Cache, ran, world)
-        }
-        Err(error) => end_before(error, None, world),
+    let ended_by = match ended_by(options, now) {
+        Ok(ended_by) => ended_by,
+        Err(error) => return end_before(error, None, world),
+    };
+    if is_one_missing(names, world) {
+        return 1;
     }
+    let command = RemoveTickets {
+        options,
+        ended_by,
+        are_several: names.len() > 1,
+    };
+    let ran = run_over(alloc, &command, FilesSeen::None, names, world);
+    end_removals(FileKind::Cache, ran, world)
 }

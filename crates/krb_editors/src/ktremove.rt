@@ -9,6 +9,7 @@ ghost use Rattle.krb_editors.specs.Removing.{RemovesWith};
 ghost use Rattle.krb_editors.specs.Ktremove.{SpellsKvno, SpellsRemoval, kvno_mistake, ktremove_plan, needed_time, none_verdict, odd_selection, remove_mistake, removes, with_age};
 ghost use Rattle.krb_driver.specs.Mistakes.{Reads, Refuses, Spells};
 
+use crate::missing_files::is_one_missing;
 use crate::removing::{FilesSeen, end_removals};
 use crate::selecting::{OF_ENCTYPE, OF_PRINCIPAL, spelled_kvno, spelled_selection};
 use krb_audit::{Selected, SelectedKvno, Selection, select};
@@ -257,16 +258,18 @@ pub fn run_ktremove<A: Allocator + Copy, B: Allocator, F: Files, R: Read, W: Wri
     ensures { RemovesWith F.Files OfKeytab names.now world.old world.new result (ktremove_plan options.now)
         (needed_time options.now.selection.kvno now) }
 {
-    match needed_time(options.selection.kvno, now) {
-        Ok(time) => {
-            let command = RemoveEntries {
-                options,
-                time,
-                are_several: names.len() > 1,
-            };
-            let ran = run_over(alloc, &command, FilesSeen::None, names, world);
-            end_removals(FileKind::Keytab, ran, world)
-        }
-        Err(error) => end_before(error, None, world),
+    let time = match needed_time(options.selection.kvno, now) {
+        Ok(time) => time,
+        Err(error) => return end_before(error, None, world),
+    };
+    if is_one_missing(names, world) {
+        return 1;
     }
+    let command = RemoveEntries {
+        options,
+        time,
+        are_several: names.len() > 1,
+    };
+    let ran = run_over(alloc, &command, FilesSeen::None, names, world);
+    end_removals(FileKind::Keytab, ran, world)
 }

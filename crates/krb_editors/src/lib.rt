@@ -10,6 +10,7 @@ mod ktcopy;
 mod ktdiff;
 mod ktedit;
 mod ktremove;
+mod missing_files;
 mod removing;
 mod selecting;
 

@@ -5,6 +5,8 @@ use Rattle.krb_walk.specs.declared.fault.FaultKind.TheVariants.{CutLength}
 use Rattle.krb_files.specs.declared.aftermath.Aftermath.TheVariants.{LostChange, Mixed, Restored}
 use Rattle.krb_files.specs.declared.files.LoadFault.TheVariants.{Missing}
 use Rattle.krb_files.specs.declared.files.SaveFault.TheVariants as save
+use Rattle.krb_files.specs.declared.node.Node.TheVariants.{Nothing, PlainFile, Folder, Unknown}
+use Rattle.krb_files.specs.Files.{node_of}
 use Rattle.krb_files.specs.Bytes.{Watch}
 use Rattle.krb_driver.specs.declared.error.RunError.TheVariants as error
 use Rattle.krb_driver.specs.declared.file_name.FileName.{FileName}
@@ -18,6 +20,7 @@ use Rattle.krb_editors.specs.declared.ccremove.TicketOptions.{TicketOptions}
 use Rattle.krb_editors.specs.declared.hold.words.HoldKind.TheVariants.{Keytab, Cache}
 use Rattle.krb_editors.specs.Hold.{frame, most_frame, about_end, ending_of, held_in, received}
 use Rattle.krb_editors.specs.Ktremove.{needed_time}
+use Rattle.krb_editors.specs.MissingFiles.{is_missing}
 use Rattle.krb_ktutil.specs.KtutilTalk.{first_talk}
 use Rattle.samples.proofs.Given.{hex, two}
 use Rattle.samples.proofs.Unfolded.{on_literals}
@@ -56,6 +59,18 @@ first-status state world = refl
 -- ktutil begins with an empty list
 first-list : {F : Type 0} (order : Order) (files : F) (out : Watch) (err : ErrorWatch) → (first_talk order files out err).state.entries ≡ []
 first-list order files out err = refl
+
+-- ---- files that are missing
+
+nothing-there : map node_of (None ∷ Some [] ∷ []) ≡ Nothing ∷ PlainFile ∷ []
+nothing-there = refl
+
+-- a file of another type is missing, whatever lies there; any other is where nothing does
+other-type : (file : FileName) → file.is_other_type ≡ true → is_missing file PlainFile ≡ true
+other-type file is = rw is refl
+
+no-such-file : (file : FileName) → file.is_other_type ≡ false → map (is_missing file) (Nothing ∷ Folder ∷ Unknown ∷ []) ≡ true ∷ false ∷ false ∷ []
+no-such-file file is = rw is refl
 
 -- ---- the clock
 

@@ -14,12 +14,13 @@ use crate::verdict::FileKind;
 
 const COLLECTION: &str = "a collection; give one of its caches, DIR::FILE";
 
-// Returns the words that tell where a file's name comes from, if no word of a line gave it.
+// Returns the words that tell where a file's name comes from, if no word of a line gave it; or how a principal is named.
 fn source_line(source: NameSource) -> &'static str
     ensures { result.now ≡ source_words source }
 {
     match source {
         NameSource::Word => "",
+        NameSource::LikePrincipal => "krbfile: to name a principal, give -p\n",
         NameSource::CacheVariable => "krbfile: KRB5CCNAME names it\n",
         NameSource::KeytabVariable => "krbfile: KRB5_KTNAME names it\n",
         NameSource::Default => "krbfile: the default name (krb5.conf is not read); give FILE\n",

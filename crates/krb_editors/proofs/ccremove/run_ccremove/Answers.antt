@@ -1,11 +1,24 @@
-use Rattle.krb_editors.proofs.Cited.{sym, ◌∙◌}
+use Rattle.krb_editors.proofs.Cited.{refl, sym, ◌∙◌}
 use Rattle.krb_editors.proofs.ccremove.run_ccremove.Goals as goal
 
-pub returns-in-Ok : goal.returns-in-Ok
-returns-in-Ok g c = rw (sym c.ended_by.ensures ∙ c.in-Ok.is) (record {
-  most = c.run_over-ran.result.state;
-  between = c.run_over-ran.new.world;
-  worst = c.run_over-ran.result.status;
-  over = c.run_over-ran.ensures;
-  ends = c.end_removals.ensures;
+pub returns-then-is_one_missing : goal.returns-then-is_one_missing
+returns-then-is_one_missing g c = rw (sym c.ended_by.ensures ∙ c.in-Ok.is) (record {
+  looked = c.is_one_missing.new.world;
+  missing = c.is_one_missing.result;
+  looks = c.is_one_missing.ensures;
+  removes = rw c.if-is_one_missing.true (refl, refl);
+})
+
+pub returns : goal.returns
+returns g c = rw (sym c.ended_by.ensures ∙ c.in-Ok.is) (record {
+  looked = c.is_one_missing.new.world;
+  missing = c.is_one_missing.result;
+  looks = c.is_one_missing.ensures;
+  removes = rw c.if-is_one_missing.false (record {
+    most = c.run_over-ran.result.state;
+    between = c.run_over-ran.new.world;
+    worst = c.run_over-ran.result.status;
+    over = c.run_over-ran.ensures;
+    ends = c.end_removals.ensures;
+  });
 })

@@ -1,0 +1,71 @@
+//! Looks for several files before anything is done with one of them.
+
+ghost use Rattle.std.specs.Prelude.{◌≡◌};
+ghost use Rattle.krb_editors.specs.MissingFiles.{LooksAt, LooksFirst, LooksFor, is_missing, missing_error};
+
+use krb_driver::{Details, ErrorOutput, FileName, RunError, World, report};
+use krb_files::{Files, Node};
+use std::io::{Read, Write};
+
+// Returns whether a load would find no file of that name, under which that lies.
+fn is_missing(file: FileName<'_>, node: Node) -> bool
+    ensures { result ≡ is_missing file.entry node }
+{
+    file.is_other_type || matches!(node, Node::Nothing)
+}
+
+// Returns the error of that load.
+fn missing_error(file: FileName<'_>) -> RunError
+    ensures { result ≡ missing_error file.entry }
+{
+    if file.is_other_type {
+        RunError::OtherType(file.kind, file.source)
+    } else {
+        RunError::NoSuchFile(file.source)
+    }
+}
+
+// Looks for a file, and reports it if it is missing. Returns whether it is.
+fn look_for<F: Files, E: Write>(files: &F, file: FileName<'_>, err: &mut ErrorOutput<E>) -> bool
+    ensures { LooksAt F.Files files.now file.entry err.old err.new result }
+{
+    let node = files.node(file.name);
+    if !is_missing(file, node) {
+        return false;
+    }
+    let error = Err(missing_error(file));
+    report(
+        error,
+        file.name.as_bytes(),
+        None,
+        Details::unsaved(None),
+        err,
+    );
+    true
+}
+
+// Looks for each of these files, and reports those that are missing. Returns whether there are any.
+fn look_for_all<F: Files, E: Write>(
+    files: &F,
+    names: &[FileName<'_>],
+    err: &mut ErrorOutput<E>,
+) -> bool
+    ensures { LooksFor F.Files files.now names.now err.old err.new result }
+{
+    let mut is_one_missing = false;
+    'names: for file in names {
+        is_one_missing |= look_for(files, *file, err);
+    }
+    is_one_missing
+}
+
+/// Returns whether one of several files is missing, and reports each that is. No file is held or loaded: a principal that
+/// is given without `-p`, among the files, must not cost the keys of all others.
+pub fn is_one_missing<F: Files, R: Read, W: Write, E: Write>(
+    names: &[FileName<'_>],
+    world: &mut World<F, R, W, E>,
+) -> bool
+    ensures { LooksFirst F.Files names.now world.old world.new result }
+{
+    names.len() > 1 && look_for_all(&world.files, names, &mut world.err)
+}
