@@ -31,6 +31,14 @@ TOLD = ["removed 22 @R", "removed 115 /krbtgt@R", "removed 222 KRBTGT/R@R", "rem
         r"removed 434 krbtgt\/R@R"]
 GRANTING = tickets((b"krbtgt",), (b"krbtgt", b"S"), (b"krbtgt", b"a", b"b"))
 
+# A user's credentials as gssproxy keeps them, which only their name asks for, as another of its realm, and a ticket
+# without an end.
+KEPT = replace(TICKET, server=Name((b"Encrypted", b"Credentials", b"v1"), b"X-GSSPROXY:"), enctype=0, key=b"",
+               authtime=0, endtime=0, flags=0)
+KEPT_TOO = replace(TICKET, server=Name((), b"X-GSSPROXY:"))
+BY_NAME = "-p Encrypted/Credentials/v1@X-GSSPROXY:"
+ENDLESS = replace(TICKET, endtime=0)
+
 
 def remove(words: str, wanted: Outcome | list[str], *left: object) -> Case:
     """Returns a run of ccremove with these words before the file, and what is left then, if anything goes."""
@@ -49,5 +57,12 @@ CASES = [
     remove("--all-services -p krbtgt/R@R", message(1, "c: refused 9")),
     over("services alone", "ccremove --all-services c", cache(*SERVICES, *GRANTING, PA_TYPE), TOLD,
          cache(*GRANTING, PA_TYPE)),
+    *(over(f"gssproxy's alone by {words}", f"ccremove {words} c", cache(KEPT), wanted) for words, wanted in (
+        ("--expired", []), (f"--expired {BY_NAME}", []), ("--all-services", message(1, "c: refused 9")),
+        ("--expired --all-services", message(1, "c: refused 9")))),
+    over("gssproxy's by name", f"ccremove --all-services {BY_NAME} c", cache(KEPT, KEPT_TOO),
+         ["removed 22 Encrypted/Credentials/v1@X-GSSPROXY:"], cache(KEPT_TOO)),
+    *(over(f"all but gssproxy's by {words}", f"ccremove {words} c", cache(KEPT, of_host(), KEPT_TOO, ENDLESS),
+           ["removed 143 host/a@R"], cache(KEPT, KEPT_TOO, ENDLESS)) for words in ("--expired", "--all-services")),
     over("no service has expired", "ccremove --all-services --expired c", cache(TICKET, LATER_HOST), []),
 ]

@@ -27,7 +27,8 @@ WANTED = ("a@R", r"\a@R", "a/b@R", "@R", r"a\/b@R", r"é\t@R", "c@R")
 # The names of servers, some of which print alike.
 SERVERS = [*[Name((b"krbtgt", b"R"))] * 3, Name((b"host", b"a")), Name((b"host", b"a"), name_type=3),
            Name((b"host/a",)), Name(()), Name((b"",)), Name((b"a\n@",), b"R@S"),
-           Name((CONFIG_FIRST, b"k"), CONFIG_REALM), Name((CONFIG_FIRST,), CONFIG_REALM)]
+           Name((CONFIG_FIRST, b"k"), CONFIG_REALM), Name((CONFIG_FIRST,), CONFIG_REALM),
+           *[Name((b"Encrypted",), b"X-GSSPROXY:")] * 2]
 
 # The names of keytabs and of caches that are listed: mostly one, some of several that are missing or of another type.
 SEVERAL = [("k",), ("k",), ("k", "j"), ("no", "k", "k"), ("KCM:k", "j", "FILE:k")]

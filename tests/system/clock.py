@@ -48,7 +48,8 @@ ENDED = (
                   "--explain klist -s c")),
 )
 
-# A ticket ends at each of these seconds; the first one that is left at a time is that of its index.
+# A ticket ends at each of these seconds, but the first never; the first other one that is left at a time is that of its
+# index.
 ENDS = (0, 1, 1_700_000_000, 2**31, 2**32 - 2, 2**32 - 1)
 LEFT = ((1, 2), (1_699_999_999, 2), (1_700_000_000, 3), (1_700_000_001, 3), (2**31 - 1, 3), (2**31, 4),
         (2**32 - 2, 5), (2**32 - 1, 6))
@@ -73,8 +74,8 @@ def expired() -> Iterator[Row]:
     """Yields removals of tickets: each has expired from the second in which it ends."""
     tickets = [replace(TICKET, endtime=end) for end in ENDS]
     for now, count in LEFT:
-        removed = [f"removed {22 + 108 * number} krbtgt/R@R" for number in range(count)]
-        before, after = (cache(*tickets[at:]) for at in (0, count))
+        removed = [f"removed {22 + 108 * number} krbtgt/R@R" for number in range(1, count)]
+        before, after = cache(*tickets), cache(tickets[0], *tickets[count:])
         yield over(f"expired at {now}", f"{EXPIRED} c", before, removed, after), {"CLOCK": now}
 
 

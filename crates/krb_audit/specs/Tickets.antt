@@ -1,5 +1,5 @@
 -- Which tickets of a cache are selected.
-use Rattle.std.specs.Prelude.{◌≡◌, ℕ, List, ◌++◌, decimal, codes, Bool, true, false, not, ◌&&◌, ◌||◌, nat_le, filter, map, slice_get, Option, None, Some}
+use Rattle.std.specs.Prelude.{◌≡◌, ℕ, List, [], ◌++◌, decimal, codes, Bool, true, false, not, ◌&&◌, ◌||◌, ◌==◌, nat_le, filter, map, slice_get, Option, None, Some}
 use Rattle.std.specs.List.{flat_map, list_any}
 use Rattle.std.specs.Option.{option_map_or}
 use Rattle.std.specs.Str.{bytes_eq}
@@ -15,14 +15,23 @@ use Rattle.krb_audit.specs.Selection.{has_text}
 abbrev pub is_service : Parts → Bool
 is_service p = not (option_map_or (λ first. bytes_eq first (codes "krbtgt")) (slice_get p.components 0) false)
 
--- a credential is a ticket, of a service if only those are selected, and its server prints as a selected name, if any are given
-abbrev pub names_ticket : List (List ℕ) → Bool → CredParts → Bool
-names_ticket servers services c = not (is_config c) && ((not services || is_service c.server) && has_text servers c.server)
+-- a server has the realm under which gssproxy keeps a user's credentials
+abbrev pub is_of_gssproxy : Parts → Bool
+is_of_gssproxy p = bytes_eq p.realm (codes "X-GSSPROXY:")
 
--- a credential's end time is at or before a second, if one is given
+-- a server prints as a selected name; if none are given, it is any that is not of gssproxy
+abbrev pub is_selected_server : List (List ℕ) → Parts → Bool
+is_selected_server [] p = not (is_of_gssproxy p)
+is_selected_server servers p = has_text servers p
+
+-- a credential is a ticket, of a service if only those are selected, for a selected server
+abbrev pub names_ticket : List (List ℕ) → Bool → CredParts → Bool
+names_ticket servers services c = not (is_config c) && ((not services || is_service c.server) && is_selected_server servers c.server)
+
+-- a credential has an end time, which is at or before a second, if one is given; without one it does not end
 abbrev pub has_ended_by : Option ℕ → CredParts → Bool
 has_ended_by None c = true
-has_ended_by (Some now) c = nat_le c.times.endtime now
+has_ended_by (Some now) c = not (c.times.endtime == 0) && nat_le c.times.endtime now
 
 -- the selected tickets among some credentials
 abbrev pub tickets_among : List (List ℕ) → Bool → Option ℕ → List PlacedCredential → List PlacedCredential

@@ -5,7 +5,7 @@ ghost use Rattle.krb_audit.specs.Selection.{has_selected_enctype, is_named, has_
 ghost use Rattle.std.specs.List.{list_any};
 ghost use Rattle.std.specs.Str.{bytes_eq};
 ghost use Rattle.std.specs.Vec.{vec_items};
-ghost use Rattle.krb_audit.specs.Tickets.{has_ended_by, is_service, names_ticket};
+ghost use Rattle.krb_audit.specs.Tickets.{has_ended_by, is_of_gssproxy, is_selected_server, is_service, names_ticket};
 
 use crate::selection::Selection;
 use crate::tickets::TicketCriteria;
@@ -77,6 +77,27 @@ fn is_service(server: &PrincipalView<'_>) -> bool
         .is_none_or(|first| first != b"krbtgt".as_slice())
 }
 
+// Returns whether a server has the realm under which gssproxy keeps a user's credentials.
+fn is_of_gssproxy(server: &PrincipalView<'_>) -> bool
+    ensures { result ≡ is_of_gssproxy server.now }
+{
+    server.realm() == b"X-GSSPROXY:".as_slice()
+}
+
+// Returns whether a server prints as one of those, or is any but gssproxy's if there are none.
+fn is_selected_server<A: Allocator, B: Allocator>(
+    servers: &[Vec<u8, B>],
+    server: &PrincipalView<'_>,
+    printed: &mut Vec<u8, A>,
+) -> Result<bool, NoMemory>
+    ensures { IfOk result (λ b. b ≡ is_selected_server (map vec_items servers.now) server.now) }
+{
+    if servers.is_empty() {
+        return Ok(!is_of_gssproxy(server));
+    }
+    has_text(servers, server, printed)
+}
+
 /// Returns whether a credential is a ticket that meets the criteria, whatever its end time. Prints its server over
 /// `printed` if that matters.
 pub fn names_ticket<A: Allocator, B: Allocator>(
@@ -92,15 +113,16 @@ pub fn names_ticket<A: Allocator, B: Allocator>(
     if criteria.all_services && !is_service(credential.server()) {
         return Ok(false);
     }
-    has_text(criteria.servers, credential.server(), printed)
+    is_selected_server(criteria.servers, credential.server(), printed)
 }
 
-/// Returns whether a credential's end time is at or before the given second. True if none is given.
+/// Returns whether a credential has ended at or before the given second, as one without an end never does. True if no
+/// second is given.
 pub fn has_ended_by(ended_by: Option<u32>, credential: &CredView<'_>) -> bool
     ensures { result ≡ has_ended_by ended_by credential.now }
 {
     match ended_by {
-        Some(now) => credential.endtime() <= now,
+        Some(now) => credential.endtime() != 0 && credential.endtime() <= now,
         None => true,
     }
 }

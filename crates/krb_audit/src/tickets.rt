@@ -28,7 +28,7 @@ fn append_removed<A: Allocator>(
 /// Which tickets of a cache are selected: those that meet all criteria given.
 #[derive(Clone, Copy)]
 pub struct TicketCriteria<'s, B: Allocator> {
-    /// The servers as they are printed; an empty list selects any.
+    /// The servers as they are printed; an empty list selects any but those of gssproxy.
     pub servers: &'s [Vec<u8, B>],
     /// Only tickets of services: not those of the ticket-granting service.
     pub all_services: bool,
