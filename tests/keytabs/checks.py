@@ -106,3 +106,5 @@ def check(report: Report, program: str) -> None:
             for name in ("k", "link"):
                 got = run(program, ("ktcheck", name), folder)
                 report.compare(f"mode {mode:o} of {name}", printed(*lines, status=status or 0), got)
+            report.compare(f"mode {mode:o} with -q", printed(*lines * (status == 1), status=status or 0),
+                           run(program, ("ktcheck", "-q", "k"), folder))

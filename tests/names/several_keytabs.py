@@ -4,6 +4,7 @@ allowed, JSON, and what ends the run."""
 import os
 from dataclasses import replace
 
+from keytabs.checks import as_json
 from keytabs.removals import FIVE
 from makers.images import B, HOST, TWO, hole, keytab
 from names.named_files import NEITHER
@@ -27,6 +28,7 @@ EMPTY = "entries 0 free 0 holes 0"
 ALL = ["mode 644", *(f"{word} kvno 3 etype 23 host/a@R" for word in (
     "weak 2", "size 2", "hidden 2", "old 2", "weak 37", "clash 37 2", "old 37", "weak 88", "size 88", "same 88 2",
     "old 88")), "entries 4 free 0 holes 0"]
+COUNTED = [line for line in ALL if line[:3] not in ("wea", "old")]
 ASKED = [*ALL[:-1], "aged 123 kvno 5 etype 17 host/a@R", "missing c@R", ALL[-1]]
 IN_ALL = tuple(each for each in FINDINGS if each != "empty")
 
@@ -84,14 +86,18 @@ CASES = [
         d=["missing c@R", "missing b@R", "missing @R", *BROKEN], k=["missing c@R", "missing @R", SOUND],
         z=["missing c@R", "missing b@R", "missing @R", "fault 1 at 2", EMPTY]),
         *words("n", "missing", "empty"), *fault("d"), *fault("z", 2), status=1),
-    # A file without any other finding has no line; what is allowed, old, or a mode has one.
-    check_up("-q --allow weak k no e o w", labelled(o=OLD, w=WEAK), MISSING, *words("o", "old"), *words("w", "weak"),
-             status=1),
+    # What does not count has no line, nor words; a file without another line has none at all, and no object.
+    check_up("-q --allow weak k no e o w", [], MISSING, status=1),
+    check_up("-q --allow weak o w all d n", labelled(all=COUNTED, d=BROKEN, n=["empty", EMPTY]),
+             *words("all", "hidden", "same", "clash", "mode", "size"), *fault("d"), *words("n", "empty"), status=1),
+    check_up("-q -H --allow empty --allow missing --want c@R n", []),
+    check_up("-q --json --allow weak o w all", [as_json("all", "644", text(ALL), 1).decode()[:-1]],
+             *words("all", "hidden", "same", "clash", "mode", "size"), status=1),
     # What is allowed has its lines, and only other findings count for the status.
     *(check_up(" ".join(["--older 1 --want c@R all", *(f"--allow {it}" for it in FINDINGS if it != counted)]), ASKED,
                *words("all", *IN_ALL), status=int(counted not in ("", "old"))) for counted in ("", *IN_ALL)),
     # An output that takes nothing ends the run with the first file of which something would be printed.
     *(check_up(line, [], *told, status=status, options=FULL) for line, told, status in (
-        ("no k x", [MISSING, FAILED], 3), ("--json k no", [FAILED], 3), ("--json -q k e", [], 0),
-        ("-q no k . w x", [MISSING, UNREAD, FAILED], 3))),
+        ("no k x", [MISSING, FAILED], 3), ("--json k no", [FAILED], 3), ("--json -q k e o", [], 0),
+        ("-q no k . o w x", [MISSING, UNREAD, FAILED], 3))),
 ]

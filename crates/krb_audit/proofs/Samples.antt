@@ -6,7 +6,7 @@ use Rattle.krb_audit.specs.Table.{none, with_if}
 use Rattle.krb_audit.specs.declared.finding.Finding.TheVariants.{Weak, Size, Hidden, Clash, Old}
 
 -- what is found about an entry has its order: weak, size, hidden, same or clash, old, aged
-pub order : finding_lines [] (
+pub order : finding_lines [] none (
   (9, record { principal = record { name_type = 1; realm = codes "R"; components = codes "a" ∷ [] }; timestamp = 0; version = 1; enctype = 23; key = [] }),
   record { findings = with_if true Old (with_if true Clash (with_if true Hidden (with_if true Size (with_if true Weak none)))); first = Some 2 },
 )

@@ -15,7 +15,7 @@ use Rattle.krb_audit.specs.declared.finding.TheConstants.{FINDINGS}
 use Rattle.krb_audit.specs.declared.finding_set.FindingSet.{FindingSet}
 use Rattle.krb_audit.specs.declared.weak_etypes.WeakEtypes.{WeakEtypes}
 use Rattle.krb_audit.specs.Findings.{Marked, reported, weak_among}
-use Rattle.krb_audit.specs.Table.{has, has_some, joined, none, row_of, with_if}
+use Rattle.krb_audit.specs.Table.{has_some, joined, none, row_of, with_if, without}
 
 -- ---- the mode
 
@@ -96,19 +96,15 @@ abbrev pub findings_of : CheckParts → FindingSet
 findings_of c =
     with_if (nat_lt 0 (length c.missing)) Missing (with_if c.is_empty Empty (with_if (has_mode is_open c.mode) Mode (about_entries c.entries)))
 
--- nothing is found
-abbrev pub is_well : CheckParts → Bool
-is_well c = not (has_some (findings_of c) || is_some c.fault)
-
 -- a finding makes the status 1: a mode does if others may read or write the file
 abbrev pub counts_at : Option ℕ → Finding → Bool
 counts_at mode Mode = has_mode is_open_to_all mode
 counts_at mode finding = (row_of finding).counts
 
--- one of these findings makes the status 1 and is not allowed
-abbrev pub some_counts : Option ℕ → FindingSet → FindingSet → Bool
-some_counts mode allowed s = list_any (λ f. has s f && (not (has allowed f) && counts_at mode f)) FINDINGS
+-- the findings that do not count for the status: those that are allowed, and those that do not make it 1
+abbrev pub uncounted : Option ℕ → FindingSet → FindingSet
+uncounted mode allowed = fold (λ s f. with_if (not (counts_at mode f)) f s) allowed FINDINGS
 
--- something is wrong: such a finding, or a fault
+-- something is wrong: a finding that counts, or a fault
 abbrev pub is_wrong : FindingSet → CheckParts → Bool
-is_wrong allowed c = some_counts c.mode allowed (findings_of c) || is_some c.fault
+is_wrong allowed c = has_some (without (findings_of c) (uncounted c.mode allowed)) || is_some c.fault

@@ -1,5 +1,5 @@
 -- The lines that report what a check of a keytab finds.
-use Rattle.std.specs.Prelude.{ℕ, zero, suc, ◌/◌, ◌%◌, ◌+◌, List, [], ◌∷◌, ◌++◌, codes, decimal, Bool, ◌==◌, if◌then◌else◌, Option, None, Some}
+use Rattle.std.specs.Prelude.{ℕ, zero, suc, ◌/◌, ◌%◌, ◌+◌, List, [], ◌∷◌, ◌++◌, codes, decimal, Bool, not, ◌&&◌, ◌==◌, if◌then◌else◌, Option, None, Some}
 use Rattle.std.specs.List.{flat_map}
 use Rattle.krb_walk.specs.declared.fault.Fault.{Fault}
 use Rattle.krb_keytab.specs.Find.{PlacedEntry}
@@ -8,6 +8,7 @@ use Rattle.krb_audit.specs.declared.counts.Counts.{Counts}
 use Rattle.krb_audit.specs.declared.finding.Finding.TheVariants.{Mode, Missing, Empty}
 use Rattle.krb_audit.specs.declared.finding.Finding.{Finding}
 use Rattle.krb_audit.specs.declared.finding.TheConstants.{ABOUT_ENTRIES}
+use Rattle.krb_audit.specs.declared.finding_set.FindingSet.{FindingSet}
 use Rattle.krb_audit.specs.CheckUp.{CheckParts, is_open}
 use Rattle.krb_audit.specs.Findings.{Marked}
 use Rattle.krb_audit.specs.Table.{first_for, has, row_of}
@@ -21,10 +22,12 @@ octal (suc places) n = if n == 0 then [] else octal places (n / 8) ++ (48 + n % 
 abbrev pub mode_digits : ℕ → List ℕ
 mode_digits mode = if mode % 0o10000 == 0 then codes "0" else octal 4 (mode % 0o10000)
 
+-- ---- the lines, but for those of the findings that are left out
+
 -- the line of a mode, if group or others may read or write
-abbrev pub mode_line : List ℕ → Option ℕ → List ℕ
-mode_line label None = []
-mode_line label (Some mode) = if is_open mode then label ++ ((row_of Mode).word ++ (codes " " ++ (mode_digits mode ++ codes "\n"))) else []
+abbrev pub mode_line : List ℕ → FindingSet → Option ℕ → List ℕ
+mode_line label left_out None = []
+mode_line label left_out (Some mode) = if is_open mode && not (has left_out Mode) then label ++ ((row_of Mode).word ++ (codes " " ++ (mode_digits mode ++ codes "\n"))) else []
 
 -- the rest of the line of a finding about an entry: its place, that of the first entry that is alike, if it is about that, and its tail
 abbrev pub placed_rest : Option ℕ → PlacedEntry → List ℕ
@@ -32,20 +35,24 @@ placed_rest None x = placed_line (codes " ") x
 placed_rest (Some first) x = codes " " ++ (decimal x.0 ++ placed_line (codes " ") (first, x.1))
 
 -- the line of a finding, if it is found about an entry
-abbrev pub finding_line : List ℕ → Marked → Finding → List ℕ
-finding_line label m finding = if has m.1.findings finding then label ++ ((row_of finding).word ++ placed_rest (first_for m.1 finding) m.0) else []
+abbrev pub finding_line : List ℕ → FindingSet → Marked → Finding → List ℕ
+finding_line label left_out m finding = if has m.1.findings finding && not (has left_out finding) then label ++ ((row_of finding).word ++ placed_rest (first_for m.1 finding) m.0) else []
 
 -- the lines of what is found about an entry
-abbrev pub finding_lines : List ℕ → Marked → List ℕ
-finding_lines label m = flat_map (finding_line label m) ABOUT_ENTRIES
+abbrev pub finding_lines : List ℕ → FindingSet → Marked → List ℕ
+finding_lines label left_out m = flat_map (finding_line label left_out m) ABOUT_ENTRIES
 
 -- the line of a keytab without an entry
-abbrev pub empty_line : List ℕ → Bool → List ℕ
-empty_line label is_empty = if is_empty then label ++ ((row_of Empty).word ++ codes "\n") else []
+abbrev pub empty_line : List ℕ → FindingSet → Bool → List ℕ
+empty_line label left_out is_empty = if is_empty && not (has left_out Empty) then label ++ ((row_of Empty).word ++ codes "\n") else []
 
 -- the line of a name that is missing
 abbrev pub missing_line : List ℕ → List ℕ → List ℕ
 missing_line label text = label ++ ((row_of Missing).word ++ (codes " " ++ (text ++ codes "\n")))
+
+-- the lines of the names that are missing
+abbrev pub missing_lines : List ℕ → FindingSet → List (List ℕ) → List ℕ
+missing_lines label left_out names = if has left_out Missing then [] else flat_map (missing_line label) names
 
 -- the line of a fault, if there is one
 abbrev pub labelled_fault : List ℕ → Option Fault → List ℕ
@@ -58,8 +65,8 @@ count_line label c =
     label ++ (codes "entries " ++ (decimal c.entries ++ (codes " free " ++ (decimal c.free ++ (codes " holes " ++ (decimal c.holes ++ codes "\n"))))))
 
 -- the report of a check, each line after a label
-abbrev pub report : List ℕ → CheckParts → List ℕ
-report label c =
-    mode_line label c.mode
-    ++ (flat_map (finding_lines label) c.entries
-    ++ (empty_line label c.is_empty ++ (flat_map (missing_line label) c.missing ++ (labelled_fault label c.fault ++ count_line label c.counts))))
+abbrev pub report : List ℕ → FindingSet → CheckParts → List ℕ
+report label left_out c =
+    mode_line label left_out c.mode
+    ++ (flat_map (finding_lines label left_out) c.entries
+    ++ (empty_line label left_out c.is_empty ++ (missing_lines label left_out c.missing ++ (labelled_fault label c.fault ++ count_line label c.counts))))

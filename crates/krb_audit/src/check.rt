@@ -2,7 +2,7 @@
 
 ghost use Rattle.std.specs.Prelude.{◌≡◌, IfOk, map};
 ghost use Rattle.std.specs.Vec.{vec_items};
-ghost use Rattle.krb_audit.specs.CheckUp.{about_entries, checked, findings_of, is_empty, is_well, is_wrong};
+ghost use Rattle.krb_audit.specs.CheckUp.{about_entries, checked, findings_of, is_empty, is_wrong, uncounted};
 
 use crate::counts::{Counts, counts_of};
 use crate::finding::Finding;
@@ -105,18 +105,18 @@ impl<'k, A: Allocator> CheckUp<'k, A> {
         self.findings
     }
 
-    /// Returns whether nothing is found.
-    pub fn is_well(&self) -> bool
-        ensures { result ≡ is_well self.now }
+    /// Returns the findings that do not count for the status: those that are allowed, and those that do not make it 1.
+    pub fn uncounted(&self, allowed: FindingSet) -> FindingSet
+        ensures { result ≡ uncounted self.now.mode allowed }
     {
-        !(self.findings.has_some() || self.fault.is_some())
+        allowed.with_uncounted(self.mode)
     }
 
-    /// Returns whether something is wrong: a fault, or a finding that is not allowed and makes the status 1.
+    /// Returns whether something is wrong: a finding that counts for the status, or a fault.
     pub fn is_wrong(&self, allowed: FindingSet) -> bool
         ensures { result ≡ is_wrong allowed self.now }
     {
-        self.findings.some_counts(self.mode, allowed) || self.fault.is_some()
+        self.findings.without(self.uncounted(allowed)).has_some() || self.fault.is_some()
     }
 }
 

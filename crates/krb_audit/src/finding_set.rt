@@ -1,7 +1,7 @@
 //! Sets of findings.
 
 ghost use Rattle.std.specs.Prelude.{◌≡◌};
-ghost use Rattle.krb_audit.specs.CheckUp.{counts_at, some_counts};
+ghost use Rattle.krb_audit.specs.CheckUp.{counts_at, uncounted};
 ghost use Rattle.krb_audit.specs.Table.{has, has_some, joined, none, only_if, with_if, without};
 
 use crate::finding::{FINDINGS, Finding};
@@ -79,12 +79,14 @@ impl FindingSet {
         self.bits != 0
     }
 
-    /// Returns whether one of these findings makes the status 1 and is not allowed.
-    pub(crate) fn some_counts(self, mode: Option<u32>, allowed: FindingSet) -> bool
-        ensures { result ≡ some_counts mode allowed self }
+    /// Returns these findings, which are allowed, and those that do not make the status 1.
+    pub(crate) fn with_uncounted(self, mode: Option<u32>) -> FindingSet
+        ensures { result ≡ uncounted mode self }
     {
-        FINDINGS.iter().any(|finding| self.has(*finding)
-            && !allowed.has(*finding)
-            && counts_at(mode, *finding))
+        let mut uncounted = self;
+        'findings: for finding in &FINDINGS {
+            uncounted = uncounted.with_if(!counts_at(mode, *finding), *finding);
+        }
+        uncounted
     }
 }

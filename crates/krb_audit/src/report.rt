@@ -2,12 +2,13 @@
 
 ghost use Rattle.std.specs.Prelude.{◌≡◌, ◌++◌, OnOk, map};
 ghost use Rattle.std.specs.List.{flat_map};
-ghost use Rattle.krb_audit.specs.Report.{count_line, empty_line, finding_line, finding_lines, labelled_fault, missing_line, mode_line, placed_rest, report};
+ghost use Rattle.krb_audit.specs.Report.{count_line, empty_line, finding_line, finding_lines, labelled_fault, missing_line, missing_lines, mode_line, placed_rest, report};
 ghost use Rattle.krb_audit.specs.Table.{row_of};
 
 use crate::check::CheckUp;
 use crate::counts::Counts;
 use crate::finding::{ABOUT_ENTRIES, Finding};
+use crate::finding_set::FindingSet;
 use crate::findings::Marked;
 use crate::mode::{append_mode_digits, is_open};
 use krb_keytab::EntryView;
@@ -29,13 +30,14 @@ fn append_word<A: Allocator>(
 
 fn append_mode<A: Allocator>(
     label: &[u8],
+    left_out: FindingSet,
     mode: Option<u32>,
     out: &mut Vec<u8, A>,
 ) -> Result<(), NoMemory>
-    ensures { OnOk result (out.new.items ≡ out.old.items ++ mode_line label.now mode) }
+    ensures { OnOk result (out.new.items ≡ out.old.items ++ mode_line label.now left_out mode) }
 {
     match mode {
-        Some(mode) if is_open(mode) => {
+        Some(mode) if is_open(mode) && !left_out.has(Finding::Mode) => {
             append_word(label, Finding::Mode, out)?;
             append_byte(b' ', out)?;
             append_mode_digits(mode, out)?;
@@ -62,17 +64,18 @@ fn append_rest<A: Allocator>(
     }
 }
 
-// Appends the line of a finding, if it is found about the entry.
+// Appends the line of a finding, if it is found about the entry and not left out.
 fn append_finding<A: Allocator>(
     label: &[u8],
+    left_out: FindingSet,
     marked: &Marked<'_>,
     finding: Finding,
     out: &mut Vec<u8, A>,
 ) -> Result<(), NoMemory>
-    ensures { OnOk result (out.new.items ≡ out.old.items ++ finding_line label.now marked.now finding) }
+    ensures { OnOk result (out.new.items ≡ out.old.items ++ finding_line label.now left_out marked.now finding) }
 {
     let ((place, entry), marks) = marked;
-    if !marks.findings.has(finding) {
+    if !marks.findings.has(finding) || left_out.has(finding) {
         return Ok(());
     }
     append_word(label, finding, out)?;
@@ -81,38 +84,41 @@ fn append_finding<A: Allocator>(
 
 fn append_findings<A: Allocator>(
     label: &[u8],
+    left_out: FindingSet,
     marked: &Marked<'_>,
     out: &mut Vec<u8, A>,
 ) -> Result<(), NoMemory>
-    ensures { OnOk result (out.new.items ≡ out.old.items ++ finding_lines label.now marked.now) }
+    ensures { OnOk result (out.new.items ≡ out.old.items ++ finding_lines label.now left_out marked.now) }
 {
     'findings: for finding in &ABOUT_ENTRIES {
-        append_finding(label, marked, *finding, out)?;
+        append_finding(label, left_out, marked, *finding, out)?;
     }
     Ok(())
 }
 
 fn append_entries<A: Allocator>(
     label: &[u8],
+    left_out: FindingSet,
     entries: &[Marked<'_>],
     out: &mut Vec<u8, A>,
 ) -> Result<(), NoMemory>
-    ensures { OnOk result (out.new.items ≡ out.old.items ++ flat_map (finding_lines label.now) entries.now) }
+    ensures { OnOk result (out.new.items ≡ out.old.items ++ flat_map (finding_lines label.now left_out) entries.now) }
 {
     'entries: for marked in entries {
-        append_findings(label, marked, out)?;
+        append_findings(label, left_out, marked, out)?;
     }
     Ok(())
 }
 
 fn append_empty<A: Allocator>(
     label: &[u8],
+    left_out: FindingSet,
     is_empty: bool,
     out: &mut Vec<u8, A>,
 ) -> Result<(), NoMemory>
-    ensures { OnOk result (out.new.items ≡ out.old.items ++ empty_line label.now is_empty) }
+    ensures { OnOk result (out.new.items ≡ out.old.items ++ empty_line label.now left_out is_empty) }
 {
-    if !is_empty {
+    if !is_empty || left_out.has(Finding::Empty) {
         return Ok(());
     }
     append_word(label, Finding::Empty, out)?;
@@ -134,12 +140,16 @@ fn append_missing_name<A: Allocator>(
 
 fn append_missing<A: Allocator>(
     label: &[u8],
+    left_out: FindingSet,
     names: &[&[u8]],
     out: &mut Vec<u8, A>,
 ) -> Result<(), NoMemory>
     ensures { OnOk result (out.new.items
-        ≡ out.old.items ++ flat_map (missing_line label.now) (map (λ t. t.now) names.now)) }
+        ≡ out.old.items ++ missing_lines label.now left_out (map (λ t. t.now) names.now)) }
 {
+    if left_out.has(Finding::Missing) {
+        return Ok(());
+    }
     'names: for name in names {
         append_missing_name(label, name, out)?;
     }
@@ -174,19 +184,20 @@ fn append_counts<A: Allocator>(
     append_byte(b'\n', out)
 }
 
-/// Appends a line for each finding, one for the fault if there is one, and one that counts entries and holes. Each line
-/// begins with the label.
+/// Appends a line for each finding that is not left out, one for the fault if there is one, and one that counts entries
+/// and holes. Each line begins with the label.
 pub fn append_report<A: Allocator, B: Allocator>(
     label: &[u8],
+    left_out: FindingSet,
     found: &CheckUp<'_, B>,
     out: &mut Vec<u8, A>,
 ) -> Result<(), NoMemory>
-    ensures { OnOk result (out.new.items ≡ out.old.items ++ report label.now found.now) }
+    ensures { OnOk result (out.new.items ≡ out.old.items ++ report label.now left_out found.now) }
 {
-    append_mode(label, found.mode(), out)?;
-    append_entries(label, found.entries(), out)?;
-    append_empty(label, found.is_empty(), out)?;
-    append_missing(label, found.missing(), out)?;
+    append_mode(label, left_out, found.mode(), out)?;
+    append_entries(label, left_out, found.entries(), out)?;
+    append_empty(label, left_out, found.is_empty(), out)?;
+    append_missing(label, left_out, found.missing(), out)?;
     append_fault(label, found.fault(), out)?;
     append_counts(label, found.counts(), out)
 }

@@ -1,9 +1,9 @@
 -- What ktcheck shows of a file, as JSON, and of one that gave no keytab.
 use Rattle.std.proofs.Common.{◌≡◌, ℕ, List, [], cond, inr, refl, sym, ap, subst}
-use Rattle.std.specs.Prelude.{Bool, true, false, ◌&&◌, IsFalse, Ok, Err}
+use Rattle.std.specs.Prelude.{Bool, true, false, IsFalse, Ok, Err}
 use Rattle.std.specs.Io.KnownBytes.{Appends}
 use Rattle.krb_audit.specs.declared.finding_set.FindingSet.{FindingSet}
-use Rattle.krb_audit.specs.CheckUp.{CheckParts, is_well}
+use Rattle.krb_audit.specs.CheckUp.{CheckParts}
 use Rattle.krb_driver.specs.declared.error.RunError.TheVariants.{NoMemory}
 use Rattle.krb_driver.specs.declared.file_name.FileName.{FileName}
 use Rattle.krb_driver.specs.declared.verdict.Verdict.{Verdict}
@@ -16,7 +16,7 @@ use Rattle.krb_files.specs.Plan.{Ends}
 use Rattle.krb_json.specs.Check.{check_json_text}
 use Rattle.krb_text.specs.Gathered.{Prints}
 use Rattle.krb_readers.specs.declared.ktcheck.words.CheckOptions.{CheckOptions}
-use Rattle.krb_readers.specs.Ktcheck.{found_verdict, object_page, refused_effect, unless_well}
+use Rattle.krb_readers.specs.Ktcheck.{found_verdict, is_silent, object_page, refused_effect}
 use Rattle.krb_readers.proofs.Listed.{ShowsPage-done, ShowsPage-failed, line-some}
 
 -- a file that gave no keytab ends the run
@@ -29,28 +29,28 @@ module _ {A : Type 0} (o : CheckOptions A) (explained : FindingSet) (file : List
   abbrev pub object : List ℕ
   object = check_json_text file c (verdict_status (found_verdict o explained c))
 
-  printed : (b : Bool) → (o.quiet && is_well c) ≡ b → unless_well o.quiet c object ≡ cond b [] object
+  printed : (b : Bool) → is_silent o c ≡ b → cond (is_silent o c) [] object ≡ cond b [] object
   printed b is = ap (λ (t : Bool). cond t [] object) is
 
   -- memory ran out before anything was printed
   pub object-unshown : (out : Watch) → IsFalse out.failed → ShowsPage out out (Err NoMemory) (object_page o explained file c)
-  object-unshown out well = inr (refl, record { ending_is = refl; well = well; prefix = AppendsPrefix-none out.contents (unless_well o.quiet c object) })
+  object-unshown out well = inr (refl, record { ending_is = refl; well = well; prefix = AppendsPrefix-none out.contents (cond (is_silent o c) [] object) })
 
   -- nothing is printed
-  pub object-silent : (out : Watch) (verdict : Verdict) → IsFalse out.failed → verdict ≡ found_verdict o explained c → (o.quiet && is_well c) ≡ true → ShowsPage out out (Ok verdict) (object_page o explained file c)
+  pub object-silent : (out : Watch) (verdict : Verdict) → IsFalse out.failed → verdict ≡ found_verdict o explained c → is_silent o c ≡ true → ShowsPage out out (Ok verdict) (object_page o explained file c)
   object-silent out verdict well is silent =
       ShowsPage-done (object_page o explained file c) out out (Ok verdict) well well
       (subst (λ (text : List ℕ). Appends out.contents out.contents text) (sym (printed true silent)) (Appends-nil out.contents)) (ap Ok is)
 
   -- the object was printed
-  pub object-shown : (out out' : Watch) (verdict : Verdict) → IsFalse out.failed → verdict ≡ found_verdict o explained c → (o.quiet && is_well c) ≡ false
+  pub object-shown : (out out' : Watch) (verdict : Verdict) → IsFalse out.failed → verdict ≡ found_verdict o explained c → is_silent o c ≡ false
       → Prints {T = Unit {0}} out out' (Ok tt) object → ShowsPage out out' (Ok verdict) (object_page o explained file c)
   object-shown out out' verdict well is told p =
       ShowsPage-done (object_page o explained file c) out out' (Ok verdict) well p.failed
       (subst (λ (text : List ℕ). Appends out.contents out'.contents text) (sym (printed false told)) p.ok) (ap Ok is)
 
   -- the output failed, or memory ran out, before its end
-  pub object-failed : (out out' : Watch) (fault : OutFault) → (o.quiet && is_well c) ≡ false → Prints {T = Unit {0}} out out' (Err fault) object → ShowsPage out out' (Err (output_error fault)) (object_page o explained file c)
+  pub object-failed : (out out' : Watch) (fault : OutFault) → is_silent o c ≡ false → Prints {T = Unit {0}} out out' (Err fault) object → ShowsPage out out' (Err (output_error fault)) (object_page o explained file c)
   object-failed out out' fault told p =
       subst (λ (text : List ℕ). ShowsPage out out' (Err (output_error fault)) (record { out = text; ending = Ok (found_verdict o explained c); takes = true })) (sym (printed false told))
       (ShowsPage-failed (Unit {0}) (record { out = object; ending = Ok (found_verdict o explained c); takes = true }) out out' fault refl (line-some _) p.prefix p.failed)

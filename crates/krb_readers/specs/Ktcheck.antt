@@ -1,5 +1,5 @@
 -- What ktcheck does, and what its words ask for.
-use Rattle.std.specs.Prelude.{◌≡◌, ℕ, ◌-◌, List, [], length, codes, map, Bool, true, ◌&&◌, ◌||◌, nat_le, nat_lt, if◌then◌else◌, Option, None, Some, is_none, Result, Ok, Err, fold}
+use Rattle.std.specs.Prelude.{◌≡◌, ℕ, ◌-◌, List, [], length, codes, map, Bool, true, not, ◌&&◌, ◌||◌, nat_le, nat_lt, if◌then◌else◌, Option, None, Some, is_none, Result, Ok, Err, fold}
 use Rattle.std.specs.List.{find}
 use Rattle.std.specs.Option.{option_map_or, option_or}
 use Rattle.std.specs.Str.{bytes_eq}
@@ -10,7 +10,7 @@ use Rattle.krb_files.specs.Plan.{Ends}
 use Rattle.krb_audit.specs.declared.finding.Finding.{Finding}
 use Rattle.krb_audit.specs.declared.finding.TheConstants.{FINDINGS}
 use Rattle.krb_audit.specs.declared.finding_set.FindingSet.{FindingSet}
-use Rattle.krb_audit.specs.CheckUp.{CheckParts, checked, findings_of, is_well, is_wrong}
+use Rattle.krb_audit.specs.CheckUp.{CheckParts, checked, findings_of, is_wrong, uncounted}
 use Rattle.krb_audit.specs.Report.{report}
 use Rattle.krb_audit.specs.Table.{joined, none, only_if, row_of, without}
 use Rattle.krb_json.specs.Check.{check_json_text, refused_json_text}
@@ -20,7 +20,7 @@ use Rattle.krb_driver.specs.declared.error.RunError.{RunError}
 use Rattle.krb_driver.specs.declared.error.RunError.TheVariants.{ClockNotRead, NoMemory}
 use Rattle.krb_driver.specs.declared.file_name.FileName.{FileName}
 use Rattle.krb_driver.specs.declared.verdict.Verdict.{Verdict}
-use Rattle.krb_driver.specs.declared.verdict.Verdict.TheVariants.{Well, Found}
+use Rattle.krb_driver.specs.declared.verdict.Verdict.TheVariants.{Found}
 use Rattle.krb_driver.specs.Commands.{CommandPlan, Displays, Effect, EndsBefore, Fails, Page, output_page, text, tries}
 use Rattle.krb_driver.specs.Loading.{keytab_in}
 use Rattle.krb_driver.specs.Mistakes.{ArePrintedNames, AreSpelledSeconds, Matched, MistakeParts, NoFinding, bad_name, bad_seconds, first_mistake, first_value, twice, v1_order}
@@ -32,11 +32,18 @@ use Rattle.krb_readers.specs.declared.ktcheck.words.CheckOptions.{CheckOptions}
 
 -- ---- a file
 
--- the verdict: `Well` if nothing is found; the findings to explain are those that were not explained before, and what is allowed is not wrong
+-- the findings that are left out: with `-q` those that do not count for the status
+abbrev pub left_out : {A : Type 0} → CheckOptions A → CheckParts → FindingSet
+left_out o c = if o.quiet then uncounted c.mode o.allowed else none
+
+-- nothing is printed of a file: with `-q` if nothing is wrong
+abbrev pub is_silent : {A : Type 0} → CheckOptions A → CheckParts → Bool
+is_silent o c = o.quiet && not (is_wrong o.allowed c)
+
+-- the verdict: the findings to explain are those that are not left out and were not explained before, and what is allowed is not wrong
 abbrev pub found_verdict : {A : Type 0} → CheckOptions A → FindingSet → CheckParts → Verdict
 found_verdict o explained c =
-    if is_well c then Well
-    else Found (record { words = without (findings_of c) explained; weak_etypes = c.weak_etypes; fault = c.fault; is_wrong = is_wrong o.allowed c; v1_order = o.v1_order })
+    Found (record { words = without (findings_of c) (joined (left_out o c) explained); weak_etypes = c.weak_etypes; fault = c.fault; is_wrong = is_wrong o.allowed c; v1_order = o.v1_order })
 
 -- what the lines of a file begin with: its name, if there are several files or the options ask for it
 abbrev pub has_names : {A : Type 0} → CheckOptions A → Bool → Bool
@@ -46,18 +53,18 @@ has_names o are_several = o.with_filename || are_several
 abbrev pub found : {A : Type 0} → CheckOptions A → Option ℕ → Option ℕ → KeytabState → CheckParts
 found o aged_by mode k = checked mode aged_by (map vec_items o.wanted.items) k
 
--- a text, but with `-q` nothing of a file about which nothing is found
-abbrev pub unless_well : Bool → CheckParts → List ℕ → List ℕ
-unless_well quiet c out = if quiet && is_well c then [] else out
+-- the lines of a file, each after a label
+abbrev pub lines_of : {A : Type 0} → CheckOptions A → List ℕ → CheckParts → List ℕ
+lines_of o label c = if is_silent o c then [] else report label (left_out o c) c
 
 -- the page of what is found, by lines
 abbrev pub lines_page : {A : Type 0} → CheckOptions A → Bool → FindingSet → List ℕ → CheckParts → Page
-lines_page o are_several explained file c = text (unless_well o.quiet c (report (label_of (has_names o are_several) file) c)) (found_verdict o explained c)
+lines_page o are_several explained file c = text (lines_of o (label_of (has_names o are_several) file) c) (found_verdict o explained c)
 
--- the page of what is found, as one JSON object
+-- the page of what is found, as one JSON object, from which nothing is left out
 abbrev pub object_page : {A : Type 0} → CheckOptions A → FindingSet → List ℕ → CheckParts → Page
 object_page o explained file c = record {
-  out = unless_well o.quiet c (check_json_text file c (verdict_status (found_verdict o explained c)));
+  out = if is_silent o c then [] else check_json_text file c (verdict_status (found_verdict o explained c));
   ending = Ok (found_verdict o explained c);
   takes = true;
 }

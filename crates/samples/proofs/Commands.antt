@@ -11,7 +11,8 @@ use Rattle.krb_audit.specs.Findings.{is_out}
 use Rattle.krb_audit.specs.Newest.{has_wrapped}
 use Rattle.krb_audit.specs.CheckUp.{checked}
 use Rattle.krb_audit.specs.Report.{report}
-use Rattle.krb_audit.specs.Tickets.{is_service, removed_ticket_line, selected_tickets}
+use Rattle.krb_audit.specs.Table.{none}
+use Rattle.krb_audit.specs.Tickets.{is_selected_server, is_service, removed_ticket_line, selected_tickets}
 use Rattle.krb_audit.specs.Selection.{has_selected_kvno, is_young}
 use Rattle.krb_copy.specs.Copying.{copy_run}
 use Rattle.krb_driver.specs.declared.command.RunEnd.{RunEnd}
@@ -73,7 +74,7 @@ found-damaged = refl
 
 -- what is found about a keytab whose file has a mode
 abbrev checked_lines : Option ℕ → List ℕ → List ℕ
-checked_lines mode image = report [] (checked mode None [] (keytab image))
+checked_lines mode image = report [] none (checked mode None [] (keytab image))
 
 -- `same`: the entry at the first place has the key of the one at the second
 check-same : checked_lines None (hex (codes "0502") ++ (host ++ host))
@@ -127,7 +128,7 @@ unfolding on_literals
 check-mode-bits = refl
 
 -- `aged`: at this second or before; `missing`: no entry of the name that is wanted, which counts once
-check-asked : report [] (checked None (Some 1700000000) (codes "c@R" ∷ codes "b@R" ∷ codes "c@R" ∷ []) (keytab two))
+check-asked : report [] none (checked None (Some 1700000000) (codes "c@R" ∷ codes "b@R" ∷ codes "c@R" ∷ []) (keytab two))
     ≡ codes "aged 2 kvno 3 etype 17 host/a@R\naged 53 kvno 3 etype 17 b@R\nmissing c@R\nentries 2 free 0 holes 0\n"
 unfolding on_literals
 check-asked = refl
@@ -288,6 +289,11 @@ remove-expired : map (λ now. flat_map removed_ticket_line (selected_tickets [] 
     ≡ [] ∷ codes "removed 40 krbtgt/R@R\n" ∷ []
 unfolding on_literals
 remove-expired = refl
+
+-- what gssproxy keeps is selected by its name alone
+remove-gssproxy : map (λ servers. is_selected_server servers (name (codes "a@X-GSSPROXY:"))) ([] ∷ (codes "a@X-GSSPROXY:" ∷ []) ∷ []) ≡ false ∷ true ∷ []
+unfolding on_literals
+remove-gssproxy = refl
 
 -- between programs an image is handed over after its length and a newline
 hold-frame : frame (hex (codes "0502")) ≡ hex (codes "320a0502")

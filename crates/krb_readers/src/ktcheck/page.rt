@@ -1,10 +1,8 @@
 //! What ktcheck shows of a file.
 
-ghost use Rattle.std.specs.Prelude.{◌≡◌, ◌++◌, ◌&&◌, IfOk, IsFalse, OnOk};
-ghost use Rattle.krb_audit.specs.CheckUp.{is_well};
-ghost use Rattle.krb_audit.specs.Report.{report};
+ghost use Rattle.std.specs.Prelude.{◌≡◌, ◌++◌, IfOk, IsFalse, OnOk};
 ghost use Rattle.krb_driver.specs.Commands.{ShowsPage, output_page};
-ghost use Rattle.krb_readers.specs.Ktcheck.{found, found_verdict, lines_page, object_page, refused_page, unless_well};
+ghost use Rattle.krb_readers.specs.Ktcheck.{found, found_verdict, is_silent, left_out, lines_of, lines_page, object_page, refused_page};
 
 use crate::ktcheck::words::CheckOptions;
 use krb_audit::{CheckUp, FindingSet, append_report, check_up};
@@ -37,6 +35,20 @@ pub enum CheckPage<'f, A: Allocator, B: Allocator> {
     Refused(RunError),
 }
 
+// Returns the findings that are left out: with `-q` those that do not count for the status.
+fn left_out<A: Allocator, B: Allocator>(
+    options: &CheckOptions<B>,
+    found: &CheckUp<'_, A>,
+) -> FindingSet
+    ensures { result ≡ left_out options.now found.now }
+{
+    if options.quiet {
+        found.uncounted(options.allowed)
+    } else {
+        FindingSet::none()
+    }
+}
+
 // Returns what is found, and whether something is wrong.
 fn verdict_of<A: Allocator, B: Allocator>(
     options: &CheckOptions<B>,
@@ -45,11 +57,10 @@ fn verdict_of<A: Allocator, B: Allocator>(
 ) -> Verdict
     ensures { result ≡ found_verdict options.now explained found.now }
 {
-    if found.is_well() {
-        return Verdict::Well;
-    }
     Verdict::Found(Findings {
-        words: found.findings().without(explained),
+        words: found
+            .findings()
+            .without(left_out(options, found).and(explained)),
         weak_etypes: found.weak_etypes(),
         fault: found.fault(),
         is_wrong: found.is_wrong(options.allowed),
@@ -57,26 +68,26 @@ fn verdict_of<A: Allocator, B: Allocator>(
     })
 }
 
-// Returns whether nothing is printed of a file: with `-q`, if nothing is found.
-fn is_silent<A: Allocator>(quiet: bool, found: &CheckUp<'_, A>) -> bool
-    ensures { result ≡ (quiet && is_well found.now) }
+// Returns whether nothing is printed of a file: with `-q`, if nothing is wrong.
+fn is_silent<A: Allocator, B: Allocator>(options: &CheckOptions<B>, found: &CheckUp<'_, A>) -> bool
+    ensures { result ≡ is_silent options.now found.now }
 {
-    quiet && found.is_well()
+    options.quiet && !found.is_wrong(options.allowed)
 }
 
-// Appends the lines of a file, but with `-q` none if nothing is found.
-fn append_lines<A: Allocator, B: Allocator>(
-    quiet: bool,
+// Appends the lines of a file, but with `-q` none if nothing is wrong.
+fn append_lines<A: Allocator, B: Allocator, C: Allocator>(
+    options: &CheckOptions<C>,
     label: &[u8],
     found: &CheckUp<'_, B>,
     out: &mut Vec<u8, A>,
 ) -> Result<(), NoMemory>
-    ensures { OnOk result (out.new.items ≡ out.old.items ++ unless_well quiet found.now (report label.now found.now)) }
+    ensures { OnOk result (out.new.items ≡ out.old.items ++ lines_of options.now label.now found.now) }
 {
-    if is_silent(quiet, found) {
+    if is_silent(options, found) {
         return Ok(());
     }
-    append_report(label, found, out)
+    append_report(label, left_out(options, found), found, out)
 }
 
 /// Checks a keytab in a plain file with that mode, and returns its lines.
@@ -99,14 +110,14 @@ pub fn check_lines<A: Allocator + Copy, B: Allocator>(
         &object.keytab,
     )?;
     let mut text = Vec::new(alloc);
-    append_lines(options.quiet, &label, &found, &mut text)?;
+    append_lines(options, &label, &found, &mut text)?;
     Ok(Output {
         verdict: verdict_of(options, object.explained, &found),
         text,
     })
 }
 
-// Checks a keytab, and prints it as JSON, but with `-q` nothing if nothing is found.
+// Checks a keytab, and prints it as JSON, but with `-q` nothing if nothing is wrong.
 fn show_object<A: Allocator + Copy, B: Allocator, W: Write>(
     alloc: A,
     object: &CheckObject<'_, A, B>,
@@ -126,7 +137,7 @@ fn show_object<A: Allocator + Copy, B: Allocator, W: Write>(
         &object.keytab,
     )?;
     let verdict = verdict_of(options, object.explained, &found);
-    if is_silent(options.quiet, &found) {
+    if is_silent(options, &found) {
         return Ok(verdict);
     }
     check_json(alloc, file, &found, verdict.status(), out)?;

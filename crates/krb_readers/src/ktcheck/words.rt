@@ -36,7 +36,7 @@ Example: what is wrong with keytabs, where weak keys are wanted
     ),
     words: &[
         V1_BIG,
-        Word::Flag("quiet", 'q', "Print nothing of a file without findings"),
+        Word::Flag("quiet", 'q', "Print only what counts for the status"),
         Word::Flag(
             "with-filename",
             'H',
@@ -67,7 +67,7 @@ Example: what is wrong with keytabs, where weak keys are wanted
 pub struct CheckOptions<A: Allocator> {
     /// The byte order of version 1 keytabs.
     pub v1_order: Order,
-    /// Print nothing of a file about which nothing is found.
+    /// Print only what counts for the status.
     pub quiet: bool,
     /// Print each file as one JSON object.
     pub json: bool,

@@ -11,4 +11,4 @@ lines_more f xs i d first old new lt is more =
 pub findings-preserved : goal.findings-preserved
 findings-preserved g c =
     let below : c.findings.finding-index < length ABOUT_ENTRIES = omega arith in
-    lines_more (finding_line c.args.label.now c.args.marked.now) ABOUT_ENTRIES c.findings.finding-index _ _ _ _ below c.findings.invariant c.in_ok-append_finding.ensures
+    lines_more (finding_line c.args.label.now c.args.left_out c.args.marked.now) ABOUT_ENTRIES c.findings.finding-index _ _ _ _ below c.findings.invariant c.in_ok-append_finding.ensures

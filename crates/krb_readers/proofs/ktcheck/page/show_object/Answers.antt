@@ -1,11 +1,11 @@
 use Rattle.std.proofs.Common.{ℕ, List, ap, sym, subst, ◌∙◌}
-use Rattle.std.specs.Prelude.{Ok, Err, ◌&&◌}
+use Rattle.std.specs.Prelude.{Ok, Err}
 use Rattle.std.proofs.lemmas.Result.{err_from_is_err_and}
-use Rattle.krb_audit.specs.CheckUp.{CheckParts, is_well}
+use Rattle.krb_audit.specs.CheckUp.{CheckParts}
 use Rattle.krb_json.specs.Check.{check_json_text}
 use Rattle.krb_driver.specs.RunErrors.{verdict_status}
 use Rattle.krb_text.specs.Gathered.{Prints}
-use Rattle.krb_readers.specs.Ktcheck.{found, found_verdict}
+use Rattle.krb_readers.specs.Ktcheck.{found, found_verdict, is_silent}
 use Rattle.krb_readers.proofs.Checked.{object-failed, object-shown, object-silent, object-unshown}
 use Rattle.krb_readers.proofs.ktcheck.page.show_object.Goals as goal
 
@@ -20,7 +20,7 @@ returns-then-is_silent g c =
     let j = c.args.object.now in
     let due = found j.options.now j.aged_by j.mode j.keytab.state in
     let is = rw c.deref.ensures.value at c.in_ok-found.ensures in
-    let silent = sym (c.is_silent.ensures ∙ ap (λ (d : CheckParts). j.options.now.quiet && is_well d) is) ∙ c.if-is_silent.true in
+    let silent = sym (c.is_silent.ensures ∙ ap (is_silent j.options.now) is) ∙ c.if-is_silent.true in
     object-silent j.options.now j.explained c.args.file.now due c.args.out.now c.verdict_of-verdict.result c.requires
     (c.verdict_of-verdict.ensures ∙ ap (found_verdict j.options.now j.explained) is) silent
 
@@ -30,7 +30,7 @@ returns-in_err-check_json g c =
     let file = c.args.file.now in
     let due = found j.options.now j.aged_by j.mode j.keytab.state in
     let is = rw c.deref.ensures.value at c.in_ok-found.ensures in
-    let told = sym (c.is_silent.ensures ∙ ap (λ (d : CheckParts). j.options.now.quiet && is_well d) is) ∙ c.if-is_silent.false in
+    let told = sym (c.is_silent.ensures ∙ ap (is_silent j.options.now) is) ∙ c.if-is_silent.false in
     let verdict = c.verdict_of-verdict.ensures ∙ ap (found_verdict j.options.now j.explained) is in
     let text = ap (λ (d : CheckParts). check_json_text file d c.status.result) is ∙ ap (check_json_text file due) (c.status.ensures ∙ ap verdict_status verdict) in
     let p = err_from_is_err_and c.from_residual-in_err-check_json.result c.from_residual-in_err-check_json.ensures.1 in
@@ -43,7 +43,7 @@ returns g c =
     let file = c.args.file.now in
     let due = found j.options.now j.aged_by j.mode j.keytab.state in
     let is = rw c.deref.ensures.value at c.in_ok-found.ensures in
-    let told = sym (c.is_silent.ensures ∙ ap (λ (d : CheckParts). j.options.now.quiet && is_well d) is) ∙ c.if-is_silent.false in
+    let told = sym (c.is_silent.ensures ∙ ap (is_silent j.options.now) is) ∙ c.if-is_silent.false in
     let verdict = c.verdict_of-verdict.ensures ∙ ap (found_verdict j.options.now j.explained) is in
     let text = ap (λ (d : CheckParts). check_json_text file d c.status.result) is ∙ ap (check_json_text file due) (c.status.ensures ∙ ap verdict_status verdict) in
     object-shown j.options.now j.explained file due c.args.out.now c.check_json.new.out c.verdict_of-verdict.result c.requires verdict told
