@@ -124,6 +124,13 @@ CASES += [
 ]
 
 
+def of_long_name() -> Case:
+    """Returns a copy of entries that are alike under a long name: their names have one text."""
+    name = f"{'n' * 60_000}@R"
+    return Case("many entries under a long name", ("ktcopy", "-n", "-p", "host/a@R", "--as", name, "k", "t"),
+                printed(f"copied 2 kvno 3 etype 17 {name}"), {"k": keytab(*[HOST] * 2_000)})
+
+
 def of_many() -> list[Case]:
     """Returns copies between keytabs in which many entries meet many, as they end where there is room: each pair of
     them would take too long."""

@@ -11,7 +11,7 @@ pub use Rattle.krb_copy.specs.Copying.{run_over, as_found, asked_as, renamed, st
 unfoldable pub use Rattle.krb_copy.specs.Copying.{copy_run}
 pub use Rattle.krb_copy.specs.Laws.{IsInPlace, AllStay, OthersStay, changes_of, Has, NothingElse, GoesByItsEntries, AreEntries, ChangesAreTold, SecondDoesNothing, changes_over, AreHistories, changes_on, HasEachAsked}
 pub use Rattle.krb_copy.specs.Made.{IsRun, IsMade, name_in, IsRefusal, IsRefusedBy, EndsBy, Meets, Ends}
-pub use Rattle.krb_copy.specs.Texts.{name_texts, AreTexts, entry_texts}
+pub use Rattle.krb_copy.specs.Texts.{name_texts, AreNames, AreTexts, asked_texts, entry_texts}
 pub use Rattle.krb_audit.specs.Twins.{are_twins, are_same}
 pub use Rattle.krb_keytab.proofs.AfterChanges.{put_gives, cut_gives, added_reads, removed_none}
 pub use Rattle.krb_keytab.proofs.StoreChanges.{removal_cuts, addition_puts, cuts_ran}

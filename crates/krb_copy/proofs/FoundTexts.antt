@@ -1,5 +1,5 @@
 -- A pass over the entries of a keytab: those so far, and those still to come.
-use Rattle.krb_copy.proofs.Cited.{name_texts, None, refl, asked_as, renamed, Option, ◌≡◌, ℕ, ◌+◌, ◌<◌, List, [], ◌∷◌, ◌++◌, length, take, sym, ap, subst, ◌∙◌, append_assoc, map, name_text, PlacedEntry, AreClasses, ClassKey, Held, as_found, AreTexts, entry_texts, get_or, map_push, take_more}
+use Rattle.krb_copy.proofs.Cited.{name_texts, None, refl, asked_as, Some, AllByRecursion, ◌≡◌, ℕ, ◌+◌, ◌<◌, List, [], ◌∷◌, ◌++◌, length, take, sym, ap, subst, ◌∙◌, append_assoc, map, name_text, PlacedEntry, AreClasses, ClassKey, Held, as_found, AreTexts, entry_texts, get_or, map_push, take_more}
 use Rattle.std.proofs.lemmas.List.Concat.{flat_map-append}
 use Rattle.std.specs.BTreeMap.{BTreeMap}
 use Rattle.krb_wire.specs.Spelling.{Parts}
@@ -31,12 +31,16 @@ own_names [] = refl
 own_names (x ∷ xs) = ap (λ (ys : List PlacedEntry). x ∷ ys) (own_names xs)
 
 -- one more name of those asked for
-pub one_asked : (ts : List (List ℕ)) (name : Option Parts) (asked : List PlacedEntry) (i : ℕ) (x : PlacedEntry) → i < length asked → x ≡ get_or asked i x
-    → (ts ++ name_texts (asked_as name (take i asked))) ++ name_text (renamed name x.1).principal ∷ [] ≡ ts ++ name_texts (asked_as name (take (i + 1) asked))
-one_asked ts name asked i x lt here = append_assoc ts (name_texts (asked_as name (take i asked))) (name_text (renamed name x.1).principal ∷ [])
+pub one_asked : (ts : List (List ℕ)) (asked : List PlacedEntry) (i : ℕ) (x : PlacedEntry) → i < length asked → x ≡ get_or asked i x
+    → (ts ++ name_texts (take i asked)) ++ name_text x.1.principal ∷ [] ≡ ts ++ name_texts (take (i + 1) asked)
+one_asked ts asked i x lt here = append_assoc ts (name_texts (take i asked)) (name_text x.1.principal ∷ [])
     ∙ ap (λ (names : List (List ℕ)). ts ++ names)
-    (sym (map_push (λ (y : PlacedEntry). name_text y.1.principal) (asked_as name (take i asked)) (x.0, renamed name x.1)) ∙ ap name_texts (sym (map_push (λ (y : PlacedEntry). (y.0, renamed name y.1)) (take i asked) x))
-    ∙ ap (λ (xs : List PlacedEntry). name_texts (asked_as name xs)) (ap (λ (y : PlacedEntry). take i asked ++ y ∷ []) here ∙ sym (take_more asked i x lt)))
+    (sym (map_push (λ (y : PlacedEntry). name_text y.1.principal) (take i asked) x) ∙ ap name_texts (ap (λ (y : PlacedEntry). take i asked ++ y ∷ []) here ∙ sym (take_more asked i x lt)))
+
+-- each entry has its new name
+pub new_names : (name : Parts) (text : List ℕ) (xs : List PlacedEntry) → text ≡ name_text name → AllByRecursion (λ x. text ≡ name_text x.1.principal) (asked_as (Some name) xs)
+new_names name text [] is = tt
+new_names name text (x ∷ xs) is = (is, new_names name text xs is)
 
 -- the classes are those of the entries so far, and the texts those of the others
 pub record AreFound {A : Type 0} (all rest : List PlacedEntry) (more : List (List ℕ)) (classes : BTreeMap ClassKey (Class A)) (bytes lens : List ℕ) : Type 0 where

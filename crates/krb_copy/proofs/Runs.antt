@@ -1,5 +1,5 @@
 -- A run and its definition, entry by entry.
-use Rattle.krb_copy.proofs.Cited.{◌≡◌, ℕ, ◌+◌, ◌<◌, Bool, true, false, cond, List, [], ◌∷◌, ◌++◌, length, drop, Option, Result, Ok, Err, refl, sym, ap, subst, ◌∙◌, map, Code, PlacedEntry, placed_entries, KeytabState, put_result, without, Run, Copy, as_found, asked_as, step_of, with_copy, run_after, run_added, has_lines, run_over, run_start, copy_run, go_on, AreClasses, AreTexts, name_texts, get_or, drop_more, copied_lines, IsMade, IsRefusal, IsRefusedBy, IsRun, Meets, Ends, EndsBy}
+use Rattle.krb_copy.proofs.Cited.{◌≡◌, ℕ, ◌+◌, ◌<◌, Bool, true, false, cond, List, [], ◌∷◌, ◌++◌, length, drop, Option, Result, Ok, Err, refl, sym, ap, subst, ◌∙◌, map, Code, PlacedEntry, placed_entries, KeytabState, put_result, without, Run, Copy, as_found, asked_as, step_of, with_copy, run_after, run_added, has_lines, run_over, run_start, copy_run, go_on, AreClasses, AreNames, get_or, drop_more, copied_lines, IsMade, IsRefusal, IsRefusedBy, IsRun, Meets, Ends, EndsBy}
 use Rattle.krb_wire.specs.Spelling.{Parts}
 use Rattle.krb_walk.specs.declared.refusal.Refusal.{Refusal}
 use Rattle.krb_walk.specs.declared.refusal.Refusal.TheVariants.{Code as ByCode, NoMemory}
@@ -14,12 +14,12 @@ refusal_is due given old new k k' NoMemory same untold gives = tt
 -- an entry that is copied
 pub copied_run : {A : Type 0} (run : Run) (x : PlacedEntry) (asked : List PlacedEntry) (replace : Bool) (places : List ℕ) (place : ℕ) (old : KeytabState) (new : Copying A) → old ≡ run.keytab
     → Copy places ≡ step_of replace run.before run.held x.1 → put_result (without old places) x.1 ≡ Ok (place, new.making.keytab.state) → new.making.text.items ≡ run.text ++ copied_lines x.1 places place → new.making.clashes.items ≡ run.clashes → new.making.places.items ≡ run.places ++ place ∷ []
-    → AreClasses (run.before ++ x.1 ∷ []) (with_copy run.held x.1 place) new.classes → AreTexts (name_texts asked) new.texts.bytes.now new.texts.lens.now
+    → AreClasses (run.before ++ x.1 ∷ []) (with_copy run.held x.1 place) new.classes → AreNames asked new.names
     → (next : Run) × (run_after run x (step_of replace run.before run.held x.1) ≡ Ok next) × IsRun next asked new
-copied_run run x asked replace places place old new keytab step added text clash to classes texts = (
+copied_run run x asked replace places place old new keytab step added text clash to classes names = (
   record { keytab = new.making.keytab.state; held = with_copy run.held x.1 place; before = run.before ++ x.1 ∷ []; text = run.text ++ copied_lines x.1 places place; clashes = run.clashes; places = run.places ++ place ∷ [] },
   ap (run_after run x) (sym step) ∙ ap (run_added run x.1 places) (ap (λ (k : KeytabState). put_result (without k places) x.1) (sym keytab) ∙ added),
-  record { keytab = refl; text = text; clashes = clash; places = to; classes = classes; texts = texts },
+  record { keytab = refl; text = text; clashes = clash; places = to; classes = classes; names = names },
 )
 
 -- an entry whose addition is refused
@@ -91,8 +91,8 @@ first_left due replace name asked i x copying lt here w = subst (λ (ys : List P
 
 -- a run at its start
 pub starts : {A : Type 0} (k : KeytabState) (asked : List PlacedEntry) (copying : Copying A) → copying.making.keytab.state ≡ k → copying.making.text.items ≡ [] → copying.making.clashes.items ≡ [] → copying.making.places.items ≡ []
-    → AreClasses [] (map as_found (placed_entries k)) copying.classes → AreTexts (name_texts asked) copying.texts.bytes.now copying.texts.lens.now → IsRun (run_start k) asked copying
-starts k asked copying keytab text clash to classes texts = record { keytab = keytab; text = text; clashes = clash; places = to; classes = classes; texts = texts }
+    → AreClasses [] (map as_found (placed_entries k)) copying.classes → AreNames asked copying.names → IsRun (run_start k) asked copying
+starts k asked copying keytab text clash to classes names = record { keytab = keytab; text = text; clashes = clash; places = to; classes = classes; names = names }
 
 pub due_is : (replace : Bool) (asked : List PlacedEntry) (k : KeytabState) → run_over replace asked (run_start k) ≡ copy_run replace asked k
 unfolding copy_run

@@ -11,7 +11,7 @@ use Rattle.krb_keytab.specs.Find.{PlacedEntry}
 use Rattle.krb_keytab.specs.Store.{KeytabState}
 use Rattle.krb_copy.specs.Copying.{Run, has_lines}
 use Rattle.krb_copy.specs.Classes.{AreClasses}
-use Rattle.krb_copy.specs.Texts.{AreTexts, name_texts}
+use Rattle.krb_copy.specs.Texts.{AreNames}
 use Rattle.krb_copy.specs.declared.copy.Copying.{Copying}
 
 -- a new name, if there is one, without where it is in memory
@@ -41,7 +41,7 @@ pub record IsRun {A : Type 0} (run : Run) (asked : List PlacedEntry) (copying : 
   pub clashes : copying.making.clashes.items ≡ run.clashes
   pub places : copying.making.places.items ≡ run.places
   pub classes : AreClasses run.before run.held copying.classes
-  pub texts : AreTexts (name_texts asked) copying.texts.bytes.now copying.texts.lens.now
+  pub names : AreNames asked copying.names
 
 -- an addition is refused and adds no line, or memory ran out
 abbrev pub IsRefusal : {X : Type 0} → Result X Code → List ℕ → List ℕ → Refusal → Type 0

@@ -1,8 +1,11 @@
 -- Texts, one after another: those of names, and keys.
-use Rattle.std.specs.Prelude.{◌≡◌, ℕ, List, [], ◌∷◌, length, map}
-use Rattle.std.specs.List.{flat_map}
+use Rattle.std.specs.Prelude.{◌≡◌, ℕ, List, [], ◌∷◌, length, map, Option, None, Some}
+use Rattle.std.specs.List.{AllByRecursion, flat_map}
+use Rattle.krb_wire.specs.Spelling.{Parts}
 use Rattle.krb_wire.specs.Names.{name_text}
 use Rattle.krb_keytab.specs.Find.{PlacedEntry}
+use Rattle.krb_copy.specs.declared.texts.NamesLeft.{NamesLeft}
+use Rattle.krb_copy.specs.declared.texts.NamesLeft.TheVariants.{Own, New}
 
 -- these texts, and their lengths
 pub record AreTexts (texts : List (List ℕ)) (bytes lens : List ℕ) : Type 0 where
@@ -16,3 +19,13 @@ entry_texts xs = flat_map (λ x. name_text x.1.principal ∷ x.1.key ∷ []) xs
 -- the name of each entry
 abbrev pub name_texts : List PlacedEntry → List (List ℕ)
 name_texts xs = map (λ x. name_text x.1.principal) xs
+
+-- the name of each entry, or once their new one
+abbrev pub asked_texts : Option Parts → List PlacedEntry → List (List ℕ)
+asked_texts None xs = name_texts xs
+asked_texts (Some name) xs = name_text name ∷ []
+
+-- the names that are left are those of these entries
+abbrev pub AreNames : List PlacedEntry → NamesLeft → Type 0
+AreNames xs (Own texts) = AreTexts (name_texts xs) texts.bytes.now texts.lens.now
+AreNames xs (New name) = AllByRecursion (λ x. name.now ≡ name_text x.1.principal) xs

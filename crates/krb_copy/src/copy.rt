@@ -4,13 +4,13 @@ ghost use Rattle.std.specs.Prelude.{◌≡◌, ◌∷◌, ◌++◌, List, Some, 
 ghost use Rattle.krb_wire.specs.Reading.{principal_parts};
 ghost use Rattle.krb_keytab.specs.Find.{PlacedEntry, placed_entries};
 ghost use Rattle.krb_copy.specs.Copying.{Run, asked_as, copy_run, has_lines, renamed, run_after, run_over, step_of};
-ghost use Rattle.krb_copy.specs.Texts.{AreTexts, entry_texts, name_texts};
+ghost use Rattle.krb_copy.specs.Texts.{AreTexts, asked_texts, entry_texts};
 ghost use Rattle.krb_copy.specs.Made.{Ends, EndsBy, IsMade, IsRefusedBy, Meets, IsRun, name_in};
 
 use crate::class::{Class, Step};
 use crate::classes::{Classes, class_key, classes_of};
 use crate::making::Making;
-use crate::texts::{Texts, TextsLeft};
+use crate::texts::{NamesLeft, Texts};
 use krb_keytab::{EntryView, Fields, Indexed, Keytab, NewEntry};
 use krb_walk::Refusal;
 use krb_wire::{Name, NoMemory, Principal, copy_name};
@@ -36,7 +36,7 @@ pub struct Copied<A: Allocator> {
 struct Copying<'t, A: Allocator> {
     making: Making<A>,
     classes: Classes<'t, A>,
-    texts: TextsLeft<'t>,
+    names: NamesLeft<'t>,
     replace: bool,
 }
 
@@ -69,7 +69,7 @@ impl<'t, A: Allocator + Copy> Copying<'t, A> {
             (step_of self.old.replace run.before run.held entry.now)) result self.new }
         ensures replace { self.new.replace ≡ self.old.replace }
     {
-        let kind = class_key(self.texts.next(), entry);
+        let kind = class_key(self.names.next(), entry);
         let class = self.classes.entry(kind)?.or_insert(Class::Empty);
         match class.step(self.replace, key) {
             Step::There => class.keep(),
@@ -143,7 +143,7 @@ fn copy_by<'t, A: Allocator + Copy, B: Allocator>(
     to: Keytab<A>,
     replace: bool,
 ) -> Result<Copied<A>, Refusal>
-    requires { AreTexts (entry_texts (placed_entries to.state) ++ name_texts (asked_as (name_in new_name) asked.now))
+    requires { AreTexts (entry_texts (placed_entries to.state) ++ asked_texts (name_in new_name) asked.now)
         texts.now.bytes.items texts.now.lens.items }
     ensures made { IfOk result (λ copied. IsMade (copy_run replace (asked_as (name_in new_name.entry) asked.now) to.state)
         copied.text.items copied.clashes.items copied.places.items copied.keytab.state) }
@@ -164,7 +164,7 @@ fn copy_by<'t, A: Allocator + Copy, B: Allocator>(
     let mut copying = Copying {
         making,
         classes,
-        texts: left,
+        names: left.names(new_name),
         replace,
     };
     copying.go_over(alloc, asked, new_name)?;

@@ -2,15 +2,15 @@
 
 ghost use Rattle.std.specs.Prelude.{◌≡◌, ◌∷◌, ◌++◌, [], ℕ, List, OnOk, IfOk};
 ghost use Rattle.krb_wire.specs.Names.{name_text};
-ghost use Rattle.krb_keytab.specs.Find.{placed_entries};
-ghost use Rattle.krb_copy.specs.Copying.{asked_as, renamed};
+ghost use Rattle.krb_keytab.specs.Find.{PlacedEntry, placed_entries};
+ghost use Rattle.krb_copy.specs.Copying.{asked_as};
 ghost use Rattle.krb_copy.specs.Made.{name_in};
-ghost use Rattle.krb_copy.specs.Texts.{AreTexts, entry_texts, name_texts};
+ghost use Rattle.krb_copy.specs.Texts.{AreNames, AreTexts, asked_texts, entry_texts, name_texts};
 
 use krb_keytab::{EntryView, Keytab};
 use krb_text::append;
 use krb_wire::{Name, NoMemory, Principal, write_name};
-use std::alloc::{Allocator, Global};
+use std::alloc::Allocator;
 
 // How many bytes a name's text seldom exceeds.
 const USUAL_LEN: usize = 40;
@@ -30,6 +30,14 @@ pub struct Texts<A: Allocator> {
 pub struct TextsLeft<'t> {
     bytes: &'t [u8],
     lens: &'t [u32],
+}
+
+/// The names of the entries that are left.
+#[derive(Drop)]
+pub enum NamesLeft<'t> {
+    Own(TextsLeft<'t>),
+    /// Each has this one.
+    New(&'t [u8]),
 }
 
 // Returns a capacity that most names and keys of a keytab, and names of `count` entries, fit. It is seldom much more:
@@ -75,39 +83,34 @@ impl<A: Allocator + Copy> Texts<A> {
         self.push_len(key.len())
     }
 
-    // Appends the name of an entry, or its new one.
-    fn push_asked<B: Allocator>(
-        &mut self,
-        entry: &EntryView<'_>,
-        new_name: Option<&Principal<B>>,
-    ) -> Result<(), NoMemory>
+    // Appends the names of entries.
+    fn push_names(&mut self, asked: &[(u32, EntryView<'_>)]) -> Result<(), NoMemory>
         ensures { (ts : List (List ℕ)) → AreTexts ts self.old.bytes.items self.old.lens.items
-            → OnOk result (AreTexts (ts ++ name_text (renamed (name_in new_name.entry) entry.now).principal ∷ [])
-            self.new.bytes.items self.new.lens.items) }
+            → OnOk result (AreTexts (ts ++ name_texts asked.now) self.new.bytes.items self.new.lens.items) }
     {
-        match new_name {
-            None => self.push_name(entry.principal()),
-            Some(name) => self.push_name(name),
+        'asked: for (_place, entry) in asked {
+            self.push_name(entry.principal())?;
         }
+        Ok(())
     }
 
-    // Appends the names of entries, or their new one.
-    fn push_names<B: Allocator>(
+    // Appends the names of entries, or once their new one.
+    fn push_asked<B: Allocator>(
         &mut self,
         asked: &[(u32, EntryView<'_>)],
         new_name: Option<&Principal<B>>,
     ) -> Result<(), NoMemory>
         ensures { (ts : List (List ℕ)) → AreTexts ts self.old.bytes.items self.old.lens.items
-            → OnOk result (AreTexts (ts ++ name_texts (asked_as (name_in new_name.entry) asked.now))
+            → OnOk result (AreTexts (ts ++ asked_texts (name_in new_name.entry) asked.now)
             self.new.bytes.items self.new.lens.items) }
     {
-        'asked: for (_place, entry) in asked {
-            self.push_asked(entry, new_name)?;
+        match new_name {
+            None => self.push_names(asked),
+            Some(name) => self.push_name(name),
         }
-        Ok(())
     }
 
-    /// Returns the names and keys of a keytab's entries, and the names of those asked for, or their new one.
+    /// Returns the names and keys of a keytab's entries, and the names of those asked for, or once their new one.
     pub fn of<B: Allocator, C: Allocator>(
         alloc: A,
         keytab: &Keytab<B>,
@@ -115,7 +118,7 @@ impl<A: Allocator + Copy> Texts<A> {
         new_name: Option<&Principal<C>>,
     ) -> Result<Texts<A>, NoMemory>
         ensures { IfOk result (λ texts. AreTexts
-            (entry_texts (placed_entries keytab.now.state) ++ name_texts (asked_as (name_in new_name.entry) asked.now))
+            (entry_texts (placed_entries keytab.now.state) ++ asked_texts (name_in new_name.entry) asked.now)
             texts.bytes.items texts.lens.items) }
     {
         let mut texts = Texts {
@@ -125,7 +128,7 @@ impl<A: Allocator + Copy> Texts<A> {
         'entries: for (_place, entry) in keytab.entries() {
             texts.push_entry(&entry)?;
         }
-        texts.push_names(asked, new_name)?;
+        texts.push_asked(asked, new_name)?;
         Ok(texts)
     }
 
@@ -142,8 +145,8 @@ impl<A: Allocator + Copy> Texts<A> {
             bytes: Vec::with_capacity(alloc, count.saturating_mul(USUAL_LEN))?,
             lens: Vec::with_capacity(alloc, count)?,
         };
-        texts.push_names::<Global>(ours, None)?;
-        texts.push_names::<Global>(others, None)?;
+        texts.push_names(ours)?;
+        texts.push_names(others)?;
         Ok(texts)
     }
 
@@ -174,5 +177,30 @@ impl<'t> TextsLeft<'t> {
         self.lens = lens;
         self.bytes = bytes;
         text
+    }
+
+    /// Returns the names of the entries asked for, once these texts are left.
+    pub fn names<B: Allocator>(mut self, new_name: Option<&Principal<B>>) -> NamesLeft<'t>
+        ensures { (asked : List PlacedEntry)
+            → AreTexts (asked_texts (name_in new_name.entry) asked) self.entry.bytes.now self.entry.lens.now
+            → AreNames (asked_as (name_in new_name.entry) asked) result }
+    {
+        match new_name {
+            None => NamesLeft::Own(self),
+            Some(_) => NamesLeft::New(self.next()),
+        }
+    }
+}
+
+impl<'t> NamesLeft<'t> {
+    /// Returns that of the next entry.
+    pub fn next(&mut self) -> &'t [u8]
+        ensures { (x : PlacedEntry) (asked : List PlacedEntry) → AreNames (x ∷ asked) self.old
+            → (result.now ≡ name_text x.1.principal) × AreNames asked self.new }
+    {
+        match self {
+            NamesLeft::Own(texts) => texts.next(),
+            NamesLeft::New(name) => *name,
+        }
     }
 }
