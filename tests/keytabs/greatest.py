@@ -4,7 +4,7 @@ where there is room."""
 from dataclasses import replace
 
 from keytabs.file_names import LIMIT, sized
-from makers.images import HOST, Entry, hole, keytab, record
+from makers.images import HOST, Entry, hole, keytab, number, record
 from runs.harness import Case, Outcome, over, run_case, words_of
 from runs.undisturbed import PROGRAM, frame
 
@@ -73,6 +73,14 @@ def many_long_names() -> Case:
     """Returns a removal from many names with a long prefix, none of which is old. This too takes more memory."""
     return over("as many names with a long prefix", "ktremove -k old k", keytab(
         *(Entry((b"x" * 200, b"%05d" % number), version32=None) for number in range(60_000))), [])
+
+
+def lines() -> Case:
+    """Returns a table of the most names."""
+    front, name, back = record(replace(LEAST, components=(), realm=b"name", version32=None).spelled()).partition(b"name")
+    count = (LIMIT - 2) // len(front + name + back)
+    return with_room("a line for each of the most names", "show k",
+                     k=keytab(*(front + number(each, 4) + back for each in range(count))))
 
 
 def edits() -> list[Case]:

@@ -74,7 +74,8 @@ def of_many() -> Iterator[Case]:
 
 
 def check(report: Report, program: str) -> None:
-    for case, most in (*((each, ROOM) for each in of_many()), *((each, LIMIT) for each in without_room())):
+    for case, most in (*((each, ROOM) for each in of_many()), *((each, LIMIT) for each in without_room()),
+                       (greatest.lines(), 12 * LIMIT), (copies.of_long_name(), SPACE)):
         report.check(case.name, faults_of(case, *run_case(program, case, preexec_fn=limit(resource.RLIMIT_AS, most))))
     those = all_cases()
     for case in those:

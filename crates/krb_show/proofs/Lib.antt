@@ -3,3 +3,4 @@ pub mod OnLiterals
 pub mod Tables
 pub mod Distinct
 pub mod EntryLines
+pub mod KeyCells

@@ -1,9 +1,8 @@
 -- Widths found column by column, and rows appended cell by cell.
 use Rattle.krb_show.proofs.Cited.{◌≡◌, ◌++◌, ◌∙◌, ◌+◌, ◌-◌, ap, sym, refl, ℕ, List, [], ◌∷◌, length, append_assoc, append-nil, ◌⊎◌, inl, inr}
-use Rattle.std.specs.Prelude.{Vec, replicate}
+use Rattle.std.specs.Prelude.{replicate}
 use Rattle.std.proofs.Common.{arith}
 use Rattle.std.proofs.lemmas.List.FromFn.{map-range_with_len_more}
-use Rattle.krb_wire.specs.Reading.{items_of}
 use Rattle.krb_show.specs.Columns.{cells_behind, column_width, widths}
 
 -- the width of one more column
@@ -33,10 +32,10 @@ no_columns blanks [] = refl
 no_columns blanks (c ∷ cs) = refl
 
 -- no cell is left, or no column
-pub all_put : {Z : Type 0} (before whole : List ℕ) (blanks : ℕ) (ws : List ℕ) (cs : List (Vec ℕ Z)) → (cs ≡ []) ⊎ (ws ≡ [])
-    → before ++ cells_behind blanks ws (items_of cs) ≡ whole → before ≡ whole
-all_put {Z} before whole blanks ws cs (inl none) e =
-    sym (append-nil before) ∙ ap (λ (l : List (Vec ℕ Z)). before ++ cells_behind blanks ws (items_of l)) (sym none) ∙ e
-all_put {Z} before whole blanks ws cs (inr none) e =
-    sym (append-nil before) ∙ ap (λ (t : List ℕ). before ++ t) (sym (no_columns blanks (items_of cs)))
-    ∙ ap (λ (l : List ℕ). before ++ cells_behind blanks l (items_of cs)) (sym none) ∙ e
+pub all_put : (before whole : List ℕ) (blanks : ℕ) (ws : List ℕ) (cs : List (List ℕ)) → (cs ≡ []) ⊎ (ws ≡ [])
+    → before ++ cells_behind blanks ws cs ≡ whole → before ≡ whole
+all_put before whole blanks ws cs (inl none) e =
+    sym (append-nil before) ∙ ap (λ (l : List (List ℕ)). before ++ cells_behind blanks ws l) (sym none) ∙ e
+all_put before whole blanks ws cs (inr none) e =
+    sym (append-nil before) ∙ ap (λ (t : List ℕ). before ++ t) (sym (no_columns blanks cs))
+    ∙ ap (λ (l : List ℕ). before ++ cells_behind blanks l cs) (sym none) ∙ e

@@ -5,4 +5,5 @@ pub mod EtypeNames
 pub mod CacheView
 pub mod KeytabView
 -- For private contracts alone.
+pub mod Named
 pub mod Lines

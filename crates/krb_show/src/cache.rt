@@ -1,11 +1,11 @@
 //! A credential cache as it is shown to people.
 
-ghost use Rattle.std.specs.Prelude.{◌≡◌, ◌++◌, IfOk, OnOk, map};
+ghost use Rattle.std.specs.Prelude.{◌≡◌, ◌++◌, IfOk, OnOk, length};
 ghost use Rattle.krb_ccache.specs.Store.{placed_credentials};
-ghost use Rattle.krb_show.specs.CacheView.{cache_heading, cache_view, ticket_row, tickets};
+ghost use Rattle.krb_show.specs.CacheView.{cache_heading, cache_view, tickets};
 
-use crate::columns::{Row, append_counted, append_table};
-use crate::tickets::row_of;
+use crate::columns::{Rows, append_counted, append_line, append_table, widened_by};
+use crate::tickets::TicketRow;
 use krb_ccache::{Ccache, is_config};
 use krb_text::{append, append_byte, append_fault_line};
 use krb_wire::{NoMemory, PrincipalView, write_name};
@@ -29,21 +29,62 @@ fn append_heading<A: Allocator>(
     append_byte(b'\n', out)
 }
 
-// Returns the rows of the tickets.
-fn rows_of<A: Allocator + Copy, B: Allocator>(
-    alloc: A,
-    now: u32,
-    cache: &Ccache<B>,
-) -> Result<Vec<Row<A>, A>, NoMemory>
-    ensures { IfOk result (λ rows. rows.items ≡ map (ticket_row now) (tickets (placed_credentials cache.now.state))) }
+// Returns the number of tickets.
+fn ticket_count<B: Allocator>(cache: &Ccache<B>) -> Result<usize, NoMemory>
+    ensures { IfOk result (λ n. n ≡ length (tickets (placed_credentials cache.now.state))) }
 {
-    let mut rows = Vec::new(alloc);
+    let mut count: usize = 0;
     'credentials: for (_, credential) in cache.credentials() {
         if !is_config(&credential) {
-            rows.push(row_of(alloc, now, &credential)?)?;
+            count = count.checked_add(1).ok_or(NoMemory)?;
         }
     }
-    Ok(rows)
+    Ok(count)
+}
+
+// The rows of the tickets of a cache at a second.
+#[derive(Drop)]
+struct TicketRows<'c, B: Allocator> {
+    clock: u32,
+    cache: &'c Ccache<B>,
+}
+
+impl<A: Allocator + Copy, B: Allocator> Rows<A> for TicketRows<'_, B> {
+    ghost use Rattle.std.specs.Prelude.{map};
+    ghost use Rattle.krb_ccache.specs.Store.{placed_credentials};
+    ghost use Rattle.krb_show.specs.CacheView.{ticket_row, tickets};
+
+    ghost rows = { λ rows. map (ticket_row rows.clock) (tickets (placed_credentials rows.cache.now.state)) };
+
+    fn widened(&self, alloc: A, column: usize, least: usize) -> Result<usize, NoMemory> {
+        let clock = self.clock;
+        let mut width = least;
+        let mut cell = Vec::new(alloc);
+        'credentials: for (_, ticket) in self.cache.credentials() {
+            if !is_config(&ticket) {
+                let ticket = &ticket;
+                let row = TicketRow { clock, ticket };
+                width = widened_by(alloc, column, width, &row, &mut cell)?;
+            }
+        }
+        Ok(width)
+    }
+
+    fn append_lines(
+        &self,
+        alloc: A,
+        widths: &[usize],
+        out: &mut Vec<u8, A>,
+    ) -> Result<(), NoMemory> {
+        let clock = self.clock;
+        'credentials: for (_, ticket) in self.cache.credentials() {
+            if !is_config(&ticket) {
+                let ticket = &ticket;
+                append_line(alloc, widths, &TicketRow { clock, ticket }, out)?;
+            }
+        }
+        Ok(())
+    }
 }
 
 /// Appends what is shown of a cache: a heading with the file's name, a table of its tickets as they are at the second
@@ -57,8 +98,9 @@ pub fn append_cache_view<A: Allocator + Copy, B: Allocator>(
 ) -> Result<(), NoMemory>
     ensures { OnOk result (out.new.items ≡ out.old.items ++ cache_view name.now now cache.now.state) }
 {
-    let rows = rows_of(alloc, now, cache)?;
-    append_heading(name, &cache.default_principal(), rows.len(), out)?;
-    append_table(alloc, &TITLES, rows, out)?;
+    let count = ticket_count(cache)?;
+    append_heading(name, &cache.default_principal(), count, out)?;
+    let rows = TicketRows { clock: now, cache };
+    append_table(alloc, &TITLES, count, &rows, out)?;
     append_fault_line(cache.fault(), out)
 }

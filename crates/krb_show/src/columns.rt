@@ -1,120 +1,111 @@
 //! Tables in columns, and numbers of things.
 
-ghost use Rattle.std.specs.Prelude.{◌≡◌, ◌+◌, ◌-◌, ◌≤◌, ◌++◌, ◌∷◌, [], IfOk, OnOk, length, map, replicate, vec_capacity};
-ghost use Rattle.std.specs.List.{flat_map};
-ghost use Rattle.krb_wire.specs.Reading.{items_of};
-ghost use Rattle.krb_wire.specs.Names.{name_text};
-ghost use Rattle.krb_show.specs.Ago.{time_cell};
-ghost use Rattle.krb_show.specs.Columns.{asked_width, cell_of, cells_behind, column_width, counted, row_text, table, widths};
+ghost use Rattle.std.specs.Prelude.{◌≡◌, ◌-◌, ◌+◌, ◌++◌, ◌∷◌, IfOk, OnOk, length, map, max, replicate};
+ghost use Rattle.std.specs.List.{fold, flat_map};
+ghost use Rattle.krb_show.specs.Columns.{asked_width, cell_of, cells_behind, counted, row_text, table, widths};
 
-use crate::ago::append_time;
 use itoa::Buffer;
 use krb_text::{append, append_byte};
-use krb_wire::{Name, NoMemory, write_name};
+use krb_wire::NoMemory;
 use std::alloc::Allocator;
-use std::marker::Model;
 
 // A longer cell has no say in the width of its column.
 const MAX_WIDTH: usize = 40;
 
-// Most cells have no more bytes.
-const USUAL_LEN: usize = 32;
+/// A row of a table. A cell is made where it is used: once for the width of its column, and once in its line.
+pub trait Row<A: Allocator + Copy> {
+    ghost use Rattle.std.specs.Prelude.{ℕ, List, ◌≡◌, ◌++◌, OnOk, length};
+    ghost use Rattle.krb_show.specs.Columns.{cell_of};
 
-/// Returns an empty cell that takes no more memory for what most cells hold.
-pub fn new_cell<A: Allocator>(alloc: A) -> Result<Vec<u8, A>, NoMemory>
-    ensures empty { IfOk result (λ cell. cell.items ≡ []) }
-    ensures room { IfOk result (λ cell. 32 ≤ vec_capacity cell) }
-{
-    Ok(Vec::with_capacity(alloc, USUAL_LEN)?)
+    ghost cells: { Self → List (List ℕ) };
+
+    /// Returns how many cells it has.
+    fn cell_count(&self) -> usize
+        ensures { result ≡ length (cells self.now) };
+
+    /// Appends its cell in a column, if there is one.
+    fn append_cell(&self, alloc: A, column: usize, out: &mut Vec<u8, A>) -> Result<(), NoMemory>
+        ensures { OnOk result (out.new.items ≡ out.old.items ++ cell_of column (cells self.now)) };
 }
 
-/// A row of a table.
+/// The rows of a table.
+pub trait Rows<A: Allocator + Copy> {
+    ghost use Rattle.std.specs.Prelude.{ℕ, List, ◌≡◌, ◌++◌, IfOk, OnOk, max};
+    ghost use Rattle.std.specs.List.{fold, flat_map};
+    ghost use Rattle.krb_show.specs.Columns.{asked_width, cell_of, row_text};
+
+    ghost rows: { Self → List (List (List ℕ)) };
+
+    /// Returns the width of a column that is at least as wide as this.
+    fn widened(&self, alloc: A, column: usize, least: usize) -> Result<usize, NoMemory>
+        ensures { IfOk result (λ width. width ≡ fold (λ w row. max w (asked_width (cell_of column row))) least (rows self.now)) };
+
+    /// Appends their lines.
+    fn append_lines(&self, alloc: A, widths: &[usize], out: &mut Vec<u8, A>) -> Result<(), NoMemory>
+        ensures { OnOk result (out.new.items ≡ out.old.items ++ flat_map (row_text widths.now) (rows self.now)) };
+}
+
+// The titles of columns.
 #[derive(Drop)]
-pub struct Row<A: Allocator> {
-    pub cells: Vec<Vec<u8, A>, A>,
-}
+struct Titles<'t>(&'t [&'t [u8]]);
 
-impl<A: Allocator> Model for Row<A> {
-    ghost use Rattle.std.specs.Prelude.{ℕ, List};
-    ghost use Rattle.krb_wire.specs.Reading.{items_of};
+impl<A: Allocator + Copy> Row<A> for Titles<'_> {
+    ghost use Rattle.std.specs.Prelude.{map};
 
-    ghost Value = { List (List ℕ) };
+    ghost cells = { λ titles. map (λ title. title.now) titles.0.now };
 
-    ghost view = { λ row. items_of row.cells.items };
-}
-
-impl<A: Allocator + Copy> Row<A> {
-    // Returns the row of some titles.
-    fn of(alloc: A, titles: &[&[u8]]) -> Result<Row<A>, NoMemory>
-        ensures { IfOk result (λ row. row ≡ map (λ title. title.now) titles.now) }
-    {
-        let mut cells = Vec::new(alloc);
-        'titles: for title in titles {
-            cells.push(Vec::from_slice(alloc, title)?)?;
-        }
-        Ok(Row { cells })
+    fn cell_count(&self) -> usize {
+        self.0.len()
     }
 
-    /// Adds a cell.
-    pub fn push(&mut self, cell: Vec<u8, A>) -> Result<(), NoMemory>
-        ensures { OnOk result (self.new ≡ self.old ++ cell.items ∷ []) }
-    {
-        Ok(self.cells.push(cell)?)
-    }
-
-    /// Adds a cell with a time.
-    pub fn push_time(&mut self, alloc: A, now: u32, time: u32) -> Result<(), NoMemory>
-        ensures { OnOk result (self.new ≡ self.old ++ time_cell now time ∷ []) }
-    {
-        let mut cell = new_cell(alloc)?;
-        append_time(now, time, &mut cell)?;
-        self.push(cell)
-    }
-
-    /// Adds a cell with a name.
-    pub fn push_name<N: Name>(&mut self, alloc: A, name: &N) -> Result<(), NoMemory>
-        ensures { OnOk result (self.new ≡ self.old ++ name_text (N.parts name.now) ∷ []) }
-    {
-        let mut cell = new_cell(alloc)?;
-        write_name(name, &mut cell)?;
-        self.push(cell)
-    }
-}
-
-impl<A: Allocator> Row<A> {
-    // Returns the width that a cell asks for.
-    fn asked_width(&self, column: usize) -> usize
-        ensures { result ≡ asked_width (cell_of column self.now) }
-    {
-        match self.cells.get(column) {
-            Some(cell) if cell.len() <= MAX_WIDTH => cell.len(),
-            _ => 0,
+    fn append_cell(&self, _alloc: A, column: usize, out: &mut Vec<u8, A>) -> Result<(), NoMemory> {
+        match self.0.get(column) {
+            Some(title) => append(title, out),
+            None => Ok(()),
         }
     }
 }
 
-// Returns the width of a column.
-fn column_width<A: Allocator>(column: usize, rows: &[Row<A>]) -> usize
-    ensures { result ≡ column_width column rows.now }
+// Returns the width that a cell asks for.
+fn asked_width(cell: &[u8]) -> usize
+    ensures { result ≡ asked_width cell.now }
 {
-    let mut width: usize = 0;
-    'rows: for row in rows {
-        width = width.max(row.asked_width(column));
+    if cell.len() <= MAX_WIDTH {
+        cell.len()
+    } else {
+        0
     }
-    width
 }
 
-// Returns the widths of the first columns.
-fn widths<A: Allocator + Copy>(
+/// Returns the width of a column with one more row. The cell is made in `cell`.
+pub fn widened_by<A: Allocator + Copy, R: Row<A>>(
     alloc: A,
-    count: usize,
-    rows: &[Row<A>],
+    column: usize,
+    width: usize,
+    row: &R,
+    cell: &mut Vec<u8, A>,
+) -> Result<usize, NoMemory>
+    ensures { IfOk result (λ w. w ≡ max width (asked_width (cell_of column (R.cells row.now)))) }
+{
+    cell.clear();
+    row.append_cell(alloc, column, cell)?;
+    Ok(width.max(asked_width(cell)))
+}
+
+// Returns the widths of the columns of a table.
+fn widths<A: Allocator + Copy, T: Rows<A>>(
+    alloc: A,
+    titles: &[&[u8]],
+    rows: &T,
 ) -> Result<Vec<usize, A>, NoMemory>
-    ensures { IfOk result (λ all. all.items ≡ widths count rows.now) }
+    ensures { IfOk result (λ all. all.items
+        ≡ widths (length titles.now) (map (λ title. title.now) titles.now ∷ T.rows rows.now)) }
 {
     let mut all = Vec::new(alloc);
-    'columns: for column in 0..count {
-        all.push(column_width(column, rows))?;
+    let mut cell = Vec::new(alloc);
+    'columns: for column in 0..titles.len() {
+        let least = widened_by(alloc, column, 0, &Titles(titles), &mut cell)?;
+        all.push(rows.widened(alloc, column, least)?)?;
     }
     Ok(all)
 }
@@ -127,65 +118,73 @@ fn append_blanks<A: Allocator>(count: usize, out: &mut Vec<u8, A>) -> Result<(),
 }
 
 // Appends a cell behind some blanks. Returns how many are before the next.
-fn append_cell<A: Allocator>(
+fn append_behind<A: Allocator + Copy, R: Row<A>>(
+    alloc: A,
     blanks: usize,
+    column: usize,
     width: usize,
-    cell: &[u8],
+    row: &R,
     out: &mut Vec<u8, A>,
 ) -> Result<usize, NoMemory>
-    ensures text { OnOk result (out.new.items ≡ out.old.items ++ (replicate blanks 32 ++ cell.now)) }
-    ensures next { IfOk result (λ next. next ≡ width - length cell.now + 2) }
+    ensures text { OnOk result (out.new.items ≡ out.old.items ++ (replicate blanks 32 ++ cell_of column (R.cells row.now))) }
+    ensures next { IfOk result (λ next. next ≡ width - length (cell_of column (R.cells row.now)) + 2) }
 {
     append_blanks(blanks, out)?;
-    append(cell, out)?;
-    let left = width.saturating_sub(cell.len());
+    let start = out.len();
+    row.append_cell(alloc, column, out)?;
+    let left = width.saturating_sub(out.len() - start);
     left.checked_add(2).ok_or(NoMemory)
 }
 
-// Appends cells in their columns.
-fn append_cells<A: Allocator>(
+// Appends the cells of a row in their columns.
+fn append_cells<A: Allocator + Copy, R: Row<A>>(
+    alloc: A,
     widths: &[usize],
-    cells: &[Vec<u8, A>],
+    row: &R,
     out: &mut Vec<u8, A>,
 ) -> Result<(), NoMemory>
-    ensures { OnOk result (out.new.items ≡ out.old.items ++ cells_behind 0 widths.now (items_of cells.now)) }
+    ensures { OnOk result (out.new.items ≡ out.old.items ++ cells_behind 0 widths.now (R.cells row.now)) }
 {
     let mut blanks: usize = 0;
-    'cells: for (cell, width) in cells.iter().zip(widths) {
-        blanks = append_cell(blanks, *width, cell, out)?;
+    'columns: for column in 0..row.cell_count() {
+        if column >= widths.len() {
+            return Ok(());
+        }
+        blanks = append_behind(alloc, blanks, column, widths[column], row, out)?;
     }
     Ok(())
 }
 
-// Appends rows.
-fn append_rows<A: Allocator>(
+/// Appends the line of a row.
+pub fn append_line<A: Allocator + Copy, R: Row<A>>(
+    alloc: A,
     widths: &[usize],
-    rows: &[Row<A>],
+    row: &R,
     out: &mut Vec<u8, A>,
 ) -> Result<(), NoMemory>
-    ensures { OnOk result (out.new.items ≡ out.old.items ++ flat_map (row_text widths.now) rows.now) }
+    ensures { OnOk result (out.new.items ≡ out.old.items ++ row_text widths.now (R.cells row.now)) }
 {
-    'rows: for row in rows {
-        append_cells(widths, &row.cells, out)?;
-        append_byte(b'\n', out)?;
-    }
-    Ok(())
+    append_cells(alloc, widths, row, out)?;
+    append_byte(b'\n', out)
 }
 
 /// Appends the table of some rows, if there are any.
-pub fn append_table<A: Allocator + Copy>(
+pub fn append_table<A: Allocator + Copy, T: Rows<A>>(
     alloc: A,
     titles: &[&[u8]],
-    mut rows: Vec<Row<A>, A>,
+    count: usize,
+    rows: &T,
     out: &mut Vec<u8, A>,
 ) -> Result<(), NoMemory>
-    ensures { OnOk result (out.new.items ≡ out.old.items ++ table (map (λ title. title.now) titles.now) rows.items) }
+    requires { count ≡ length (T.rows rows.now) }
+    ensures { OnOk result (out.new.items ≡ out.old.items ++ table (map (λ title. title.now) titles.now) (T.rows rows.now)) }
 {
-    if rows.is_empty() {
+    if count == 0 {
         return Ok(());
     }
-    rows.insert(0, Row::of(alloc, titles)?)?;
-    append_rows(&widths(alloc, titles.len(), &rows)?, &rows, out)
+    let widths = widths(alloc, titles, rows)?;
+    append_line(alloc, &widths, &Titles(titles), out)?;
+    rows.append_lines(alloc, &widths, out)
 }
 
 /// Appends a number of things.

@@ -1,10 +1,12 @@
 //! The rows of keys.
 
-ghost use Rattle.std.specs.Prelude.{◌≡◌, ◌++◌, ◌∷◌, IfOk, OnOk, [], codes, decimal, true, if◌then◌else◌};
+ghost use Rattle.std.specs.Prelude.{◌≡◌, ◌++◌, IfOk, OnOk, [], codes, true, if◌then◌else◌};
+ghost use Rattle.krb_wire.specs.Names.{name_text};
 ghost use Rattle.krb_show.specs.EtypeNames.{etype_cell};
-ghost use Rattle.krb_show.specs.KeytabView.{distinct, key_row, keys_cell, more_types, spaced};
+ghost use Rattle.krb_show.specs.KeytabView.{distinct, keys_cell, more_types, spaced};
 
-use crate::columns::{Row, new_cell};
+use crate::ago::append_time;
+use crate::columns::Row;
 use crate::etypes::append_etype;
 use crate::lines::{Line, LineKey};
 use itoa::Buffer;
@@ -69,15 +71,6 @@ fn append_more<A: Allocator>(count: usize, out: &mut Vec<u8, A>) -> Result<(), N
     append(b" more", out)
 }
 
-// Adds a cell with a kvno.
-fn push_kvno<A: Allocator + Copy>(alloc: A, kvno: u32, row: &mut Row<A>) -> Result<(), NoMemory>
-    ensures { OnOk result (row.new ≡ row.old ++ decimal kvno ∷ []) }
-{
-    let mut cell = new_cell(alloc)?;
-    append_labelled(b"", kvno, &mut cell)?;
-    row.push(cell)
-}
-
 // Appends the types of a line.
 #[tactic(auto, unfolding(crate::specs::KeytabView::keys_cell))]
 fn append_keys<A: Allocator + Copy>(
@@ -98,36 +91,45 @@ fn append_keys<A: Allocator + Copy>(
     Ok(())
 }
 
-// Adds a cell with the types of a line.
-fn push_keys<A: Allocator + Copy>(
-    alloc: A,
-    is_old: bool,
-    etypes: &[u16],
-    row: &mut Row<A>,
-) -> Result<(), NoMemory>
-    ensures { OnOk result (row.new ≡ row.old ++ keys_cell is_old etypes.now ∷ []) }
-{
-    let mut cell = new_cell(alloc)?;
-    append_keys(alloc, is_old, etypes, &mut cell)?;
-    row.push(cell)
+/// The row of a line at a second. The name is on the first of its lines, that of the newest version.
+#[derive(Drop)]
+pub struct KeyRow<'l, 'a, A: Allocator> {
+    pub clock: u32,
+    pub key: &'l LineKey,
+    pub line: &'l Line<'a, A>,
 }
 
-/// Returns the row of a line. The name is on the first of its lines, that of the newest version.
-pub fn row_of<A: Allocator + Copy>(
-    alloc: A,
-    now: u32,
-    key: &LineKey,
-    line: &Line<'_, A>,
-) -> Result<Row<A>, NoMemory>
-    ensures { IfOk result (λ row. row ≡ key_row now (key.now, line.now)) }
-{
-    let cells = Vec::with_capacity(alloc, 4)?;
-    let mut row = Row { cells };
-    push_kvno(alloc, key.2.0, &mut row)?;
-    row.push_time(alloc, now, line.added)?;
-    push_keys(alloc, key.1, &line.etypes, &mut row)?;
-    if !key.1 {
-        row.push_name(alloc, line.entry.principal())?;
+impl<A: Allocator> KeyRow<'_, '_, A> {
+    // Appends the name, but not that of an old version.
+    fn append_name<B: Allocator>(&self, out: &mut Vec<u8, B>) -> Result<(), NoMemory>
+        ensures { OnOk result (out.new.items
+            ≡ out.old.items ++ (if self.now.key.now.1 then [] else name_text self.now.line.now.principal)) }
+    {
+        let line = self.line;
+        if self.key.1 {
+            return Ok(());
+        }
+        line.append_name(out)
     }
-    Ok(row)
+}
+
+impl<A: Allocator + Copy> Row<A> for KeyRow<'_, '_, A> {
+    ghost use Rattle.krb_show.specs.KeytabView.{key_row};
+
+    ghost cells = { λ row. key_row row.clock (row.key.now, row.line.now) };
+
+    fn cell_count(&self) -> usize {
+        if self.key.1 { 3 } else { 4 }
+    }
+
+    fn append_cell(&self, alloc: A, column: usize, out: &mut Vec<u8, A>) -> Result<(), NoMemory> {
+        let line = self.line;
+        match column {
+            0 => append_labelled(b"", self.key.2.0, out),
+            1 => append_time(self.clock, line.added, out),
+            2 => append_keys(alloc, self.key.1, &line.etypes, out),
+            3 => self.append_name(out),
+            _ => Ok(()),
+        }
+    }
 }

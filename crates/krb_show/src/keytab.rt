@@ -1,11 +1,11 @@
 //! A keytab as it is shown to people.
 
-ghost use Rattle.std.specs.Prelude.{◌≡◌, ◌++◌, IfOk, OnOk, length, map};
+ghost use Rattle.std.specs.Prelude.{◌≡◌, ◌++◌, IfOk, OnOk, length};
 ghost use Rattle.krb_keytab.specs.Find.{placed_entries};
-ghost use Rattle.krb_show.specs.KeytabView.{key_row, keytab_heading, keytab_view, name_count};
+ghost use Rattle.krb_show.specs.KeytabView.{keytab_heading, keytab_view, name_count};
 
-use crate::columns::{Row, append_counted, append_table};
-use crate::keys::row_of;
+use crate::columns::{Rows, append_counted, append_line, append_table, widened_by};
+use crate::keys::KeyRow;
 use crate::lines::{Lines, lines_of};
 use krb_keytab::Keytab;
 use krb_text::{append, append_byte, append_fault_line};
@@ -54,19 +54,42 @@ fn append_heading<A: Allocator>(
     append_byte(b'\n', out)
 }
 
-// Returns the rows of the lines.
-fn rows_of<A: Allocator + Copy>(
-    alloc: A,
-    now: u32,
-    lines: &Lines<'_, A>,
-) -> Result<Vec<Row<A>, A>, NoMemory>
-    ensures { IfOk result (λ rows. rows.items ≡ map (key_row now) lines.now.entries) }
-{
-    let mut rows = Vec::new(alloc);
-    'lines: for (key, line) in lines {
-        rows.push(row_of(alloc, now, key, line)?)?;
+// The rows of lines at a second.
+#[derive(Drop)]
+struct KeyRows<'l, 'a, A: Allocator> {
+    clock: u32,
+    lines: &'l Lines<'a, A>,
+}
+
+impl<A: Allocator + Copy> Rows<A> for KeyRows<'_, '_, A> {
+    ghost use Rattle.std.specs.Prelude.{map};
+    ghost use Rattle.krb_show.specs.KeytabView.{key_row};
+
+    ghost rows = { λ rows. map (key_row rows.clock) rows.lines.now.entries };
+
+    fn widened(&self, alloc: A, column: usize, least: usize) -> Result<usize, NoMemory> {
+        let clock = self.clock;
+        let mut width = least;
+        let mut cell = Vec::new(alloc);
+        'lines: for (key, line) in self.lines {
+            let row = KeyRow { clock, key, line };
+            width = widened_by(alloc, column, width, &row, &mut cell)?;
+        }
+        Ok(width)
     }
-    Ok(rows)
+
+    fn append_lines(
+        &self,
+        alloc: A,
+        widths: &[usize],
+        out: &mut Vec<u8, A>,
+    ) -> Result<(), NoMemory> {
+        let clock = self.clock;
+        'lines: for (key, line) in self.lines {
+            append_line(alloc, widths, &KeyRow { clock, key, line }, out)?;
+        }
+        Ok(())
+    }
 }
 
 /// Appends what is shown of a keytab: a heading with the file's name, a table of its principals' keys as they are at the
@@ -82,6 +105,10 @@ pub fn append_keytab_view<A: Allocator + Copy, B: Allocator>(
 {
     let lines = lines_of(alloc, keytab)?;
     append_heading(name, entry_count(keytab)?, name_count(&lines)?, out)?;
-    append_table(alloc, &TITLES, rows_of(alloc, now, &lines)?, out)?;
+    let rows = KeyRows {
+        clock: now,
+        lines: &lines,
+    };
+    append_table(alloc, &TITLES, lines.len(), &rows, out)?;
     append_fault_line(keytab.fault(), out)
 }

@@ -1,13 +1,15 @@
 //! The lines of a keytab's table: one for each name and version.
 
-ghost use Rattle.std.specs.Prelude.{◌≡◌, ◌∷◌, ℕ, List, IfOk, OnOk};
+ghost use Rattle.std.specs.Prelude.{◌≡◌, ◌++◌, ◌∷◌, ℕ, List, IfOk, OnOk, Some};
+ghost use Rattle.krb_wire.specs.Names.{name_text};
+ghost use Rattle.krb_keytab.specs.Entry.{entry_at};
 ghost use Rattle.krb_keytab.specs.Find.{PlacedEntry, placed_entries};
 ghost use Rattle.krb_show.specs.KeytabView.{grown, lines_of, put_entry};
 ghost use Rattle.krb_show.specs.Lines.{AreSoFar};
 
 use krb_audit::{Row, SelectedKvno, marks_of, next_mark, next_number, rows_of};
-use krb_keytab::{EntryView, Keytab};
-use krb_wire::NoMemory;
+use krb_keytab::{EntryView, Keytab, KtCell, read_entry};
+use krb_wire::{KtFormat, NoMemory, write_name};
 use std::alloc::Allocator;
 use std::cmp::Reverse;
 use std::collections::BTreeMap;
@@ -21,8 +23,9 @@ pub type LineKey = (u32, bool, Reverse<u32>);
 /// Entries of a name and version.
 #[derive(Drop)]
 pub struct Line<'a, A: Allocator> {
-    /// One with the name.
-    pub entry: EntryView<'a>,
+    // The record of one with the name.
+    record: &'a [u8],
+    format: KtFormat,
     /// Their latest time.
     pub added: u32,
     pub etypes: Vec<u16, A>,
@@ -30,10 +33,11 @@ pub struct Line<'a, A: Allocator> {
 
 impl<'a, A: Allocator> Model for Line<'a, A> {
     ghost use Rattle.krb_show.specs.KeytabView.{LineParts};
+    ghost use Rattle.krb_show.specs.Named.{principal_in};
 
     ghost Value = { LineParts };
 
-    ghost view = { λ l. record { principal = l.entry.principal; added = l.added; etypes = l.etypes.items } };
+    ghost view = { λ l. record { principal = principal_in l.format l.record.now; added = l.added; etypes = l.etypes.items } };
 }
 
 /// The lines of a table, in order.
@@ -48,20 +52,35 @@ impl<'a, A: Allocator> Line<'a, A> {
         self.etypes.push(etype)?;
         Ok(())
     }
+
+    /// Appends the name.
+    pub fn append_name<B: Allocator>(&self, out: &mut Vec<u8, B>) -> Result<(), NoMemory>
+        ensures { OnOk result (out.new.items ≡ out.old.items ++ name_text self.now.principal) }
+    {
+        // The record was read before.
+        let Some(entry) = read_entry(self.format, self.record) else {
+            return Err(NoMemory);
+        };
+        write_name(entry.principal(), out)
+    }
 }
 
-// Adds an entry to the line with its key.
+// Adds the entry of a record to the line with its key.
 fn put_entry<'a, A: Allocator + Copy>(
     alloc: A,
     key: LineKey,
-    entry: EntryView<'a>,
+    format: KtFormat,
+    record: &'a [u8],
+    entry: &EntryView<'_>,
     lines: &mut Lines<'a, A>,
 ) -> Result<(), NoMemory>
-    ensures { OnOk result (lines.new.entries ≡ put_entry key entry.entry lines.old.entries) }
+    ensures { entry_at format record.now ≡ Some entry.now
+        → OnOk result (lines.new.entries ≡ put_entry key entry.now lines.old.entries) }
 {
     let (timestamp, etype) = (entry.timestamp(), entry.enctype());
     let begun = Line {
-        entry,
+        record,
+        format,
         added: 0,
         etypes: Vec::new(alloc),
     };
@@ -78,15 +97,31 @@ struct SoFar<'a, A: Allocator> {
 }
 
 impl<'a, A: Allocator + Copy> SoFar<'a, A> {
-    // Adds the next entry.
-    fn add(&mut self, alloc: A, entry: EntryView<'a>) -> Result<(), NoMemory>
-        ensures { (all rest : List PlacedEntry) (place : ℕ) → AreSoFar all ((place, entry.entry) ∷ rest) self.old
-            → OnOk result (AreSoFar all rest self.new) }
+    // Returns what is known before the first entry.
+    fn of<B: Allocator>(alloc: A, keytab: &Keytab<B>) -> Result<SoFar<'a, A>, NoMemory>
+        ensures { IfOk result (AreSoFar (placed_entries keytab.now.state) (placed_entries keytab.now.state)) }
     {
+        let rows = rows_of(alloc, keytab)?;
+        let are_old = marks_of(alloc, &rows, SelectedKvno::Old, 0)?;
+        Ok(SoFar {
+            rows: rows.into_iter(),
+            are_old: are_old.into_iter(),
+            lines: BTreeMap::new(alloc),
+        })
+    }
+
+    // Adds the entry of the next record.
+    fn add(&mut self, alloc: A, format: KtFormat, record: &'a [u8]) -> Result<(), NoMemory>
+        ensures { (all rest : List PlacedEntry) (x : PlacedEntry) → entry_at format record.now ≡ Some x.1
+            → AreSoFar all (x ∷ rest) self.old → OnOk result (AreSoFar all rest self.new) }
+    {
+        let Some(entry) = read_entry(format, record) else {
+            return Ok(());
+        };
         let number = next_number(&mut self.rows);
         let is_old = next_mark(&mut self.are_old);
         let key = (number, is_old, Reverse(entry.kvno()));
-        put_entry(alloc, key, entry, &mut self.lines)
+        put_entry(alloc, key, format, record, &entry, &mut self.lines)
     }
 }
 
@@ -97,15 +132,12 @@ pub fn lines_of<'a, A: Allocator + Copy, B: Allocator>(
 ) -> Result<Lines<'a, A>, NoMemory>
     ensures { IfOk result (λ lines. lines.entries ≡ lines_of (placed_entries keytab.now.state)) }
 {
-    let rows = rows_of(alloc, keytab)?;
-    let are_old = marks_of(alloc, &rows, SelectedKvno::Old, 0)?;
-    let mut so_far = SoFar {
-        rows: rows.into_iter(),
-        are_old: are_old.into_iter(),
-        lines: BTreeMap::new(alloc),
-    };
-    'entries: for (_, entry) in keytab.entries() {
-        so_far.add(alloc, entry)?;
+    let mut so_far = SoFar::of(alloc, keytab)?;
+    let format = keytab.format();
+    for (_place, cell) in keytab.cells() {
+        if let KtCell::Live(record) = cell {
+            so_far.add(alloc, format, record)?;
+        }
     }
     Ok(so_far.lines)
 }

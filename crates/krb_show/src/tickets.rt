@@ -1,18 +1,15 @@
 //! The rows of tickets.
 
-ghost use Rattle.std.specs.Prelude.{◌≡◌, ◌++◌, ◌∷◌, [], IfOk, OnOk};
+ghost use Rattle.std.specs.Prelude.{◌≡◌};
 ghost use Rattle.krb_wire.specs.Text.{AppendedPart};
-ghost use Rattle.krb_ccache.specs.Ticket.{ticket_encryption};
-ghost use Rattle.krb_show.specs.Ago.{time_cell};
-ghost use Rattle.krb_show.specs.EtypeNames.{encryption_cell, etype_cell};
-ghost use Rattle.krb_show.specs.CacheView.{end_cell, start, ticket_row};
+ghost use Rattle.krb_show.specs.CacheView.{end_cell, start};
 
-use crate::ago::append_ago;
-use crate::columns::{Row, new_cell};
+use crate::ago::{append_ago, append_time};
+use crate::columns::Row;
 use crate::etypes::{append_encryption, append_etype};
 use krb_ccache::{CredView, ticket_encryption};
 use krb_text::append;
-use krb_wire::NoMemory;
+use krb_wire::{NoMemory, write_name};
 use std::alloc::Allocator;
 
 fn start(ticket: &CredView<'_>) -> u32
@@ -49,49 +46,31 @@ fn append_end<A: Allocator>(
     append_ago(now, end, out)
 }
 
-// Adds cells with when a ticket ends and until when it may be renewed.
-fn push_times<A: Allocator + Copy>(
-    alloc: A,
-    now: u32,
-    ticket: &CredView<'_>,
-    row: &mut Row<A>,
-) -> Result<(), NoMemory>
-    ensures { OnOk result (row.new ≡ row.old ++ end_cell now ticket.now.times ∷ time_cell now ticket.now.times.renew_till ∷ []) }
-{
-    let mut end = new_cell(alloc)?;
-    append_end(now, ticket, &mut end)?;
-    row.push(end)?;
-    row.push_time(alloc, now, ticket.renew_till())
+/// The row of a ticket at a second.
+#[derive(Drop)]
+pub struct TicketRow<'c, 'a> {
+    pub clock: u32,
+    pub ticket: &'c CredView<'a>,
 }
 
-// Adds cells with the type of a ticket's session key and how the ticket is encrypted.
-fn push_types<A: Allocator + Copy>(
-    alloc: A,
-    ticket: &CredView<'_>,
-    row: &mut Row<A>,
-) -> Result<(), NoMemory>
-    ensures { OnOk result (row.new ≡ row.old ++ etype_cell ticket.now.key.enctype ∷ encryption_cell (ticket_encryption ticket.now.ticket) ∷ []) }
-{
-    let mut session = new_cell(alloc)?;
-    append_etype(ticket.enctype(), &mut session)?;
-    row.push(session)?;
-    let mut encryption = new_cell(alloc)?;
-    append_encryption(ticket_encryption(ticket.ticket()), &mut encryption)?;
-    row.push(encryption)
-}
+impl<A: Allocator + Copy> Row<A> for TicketRow<'_, '_> {
+    ghost use Rattle.krb_show.specs.CacheView.{ticket_row};
 
-/// Returns the row of a ticket.
-pub fn row_of<A: Allocator + Copy>(
-    alloc: A,
-    now: u32,
-    ticket: &CredView<'_>,
-) -> Result<Row<A>, NoMemory>
-    ensures { IfOk result (λ row. row ≡ ticket_row now ticket.now) }
-{
-    let cells = Vec::with_capacity(alloc, 5)?;
-    let mut row = Row { cells };
-    push_times(alloc, now, ticket, &mut row)?;
-    push_types(alloc, ticket, &mut row)?;
-    row.push_name(alloc, ticket.server())?;
-    Ok(row)
+    ghost cells = { λ row. ticket_row row.clock row.ticket.now };
+
+    fn cell_count(&self) -> usize {
+        5
+    }
+
+    fn append_cell(&self, _alloc: A, column: usize, out: &mut Vec<u8, A>) -> Result<(), NoMemory> {
+        let ticket = self.ticket;
+        match column {
+            0 => append_end(self.clock, ticket, out),
+            1 => append_time(self.clock, ticket.renew_till(), out),
+            2 => append_etype(ticket.enctype(), out),
+            3 => append_encryption(ticket_encryption(ticket.ticket()), out),
+            4 => write_name(ticket.server(), out),
+            _ => Ok(()),
+        }
+    }
 }

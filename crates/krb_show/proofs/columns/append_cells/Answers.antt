@@ -1,17 +1,19 @@
-use Rattle.krb_show.proofs.Cited.{ap, List, ℕ}
-use Rattle.std.specs.Prelude.{Vec}
-use Rattle.std.proofs.lemmas.Slice.Zip.{either_empty_from_Zip}
-use Rattle.krb_wire.specs.Reading.{items_of}
+use Rattle.krb_show.proofs.Cited.{[], arith, drop, drop_all, drop_more, inl, inr}
 use Rattle.krb_show.proofs.Tables.{all_put, put_cell}
 use Rattle.krb_show.proofs.columns.append_cells.Goals as goal
 
 -- the next cell was appended
-pub cells-preserved : goal.cells-preserved
-cells-preserved g c =
-    let steps = c.in-Some.ensures.steps in
-    put_cell _ _ _ _ _ _ _ _ _ _ _ steps.1 (ap (λ (l : List (Vec ℕ g.row.A.Denot)). items_of l) steps.0)
-    (rw c.deref.ensures.value at c.in_ok-blanks.ensures.text) (rw c.deref.ensures.value at c.in_ok-blanks.ensures.next) c.cells.invariant
+pub columns-preserved : goal.columns-preserved
+columns-preserved g c =
+    let ws = c.args.widths.now in
+    let cs = g.R.Row.cells c.args.row.now in
+    let i = c.columns.column in
+    put_cell _ _ _ _ _ _ _ _ _ _ _ (drop_more ws i 0 (omega arith)) (drop_more cs i [] (omega arith)) c.in_ok-blanks.ensures.text c.in_ok-blanks.ensures.next c.columns.invariant
 
 -- no cell is left
 pub returns : goal.returns
-returns g c = all_put _ _ _ _ _ (either_empty_from_Zip c.cells.cell-iterator c.next.new.self c.next.result c.in-None.is c.next.ensures.steps) c.cells.invariant
+returns g c = all_put _ _ _ _ _ (inl (drop_all c.columns.column (g.R.Row.cells c.args.row.now) (omega arith))) c.columns.invariant
+
+-- no column is left
+pub returns-then-column-widths : goal.returns-then-column-widths
+returns-then-column-widths g c = all_put _ _ _ _ _ (inr (drop_all c.columns.column c.args.widths.now (omega arith))) c.columns.invariant

@@ -1,7 +1,11 @@
-use Rattle.krb_show.proofs.Cited.{placed_entries}
+use Rattle.krb_show.proofs.Cited.{◌≡◌, placed_entries}
+use Rattle.krb_keytab.specs.Entries.{entries_in}
 use Rattle.krb_show.specs.Lines.{AreSoFar}
 use Rattle.krb_show.proofs.lines.lines_of.Given as goal
 
 -- the entries so far are in their lines
-abbrev pub invariant-entries : goal.invariant-entries
-invariant-entries g l = AreSoFar (placed_entries l.keytab.state) l.entry-iterator l.so_far
+abbrev pub invariant-loop-place : goal.invariant-loop-place
+invariant-loop-place g l = record {
+  so_far : AreSoFar (placed_entries l.keytab.state) (entries_in l._place-iterator.format l._place-iterator.place l._place-iterator.contents.cells) l.so_far;
+  format : l._place-iterator.format ≡ l.format;
+}
