@@ -16,7 +16,8 @@ pub use Rattle.krb_audit.specs.Names.{kt_name, type_len}
 pub use Rattle.krb_audit.specs.Newest.{is_old, newer, has_other_version, is_newer, newest_from, newest}
 pub use Rattle.krb_audit.specs.CheckUp.{holes}
 pub use Rattle.krb_audit.specs.Report.{finding_lines, octal}
-pub use Rattle.krb_audit.specs.Rows.{first_number, AreRows, AreNumbered, HasPlace, stamp_of, first_from, row_in, shown, stamped, newer_stamp, name_cmp, HashedName, to_name}
+pub use Rattle.krb_audit.specs.Rows.{first_number, AreRows, AreNumbered, HasPlace, stamp_of, first_from, row_in, shown, stamped, newer_stamp, to_name}
+pub use Rattle.krb_names.specs.Hash.{HashedName, hash_of, name_cmp}
 pub use Rattle.krb_audit.specs.Selection.{has_selected_kvno, is_named, is_young}
 pub use Rattle.krb_audit.specs.declared.rows.Row.{Row}
 pub use Rattle.krb_audit.specs.declared.selection.SelectedKvno.TheVariants.{OldFor, Old, Exactly, Any, Newest}

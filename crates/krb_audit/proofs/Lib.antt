@@ -10,6 +10,7 @@ pub mod FirstsLemmas
 pub mod FindingsLemmas
 pub mod Octal
 pub mod MissingLemmas
+pub mod AskedNames
 pub mod CountsLemmas
 pub mod WeakNumbers
 pub mod NewestLemmas

@@ -1,51 +1,32 @@
 -- Names that are missing, as the code holds them, and as the definitions have them.
-use Rattle.krb_audit.proofs.Cited.{◌≡◌, ◌≢◌, ℕ, Bool, true, cond, List, [], ◌∷◌, ◌++◌, Some, refl, sym, ap, ◌∙◌, ◌||◌, ◌&&◌, not, filter, fold, list_any, list_any-append, map, map_push, bytes_eq, PlacedEntry, ◌<◌, ◌+◌, arith, drop, get_or, length, vec_items, Parts, have_same_name, first_from, first_number}
-use Rattle.std.proofs.lemmas.List.{at_drop_more}
-use Rattle.std.proofs.lemmas.List.Elements.{filter_agree}
+use Rattle.krb_audit.proofs.Cited.{◌≡◌, ◌≢◌, ℕ, Bool, true, false, cond, List, [], ◌∷◌, ◌++◌, Some, refl, sym, ap, subst, ◌∙◌, ◌||◌, ◌&&◌, not, filter, fold, list_any, list_any-append, map, map_push, append-nil, bytes_eq, PlacedEntry, ◌<◌, ◌+◌, arith, take, get_or, length, vec_items, Parts, have_same_name, first_from, first_number}
+use Rattle.std.proofs.lemmas.List.{get_or-map, length-map, take_more}
+use Rattle.std.proofs.lemmas.List.Elements.{filter-append}
+use Rattle.std.proofs.lemmas.List.Folds.{list_any_at}
+use Rattle.std.proofs.lemmas.List.Sums.{fold-append}
+use Rattle.std.proofs.lemmas.Cmp.{nat_list_eq_equiv}
 use Rattle.std.proofs.lemmas.Slice.Eq.{bytes_eq-Decides, slice_eq-Decides}
 use Rattle.std.specs.Prelude.{Vec}
 use denote.Ref.{Bor}
 use Rattle.krb_wire.specs.Names.{name_text}
 use Rattle.krb_wire.proofs.NamesCompared.{and_both}
-use Rattle.krb_audit.specs.CheckUp.{added_once, missing_among, prints_as}
+use Rattle.krb_names.specs.Marks.{AreMarked}
+use Rattle.krb_names.specs.Set.{is_among}
+use Rattle.krb_names.specs.declared.marks.NameMarks.{NameMarks}
+use Rattle.krb_audit.specs.CheckUp.{added_once, prints_as}
 use Rattle.krb_audit.proofs.FirstNumbers.{same_equiv}
 
--- the texts of some references
-abbrev pub texts_of : List (Bor (List ℕ)) → List (List ℕ)
-texts_of ts = map (λ t. t.now) ts
+-- the name of some entry prints as that text
+abbrev pub seen_in : List PlacedEntry → List ℕ → Bool
+seen_in xs text = list_any (prints_as text) xs
 
-any_text : (test : List ℕ → Bool) (ts : List (Bor (List ℕ))) → list_any (λ t. test t.now) ts ≡ list_any test (texts_of ts)
-any_text test [] = refl
-any_text test (t ∷ ts) = ap (λ (b : Bool). test t.now || b) (any_text test ts)
+-- ---- one more entry
 
-once_if : (b : Bool) (ts : List (Bor (List ℕ))) (t : Bor (List ℕ)) → texts_of (cond b ts (ts ++ t ∷ [])) ≡ cond b (texts_of ts) (texts_of ts ++ t.now ∷ [])
-once_if b ts t = grind (arith, map_push)
+seen_more : (before : List PlacedEntry) (x : PlacedEntry) (name : Parts) (text : List ℕ) → name ≡ x.1.principal → (seen_in before text || bytes_eq (name_text name) text) ≡ seen_in (before ++ x ∷ []) text
+seen_more before x name text is = grind (arith, is, list_any-append (prints_as text) before (x ∷ []))
 
--- a reference is added, unless its text is there
-pub once_added : (ts us : List (Bor (List ℕ))) (t : Bor (List ℕ)) → us ≡ cond (list_any (λ u. bytes_eq t.now u.now) ts) ts (ts ++ t ∷ []) → texts_of us ≡ added_once (texts_of ts) t.now
-once_added ts us t is = grind (arith, is, once_if (list_any (λ u. bytes_eq t.now u.now) ts) ts t, any_text (bytes_eq t.now) ts)
-
--- ---- what is missing after one more entry
-
-filtered_texts : (p : List ℕ → Bool) (ts : List (Bor (List ℕ))) → texts_of (filter (λ t. p t.now) ts) ≡ filter p (texts_of ts)
-filtered_texts p [] = refl
-filtered_texts p (t ∷ ts) = grind (arith, filtered_texts p ts)
-
-filtered_twice : (p q : List ℕ → Bool) (ts : List (List ℕ)) → filter q (filter p ts) ≡ filter (λ t. p t && q t) ts
-filtered_twice p q [] = refl
-filtered_twice p q (t ∷ ts) = grind (arith, filtered_twice p q ts)
-
--- without the text as which an entry's name prints
-pub without_next : (wanted : List (List ℕ)) (before : List PlacedEntry) (x : PlacedEntry) (ts us : List (Bor (List ℕ))) → texts_of ts ≡ missing_among wanted before → us ≡ filter (λ t. not (prints_as t.now x)) ts → texts_of us ≡ missing_among wanted (before ++ x ∷ [])
-without_next wanted before x ts us missing is =
-    grind (
-      arith,
-      missing,
-      is,
-      filtered_texts (λ t. not (prints_as t x)) ts,
-      filtered_twice (λ t. not (list_any (prints_as t) before)) (λ t. not (prints_as t x)) (fold added_once [] wanted),
-      filter_agree (λ t. not (list_any (prints_as t) before) && not (prints_as t x)) (λ t. not (list_any (prints_as t) (before ++ x ∷ []))) (λ t. grind (arith, list_any-append (prints_as t) before (x ∷ []))) (fold added_once [] wanted),
-    )
+pub seen_next : (before : List PlacedEntry) (x : PlacedEntry) (name : Parts) → name ≡ x.1.principal → (λ text. seen_in before text || bytes_eq (name_text name) text) ≡ seen_in (before ++ x ∷ [])
+seen_next before x name is i text = seen_more before x name text is i
 
 same_text : (p q : Parts) → have_same_name p q ≡ true → name_text p ≡ name_text q
 same_text p q same = search (arith, and_both, bytes_eq-Decides, slice_eq-Decides)
@@ -56,20 +37,90 @@ printed_before n i x [] rest t number other = grind (arith, number, other, same_
 printed_before n i x (y ∷ ys) rest t number other = grind (arith, printed_before (n + 1) i x ys rest t, number, other, same_text, list_any-append)
 
 -- nothing changes with an entry whose name came before
-pub kept_next : (wanted : List (List ℕ)) (before rest : List PlacedEntry) (x : PlacedEntry) (first : ℕ) → first_number x.1.principal (before ++ x ∷ rest) ≡ Some first → first ≢ length before → missing_among wanted before ≡ missing_among wanted (before ++ x ∷ [])
-kept_next wanted before rest x first number other =
-    filter_agree _ _ (λ t. ap not (sym (printed_before 0 first x before rest t number (λ is. other (omega (arith, is)))))) (fold added_once [] wanted)
+pub seen_again : (before rest : List PlacedEntry) (x : PlacedEntry) (first : ℕ) → first_number x.1.principal (before ++ x ∷ rest) ≡ Some first → first ≢ length before → seen_in before ≡ seen_in (before ++ x ∷ [])
+seen_again before rest x first number other i text =
+    sym (printed_before 0 first x before rest text number (λ is. other (omega (arith, is)))) i
 
-none_removed : (ts : List (List ℕ)) → filter (λ t. true) ts ≡ ts
-none_removed [] = refl
-none_removed (t ∷ ts) = ap (λ (us : List (List ℕ)). t ∷ us) (none_removed ts)
+-- ---- what is missing
 
--- without entries, all wanted texts are missing
-pub all_missing : (wanted : List (List ℕ)) (ts : List (Bor (List ℕ))) → texts_of ts ≡ fold added_once [] wanted → texts_of ts ≡ missing_among wanted []
-all_missing wanted ts once = grind (arith, once, none_removed (fold added_once [] wanted))
+-- the texts of some references
+abbrev pub texts_of : List (Bor (List ℕ)) → List (List ℕ)
+texts_of ts = map (λ t. t.now) ts
 
--- the texts so far with one more, and the others, are the texts so far and the others
-pub once_more : {A : Type 0} (once once' : List (List ℕ)) (vs : List (Vec ℕ A)) (i : ℕ) (v : Vec ℕ A) → i < length vs → v ≡ get_or vs i v → once' ≡ added_once once (vec_items v) → fold added_once once' (map vec_items (drop (i + 1) vs)) ≡ fold added_once once (map vec_items (drop i vs))
-once_more {A = A} once once' vs i v below is added =
-    ap (λ (ts : List (List ℕ)). fold added_once ts (map vec_items (drop (i + 1) vs))) (added ∙ ap (λ (w : Vec ℕ A). added_once once (vec_items w)) is)
-    ∙ sym (at_drop_more (λ (ws : List (Vec ℕ A)). fold added_once once (map vec_items ws)) vs i v below)
+-- those of some texts that were not seen, each once
+abbrev pub missing_of : (List ℕ → Bool) → List (List ℕ) → List (List ℕ)
+missing_of seen texts = filter (λ text. not (seen text)) (fold added_once [] texts)
+
+among_added : (texts : List (List ℕ)) (text other : List ℕ) (b : Bool) → is_among texts text ≡ b → is_among (cond b texts (texts ++ text ∷ [])) other ≡ (is_among texts other || bytes_eq other text)
+among_added texts text other true among = grind (arith, among, bytes_eq-Decides other text)
+among_added texts text other false among = grind (arith, list_any-append (bytes_eq other) texts (text ∷ []))
+
+or_more : (a b c : Bool) → ((a || b) || c) ≡ (a || (b || c))
+or_more a b c = grind arith
+
+-- each once, they are the same
+among_once : (once texts : List (List ℕ)) (other : List ℕ) → is_among (fold added_once once texts) other ≡ (is_among once other || is_among texts other)
+among_once once [] other = grind arith
+among_once once (text ∷ texts) other =
+    among_once (added_once once text) texts other ∙ ap (λ (b : Bool). b || is_among texts other) (among_added once text other (is_among once text) refl)
+    ∙ or_more (is_among once other) (bytes_eq other text) (is_among texts other)
+
+added_by : (seen : List ℕ → Bool) (once : List (List ℕ)) (text : List ℕ) (s b : Bool) → seen text ≡ s → filter (λ t. not (seen t)) (cond b once (once ++ text ∷ [])) ≡ cond (s || b) (filter (λ t. not (seen t)) once) (filter (λ t. not (seen t)) once ++ text ∷ [])
+added_by seen once text s true e = grind arith
+added_by seen once text s false e = grind (arith, e, filter-append (λ t. not (seen t)) once (text ∷ []), append-nil (filter (λ t. not (seen t)) once))
+
+-- with one more text
+missing_next : (seen : List ℕ → Bool) (done : List (List ℕ)) (text : List ℕ) → missing_of seen (done ++ text ∷ []) ≡ cond (seen text || is_among done text) (missing_of seen done) (missing_of seen done ++ text ∷ [])
+missing_next seen done text =
+    ap (filter (λ t. not (seen t))) (fold-append added_once [] done (text ∷ []))
+    ∙ added_by seen (fold added_once [] done) text (seen text) (is_among (fold added_once [] done) text) refl
+    ∙ ap (λ (b : Bool). cond (seen text || b) (missing_of seen done) (missing_of seen done ++ text ∷ [])) (among_once [] done text)
+
+-- ---- the wanted texts, one after the other
+
+-- a wanted text that was not marked is missing, and one that was is not
+pub was_new : (marked among was : Bool) → was ≡ (among && marked) → among ≡ true → was ≡ false → marked ≡ false
+was_new marked among was is there new = grind (arith, is, there, new)
+
+pub was_seen : (marked among was : Bool) → was ≡ (among && marked) → was ≡ true → marked ≡ true
+was_seen marked among was is old = grind (arith, is, old)
+
+-- a text was seen, or is among those
+abbrev pub seen_or : (List ℕ → Bool) → List (List ℕ) → List ℕ → Bool
+seen_or seen done text = seen text || is_among done text
+
+-- the texts so far were added if they are missing, and are marked
+pub record AreTaken {A : Type 0} (seen : List ℕ → Bool) (wanted done : List (List ℕ)) (m : NameMarks A) (ts : List (Bor (List ℕ))) : Type 0 where
+  pub marks : AreMarked (seen_or seen done) wanted m
+  pub missing : texts_of ts ≡ missing_of seen done
+
+taken_if : (b : Bool) (ts : List (Bor (List ℕ))) (t : Bor (List ℕ)) → texts_of (cond b ts (ts ++ t ∷ [])) ≡ cond b (texts_of ts) (texts_of ts ++ t.now ∷ [])
+taken_if b ts t = grind (arith, map_push)
+
+among_more : (done : List (List ℕ)) (text other : List ℕ) → is_among (done ++ text ∷ []) other ≡ (is_among done other || bytes_eq other text)
+among_more done text other = grind (arith, list_any-append (bytes_eq other) done (text ∷ []))
+
+marked_more : (seen : List ℕ → Bool) (done : List (List ℕ)) (text : List ℕ) → (λ other. seen_or seen done other || bytes_eq text other) ≡ seen_or seen (done ++ text ∷ [])
+marked_more seen done text i other =
+    (or_more (seen other) (is_among done other) (bytes_eq text other)
+    ∙ ap (λ (b : Bool). seen other || (is_among done other || b)) (nat_list_eq_equiv.symm text other)
+    ∙ ap (λ (b : Bool). seen other || b) (sym (among_more done text other))) i
+
+pub taken_next : {A : Type 0} (seen : List ℕ → Bool) (wanted done : List (List ℕ)) (m n : NameMarks A) (ts us : List (Bor (List ℕ))) (t : Bor (List ℕ)) → AreTaken seen wanted done m ts
+    → AreMarked (λ other. seen_or seen done other || bytes_eq t.now other) wanted n → us ≡ cond (seen_or seen done t.now) ts (ts ++ t ∷ []) → AreTaken seen wanted (done ++ t.now ∷ []) n us
+taken_next seen wanted done m n ts us t taken marks is = record {
+  marks = subst (λ (marked : List ℕ → Bool). AreMarked marked wanted n) (marked_more seen done t.now) marks;
+  missing =
+      let b = seen_or seen done t.now in
+      ap texts_of is ∙ taken_if b ts t ∙ ap (λ (l : List (List ℕ)). cond b l (l ++ t.now ∷ [])) taken.missing ∙ sym (missing_next seen done t.now);
+}
+
+module _ {A : Type 0} (vs : List (Vec ℕ A)) (i : ℕ) (v : Vec ℕ A) (below : i < length vs) (is : v ≡ get_or vs i v) where
+  -- the texts so far and the next one
+  pub next_text : map vec_items (take (i + 1) vs) ≡ map vec_items (take i vs) ++ vec_items v ∷ []
+  next_text = ap (map vec_items) (take_more vs i v below) ∙ map_push vec_items (take i vs) (get_or vs i v) ∙ ap (λ (w : Vec ℕ A). map vec_items (take i vs) ++ vec_items w ∷ []) (sym is)
+
+  pub next_among : is_among (map vec_items vs) (vec_items v) ≡ true
+  next_among =
+      list_any_at (bytes_eq (vec_items v)) (map vec_items vs) i [] (omega (arith, below, length-map vs (vec_items {X = ℕ} {Z = A})))
+      ((bytes_eq-Decides (vec_items v) (get_or (map vec_items vs) i [])).1 (ap vec_items is ∙ sym (get_or-map vec_items vs i v [] below)))

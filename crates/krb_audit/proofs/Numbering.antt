@@ -1,13 +1,9 @@
 -- The names of entries are numbered, one entry after the other.
-use Rattle.krb_audit.proofs.Cited.{◌≡◌, arith, ℕ, ◌+◌, Bool, cond, List, [], ◌∷◌, ◌++◌, length, map, Option, Some, refl, sym, ap, ◌∙◌, append_assoc, bytes_eq, KtFormat, Parts, have_same_name, PlacedEntry, Row, Stamp, AreNumbered, first_number, stamp_of, kt_name, unwrap_or, option_or, nat_cmp_total, tied_itself, length_push, map_push, FitsKt, HashedName, name_cmp, to_name, first_from, row_in, shown}
+use Rattle.krb_audit.proofs.Cited.{◌≡◌, arith, ℕ, ◌+◌, Bool, cond, List, [], ◌∷◌, ◌++◌, length, map, Option, Some, refl, sym, ap, ◌∙◌, append_assoc, bytes_eq, KtFormat, Parts, have_same_name, PlacedEntry, Row, Stamp, AreNumbered, first_number, stamp_of, kt_name, unwrap_or, option_or, length_push, map_push, FitsKt, HashedName, hash_of, name_cmp, to_name, first_from, row_in, shown}
 use Rattle.std.specs.BTreeMap.{BTreeMap, get, get_by, Updates}
-use Rattle.std.specs.Cmp.Lexicographic.{slice_cmp}
-use Rattle.std.specs.Ordering.{nat_cmp, ordering_then, is_eq}
-use Rattle.std.proofs.lemmas.Map.Text.{is_eq-slice_cmp}
-use Rattle.std.proofs.lemmas.Slice.Eq.{bytes_eq-Decides}
 use denote.Ref.{Bor}
 use Rattle.krb_audit.specs.declared.rows.Names.{Names}
-use Rattle.krb_audit.specs.Names.{hash_of}
+use Rattle.krb_names.proofs.NameOrder.{hashes_tie}
 use Rattle.krb_audit.proofs.FirstNumbers.{same_equiv, first_alike}
 use Rattle.krb_audit.proofs.NameBytes.{same_bytes}
 
@@ -21,13 +17,9 @@ found m bytes = get_by (to_name bytes) m
 abbrev hashed : List ℕ → HashedName
 hashed bytes = (hash_of bytes, record { ref_ptr = (0, 0); now = bytes })
 
--- bytes compare equal together with their hashes iff the bytes are equal
-numbers_agree : (a b : List ℕ) (t : Bool) → bytes_eq a b ≡ t → is_eq (ordering_then (nat_cmp (hash_of a) (hash_of b)) (slice_cmp nat_cmp a b)) ≡ t
-numbers_agree a b t e = grind (arith, e, bytes_eq-Decides a b, tied_itself nat_cmp_total (hash_of a), is_eq-slice_cmp a b)
-
 -- look-up of bytes after an insertion
 found_next : (m n : BTreeMap HashedName ℕ) (hash : ℕ) (name : Bor (List ℕ)) (w : ℕ) → hash ≡ hash_of name.now → Updates name_cmp m n (hash, name) (Some w) → (q : List ℕ) → found n q ≡ cond (bytes_eq name.now q) (Some w) (found m q)
-found_next m n hash name w is updates q = grind (arith, is, updates.0 (hashed q), numbers_agree name.now q (bytes_eq name.now q) refl)
+found_next m n hash name w is updates q = updates.0 (hashed q) ∙ ap (λ (b : Bool). cond b (Some w) (found m q)) (hashes_tie (hash, name) (hashed q) is refl)
 
 -- ---- the numbers
 

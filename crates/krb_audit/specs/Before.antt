@@ -2,11 +2,12 @@
 use Rattle.std.specs.Prelude.{◌≡◌, List, ◌++◌, ℕ, length, map, find, Bool, ◌&&◌, ◌==◌, Option, Some, option_map}
 use Rattle.std.specs.List.{list_any}
 use Rattle.std.specs.Vec.Iter.{into_iter_items}
+use Rattle.krb_names.specs.Marks.{AreMarked}
 use Rattle.krb_keytab.specs.Find.{PlacedEntry, placed_entries}
 use Rattle.krb_keytab.specs.Store.{KeytabState}
 use Rattle.krb_audit.specs.declared.findings.Before.{Before}
 use Rattle.krb_audit.specs.declared.missing.Missing.{Missing}
-use Rattle.krb_audit.specs.CheckUp.{missing_among}
+use Rattle.krb_audit.specs.CheckUp.{prints_as}
 use Rattle.krb_audit.specs.declared.selection.SelectedKvno.TheVariants.{Old}
 use Rattle.krb_audit.specs.Findings.{ends_mit, weak_among, is_alike}
 use Rattle.krb_audit.specs.Rows.{AreRows, first_number}
@@ -37,9 +38,9 @@ looked firsts k = option_map (λ v. (v.0, v.1.now)) (get key_cmp firsts.map k)
 abbrev pub AreFirsts : List PlacedEntry → List PlacedEntry → (Key → Option (ℕ × List ℕ)) → Type 0
 AreFirsts all xs look = (x : PlacedEntry) (i : ℕ) → first_number x.1.principal all ≡ Some i → look (record { 0 = i }, x.1.version, x.1.enctype) ≡ option_map (λ y. (y.0, y.1.key)) (find (is_alike x) xs)
 
--- these are the wanted texts that no name of the entries `before` prints as
+-- these are the wanted texts, and those that some name of the entries `before` prints as are marked
 pub record IsMissing {A : Type 0} (wanted : List (List ℕ)) (before : List PlacedEntry) (m : Missing A) : Type 0 where
-  pub names : map (λ t. t.now) m.names.items ≡ missing_among wanted before
+  pub marks : AreMarked (λ text. list_any (prints_as text) before) wanted m.wanted
   pub count : m.count ≡ length before
 
 -- what is known of a keytab between the entries `before` and the entries `rest`

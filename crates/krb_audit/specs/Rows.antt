@@ -6,16 +6,16 @@ use Rattle.std.specs.List.{position_from}
 use Rattle.std.specs.Option.{option_or}
 use Rattle.std.specs.Ordering.{nat_cmp, ordering_then}
 use Rattle.std.specs.declared.cmp.Ordering.{Ordering}
-use denote.Ref.{Bor}
 use Rattle.krb_wire.specs.Spelling.{Parts, FitsKt}
 use Rattle.krb_wire.specs.Names.{have_same_name}
 use Rattle.krb_wire.specs.declared.format.KtFormat.{KtFormat}
+use Rattle.krb_names.specs.Hash.{HashedName, hash_of}
 use Rattle.krb_keytab.specs.Entry.{EntryParts}
 use Rattle.krb_keytab.specs.Find.{PlacedEntry}
 use Rattle.krb_audit.specs.declared.rows.Names.{Names}
 use Rattle.krb_audit.specs.declared.rows.Row.{Row}
 use Rattle.krb_audit.specs.declared.newest.Stamp.{Stamp}
-use Rattle.krb_audit.specs.Names.{hash_of, kt_name}
+use Rattle.krb_audit.specs.Names.{kt_name}
 use Rattle.krb_audit.specs.Newest.{newer, newest}
 
 -- the stamp of an entry: its kvno and timestamp
@@ -60,15 +60,7 @@ HasPlace len r = r.first < len
 
 -- ---- in a map
 
--- the bytes of a name, with their hash
-abbrev pub HashedName : Type 0
-HashedName = ℕ × Bor (List ℕ)
-
--- their order: by hash, then by bytes
-abbrev pub name_cmp : HashedName → HashedName → Ordering
-name_cmp x y = ordering_then (nat_cmp x.0 y.0) (slice_cmp nat_cmp x.1.now y.1.now)
-
--- how a name's bytes compare to them
+-- how a name's bytes compare to those in a map, with their hashes
 abbrev pub to_name : List ℕ → HashedName → Ordering
 to_name name y = ordering_then (nat_cmp (hash_of name) y.0) (slice_cmp nat_cmp name y.1.now)
 

@@ -20,6 +20,10 @@ abbrev pub has_text : List (List ℕ) → Parts → Bool
 has_text [] p = true
 has_text (text ∷ others) p = list_any (bytes_eq (name_text p)) (text ∷ others)
 
+-- names of a set are asked for, or any if there are none, as those texts are
+abbrev pub AsksFor : List (List ℕ) → List (List ℕ) → Type 0
+AsksFor texts names = (p : Parts) → has_text names p ≡ has_text texts p
+
 -- an enctype is one of the selected ones, if any are given
 abbrev pub has_selected_enctype : List ℕ → ℕ → Bool
 has_selected_enctype [] enctype = true

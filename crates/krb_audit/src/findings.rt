@@ -143,7 +143,7 @@ impl<'a, A: Allocator + Copy> Before<'a, A> {
         let hidden = is_first(ends, self.has_ended);
         let first = next_number(&mut self.rows);
         let old = next_mark(&mut self.are_old);
-        self.missing.remove_next(first, place, entry)?;
+        self.missing.mark_next(first, place, entry)?;
         let key = (Reverse(first), kvno, etype);
         let alike = self.firsts.consider(key, place, entry.key())?;
         self.has_ended = either(self.has_ended, ends);
@@ -195,8 +195,8 @@ pub(crate) fn check_entries<'k, A: Allocator + Copy, B: Allocator, C: Allocator>
     // Bounds the number of entries, so that it fits.
     let _few = keytab.cell_count();
     let count = rows.len() as u32;
-    let missing = Missing::new(alloc, wanted)?;
-    let mut before = Before::first(alloc, rows, are_old, missing);
+    let names = Missing::new(alloc, wanted)?;
+    let mut before = Before::first(alloc, rows, are_old, names);
     let mut entries = Vec::new(alloc);
     'entries: for (place, entry) in keytab.entries() {
         let marks = before.marks(aged_by, place, &entry)?;
@@ -205,10 +205,10 @@ pub(crate) fn check_entries<'k, A: Allocator + Copy, B: Allocator, C: Allocator>
         }
     }
     let weak_etypes = before.weak_etypes;
-    let missing = before.missing;
+    let missing = before.missing.texts(alloc, wanted)?;
     Ok(Pass {
         entries,
-        missing: missing.names,
+        missing,
         weak_etypes,
         count,
     })

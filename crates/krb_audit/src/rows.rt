@@ -6,11 +6,13 @@ ghost use Rattle.std.specs.Vec.Iter.{into_iter_items};
 ghost use Rattle.std.specs.BTreeMap.{get, Updates};
 ghost use Rattle.krb_keytab.specs.Entry.{entry_at};
 ghost use Rattle.krb_keytab.specs.Find.{PlacedEntry, placed_entries};
-ghost use Rattle.krb_audit.specs.Rows.{name_cmp, AreNumbered, AreRows, HasPlace, first_number};
+ghost use Rattle.krb_names.specs.Hash.{name_cmp};
+ghost use Rattle.krb_audit.specs.Rows.{AreNumbered, AreRows, HasPlace, first_number};
 
-use crate::names::{hash_of, named_entry};
+use crate::names::named_entry;
 use crate::newest::Stamp;
 use krb_keytab::{Keytab, KtCell};
+use krb_names::hash_of;
 use krb_wire::{KtFormat, NoMemory};
 use std::alloc::Allocator;
 use std::collections::BTreeMap;

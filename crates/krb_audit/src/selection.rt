@@ -7,6 +7,7 @@ ghost use Rattle.krb_audit.specs.Selection.{Selects, is_named, selected_in};
 
 use crate::criteria::is_named_if_it_matters;
 use crate::kvno_marks::SelectedVersions;
+use crate::name_filter::NameFilter;
 use krb_keytab::{EntryView, Keytab};
 use krb_text::{append, append_placed};
 use krb_wire::NoMemory;
@@ -113,7 +114,7 @@ fn take_selected<'k, A: Allocator + Copy, B: Allocator, T: Taker<'k>>(
     ensures taken { OnOk result (T.HasTaken label.now taker.new (selected_in selection.now now keytab.now.state)) }
     ensures named { IfOk result (λ b. b ≡ list_any (λ x. is_named selection.now x.1) (placed_entries keytab.now.state)) }
 {
-    let mut printed = Vec::new(alloc);
+    let mut names = NameFilter::of(alloc, &selection.names)?;
     let mut versions = SelectedVersions::of(alloc, keytab, selection.kvno, now)?;
     let mut is_any_named = false;
     'entries: for (place, entry) in keytab.entries() {
@@ -122,8 +123,8 @@ fn take_selected<'k, A: Allocator + Copy, B: Allocator, T: Taker<'k>>(
             is_any_named,
             has_kvno,
             selection,
+            &mut names,
             &entry,
-            &mut printed,
         )?;
         is_any_named |= is_named;
         take_if(is_named & has_kvno, label, place, entry, taker)?;

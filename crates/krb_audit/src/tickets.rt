@@ -3,9 +3,11 @@
 ghost use Rattle.std.specs.Prelude.{◌≡◌, ◌++◌, ◌∷◌, [], List, IfOk, OnOk, map};
 ghost use Rattle.std.specs.Vec.{vec_items};
 ghost use Rattle.krb_ccache.specs.Store.{PlacedCredential};
+ghost use Rattle.krb_audit.specs.Selection.{AsksFor};
 ghost use Rattle.krb_audit.specs.Tickets.{SelectsSoFar, SelectsTickets, removed_ticket_line};
 
 use crate::criteria::{has_ended_by, names_ticket};
+use crate::name_filter::NameFilter;
 use krb_ccache::{Ccache, CredView};
 use krb_text::{append, append_byte, append_labelled};
 use krb_wire::{NoMemory, write_name};
@@ -65,15 +67,15 @@ impl<A: Allocator> SelectedTickets<A> {
         &mut self,
         label: &[u8],
         criteria: &TicketCriteria<'_, B>,
-        printed: &mut Vec<u8, A>,
+        servers: &mut NameFilter<'_, A>,
         place: u32,
         credential: &CredView<'_>,
     ) -> Result<(), NoMemory>
-        ensures { (rest all : List PlacedCredential)
+        ensures { (rest all : List PlacedCredential) → AsksFor (map vec_items criteria.now.servers.now) servers.old.names
             → SelectsSoFar label.now (map vec_items criteria.now.servers.now) criteria.now.all_services criteria.now.ended_by ((place, credential.now) ∷ rest) all self.old
-            → OnOk result (SelectsSoFar label.now (map vec_items criteria.now.servers.now) criteria.now.all_services criteria.now.ended_by rest all self.new) }
+            → OnOk result (SelectsSoFar label.now (map vec_items criteria.now.servers.now) criteria.now.all_services criteria.now.ended_by rest all self.new × AsksFor (map vec_items criteria.now.servers.now) servers.new.names) }
     {
-        if !names_ticket(criteria, credential, printed)? {
+        if !names_ticket(criteria, credential, servers)? {
             return Ok(());
         }
         self.is_named = true;
@@ -93,14 +95,14 @@ pub fn select_tickets<A: Allocator + Copy, B: Allocator>(
 ) -> Result<SelectedTickets<A>, NoMemory>
     ensures { IfOk result (SelectsTickets label.now (map vec_items criteria.now.servers.now) criteria.now.all_services criteria.now.ended_by cache.now.state) }
 {
-    let mut printed = Vec::new(alloc);
+    let mut servers = NameFilter::of(alloc, criteria.servers)?;
     let mut selected = SelectedTickets {
         places: Vec::new(alloc),
         text: Vec::new(alloc),
         is_named: false,
     };
     'credentials: for (place, credential) in cache.credentials() {
-        selected.consider(label, criteria, &mut printed, place, &credential)?;
+        selected.consider(label, criteria, &mut servers, place, &credential)?;
     }
     Ok(selected)
 }

@@ -1,10 +1,7 @@
 -- Entries are twins iff their keys in a map compare equal.
 use Rattle.krb_copy.proofs.Cited.{◌≡◌, ℕ, ◌+◌, ◌<◌, Bool, true, cond, List, [], ◌∷◌, ◌++◌, length, None, refl, sym, ap, subst, ◌∙◌, arith, ◌&&◌, ◌==◌, map, bytes_eq, name_text, EntryParts, are_twins, ClassKey, ◌*◌, ◌/◌, join_with_byte, eqb-true, eq-eqb, IsClassKey, class_cmp, emptiness, kind_of}
-use Rattle.std.specs.declared.cmp.Ordering.{Ordering}
-use Rattle.std.specs.Ordering.{is_eq, nat_cmp, ordering_then}
-use Rattle.std.specs.Cmp.Lexicographic.{slice_cmp}
+use Rattle.std.specs.Ordering.{is_eq}
 use Rattle.std.proofs.lemmas.Bool.Decides.{nat_tests}
-use Rattle.std.proofs.lemmas.Map.Text.{is_eq-slice_cmp}
 use Rattle.std.proofs.lemmas.Slice.Eq.{bytes_eq-Decides}
 use Rattle.krb_wire.specs.Spelling.{Parts}
 use Rattle.krb_wire.proofs.Fields.{ok_is}
@@ -12,7 +9,8 @@ use Rattle.krb_wire.specs.Names.{joined_components, quote, have_same_name}
 use Rattle.krb_wire.specs.NameOf.{name_of}
 use Rattle.krb_wire.proofs.NamesCompared.{same_name_is, and_both, both_and}
 use Rattle.krb_wire.proofs.RoundTrip.{name_of-name_text}
-use Rattle.krb_audit.specs.Names.{hash_of}
+use Rattle.krb_names.proofs.NameOrder.{names_tie}
+use Rattle.krb_names.specs.Hash.{hash_of}
 
 -- the key that the fields of an entry have is that of the entry
 pub key_of_fields : (x fields : EntryParts) (name : List ℕ) (k : ClassKey) → fields ≡ x → name ≡ name_text x.principal → (name ≡ name_text fields.principal → IsClassKey fields k) → IsClassKey x k
@@ -51,12 +49,6 @@ by_emptiness p q (a ∷ as') (b ∷ bs) ep eq n e =
 
 -- ---- comparisons
 
-pub then_is : (a b : Ordering) → is_eq (ordering_then a b) ≡ (is_eq a && is_eq b)
-then_is a b = grind arith
-
-pub nat_is : (m n : ℕ) → is_eq (nat_cmp m n) ≡ (m == n)
-nat_is m n = grind (arith, nat_tests)
-
 -- both or neither have no components, and the texts are equal, iff the names are the same
 names_agree : (p q : Parts) → (emptiness p == emptiness q && bytes_eq (name_text p) (name_text q)) ≡ have_same_name p q
 names_agree p q = same_name_is p q (emptiness p == emptiness q && bytes_eq (name_text p) (name_text q))
@@ -86,9 +78,7 @@ classes_agree x y k l of_x of_y =
     let q = y.principal in
     let same_kind : Bool = x.version == y.version && x.enctype == y.enctype in
     let same_text : Bool = bytes_eq (name_text p) (name_text q) in
-    then_is (nat_cmp k.0 l.0) (slice_cmp nat_cmp k.1.now l.1.now)
-    ∙ ap (λ (b : Bool). b && is_eq (slice_cmp nat_cmp k.1.now l.1.now)) (nat_is k.0 l.0)
-    ∙ ap (λ (b : Bool). (k.0 == l.0) && b) (is_eq-slice_cmp k.1.now l.1.now)
+    sym (names_tie k l)
     ∙ rw (of_x.number, of_x.name, of_y.number, of_y.name)
     (drop_hash (hash_of (name_text p) / 32768) (hash_of (name_text q) / 32768) (kind_of x) (kind_of y) same_text
     (λ same. ap (λ (t : List ℕ). hash_of t / 32768) ((bytes_eq-Decides (name_text p) (name_text q)).0 same))

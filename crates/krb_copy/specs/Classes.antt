@@ -11,7 +11,7 @@ use denote.Ref.{Bor}
 use Rattle.krb_wire.specs.Spelling.{Parts}
 use Rattle.krb_wire.specs.Names.{name_text}
 use Rattle.krb_keytab.specs.Entry.{EntryParts}
-use Rattle.krb_audit.specs.Names.{hash_of}
+use Rattle.krb_names.specs.Hash.{hash_of}
 use Rattle.krb_copy.specs.Copying.{Held, twins, is_kept, Step, There, Clash, Copy}
 use Rattle.krb_copy.specs.declared.class.Class.{Class}
 use Rattle.krb_copy.specs.declared.class.Class.TheVariants.{Empty, Found, Kept, More}

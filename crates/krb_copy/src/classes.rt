@@ -10,8 +10,8 @@ ghost use Rattle.krb_copy.specs.Texts.{AreTexts, entry_texts};
 
 use crate::class::Class;
 use crate::texts::TextsLeft;
-use krb_audit::hash_of;
 use krb_keytab::{Fields, Keytab};
+use krb_names::hash_of;
 use krb_wire::{Name, NoMemory};
 use std::alloc::Allocator;
 use std::collections::BTreeMap;

@@ -1,4 +1,6 @@
-use Rattle.krb_audit.proofs.Cited.{List, true, false, refl, sym, subst, arith, ◌∙◌, PlacedEntry, placed_entries, map, vec_items}
+use Rattle.krb_audit.proofs.Cited.{List, [], ◌++◌, true, false, refl, ap, sym, subst, arith, ◌∙◌, AreMarks, Old as OldKvno, PlacedEntry, placed_entries, map, vec_items}
+use Rattle.std.proofs.Common.{rules}
+use Rattle.krb_audit.specs.Findings.{Marked, reported}
 use Rattle.krb_audit.proofs.FindingsLemmas.{IsCheckedUpTo, all_before, entries_few, one_checked}
 use Rattle.krb_audit.proofs.RowLemmas.{row_count}
 use Rattle.krb_audit.proofs.findings.check_entries.Goals as goal
@@ -14,6 +16,18 @@ returns-clause-count g c =
     let all = placed_entries c.args.keytab.now.state in
     let rows = c.in_ok-rows.rows in
     c.len-count.ensures ∙ rows.ok.0 ∙ row_count all all rows.items c.in_ok-rows.ensures
+
+pub entries-init : goal.entries-init
+entries-init g c =
+    let k = c.args.keytab.now.state in
+    let all = placed_entries k in
+    let marks : AreMarks OldKvno 0 all all c.in_ok-are_old.are_old.items = search rules in
+    let known = c.first-before.ensures k (map vec_items c.args.wanted.now) c.in_ok-rows.ensures marks c.in_ok-names.ensures in
+    subst (λ (xs : List PlacedEntry). IsCheckedUpTo c.args.aged_by k (map vec_items c.args.wanted.now) xs c.first-before.result c.new-entries.result.items) (sym (c.into_iter-place-iterator.ensures.into_iter_gives ∙ c.entries-place-items.ensures)) (record {
+      before = [];
+      known = known;
+      entries_are = ap (λ (es : List Marked). es ++ reported c.args.aged_by k) c.new-entries.ensures.items;
+    })
 
 pub entries-preserved-in-Continue-branch-5 : goal.entries-preserved-in-Continue-branch-5
 entries-preserved-in-Continue-branch-5 g c =
@@ -32,4 +46,4 @@ returns-clause-missing g c =
     let k = c.args.keytab.now.state in
     let wanted = map vec_items c.args.wanted.now in
     let done = subst (λ (xs : List PlacedEntry). IsCheckedUpTo c.args.aged_by k wanted xs c.entries.before c.entries.entries.items) c.in-None.ensures.steps.0 c.entries.invariant in
-    (all_before c.args.aged_by k wanted c.entries.before c.entries.entries.items done).missing.names
+    c.in_ok-missing.ensures (placed_entries k) (all_before c.args.aged_by k wanted c.entries.before c.entries.entries.items done).missing

@@ -1,8 +1,12 @@
 use Rattle.krb_audit.proofs.Cited.{map, vec_items}
 use Rattle.krb_ccache.specs.Store.{placed_credentials}
+use Rattle.krb_audit.specs.Selection.{AsksFor}
 use Rattle.krb_audit.specs.Tickets.{SelectsSoFar}
 use Rattle.krb_audit.proofs.tickets.select_tickets.Given as goal
 
 -- the selected ones of the credentials so far were added
 abbrev pub invariant-credentials : goal.invariant-credentials
-invariant-credentials g l = SelectsSoFar l.label (map vec_items l.criteria.servers.now) l.criteria.all_services l.criteria.ended_by l.place-iterator (placed_credentials l.cache.state) l.selected
+invariant-credentials g l = record {
+  servers : AsksFor (map vec_items l.criteria.servers.now) l.servers.names;
+  selected : SelectsSoFar l.label (map vec_items l.criteria.servers.now) l.criteria.all_services l.criteria.ended_by l.place-iterator (placed_credentials l.cache.state) l.selected;
+}

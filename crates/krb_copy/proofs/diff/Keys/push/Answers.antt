@@ -1,13 +1,10 @@
 use Rattle.krb_copy.proofs.Cited.{◌∙◌, sym, ap, refl, cond, true, false, Bool, ◌&&◌, ◌==◌, bytes_eq}
-use Rattle.std.specs.Ordering.{is_eq, nat_cmp}
-use Rattle.std.specs.Cmp.Lexicographic.{slice_cmp}
 use Rattle.std.specs.BTreeSet.{contains_by}
 use Rattle.std.proofs.lemmas.Bool.{not-false}
 use Rattle.std.proofs.lemmas.Cmp.{nat_list_eq_equiv}
-use Rattle.std.proofs.lemmas.Map.Text.{is_eq-slice_cmp}
 use Rattle.std.proofs.lemmas.Slice.Eq.{bytes_eq-Decides}
 use Rattle.krb_copy.specs.DiffRows.{to_key}
-use Rattle.krb_copy.proofs.ClassKeys.{nat_is, then_is}
+use Rattle.krb_names.proofs.NameOrder.{names_tie}
 use Rattle.krb_copy.proofs.DiffKeys.{first_added, key_added, key_known}
 use Rattle.krb_copy.proofs.diff.Keys.push.Goals as goal
 
@@ -21,8 +18,8 @@ returns-in_ok-insert-in-Some-clause-keys g c = λ rows lt are.
     key_added rows r c.args.self.now _ (c.in-Some._place, c.in-Some.first) are c.in-Some.ensures refl
     (λ n wanted. c.in_ok-insert-in-Some.ensures.updates.0 (n, record { ref_ptr = (0, 0); now = wanted })
     ∙ ap (λ (b : Bool). cond b true (contains_by (to_key n wanted) c.args.self.now.more))
-    (then_is (nat_cmp r.number n) (slice_cmp nat_cmp key.now wanted) ∙ ap (λ (b : Bool). b && is_eq (slice_cmp nat_cmp key.now wanted)) (nat_is r.number n)
-    ∙ ap (λ (b : Bool). r.number == n && b) (is_eq-slice_cmp key.now wanted ∙ nat_list_eq_equiv.symm key.now wanted ∙ ap (bytes_eq wanted) c.key-key.ensures)))
+    (sym (names_tie (r.number, key) (n, record { ref_ptr = (0, 0); now = wanted }))
+    ∙ ap (λ (b : Bool). r.number == n && b) (nat_list_eq_equiv.symm key.now wanted ∙ ap (bytes_eq wanted) c.key-key.ensures)))
 
 pub returns-else-ne-clause-keys : goal.returns-else-ne-clause-keys
 returns-else-ne-clause-keys g c = λ rows lt are.

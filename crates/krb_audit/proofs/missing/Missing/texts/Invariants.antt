@@ -1,0 +1,9 @@
+use Rattle.krb_audit.proofs.Cited.{List, map, take, vec_items, PlacedEntry}
+use Rattle.krb_audit.specs.Before.{IsMissing}
+use Rattle.krb_audit.proofs.MissingLemmas.{AreTaken, seen_in}
+use Rattle.krb_audit.proofs.missing.Missing.texts.Given as goal
+
+-- the texts so far were taken
+abbrev pub invariant-texts : goal.invariant-texts
+invariant-texts g l = (before : List PlacedEntry) → IsMissing (map vec_items l.fn.wanted) before l.fn.self
+    → AreTaken (seen_in before) (map vec_items l.fn.wanted) (map vec_items (take l.text-index l.fn.wanted)) l.self.wanted l.missing.items

@@ -1,0 +1,14 @@
+use Rattle.std.proofs.Common.{rules}
+use Rattle.krb_audit.proofs.Cited.{◌≡◌, ◌∙◌, refl, ap}
+use Rattle.krb_wire.specs.Names.{name_text}
+use Rattle.krb_names.specs.Set.{is_among}
+use Rattle.krb_audit.proofs.AskedNames.{some_asked}
+use Rattle.krb_audit.proofs.name_filter.NameFilter.passes.Goals as goal
+
+pub returns : goal.returns
+returns g c =
+    let names = c.args.self.now.names in
+    let printed : c.deref.result.now ≡ name_text c.args.name.now = search rules in record {
+      passes = c.contains.ensures ∙ ap (is_among names) printed ∙ some_asked names c.args.name.now (λ none. c.if-len-eq0.false (c.len.ensures ∙ none));
+      kept = refl;
+    }

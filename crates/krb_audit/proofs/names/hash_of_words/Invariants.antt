@@ -1,6 +1,0 @@
-use Rattle.krb_audit.proofs.Cited.{◌≡◌, take}
-use Rattle.krb_audit.specs.Names.{hash_of_words}
-use Rattle.krb_audit.proofs.names.hash_of_words.Given as goal
-
-abbrev pub invariant-loop-word : goal.invariant-loop-word
-invariant-loop-word l = l.hash ≡ hash_of_words (take l.word-index l.words)

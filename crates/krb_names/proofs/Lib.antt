@@ -1,0 +1,4 @@
+pub mod Cited
+pub mod NameOrder
+pub mod Places
+pub mod MarkedNames

@@ -1,0 +1,4 @@
+-- The definitions that the contracts of this crate use.
+pub mod Hash
+pub mod Set
+pub mod Marks
