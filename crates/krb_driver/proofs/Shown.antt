@@ -118,6 +118,10 @@ Sends-put err new g (Err e) well all prefix failed = λ start text u. record {
   whole = λ well'. absurd (false≢true (sym well' ∙ failed));
 }
 
+-- a text was added and sent
+pub Writes-one : (a b new : Watch) (g text : List ℕ) → Adds a [] b g text → Sends b g new → Writes a new text
+Writes-one a b new g text p sends = sends a text (p a.contents [] (underway-none a))
+
 -- two texts were added and sent
 pub Writes-two : (a b c new : Watch) (g h first second : List ℕ) → Adds a [] b g first → Adds b g c h second → Sends c h new → Writes a new (first ++ second)
-Writes-two a b c new g h first second p q sends = sends a (first ++ second) (Adds-then a b c [] g h first second p q a.contents [] (underway-none a))
+Writes-two a b c new g h first second p q sends = Writes-one a c new h (first ++ second) (Adds-then a b c [] g h first second p q) sends

@@ -34,7 +34,9 @@ pub use opening::{
 };
 pub use reporting::details::{Details, details_of};
 pub use reporting::reported::replied_verdict;
-pub use reporting::{ErrorOutput, append_said, report, report_word_fault, show};
+pub use reporting::{
+    ErrorOutput, MessagePiece, append_said, report, report_word_fault, show, write_pieces,
+};
 pub use several::{OverFiles, Ran, label_of, run_over};
 pub use verdict::{FileKind, Findings, Verdict};
 pub use without_files::{end_before, print};

@@ -31,9 +31,11 @@ use krb_files::{Aftermath, Watched, put};
 use krb_text::LineFault;
 use krb_walk::Code;
 pub use mistake_words::report_word_fault;
+pub use piece::MessagePiece;
 pub use said::append_said;
 use std::io::Write;
 use std::marker::Model;
+pub use writing::write_pieces;
 
 /// An error output, and whether words that explain follow its messages.
 #[derive(Drop)]

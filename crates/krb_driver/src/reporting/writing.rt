@@ -3,7 +3,7 @@
 ghost use Rattle.std.specs.Prelude.{◌≡◌, [], ◌++◌, if◌then◌else◌};
 ghost use Rattle.std.specs.List.{flat_map};
 ghost use Rattle.krb_driver.specs.Messages.{byte_text, hidden_word, piece_text, pieces_text, quoted_word, shown_word};
-ghost use Rattle.krb_driver.specs.Runs.{Adds, Sends};
+ghost use Rattle.krb_driver.specs.Runs.{Adds, Sends, Writes};
 
 use crate::file_name::name_byte;
 use crate::reporting::key_start::{has_key, key_start};
@@ -133,4 +133,13 @@ pub fn send<E: Write>(gathered: &Gathered, err: &mut Watched<E>)
         return;
     }
     let _ = put(err, gathered.as_slice());
+}
+
+/// Writes pieces, in one write if they fit. Ignores a failure.
+pub fn write_pieces<W: Write>(pieces: &[MessagePiece<'_>], out: &mut Watched<W>)
+    ensures { Writes out.old out.new (pieces_text pieces.now) }
+{
+    let mut gathered = ArrayVec::new();
+    add_pieces(pieces, &mut gathered, out);
+    send(&gathered, out);
 }
