@@ -142,6 +142,8 @@ class Command:
             after = files | {path if each == NAME else each: data for each, data in left.items()}
         elif {"ktcheck", "--json"} <= {*words}:
             out = unchecked(name.text, told[0][0], status)
+        elif words[0] == "hold":
+            out = f"failed {status} {10 + NEITHERS[self.kinds][1] if place == NEITHER else 'ENOENT'}\n".encode()
         title = f"{shown(words)} with {env}, {'none' if place is None else place[:9]}"
         return Explained(title, words, told, files, self.run.stdin, status, out, after, {"env": env}, for_owner)
 

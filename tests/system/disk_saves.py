@@ -159,8 +159,8 @@ def check_locked_folder(report: Report, program: str) -> None:
         return
     scripts = [undisturbed("ktedit k", script, k=before, name=f"{script[-6:-1]!r} over {before}")
                for before in (OLD, None) for script in (b"cut 3\n", WALK + b"cut 2\n")]
-    cases = [case if case.files == case.files_after else Case(case.name, case.words, unsaved(case), case.files,
-                                                              stdin=case.stdin)
+    cases = [case if case.files == case.files_after else Case(
+        case.name, case.words, unsaved(case, cause="EACCES"), case.files, stdin=case.stdin)
              for case in (*CHANGES, *scripts, *READS, *LEAVES) if case.words[0] in SAVING]
     for case in (*cases, *map(in_place, PLACED)):
         check_over(report, program, replace(case, name=f"a locked folder: {case.name}"), lock_folder, **options)

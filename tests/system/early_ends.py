@@ -7,6 +7,8 @@ from functools import cached_property
 from keytabs.checks import unchecked
 from runs.harness import EXPLAIN, Case, Outcome, message
 from runs.undisturbed import Undisturbed
+from system.saving import HOLD_SAVED, last_line
+from words.phrases import ERRORS
 
 NO_MEMORY = message(4, "out of memory")
 
@@ -56,6 +58,16 @@ class Ends:
         """How it ends if nothing fails."""
         return self.run.wanted, self.run.files_after
 
+    @property
+    def frame(self) -> bytes:
+        """What a hold prints before its last line."""
+        return self.run.wanted.out.removesuffix(HOLD_SAVED) if self.command == "hold" else b""
+
+    def ended(self, front: bytes, last: Outcome) -> list[Outcome]:
+        """Returns the outcomes of a failed call, after that output. The last line of a hold has the cause."""
+        lines = map(last_line, ERRORS.values()) if self.command == "hold" else [b""]
+        return [replace(last, out=front + line) for line in lines]
+
     @cached_property
     def places(self) -> range:
         """Where its words name files that it takes one after the other, if there are several."""
@@ -91,11 +103,13 @@ class Ends:
         return [self.up_to(at + 1) for at in self.places] or [Stage(b"", b"", self.run.files_after)]
 
     def stops(self, end: End, last: Outcome, stages: list[Stage], may_print: bool = True) -> bool:
-        """Whether it stopped at one of these stages, and whether a prefix of its output may be printed then."""
+        """Whether it stopped at one of these stages, and whether a prefix of its output may be printed then. A hold
+        without memory has its last line."""
         got, files = end
-        is_front = may_print and self.run.wanted.out.startswith(got.out)
+        line = last_line("ENOMEM", 4) if self.command == "hold" and last == NO_MEMORY else b""
+        is_front = may_print and got.out.endswith(line) and self.run.wanted.out.startswith(got.out.removesuffix(line))
         return got.status == last.status and any(
-            got.err == stage.err + last.err and files == stage.files and (is_front or got.out == stage.out)
+            got.err == stage.err + last.err and files == stage.files and (is_front or got.out == stage.out + line)
             for stage in stages)
 
     def failing_lines(self, commands: tuple[str, ...], use: str) -> Iterator[tuple[int, End]]:
@@ -116,24 +130,25 @@ class Ends:
             return [self.without(at, "cannot read") for at in self.places]
         if "-s" in words:
             return [(Outcome(3), run.files)]
-        return [(message(3, f"{name}: cannot read"), run.files) for name in self.names]
+        return [(outcome, run.files) for name in self.names
+                for outcome in self.ended(b"", message(3, f"{name}: cannot read"))]
 
     @cached_property
     def of_saves(self) -> list[End]:
-        """How it ends for each save that fails. A hold that cannot be had, or not save, prints nothing yet."""
+        """How it ends for each save that fails. A hold that cannot be had, or not save, prints no frame."""
         if self.command == "ktutil":
             return [end for at, end in self.failing_lines(("wkt",), "write")
                     if self.stages[at].files != self.stages[at + 1].files]
         if self.places:
             return [self.without(at, "cannot write") for at in self.places]
         unsaved = message(3, f"{self.run.words[-1]}: cannot write")
-        printed = [replace(unsaved, out=self.run.wanted.out)] if self.command == "hold" else []
-        return [(outcome, self.run.files) for outcome in (unsaved, *printed)]
+        return [(outcome, self.run.files) for front in (b"", self.frame) for outcome in self.ended(front, unsaved)]
 
-    def of_input(self, given: int) -> End:
-        """Returns how it ends if its input fails after that many bytes."""
+    def of_input(self, given: int) -> list[End]:
+        """Returns how it may end if its input fails after that many bytes."""
         unread = message(3, "cannot read input")
-        stage = Stage(self.run.wanted.out if self.command == "hold" else b"", b"", self.run.files)
+        stage = Stage(self.frame, b"", self.run.files)
         if self.command == "ktutil":
             stage = self.stages[self.run.stdin[:given].count(b"\n")]
-        return Outcome(unread.status, stage.out, stage.err + unread.err), stage.files
+        return [(replace(outcome, err=stage.err + unread.err), stage.files)
+                for outcome in self.ended(stage.out, unread)]

@@ -6,6 +6,7 @@ place is read once more too, and that is said.
 """
 
 from collections.abc import Iterable
+from dataclasses import replace
 from errno import EACCES, EAGAIN, EINTR, ENOMEM, ENOSPC, errorcode
 from itertools import product
 
@@ -39,15 +40,19 @@ def settings(command: str) -> tuple[str, ...]:
 
 
 def ends_in_output(ends: Ends, end: End) -> bool:
-    """Whether a run ended because its output failed: a prefix was printed."""
-    return ends.stops(end, NO_OUTPUT, ends.of_outputs)
+    """Whether a run ended because its output failed: a prefix was printed. If that of a hold fails after the frame, it
+    ends as ever."""
+    got, files = end
+    is_late = bool(ends.frame) and ends.run.wanted.out.startswith(got.out) and got.out.startswith(ends.frame)
+    is_whole = is_late and (replace(got, out=ends.run.wanted.out), files) == ends.whole
+    return is_whole or ends.stops(end, NO_OUTPUT, ends.of_outputs)
 
 
 def are_met(ends: Ends, setting: str, given: int, end: End) -> bool:
     """Whether a run in which that failed ended as it has to."""
     is_placed, is_saved = IN_PLACE in ends.run.words, ends.run.files_after != ends.run.files
     if setting == "FAIL_INPUT":
-        return end == ends.of_input(given)
+        return end in ends.of_input(given)
     if setting == "FAIL_READ":
         # A file that is to be saved is read again before, and after it too: if it was replaced nothing is said of that.
         seen = (told(ends.run, "mixed"), ends.run.files_after) if is_placed else ends.whole

@@ -48,7 +48,7 @@ TWO_FILES = (undisturbed("ktcheck k j", k=TWO, j=keytab(B, B)),
 def is_met(ends: Ends, line: str, end: End) -> bool:
     """Whether a run ended as it has to where the call of that line of its trace failed."""
     if line.startswith("read(0<"):
-        return end in (ends.of_input(0), ends.of_input(len(ends.run.stdin)))
+        return end in ends.of_input(0) + ends.of_input(len(ends.run.stdin))
     if line.startswith("write(1<"):
         return ends_in_output(ends, end)
     is_repeated = " EINTR " in line and line.partition("(")[0] in REPEATED

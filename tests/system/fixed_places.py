@@ -18,7 +18,7 @@ from runs.harness import EXPLAIN, Case, Report, differences, every, faults_of, f
 from runs.namespaces import mounted, no_mounts, run_within
 from runs.undisturbed import IN_PLACE, Undisturbed, in_place, undisturbed
 from system.saving import (ADD, B_OLD, EQUAL, GROUP, LINES, LONGER, MIXED, PLACED, UNSAVED, USER, Owned, as_another, at,
-                           check_over, explained, faults_over, kept, refused, tree_faults, with_words, write)
+                           check_over, explained, faults_over, kept, last_line, refused, tree_faults, with_words, write)
 from words.explaining import FINDS_NONE, Explained, copy, no_keytab, unchanged
 from words.phrases import AFTERMATHS, BEGINS_AS_CACHE, CAUSES, LEAVE_OUT, NOT_READ, code, line_fault
 
@@ -175,7 +175,8 @@ def missing(run: Undisturbed, name: str = "") -> Explained:
     """Returns a run in place whose file is missing, by default its own."""
     one, own = renamed(in_place(run), name or file_of(run)), name or file_of(run)
     return unchanged(one.words, (f"{own}: no such file", NOT_READ.replace("TYPE", "KCM:") if "KCM" in own else ""),
-                     files={each: data for each, data in one.files.items() if each != own}, stdin=one.stdin)
+                     files={each: data for each, data in one.files.items() if each != own}, stdin=one.stdin,
+                     out=last_line("ENOENT", 1) if run.words[0] == "hold" else b"")
 
 
 def unwritten(name: str, phrase: str, lines: bytes = LINES, **more) -> Explained:

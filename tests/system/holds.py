@@ -1,6 +1,8 @@
-"""`hold`: what it gives and takes, when it gives nothing, and that its file is locked meanwhile."""
+"""`hold`: what it gives and takes, when it gives nothing, how it says that it ended, and that its file is locked
+meanwhile."""
 
 import os
+import re
 import subprocess
 from dataclasses import replace
 from functools import partial
@@ -14,10 +16,10 @@ from runs.terminal import run_on_terminal
 from runs.undisturbed import IN_PLACE, frame
 from system.failing_streams import NO_OUTPUT
 from system.file_locks import is_locked
-from system.saving import as_another, check_over, explained, stands, tree_faults
+from system.saving import HOLD_SAVED, as_another, check_over, explained, last_line, stands, tree_faults
 from words.explaining import CUT_CACHE, Explained, case, failed, in_the_way, link, no_keytab, unchanged
 from words.phrases import (BAD_DEFAULT, BAD_HEADER, BEGINS_AS_CACHE, BEGINS_AS_NO_CACHE, BEGINS_AS_NO_KEYTAB, CAUSES,
-                           GIVEN_DAMAGED, HELD_AS_KEYTAB, LARGE, NOT_WHOLE, SHORT, TO_A_PROGRAM, code)
+                           ERRORS, GIVEN_DAMAGED, HELD_AS_KEYTAB, LARGE, NOT_WHOLE, SHORT, TO_A_PROGRAM, code)
 
 # A keytab of which MIT's programs see no entry.
 UNSEEN = keytab(Entry((b"h",), timestamp=0, enctype=1, key=b""), B)
@@ -32,23 +34,39 @@ LONGER = (b"2\n\5\2\n", b"97\n" + TWO, b"0\n\0", EMPTY * 2, b"\n" + EMPTY)
 ODD = (*(front + EMPTY for front in (b" ", b"+", b"-", b"0x", b"\0", b"0" * 10)),
        *(length + b"\n\5\2" for length in (b"2 ", b"2\r", b"2\0", b"2.0", b"4294967298", b"9999999999", b"9" * 20)))
 
+# Why a hold failed, by what its message says. The number of a file or an input that does not open follows a 1.
+WHYS = {"input is not whole": "EBADMSG", "input too large": "EFBIG", "file too large": "EFBIG",
+        "no such file": "ENOENT", "refused 1": "31"}
+
+
+def failed_by(said: str) -> bytes:
+    """Returns the last line of a hold that ended with that message."""
+    said = said.removeprefix("input: ").removeprefix("k: ")
+    number = re.fullmatch(r"not a (?:keytab|cache) \((\d)\)", said)
+    return last_line(f"1{number[1]}" if number else WHYS[said], 1)
+
 
 def given(line: str, image: bytes | None, data: bytes, *output: tuple[str, str], after: bytes | None = None,
           name: str = "", **more) -> Explained:
-    """Returns a hold that is given those bytes. What it prints is a frame."""
-    left = image if after is None else after
+    """Returns a hold that is given those bytes. What it prints is a frame, and how it ended."""
+    left, last = (image, b"left\n") if after is None else (after, HOLD_SAVED)
+    out = frame(NONE if image is None else image) + (failed_by(output[0][0]) if output else last)
     return case(f"{line}, {name or data[:24]}", line, image, *output, stdin=data, status=1 if output else 0,
-                out=frame(NONE if image is None else image), after={} if left is None else {"k": left}, **more)
+                out=out, after={} if left is None else {"k": left}, **more)
 
 
-# A hold that leaves its file as it is, or none, prints nothing, and ends with status 1. And the message about no cache.
-refused, no_cache = partial(unchanged, stdin=EMPTY), partial(no_keytab, kind="cache")
+def refused(line: str, said: tuple[str, str], **more) -> Explained:
+    """Returns a hold that leaves its file as it is, or none, and prints no frame."""
+    return unchanged(line, said, stdin=EMPTY, out=failed_by(said[0]), **more)
+
+
+no_cache = partial(no_keytab, kind="cache")
 
 
 def unsaved(line: str, cause: str, image: bytes | None = TWO, **more) -> Explained:
-    """Returns a hold of a file that could not be saved: then nothing is printed."""
+    """Returns a hold of a file that could not be saved: then no frame is printed."""
     name = line.split()[-1]
-    return failed(tuple(line.split()), "write", cause, image, file=name, out=b"", stdin=EMPTY,
+    return failed(tuple(line.split()), "write", cause, image, file=name, out=last_line(ERRORS[cause]), stdin=EMPTY,
                   after={} if image is None else {name: image}, **more)
 
 
@@ -91,26 +109,29 @@ CASES = [
     *(refused(K, no_keytab(why), files={"k": image}) for image, why in ((b"\5", SHORT), (USUAL, BEGINS_AS_CACHE))),
     *(refused(C, no_cache(why), files={"k": image}) for image, why in ((b"", SHORT), (TWO, HELD_AS_KEYTAB))),
     refused(K, ("k: refused 1", code(1)), files={"k": TWO[:-1]}),
+    lambda: refused(K, ("k: file too large", LARGE), files={"k": sized(LIMIT + 1)}),
     refused(C, ("k: refused 1", code(1, "hold")), files={"k": CUT_CACHE}),
     *(refused(line, ("k: no such file", "")) for line in (C, f"hold {IN_PLACE} k", PLACED)),
     # It could not be saved: what is in the way is beside the file that a link leads to. What a load tells comes first.
     case("hold of a link", "hold -k l", TWO, ("l: cannot write", CAUSES["in the way"].replace("NAME", "k")), status=3,
-         out=b"", stdin=EMPTY, setting=lambda folder: (in_the_way(folder), link("k")(folder))),
+         out=last_line(ERRORS["in the way"]), stdin=EMPTY,
+         setting=lambda folder: (in_the_way(folder), link("k")(folder))),
     refused(K, ("k: refused 1", code(1)), files={"k": TWO[:-1]}, **IN_THE_WAY),
     refused(C, ("k: no such file", ""), **IN_THE_WAY),
     given(PLACED, TWO, EMPTY, after=NONE, name="in the way", **IN_THE_WAY),
-    failed(("hold", "-k", "."), "read", "EISDIR", None, out=b"", stdin=EMPTY),
+    failed(("hold", "-k", "."), "read", "EISDIR", None, out=last_line(ERRORS["EISDIR"]), stdin=EMPTY),
 ]
 
 
 def check_left(report: Report, program: str) -> None:
     """Checks that the file stays as it is if nothing is saved, and in place what a killed run left beside it."""
     for line, files in product((K, PLACED), ({"k": TWO}, LEFT)):
-        for data, status in ((b"", 0), (frame(TWO), 0), (b"3\n\5\2", 1), (EMPTY, 0)):
+        for data, status, last in ((b"", 0, b"left"), (frame(TWO), 0, b"left"), (b"3\n\5\2", 1, b"failed 1 EBADMSG"),
+                                   (EMPTY, 0, b"saved")):
             with folder_of(files) as folder:
                 before = stands(folder)
                 got = run(program, line.split(), folder, data)
-                faults = [] if (got.status, got.out) == (status, frame(TWO)) else [f"{got}"]
+                faults = [] if (got.status, got.out) == (status, frame(TWO) + last + b"\n") else [f"{got}"]
                 faults += [] if data == EMPTY or stands(folder)["k"] == before["k"] else ["the file was written"]
                 left = {name: files[name] for name in files if name != "k" and line == PLACED}
                 faults += tree_faults({"k": NONE if data == EMPTY else TWO, **left}, folder)
@@ -118,7 +139,7 @@ def check_left(report: Report, program: str) -> None:
 
 
 def check_locked(report: Report, program: str) -> None:
-    """Checks a folder, and a file, that the user may not write: nothing is printed."""
+    """Checks a folder, and a file, that the user may not write: no frame is printed."""
     if not (options := as_another(program)):
         report.skip("holds of files of others", "none but root may make them, or start the program")
         return
@@ -132,7 +153,8 @@ def check_locked(report: Report, program: str) -> None:
 
 
 def check_outputs(report: Report, program: str) -> None:
-    """Checks an output that takes nothing, and a terminal: nothing is saved, and the input is left."""
+    """Checks an output that takes nothing, and a terminal: nothing is saved, and the input is left. One that ends after
+    the frame changes nothing."""
     full = '"$0" "$@" >/dev/full; status=$?; cat; exit $status'
     for line in (K, PLACED):
         case = Case(f"{line} >/dev/full", ("-c", full, program, EXPLAIN, *line.split()),
@@ -143,6 +165,15 @@ def check_outputs(report: Report, program: str) -> None:
             got = run_on_terminal(program, (EXPLAIN, *K.split()), folder, EMPTY, "stdout")
             faults = differences(explained(NO_OUTPUT, TO_A_PROGRAM), got) + tree_faults(files, folder)
         report.check(f"a terminal, and {[*files]}", faults)
+    for line, (data, after) in product((K, PLACED), ((b"", TWO), (EMPTY, NONE))):
+        with folder_of({"k": TWO}) as folder, subprocess.Popen(
+                [program, *line.split()], cwd=folder, stdin=subprocess.PIPE, stdout=subprocess.PIPE,
+                stderr=subprocess.PIPE) as held:
+            held.stdout.read(len(frame(TWO)))
+            held.stdout.close()
+            _, err = held.communicate(data, timeout=SECONDS)
+            faults = differences(Outcome(0), Outcome(held.returncode, b"", err)) + tree_faults({"k": after}, folder)
+        report.check(f"no output after the frame: {line}, {data}", faults)
 
 
 def check_lasts(report: Report, program: str) -> None:
@@ -155,7 +186,7 @@ def check_lasts(report: Report, program: str) -> None:
             faults += [] if is_locked(path) else ["not locked"]
             faults += differences(Outcome(0, listed(HOST_LINE, B_LINE)), run(program, ("klist", "-k", "k"), folder))
             rest, _ = held.communicate(frame(keytab(B)), timeout=SECONDS)
-            faults += [] if (held.returncode, rest) == (0, b"") else [f"status {held.returncode}, {rest!r}"]
+            faults += [] if (held.returncode, rest) == (0, b"saved\n") else [f"status {held.returncode}, {rest!r}"]
             faults += tree_faults({"k": keytab(B)}, folder) + ["still locked"] * is_locked(path)
         report.check(f"a hold lasts: {line}", faults)
 

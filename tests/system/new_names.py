@@ -6,11 +6,13 @@ A stale file of a killed run is removed. Anything else stays as it is, and then 
 import os
 from collections.abc import Iterator
 from concurrent.futures import ThreadPoolExecutor
+from dataclasses import replace
 
 from runs.commands import CHANGES, MAKES, NEW, OLD, SCRIPT, WALK, both_ways, file_of, renamed
-from runs.harness import Case, Report, every, message, printed
+from runs.harness import Case, Outcome, Report, every, message, printed
 from runs.undisturbed import IN_PLACE, Undisturbed, in_place
-from system.saving import ADD, SAVED, USER, Place, as_another, at, check_over, faults_over, link, unsaved, write
+from system.saving import (ADD, SAVED, USER, Place, as_another, at, check_over, faults_over, last_line, link, run_over,
+                           unsaved, write)
 from system.waits import RUNS
 from words.explaining import Explained, in_the_way_of, unchanged
 from words.phrases import CAUSES
@@ -49,6 +51,12 @@ STRANGE: list[tuple[str, Place]] = [
 ]
 
 
+def run_beside(program: str, case: Case, folder: str, **options: object) -> Outcome:
+    """Makes a run. A hold may say that what is in the way is in use, as it is waited for."""
+    got = run_over(program, case, folder, **options)
+    return replace(got, out=got.out.replace(last_line("EAGAIN"), last_line("EEXIST")))
+
+
 def faults_beside(program: str, make: Place, owner: int | None, case: Undisturbed = ADD, mode: int = 0o777,
                   is_saved: bool = False, **options) -> list[str]:
     """Returns the faults of a run with something in place of its new file, in a folder of that mode. A save removes it,
@@ -59,8 +67,9 @@ def faults_beside(program: str, make: Place, owner: int | None, case: Undisturbe
     if owner is not None:
         places.insert(0, at(name, lambda path: os.chown(path, owner, -1)))
     after = {**case.files_after, **({} if IN_PLACE in case.words else {new: None})} if is_saved else None
-    wanted = case.wanted if is_saved else unsaved(case)
-    return faults_over(program, Case(case.name, case.words, wanted, files, after, case.stdin), *places, **options)
+    wanted = case.wanted if is_saved else unsaved(case, cause="in the way")
+    return faults_over(program, Case(case.name, case.words, wanted, files, after, case.stdin), *places, make=run_beside,
+                       **options)
 
 
 # What has the name of a new file, what makes it, who owns the file, if there is one, and how the run differs from one
@@ -135,7 +144,7 @@ def unsaved_as(run: Undisturbed, name: str, cause: str, setting: Place = lambda 
     """Returns a run over a file of another name, which is not saved for that cause."""
     one, line = renamed(run, name), "line 2: " * (run.words[0] == "ktutil")
     return unchanged(one.words, (f"{name}: cannot write", line + CAUSES[cause].replace("NAME", name)), files=one.files,
-                     stdin=one.stdin, status=3, setting=setting)
+                     stdin=one.stdin, status=3, setting=setting, out=unsaved(one, cause=cause).out)
 
 
 def of_names() -> Iterator[Explained | Case]:

@@ -74,7 +74,7 @@ def is_met(ends: Ends, stream: str, end: End) -> bool:
     wanted, files = ends.whole
     if stream == "stdin":
         reads_input = ends.command in COMMANDS and COMMANDS[ends.command].reads_input
-        return end == (ends.of_input(0) if reads_input else ends.whole)
+        return end in (ends.of_input(0) if reads_input else [ends.whole])
     if stream == "stdout" and wanted.out:
         return ends_in_output(ends, end)
     return end == (wanted if stream == "stdout" else replace(wanted, err=b""), files)

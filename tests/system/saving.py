@@ -12,7 +12,7 @@ from runs.commands import CHANGES, COMMANDS, NEW, OLD, SCRIPT, Run, file_of
 from runs.harness import EXPLAIN, Case, Outcome, Report, differences, folder_of, message, run, text
 from runs.undisturbed import explained as with_words
 from runs.undisturbed import undisturbed
-from words.phrases import AFTERMATHS, CAUSES
+from words.phrases import AFTERMATHS, CAUSES, ERRORS
 
 # A run of that script, what it prints, and so over a file with another entry.
 (ADD,), SAVED = COMMANDS["ktedit"].changes, Outcome(0, b"placed 2\n")
@@ -38,6 +38,9 @@ CUT_OFF = undisturbed("ktedit k", b"rewrite\n", k=keytab(HOST, 41), name="drops 
 # Runs that can save in place, without that.
 PLACED = (LONGER, MIXED, EQUAL, SHORTER, CUT_OFF, *CHANGES)
 
+# The last line of a hold that saved.
+HOLD_SAVED = b"saved\n"
+
 # What makes something in a folder.
 Place = Callable[[str], object]
 
@@ -61,9 +64,15 @@ def run_over(program: str, case: Run, folder: str, **options: object) -> Outcome
     return run(program, case.words, folder, case.stdin, **options)
 
 
-def unsaved(case: Run, name: str = "") -> Outcome:
-    """Returns the outcome if that file is not saved."""
-    return message(3, f"{name or file_of(case)}: cannot write")
+def last_line(why: str, status: int = 3) -> bytes:
+    """Returns the last line of a hold that failed."""
+    return f"failed {status} {why}\n".encode()
+
+
+def unsaved(case: Run, name: str = "", cause: str = "EIO") -> Outcome:
+    """Returns the outcome if that file is not saved, of a hold for that cause and before its frame."""
+    out = last_line(ERRORS[cause]) if "hold" in case.words else b""
+    return replace(message(3, f"{name or file_of(case)}: cannot write"), out=out)
 
 
 def faults_over(program: str, case: Run, *places: Place, left: Owned | None = None,
@@ -171,7 +180,7 @@ def explained(outcome: Outcome, *phrases: str) -> Outcome:
 def refused(case: Run, cause: str, name: str = "") -> Case:
     """Returns a run of which the file, by default its own, is not saved, for that cause, which is explained."""
     line = "line 2: " if "ktutil" in case.words else ""
-    wanted = explained(unsaved(case, name), line + CAUSES[cause].replace("NAME", name or file_of(case)))
+    wanted = explained(unsaved(case, name, cause), line + CAUSES[cause].replace("NAME", name or file_of(case)))
     return Case(case.name, (EXPLAIN, *case.words), wanted, case.files, case.files, case.stdin)
 
 
@@ -182,7 +191,10 @@ def message_of(case: Run, aftermath: str) -> str:
 
 def told(case: Run, aftermath: str) -> Outcome:
     """Returns the outcome of a run that saves and tells what that left."""
-    front = explained(Outcome(case.wanted.status or 1, case.wanted.out), message_of(case, aftermath))
+    out = case.wanted.out
+    if "hold" in case.words:
+        out = out.removesuffix(HOLD_SAVED) + (b"lost\n" if aftermath == "lost change" else b"damaged\n")
+    front = explained(Outcome(case.wanted.status or 1, out), message_of(case, aftermath))
     return replace(front, err=front.err + case.wanted.err)
 
 

@@ -33,10 +33,8 @@ def numbered(heading: str) -> Numbered:
 
 
 def displayed(heading: str) -> list[str]:
-    """Returns the lines of a display of the manual page, without its markup."""
-    lines = part(PAGE, f"\n{heading}\n", "\n.Ed\n").splitlines()[1:]
-    return [re.sub(r"^\.No (.*) Ar (.*)", lambda it: f"{it[1]} {it[2].upper()}",
-                   re.sub(r"^\.Ar NAME (?:Ns |: No )", "NAME", line)) for line in lines]
+    """Returns the lines of a display of the manual page."""
+    return part(PAGE, f"\n{heading}\n", "\n.Ed\n").splitlines()[1:]
 
 
 # After `refused`; the same in the library, where it differs from the first of a number; faults of files and of lines.
@@ -58,12 +56,14 @@ TOO_LONG = "it is longer than the limit"
 # Why a text is not a name.
 NAMES = {1: "no realm", 2: "a backslash at the end", 3: "a second @", 4: "a / in the realm"}
 
-# Why a call failed: the system's errors by their names, and what krbfile itself finds.
-CAUSES = dict(zip((
+# Why a call failed: the system's errors by their names, and what krbfile itself finds. And the names that hold has for
+# them.
+CAUSES, ERRORS = (dict(zip((
     "EACCES", "ENOENT", "no file", "ENOTDIR", "EISDIR", "no plain file", "ELOOP", "bad link", "no name", "ENOSPC",
     "EDQUOT", "EROFS", "EBUSY", "ENAMETOOLONG", "EFBIG", "EIO", "EINTR", "EPIPE", "in use", "changed", "other file",
-    "name of saves", "in the way", "owner", "ENOLCK", "other"), displayed("What could not be read or written:"),
-                  strict=True))
+    "name of saves", "in the way", "owner", "ENOLCK", "other"), column, strict=True)) for column in zip(*re.findall(
+        r"^\.It (.*) Ta (E\w+)$", PAGE.replace("Ar NAME Ns ", "NAME").replace("Ar number", "NUMBER"), re.MULTILINE),
+        strict=True))
 
 # Lines of ktutil that ask for what it does not do, or for its commands.
 NO_PASSWORDS = "keys are not made from passwords here"

@@ -18,7 +18,6 @@ use Rattle.krb_files.specs.Plan.{HeldIf}
 use Rattle.krb_files.specs.Bytes.{Source}
 use Rattle.krb_driver.specs.declared.error.RunError.{RunError}
 use Rattle.krb_driver.specs.declared.error.RunError.TheVariants as error
-use Rattle.krb_driver.specs.declared.command.FileError.{FileError}
 use Rattle.krb_driver.specs.declared.file_name.FileName.{FileName}
 use Rattle.krb_driver.specs.declared.reporting.details.Details.{Details}
 use Rattle.krb_driver.specs.declared.verdict.FileKind.{FileKind}
@@ -30,8 +29,10 @@ use Rattle.krb_driver.specs.Loading.{GivesInput, not_cache, result_map, result_m
 use Rattle.krb_driver.specs.Mistakes.{Matched, v1_order, MistakeParts, ForKeytabs}
 use Rattle.krb_driver.specs.RunErrors.{Ending, input_error, load_error, save_error}
 use Rattle.krb_driver.specs.Runs.{Reports, Shows}
+use Rattle.krb_editors.specs.declared.hold.last_line.Outcome.TheVariants.{Saved, Left}
 use Rattle.krb_editors.specs.declared.hold.words.HoldKind.{HoldKind}
 use Rattle.krb_editors.specs.declared.hold.words.HoldKind.TheVariants.{Keytab, Cache}
+use Rattle.krb_editors.specs.HoldEnds.{HoldEnd, TellsEnd, about_end, ending_of, last_line}
 
 -- the most bytes of the frame of an image of 16 MiB: ten digits and a newline before it
 abbrev pub most_frame : ℕ
@@ -113,22 +114,6 @@ received kind (Err fault) = Err (input_error fault)
 
 -- ---- the run
 
--- how it ended: it did its work, or an error about the file of that name ended it
-abbrev pub HoldEnd : Type 0
-HoldEnd = Result (Unit {0}) (List ℕ × RunError)
-
-abbrev pub ending_of : HoldEnd → Ending
-ending_of (Ok done) = Ok Well
-ending_of (Err met) = Err met.1
-
-abbrev pub about_end : List ℕ → HoldEnd → List ℕ
-about_end file (Ok done) = file
-about_end file (Err met) = met.0
-
--- the end that what a function returned comes to
-abbrev pub end_of : {X : Type 0} → Result X FileError → Result X (List ℕ × RunError)
-end_of result = result_map_err (λ met. (met.file.now, met.error)) result
-
 module _ {F : Type 0} (trait : Ghosts F) where
   -- a file was loaded, and this is the image that it gives; or memory ran out
   pub record LoadsImage (old : F) (name : List ℕ) (gives : Answer → Result (List ℕ) RunError) (given : Result (List ℕ) RunError) (new : F) : Type 0 where
@@ -137,7 +122,7 @@ module _ {F : Type 0} (trait : Ghosts F) where
     pub given_is : (given ≡ Err error.NoMemory) ⊎ (given ≡ gives answer)
 
   -- the file of that name, which is to be held, is held, and can be saved as far as its hold tells; or it cannot
-  pub record ChecksHold (file : List ℕ) (old : F) (end : HoldEnd) (new : F) : Type 0 where
+  pub record ChecksHold (file : List ℕ) (old : F) (end : Result (Unit {0}) (List ℕ × RunError)) (new : F) : Type 0 where
     pub answer : Result (Unit {0}) SaveFault
     pub end_is : end ≡ result_map_err (λ fault. (file, save_error fault)) answer
     pub had : OnOk answer (trait.is_held old ≡ true)
@@ -158,8 +143,8 @@ module _ {F : Type 0} (trait : Ghosts F) (file : List ℕ) (loaded : List ℕ) (
   Leaves due = (new ≡ old) × (end ≡ due)
 
   abbrev pub SavesIf : Bool → List ℕ → Type 0
-  SavesIf true image = Leaves (Ok tt)
-  SavesIf false image = (answer : Result (Unit {0}) SaveFault) × (SavesFile trait old file image answer new × (end ≡ result_map_err (λ fault. (file, save_error fault)) answer))
+  SavesIf true image = Leaves (Ok Left)
+  SavesIf false image = (answer : Result (Unit {0}) SaveFault) × (SavesFile trait old file image answer new × (end ≡ result_map (λ done. Saved) (result_map_err (λ fault. (file, save_error fault)) answer)))
 
   -- an image was saved, unless it is the one that was loaded
   abbrev pub SavesOther : List ℕ → Type 0
@@ -167,7 +152,7 @@ module _ {F : Type 0} (trait : Ghosts F) (file : List ℕ) (loaded : List ℕ) (
 
   -- what was given was saved; or nothing was given, or no image
   abbrev pub SavesReceived : Result (Option (List ℕ)) RunError → Type 0
-  SavesReceived (Ok None) = Leaves (Ok tt)
+  SavesReceived (Ok None) = Leaves (Ok Left)
   SavesReceived (Ok (Some image)) = SavesOther image
   SavesReceived (Err why) = Leaves (Err (codes "input", why))
 
@@ -188,13 +173,13 @@ module _ {F R W E : Type 0} (trait : Ghosts F) (kind : HoldKind) (file : FileNam
     pub after : AfterShown old loaded shown
     pub err : new.err ≡ old.err
 
-  abbrev pub AfterCheck : World F R W E → List ℕ → HoldEnd → Type 0
+  abbrev pub AfterCheck : World F R W E → List ℕ → Result (Unit {0}) (List ℕ × RunError) → Type 0
   AfterCheck old loaded (Ok done) = Exchanges old loaded
   AfterCheck old loaded (Err met) = EndsEarly old met
 
   -- of an image that was loaded the hold was checked before it went out
   abbrev pub AfterLoad : World F R W E → Result (List ℕ) (List ℕ × RunError) → Type 0
-  AfterLoad old (Ok loaded) = (checked : F) × ((met : HoldEnd) × (ChecksHold trait file.name.now old.files met checked × AfterCheck (record old { files = checked }) loaded met))
+  AfterLoad old (Ok loaded) = (checked : F) × ((met : Result (Unit {0}) (List ℕ × RunError)) × (ChecksHold trait file.name.now old.files met checked × AfterCheck (record old { files = checked }) loaded met))
   AfterLoad old (Err met) = EndsEarly old met
 
   -- the file was held, and then loaded
@@ -206,13 +191,14 @@ module _ {F R W E : Type 0} (trait : Ghosts F) (kind : HoldKind) (file : FileNam
     pub gives : GivesOf trait held file (held_in kind file.in_place) given loaded
     pub after : AfterLoad (record old { files = loaded }) given
 
--- a run of hold, which then released the file and reported how it ended
+-- a run of hold, which then released the file, reported how it ended, and said it in a last line
 pub record RunsHold {F R W E : Type 0} (trait : Ghosts F) (old new : World F R W E) (status : ℕ) (kind : HoldKind) (file : FileName) : Type 0 where
   pub done : World F R W E
   pub end : HoldEnd
   pub edits : EditsHeld trait kind file done end old
   pub left : TurnsHold trait None done.files new.files
-  pub same : new ≡ record done { files = new.files; err = new.err }
+  pub same : new ≡ record done { files = new.files; out = new.out; err = new.err }
   pub details : Details
   pub reported : Reports (about_end file.name.now end) None details (ending_of end) done.err new.err status
   pub told : details.aftermath ≡ trait.aftermath new.files
+  pub last : TellsEnd done.out new.out (last_line status details.cause details.aftermath end)

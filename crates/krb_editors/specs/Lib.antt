@@ -9,4 +9,5 @@ pub mod Ktcopy
 pub mod Ktdiff
 pub mod Ccedit
 pub mod Ccremove
+pub mod HoldEnds
 pub mod Hold

@@ -4,14 +4,17 @@ ghost use Rattle.std.specs.Prelude.{◌≡◌, ◌∷◌, [], MatchResult, Some,
 ghost use Rattle.krb_driver.specs.declared.error.RunError.TheVariants.{NoMemory};
 ghost use Rattle.krb_driver.specs.Commands.{GivesOf};
 ghost use Rattle.krb_driver.specs.Loading.{result_map};
-ghost use Rattle.krb_editors.specs.Hold.{ChecksHold, EditsHeld, Exchanges, LoadsImage, Receives, RunsHold, SavesOther, end_of, held_in};
+ghost use Rattle.krb_editors.specs.Hold.{ChecksHold, EditsHeld, Exchanges, LoadsImage, Receives, RunsHold, SavesOther, held_in};
+ghost use Rattle.krb_editors.specs.HoldEnds.{end_of};
 
 mod frame;
 mod images;
+mod last_line;
 pub(crate) mod words;
 
 use crate::hold::frame::{MOST_FRAME, print_frame};
 use crate::hold::images::{given_by, whole};
+use crate::hold::last_line::{Outcome, tell_end};
 use crate::hold::words::HoldKind;
 use krb_driver::{
     Details, FileError, FileName, RunError, Verdict, World, details_of, hold_if, other_type,
@@ -107,14 +110,14 @@ fn save_other<'a, F: Files>(
     file: FileName<'a>,
     loaded: &[u8],
     image: &[u8],
-) -> Result<(), FileError<'a>>
+) -> Result<Outcome, FileError<'a>>
     ensures { SavesOther F.Files file.entry.name.now loaded.now files.old files.new (end_of result) image.now }
 {
     if image == loaded {
-        return Ok(());
+        return Ok(Outcome::Left);
     }
     match files.save(file.name, image) {
-        Ok(()) => Ok(()),
+        Ok(()) => Ok(Outcome::Saved),
         Err(fault) => Err(FileError {
             file: file.name,
             error: RunError::from(fault),
@@ -129,7 +132,7 @@ fn exchange<'a, A: Allocator, F: Files, R: Read, W: Write, E: Write>(
     loaded: &[u8],
     file: FileName<'a>,
     world: &mut World<F, R, W, E>,
-) -> Result<(), FileError<'a>>
+) -> Result<Outcome, FileError<'a>>
     requires { F.Files.held world.old.files ≡ Some file.name.now }
     ensures { Exchanges F.Files kind file.entry world.new (end_of result) world.old loaded.now }
 {
@@ -140,7 +143,7 @@ fn exchange<'a, A: Allocator, F: Files, R: Read, W: Write, E: Write>(
         });
     }
     match receive(alloc, kind, &mut world.input) {
-        Ok(None) => Ok(()),
+        Ok(None) => Ok(Outcome::Left),
         Ok(Some(image)) => save_other(&mut world.files, file, loaded, &image),
         Err(error) => Err(FileError {
             file: "input",
@@ -155,7 +158,7 @@ fn edit_held<'a, A: Allocator + Copy, F: Files, R: Read, W: Write, E: Write>(
     kind: HoldKind,
     file: FileName<'a>,
     world: &mut World<F, R, W, E>,
-) -> Result<(), FileError<'a>>
+) -> Result<Outcome, FileError<'a>>
     ensures { EditsHeld F.Files kind file.entry world.new (end_of result) world.old }
 {
     let files = &mut world.files;
@@ -191,7 +194,7 @@ fn details_of_hold<'a, F: Files, W: Write>(
 
 /// Holds a file of that kind, prints the frame of its image, reads a frame from the input to its end, saves the image in
 /// that, and returns the exit status. An empty input leaves the file as it was. The hold lasts from before the load
-/// until then.
+/// until then. A last line says how the run ended.
 pub fn run_hold<A: Allocator + Copy, F: Files, R: Read, W: Write, E: Write>(
     alloc: A,
     kind: HoldKind,
@@ -203,10 +206,18 @@ pub fn run_hold<A: Allocator + Copy, F: Files, R: Read, W: Write, E: Write>(
     let done = edit_held(alloc, kind, file, world);
     release(&mut world.files);
     let (ending, named) = match done {
-        Ok(()) => (Ok(Verdict::Well), file.name),
+        Ok(_) => (Ok(Verdict::Well), file.name),
         Err(met) => (Err(met.error), met.file),
     };
     let input = world.input.cause();
     let details = details_of_hold(&ending, &world.files, &world.out, input);
-    report(ending, named.as_bytes(), None, details, &mut world.err)
+    let status = report(ending, named.as_bytes(), None, details, &mut world.err);
+    tell_end(
+        done,
+        status,
+        details.cause,
+        details.aftermath,
+        &mut world.out,
+    );
+    status
 }

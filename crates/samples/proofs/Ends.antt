@@ -2,7 +2,8 @@
 use Rattle.samples.proofs.Cited.{◌≡◌, ◌+◌, ℕ, [], ◌∷◌, map, codes, true, false, None, Some, Ok, Err, refl, Little, most_bytes, Old, OldFor, Well, CommandPlan, ended_by}
 use Rattle.krb_wire.specs.declared.format.Order.{Order}
 use Rattle.krb_walk.specs.declared.fault.FaultKind.TheVariants.{CutLength}
-use Rattle.krb_files.specs.declared.aftermath.Aftermath.TheVariants.{LostChange, Mixed, Restored}
+use Rattle.krb_files.specs.declared.aftermath.Aftermath.TheVariants.{Damaged, LostChange, Mixed, Restored}
+use Rattle.krb_files.specs.declared.cause.Cause.TheVariants.{InTheWay}
 use Rattle.krb_files.specs.declared.files.LoadFault.TheVariants.{Missing}
 use Rattle.krb_files.specs.declared.files.SaveFault.TheVariants as save
 use Rattle.krb_files.specs.declared.node.Node.TheVariants.{Nothing, PlainFile, Folder, Unknown}
@@ -17,8 +18,10 @@ use Rattle.krb_driver.specs.Runs.{ErrorWatch}
 use Rattle.krb_driver.specs.RunErrors.{end_status, error_status, save_error}
 use Rattle.krb_driver.specs.Several.{first_round, is_last}
 use Rattle.krb_editors.specs.declared.ccremove.TicketOptions.{TicketOptions}
+use Rattle.krb_editors.specs.declared.hold.last_line.Outcome.TheVariants.{Saved, Left}
 use Rattle.krb_editors.specs.declared.hold.words.HoldKind.TheVariants.{Keytab, Cache}
-use Rattle.krb_editors.specs.Hold.{frame, most_frame, about_end, ending_of, held_in, received}
+use Rattle.krb_editors.specs.Hold.{frame, most_frame, held_in, received}
+use Rattle.krb_editors.specs.HoldEnds.{about_end, ending_of, last_line}
 use Rattle.krb_editors.specs.Ktremove.{needed_time}
 use Rattle.krb_editors.specs.MissingFiles.{is_missing}
 use Rattle.krb_ktutil.specs.KtutilTalk.{first_talk}
@@ -116,5 +119,21 @@ greatest-frame = refl
 input-ends : about_end (codes "k") (Err (codes "input", error.InputNotWhole)) ≡ codes "input"
 input-ends = refl
 
-done-ends : ending_of (Ok tt) ≡ Ok Well
+done-ends : ending_of (Ok Saved) ≡ Ok Well
 done-ends = refl
+
+-- the last line says what became of the file
+last-lines : map (last_line 0 None None) (Ok Saved ∷ Ok Left ∷ []) ≡ codes "saved\n" ∷ codes "left\n" ∷ []
+last-lines = refl
+
+-- what the save left comes before all else
+last-left : map (λ left. last_line 3 None (Some left) (Err (codes "k", error.FileNotWritten))) (LostChange ∷ Damaged ∷ Mixed ∷ Restored ∷ [])
+    ≡ codes "lost\n" ∷ codes "damaged\n" ∷ codes "damaged\n" ∷ codes "failed 3 EIO\n" ∷ []
+unfolding on_literals
+last-left = refl
+
+-- a failed call has its cause, and what is damaged the number that krbfile.h has for it
+last-failed : map (λ error. last_line 1 (Some InTheWay) None (Err (codes "k", error))) (error.FileNotWritten ∷ error.InputNotWhole ∷ error.DamagedInput (record { kind = CutLength; place = 2 }) ∷ [])
+    ≡ codes "failed 1 EEXIST\n" ∷ codes "failed 1 EBADMSG\n" ∷ codes "failed 1 31\n" ∷ []
+unfolding on_literals
+last-failed = refl

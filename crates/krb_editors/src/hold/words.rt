@@ -19,7 +19,8 @@ pub const HOLD: CommandWords = CommandWords {
         "\
 The file's length in bytes, a newline and the file go to the standard output. Then a new
 file in the same form is read from the standard input, to its end, and saved; nothing there
-leaves the file as it is. No other run of krbfile changes the file meanwhile.
+leaves the file as it is. No other run of krbfile changes the file meanwhile. A last line
+says how it ended: saved, left, lost, damaged, or failed with the status and why.
 Statuses:
   0  The file was saved, or left
   1  The file is missing, too large, damaged or of another kind, or what was given is

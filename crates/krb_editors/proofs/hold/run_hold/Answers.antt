@@ -1,5 +1,5 @@
 use Rattle.std.proofs.Common.{refl}
-use Rattle.krb_editors.specs.Hold.{end_of}
+use Rattle.krb_editors.specs.HoldEnds.{end_of}
 use Rattle.krb_editors.proofs.hold.run_hold.Goals as goal
 use Rattle.krb_editors.proofs.hold.run_hold.Goals.{in-Ok, in-Err}
 
@@ -12,8 +12,9 @@ returns g c = elim c.match-done.branch [
     left = c.release.ensures;
     same = refl;
     details = c.details_of_hold-details.result;
-    reported = rw w.in-Ok.is (rw (c.as_bytes.ensures.value, w.ending-is) at c.report.ensures);
+    reported = rw w.in-Ok.is (rw (c.as_bytes.ensures.value, w.ending-is) at c.report-status.ensures);
     told = c.details_of_hold-details.ensures;
+    last = c.tell_end.ensures;
   }
   | in-Err w ↦ record {
     done = c.edit_held-done.new.world;
@@ -22,7 +23,8 @@ returns g c = elim c.match-done.branch [
     left = c.release.ensures;
     same = refl;
     details = c.details_of_hold-details.result;
-    reported = rw w.in-Err.is (rw (c.as_bytes.ensures.value, w.ending-is) at c.report.ensures);
+    reported = rw w.in-Err.is (rw (c.as_bytes.ensures.value, w.ending-is) at c.report-status.ensures);
     told = c.details_of_hold-details.ensures;
+    last = c.tell_end.ensures;
   }
 ]

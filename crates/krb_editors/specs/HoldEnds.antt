@@ -1,0 +1,71 @@
+-- How a run of hold ended, and the last line that says it to the program that started it.
+use Rattle.std.specs.Prelude.{ℕ, ◌+◌, List, ◌++◌, codes, decimal, Option, None, Some, ◌≡◌, IsTrue, Result, Ok, Err}
+use Rattle.krb_walk.specs.declared.refusal.Code.TheVariants.{Damaged}
+use Rattle.krb_walk.specs.Phrases.{code_number}
+use Rattle.krb_keytab.specs.Open.{open_fault_number}
+use Rattle.krb_ccache.specs.Open.{open_fault_number as cache_fault_number}
+use Rattle.krb_files.specs.declared.aftermath.Aftermath.{Aftermath}
+use Rattle.krb_files.specs.declared.aftermath.Aftermath.TheVariants as aftermath
+use Rattle.krb_files.specs.declared.cause.Cause.{Cause}
+use Rattle.krb_files.specs.Bytes.{Watch}
+use Rattle.krb_files.specs.Phrases.{cause_name}
+use Rattle.krb_driver.specs.declared.error.RunError.{RunError}
+use Rattle.krb_driver.specs.declared.error.RunError.TheVariants as error
+use Rattle.krb_driver.specs.declared.command.FileError.{FileError}
+use Rattle.krb_driver.specs.declared.verdict.Verdict.TheVariants.{Well}
+use Rattle.krb_driver.specs.Loading.{result_map_err}
+use Rattle.krb_driver.specs.RunErrors.{Ending}
+use Rattle.krb_driver.specs.Runs.{Writes}
+use Rattle.krb_editors.specs.declared.hold.last_line.Outcome.{Outcome}
+use Rattle.krb_editors.specs.declared.hold.last_line.Outcome.TheVariants.{Saved, Left}
+
+-- it saved the file or left it, or an error about the file of that name ended it
+abbrev pub HoldEnd : Type 0
+HoldEnd = Result Outcome (List ℕ × RunError)
+
+abbrev pub ending_of : HoldEnd → Ending
+ending_of (Ok outcome) = Ok Well
+ending_of (Err met) = Err met.1
+
+abbrev pub about_end : List ℕ → HoldEnd → List ℕ
+about_end file (Ok outcome) = file
+about_end file (Err met) = met.0
+
+-- the end that what a function returned comes to
+abbrev pub end_of : {X : Type 0} → Result X FileError → Result X (List ℕ × RunError)
+end_of result = result_map_err (λ met. (met.file.now, met.error)) result
+
+-- ---- the last line
+
+-- the name that errno.h has for a cause, or for an unknown one
+abbrev pub cause_name_or : Option Cause → List ℕ
+cause_name_or (Some cause) = cause_name cause
+cause_name_or None = codes "EIO"
+
+-- why a run failed: the number that krbfile.h has for what does not open or is refused, or else a name as in errno.h
+abbrev pub why_failed : RunError → Option Cause → List ℕ
+why_failed (error.NotAKeytab why) cause = decimal (10 + open_fault_number why.fault)
+why_failed (error.NotACacheToHold why) cause = decimal (10 + cache_fault_number why.fault)
+why_failed (error.Refused kind code) cause = decimal (30 + code_number code)
+why_failed (error.DamagedInput fault) cause = decimal (30 + code_number Damaged)
+why_failed (error.NoSuchFile source) cause = codes "ENOENT"
+why_failed (error.OtherType kind source) cause = codes "ENOENT"
+why_failed error.FileTooLarge cause = codes "EFBIG"
+why_failed error.InputTooLarge cause = codes "EFBIG"
+why_failed error.InputNotWhole cause = codes "EBADMSG"
+why_failed error.NoMemory cause = codes "ENOMEM"
+why_failed other cause = cause_name_or cause
+
+-- the line for a run that ended so with that status, by the cause of its failed call, which no definition knows, and what its save left
+abbrev pub last_line : ℕ → Option Cause → Option Aftermath → HoldEnd → List ℕ
+last_line status cause (Some aftermath.Damaged) end = codes "damaged\n"
+last_line status cause (Some aftermath.Mixed) end = codes "damaged\n"
+last_line status cause (Some aftermath.LostChange) end = codes "lost\n"
+last_line status cause left (Ok Saved) = codes "saved\n"
+last_line status cause left (Ok Left) = codes "left\n"
+last_line status cause left (Err met) = codes "failed " ++ (decimal status ++ (codes " " ++ (why_failed met.1 cause ++ codes "\n")))
+
+-- the line was written, or a prefix of it if the output failed; nothing was if it had failed before
+pub record TellsEnd (old new : Watch) (line : List ℕ) : Type 0 where
+  pub writes : Writes old new line
+  pub none : IsTrue old.failed → new ≡ old

@@ -1,0 +1,89 @@
+//! The last line of a run of hold, for the program that started it.
+
+ghost use Rattle.std.specs.Prelude.{◌≡◌};
+ghost use Rattle.krb_driver.specs.Messages.{piece_text, pieces_text};
+ghost use Rattle.krb_editors.specs.HoldEnds.{TellsEnd, cause_name_or, end_of, last_line, why_failed};
+
+use krb_driver::MessagePiece::{self, Number, Text};
+use krb_driver::{FileError, RunError, write_pieces};
+use krb_files::{Aftermath, Cause, Watched};
+use krb_walk::Code;
+use std::io::Write;
+
+/// What a run without an error did with the file.
+#[derive(Clone, Copy)]
+pub enum Outcome {
+    Saved,
+    /// There was nothing to save.
+    Left,
+}
+
+const NONE: MessagePiece<'static> = Text("");
+
+/// The pieces of a last line. Unused ones are empty.
+type LastLine = [MessagePiece<'static>; 5];
+
+// Returns the name that errno.h has for a cause, or for an unknown one.
+fn cause_name_or(cause: Option<Cause>) -> &'static str
+    ensures { result.now ≡ cause_name_or cause }
+{
+    match cause {
+        Some(cause) => cause.name(),
+        None => "EIO",
+    }
+}
+
+// Returns why a run failed: the number that krbfile.h has for it, or else a name as in errno.h.
+fn why_failed(error: RunError, cause: Option<Cause>) -> MessagePiece<'static>
+    ensures { piece_text result ≡ why_failed error cause }
+{
+    match error {
+        RunError::NotAKeytab(why) => Number(10 + u64::from(why.fault.number())),
+        RunError::NotACacheToHold(why) => Number(10 + u64::from(why.fault.number())),
+        RunError::Refused(_, code) => Number(30 + u64::from(code.number())),
+        RunError::DamagedInput(_) => Number(30 + u64::from(Code::Damaged.number())),
+        RunError::NoSuchFile(_) | RunError::OtherType(..) => Text("ENOENT"),
+        RunError::FileTooLarge | RunError::InputTooLarge => Text("EFBIG"),
+        RunError::InputNotWhole => Text("EBADMSG"),
+        RunError::NoMemory => Text("ENOMEM"),
+        _ => Text(cause_name_or(cause)),
+    }
+}
+
+// Returns the line that says how a run with that status ended.
+fn last_line(
+    end: Result<Outcome, FileError<'_>>,
+    status: u8,
+    cause: Option<Cause>,
+    aftermath: Option<Aftermath>,
+) -> LastLine
+    ensures { pieces_text result ≡ last_line status cause aftermath (end_of end.entry) }
+{
+    let said = match (aftermath, end) {
+        (Some(Aftermath::Damaged | Aftermath::Mixed), _) => "damaged\n",
+        (Some(Aftermath::LostChange), _) => "lost\n",
+        (_, Ok(Outcome::Saved)) => "saved\n",
+        (_, Ok(Outcome::Left)) => "left\n",
+        (_, Err(met)) => {
+            let (status, why) = (Number(u64::from(status)), why_failed(met.error, cause));
+            return [Text("failed "), status, Text(" "), why, Text("\n")];
+        }
+    };
+    [Text(said), NONE, NONE, NONE, NONE]
+}
+
+/// Writes the line that says how a run with that status ended, unless the output has failed. Ignores a failure.
+pub fn tell_end<W: Write>(
+    end: Result<Outcome, FileError<'_>>,
+    status: u8,
+    cause: Option<Cause>,
+    aftermath: Option<Aftermath>,
+    out: &mut Watched<W>,
+)
+    ensures { TellsEnd out.old out.new (last_line status cause aftermath (end_of end.entry)) }
+{
+    if out.has_failed() {
+        return;
+    }
+    write_pieces(&last_line(end, status, cause, aftermath), out);
+}
