@@ -10,7 +10,7 @@ takes its bytes, and `image` gives them. A keytab or a cache may be changed duri
 one. If it is damaged, iteration raises an error at the fault, which `fault` has.
 
 The program is `PROGRAM`, if that is set, or KRBFILE in the environment, or the one of the archive that this module
-is a part of, or the one on PATH.
+is a part of, if only the module's owner can change that, or the one on PATH.
 
 Principal names are `str`; bytes that are not UTF-8 are kept as surrogate escapes, so `os.fsencode(name)`
 restores them. Calls take a name as text or bytes, and an encryption type as its number or its name in `ETYPES`. Keys are

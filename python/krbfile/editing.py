@@ -17,10 +17,11 @@ import krbfile
 from krbfile.cache import Cache
 from krbfile.files import NAME_OF_SAVES, PHRASES, USUAL_LIMIT, AnyPath, FileName, file_name, operand, within
 from krbfile.keytab import Keytab
-from krbfile.library import TOP, KrbfileError, number
+from krbfile.library import KrbfileError, number
+from krbfile.origin import beside
 
 # The program of the archive, or the repository, that this module is a part of.
-BESIDE = os.path.join(TOP, "bin", "krbfile")
+BESIDE = beside("bin", "krbfile")
 
 # The number of each cause: those that are not the system's have the closest.
 NUMBERS = {
@@ -46,8 +47,7 @@ class LostChange(OSError):
 
 def program() -> AnyPath:
     """Returns the path of the program."""
-    beside = BESIDE if os.access(BESIDE, os.X_OK) else None
-    found = krbfile.PROGRAM or os.environ.get("KRBFILE") or beside or shutil.which("krbfile")
+    found = krbfile.PROGRAM or os.environ.get("KRBFILE") or BESIDE or shutil.which("krbfile")
     if not found:
         why = "the program is not on PATH: install it, or set KRBFILE or krbfile.PROGRAM to its path"
         raise FileNotFoundError(errno.ENOENT, why, "krbfile")

@@ -2,10 +2,11 @@
 from __future__ import annotations
 
 import ctypes
-import os
 from ctypes import byref, c_char_p, c_size_t, c_uint16, c_uint32, c_void_p
 from operator import index
 from typing import Any, NamedTuple, Union
+
+from krbfile.origin import beside
 
 DONE, END, BAD_VERSION, NOT_FOUND, KVNO_NOT_FOUND = 0, 2, 12, 39, 40
 
@@ -14,12 +15,13 @@ Name = Union[bytes, str]
 # An encryption type, by its number or its name.
 Enctype = Union[int, str]
 
-# The archive, or the repository, that this module may be a part of. Its library is used, if there is one.
-TOP = os.path.join(os.path.dirname(__file__), "..", "..")
-BESIDE = os.path.join(TOP, "lib", "libkrbfile.so.1")
+LIBRARY = "libkrbfile.so.1"
 
 # A call keeps the interpreter's lock: releasing it would take longer than most calls.
-exports = ctypes.PyDLL(BESIDE if os.path.exists(BESIDE) else os.path.basename(BESIDE))
+try:
+    exports = ctypes.PyDLL(beside("lib", LIBRARY) or LIBRARY)
+except OSError as error:
+    raise OSError(f"{error}; install libkrbfile, or set LD_LIBRARY_PATH to its folder") from None
 
 
 class KrbfileError(Exception):

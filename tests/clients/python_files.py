@@ -84,7 +84,7 @@ for krbfile.PROGRAM in ("/bin/false", "./none", "./loses"):
     refused(edit_keytab, "k")
 krbfile.PROGRAM = None
 del os.environ["KRBFILE"]
-krbfile.editing.BESIDE, os.environ["PATH"] = "none", "/"
+krbfile.editing.BESIDE, os.environ["PATH"] = None, "/"
 refused(edit_keytab, "k")
 print(sorted(os.listdir()))
 """.replace("LOSES", repr(b"#!/bin/sh\nprintf '2\\n\\5\\2'\ncat > /dev/null\n"
