@@ -17,20 +17,20 @@ restores them. Calls take a name as text or bytes, and an encryption type as its
 bytes, and no `repr` shows one.
 
 If the library refuses a call, or the file is damaged or of another kind, `KrbfileError` is raised: its `status` is
-the number in krbfile.h. A file that cannot be read, held or saved raises `OSError`, in the words of the program;
-`LostChange` is one of a file that is saved. A number that does not fit raises `OverflowError`, and an argument of
-another type `TypeError`.
+the number in krbfile.h. A file that cannot be read, held or saved raises `OSError`, in the words of the program.
+Two kinds of it say that the file was saved, `LostChange`, or that this is not known, `UnknownSave`. A number that does
+not fit raises `OverflowError`, and an argument of another type `TypeError`.
 """
 from __future__ import annotations
 
 from krbfile.cache import Cache, Ticket
-from krbfile.editing import LostChange, edit_cache, edit_keytab
+from krbfile.editing import LostChange, UnknownSave, edit_cache, edit_keytab
 from krbfile.files import AnyPath
 from krbfile.keytab import Entry, Keytab
 from krbfile.library import ETYPES, KrbfileError, NotFound
 
 __all__ = ["Cache", "ETYPES", "Entry", "Keytab", "KrbfileError", "LostChange", "NotFound", "PROGRAM", "Ticket",
-           "edit_cache", "edit_keytab"]
+           "UnknownSave", "edit_cache", "edit_keytab"]
 
 # The path of the program, unless it is to be found elsewhere.
 PROGRAM: AnyPath | None = None

@@ -9,13 +9,14 @@ import socket
 import subprocess
 import tempfile
 from collections.abc import Iterator
-from contextlib import AbstractContextManager, contextmanager, suppress
+from contextlib import AbstractContextManager, contextmanager
 from ctypes import c_uint32
 from typing import Any
+from weakref import WeakSet
 
 import krbfile
 from krbfile.cache import Cache
-from krbfile.files import NAME_OF_SAVES, PHRASES, USUAL_LIMIT, AnyPath, FileName, file_name, operand, within
+from krbfile.files import USUAL_LIMIT, AnyPath, FileName, file_name, operand, within
 from krbfile.keytab import Keytab
 from krbfile.library import KrbfileError, number
 from krbfile.origin import beside
@@ -23,26 +24,16 @@ from krbfile.origin import beside
 # The program of the archive, or the repository, that this module is a part of.
 BESIDE = beside("bin", "krbfile")
 
-# The number of each cause: those that are not the system's have the closest.
-NUMBERS = {
-    **{phrase: number for number, phrase in PHRASES.items()},
-    "no such file": errno.ENOENT, "file too large": errno.EFBIG, "not a plain file": errno.EINVAL,
-    "no lock can be had": errno.ENOLCK, "in use by another program": errno.EAGAIN, NAME_OF_SAVES: errno.EINVAL,
-    "changed by another program; nothing was saved": errno.ESTALE, "another file has this name now": errno.ESTALE,
-    "the file has no name any more": errno.ESTALE, "a link that cannot be followed": errno.EILSEQ,
-    "a mount point cannot be replaced": errno.EBUSY, "the owner cannot be kept": errno.EPERM,
-}
-
-# What is told of a save that is done.
-LOST = {"a change of another program was lost", "another program wrote at the same time; the file may be damaged"}
-
-# Refusals of a file for what it is, and what the library adds to their numbers.
-REFUSED = re.compile(r"(not a keytab|not a cache|refused) \(?(\d+)\)?")
-ADDED = {"not a keytab": 10, "not a cache": 10, "refused": 30}
+# The program's last line, if nothing was saved: its status, and a number of krbfile.h or the name of a cause.
+FAILED = re.compile(r"failed (\d+) (?:(\d+)|(E[A-Z]+))")
 
 
 class LostChange(OSError):
-    """The file was saved, but what another program wrote at the same time is lost, or mixed with it."""
+    """The file was saved, but a change that another program made at the same time is lost."""
+
+
+class UnknownSave(OSError):
+    """It is not known whether the file was saved: the program ended in between, or another wrote at the same time."""
 
 
 def program() -> AnyPath:
@@ -54,98 +45,108 @@ def program() -> AnyPath:
     return found
 
 
-def fault(words: list[str], status: int, name: FileName) -> Exception:
-    """Returns the exception for a run that ended with this status and these messages."""
-    words = words or [f"krbfile ended with status {status}"]
-    if status == 4:
-        return MemoryError(*words)
-    if refused := REFUSED.fullmatch(words[0]):
-        return KrbfileError(ADDED[refused[1]] + int(refused[2]), f"{os.fsdecode(name)}: {words[-1]}")
-    if not LOST.isdisjoint(words):
-        return LostChange(errno.ESTALE, ": ".join(words), name)
-    other = errno.EEXIST if words[-1].endswith(" is in the way") else errno.EINVAL if status == 2 else errno.EIO
-    return OSError(next((NUMBERS[each] for each in words if each in NUMBERS), other), ": ".join(words), name)
+def fault(line: str, words: list[str], name: FileName, is_sent: bool) -> Exception:
+    """Returns the exception for a last line, or for none, and the messages before it."""
+    text = ": ".join(words or [f"krbfile: {line}"])
+    if line == "lost":
+        return LostChange(errno.ESTALE, text, name)
+    if line == "damaged":
+        return UnknownSave(errno.EIO, text, name)
+    if not (failed := FAILED.fullmatch(line)):
+        if not is_sent:
+            return OSError(errno.EIO, ": ".join([*words, "krbfile ended too early; nothing was saved"]), name)
+        unknown = f"it is not known whether {os.fsdecode(name)} was saved"
+        why = "krbfile ended without saying so, and one before 2.0 never says so"
+        return UnknownSave(errno.EIO, ": ".join([*words, unknown, why]), name)
+    status, code, cause = failed.groups()
+    if status == "4":
+        return MemoryError(text)
+    if code:
+        return KrbfileError(int(code), f"{os.fsdecode(name)}: {words[-1]}" if words else "")
+    return OSError(getattr(errno, cause, errno.EIO), text, name)
 
 
 class Hold:
-    """A file that the program holds, and its image. In a forked child this is a copy that does nothing."""
+    """A file that the program holds until its input ends. In a forked child this is a copy that does nothing."""
 
     def __init__(self, name: FileName, *options: str) -> None:
-        self.name, self.line = name, [program(), "--explain", "hold", *options, operand(name)]
+        self.name, self.words = name, [program(), "--explain", "hold", *options, operand(name)]
+        self.maker = os.getpid()
         self.process: subprocess.Popen[bytes] | None = None
         # A file takes messages of any length, where a pipe that nobody reads could stop the program.
         self.messages = tempfile.TemporaryFile(buffering=0)
+        # Whoever drops them closes them, at any time.
         self.ours, self.theirs = socket.socketpair()
+        for end in (self.ours, self.theirs):
+            end.settimeout(None)
+        self.output = open(self.ours.fileno(), "rb", closefd=False)
         _holds.add(self)
-        try:
-            for end in (self.ours, self.theirs):
-                end.settimeout(None)
-            # In a session of its own Ctrl-C does not reach it.
-            self.process = subprocess.Popen(self.line, stdin=self.theirs, stdout=self.theirs, stderr=self.messages,
-                                            start_new_session=True)
-            self.theirs.close()
-            self.image = self._receive()
-        except BaseException:
-            self.leave()
-            raise
 
-    def _receive(self) -> bytes:
-        """Returns the image, which comes after its length and a newline."""
-        length, image = b"0", bytearray()
-        while (digit := self.ours.recv(1)).isdigit():
-            length += digit
-        while len(image) < int(length) and (piece := self.ours.recv(int(length) - len(image))):
-            image += piece
-        if digit != b"\n" or len(image) < int(length):
-            raise self._fault(self._end())
-        return bytes(image)
+    def begin(self) -> bytes:
+        """Starts the program, and returns the image of the file."""
+        # In a session of its own Ctrl-C does not reach it.
+        self.process = subprocess.Popen(self.words, stdin=self.theirs, stdout=self.theirs, stderr=self.messages,
+                                        start_new_session=True)
+        self.theirs.close()
+        length = self._line()
+        if not length.isdigit():
+            raise self._fault(length)
+        image = self.output.read(int(length))
+        if len(image) < int(length):
+            raise self._fault("")
+        return image
 
     def save(self, image: bytes) -> None:
         """Has the program save an image."""
-        # If the program has ended, its status tells why.
-        with suppress(OSError):
+        if self.maker != os.getpid():
+            raise OSError(errno.EIO, "nothing was saved: a forked child does not hold the file", self.name)
+        is_sent = False
+        try:
             self.ours.sendall(b"%d\n%b" % (len(image), image), socket.MSG_NOSIGNAL)
-        if status := self._end():
-            raise self._fault(status)
+            is_sent = True
+        except ConnectionError:
+            # It has ended, and its last line says why.
+            pass
+        self.ours.shutdown(socket.SHUT_WR)
+        if (line := self._line()) not in ("saved", "left"):
+            raise self._fault(line, is_sent)
 
-    def _end(self) -> int:
-        """Ends the program's input, also in copies of the socket, and waits for its end. Returns its status."""
-        with suppress(OSError):
-            self.ours.shutdown(socket.SHUT_RDWR)
-        if self.process is None:
-            return 0
-        if self.process.returncode is None:
-            # Popen takes the status of a child that somebody else has reaped for 0.
-            os.waitid(os.P_PID, self.process.pid, os.WEXITED | os.WNOWAIT)
-        return self.process.wait()
+    def _line(self) -> str:
+        """Returns the next line of the program without its end, or nothing if there is none."""
+        try:
+            line = self.output.readline()
+        except ConnectionResetError:
+            # It ended before it had read all.
+            return ""
+        return line[:-1].decode("ascii", "replace") if line.endswith(b"\n") else ""
 
-    def _fault(self, status: int) -> Exception:
-        """Returns the exception for what the program told."""
+    def _fault(self, line: str, is_sent: bool = False) -> Exception:
+        """Returns the exception for the program's last line, or for none."""
         self.messages.seek(0)
         lines = self.messages.read().decode("utf-8", "surrogateescape").splitlines()
         front = "{}: ".format(operand(self.name).replace("\n", "\\x0a"))
-        found = fault([line.removeprefix("krbfile: ").removeprefix(front) for line in lines], status, self.name)
-        found.__cause__ = subprocess.CalledProcessError(status, self.line)
-        return found
+        words = [each.removeprefix("krbfile: ").removeprefix(front) for each in lines]
+        return fault(line, words, self.name, is_sent)
 
     def leave(self) -> None:
-        """Ends the hold. If nothing was saved, the file is as it was."""
-        try:
-            with suppress(ChildProcessError):
-                self._end()
-        finally:
-            self.forget()
+        """Ends the hold, and waits for the program. If nothing was saved, the file is as it was."""
+        if self.maker == os.getpid() and self.ours.fileno() >= 0:
+            # This ends the program's input also if another process has a copy of the socket.
+            self.ours.shutdown(socket.SHUT_RDWR)
+            if self.process:
+                # Its status is not asked for: others may have taken it.
+                self.process.wait()
+        self.forget()
 
     def forget(self) -> None:
         """Closes what this process has of it."""
         _holds.discard(self)
         for each in (self.ours, self.theirs, self.messages):
             each.close()
-        self.process = None
 
 
-# The holds of this process. A forked child closes its copies.
-_holds: set[Hold] = set()
+# The holds of this process, unless nothing else has them any more. A forked child closes its copies.
+_holds: WeakSet[Hold] = WeakSet()
 os.register_at_fork(after_in_child=lambda: [hold.forget() for hold in [*_holds]])
 
 
@@ -156,11 +157,15 @@ def edited(kind: Any, path: AnyPath | None, options: list[str], limit: int, **mo
     limit = min(number(c_uint32, limit).value or USUAL_LIMIT, USUAL_LIMIT)
     hold = Hold(name, *options)
     try:
-        with kind.open(within(hold.image, name, limit), limit=limit, **more) as store:
-            yield store
-            if store._is_changed:
-                hold.save(store.image)
+        try:
+            with kind.open(within(hold.begin(), name, limit), limit=limit, **more) as store:
+                yield store
+                if store._is_changed:
+                    hold.save(store.image)
+        finally:
+            hold.leave()
     finally:
+        # A signal's handler may have raised an exception in the other call.
         hold.leave()
 
 
@@ -169,8 +174,9 @@ def edit_keytab(path: AnyPath | None = None, *, in_place: bool = False, v1_big: 
     """Holds a file, by default the default keytab, loads its keytab, or an empty one if it is missing, and saves it if
     the block changed it. `in_place` writes to the file itself, as the program's `--in-place` does.
 
-    Nothing is saved if the block raises an exception, or by a forked child. The keytab is closed at the end. If the
-    process is killed, the hold ends, or, where a child that Python did not fork lives on, when that child ends.
+    Nothing is saved if the block raises an exception, or by a forked child, which gets an `OSError` if the keytab is
+    changed. The keytab is closed at the end. If the process is killed, the hold ends, or, where a child that Python did
+    not fork lives on, when that child ends.
     """
     options = ["-k", *["--v1-big"] * bool(v1_big), *["--in-place"] * bool(in_place)]
     return edited(Keytab, path, options, limit, v1_big=v1_big)

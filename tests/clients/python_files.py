@@ -3,7 +3,7 @@
 import os
 
 from makers.images import PA_TYPE, TICKET, TWO, cache
-from words.phrases import AFTERMATHS, BEGINS_AS_CACHE, BEGINS_AS_KEYTAB, CAUSES, LARGE, NOT_READ, SHORT
+from words.phrases import BEGINS_AS_CACHE, BEGINS_AS_KEYTAB, CAUSES, LARGE, NOT_READ, SHORT
 
 # What is read, and what is refused, in the words of the program.
 LOADS = """
@@ -58,18 +58,16 @@ for path in (b"new", "link", "no/new", "KCM:0", "", "k.krbfile", "other"):
 print(Path("new").read_bytes().hex(), sorted(os.listdir()))
 """
 
-# Files that are not held, so that no block begins; and what stands for the program.
+# Files that are not held, so that no block begins; and programs that hold nothing.
 REFUSED = """
-for name, data in (("k", image), ("cut", image[:60]), ("c", bytes([5, 4])), ("loses", LOSES), ("large", image)):
+for name, data in (("k", image), ("cut", image[:60]), ("c", bytes([5, 4])), ("large", image)):
     Path(name).write_bytes(data)
-os.chmod("loses", 0o755)
 os.truncate("large", 2**24 + 1)
 os.mkdir("taken.krbfile")
 os.mkfifo("fifo")
 
 def changed(edit, path, more):
     with edit(path, **more) as store:
-        store.rewrite()
         print("in a block", end=": ")
 
 def refused(edit, path, **more):
@@ -80,15 +78,14 @@ for path in ("no/k", "a.krbfile", "taken", "x" * 248, "fifo", "cut", "c", "large
 refused(edit_keytab, "none", in_place=True)
 refused(edit_keytab, "k", limit=97)
 refused(edit_cache, Path("none"))
-for krbfile.PROGRAM in ("/bin/false", "./none", "./loses"):
+for krbfile.PROGRAM in ("/bin/false", "./none"):
     refused(edit_keytab, "k")
 krbfile.PROGRAM = None
 del os.environ["KRBFILE"]
 krbfile.editing.BESIDE, os.environ["PATH"] = None, "/"
 refused(edit_keytab, "k")
 print(sorted(os.listdir()))
-""".replace("LOSES", repr(b"#!/bin/sh\nprintf '2\\n\\5\\2'\ncat > /dev/null\n"
-                           b"echo 'krbfile: k: %b' >&2\nexit 1\n" % AFTERMATHS["lost change"].encode()))
+"""
 
 NO_ENTRY, NO_FILE = "FileNotFoundError ENOENT", "no such file"
 NEW_CACHE = cache().hex()
@@ -146,11 +143,10 @@ SCRIPTS = (
         f"{NO_ENTRY} 'none' {NO_FILE}",
         "OSError EFBIG 'k' file too large: it has more than 97 bytes",
         f"{NO_ENTRY} 'none' {NO_FILE}",
-        "OSError EIO 'k' krbfile ended with status 1",
+        "OSError EIO 'k' krbfile ended too early",
         f"{NO_ENTRY} './none' No such file or directory",
-        f"in a block: LostChange ESTALE 'k' {AFTERMATHS['lost change']}",
         f"{NO_ENTRY} 'krbfile' "
         "the program is not on PATH: install it, or set KRBFILE or krbfile.PROGRAM to its path",
-        "['c', 'cut', 'fifo', 'k', 'large', 'loses', 'taken.krbfile']",
+        "['c', 'cut', 'fifo', 'k', 'large', 'taken.krbfile']",
     ]),
 )

@@ -126,8 +126,11 @@ def in_block(program: str, folder: str, does: str) -> Iterator[tuple[subprocess.
 
 
 def kill_program(started: subprocess.Popen[bytes]) -> None:
-    """Kills the program that a Python has started."""
-    os.kill(int(Path(f"/proc/{started.pid}/task/{started.pid}/children").read_text()), signal.SIGKILL)
+    """Kills the program that a Python has started, and waits until it has closed all."""
+    (child,) = Path(f"/proc/{started.pid}/task/{started.pid}/children").read_text().split()
+    os.kill(int(child), signal.SIGKILL)
+    while ") Z " not in Path(f"/proc/{child}/stat").read_text():
+        time.sleep(0.01)
 
 
 def is_held(folder: str, seconds: float) -> bool:
@@ -141,7 +144,8 @@ def is_held(folder: str, seconds: float) -> bool:
 # What is done to a Python in the block before it gets the line, what it forked, what it prints, and the file then.
 End = tuple[str, Callable[[subprocess.Popen[bytes]], object], str, bytes, bytes]
 ENDS: tuple[End, ...] = (
-    ("the program is killed", kill_program, "", b"OSError [Errno 5] krbfile ended with status -9: 'k'\n", OLD),
+    ("the program is killed", kill_program, "",
+     b"OSError [Errno 5] krbfile ended too early; nothing was saved: 'k'\n", OLD),
     ("Ctrl-C", lambda it: os.killpg(it.pid, signal.SIGINT), "", b"KeyboardInterrupt \n", OLD),
     ("Python is killed", lambda it: it.kill(), "", b"", OLD),
     ("a child leaves it", lambda _: None, CHILD, b"saved\n", NEW),

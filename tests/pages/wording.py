@@ -53,9 +53,8 @@ def of_sources() -> Iterator[tuple[str, set[object]]]:
     own = known - {"NAME.krbfile is in the way", "error NUMBER"}
     yield "the phrases of the definitions", defined ^ (files | in_library | numbered | own | {*phrases.NAMES.values()})
     text = sources("python/krbfile/*.py")
-    found = re.findall(r'(?:errno\.\w+: |NAME_OF_SAVES = )"(.*?)"', text) + re.findall(r'"([^"]*)": errno', text)
-    lost = re.findall(r'"(.*?)"', "".join(re.findall(r"^LOST = (.*)$", text, re.MULTILINE)))
-    yield "the causes of Python's module", {*found, *lost} - {"file too large", *known} if found and lost else {"none"}
+    found = re.findall(r'(?:errno\.\w+: |NAME_OF_SAVES = )"(.*?)"', text)
+    yield "the causes of Python's module", {*found} - known if found else {"none"}
 
 
 def check(report: Report, program: str) -> None:
