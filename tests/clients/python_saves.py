@@ -54,7 +54,10 @@ print(sorted(entry.principal for entry in Keytab.load("many")))
 # Blocks that save nothing: they change nothing, end by an exception, or are never left.
 BLOCKS = """
 Path("k").write_bytes(image)
-before = os.stat("k")
+
+def state():
+    own = os.stat("k")
+    return own.st_ino, own.st_mode, own.st_mtime_ns, Path("k").read_bytes()
 
 def stop(keytab, error):
     keytab.remove_at(2)
@@ -63,12 +66,13 @@ def stop(keytab, error):
 for block in (list, *(lambda it, error=error: stop(it, error) for error in (
                   KeyError(1), KeyboardInterrupt(), SystemExit(3))), lambda it: it.close(),
               lambda _: edit_keytab("other").__enter__().add("a@R", 1, 17, bytes(16))):
+    before = state()
     try:
         with edit_keytab("k") as keytab:
             block(keytab)
         keytab.image
     except BaseException as error:
-        print(repr(error), os.stat("k") == before, sorted(os.listdir()))
+        print(repr(error), state() == before, sorted(os.listdir()))
 """
 
 # A block that adds an entry and waits for a line. Before, it may fork a child that leaves the block too, one that lives
@@ -76,13 +80,15 @@ for block in (list, *(lambda it, error=error: stop(it, error) for error in (
 BLOCK = """
 from ctypes import PyDLL
 from krbfile import edit_keytab
-import os, sys, time
+import os, signal, sys, time
 
 def live():
     os.closerange(0, 3)
     while os.path.exists("k"): time.sleep(0.01)
 
 worker = 0
+# Whoever started the tests may ignore it.
+signal.signal(signal.SIGINT, signal.default_int_handler)
 try:
     with edit_keytab("k") as keytab:
         keytab.add("host/a@R", 3, 17, bytes(range(16)), 1700000000)
