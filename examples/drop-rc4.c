@@ -6,16 +6,19 @@
 #include <signal.h>
 #include <spawn.h>
 #include <stdio.h>
+#include <stdlib.h>
+#include <string.h>
 #include <sys/wait.h>
 #include <unistd.h>
 
 /* Returns 0 if all went well. */
 static int drop_rc4(char *file) {
     static uint8_t image[1 << 24];
-    char digit, *words[] = {"krbfile", "hold", "-k", "--", file, NULL};
-    int in[2] = {-1, -1}, out[2] = {-1, -1}, failed = 1, status;
-    ssize_t len = 0, at = 0, more;
+    char line[99] = "", *words[] = {"krbfile", "hold", "-k", "--", file, NULL};
+    int in[2] = {-1, -1}, out[2] = {-1, -1}, failed = 1;
+    size_t len;
     pid_t pid;
+    FILE *printed;
     krbf_keytab keytab = KRBF_NONE;
     krbf_entry entry;
     krbf_bytes left;
@@ -29,26 +32,30 @@ static int drop_rc4(char *file) {
     posix_spawn_file_actions_destroy(&streams);
     close(in[0]);
     close(out[1]);
-    while (read(out[0], &digit, 1) == 1 && digit >= '0')
-        len = 10 * len + digit - '0';
-    while (at < len && len <= 1 << 24 && (more = read(out[0], image + at, len - at)) > 0)
-        at += more;
-    if (at == len && krbf_kt_open(image, len, 0, 0, &keytab) == KRBF_DONE) {
+    printed = fdopen(out[0], "r");
+    if (printed && fgets(line, sizeof line, printed) && (len = strtoul(line, NULL, 10)) > 0 &&
+        len <= sizeof image && fread(image, 1, len, printed) == len &&
+        krbf_kt_open(image, len, 0, 0, &keytab) == KRBF_DONE) {
         for (uint32_t cursor = KRBF_FIRST; krbf_kt_next(&keytab, &cursor, &entry) == KRBF_DONE;)
             if (entry.enctype == 23)
                 krbf_kt_remove_at(&keytab, entry.place);
         krbf_kt_image(&keytab, &left);
-        failed = dprintf(in[1], "%zu\n", left.len) < 0 ||
-                 write(in[1], left.at, left.len) != (ssize_t)left.len;
+        failed = dprintf(in[1], "%zu\n", left.len) < 0 || write(in[1], left.at, left.len) < 0;
     }
     krbf_kt_close(&keytab);
-    close(out[0]);
     close(in[1]);
-    return pid > 0 && waitpid(pid, &status, 0) == pid && status == 0 && !failed ? 0 : -1;
+    /* The last line, after the image or in its place, says how it ended. */
+    while (printed && fgets(line, sizeof line, printed))
+        ;
+    if (printed)
+        fclose(printed);
+    if (pid > 0)
+        waitpid(pid, NULL, 0);
+    return failed || (strcmp(line, "saved\n") && strcmp(line, "left\n"));
 }
 
 int main(int argc, char **argv) {
     /* In case krbfile is killed. */
     signal(SIGPIPE, SIG_IGN);
-    return argc != 2 || drop_rc4(argv[1]) != 0;
+    return argc != 2 || drop_rc4(argv[1]);
 }

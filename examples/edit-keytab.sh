@@ -16,11 +16,21 @@ exec 7<>"$folder/in" 8<>"$folder/out"
 exec 3>"$folder/in" 4<"$folder/out" 5<"$folder/in" 6>"$folder/out" 7>&- 8>&-
 krbfile hold -k -- "$file" <&5 >&6 3>&- 4<&- 5<&- 6>&- &
 exec 5<&- 6>&-
-if read -r length <&4; then
-    head -c "$length" <&4 >"$folder/old"
+read -r line <&4 || line="nothing was saved"
+case $line in
+*[!0-9]*) ;;
+*)
+    head -c "$line" <&4 >"$folder/old"
     "$@" <"$folder/old" >"$folder/new" 3>&- 4<&-
     { echo "$(($(wc -c <"$folder/new")))" && cat "$folder/new"; } >"$folder/frame"
-    cat "$folder/frame" >&3
-fi
-exec 3>&-
-wait "$!"
+    cat "$folder/frame" >&3 || :
+    exec 3>&-
+    read -r line <&4 || line="it is not known whether $file was saved"
+    ;;
+esac
+# The last line, after the image or in its place, says how it ended.
+case $line in
+saved | left) ;;
+failed*) set -- $line && exit "$2" ;;
+*) echo "$0: $line" >&2 && exit 1 ;;
+esac

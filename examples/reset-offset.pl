@@ -6,10 +6,14 @@ use strict;
 use warnings;
 use IPC::Open2;
 
+# In case krbfile is killed.
+$SIG{PIPE} = 'IGNORE';
 @ARGV == 1 or die "usage: $0 CACHE\n";
-my $program = open2(my $out, my $in, 'krbfile', 'hold', '--', $ARGV[0]);
+open2(my $out, my $in, 'krbfile', 'hold', '--', $ARGV[0]);
 binmode $_ for $out, $in;
-if (defined(my $length = <$out>)) {
+my $line = <$out> // "nothing was saved\n";
+if ($line =~ /^(\d+)$/) {
+    my $length = $line;
     read($out, my $image, $length) == $length or die "$0: the image is cut\n";
     my ($version, $size) = unpack 'xCn', $image;
     for (my $at = 4; $version == 4 && $at < 4 + $size;) {
@@ -18,7 +22,9 @@ if (defined(my $length = <$out>)) {
         $at += 4 + $bytes;
     }
     print $in $length, $image;
+    close $in;
+    $line = <$out> // "it is not known whether it was saved\n";
 }
-close $in;
-waitpid $program, 0;
-exit($? >> 8 || $?);
+# The last line, after the image or in its place, says how it ended.
+$line =~ /^(?:saved|left|failed (\d+) .*)$/ or die "$0: $line";
+exit($1 // 0);

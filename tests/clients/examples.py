@@ -13,7 +13,7 @@ from makers.images import FIELDS, TICKET, Name, cache, header_field, offset
 from makers.samples import SAMPLES, make
 from pages.documents import read
 from pages.readme import installed
-from runs.harness import TOP, Outcome, Report, files_in, folder_of, run
+from runs.harness import TOP, Outcome, Report, files_in, folder_of, message, run
 
 # The files of jobs, each with a line that it prints, and another that all do.
 FOUND = b"./mixed.keytab: weak 53 kvno 3 etype 23 b@R\n./mixed.keytab: entries 2 free 0 holes 0\n"
@@ -31,7 +31,10 @@ SCRIPTS = {
     "tickets.prom.sh odd tickets.prom": Outcome(0),
     "reset-offset.pl odd": Outcome(0),
     "edit-keytab.sh host.keytab sh -c 'cat; tail -c +3 other.keytab'": Outcome(0),
+    "edit-keytab.sh host.keytab sh -c 'printf x'": message(1, "input: not a keytab (1)"),
+    "edit-keytab.sh no/k cat": message(3, "no/k: cannot write"),
     "edit-keytab.sh mixed.keytab sh -c 'kill -KILL $PPID; cat host.keytab'": Outcome(-signal.SIGKILL),
+    "reset-offset.pl damaged.keytab": message(1, "damaged.keytab: not a cache (2)"),
 }
 ODD = replace(TICKET, server=Name((b'a"\\\1',)))
 BEFORE, AFTER = (cache(ODD, replace(ODD, endtime=8), fields=fields)

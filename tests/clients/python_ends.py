@@ -9,7 +9,7 @@ from runs.harness import every
 from words.phrases import AFTERMATHS, CAUSES, GIVEN_DAMAGED
 
 # What it does first, its messages and its last line then, and what the block raises.
-FRAME = r"printf '2\n\5\2'; cat > /dev/null"
+FRAME = r"printf '2\n\5\2'; while read -r part; do :; done"
 UNKNOWN = "it is not known whether k was saved: krbfile ended without saying so, and one before 2.0 never says so"
 EARLY = "OSError EIO 'k' krbfile ended too early; nothing was saved"
 UNSAVED = f"krbfile: k: cannot write\nkrbfile: {CAUSES['EACCES']}\n"
@@ -66,15 +66,18 @@ for handler in (signal.SIG_IGN, reap, signal.SIG_DFL):
     print([*ended()])
 """
 
-# A stand-in that holds the file as long as there is `held`, and saves what it is given. Python itself passes over what
-# is raised in `__del__`.
+# A stand-in that holds the file until it says that it has ended, and saves a word if it is given anything. Python itself
+# passes over what is raised in `__del__`.
 LINES = r"""
 Path("p").write_text('''#!/bin/sh
 trap "" PIPE
-: > held
+echo begun >> begun
 printf '2\\n\\5\\2'
-if read -r length; then head -c "$length" > new && mv new k; fi
-rm held
+if read -r part; then
+    while read -r part; do :; done
+    echo saved > k
+fi
+echo ended >> ended
 echo saved
 ''')
 os.chmod("p", 0o755)
@@ -86,6 +89,8 @@ class Stop(TimeoutError):
 class Late(krbfile.editing.subprocess.Popen):
     def __init__(self, *words, **more):
         super().__init__(*words, **more)
+        while os.path.getsize("begun") == os.path.getsize("ended"):
+            time.sleep(1e-3)
         raise Stop(errno.EINTR, "stopped")
 
 def trace(frame, event, _):
@@ -103,13 +108,13 @@ def block():
 
 def is_held():
     until = time.monotonic() + 10
-    while os.path.exists("held") and time.monotonic() < until:
+    while os.path.getsize("begun") != os.path.getsize("ended") and time.monotonic() < until:
         time.sleep(1e-3)
-    return os.path.exists("held")
+    return time.monotonic() >= until
 
 folder = os.path.dirname(krbfile.__file__)
 block()
-after, files, stops, faults = Path("k").read_bytes(), os.listdir("/proc/self/fd"), 0, []
+files, stops, faults = os.listdir("/proc/self/fd"), 0, []
 while True:
     Path("k").write_bytes(b"")
     left = stops
@@ -124,7 +129,7 @@ while True:
     sys.settrace(None)
     if left >= 0:
         break
-    faults += [] if raised is Stop and Path("k").read_bytes() in (b"", after) else [(stops, raised)]
+    faults += [] if raised is Stop and Path("k").read_text() in ("", "saved\n") else [(stops, raised)]
     stops += 1
 print(stops > 100, faults, len(os.listdir("/proc/self/fd")) - len(files), told(lambda: os.waitpid(-1, 0)))
 krbfile.editing.subprocess.Popen = Late
