@@ -15,7 +15,7 @@
 static int drop_rc4(char *file) {
     static uint8_t image[1 << 24];
     char line[99] = "", *words[] = {"krbfile", "hold", "-k", "--", file, NULL};
-    int in[2] = {-1, -1}, out[2] = {-1, -1}, failed = 1;
+    int in[2], out[2], failed = 1;
     size_t len;
     pid_t pid;
     FILE *printed;
@@ -27,13 +27,13 @@ static int drop_rc4(char *file) {
     if (pipe2(in, O_CLOEXEC) || pipe2(out, O_CLOEXEC) ||
         posix_spawn_file_actions_adddup2(&streams, in[0], 0) ||
         posix_spawn_file_actions_adddup2(&streams, out[1], 1) ||
-        posix_spawnp(&pid, words[0], &streams, NULL, words, environ))
-        pid = -1;
+        posix_spawnp(&pid, words[0], &streams, NULL, words, environ) ||
+        !(printed = fdopen(out[0], "r")))
+        return 1;
     posix_spawn_file_actions_destroy(&streams);
     close(in[0]);
     close(out[1]);
-    printed = fdopen(out[0], "r");
-    if (printed && fgets(line, sizeof line, printed) && (len = strtoul(line, NULL, 10)) > 0 &&
+    if (fgets(line, sizeof line, printed) && (len = strtoul(line, NULL, 10)) > 0 &&
         len <= sizeof image && fread(image, 1, len, printed) == len &&
         krbf_kt_open(image, len, 0, 0, &keytab) == KRBF_DONE) {
         for (uint32_t cursor = KRBF_FIRST; krbf_kt_next(&keytab, &cursor, &entry) == KRBF_DONE;)
@@ -45,12 +45,10 @@ static int drop_rc4(char *file) {
     krbf_kt_close(&keytab);
     close(in[1]);
     /* The last line, after the image or in its place, says how it ended. */
-    while (printed && fgets(line, sizeof line, printed))
+    while (fgets(line, sizeof line, printed))
         ;
-    if (printed)
-        fclose(printed);
-    if (pid > 0)
-        waitpid(pid, NULL, 0);
+    fclose(printed);
+    waitpid(pid, NULL, 0);
     return failed || (strcmp(line, "saved\n") && strcmp(line, "left\n"));
 }
 

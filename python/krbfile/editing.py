@@ -9,7 +9,7 @@ import socket
 import subprocess
 import tempfile
 from collections.abc import Iterator
-from contextlib import AbstractContextManager, contextmanager
+from contextlib import AbstractContextManager, contextmanager, suppress
 from ctypes import c_uint32
 from typing import Any
 from weakref import WeakSet
@@ -45,27 +45,6 @@ def program() -> AnyPath:
     return found
 
 
-def fault(line: str, words: list[str], name: FileName, is_sent: bool) -> Exception:
-    """Returns the exception for a last line, or for none, and the messages before it."""
-    text = ": ".join(words or [f"krbfile: {line}"])
-    if line == "lost":
-        return LostChange(errno.ESTALE, text, name)
-    if line == "damaged":
-        return UnknownSave(errno.EIO, text, name)
-    if not (failed := FAILED.fullmatch(line)):
-        if not is_sent:
-            return OSError(errno.EIO, ": ".join([*words, "krbfile ended too early; nothing was saved"]), name)
-        unknown = f"it is not known whether {os.fsdecode(name)} was saved"
-        why = "krbfile ended without saying so, and one before 2.0 never says so"
-        return UnknownSave(errno.EIO, ": ".join([*words, unknown, why]), name)
-    status, code, cause = failed.groups()
-    if status == "4":
-        return MemoryError(text)
-    if code:
-        return KrbfileError(int(code), f"{os.fsdecode(name)}: {words[-1]}" if words else "")
-    return OSError(getattr(errno, cause, errno.EIO), text, name)
-
-
 class Hold:
     """A file that the program holds until its input ends. In a forked child this is a copy that does nothing."""
 
@@ -75,7 +54,7 @@ class Hold:
         self.process: subprocess.Popen[bytes] | None = None
         # A file takes messages of any length, where a pipe that nobody reads could stop the program.
         self.messages = tempfile.TemporaryFile(buffering=0)
-        # Whoever drops them closes them, at any time.
+        # Once they are dropped they close themselves, whatever was interrupted.
         self.ours, self.theirs = socket.socketpair()
         for end in (self.ours, self.theirs):
             end.settimeout(None)
@@ -101,40 +80,50 @@ class Hold:
         if self.maker != os.getpid():
             raise OSError(errno.EIO, "nothing was saved: a forked child does not hold the file", self.name)
         is_sent = False
-        try:
+        # If it has ended, its last line says why.
+        with suppress(ConnectionError):
             self.ours.sendall(b"%d\n%b" % (len(image), image), socket.MSG_NOSIGNAL)
             is_sent = True
-        except ConnectionError:
-            # It has ended, and its last line says why.
-            pass
         self.ours.shutdown(socket.SHUT_WR)
         if (line := self._line()) not in ("saved", "left"):
             raise self._fault(line, is_sent)
 
     def _line(self) -> str:
         """Returns the next line of the program without its end, or nothing if there is none."""
-        try:
+        # It may have ended before it had read all.
+        with suppress(ConnectionResetError):
             line = self.output.readline()
-        except ConnectionResetError:
-            # It ended before it had read all.
-            return ""
-        return line[:-1].decode("ascii", "replace") if line.endswith(b"\n") else ""
+            return line[:-1].decode("ascii", "replace") if line.endswith(b"\n") else ""
+        return ""
 
     def _fault(self, line: str, is_sent: bool = False) -> Exception:
-        """Returns the exception for the program's last line, or for none."""
+        """Returns the exception for the program's last line, or for none, in the words of its messages."""
         self.messages.seek(0)
         lines = self.messages.read().decode("utf-8", "surrogateescape").splitlines()
         front = "{}: ".format(operand(self.name).replace("\n", "\\x0a"))
         words = [each.removeprefix("krbfile: ").removeprefix(front) for each in lines]
-        return fault(line, words, self.name, is_sent)
+        text, name = ": ".join(words or [f"krbfile: {line}"]), os.fsdecode(self.name)
+        if line == "lost":
+            return LostChange(errno.ESTALE, text, self.name)
+        if line == "damaged":
+            return UnknownSave(errno.EIO, text, self.name)
+        if found := FAILED.fullmatch(line):
+            status, code, cause = found.groups()
+            if status == "4":
+                return MemoryError(text)
+            if code:
+                return KrbfileError(int(code), f"{name}: {words[-1]}" if words else "")
+            return OSError(getattr(errno, cause, errno.EIO), text, self.name)
+        unknown = f"it is not known whether {name} was saved: krbfile ended without saying so, as any before 2.0 does"
+        kind, why = (UnknownSave, unknown) if is_sent else (OSError, "krbfile ended too early; nothing was saved")
+        return kind(errno.EIO, ": ".join([*words, why]), self.name)
 
     def leave(self) -> None:
         """Ends the hold, and waits for the program. If nothing was saved, the file is as it was."""
         if self.maker == os.getpid() and self.ours.fileno() >= 0:
-            # This ends the program's input also if another process has a copy of the socket.
+            # This ends the input also if another process has a copy of the socket. Nobody waits for a last line.
             self.ours.shutdown(socket.SHUT_RDWR)
             if self.process:
-                # Its status is not asked for: others may have taken it.
                 self.process.wait()
         self.forget()
 

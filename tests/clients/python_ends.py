@@ -8,26 +8,24 @@ from pages.readme import no_library
 from runs.harness import every
 from words.phrases import AFTERMATHS, CAUSES, GIVEN_DAMAGED
 
-# What it does first, its messages and its last line then, and what the block raises.
+# What a stand-in does first, and its messages and its last line then; and what the block raises.
+LOST, MIXED, DENIED = AFTERMATHS["lost change"], AFTERMATHS["mixed"], CAUSES["EACCES"]
 FRAME = r"printf '2\n\5\2'; while read -r part; do :; done"
-UNKNOWN = "it is not known whether k was saved: krbfile ended without saying so, and one before 2.0 never says so"
-EARLY = "OSError EIO 'k' krbfile ended too early; nothing was saved"
-UNSAVED = f"krbfile: k: cannot write\nkrbfile: {CAUSES['EACCES']}\n"
+UNSAVED = f"krbfile: k: cannot write\nkrbfile: {DENIED}\n"
 ROWS: tuple[tuple[str, str, str, object], ...] = (
     (FRAME, "", "saved\n", None), (FRAME, "krbfile: k: odd\n", "left\n", None),
-    (FRAME, f"krbfile: k: {AFTERMATHS['lost change']}\n", "lost\n",
-     f"LostChange ESTALE 'k' {AFTERMATHS['lost change']}"),
-    (FRAME, f"krbfile: k: cannot write\nkrbfile: k: {AFTERMATHS['mixed']}\n", "damaged\n",
-     f"UnknownSave EIO 'k' cannot write: {AFTERMATHS['mixed']}"),
-    (FRAME, UNSAVED, "failed 3 EACCES\n", f"PermissionError EACCES 'k' cannot write: {CAUSES['EACCES']}"),
+    (FRAME, f"krbfile: k: {LOST}\n", "lost\n", f"LostChange ESTALE 'k' {LOST}"),
+    (FRAME, f"krbfile: k: {MIXED}\n", "damaged\n", f"UnknownSave EIO 'k' {MIXED}"),
+    *((first, UNSAVED, "failed 3 EACCES\n", f"PermissionError EACCES 'k' cannot write: {DENIED}")
+      for first in (FRAME, "")),
     (FRAME, "", "failed 3 ENOSPC\n", "OSError ENOSPC 'k' krbfile: failed 3 ENOSPC"),
     (FRAME, "krbfile: out of memory\n", "failed 4 ENOMEM\n", "MemoryError: out of memory"),
     (FRAME, f"krbfile: input: refused 1\nkrbfile: {GIVEN_DAMAGED}\n", "failed 1 31\n",
      f"KrbfileError 31 k: {GIVEN_DAMAGED}"),
-    *((FRAME, "", line, f"UnknownSave EIO 'k' {UNKNOWN}") for line in ("", "saved", "failed 1\n", "2\n")),
-    ("", UNSAVED, "failed 3 EACCES\n", f"PermissionError EACCES 'k' cannot write: {CAUSES['EACCES']}"),
-    *((f"printf '{front}'", "", "", EARLY) for front in ("", "2", r"2\n", r"3\n\5\2")),
-    ("", "krbfile: odd\n", "", "OSError EIO 'k' odd: krbfile ended too early; nothing was saved"),
+    *((FRAME, "", line, "UnknownSave EIO 'k' it is not known whether k was saved: krbfile ended without saying so, as "
+       "any before 2.0 does") for line in ("", "saved", "failed 1\n", "2\n")),
+    *((f"printf '{first}'", "krbfile: odd\n", "", "OSError EIO 'k' odd: krbfile ended too early; nothing was saved")
+      for first in ("", "2", r"2\n", r"3\n\5\2")),
 )
 ENDS = f"""
 import signal
@@ -44,30 +42,24 @@ def reap(*_):
         while os.waitpid(-1, os.WNOHANG)[0]:
             pass
     except ChildProcessError:
-        pass
+        time.sleep(1e-4)
 
 def keep_on():
     while True:
         reap()
-        time.sleep(1e-4)
 
-def ended():
+for handler in (signal.SIG_DFL, signal.SIG_IGN, reap, None):
+    signal.signal(signal.SIGCHLD, handler or signal.SIG_DFL)
+    if handler is None:
+        Thread(target=keep_on, daemon=True).start()
     for first, said, line, wanted in {ROWS!r}:
         os.environ.update(FIRST=first, SAID=said, LINE=line)
-        found = told(block)
-        if found != wanted:
-            yield found, wanted
-
-print([*ended()])
-for handler in (signal.SIG_IGN, reap, signal.SIG_DFL):
-    signal.signal(signal.SIGCHLD, handler)
-    if handler == signal.SIG_DFL:
-        Thread(target=keep_on, daemon=True).start()
-    print([*ended()])
+        if (found := told(block)) != wanted:
+            print(handler, found, wanted)
 """
 
-# A stand-in that holds the file until it says that it has ended, and saves a word if it is given anything. Python itself
-# passes over what is raised in `__del__`.
+# A stand-in that holds the file until it says that it has ended, and saves a word if it is given anything. Python
+# itself passes over what is raised in `__del__`.
 LINES = r"""
 Path("p").write_text('''#!/bin/sh
 trap "" PIPE
@@ -89,8 +81,8 @@ class Stop(TimeoutError):
 class Late(krbfile.editing.subprocess.Popen):
     def __init__(self, *words, **more):
         super().__init__(*words, **more)
-        while os.path.getsize("begun") == os.path.getsize("ended"):
-            time.sleep(1e-3)
+        while not is_held():
+            pass
         raise Stop(errno.EINTR, "stopped")
 
 def trace(frame, event, _):
@@ -102,38 +94,42 @@ def trace(frame, event, _):
             raise Stop
     return trace
 
-def block():
+def block(changes=True):
     with edit_keytab("k") as keytab:
-        keytab.add("a@R", 3, 17, bytes(16), 0)
+        changes and keytab.add("a@R", 3, 17, bytes(16), 0)
 
 def is_held():
+    return os.path.getsize("begun") != os.path.getsize("ended")
+
+def stays_held():
     until = time.monotonic() + 10
-    while os.path.getsize("begun") != os.path.getsize("ended") and time.monotonic() < until:
+    while is_held() and time.monotonic() < until:
         time.sleep(1e-3)
-    return time.monotonic() >= until
+    return is_held()
 
 folder = os.path.dirname(krbfile.__file__)
 block()
-files, stops, faults = os.listdir("/proc/self/fd"), 0, []
-while True:
-    Path("k").write_bytes(b"")
-    left = stops
-    sys.settrace(trace)
-    try:
-        block()
-        raised = None
-    except BaseException as error:
+files = os.listdir("/proc/self/fd")
+for changes in (True, False):
+    left, stops = -1, -1
+    while left < 0:
+        stops += 1
+        Path("k").write_bytes(b"")
+        left, raised = stops, None
+        sys.settrace(trace)
+        try:
+            block(changes)
+        except BaseException as error:
+            sys.settrace(None)
+            raised = type(error)
+            if stays_held():
+                print("it is held", stops)
         sys.settrace(None)
-        raised = type(error)
-        faults += ["it is held"] * is_held()
-    sys.settrace(None)
-    if left >= 0:
-        break
-    faults += [] if raised is Stop and Path("k").read_text() in ("", "saved\n") else [(stops, raised)]
-    stops += 1
-print(stops > 100, faults, len(os.listdir("/proc/self/fd")) - len(files), told(lambda: os.waitpid(-1, 0)))
+        if left < 0 and (raised is not Stop or Path("k").read_text() not in ("", "saved\n")):
+            print(raised, stops)
+    print(stops > 80, len(os.listdir("/proc/self/fd")) - len(files), told(lambda: os.waitpid(-1, 0)))
 krbfile.editing.subprocess.Popen = Late
-print(told(block), is_held())
+print(told(block), stays_held())
 """
 
 # A process that ends within a block, and whose child goes on.
@@ -149,13 +145,13 @@ def block(fork):
 for fork in (os.fork, PyDLL(None).fork):
     print(told(lambda: block(fork)), os.path.exists("k"), flush=True)
 """
-IN_CHILD = "OSError EIO 'k' nothing was saved: a forked child does not hold the file False"
 
 SCRIPTS: tuple[Script, ...] = (
-    ("last lines", ENDS, b"", 4 * ["[]"]),
+    ("last lines", ENDS, b"", []),
     ("an exception at each line", LINES, b"", [
-        "True [] 0 ChildProcessError ECHILD None No child processes", "Stop EINTR None stopped False"]),
-    ("a child that goes on", CHILDREN, b"", 2 * [IN_CHILD]),
+        *2 * ["True 0 ChildProcessError ECHILD None No child processes"], "Stop EINTR None stopped False"]),
+    ("a child that goes on", CHILDREN, b"", 2 * [
+        "OSError EIO 'k' nothing was saved: a forked child does not hold the file False"]),
 )
 
 check = every(partial(check_scripts, SCRIPTS), of="how blocks of Python's module end", lack=no_library)

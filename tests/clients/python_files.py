@@ -87,6 +87,60 @@ refused(edit_keytab, "k")
 print(sorted(os.listdir()))
 """
 
+# Archives whose program and library are used, and others with a part that is a link, missing, or another's to change,
+# which root alone can give; and a library that is none.
+ORIGINS = """
+import runpy, shutil, subprocess
+folders = ["top/docs", "top/bin", "top/lib", "top/python/krbfile"]
+files = ["top/docs/krbfile.1", "top/bin/krbfile", "top/lib/libkrbfile.so.1"]
+parts = ["top", "top/python", *folders, *files]
+
+def archive():
+    shutil.rmtree("top", ignore_errors=True)
+    shutil.copytree(os.path.dirname(krbfile.__file__), folders[-1])
+    for folder, file in zip(folders, files):
+        os.mkdir(folder)
+        shutil.copy(os.environ["LD_LIBRARY_PATH"] + "/libkrbfile.so.1", file)
+    for part in parts:
+        os.chmod(part, 0o755)
+
+def is_used(change, part, *words):
+    archive()
+    change(part, *words)
+    beside = runpy.run_path(str(next(Path("top").rglob("origin.py"))))["beside"]
+    return beside(*(("lib", "libkrbfile.so.1") if "lib" in part else ("bin", "krbfile"))) is not None
+
+def link(part):
+    os.rename(part, part + "2")
+    os.symlink(os.path.basename(part) + "2", part)
+
+def share(part):
+    os.chown(part, -1, 54_321)
+    os.chmod(part, 0o775)
+
+def used(**more):
+    code = "import krbfile.editing as it; print(it.BESIDE, it.krbfile.library.exports._name)"
+    env = {**os.environ, "PYTHONPATH": "top/python", **more}
+    got = subprocess.run([sys.executable, "-c", code], env=env, capture_output=True, text=True)
+    return (got.stdout or got.stderr).splitlines()[-1].replace(os.path.realpath("top"), "top")
+
+safe = [(os.chmod, "top/bin", 0o755)]
+others = [(os.chmod, part, 0o757) for part in parts] + [(link, part) for part in (*folders[:3], *files)]
+others += [(os.remove, file) for file in files]
+others += [(os.rename, old, old + "2") for old in ("top/python", "top/python/krbfile")]
+if os.geteuid() == 0:
+    safe += [(os.chmod, "top/bin", 0o775)]
+    others += [(share, part) for part in parts]
+    others += [(os.chown, part, 65_534, -1) for part in (*parts, "top/python/krbfile/origin.py")]
+print([row for row in safe if not is_used(*row)], [row for row in others if is_used(*row)])
+archive()
+print(used())
+os.chmod("top", 0o777)
+print(used())
+Path(files[-1]).write_bytes(b"")
+print(used(LD_LIBRARY_PATH="top/lib"))
+"""
+
 NO_ENTRY, NO_FILE = "FileNotFoundError ENOENT", "no such file"
 NEW_CACHE = cache().hex()
 
@@ -148,5 +202,9 @@ SCRIPTS = (
         f"{NO_ENTRY} 'krbfile' "
         "the program is not on PATH: install it, or set KRBFILE or krbfile.PROGRAM to its path",
         "['c', 'cut', 'fifo', 'k', 'large', 'taken.krbfile']",
+    ]),
+    ("what is beside the module", ORIGINS, b"", [
+        "[] []", "top/bin/krbfile top/lib/libkrbfile.so.1", "None libkrbfile.so.1",
+        "OSError: top/lib/libkrbfile.so.1: file too short; install libkrbfile, or set LD_LIBRARY_PATH to its folder",
     ]),
 )

@@ -100,6 +100,7 @@ except BaseException as error:
     print(type(error).__name__, error)
 """
 CHILD = "if os.fork() == 0: sys.stdin = sys.stdout = open(os.devnull, 'r+')"
+STRANGER = CHILD.replace("os.fork()", "(worker := PyDLL(None).fork())") + "\n        else: os.waitpid(worker, 0)"
 WORKER = "worker = os.fork() or live()"
 UNKNOWN = "worker = PyDLL(None).fork() or live()"
 
@@ -155,6 +156,7 @@ ENDS: tuple[End, ...] = (
     ("Ctrl-C", lambda it: os.killpg(it.pid, signal.SIGINT), "", b"KeyboardInterrupt \n", OLD),
     ("Python is killed", lambda it: it.kill(), "", b"", OLD),
     ("a child leaves it", lambda _: None, CHILD, b"saved\n", NEW),
+    ("an unknown child leaves it", lambda _: None, STRANGER, b"saved\n", NEW),
     ("a worker lives on", lambda _: None, WORKER, b"saved\n", NEW),
     ("a worker lives on, Python is killed", lambda it: it.kill(), WORKER, b"", OLD),
     ("an unknown worker lives on", lambda _: None, UNKNOWN, b"saved\n", NEW),
