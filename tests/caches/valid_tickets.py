@@ -73,10 +73,10 @@ CASES = [
 
 def check_places(report: Report, program: str) -> None:
     """Checks names that lead to no plain file: a pipe is not opened."""
-    with folder_of({}) as folder, fed(os.path.join(folder, "pipe")) as opened:
+    with folder_of({}) as folder, fed(os.path.join(folder, "pipe")) as is_used:
         for name in (".", "/dev/null", "x" * 256, "pipe"):
             report.compare(f"a name: {name[:20]}", UNREAD, run(program, ("klist", "-s", name), folder))
-        report.check("a pipe", ["it was opened"] if opened else [])
+        report.check("a pipe", ["it was opened"] * is_used())
 
 
 def check(report: Report, program: str) -> None:

@@ -11,7 +11,7 @@ from makers.images import B, HOST, TWO, USUAL, cache, keytab
 from names.several_keytabs import MISSING, OTHER, UNREAD, fault
 from runs.harness import Line, shown, words_of
 from words.explaining import FAILED, FULL, Explained, no_keytab
-from words.phrases import BEGINS_AS_KEYTAB, COLLECTION, LARGE, LISTED_AS_KEYTAB, SHORT
+from words.phrases import BEGINS_AS_KEYTAB, CAUSES, COLLECTION, LARGE, LISTED_AS_KEYTAB
 
 FILES = {"k": TWO, "j": keytab(B), "d": keytab(HOST, b"\0"), "n": keytab(), "c": USUAL, "e": cache(),
          "a\nb": keytab(B), "FILE:k": keytab(HOST)}
@@ -40,8 +40,8 @@ CASES = [
     list_all("-k . no d k d", [D, K, D], UNREAD, MISSING, *fault("d"), *fault("d"), status=3),
     list_all(("-k", "", "k", "FILE:", "no\nk"), [K], (": no such file", ""), (": no such file", ""),
              (r"no\x0ak: no such file", ""), status=1),
-    list_all("-k c /dev/null KCM:k", [], no_keytab(LISTED_AS_KEYTAB, "c"), no_keytab(SHORT, "/dev/null"), OTHER,
-             status=1),
+    list_all("-k c /dev/null KCM:k", [], no_keytab(LISTED_AS_KEYTAB, "c"),
+             ("/dev/null: cannot read", CAUSES["no plain file"]), OTHER, status=3),
     list_all("k c DIR:c", [C], no_keytab(BEGINS_AS_KEYTAB, "k", "cache"), ("DIR:c: no such file", COLLECTION),
              status=1),
     partial(list_all, "-k l k", [K], ("l: file too large", LARGE), status=1, files={"k": TWO, "l": bytes(LIMIT + 1)}),

@@ -64,7 +64,8 @@ CASES = [
     remove("ktremove -p b@R k . d x j", [B_K, B_J], UNREAD, DAMAGED, NO_KEYTAB, status=3, left="kj"),
     # If one is missing nothing is done, whatever the others are: each that is has its message, in order.
     *(remove(line, [], NAMED, status=1) for line in (
-        "ktremove -k old o host/a@R", "ktremove -n -k old o host/a@R", "ktremove -k old host/a@R o", "ktremove -e 17 host/a@R",
+        "ktremove -k old o host/a@R", "ktremove -n -k old o host/a@R", "ktremove -k old host/a@R o",
+        "ktremove -e 17 host/a@R",
         "ccremove --all-services c FILE:host/a@R", "ccremove --expired c host/a@R")),
     remove(("ktremove", "-pb@R", "no", "k", "KCM:u@R", ".", "", "d", "KCM:k"), [], MISSING, (*OTHER_NAMED, TO_NAME),
            (": no such file", ""), OTHER, status=1),

@@ -215,9 +215,9 @@ ROWS: list[tuple[Case, *tuple[Place, ...]]] = [
 
 def check_pipe(report: Report, program: str) -> None:
     """Checks that a dry run opens a pipe that it would copy into."""
-    with folder_of({"k": TWO}) as folder, fed(os.path.join(folder, "t")) as opened:
+    with folder_of({"k": TWO}) as folder, fed(os.path.join(folder, "t")) as is_used:
         faults = differences(COPIED, run(program, (EXPLAIN, "ktcopy", "-n", "k", "t"), folder))
-        faults += tree_faults({"k": TWO, "t": "p"}, folder) + ([] if opened else ["it was not opened"])
+        faults += tree_faults({"k": TWO, "t": "p"}, folder) + ([] if is_used() else ["it was not opened"])
     report.check("a pipe to copy into, in a dry run", faults)
 
 

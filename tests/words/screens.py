@@ -35,7 +35,7 @@ RUNS = [
     undisturbed("klist -l --json d", **TEXTS), undisturbed("ktcheck --json --older 1 j", **TEXTS),
     undisturbed(("ktcheck", "--want", "\x1b@R", "k"), k=keytab(B)), undisturbed("ktutil", b"rkt k\x1b\n"),
     named("klist", "-k"), named("klist", "--json", "-k"), named("ktcheck"), named("ktcheck", "--json"),
-    named("ktcheck", "-H", image=keytab(B) + b"\0"), named("ktremove", "-n", "-p", "b@R", "no", image=keytab(B)),
+    named("ktcheck", "-H", image=keytab(B) + b"\0"), named("ktremove", "-n", "-p", "b@R", FILE, image=keytab(B)),
     undisturbed("klist -l c", **WILD_FILES),
 ]
 
