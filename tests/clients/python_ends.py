@@ -54,7 +54,7 @@ for handler in (signal.SIG_DFL, signal.SIG_IGN, reap, None):
         Thread(target=keep_on, daemon=True).start()
     for first, said, line, wanted in {ROWS!r}:
         os.environ.update(FIRST=first, SAID=said, LINE=line)
-        if (found := told(block)) != wanted:
+        if (found := raised_by(block)) != wanted:
             print(handler, found, wanted)
 """
 
@@ -127,9 +127,9 @@ for changes in (True, False):
         sys.settrace(None)
         if left < 0 and (raised is not Stop or Path("k").read_text() not in ("", "saved\n")):
             print(raised, stops)
-    print(stops > 80, len(os.listdir("/proc/self/fd")) - len(files), told(lambda: os.waitpid(-1, 0)))
+    print(stops > 80, len(os.listdir("/proc/self/fd")) - len(files), raised_by(lambda: os.waitpid(-1, 0)))
 krbfile.editing.subprocess.Popen = Late
-print(told(block), stays_held())
+print(raised_by(block), stays_held())
 """
 
 # A process that ends within a block, and whose child goes on.
@@ -143,7 +143,7 @@ def block(fork):
         keytab.add("a@R", 1, 17, bytes(16))
 
 for fork in (os.fork, PyDLL(None).fork):
-    print(told(lambda: block(fork)), os.path.exists("k"), flush=True)
+    print(raised_by(lambda: block(fork)), os.path.exists("k"), flush=True)
 """
 
 SCRIPTS: tuple[Script, ...] = (

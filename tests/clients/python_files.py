@@ -17,12 +17,12 @@ with open("large", "wb") as file:
 
 for path in ("k", b"k", Path("k"), "./folder/../k", "FILE:k", b"WRFILE:k"):
     print(Keytab.load(path).image == image)
-print(Keytab.load("k", limit=98).image == image, told(lambda: Keytab.load("k", limit=97)), sep="; ")
-print(told(lambda: Cache.load("k", limit=97)))
+print(Keytab.load("k", limit=98).image == image, raised_by(lambda: Keytab.load("k", limit=97)), sep="; ")
+print(raised_by(lambda: Cache.load("k", limit=97)))
 for load, *paths in ((Keytab.load, "none", "", "FILE:", b"folder", "k/none", "circle", "large", "short", b"c",
                       "DIR::k"), (Cache.load, "none", "FILE:k", "KCM:0", b"WRFILE:k", "DIR:k", "C:k")):
     for path in paths:
-        print(told(lambda: load(path)))
+        print(raised_by(lambda: load(path)))
 print(sorted(os.listdir()))
 """
 
@@ -54,7 +54,7 @@ def fail(number):
 
 for path in (b"new", "link", "no/new", "KCM:0", "", "k.krbfile", "other"):
     os.fsync = fail if path == "other" else os.fsync
-    print(told(lambda: cache.save(path)))
+    print(raised_by(lambda: cache.save(path)))
 print(Path("new").read_bytes().hex(), sorted(os.listdir()))
 """
 
@@ -71,7 +71,7 @@ def changed(edit, path, more):
         print("in a block", end=": ")
 
 def refused(edit, path, **more):
-    print(told(lambda: changed(edit, path, more)).split(";")[0])
+    print(raised_by(lambda: changed(edit, path, more)).split(";")[0])
 
 for path in ("no/k", "a.krbfile", "taken", "x" * 248, "fifo", "cut", "c", "large", b"KCM:0"):
     refused(edit_keytab, path)

@@ -22,7 +22,7 @@ from pathlib import Path
 from threading import Thread
 import copy, errno, krbfile, os, pickle, sys, time
 
-def told(call):
+def raised_by(call):
     try:
         return call()
     except Exception as raised:
@@ -54,14 +54,14 @@ with Keytab.open(image) as keytab:
     print(keytab.rewrite([2, 53]), keytab.fault)
     for call in (lambda: keytab.find("c"), lambda: keytab.find(b"d@R"), lambda: keytab.find("c@R", 8),
                  lambda: keytab.remove_at(3)):
-        print(told(call))
+        print(raised_by(call))
     after = keytab.image
 keytab.close()
-print(told(lambda: keytab.image), told(lambda: Keytab.open(b"5")), sep="; ")
-print([told(lambda: Keytab.open(it, limit=2)).split()[1] for it in (b"", bytes([5, 3]), bytes([4, 2]), image[:3])])
+print(raised_by(lambda: keytab.image), raised_by(lambda: Keytab.open(b"5")), sep="; ")
+print([raised_by(lambda: Keytab.open(it, limit=2)).split()[1] for it in (b"", bytes([5, 3]), bytes([4, 2]), image[:3])])
 for damaged in map(Keytab.open, (image[:54], image[:60], image[:6] + bytes([255] * 2) + image[8:])):
     seen = []
-    print(told(lambda: [seen.append(entry.place) for entry in damaged]).split()[1], seen, damaged.fault)
+    print(raised_by(lambda: [seen.append(entry.place) for entry in damaged]).split()[1], seen, damaged.fault)
 print(Keytab.open(image, v1_big=True, limit=98).image == image)
 print(len(Keytab.create().image), after.hex())
 """
@@ -86,7 +86,7 @@ with Cache.open(image) as cache:
     print(cache.rewrite([first.place, place]), cache.fault)
     print([ticket.server for ticket in cache if not ticket.is_config], cache.image.hex())
 with Cache.create("a@R", limit=30) as made:
-    print(told(lambda: made.store(first)), made.image.hex())
+    print(raised_by(lambda: made.store(first)), made.image.hex())
 """
 
 # Values that do not fit or are of another type, and for each row of calls with one of them what these raise.
@@ -121,7 +121,7 @@ def store(**changed):
 before, found = (keytab.image, cache.image), []
 for those, calls, error in {REFUSED}:
     for it in eval(those):
-        found += [(call, it) for call in calls if not str(told(lambda: eval(call))).startswith(error + ":")]
+        found += [(call, it) for call in calls if not str(raised_by(lambda: eval(call))).startswith(error + ":")]
 print(found, (keytab.image, cache.image) == before)
 add(kvno=2**32 - 1, enctype=2**16 - 1, key=bytearray(b"k"), timestamp=2**32 - 1)
 found = keytab.find("a@R")
@@ -176,7 +176,7 @@ for name, etype in ETYPES.items():
     keytab.add("a@R", 1, name, bytes(etype.key_length))
     print(name, keytab.find("a@R", enctype=name.upper()).enctype, etype.key_length)
     for length in (etype.key_length - 1, etype.key_length + 1):
-        print(told(lambda: keytab.add("b@R", 1, etype.number, bytes(length))))
+        print(raised_by(lambda: keytab.add("b@R", 1, etype.number, bytes(length))))
 print(all(before <= entry.timestamp <= time.time() for entry in keytab))
 cache.store(Ticket(0, "u@R", "a@R", "rc4-hmac", b"", 0, 0, 0, 0, 0, False, False, b"", b""))
 keytab.add("c@R", 1, 99, b"", 0)

@@ -1,4 +1,4 @@
-"""`ktremove` and `ccremove` over several files: each line after the name of its file, what is told of others, and what
+"""`ktremove` and `ccremove` over several files: each line after the name of its file, what is said of others, and what
 where one is missing, or nothing is asked for."""
 
 import os
@@ -72,7 +72,7 @@ CASES = [
     replace(remove("ktremove --in-place -p b@R k l", [], ("l: no such file", ""), status=1, setting=link_to_nothing),
             after=None),
     remove("ktremove -p b@R no k j", [], MISSING, status=1, options=FULL),
-    # It is told last that nothing is asked for anywhere, unless no file could be asked.
+    # It is said last that nothing is asked for anywhere, unless no file could be asked.
     *(remove(f"ktremove {options}", [], *told, NO_ENTRY, status=status) for options, told, status in (
         ("-n -p c@R k k", (), 1), ("-p c@R k d .", (DAMAGED, UNREAD), 3), ("-k old -p c@R k o", (), 1),
         ("-k old -p host/a@R j d", (DAMAGED,), 1))),
