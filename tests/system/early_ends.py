@@ -12,10 +12,11 @@ from words.phrases import ERRORS
 
 NO_MEMORY = message(4, "out of memory")
 
-# What a run says of a file that is never there, in JSON of ktcheck too, and the line of ktutil that reads it. What else
-# a run does is the same if a file cannot be read or written.
-MISSING, READ_MISSING = message(1, "none: no such file").err, b"rkt none\n"
-OBJECT = unchecked("none", "no such file", 1)
+# What a run says of a file that it cannot use: one that is never there, or, as removals then do nothing, a folder; in
+# JSON of ktcheck too, and the line of ktutil that reads it. What else a run does is the same if a file cannot be read or
+# written.
+UNUSED = {"none": message(1, "none: no such file").err, ".": message(3, ".: cannot read").err}
+READ_MISSING, OBJECT = b"rkt none\n", unchecked("none", "no such file", 1)
 
 # The commands that take several files, one after the other.
 OVER_FILES = ("klist", "show", "ktcheck", "ktremove", "ccremove")
@@ -33,11 +34,11 @@ class Stage:
     files: dict[str, bytes]
 
 
-def failed(run: Undisturbed, unused: str) -> End:
-    """Returns how a run of which a file is missing would end with that message of a file that it cannot use."""
+def failed(run: Undisturbed, unused: str, instead: str = "none") -> End:
+    """Returns how a run over a file that it cannot use would end with that message of it."""
     (outcome, files), end = run.done, message(3, unused)
     out = outcome.out.replace(OBJECT, unchecked(unused.partition(": ")[0], unused, 3))
-    return replace(end, out=out, err=outcome.err.replace(MISSING, end.err)), files
+    return replace(end, out=out, err=outcome.err.replace(UNUSED[instead], end.err)), files
 
 
 class Ends:
@@ -46,6 +47,7 @@ class Ends:
     def __init__(self, run: Case | Undisturbed) -> None:
         self.run = run
         self.command = run.words[run.words[0] == EXPLAIN]
+        self.unused = "." if self.command in ("ktremove", "ccremove") else "none"
         self.lines = run.stdin.splitlines(keepends=True)
 
     @property
@@ -77,13 +79,14 @@ class Ends:
 
     def up_to(self, end: int) -> Stage:
         """Returns what it has done after the files before that place."""
-        got, files = replace(self.run, words=(*self.run.words[:end], "none"), plain=None).done
-        return Stage(got.out.removesuffix(OBJECT), got.err.removesuffix(MISSING), files)
+        got, files = replace(self.run, words=(*self.run.words[:end], self.unused), plain=None).done
+        return Stage(got.out.removesuffix(OBJECT), got.err.removesuffix(UNUSED[self.unused]), files)
 
     def without(self, at: int, unused: str) -> End:
         """Returns how it ends with that message of the file at a place."""
         words = self.run.words
-        return failed(replace(self.run, words=(*words[:at], "none", *words[at + 1:])), f"{words[at]}: {unused}")
+        instead = replace(self.run, words=(*words[:at], self.unused, *words[at + 1:]))
+        return failed(instead, f"{words[at]}: {unused}", self.unused)
 
     @cached_property
     def stages(self) -> list[Stage]:
@@ -104,9 +107,9 @@ class Ends:
 
     def stops(self, end: End, last: Outcome, stages: list[Stage], may_print: bool = True) -> bool:
         """Whether it stopped at one of these stages, and whether a prefix of its output may be printed then. A hold
-        without memory has its last line."""
+        without memory has its last line, but not without memory for its words."""
         got, files = end
-        line = last_line("ENOMEM", 4) if self.command == "hold" and last == NO_MEMORY else b""
+        line = last_line("ENOMEM", 4) if self.command == "hold" and last == NO_MEMORY and got.out else b""
         is_front = may_print and got.out.endswith(line) and self.run.wanted.out.startswith(got.out.removesuffix(line))
         return got.status == last.status and any(
             got.err == stage.err + last.err and files == stage.files and (is_front or got.out == stage.out + line)

@@ -8,6 +8,7 @@ memory, each command has to report that.
 import resource
 import subprocess
 from collections.abc import Iterator
+from dataclasses import replace
 
 from caches import cache_files, greatest_caches
 from keytabs import copies, greatest
@@ -16,12 +17,16 @@ from runs.commands import CHANGES, COMMANDS, READS, SAVING, file_of
 from runs.harness import SECONDS, Case, Outcome, Report, faults_of, limit, run_case
 from runs.undisturbed import undisturbed
 from system.early_ends import NO_MEMORY
+from system.saving import last_line
 
 STACK = 256 * 1024
 SPACE = 64 * 1024 * 1024
 
 # How many of the greatest files a run checks, and the memory for it, which is less than that of the files.
 MANY, ROOM = 40, 256 * 1024 * 1024
+
+# The last line of a hold without memory.
+HOLD_SPENT = last_line("ENOMEM", 4)
 
 # The commands that may print, or save, a part of what they do.
 PARTLY = ("ktutil", *(name for name, command in COMMANDS.items() if command.prints_early))
@@ -34,8 +39,9 @@ def is_early(case: Case, got: Outcome, after: dict[str, bytes]) -> bool:
     last = case.files_after or case.files
     files_are_whole = all(after.get(name) in (case.files.get(name), last.get(name)) for name in {*after, *last})
     output = got.err.removesuffix(NO_MEMORY.err)
-    is_front = case.wanted.out.startswith(got.out) and case.wanted.err.startswith(output)
-    has_done_nothing = not got.out and after == case.files
+    out = got.out.removesuffix(HOLD_SPENT)
+    is_front = case.wanted.out.startswith(out) and case.wanted.err.startswith(output)
+    has_done_nothing = not out and after == case.files
     return files_are_whole and is_front and (has_done_nothing or case.words[0] in PARTLY or "--json" in case.words)
 
 
@@ -59,7 +65,8 @@ def without_room() -> list[Case]:
     """Returns a run of each command over a file of as many bytes as there is memory."""
     keytab, cache = sized(LIMIT), cache_files.sized(LIMIT)
     runs = (*CHANGES, *(run for run in READS if run.words[0] not in SAVING and not {"-s", "-l"} & {*run.words}))
-    return [Case(f"a file as large as the memory: {run.name}", run.words, NO_MEMORY,
+    return [Case(f"a file as large as the memory: {run.name}", run.words,
+                 replace(NO_MEMORY, out=HOLD_SPENT * (run.words[0] == "hold")),
                  {**run.files, file_of(run): cache if "c" in run.files else keytab}, stdin=run.stdin) for run in runs]
 
 

@@ -19,7 +19,7 @@ from makers.images import TICKET, TWO, cache
 from runs.commands import CHANGES, OLD, file_of, renamed
 from runs.harness import EXPLAIN, Outcome, Report, differences, every, folder_of, run
 from runs.undisturbed import IN_PLACE, Undisturbed
-from system.saving import tree_faults
+from system.saving import last_line, tree_faults
 from words.explaining import for_owner
 from words.phrases import CAUSES
 
@@ -104,7 +104,8 @@ def check_name(report: Report, program: str, case: Undisturbed, name: str) -> No
         faults += differences(*found) + ([] if found[0].status else [f"{found[0]}"])
         if name in PIPES:
             output = f"krbfile: {name}: cannot read\nkrbfile: {place}{CAUSES['no plain file']}\n"
-            faults += differences(Outcome(3, err=output.encode()), found[0])
+            line = last_line("EINVAL") if case.words[0] == "hold" else b""
+            faults += differences(Outcome(3, line, output.encode()), found[0])
         faults += tree_faults({"pipe": "p", "link": "pipe", **others}, folder)
     report.check(f"no plain file is changed: {case.name}, {name}", faults)
 

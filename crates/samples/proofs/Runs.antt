@@ -1,11 +1,12 @@
 -- What a run of a command comes to if no call fails: what it prints, how it ends, and its files afterwards.
 use Rattle.samples.proofs.Cited.{◌≡◌, ℕ, ◌+◌, ◌<◌, ◌≤◌, ◌^◌, max, List, [], ◌∷◌, ◌++◌, codes, length, map, fold, Bool, true, false, nat_lt, Option, None, Some, option_and_then, unwrap_or, Result, Ok, Err, if◌then◌else◌, Vec, slice_get, filter_map, flat_map, list_any, arith, refl, name_of, most_bytes, event_in, Any, Newest, Old, Well, CommandPlan, Effect, Fails, Displays, Saves, files_after, ccremove_plan}
+use Rattle.std.specs.Prelude.{nat_eq, filter, ◌&&◌}
 use Rattle.std.specs.Str.{bytes_eq}
 use denote.RawPtr.{null_ptr}
 use lib.Dec.{lit<, lit≤}
 use Rattle.krb_wire.specs.Spelling.{Parts}
 use Rattle.krb_wire.specs.declared.principal.Principal.{Principal}
-use Rattle.krb_files.specs.Files.{FileMap, loaded}
+use Rattle.krb_files.specs.Files.{FileMap, loaded, node_of}
 use Rattle.krb_files.specs.Plan.{Ends, follow, with_bytes}
 use Rattle.krb_text.specs.Etype.{etype_in}
 use Rattle.krb_text.specs.Numbers.{number_in, seconds_in}
@@ -17,7 +18,7 @@ use Rattle.krb_driver.specs.declared.command.RunEnd.{RunEnd}
 use Rattle.krb_driver.specs.declared.error.RunError.{RunError}
 use Rattle.krb_driver.specs.declared.error.RunError.TheVariants.{NothingSelected}
 use Rattle.krb_driver.specs.declared.file_name.FileName.{FileName}
-use Rattle.krb_driver.specs.declared.file_name.NameSource.TheVariants.{Word}
+use Rattle.krb_driver.specs.declared.file_name.NameSource.TheVariants.{LikePrincipal, Word}
 use Rattle.krb_driver.specs.declared.reporting.details.Details.{Details}
 use Rattle.krb_driver.specs.declared.verdict.FileKind.{FileKind}
 use Rattle.krb_driver.specs.declared.verdict.FileKind.TheVariants.{Keytab, Cache, Either}
@@ -36,6 +37,7 @@ use Rattle.krb_editors.specs.Ccedit.{ccedit_plan}
 use Rattle.krb_editors.specs.Ktcopy.{ktcopy_plan}
 use Rattle.krb_editors.specs.Ktdiff.{ktdiff_plan}
 use Rattle.krb_editors.specs.Ktedit.{ktedit_plan}
+use Rattle.krb_editors.specs.MissingFiles.{is_missing, missing_error}
 use Rattle.krb_editors.specs.Removing.{is_none, seen_after}
 use Rattle.krb_editors.specs.declared.removing.FilesSeen.{FilesSeen}
 use Rattle.krb_editors.specs.declared.removing.FilesSeen.TheVariants as seen
@@ -235,11 +237,29 @@ ktedit explains files script ws =
 abbrev pub ccedit : Bool → FileMap → List ℕ → Matched → Seen
 ccedit explains files script ws = follows_lines explains files (ccedit_plan (operand ws Cache (codes "FILE"))) (lines_in cache_line_in (Ok script))
 
--- what is asked for is removed from files, and at the end it is told if it is in none
+-- the files that are to be changed: one with an `@` may be meant as a principal
+abbrev changed : FileKind → Matched → List FileName
+changed kind ws = map {A = FileName} (λ file. record file { source = if list_any (nat_eq 64) file.name.now then LikePrincipal else Word }) (operands ws kind)
+
+-- it is reported of each of these that there is no such file
+abbrev reports_missing : Bool → FileMap → List FileName → Seen
+reports_missing explains files [] = ends explains [] [] (Ok Well) files
+reports_missing explains files (file ∷ missing) = followed_by (ends explains [] file.name.now (Err (missing_error file)) files) (reports_missing explains files missing)
+
+-- what is asked for is removed from files, and at the end it is reported if it is in none; if some of several are missing that is reported alone
 abbrev removes : Bool → FileKind → (Bool → FileName → CommandPlan) → FileMap → Matched → Seen
-removes explains kind plan files ws = over explains (λ seen. plan (nat_lt 1 (length (ws.values (codes "FILE"))))) seen_after last seen.None files (operands ws kind) where
+removes explains kind plan files ws = looked (filter (λ file. is_missing file (node_of (files file.name.now))) names) where
+  names : List FileName
+  names = changed kind ws
+
   last : FilesSeen → FileMap → Seen
   last seen files = if is_none seen then ends explains [] [] (Err (NothingSelected kind)) files else ends explains [] [] (Ok Well) files
+
+  looked : List FileName → Seen
+  looked missing =
+      let are_several = nat_lt 1 (length names) in
+      if are_several && nat_lt 0 (length missing) then reports_missing explains files missing
+      else over explains (λ seen. plan are_several) seen_after last seen.None files names
 
 -- at a second, which is asked for with `--age` alone
 abbrev pub ktremove : Bool → ℕ → FileMap → Matched → Seen
