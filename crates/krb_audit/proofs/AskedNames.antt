@@ -1,10 +1,5 @@
 -- A set of names in place of a list of texts.
-use Rattle.krb_audit.proofs.Cited.{◌≡◌, ◌∙◌, arith, refl, sym, ap, ℕ, Bool, true, false, List, [], ◌∷◌, length, ◌||◌, bytes_eq, Parts}
-use Rattle.std.proofs.lemmas.Bool.{true≢false}
-use Rattle.std.proofs.lemmas.Slice.Eq.{bytes_eq-Decides}
-use Rattle.krb_wire.specs.Names.{name_text}
-use Rattle.krb_names.specs.Set.{HaveSameNames, is_among}
-use Rattle.krb_audit.specs.Selection.{AsksFor, has_text}
+use Rattle.krb_audit.proofs.Cited.{◌≡◌, ◌∙◌, arith, refl, sym, ap, ℕ, Bool, true, false, List, [], ◌∷◌, length, ◌||◌, bytes_eq, Parts, true≢false, bytes_eq-Decides, name_text, HaveSameNames, is_among, AsksFor, has_text}
 
 first_among : (name : List ℕ) (others : List (List ℕ)) → is_among (name ∷ others) name ≡ true
 first_among name others = ap (λ (b : Bool). b || is_among others name) ((bytes_eq-Decides name name).1 refl)

@@ -1,7 +1,6 @@
 -- Bounds on the number of holes and on their total size.
-use Rattle.krb_audit.proofs.Cited.{◌≡◌, ℕ, ◌+◌, ◌≤◌, arith, List, [], ◌∷◌, length, map, fold, sum_by, size, holes, Cell, Free}
+use Rattle.krb_audit.proofs.Cited.{◌≡◌, ℕ, ◌+◌, ◌≤◌, arith, List, [], ◌∷◌, length, map, fold, sum_by, size, holes, Cell, Free, store_cell}
 use Rattle.krb_walk.specs.Store.{end_from}
-use Rattle.krb_keytab.specs.Store.{store_cell}
 
 -- a number plus the sizes of cells
 abbrev pub added : ℕ → List Cell → ℕ

@@ -1,14 +1,9 @@
 -- What is found when one more entry is checked.
-use Rattle.krb_audit.proofs.Cited.{◌≡◌, ℕ, ◌≤◌, arith, Bool, cond, List, [], ◌∷◌, ◌++◌, length, Option, refl, sym, ap, subst, ◌∙◌, append_assoc, append-nil, ◌||◌, filter, list_any, PlacedEntry, placed_entries, filter_map, list_any-append, cells_of, entry_in, ends_mit, marked_after, marks_of}
+use Rattle.krb_audit.proofs.Cited.{◌≡◌, ℕ, ◌≤◌, arith, Bool, cond, List, [], ◌∷◌, ◌++◌, length, Option, refl, sym, ap, subst, ◌∙◌, append_assoc, append-nil, ◌||◌, filter, list_any, PlacedEntry, placed_entries, filter_map, list_any-append, cells_of, entry_in, ends_mit, marked_after, marks_of, KeytabState, entries_of_cells, IsBefore, Marked, reported, has_some}
 use Rattle.krb_keytab.specs.Changes.{placed_cells}
-use Rattle.krb_keytab.specs.Store.{KeytabState}
-use Rattle.krb_keytab.proofs.EntryLists.{entries_of_cells}
 use Rattle.krb_keytab.proofs.ImageChanges.{placed_len}
 use Rattle.krb_audit.specs.declared.findings.Before.{Before}
 use Rattle.krb_audit.specs.declared.marks.Marks.{Marks}
-use Rattle.krb_audit.specs.Before.{IsBefore}
-use Rattle.krb_audit.specs.Findings.{Marked, reported}
-use Rattle.krb_audit.specs.Table.{has_some}
 
 -- those of some entries about which something is found
 abbrev pub reported_of : List Marked → List Marked

@@ -1,6 +1,5 @@
 -- The number of the first entry of a name.
-use Rattle.krb_audit.proofs.Cited.{◌≡◌, ℕ, ◌+◌, ◌≤◌, true, List, [], ◌∷◌, Some, refl, arith, eq-eqb, eqb-true, Parts, have_same_name, PlacedEntry, first_number, ◌==◌, on_equiv, and_equiv, nat_list_eq_equiv, lists_equiv, first_from}
-use Rattle.std.specs.Cmp.{IsEquivalence}
+use Rattle.krb_audit.proofs.Cited.{◌≡◌, ℕ, ◌+◌, ◌≤◌, true, List, [], ◌∷◌, Some, refl, arith, eq-eqb, eqb-true, Parts, have_same_name, PlacedEntry, first_number, ◌==◌, on_equiv, and_equiv, nat_list_eq_equiv, lists_equiv, first_from, IsEquivalence}
 
 pub same_equiv : IsEquivalence have_same_name
 same_equiv = and_equiv (on_equiv (λ (p : Parts). p.realm) nat_list_eq_equiv) (on_equiv (λ (p : Parts). p.components) (lists_equiv nat_list_eq_equiv))

@@ -1,19 +1,7 @@
 -- Names that are missing, as the code holds them, and as the definitions have them.
-use Rattle.krb_audit.proofs.Cited.{◌≡◌, ◌≢◌, ℕ, Bool, true, false, cond, List, [], ◌∷◌, ◌++◌, Some, refl, sym, ap, subst, ◌∙◌, ◌||◌, ◌&&◌, not, filter, fold, list_any, list_any-append, map, map_push, append-nil, bytes_eq, PlacedEntry, ◌<◌, ◌+◌, arith, take, get_or, length, vec_items, Parts, have_same_name, first_from, first_number}
-use Rattle.std.proofs.lemmas.List.{get_or-map, length-map, take_more}
-use Rattle.std.proofs.lemmas.List.Elements.{filter-append}
-use Rattle.std.proofs.lemmas.List.Folds.{list_any_at}
+use Rattle.krb_audit.proofs.Cited.{◌≡◌, ◌≢◌, ℕ, Bool, true, false, cond, List, [], ◌∷◌, ◌++◌, Some, refl, sym, ap, subst, ◌∙◌, ◌||◌, ◌&&◌, not, filter, fold, list_any, list_any-append, map, map_push, append-nil, bytes_eq, PlacedEntry, ◌<◌, ◌+◌, arith, take, get_or, length, vec_items, Parts, have_same_name, first_from, first_number, get_or-map, length-map, take_more, filter-append, list_any_at, nat_list_eq_equiv, bytes_eq-Decides, slice_eq-Decides, Vec, Bor, name_text, and_both, AreMarked, is_among, added_once, prints_as}
 use Rattle.std.proofs.lemmas.List.Sums.{fold-append}
-use Rattle.std.proofs.lemmas.Cmp.{nat_list_eq_equiv}
-use Rattle.std.proofs.lemmas.Slice.Eq.{bytes_eq-Decides, slice_eq-Decides}
-use Rattle.std.specs.Prelude.{Vec}
-use denote.Ref.{Bor}
-use Rattle.krb_wire.specs.Names.{name_text}
-use Rattle.krb_wire.proofs.NamesCompared.{and_both}
-use Rattle.krb_names.specs.Marks.{AreMarked}
-use Rattle.krb_names.specs.Set.{is_among}
 use Rattle.krb_names.specs.declared.marks.NameMarks.{NameMarks}
-use Rattle.krb_audit.specs.CheckUp.{added_once, prints_as}
 use Rattle.krb_audit.proofs.FirstNumbers.{same_equiv}
 
 -- the name of some entry prints as that text

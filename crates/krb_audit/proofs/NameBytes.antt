@@ -1,10 +1,8 @@
 -- The bytes that encode a name without its type determine the name.
-use Rattle.krb_audit.proofs.Cited.{◌≡◌, arith, ℕ, ◌+◌, List, [], ◌∷◌, ◌++◌, length, take, Some, None, sym, ap, subst, ◌∙◌, append_assoc, bytes_eq, KtFormat, Parts, have_same_name, some_is, EntryParts, kt_name, length-append, take_at, digits, data16, order_of, name_type_field, kt_principal, HasNameType, FitsKt, wide32, Spells, type_len}
+use Rattle.krb_audit.proofs.Cited.{◌≡◌, arith, ℕ, ◌+◌, List, [], ◌∷◌, ◌++◌, length, take, Some, None, sym, ap, subst, ◌∙◌, append_assoc, bytes_eq, KtFormat, Parts, have_same_name, some_is, EntryParts, kt_name, length-append, take_at, digits, data16, order_of, name_type_field, kt_principal, HasNameType, FitsKt, wide32, Spells, type_len, bytes_eq-Decides, same_name_is}
 use Rattle.std.specs.Int.{w16, w32}
-use Rattle.std.proofs.lemmas.Slice.Eq.{bytes_eq-Decides}
 use Rattle.krb_wire.specs.declared.format.Order.TheVariants.{Big}
 use Rattle.krb_wire.specs.Reading.{kt_principal_at}
-use Rattle.krb_wire.proofs.NamesCompared.{same_name_is}
 use Rattle.krb_wire.proofs.Principals.{kt_principal_again}
 
 -- a name is encoded by these bytes and its type

@@ -1,6 +1,5 @@
 -- Rows, the entries that they are of, and lists with something at the number of each name.
-use Rattle.krb_audit.proofs.Cited.{◌≡◌, ℕ, Bool, cond, List, [], ◌∷◌, length, map, get_or, Option, Some, refl, ap, sym, ◌∙◌, arith, fold, subst, eqb-true, eq-eqb, All, PlacedEntry, Row, Stamp, AreRows, HasPlace, first_number, stamp_of, ◌==◌, set, drop, get_or-set_same, get_or-set_other, length-set, length-map, row_in, shown}
-use Rattle.std.proofs.lemmas.List.Elements.{All-head, All-tail}
+use Rattle.krb_audit.proofs.Cited.{◌≡◌, ℕ, Bool, cond, List, [], ◌∷◌, length, map, get_or, Option, Some, refl, ap, sym, ◌∙◌, arith, fold, subst, eqb-true, eq-eqb, All, PlacedEntry, Row, Stamp, AreRows, HasPlace, first_number, stamp_of, ◌==◌, set, drop, get_or-set_same, get_or-set_other, length-set, length-map, row_in, shown, All-head, All-tail}
 
 -- a row is that of an entry among all
 pub record IsRow (all : List PlacedEntry) (x : PlacedEntry) (r : Row) : Type 0 where

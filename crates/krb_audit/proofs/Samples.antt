@@ -1,8 +1,7 @@
 -- Worked samples of the definitions.
 use Rattle.std.specs.Prelude.{◌≡◌, [], ◌∷◌, codes, Some, true}
-use Rattle.krb_audit.proofs.Cited.{refl, finding_lines}
+use Rattle.krb_audit.proofs.Cited.{refl, finding_lines, none, with_if}
 use Rattle.krb_audit.proofs.OnLiterals.{krb_audit_on_literals}
-use Rattle.krb_audit.specs.Table.{none, with_if}
 use Rattle.krb_audit.specs.declared.finding.Finding.TheVariants.{Weak, Size, Hidden, Clash, Old}
 
 -- what is found about an entry has its order: weak, size, hidden, same or clash, old, aged

@@ -1,8 +1,6 @@
 -- Twins are alike in the same way in both directions and over three entries.
-use Rattle.krb_copy.proofs.Cited.{true, false, ◌≡◌, ◌∙◌, sym, EntryParts, are_twins, are_same}
+use Rattle.krb_copy.proofs.Cited.{true, false, ◌≡◌, ◌∙◌, sym, EntryParts, are_twins, are_same, and_parts, nat_eq_equiv, on_equiv, and_equiv, nat_list_eq_equiv}
 use Rattle.std.specs.Cmp.{IsEquivalence}
-use Rattle.std.proofs.lemmas.Bool.{and_parts}
-use Rattle.std.proofs.lemmas.Cmp.{nat_eq_equiv, on_equiv, and_equiv, nat_list_eq_equiv}
 use Rattle.krb_audit.proofs.FirstNumbers.{same_equiv as names_equiv}
 
 pub twins_equiv : IsEquivalence are_twins

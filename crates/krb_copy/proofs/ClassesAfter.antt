@@ -1,11 +1,5 @@
 -- What is known of all classes, before a run and after each entry asked for.
-use Rattle.krb_copy.proofs.Cited.{◌≡◌, ℕ, Bool, true, false, cond, List, [], ◌∷◌, ◌++◌, Option, Some, None, refl, arith, sym, ap, subst, ◌∙◌, map, filter, not, ◌&&◌, ◌||◌, list_any, bytes_eq, append-nil, list_any-append, EntryParts, are_twins, are_same, Held, as_found, as_copied, twins, There, Clash, step_among, step_of, with_copy, AreClasses, ClassKey, unwrap_or, map_push, is_kept, HaveClass, IsClass, IsClassKey, class_cmp, has_key, places_of, stays, step_at}
-use Rattle.std.specs.BTreeMap.{BTreeMap, get, Updates}
-use Rattle.std.proofs.Math.Bool.{not-and_self, or_assoc, or-false, or-true}
-use Rattle.std.proofs.lemmas.List.Elements.{filter-append}
-use denote.Ref.{Bor}
-use Rattle.krb_copy.specs.declared.class.Class.{Class}
-use Rattle.krb_copy.specs.declared.class.Class.TheVariants.{Empty, Kept}
+use Rattle.krb_copy.proofs.Cited.{◌≡◌, ℕ, Bool, true, false, cond, List, [], ◌∷◌, ◌++◌, Option, Some, None, refl, arith, sym, ap, subst, ◌∙◌, map, filter, not, ◌&&◌, ◌||◌, list_any, bytes_eq, append-nil, list_any-append, EntryParts, are_twins, are_same, Held, as_found, as_copied, twins, There, Clash, step_among, step_of, with_copy, AreClasses, ClassKey, unwrap_or, map_push, is_kept, HaveClass, IsClass, IsClassKey, class_cmp, has_key, places_of, stays, step_at, BTreeMap, get, Updates, not-and_self, or_assoc, or-false, or-true, filter-append, Bor, Class, Empty, Kept}
 use Rattle.krb_copy.proofs.Alike.{alike, apart, twins_equiv}
 use Rattle.krb_copy.proofs.Passing.{any_either, any_left, filter_twice}
 use Rattle.krb_copy.proofs.ClassKeys.{classes_agree}

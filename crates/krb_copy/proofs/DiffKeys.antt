@@ -1,22 +1,8 @@
 -- The keys of rows, one row after the other, and the marks of the classes that lack some.
-use Rattle.krb_copy.proofs.Cited.{◌≡◌, ℕ, ◌<◌, Bool, true, false, cond, List, [], ◌∷◌, ◌++◌, length, take, get_or, Option, Some, None, refl, sym, ap, subst, ◌∙◌, arith, ◌||◌, ◌&&◌, not, ◌==◌, option_map, bytes_eq, list_any, list_any-append, eqb-true, find, inl, inr}
-use Rattle.std.proofs.Common.{◌-◌}
-use Rattle.std.specs.Prelude.{fold, replicate, set}
-use Rattle.std.specs.List.{All}
-use Rattle.std.specs.Option.{option_or}
-use Rattle.std.specs.BTreeSet.{contains_by}
-use Rattle.std.proofs.lemmas.Bool.{and_parts, cases_lt}
-use Rattle.std.proofs.lemmas.List.{get_or-set_other, get_or-replicate, get_or_past, length-replicate}
-use Rattle.std.proofs.lemmas.List.Elements.{All-head, All-tail}
-use Rattle.std.proofs.lemmas.List.Folds.{find-append}
-use Rattle.std.specs.BTreeMap.{is_at}
-use Rattle.std.proofs.Math.Bool.{or-false}
+use Rattle.krb_copy.proofs.Cited.{◌≡◌, ℕ, ◌<◌, Bool, true, false, cond, List, [], ◌∷◌, ◌++◌, length, take, get_or, Option, Some, None, refl, sym, ap, subst, ◌∙◌, arith, ◌||◌, ◌&&◌, not, ◌==◌, option_map, bytes_eq, list_any, list_any-append, eqb-true, find, inl, inr, ◌-◌, fold, replicate, set, All, option_or, contains_by, and_parts, cases_lt, get_or-set_other, get_or-replicate, get_or_past, length-replicate, All-head, All-tail, find-append, is_at, or-false, Bor, Keys, Row}
 use Rattle.std.proofs.Math.Seq.{take-nil}
 use Rattle.std.proofs.lemmas.Grind.{common_steps}
-use denote.Ref.{Bor}
 use Rattle.krb_copy.specs.DiffRows.{AreKeys, NumberedKey, has_key, is_key_of, lacks, marked, to_key}
-use Rattle.krb_copy.specs.declared.diff.Keys.{Keys}
-use Rattle.krb_copy.specs.declared.numbering.Row.{Row}
 
 -- ---- a list with one element set
 

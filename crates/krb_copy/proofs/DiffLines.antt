@@ -1,15 +1,6 @@
 -- The lines of rows are those of differences.
-use Rattle.krb_copy.proofs.Cited.{◌≡◌, ℕ, ◌<◌, Bool, true, cond, List, [], ◌∷◌, ◌++◌, length, get_or, drop, Option, Some, None, refl, sym, ap, subst, ◌∙◌, arith, map, ◌||◌, ◌&&◌, not, ◌==◌, option_map, bytes_eq, list_any, flat_map, filter_map, find, eqb-true, eq-eqb, EntryParts, PlacedEntry, are_twins}
-use Rattle.std.specs.Prelude.{codes}
-use Rattle.std.specs.List.{All, AllByRecursion}
-use Rattle.std.proofs.lemmas.List.Concat.{flat_map-append}
-use Rattle.std.proofs.lemmas.List.Elements.{All-from_recursion}
-use Rattle.std.proofs.lemmas.List.Folds.{flat_map-map}
-use Rattle.krb_text.specs.Listing.{placed_line}
-use Rattle.krb_copy.specs.Diff.{Difference, Theirs, diff_text, difference_at, difference_by, difference_line, firsts, has_more_keys, has_twin}
+use Rattle.krb_copy.proofs.Cited.{◌≡◌, ℕ, ◌<◌, Bool, true, cond, List, [], ◌∷◌, ◌++◌, length, get_or, drop, Option, Some, None, refl, sym, ap, subst, ◌∙◌, arith, map, ◌||◌, ◌&&◌, not, ◌==◌, option_map, bytes_eq, list_any, flat_map, filter_map, find, eqb-true, eq-eqb, EntryParts, PlacedEntry, are_twins, codes, All, AllByRecursion, flat_map-append, All-from_recursion, flat_map-map, placed_line, Difference, Theirs, diff_text, difference_at, difference_by, difference_line, firsts, has_more_keys, has_twin, Keys, Row}
 use Rattle.krb_copy.specs.DiffRows.{AreKeys, class_number, first_place, has_key, lacks, row_due, row_line, rows_due, shown}
-use Rattle.krb_copy.specs.declared.diff.Keys.{Keys}
-use Rattle.krb_copy.specs.declared.numbering.Row.{Row}
 use Rattle.krb_copy.proofs.Alike.{alike, twins_equiv}
 use Rattle.krb_copy.proofs.Numbers.{number_alike, position_at}
 

@@ -1,10 +1,6 @@
 -- A change of one cell leaves the entries of all others.
-use Rattle.krb_copy.proofs.Cited.{◌≡◌, ℕ, ◌+◌, ◌<◌, Bool, true, false, cond, List, [], ◌∷◌, ◌++◌, Option, Some, None, Result, Ok, Err, refl, sym, ap, subst, ◌∙◌, inl, inr, arith, map, ◌==◌, ◌||◌, AllByRecursion, list_any, append-nil, some_is, Code, EntryParts, PlacedEntry, placed_entries, KeytabState, entry_at_place, put_result, without, ◌≤◌, option_map, filter_map, cons_option, find, ne_eqb, eqb-true, or_right, cut_store, entry_at, store_of, store_cell, cut_result, cut_gives, put_gives, removal_cuts, addition_puts}
-use Rattle.std.proofs.lemmas.Option.{none-some}
+use Rattle.krb_copy.proofs.Cited.{◌≡◌, ℕ, ◌+◌, ◌<◌, Bool, true, false, cond, List, [], ◌∷◌, ◌++◌, Option, Some, None, Result, Ok, Err, refl, sym, ap, subst, ◌∙◌, inl, inr, arith, map, ◌==◌, ◌||◌, AllByRecursion, list_any, append-nil, some_is, Code, EntryParts, PlacedEntry, placed_entries, KeytabState, entry_at_place, put_result, without, ◌≤◌, option_map, filter_map, cons_option, find, ne_eqb, eqb-true, or_right, cut_store, entry_at, store_of, store_cell, cut_result, cut_gives, put_gives, removal_cuts, addition_puts, none-some, all_front, ◌>>=◌, Cell, Store, Standing, Record, standing, end_from, record_of, record_of_some, bytes_of_some, live_bytes}
 use Rattle.krb_wire.specs.declared.format.KtFormat.{KtFormat}
-use Rattle.krb_wire.proofs.Lists.{all_front}
-use Rattle.krb_wire.specs.Reading.{◌>>=◌}
-use Rattle.krb_walk.specs.Store.{Cell, Store, Standing, Record, standing, end_from, record_of, record_of_some, bytes_of_some, live_bytes}
 use Rattle.krb_walk.specs.Changes.{OneCell, Puts}
 use Rattle.krb_walk.proofs.Stops.{bytes_from}
 use Rattle.krb_walk.proofs.Splits.{bytes_ahead, bytes_here}

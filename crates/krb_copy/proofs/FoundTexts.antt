@@ -1,9 +1,5 @@
 -- A pass over the entries of a keytab: those so far, and those still to come.
-use Rattle.krb_copy.proofs.Cited.{name_texts, None, refl, asked_as, Some, AllByRecursion, ◌≡◌, ℕ, ◌+◌, ◌<◌, List, [], ◌∷◌, ◌++◌, length, take, sym, ap, subst, ◌∙◌, append_assoc, map, name_text, PlacedEntry, AreClasses, ClassKey, Held, as_found, AreTexts, entry_texts, get_or, map_push, take_more}
-use Rattle.std.proofs.lemmas.List.Concat.{flat_map-append}
-use Rattle.std.specs.BTreeMap.{BTreeMap}
-use Rattle.krb_wire.specs.Spelling.{Parts}
-use Rattle.krb_copy.specs.declared.class.Class.{Class}
+use Rattle.krb_copy.proofs.Cited.{name_texts, None, refl, asked_as, Some, AllByRecursion, ◌≡◌, ℕ, ◌+◌, ◌<◌, List, [], ◌∷◌, ◌++◌, length, take, sym, ap, subst, ◌∙◌, append_assoc, map, name_text, PlacedEntry, AreClasses, ClassKey, Held, as_found, AreTexts, entry_texts, get_or, map_push, take_more, flat_map-append, BTreeMap, Parts, Class}
 
 -- the texts of those so far were appended
 pub record AreAppended (all rest : List PlacedEntry) (bytes lens : List ℕ) : Type 0 where

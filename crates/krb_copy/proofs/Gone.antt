@@ -1,13 +1,7 @@
 -- After removals and an addition a keytab has no entry but those that were left and the new one.
-use Rattle.krb_copy.proofs.Cited.{◌≡◌, ℕ, Bool, true, false, cond, List, [], ◌∷◌, Option, Some, None, Result, Ok, Err, refl, sym, ap, ◌∙◌, inl, inr, map, filter, not, ◌==◌, ◌||◌, list_any, list_any-append, Code, EntryParts, PlacedEntry, placed_entries, KeytabState, entry_at_place, put_result, without, are_twins, Held, Run, as_found, as_copied, twins, with_copy, run_over, run_start, copy_run, is_some, eq-eqb, eqb-true, or_right, cut_store, entry_at, store_of, cut_result, with_hole, cut_gives, put_gives, removed_none, AreEntries, GoesByItsEntries}
-use Rattle.krb_wire.specs.Reading.{◌>>=◌}
-use Rattle.krb_keytab.specs.Form.{IsEntry}
+use Rattle.krb_copy.proofs.Cited.{◌≡◌, ℕ, Bool, true, false, cond, List, [], ◌∷◌, Option, Some, None, Result, Ok, Err, refl, sym, ap, ◌∙◌, inl, inr, map, filter, not, ◌==◌, ◌||◌, list_any, list_any-append, Code, EntryParts, PlacedEntry, placed_entries, KeytabState, entry_at_place, put_result, without, are_twins, Held, Run, as_found, as_copied, twins, with_copy, run_over, run_start, copy_run, is_some, eq-eqb, eqb-true, or_right, cut_store, entry_at, store_of, cut_result, with_hole, cut_gives, put_gives, removed_none, AreEntries, GoesByItsEntries, ◌>>=◌, IsEntry, fault_of, fault_from, live_bytes, cases_eq, or_cases, or_left, none-some, any_of_map}
 use Rattle.krb_walk.specs.declared.refusal.Code.TheVariants as code
 use Rattle.krb_walk.specs.declared.fault.FaultKind.{FaultKind}
-use Rattle.krb_walk.specs.Store.{fault_of, fault_from, live_bytes}
-use Rattle.std.proofs.lemmas.Bool.{cases_eq, or_cases, or_left}
-use Rattle.std.proofs.lemmas.Option.{none-some}
-use Rattle.krb_text.proofs.Found.{any_of_map}
 use Rattle.krb_copy.proofs.Elsewhere.{any_entry, cut_apart, put_apart}
 use Rattle.krb_copy.proofs.LawLemmas.{any_parts, copy_step, start_there}
 use Rattle.krb_copy.proofs.RunSteps.{kept_over}

@@ -1,10 +1,8 @@
 -- A run is a history of removals and additions, and without replacing of additions alone.
-use Rattle.krb_copy.proofs.Cited.{⊤, ◌≡◌, ℕ, Bool, false, cond, List, [], ◌∷◌, ◌++◌, Some, Result, Ok, refl, arith, sym, ap, ◌∙◌, map, list_any, bytes_eq, Code, EntryParts, PlacedEntry, KeytabState, entry_at_place, without, Held, Run, Step, There, Copy, twins, step_among, step_of, run_after, run_over, run_start, copy_run, SessionState, after, put_store, cuts_ran, AllStay, AreHistories, changes_of, changes_over}
-use Rattle.std.proofs.lemmas.List.Elements.{recursion_from_All}
+use Rattle.krb_copy.proofs.Cited.{⊤, ◌≡◌, ℕ, Bool, false, cond, List, [], ◌∷◌, ◌++◌, Some, Result, Ok, refl, arith, sym, ap, ◌∙◌, map, list_any, bytes_eq, Code, EntryParts, PlacedEntry, KeytabState, entry_at_place, without, Held, Run, Step, There, Copy, twins, step_among, step_of, run_after, run_over, run_start, copy_run, SessionState, after, put_store, cuts_ran, AllStay, AreHistories, changes_of, changes_over, recursion_from_All, Rules}
 use Rattle.krb_walk.specs.declared.event.Event.{Event}
 use Rattle.krb_walk.specs.declared.event.Event.TheVariants.{Put, Cut}
 use Rattle.krb_walk.specs.History.{state_after}
-use Rattle.krb_walk.specs.Rules.{Rules}
 use Rattle.krb_keytab.specs.Rewrite.{keytab_rules}
 use Rattle.krb_copy.proofs.Elsewhere.{put_elsewhere}
 use Rattle.krb_copy.proofs.RunSteps.{after_step, kept_over, over_all}

@@ -1,8 +1,5 @@
 -- What a run does to the entries of its keytab.
-use Rattle.krb_copy.proofs.Cited.{◌≡◌, ℕ, Bool, true, false, cond, List, [], ◌∷◌, Some, Ok, refl, arith, sym, ap, subst, ◌∙◌, map, filter, not, ◌||◌, AllByRecursion, list_any, bytes_eq, list_any-append, some_is, EntryParts, PlacedEntry, placed_entries, KeytabState, entry_at_place, put_result, without, are_twins, are_same, Held, There, Copy, as_found, as_copied, twins, step_among, step_of, with_copy, added_reads, is_kept, IsInPlace}
-use Rattle.std.proofs.lemmas.Bool.{both_ways, cond_both, not-true, or_from, or_left, or_parts, or_right}
-use Rattle.krb_wire.proofs.Lists.{all_join}
-use Rattle.krb_keytab.specs.Form.{IsEntry, read_back}
+use Rattle.krb_copy.proofs.Cited.{◌≡◌, ℕ, Bool, true, false, cond, List, [], ◌∷◌, Some, Ok, refl, arith, sym, ap, subst, ◌∙◌, map, filter, not, ◌||◌, AllByRecursion, list_any, bytes_eq, list_any-append, some_is, EntryParts, PlacedEntry, placed_entries, KeytabState, entry_at_place, put_result, without, are_twins, are_same, Held, There, Copy, as_found, as_copied, twins, step_among, step_of, with_copy, added_reads, is_kept, IsInPlace, both_ways, cond_both, not-true, or_from, or_left, or_parts, or_right, all_join, IsEntry, read_back}
 use Rattle.krb_copy.proofs.Alike.{twins_equiv, same_equiv, same_are_twins}
 use Rattle.krb_copy.proofs.Passing.{any_either, any_left}
 use Rattle.krb_copy.proofs.Elsewhere.{entries_read, put_elsewhere, without_elsewhere}

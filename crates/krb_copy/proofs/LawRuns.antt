@@ -1,11 +1,6 @@
 -- What a run over all entries asked for does to the entries of its keytab.
-use Rattle.krb_copy.proofs.Cited.{⊤, ◌≡◌, ℕ, Bool, true, false, List, [], ◌∷◌, ◌++◌, Some, Ok, refl, sym, ap, subst, ◌∙◌, append_assoc, map, ◌||◌, AllByRecursion, list_any, flat_map, append-nil, removed_line, EntryParts, PlacedEntry, placed_entries, KeytabState, entry_at_place, are_twins, are_same, Held, Run, Step, as_found, step_of, with_copy, run_after, go_on, run_over, run_start, copy_run, has_lines, Has, AreEntries, IsInPlace, HasEachAsked, SecondDoesNothing, OthersStay, ChangesAreTold}
-use Rattle.std.proofs.lemmas.Bool.{both_ways}
-use Rattle.std.proofs.lemmas.List.Elements.{recursion_from_All}
-use Rattle.krb_keytab.specs.Form.{IsEntry}
-use Rattle.krb_wire.proofs.Lists.{all_join}
+use Rattle.krb_copy.proofs.Cited.{⊤, ◌≡◌, ℕ, Bool, true, false, List, [], ◌∷◌, ◌++◌, Some, Ok, refl, sym, ap, subst, ◌∙◌, append_assoc, map, ◌||◌, AllByRecursion, list_any, flat_map, append-nil, removed_line, EntryParts, PlacedEntry, placed_entries, KeytabState, entry_at_place, are_twins, are_same, Held, Run, Step, as_found, step_of, with_copy, run_after, go_on, run_over, run_start, copy_run, has_lines, Has, AreEntries, IsInPlace, HasEachAsked, SecondDoesNothing, OthersStay, ChangesAreTold, both_ways, recursion_from_All, IsEntry, all_join, any_of_map}
 use Rattle.krb_copy.proofs.Alike.{same_equiv}
-use Rattle.krb_text.proofs.Found.{any_of_map}
 use Rattle.krb_copy.proofs.Elsewhere.{any_entry}
 use Rattle.krb_copy.proofs.RunSteps.{after_step, kept_over, over_all}
 use Rattle.krb_copy.proofs.LawLemmas.{AreThere, IsHeld, start_there, copy_step, stays_after, copy_there, none_gone, copy_held, all_held_after, held_there, there_held}

@@ -1,7 +1,5 @@
 -- After a run nothing else is in the keytab than was there or is asked for.
-use Rattle.krb_copy.proofs.Cited.{◌≡◌, ℕ, Bool, true, List, [], ◌∷◌, ◌++◌, Some, inl, inr, Ok, refl, sym, ap, subst, ◌∙◌, append_assoc, ◌==◌, ◌||◌, map, AllByRecursion, list_any, append-nil, list_any-append, some_is, EntryParts, PlacedEntry, placed_entries, KeytabState, entry_at_place, are_same, Held, Run, as_copied, as_found, copy_run, run_over, run_start, with_copy, cases_Bool, eqb-true, or_right, NothingElse}
-use Rattle.std.proofs.lemmas.List.Elements.{All-filter, All-from_recursion, recursion_from_All}
-use Rattle.krb_wire.proofs.Lists.{all_join}
+use Rattle.krb_copy.proofs.Cited.{◌≡◌, ℕ, Bool, true, List, [], ◌∷◌, ◌++◌, Some, inl, inr, Ok, refl, sym, ap, subst, ◌∙◌, append_assoc, ◌==◌, ◌||◌, map, AllByRecursion, list_any, append-nil, list_any-append, some_is, EntryParts, PlacedEntry, placed_entries, KeytabState, entry_at_place, are_same, Held, Run, as_copied, as_found, copy_run, run_over, run_start, with_copy, cases_Bool, eqb-true, or_right, NothingElse, All-filter, All-from_recursion, recursion_from_All, all_join}
 use Rattle.krb_copy.proofs.Alike.{same_equiv}
 use Rattle.krb_copy.proofs.Gone.{goes_by_its_entries}
 use Rattle.krb_copy.proofs.LawLemmas.{AreThere}

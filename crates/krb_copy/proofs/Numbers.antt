@@ -1,12 +1,5 @@
 -- The numbers of classes, one entry after the other.
-use Rattle.krb_copy.proofs.Cited.{◌≡◌, ℕ, ◌+◌, ◌<◌, Bool, true, cond, List, [], ◌∷◌, ◌++◌, length, take, drop, get_or, Option, Some, None, refl, sym, ap, ◌∙◌, arith, map, not, ◌==◌, is_some, unwrap_or, append_assoc, map_push, take_more, drop_more, list_any, eq-eqb, ne_eqb, EntryParts, PlacedEntry, are_twins, ClassKey, class_cmp}
-use Rattle.std.specs.Option.{option_or}
-use Rattle.std.specs.List.{position_from}
-use Rattle.std.specs.BTreeMap.{BTreeMap, get, Updates}
-use Rattle.krb_copy.specs.Classes.{IsClassKey}
-use Rattle.krb_copy.specs.Diff.{has_twin}
-use Rattle.krb_copy.specs.DiffRows.{AreNumbers, class_number, row_due, rows_due, shown}
-use Rattle.krb_copy.specs.declared.numbering.Row.{Row}
+use Rattle.krb_copy.proofs.Cited.{◌≡◌, ℕ, ◌+◌, ◌<◌, Bool, true, cond, List, [], ◌∷◌, ◌++◌, length, take, drop, get_or, Option, Some, None, refl, sym, ap, ◌∙◌, arith, map, not, ◌==◌, is_some, unwrap_or, append_assoc, map_push, take_more, drop_more, list_any, eq-eqb, ne_eqb, EntryParts, PlacedEntry, are_twins, ClassKey, class_cmp, option_or, position_from, BTreeMap, get, Updates, IsClassKey, has_twin, AreNumbers, class_number, row_due, rows_due, shown, Row}
 use Rattle.std.proofs.lemmas.Iterator.Adapters.{position_from-zero}
 use Rattle.std.proofs.lemmas.List.Quantifiers.{position-Some}
 use Rattle.krb_copy.proofs.Alike.{alike, twins_equiv}

@@ -1,10 +1,7 @@
 -- A run and its definition, entry by entry.
-use Rattle.krb_copy.proofs.Cited.{◌≡◌, ℕ, ◌+◌, ◌<◌, Bool, true, false, cond, List, [], ◌∷◌, ◌++◌, length, drop, Option, Result, Ok, Err, refl, sym, ap, subst, ◌∙◌, map, Code, PlacedEntry, placed_entries, KeytabState, put_result, without, Run, Copy, as_found, asked_as, step_of, with_copy, run_after, run_added, has_lines, run_over, run_start, copy_run, go_on, AreClasses, AreNames, get_or, drop_more, copied_lines, IsMade, IsRefusal, IsRefusedBy, IsRun, Meets, Ends, EndsBy}
-use Rattle.krb_wire.specs.Spelling.{Parts}
+use Rattle.krb_copy.proofs.Cited.{◌≡◌, ℕ, ◌+◌, ◌<◌, Bool, true, false, cond, List, [], ◌∷◌, ◌++◌, length, drop, Option, Result, Ok, Err, refl, sym, ap, subst, ◌∙◌, map, Code, PlacedEntry, placed_entries, KeytabState, put_result, without, Run, Copy, as_found, asked_as, step_of, with_copy, run_after, run_added, has_lines, run_over, run_start, copy_run, go_on, AreClasses, AreNames, get_or, drop_more, copied_lines, IsMade, IsRefusal, IsRefusedBy, IsRun, Meets, Ends, EndsBy, Parts, PutGives, Copying}
 use Rattle.krb_walk.specs.declared.refusal.Refusal.{Refusal}
 use Rattle.krb_walk.specs.declared.refusal.Refusal.TheVariants.{Code as ByCode, NoMemory}
-use Rattle.krb_walk.specs.Rules.{PutGives}
-use Rattle.krb_copy.specs.declared.copy.Copying.{Copying}
 
 -- an addition that is refused
 pub refusal_is : (due given : Result (ℕ × KeytabState) Code) (old new : List ℕ) (k k' : KeytabState) (refusal : Refusal) → due ≡ given → new ≡ old → PutGives given k (Err refusal) k' → IsRefusal due old new refusal

@@ -1,7 +1,5 @@
 -- A run tells nothing iff its keytab has each entry asked for.
-use Rattle.krb_copy.proofs.Cited.{◌≡◌, Bool, true, List, [], ◌∷◌, sym, subst, ◌∙◌, map, list_any, AllByRecursion, PlacedEntry, placed_entries, KeytabState, are_same, as_found, run_start, copy_run}
-use Rattle.krb_copy.specs.DiffLaws.{TellsNothing}
-use Rattle.krb_text.proofs.Found.{any_of_map}
+use Rattle.krb_copy.proofs.Cited.{◌≡◌, Bool, true, List, [], ◌∷◌, sym, subst, ◌∙◌, map, list_any, AllByRecursion, PlacedEntry, placed_entries, KeytabState, are_same, as_found, run_start, copy_run, TellsNothing, any_of_map}
 use Rattle.krb_copy.proofs.LawLemmas.{IsHeld}
 use Rattle.krb_copy.proofs.LawRuns.{all_before, bare, second_over, silent}
 

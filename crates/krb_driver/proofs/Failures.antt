@@ -1,15 +1,10 @@
 -- What replies report, with one more reply.
-use Rattle.std.proofs.Common.{◌≡◌, ℕ, Bool, true, false, ◌||◌, List, [], ◌∷◌, ◌++◌, map, fold, ap, sym, refl, ◌∙◌, append-nil, append_assoc}
+use Rattle.krb_driver.proofs.Cited.{◌≡◌, ℕ, Bool, true, false, ◌||◌, List, [], ◌∷◌, ◌++◌, map, fold, ap, sym, refl, ◌∙◌, append-nil, append_assoc, list_any, Code, ReplyContent, Started, Gave, Ended, Faulted, Placed, Gone, Rewritten, Refused, Failure, all_failures, failures, reports, with_reply}
 use Rattle.std.specs.Prelude.{Option}
 use Rattle.std.specs.Bool.{then_some}
-use Rattle.std.specs.List.{list_any}
 use Rattle.krb_walk.specs.declared.fault.FaultKind.{FaultKind}
 use Rattle.krb_walk.specs.declared.fault.FaultKind.TheVariants.{CutLength, Overrun, BadEntry, BadCredential}
-use Rattle.krb_walk.specs.declared.refusal.Code.{Code}
 use Rattle.krb_walk.specs.declared.refusal.Code.TheVariants.{Damaged, TooLong, Full, NotAPlace, NotLive, NoSuchWalk, TooManyWalks, ReadOnly, NotFound, KvnoNotFound, Marked}
-use Rattle.krb_walk.specs.ReplyContent.{ReplyContent, Started, Gave, Ended, Faulted, Placed, Gone, Rewritten, Refused}
-use Rattle.krb_driver.specs.declared.reporting.reported.Failure.{Failure}
-use Rattle.krb_driver.specs.Reported.{all_failures, failures, reports, with_reply}
 
 -- ---- one more element
 

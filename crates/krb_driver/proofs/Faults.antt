@@ -1,12 +1,11 @@
 -- A fault in the text of a name is never that memory ran out.
-use Rattle.krb_driver.proofs.Cited.{◌≡◌, ◌⊎◌, inl, inr, ℕ, List, [], ◌∷◌, ◌++◌, append-nil, Option, Some, None, Result, Ok, Err, ap, subst, ◌∙◌, IsOk, unwrap_or, filter_map, cons_option}
+use Rattle.krb_driver.proofs.Cited.{◌≡◌, ◌⊎◌, inl, inr, ℕ, List, [], ◌∷◌, ◌++◌, append-nil, Option, Some, None, Result, Ok, Err, ap, subst, ◌∙◌, IsOk, unwrap_or, filter_map, cons_option, component_fault, realm_fault, first_fault, faults_of, realm_of, components_of, name_or_fault, name_of}
 use Rattle.krb_wire.specs.declared.name_fault.NameFault.{NameFault}
 use Rattle.krb_wire.specs.declared.name_fault.NameFault.TheVariants.{NoRealm, LoneBackslash, SecondAt, SlashInRealm, NoMemory}
 use Rattle.krb_wire.specs.declared.atom.Atom.{Atom}
 use Rattle.krb_wire.specs.declared.atom.Atom.TheVariants.{Byte, Slash, At, Lone}
 use Rattle.krb_wire.specs.Spelling.{Parts}
 use Rattle.krb_wire.specs.Atoms.{atoms, before_at, after_at}
-use Rattle.krb_wire.specs.NameOf.{component_fault, realm_fault, first_fault, faults_of, realm_of, components_of, name_or_fault, name_of}
 
 -- a fault, if there is one, other than that memory ran out
 abbrev IsOfText : Option NameFault → Type 0

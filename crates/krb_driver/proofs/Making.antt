@@ -1,16 +1,9 @@
 -- What was made of the files follows the plan.
-use Rattle.krb_driver.proofs.Cited.{◌≡◌, ◌⊎◌, inl, inr, ◌∙◌, ℕ, Bool, List, [], ◌∷◌, refl, sym, ap, subst, false≢true, true≢false, FairOver, GivesLoaded, GivesOf, HoldsIf, Makes, MakesFairly, Opens, fair_first, of_file, CommandPlan, Effect, Fails, IsMade, IsSpent, faults, goes_on, tries, opens, EndsAfter, Tries, effect_by, if_unread, or_refused, unless_refused}
+use Rattle.krb_driver.proofs.Cited.{◌≡◌, ◌⊎◌, inl, inr, ◌∙◌, ℕ, Bool, List, [], ◌∷◌, refl, sym, ap, subst, false≢true, true≢false, FairOver, GivesLoaded, GivesOf, HoldsIf, Makes, MakesFairly, Opens, fair_first, of_file, CommandPlan, Effect, Fails, IsMade, IsSpent, faults, goes_on, tries, opens, EndsAfter, Tries, effect_by, if_unread, or_refused, unless_refused, Ghosts, FileKind, FileName, Code, Answer, Ends, HeldIf, Holds, Loaded, Loads, loaded-none}
 use Rattle.std.specs.Prelude.{Option, None, Some, Result, Ok, Err, is_ok}
 use Rattle.krb_files.specs.declared.files.LoadFault.TheVariants as load
-use Rattle.krb_files.specs.declared.files.Files.{Ghosts}
 use Rattle.krb_driver.specs.declared.error.RunError.{RunError}
-use Rattle.krb_driver.specs.declared.verdict.FileKind.{FileKind}
-use Rattle.krb_driver.specs.declared.file_name.FileName.{FileName}
 use Rattle.krb_driver.specs.declared.error.RunError.TheVariants as error
-use Rattle.krb_walk.specs.declared.refusal.Code.{Code}
-use Rattle.krb_files.specs.Loading.{Answer}
-use Rattle.krb_files.specs.Plan.{Ends, HeldIf, Holds, Loaded, Loads}
-use Rattle.krb_files.proofs.PlanLaws.{loaded-none}
 
 -- what was given, without the file's name, and that name
 abbrev pub no_file : {X : Type 0} → Result X (List ℕ × RunError) → Result X RunError

@@ -1,10 +1,5 @@
 -- A command was run over files one after the other.
-use Rattle.krb_driver.proofs.Cited.{List, ◌∷◌, inl, inr, refl, subst, ℕ, ◌+◌, ◌<◌, drop, get_or, length, drop_more, Option, CommandPlan}
-use Rattle.std.specs.Prelude.{IsFalse, IsTrue}
-use Rattle.krb_files.specs.declared.files.Files.{Ghosts}
-use Rattle.krb_driver.specs.declared.file_name.FileName.{FileName}
-use Rattle.krb_driver.specs.declared.command.RunEnd.{RunEnd}
-use Rattle.krb_driver.specs.Several.{Round, RunsFile, RunsOver, is_last}
+use Rattle.krb_driver.proofs.Cited.{List, ◌∷◌, inl, inr, refl, subst, ℕ, ◌+◌, ◌<◌, drop, get_or, length, drop_more, Option, CommandPlan, IsFalse, IsTrue, Ghosts, FileName, RunEnd, Round, RunsFile, RunsOver, is_last}
 
 module _ {S F R W E : Type 0} (trait : Ghosts F) (plan : S → FileName → Option ℕ → CommandPlan) (after : S → RunEnd → S) where
   -- what becomes of the rest of the files becomes of all

@@ -1,20 +1,12 @@
 -- What a run of a command keeps.
-use Rattle.krb_driver.proofs.Cited.{◌≡◌, ◌⊎◌, inl, inr, ◌∙◌, ℕ, ◌≤◌, Bool, true, false, List, [], refl, sym, ap, subst, arith, false≢true, Watch, ErrorWatch, Run, Shows, ends_by, EndsCommand, Finishes, Keeps, MakesFairly, Settles, ShowsEnd, ShowsPage, Takes, CommandPlan, Displays, Effect, Fails, IsSpent, Page, Saves, faults, files_after, saved_end, settled, text, effect_by, if_unread, ending_of, if◌then◌else◌, ◌∷◌}
+use Rattle.krb_driver.proofs.Cited.{◌≡◌, ◌⊎◌, inl, inr, ◌∙◌, ℕ, ◌≤◌, Bool, true, false, List, [], refl, sym, ap, subst, arith, false≢true, Watch, ErrorWatch, Run, Shows, ends_by, EndsCommand, Finishes, Keeps, MakesFairly, Settles, ShowsEnd, ShowsPage, Takes, CommandPlan, Displays, Effect, Fails, IsSpent, Page, Saves, faults, files_after, saved_end, settled, text, effect_by, if_unread, ending_of, if◌then◌else◌, ◌∷◌, or_left, or_right, Ghosts, Answer, SavesFile, TurnsHold, Ending, is_spent, is_unread, RunEnd, Verdict, Ends, Holds, Loads, Loaded, Faults, by, follow, Lasts, comes, count-more, count-trans, loaded-lasts, same-trans, with_bytes-set}
 use Rattle.std.specs.Prelude.{Option, None, Result, Ok, Err, IsTrue, ◌||◌}
-use Rattle.std.proofs.lemmas.Bool.{or_left, or_right}
 use Rattle.krb_files.specs.declared.files.SaveFault.{SaveFault}
 use Rattle.krb_files.specs.declared.files.SaveFault.TheVariants as save
 use Rattle.krb_files.specs.declared.files.LoadFault.TheVariants as load
-use Rattle.krb_files.specs.declared.files.Files.{Ghosts}
 use Rattle.krb_files.specs.Files.{SameFiles, CountsFailure}
 use Rattle.krb_driver.specs.declared.error.RunError.TheVariants as error
-use Rattle.krb_files.specs.Loading.{Answer, SavesFile, TurnsHold}
 use Rattle.krb_driver.specs.declared.command.World.{World}
-use Rattle.krb_driver.specs.RunErrors.{Ending, is_spent, is_unread}
-use Rattle.krb_driver.specs.declared.command.RunEnd.{RunEnd}
-use Rattle.krb_driver.specs.declared.verdict.Verdict.{Verdict}
-use Rattle.krb_files.specs.Plan.{Ends, Holds, Loads, Loaded, Faults, by, follow}
-use Rattle.krb_files.proofs.PlanLaws.{Lasts, comes, count-more, count-trans, loaded-lasts, same-trans, with_bytes-set}
 
 module _ (out out' : Watch) (ending : Ending) (spent : ending ≡ Err error.NoMemory) where
   -- the output did not fail, so the run was to end out of memory

@@ -1,16 +1,13 @@
 -- What is shown of a run, and a text on its way to the error output.
-use Rattle.krb_driver.proofs.Cited.{◌≡◌, ℕ, List, [], ◌++◌, refl, sym, subst, inl, ◌∙◌, arith, true≢false, Watch, ShowsEnd, ready_end, Page, Run, Shows, Writes, ReportsEnd, ends_by, ErrorWatch, ◌+◌, add-one, ◌<◌, ◌∷◌, Option, ap, append_assoc, append-nil, length, get_or, take, map-id, flat_map, range_with_len, false≢true, AppendsPrefix, Adds, Sends, Underway}
+use Rattle.krb_driver.proofs.Cited.{◌≡◌, ℕ, List, [], ◌++◌, refl, sym, subst, inl, ◌∙◌, arith, true≢false, Watch, ShowsEnd, ready_end, Page, Run, Shows, Writes, ReportsEnd, ends_by, ErrorWatch, ◌+◌, add-one, ◌<◌, ◌∷◌, Option, ap, append_assoc, append-nil, length, get_or, take, map-id, flat_map, range_with_len, false≢true, AppendsPrefix, Adds, Sends, Underway, Well, aftermath_text, words_if, Ending, aftermath_status, end_status, ending_status}
 use Rattle.std.specs.Prelude.{max, Bool, true, false, None, IsTrue, Result, Ok, Err, OnOk, OnErr, is_err, IsFalse}
 use Rattle.krb_files.proofs.Prefixes.{AppendsPrefix-none, Appends-nil, Appends-trans, AppendsPrefix-all, AppendsPrefix-after}
-use Rattle.krb_driver.specs.declared.verdict.Verdict.TheVariants.{Well}
 use Rattle.krb_driver.specs.declared.command.FileError.{FileError}
 use Rattle.krb_driver.specs.declared.command.Ready.{Ready}
 use Rattle.krb_driver.specs.declared.command.Ready.TheVariants as ready
 use Rattle.krb_driver.specs.declared.error.RunError.TheVariants.{OutputNotWritten}
 use Rattle.krb_files.specs.declared.aftermath.Aftermath.{Aftermath}
 use Rattle.krb_driver.specs.declared.reporting.details.Details.{Details}
-use Rattle.krb_driver.specs.Runs.{aftermath_text, words_if}
-use Rattle.krb_driver.specs.RunErrors.{Ending, aftermath_status, end_status, ending_status}
 use Rattle.std.proofs.Math.Seq.{take-suc}
 use Rattle.std.proofs.lemmas.Grind.{flat_map-append}
 use Rattle.std.proofs.lemmas.List.FromFn.{map-range_with_len_more}

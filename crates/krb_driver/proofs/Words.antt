@@ -1,14 +1,10 @@
 -- Words and their texts: without a prefix, before what may be a key, and in pieces.
-use Rattle.krb_driver.proofs.Cited.{◌≡◌, ℕ, Bool, false, List, [], ◌∷◌, ◌++◌, refl, sym, ap, subst, ◌∙◌, append_assoc, codes, Watch, ErrorWatch, Writes, piece_text, pieces_text, pieces_before, Bor, map, length-map, ◌≢◌, true, Option, None, Some, cond, drop, eqb, MatchOption, option_map, eqb-true, eq-eqb, ◌+◌, ◌-◌, ◌<◌, ◌≤◌, take, get_or, length, length-drop, arith, drop_more, drop_all, take_all, ◌==◌, ◌&&◌, if◌then◌else◌, flat_map, has_key, hidden_word, key_from, key_start, may_be_key, quoted_word, shown_byte}
+use Rattle.krb_driver.proofs.Cited.{◌≡◌, ℕ, Bool, false, List, [], ◌∷◌, ◌++◌, refl, sym, ap, subst, ◌∙◌, append_assoc, codes, Watch, ErrorWatch, Writes, piece_text, pieces_text, pieces_before, Bor, map, length-map, ◌≢◌, true, Option, None, Some, cond, drop, eqb, MatchOption, option_map, eqb-true, eq-eqb, ◌+◌, ◌-◌, ◌<◌, ◌≤◌, take, get_or, length, length-drop, arith, drop_more, drop_all, take_all, ◌==◌, ◌&&◌, if◌then◌else◌, flat_map, has_key, hidden_word, key_from, key_start, may_be_key, quoted_word, shown_byte, message, word_text, slice_get, stripped}
 use Rattle.krb_driver.specs.declared.reporting.piece.MessagePiece.{MessagePiece}
 use Rattle.krb_driver.specs.declared.command_line.mistake.BadLine.{BadLine}
 use Rattle.krb_driver.specs.declared.command_line.mistake.WordFault.TheVariants as word
-use Rattle.krb_driver.specs.Messages.{message}
-use Rattle.krb_driver.specs.Mistakes.{word_text}
 use Rattle.std.proofs.lemmas.Option.{slice_get-map}
-use Rattle.std.specs.Prelude.{slice_get}
 use Rattle.std.specs.Str.Pattern.{FindsTextPrefix, StripsPrefix}
-use Rattle.krb_driver.specs.FileNames.{stripped}
 
 pub pieces_text-append : (pieces : List MessagePiece) (rest : List ℕ) → pieces_text pieces ++ rest ≡ pieces_before pieces rest
 pieces_text-append [] rest = refl

@@ -1,23 +1,16 @@
 -- Where live cells and added entries stand, in lists and in sets.
-use Rattle.krb_editors.proofs.Cited.{◌≡◌, ◌≢◌, ℕ, ◌<◌, ◌≤◌, true, List, [], ◌∷◌, map, Option, Some, None, refl, ap, arith, Store, Record, IsSound, end_of, is_place, next_live, stop_at, stop_of, zero, suc, Bool, false, ◌++◌, length, get_or, sym, ◌∙◌, subst, list_any, Event, carry, nth_or, ReplyContent, Started, Gave, Ended, Faulted, Placed, Gone, Rewritten, Refused, Rules, SessionState, after, history, moment, state_after, KeytabState, HaveSame, followed_past, followed_over, places_after}
+use Rattle.krb_editors.proofs.Cited.{◌≡◌, ◌≢◌, ℕ, ◌<◌, ◌≤◌, true, List, [], ◌∷◌, map, Option, Some, None, refl, ap, arith, Store, Record, IsSound, end_of, is_place, next_live, stop_at, stop_of, zero, suc, Bool, false, ◌++◌, length, get_or, sym, ◌∙◌, subst, list_any, Event, carry, nth_or, ReplyContent, Started, Gave, Ended, Faulted, Placed, Gone, Rewritten, Refused, Rules, SessionState, after, history, moment, state_after, KeytabState, HaveSame, followed_past, followed_over, places_after, records_from, stops_end, stops_give_records, IsNonDecreasing, Rises, eq-eqb, eqb-true, any_of_map, hidden_at, hidden_from, hides_added}
 use Rattle.krb_walk.specs.declared.stop.Stop.TheVariants.{Live}
-use Rattle.krb_walk.specs.Stops.{records_from}
 use Rattle.krb_walk.proofs.Cells.{stops_live}
-use Rattle.krb_walk.proofs.Stops.{stops_end, stops_give_records}
 use Rattle.std.specs.Prelude.{◌||◌, ◌&&◌, ◌==◌, not, filter, nat_le, nat_lt, cond, if◌then◌else◌, option_and_then}
-use Rattle.std.specs.List.Sorted.{IsNonDecreasing}
 use Rattle.std.specs.Ordering.{nat_cmp, is_eq}
 use Rattle.std.specs.declared.cmp.Ordering.TheVariants.{Less, Equal, Greater}
 use Rattle.std.specs.BTreeMap.{is_at}
 use Rattle.std.proofs.lemmas.Bool.Decides.{nat_tests}
-use Rattle.krb_walk.proofs.Carries.{Rises}
 use Rattle.std.proofs.Math.Bool.{or_assoc}
-use Rattle.std.proofs.lemmas.Bool.{eq-eqb, eqb-true}
 use Rattle.std.proofs.lemmas.List.Folds.{Any-from_list_any, list_any-append, list_any-from_Any}
 use Rattle.std.proofs.lemmas.Map.Views.{any-filter_same}
 use Rattle.std.specs.Cmp.{both_ways}
-use Rattle.krb_text.proofs.Found.{any_of_map}
-use Rattle.krb_audit.specs.Findings.{hidden_at, hidden_from, hides_added}
 
 -- the places of the records at or after a place
 abbrev pub places_from : Store → ℕ → List ℕ

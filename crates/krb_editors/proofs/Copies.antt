@@ -1,10 +1,7 @@
 -- Copying from a keytab.
-use Rattle.krb_editors.proofs.Cited.{◌≡◌, Bool, true, false, List, [], inl, inr, refl, sym, ap, subst, ◌∙◌, cond, Ends, Makes, CommandPlan, Effect, Fails, IsSpent, faults, makes-end}
+use Rattle.krb_editors.proofs.Cited.{◌≡◌, Bool, true, false, List, [], inl, inr, refl, sym, ap, subst, ◌∙◌, cond, Ends, Makes, CommandPlan, Effect, Fails, IsSpent, faults, makes-end, Ghosts, NothingToCopy, FileName}
 use Rattle.krb_keytab.specs.Find.{PlacedEntry}
-use Rattle.krb_files.specs.declared.files.Files.{Ghosts}
 use Rattle.krb_files.proofs.PlanLaws.{loaded-none}
-use Rattle.krb_driver.specs.declared.error.RunError.TheVariants.{NothingToCopy}
-use Rattle.krb_driver.specs.declared.file_name.FileName.{FileName}
 use Rattle.krb_editors.specs.declared.ktcopy.CopyOptions.{CopyOptions}
 use Rattle.krb_editors.specs.Ktcopy.{copies_from, copies_to, finds_none}
 

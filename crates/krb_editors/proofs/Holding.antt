@@ -1,15 +1,12 @@
 -- The frame of an image as it is written, and the image that a file gives.
-use Rattle.krb_editors.proofs.Cited.{◌≡◌, inl, inr, ℕ, false, List, ◌++◌, length, ap, subst, RunError, GivesOf, of_file, LoadsImage}
+use Rattle.krb_editors.proofs.Cited.{◌≡◌, inl, inr, ℕ, false, List, ◌++◌, length, ap, subst, RunError, GivesOf, of_file, LoadsImage, Ghosts, FileName, frame}
 use Rattle.std.specs.Prelude.{Option, Result, Ok, Err, OnErr, codes, decimal}
 use Rattle.std.specs.Io.KnownBytes.{Appends}
-use Rattle.krb_files.specs.declared.files.Files.{Ghosts}
 use Rattle.krb_files.specs.declared.files.LoadFault.TheVariants as load
 use Rattle.krb_files.specs.Bytes.{AppendsPrefix}
 use Rattle.krb_files.specs.Loading.{Answer}
 use Rattle.krb_files.proofs.Prefixes.{AppendsPrefix-after, AppendsPrefix-longer}
 use Rattle.krb_driver.specs.declared.error.RunError.TheVariants as error
-use Rattle.krb_driver.specs.declared.file_name.FileName.{FileName}
-use Rattle.krb_editors.specs.Hold.{frame}
 
 -- what holds after an error
 pub on-err : {T E P : Type 0} (r : Result T E) → P → OnErr r P

@@ -1,12 +1,6 @@
 -- Several files were looked for, one after the other.
-use Rattle.krb_editors.proofs.Cited.{List, ◌∷◌, refl, subst, sym, ℕ, ◌<◌, get_or, length, Bool, true, false, ◌≡◌}
-use Rattle.std.proofs.Common.{◌+◌, drop}
-use Rattle.std.proofs.lemmas.List.{drop_more}
-use Rattle.std.specs.Prelude.{◌||◌}
-use Rattle.krb_files.specs.declared.files.Files.{Ghosts}
-use Rattle.krb_driver.specs.declared.file_name.FileName.{FileName}
+use Rattle.krb_editors.proofs.Cited.{List, ◌∷◌, refl, subst, sym, ℕ, ◌<◌, get_or, length, Bool, true, false, ◌≡◌, ◌+◌, drop, drop_more, ◌||◌, Ghosts, FileName, LooksAt, LooksFor}
 use Rattle.krb_driver.specs.Runs.{ErrorWatch}
-use Rattle.krb_editors.specs.MissingFiles.{LooksAt, LooksFor}
 
 or_assoc : (a b c : Bool) → ((a || b) || c) ≡ (a || (b || c))
 or_assoc true b c = refl

@@ -1,10 +1,7 @@
 -- Runs one after the other, and what lines do to a cache.
-use Rattle.krb_editors.proofs.Cited.{◌≡◌, ◌<◌, ℕ, List, [], ◌∷◌, ◌++◌, length, take, refl, sym, ap, subst, ◌∙◌, append_assoc, take_more, Event, ReplyContent, Rules, SessionState, after, reply_to, AllLawful, history, replies, state_after, Ran, ran_of, false, map, append-nil, put_reply, cache_rules, CacheState, is_refusal, line_events, lines_events}
+use Rattle.krb_editors.proofs.Cited.{◌≡◌, ◌<◌, ℕ, List, [], ◌∷◌, ◌++◌, length, take, refl, sym, ap, subst, ◌∙◌, append_assoc, take_more, Event, ReplyContent, Rules, SessionState, after, reply_to, AllLawful, history, replies, state_after, Ran, ran_of, false, map, append-nil, put_reply, cache_rules, CacheState, is_refusal, line_events, lines_events, Put, Cut, Code, CredParts}
 use Rattle.std.specs.Prelude.{◌+◌, get_or, Result, Ok, Err}
-use Rattle.krb_walk.specs.declared.event.Event.TheVariants.{Put, Cut}
-use Rattle.krb_walk.specs.declared.refusal.Code.{Code}
 use Rattle.krb_ccache.specs.Changes.{is_refused, put_result}
-use Rattle.krb_ccache.specs.Credential.{CredParts}
 use Rattle.krb_ccache.specs.SetConfig.{SettingParts, entry_of, match_places, setting_events}
 use Rattle.krb_cache_text.specs.Script.{CacheLineParts}
 

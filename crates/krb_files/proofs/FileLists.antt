@@ -1,9 +1,5 @@
 -- Look-ups in a list of files, and changes to it.
-use Rattle.krb_files.proofs.Cited.{◌≡◌, ◌≢◌, ℕ, zero, suc, ◌+◌, ◌<◌, ◌≤◌, Bool, true, false, not, List, [], ◌∷◌, ◌++◌, length, Some, None, map, refl, sym, ap, subst, ◌∙◌, cond, arith, find, position, option_map, nat_lt, slice_set, slice_index_or, bytes_eq, SetsFile}
-use Rattle.std.specs.List.{prefix_len}
-use Rattle.std.proofs.lemmas.Bool.{ltb-true, ltb-false}
-use Rattle.std.proofs.lemmas.Slice.Eq.{bytes_eq-Decides}
-use Rattle.krb_files.specs.MemFiles.{file_in, with_file}
+use Rattle.krb_files.proofs.Cited.{◌≡◌, ◌≢◌, ℕ, zero, suc, ◌+◌, ◌<◌, ◌≤◌, Bool, true, false, not, List, [], ◌∷◌, ◌++◌, length, Some, None, map, refl, sym, ap, subst, ◌∙◌, cond, arith, find, position, option_map, nat_lt, slice_set, slice_index_or, bytes_eq, SetsFile, prefix_len, ltb-true, ltb-false, bytes_eq-Decides, file_in, with_file}
 
 -- `find` in a mapped list is the image of `find` in the list
 pub find-map : {X Y : Type 0} (v : X → Y) (test : Y → Bool) (xs : List X) → find test (map v xs) ≡ option_map v (find (λ x. test (v x)) xs)

@@ -1,7 +1,5 @@
 -- The outcomes of plans over honest files.
-use Rattle.krb_files.proofs.Cited.{◌≡◌, ◌⊎◌, inl, inr, ◌∙◌, ℕ, ◌<◌, ◌≤◌, ◌^◌, ◌-◌, Bool, true, false, List, [], ◌∷◌, Option, None, Some, length, refl, sym, ap, subst, cond, arith, Ok, Err, if◌then◌else◌, nat_lt, bytes_eq, FileMap, SameFiles, SetsFile, CountsFailure, loaded}
-use Rattle.std.proofs.lemmas.Bool.{true≢false, cases_lt}
-use Rattle.std.proofs.lemmas.Slice.Eq.{bytes_eq-Decides}
+use Rattle.krb_files.proofs.Cited.{◌≡◌, ◌⊎◌, inl, inr, ◌∙◌, ℕ, ◌<◌, ◌≤◌, ◌^◌, ◌-◌, Bool, true, false, List, [], ◌∷◌, Option, None, Some, length, refl, sym, ap, subst, cond, arith, Ok, Err, if◌then◌else◌, nat_lt, bytes_eq, FileMap, SameFiles, SetsFile, CountsFailure, loaded, true≢false, cases_lt, bytes_eq-Decides}
 use Rattle.krb_files.specs.declared.files.LoadFault.TheVariants as load
 use Rattle.krb_files.specs.declared.files.Files.{Ghosts}
 use Rattle.krb_files.specs.Loading.{Answer, LoadsFile, TurnsHold, most_bytes}

@@ -1,6 +1,5 @@
 -- Joining what a writer took of one text with what it took of the next.
-use Rattle.krb_files.proofs.Cited.{◌≡◌, ℕ, ◌≤◌, ◌+◌, ◌-◌, arith, List, [], ◌++◌, Option, None, Some, refl, sym, ap, ◌∙◌, append_assoc, append-nil, length, take, drop, take-append-drop, subst, Appends, Keeps}
-use Rattle.std.proofs.Math.Seq.{take-add}
+use Rattle.krb_files.proofs.Cited.{◌≡◌, ℕ, ◌≤◌, ◌+◌, ◌-◌, arith, List, [], ◌++◌, Option, None, Some, refl, sym, ap, ◌∙◌, append_assoc, append-nil, length, take, drop, take-append-drop, subst, Appends, Keeps, take-add}
 use Rattle.std.proofs.lemmas.Grind.{common_steps}
 use Rattle.krb_files.specs.Bytes.{AppendsPrefix}
 

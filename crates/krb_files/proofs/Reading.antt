@@ -1,7 +1,5 @@
 -- Joining the bytes of one read with those of the next.
-use Rattle.krb_files.proofs.Cited.{◌≡◌, ℕ, ◌+◌, Bool, true, false, cond, arith, List, ◌++◌, take, drop, Option, None, Some, sym, ap, ◌∙◌, append_assoc, length, Consumes}
-use Rattle.std.proofs.lemmas.List.{take_all, take-append-le}
-use Rattle.std.proofs.Math.Seq.{take-add}
+use Rattle.krb_files.proofs.Cited.{◌≡◌, ℕ, ◌+◌, Bool, true, false, cond, arith, List, ◌++◌, take, drop, Option, None, Some, sym, ap, ◌∙◌, append_assoc, length, Consumes, take_all, take-append-le, take-add}
 
 -- two reads, one after the other, consume the bytes of both
 pub Consumes-trans : (a b c : Option (List ℕ)) (bs cs : List ℕ) → Consumes a b bs → Consumes b c cs → Consumes a c (bs ++ cs)

@@ -1,11 +1,5 @@
 -- Elements of an array, some after others.
-use Rattle.krb_json.proofs.Cited.{◌≡◌, ℕ, ◌+◌, ◌<◌, Bool, true, List, [], ◌∷◌, ◌++◌, length, take, drop, fold, flat_map, map, Option, None, Some, cons_option, Result, Ok, Err, refl, sym, subst, ap, ◌∙◌, append_assoc, append-nil, IsFalse, on_ok_weaker, Json, Gathers, passed_none, element_text, elements_text, ArePlain, Adds, AddsAfter, Elements, missing_value}
-use Rattle.std.proofs.Common.{Bor, get_or}
-use Rattle.std.proofs.lemmas.Grind.{flat_map-append}
-use Rattle.std.proofs.lemmas.List.{take-append-drop, take_more, flat_map_more}
-use Rattle.std.proofs.lemmas.List.Sums.{fold-append}
-use Rattle.krb_files.specs.declared.output.OutFault.{OutFault}
-use Rattle.krb_files.specs.Bytes.{Watch}
+use Rattle.krb_json.proofs.Cited.{◌≡◌, ℕ, ◌+◌, ◌<◌, Bool, true, List, [], ◌∷◌, ◌++◌, length, take, drop, fold, flat_map, map, Option, None, Some, cons_option, Result, Ok, Err, refl, sym, subst, ap, ◌∙◌, append_assoc, append-nil, IsFalse, on_ok_weaker, Json, Gathers, passed_none, element_text, elements_text, ArePlain, Adds, AddsAfter, Elements, missing_value, Bor, get_or, flat_map-append, take-append-drop, take_more, flat_map_more, fold-append, OutFault, Watch}
 use Rattle.krb_json.proofs.Sending.{gathers_three, gathers_two_fails}
 
 elements_append : (a : Bool) (vs ws : List Json) → elements_text a (vs ++ ws) ≡ elements_text a vs ++ elements_text (fold (λ _ _. true) a vs) ws

@@ -1,6 +1,5 @@
 -- Tokens after tokens, and the objects that they make.
-use Rattle.krb_json.proofs.Cited.{◌≡◌, ℕ, List, [], ◌∷◌, ◌++◌, Option, None, Some, codes, refl, sym, ap, ◌∙◌, append_assoc, append-nil, Token, begin_object, end_object, begin_array, key, string, null, json_tokens, Member, object_of, number_of, text_or_null, member_tokens, tokens_of, head_tokens}
-use Rattle.std.proofs.lemmas.Grind.{flat_map-append}
+use Rattle.krb_json.proofs.Cited.{◌≡◌, ℕ, List, [], ◌∷◌, ◌++◌, Option, None, Some, codes, refl, sym, ap, ◌∙◌, append_assoc, append-nil, Token, begin_object, end_object, begin_array, key, string, null, json_tokens, Member, object_of, number_of, text_or_null, member_tokens, tokens_of, head_tokens, flat_map-append}
 use Rattle.krb_json.proofs.Arrays.{members_append, members_end_object}
 
 -- after a list another, and then a third

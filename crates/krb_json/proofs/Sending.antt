@@ -1,8 +1,6 @@
 -- Texts that are gathered and sent, one after the other.
-use Rattle.krb_json.proofs.Cited.{◌≡◌, ℕ, List, [], ◌++◌, Option, Result, Ok, Err, refl, sym, ap, ◌∙◌, append_assoc, append-nil, IsFalse, on_ok_weaker, on_err_weaker, Passed, Gathers, Prints, passed_last, passed_fail, gathers_memory}
-use Rattle.krb_files.specs.declared.output.OutFault.{OutFault}
+use Rattle.krb_json.proofs.Cited.{◌≡◌, ℕ, List, [], ◌++◌, Option, Result, Ok, Err, refl, sym, ap, ◌∙◌, append_assoc, append-nil, IsFalse, on_ok_weaker, on_err_weaker, Passed, Gathers, Prints, passed_last, passed_fail, gathers_memory, OutFault, Watch}
 use Rattle.krb_files.specs.declared.output.OutFault.TheVariants.{NoMemory}
-use Rattle.krb_files.specs.Bytes.{Watch}
 use Rattle.krb_files.proofs.Prefixes.{Appends-trans, AppendsPrefix-longer, AppendsPrefix-none}
 
 -- a whole text passed, and then another after what is gathered

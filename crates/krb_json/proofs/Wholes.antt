@@ -1,10 +1,7 @@
 -- The text of a file, in pieces.
-use Rattle.krb_json.proofs.Cited.{◌≡◌, ℕ, Bool, false, List, [], ◌∷◌, ◌++◌, codes, refl, sym, ap, ◌∙◌, append_assoc, Json, end_array, json_tokens, members_tokens, name_text, CacheState, placed_credentials, text_of, Member, members_of, object_of, array_of, text_member, fault_value, file_members, entry_values, keytab_value, keytab_json_text, check_members, finding_values, check_value, check_json_text, status_members, Some, ticket_values, config_values, cache_value, cache_json_text, elements_text, head_tokens, between_tokens, tail_tokens, arrays_text}
+use Rattle.krb_json.proofs.Cited.{◌≡◌, ℕ, Bool, false, List, [], ◌∷◌, ◌++◌, codes, refl, sym, ap, ◌∙◌, append_assoc, Json, end_array, json_tokens, members_tokens, name_text, CacheState, placed_credentials, text_of, Member, members_of, object_of, array_of, text_member, fault_value, file_members, entry_values, keytab_value, keytab_json_text, check_members, finding_values, check_value, check_json_text, status_members, Some, ticket_values, config_values, cache_value, cache_json_text, elements_text, head_tokens, between_tokens, tail_tokens, arrays_text, fault_of, KeytabState, store_of, CheckParts}
 use Rattle.krb_wire.specs.Spelling.{version_byte}
-use Rattle.krb_walk.specs.Store.{fault_of}
-use Rattle.krb_keytab.specs.Store.{KeytabState, store_of}
 use Rattle.krb_ccache.specs.Store as cache
-use Rattle.krb_audit.specs.CheckUp.{CheckParts}
 use Rattle.krb_json.proofs.Arrays.{object_print, rest_print, members_end_object}
 
 tail_print : (ns : List Member) → text_of (end_array ∷ members_tokens (members_of ns)) ≡ text_of (tail_tokens ns)

@@ -1,12 +1,6 @@
 -- Lines that were read from an input, which is split at newlines.
-use Rattle.krb_ktutil.proofs.Cited.{◌≡◌, ℕ, ◌+◌, ◌-◌, ◌<◌, ◌≤◌, List, [], ◌∷◌, ◌++◌, length, take, drop, Option, Some, None, refl, sym, ap, subst, ◌∙◌, arith, length-append, append_assoc, append-nil, take-add, slice_range, lines_of, HasNone, Grows, drop-drop, slice_split, Keeps, take-append-drop, take-take, is_newline, last_line, without_empty_last, IsFirst, inl, inr, IfSome, length-drop, nat_lt, IsAtEnd, take_all, take-append-le, length-take-le, drop_all, drop-append-le, lt-ltb, le-ltb, InputParts, HasLines, ReadsLine, TakesLine, EndsInNewline, AreFirst}
-use Rattle.std.proofs.lemmas.List.{nil_from_length}
+use Rattle.krb_ktutil.proofs.Cited.{◌≡◌, ℕ, ◌+◌, ◌-◌, ◌<◌, ◌≤◌, List, [], ◌∷◌, ◌++◌, length, take, drop, Option, Some, None, refl, sym, ap, subst, ◌∙◌, arith, length-append, append_assoc, append-nil, take-add, slice_range, lines_of, HasNone, Grows, drop-drop, slice_split, Keeps, take-append-drop, take-take, is_newline, last_line, without_empty_last, IsFirst, inl, inr, IfSome, length-drop, nat_lt, IsAtEnd, take_all, take-append-le, length-take-le, drop_all, drop-append-le, lt-ltb, le-ltb, InputParts, HasLines, ReadsLine, TakesLine, EndsInNewline, AreFirst, nil_from_length, length-slice_split, common_steps, Consumes-trans, take-append_seam, leb_tells}
 use Rattle.std.proofs.lemmas.List.Folds.{drop_split}
-use Rattle.std.proofs.lemmas.List.Splits.{length-slice_split}
-use Rattle.std.proofs.lemmas.Grind.{common_steps}
-use Rattle.krb_files.proofs.Reading.{Consumes-trans}
-use Rattle.std.proofs.Math.Seq.{take-append_seam}
-use Rattle.std.proofs.lemmas.Bool.Decides.{leb_tells}
 
 -- ---- bytes that grow
 

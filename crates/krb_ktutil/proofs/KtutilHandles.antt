@@ -1,22 +1,16 @@
 -- A line was made by its plan, from its steps, and with the entries of a keytab.
-use Rattle.krb_ktutil.proofs.Cited.{◌≡◌, ◌∙◌, sym, ℕ, List, [], ◌∷◌, Option, Some, None, refl, ap, Result, Ok, Err, EntryParts, KeytabState, Code, Added, with_added, map, option_map, filter_map, cons_option, entry_at, store_of, entries, result_map, more_added, RefusesAdded, inl, inr, Bool, true, false, length, subst, false≢true, Ghosts, Ends, LineFault, words, Effect, Fails, Awaited, Awaiting, Nothing, KtutilState, Came, plan_of, fails, line_faults, none_added, EndsAt, IsCame, line_effect, Answer, LoadsFile, Holds, Loads, by, has_type, keytab_of, keytab_or_new, Gives, GivesOrRunsOut, AwaitKey, Command, WriteFile, after, asks_for_password, command_by, command_of, verb_of, Password, LinePlan, after_fault, becomes, plan_by, command_plan, reading_plan, saved_as, with_entries, words_plan, writing_plan, written_to, Attempts, Comes, MakesLine, RunsOut, Tries}
+use Rattle.krb_ktutil.proofs.Cited.{◌≡◌, ◌∙◌, sym, ℕ, List, [], ◌∷◌, Option, Some, None, refl, ap, Result, Ok, Err, EntryParts, KeytabState, Code, Added, with_added, map, option_map, filter_map, cons_option, entry_at, store_of, entries, result_map, more_added, RefusesAdded, inl, inr, Bool, true, false, length, subst, false≢true, Ghosts, Ends, LineFault, words, Effect, Fails, Awaited, Awaiting, Nothing, KtutilState, Came, plan_of, fails, line_faults, none_added, EndsAt, IsCame, line_effect, Answer, LoadsFile, Holds, Loads, by, has_type, keytab_of, keytab_or_new, Gives, GivesOrRunsOut, AwaitKey, Command, WriteFile, after, asks_for_password, command_by, command_of, verb_of, Password, LinePlan, after_fault, becomes, plan_by, command_plan, reading_plan, saved_as, with_entries, words_plan, writing_plan, written_to, Attempts, Comes, MakesLine, RunsOut, Tries, Record, records, Order, LineRefusal, Reads, NoKeytab, fault_error}
 use Rattle.krb_wire.specs.declared.format.KtFormat.{KtFormat}
-use Rattle.krb_walk.specs.Store.{Record, records}
 use Rattle.krb_keytab.specs.Find.{PlacedEntry, placed_entries}
 use Rattle.krb_keytab.specs.Changes.{put_result}
 use Rattle.krb_walk.specs.Rules.{PutGives}
 use Rattle.krb_walk.specs.declared.refusal.Refusal.{Refusal}
 use Rattle.krb_walk.specs.declared.refusal.Refusal.TheVariants.{Code as ByCode, NoMemory}
-use Rattle.krb_wire.specs.declared.format.Order.{Order}
 use Rattle.krb_files.specs.declared.files.LoadFault.TheVariants as load
-use Rattle.krb_text.specs.declared.line_fault.LineRefusal.{LineRefusal}
 use Rattle.krb_text.specs.declared.line_fault.LineRefusal.TheVariants as refusal
-use Rattle.krb_text.specs.LineFault.{Reads}
 use Rattle.krb_driver.specs.declared.error.RunError.TheVariants as error
-use Rattle.krb_driver.specs.declared.loading.NoKeytab.{NoKeytab}
 use Rattle.krb_ktutil.specs.declared.ktutil.verb.Verb.{Verb}
 use Rattle.krb_ktutil.specs.declared.ktutil.line.Line.{Line}
-use Rattle.krb_ktutil.specs.KtutilCommand.{fault_error}
 
 -- placed entries without their places
 abbrev pub entries_of : List PlacedEntry → List EntryParts

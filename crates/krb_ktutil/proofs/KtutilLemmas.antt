@@ -1,16 +1,9 @@
 -- The lines of ktutil, one after the other, and their prompts.
-use Rattle.krb_ktutil.proofs.Cited.{◌≡◌, ℕ, Bool, true, false, List, [], ◌++◌, refl, sym, ◌∙◌, Result, Ok, Err, false≢true, Watch, ErrorWatch, Prompts, OnOk, OnErr, is_err, IsFalse, Appends, AppendsPrefix, WritesOn, Writes-nothing, PromptsOn, inl, inr, ◌⊎◌, ◌+◌, ◌-◌, ◌<◌, ◌≤◌, ◌∷◌, length, length-append, take, take-add, drop, ap, subst, append_assoc, append-nil, arith, max, not, slice_range, ◌&&◌, Option, None, Some, IfSome, Ghosts, input_error, error_status, lines_of, HasNone, Grows, Talk, first_talk, goes_on, HandlesLine, ◌≢◌, ◌||◌, drop_all, take-append-le, Consumes, InputParts, with_newlines, HasLines, KeepsLines, TakesLine, EndsInNewline, IsSpent, HasNoMore, CutsOff, IsWithin, most_bytes, AreFirst, Continues, EndsTalk, Stops, TalksOver, prompt_of, last_prompt, Reports, Source, is_failed}
-use Rattle.krb_files.proofs.Prefixes.{Appends-trans, AppendsPrefix-after, AppendsPrefix-all}
-use Rattle.std.proofs.lemmas.Grind.{flat_map-append}
-use Rattle.krb_wire.specs.declared.format.Order.{Order}
-use Rattle.krb_files.specs.declared.files.LoadFault.{LoadFault}
+use Rattle.krb_ktutil.proofs.Cited.{◌≡◌, ℕ, Bool, true, false, List, [], ◌++◌, refl, sym, ◌∙◌, Result, Ok, Err, false≢true, Watch, ErrorWatch, Prompts, OnOk, OnErr, is_err, IsFalse, Appends, AppendsPrefix, WritesOn, Writes-nothing, PromptsOn, inl, inr, ◌⊎◌, ◌+◌, ◌-◌, ◌<◌, ◌≤◌, ◌∷◌, length, length-append, take, take-add, drop, ap, subst, append_assoc, append-nil, arith, max, not, slice_range, ◌&&◌, Option, None, Some, IfSome, Ghosts, input_error, error_status, lines_of, HasNone, Grows, Talk, first_talk, goes_on, HandlesLine, ◌≢◌, ◌||◌, drop_all, take-append-le, Consumes, InputParts, with_newlines, HasLines, KeepsLines, TakesLine, EndsInNewline, IsSpent, HasNoMore, CutsOff, IsWithin, most_bytes, AreFirst, Continues, EndsTalk, Stops, TalksOver, prompt_of, last_prompt, Reports, Source, is_failed, Appends-trans, AppendsPrefix-after, AppendsPrefix-all, flat_map-append, Order, LoadFault, HandlesNext, RunsKtutil, TalksHonestly, Details, Consumes-trans}
 use Rattle.krb_files.specs.declared.files.LoadFault.TheVariants.{Missing, TooLarge}
 use Rattle.krb_driver.specs.declared.command.World.{World}
-use Rattle.krb_ktutil.specs.KtutilTalk.{HandlesNext, RunsKtutil, TalksHonestly}
 use Rattle.krb_ktutil.proofs.InputLemmas.{AreLines, are_first}
 use Rattle.krb_ktutil.proofs.KtutilHonestly.{honest_after, honest_in_line, honest_unread}
-use Rattle.krb_driver.specs.declared.reporting.details.Details.{Details}
-use Rattle.krb_files.proofs.Reading.{Consumes-trans}
 
 -- a text was put after what was written
 pub WritesOn-put : {T E : Type 0} (old new : Watch) (text : List ℕ) (put : Result T E) → IsFalse old.failed → OnOk put (Appends old.contents new.contents text) → OnErr put (AppendsPrefix old.contents new.contents text)

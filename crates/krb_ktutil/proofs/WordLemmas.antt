@@ -1,7 +1,5 @@
 -- The first word of a line, the words after it, and the options among them.
-use Rattle.krb_ktutil.proofs.Cited.{◌≡◌, ℕ, ◌<◌, ◌≤◌, Bool, true, false, not, List, [], ◌∷◌, ◌++◌, length, take, drop, refl, sym, ap, subst, ◌∙◌, arith, ◌&&◌, words, unindented, zero, suc, get_or, map, cond, filter, ◌==◌, concat, slice_split, onto_first, eqb-true, is_blank, pieces, is_gap, parts, is_word, size_from, word_size, Some, options_in, AddOptions, is_new_key, with_option}
-use Rattle.std.proofs.lemmas.List.{nil_from_length}
-use Rattle.std.proofs.lemmas.List.Splits.{length-slice_split}
+use Rattle.krb_ktutil.proofs.Cited.{◌≡◌, ℕ, ◌<◌, ◌≤◌, Bool, true, false, not, List, [], ◌∷◌, ◌++◌, length, take, drop, refl, sym, ap, subst, ◌∙◌, arith, ◌&&◌, words, unindented, zero, suc, get_or, map, cond, filter, ◌==◌, concat, slice_split, onto_first, eqb-true, is_blank, pieces, is_gap, parts, is_word, size_from, word_size, Some, options_in, AddOptions, is_new_key, with_option, nil_from_length, length-slice_split}
 
 -- a backslash is not a blank
 backslash_is_no_blank : (b : ℕ) → (b == 92) ≡ true → is_blank b ≡ true → false ≡ true

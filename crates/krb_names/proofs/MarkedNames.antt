@@ -1,15 +1,7 @@
 -- Marks of the names of a set.
-use Rattle.krb_names.proofs.Cited.{◌≡◌, ◌∙◌, sym, ap, subst, refl, arith, ℕ, ◌<◌, inl, inr, Bool, true, false, List, [], ◌∷◌, ◌++◌, length, take, map, get_or, list_any, ◌||◌, ◌&&◌, ◌==◌, bytes_eq, is_among, is_place}
-use Rattle.std.proofs.Common.{Option, Some, None, set, replicate, ◌-◌}
+use Rattle.krb_names.proofs.Cited.{◌≡◌, ◌∙◌, sym, ap, subst, refl, arith, ℕ, ◌<◌, inl, inr, Bool, true, false, List, [], ◌∷◌, ◌++◌, length, take, map, get_or, list_any, ◌||◌, ◌&&◌, ◌==◌, bytes_eq, is_among, is_place, Option, Some, None, set, replicate, ◌-◌, cases_eq, eq-eqb, eqb-true, ne_eqb, ext_get_or, get_or-map, get_or-set_other, get_or-set_same, get_or_default, length-map, length-set, Any-from_list_any, bytes_eq-Decides, is_some, has_mark, with_mark, HaveSameNames, IsAlone}
 use Rattle.std.proofs.Math.Bool.{or-false}
 use Rattle.std.proofs.Math.Seq.{take-nil}
-use Rattle.std.proofs.lemmas.Bool.{cases_eq, eq-eqb, eqb-true, ne_eqb}
-use Rattle.std.proofs.lemmas.List.{ext_get_or, get_or-map, get_or-set_other, get_or-set_same, get_or_default, length-map, length-set}
-use Rattle.std.proofs.lemmas.List.Folds.{Any-from_list_any}
-use Rattle.std.proofs.lemmas.Slice.Eq.{bytes_eq-Decides}
-use Rattle.std.specs.Option.{is_some}
-use Rattle.krb_names.specs.Marks.{has_mark, with_mark}
-use Rattle.krb_names.specs.Set.{HaveSameNames, IsAlone}
 
 module _ (marked : List ℕ → Bool) (names : List (List ℕ)) (name : List ℕ) where
   abbrev then : List ℕ → Bool

@@ -1,12 +1,9 @@
 -- The order of names by a number and their bytes.
-use Rattle.krb_names.proofs.Cited.{◌≡◌, arith, Bool, ◌&&◌, ◌==◌, bytes_eq, HashedName, hash_of, name_cmp}
+use Rattle.krb_names.proofs.Cited.{◌≡◌, arith, Bool, ◌&&◌, ◌==◌, bytes_eq, HashedName, hash_of, name_cmp, nat_cmp_total, on_total, then_total, bytes_eq-Decides, eq_by_cmp, is_eq}
 use Rattle.std.proofs.lemmas.Bool.Decides.{nat_tests}
-use Rattle.std.proofs.lemmas.Cmp.{nat_cmp_total, on_total, then_total}
 use Rattle.std.proofs.lemmas.Map.Text.{is_eq-slice_cmp}
-use Rattle.std.proofs.lemmas.Slice.Eq.{bytes_eq-Decides}
 use Rattle.std.specs.Cmp.{IsTotalOrder}
 use Rattle.std.specs.Cmp.Lexicographic.{on_texts}
-use Rattle.std.specs.Ordering.{eq_by_cmp, is_eq}
 
 pub names_total : IsTotalOrder name_cmp
 names_total = then_total (on_total (λ x. x.0) nat_cmp_total) (on_texts (λ x. x.1.now))

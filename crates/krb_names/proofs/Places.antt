@@ -1,17 +1,7 @@
 -- Where a name is in a list of names that is in order.
-use Rattle.krb_names.proofs.Cited.{◌≡◌, ◌∙◌, sym, ap, subst, refl, arith, ℕ, ◌+◌, ◌<◌, ◌⊎◌, inl, inr, Bool, true, false, cond, List, [], ◌∷◌, length, map, get_or, Result, Ok, Err, All, list_any, ◌||◌, ◌&&◌, ◌==◌, bytes_eq, HashedName, hash_of, name_cmp, AreHashed, is_among, is_place}
-use Rattle.std.proofs.lemmas.Bool.{and_parts, cases_lt, cases_order, eq-eqb, ne_eqb}
-use Rattle.std.proofs.lemmas.Cmp.{alike_right, nat_list_eq_equiv}
-use Rattle.std.proofs.lemmas.List.{get_or-map, get_or_default, length-map}
-use Rattle.std.proofs.lemmas.List.Folds.{list_any_at, list_any_none}
-use Rattle.std.proofs.lemmas.List.Kept.{Contains-from_dedup}
-use Rattle.std.proofs.lemmas.List.Sorted.{list_any-IsPermutation, searchable_from_sorted}
+use Rattle.krb_names.proofs.Cited.{◌≡◌, ◌∙◌, sym, ap, subst, refl, arith, ℕ, ◌+◌, ◌<◌, ◌⊎◌, inl, inr, Bool, true, false, cond, List, [], ◌∷◌, length, map, get_or, Result, Ok, Err, All, list_any, ◌||◌, ◌&&◌, ◌==◌, bytes_eq, HashedName, hash_of, name_cmp, AreHashed, is_among, is_place, and_parts, cases_lt, cases_order, eq-eqb, ne_eqb, alike_right, nat_list_eq_equiv, get_or-map, get_or_default, length-map, list_any_at, list_any_none, Contains-from_dedup, list_any-IsPermutation, searchable_from_sorted, bytes_eq-Decides, dedup, dedup_from, is_some, is_eq, is_lt, ordering_reverse}
 use Rattle.std.proofs.lemmas.Map.Keys.{Less-from_sorted}
-use Rattle.std.proofs.lemmas.Slice.Eq.{bytes_eq-Decides}
-use Rattle.std.specs.List.{dedup, dedup_from}
 use Rattle.std.specs.List.Sorted.{IsBinarySearchResult, IsPermutation, IsSearchInRange, IsSortedBy, IsStrictlySortedBy}
-use Rattle.std.specs.Option.{is_some}
-use Rattle.std.specs.Ordering.{is_eq, is_lt, ordering_reverse}
 use Rattle.std.specs.Result.{result_ok}
 use Rattle.std.specs.declared.cmp.Ordering.TheVariants.{Equal}
 use Rattle.krb_names.proofs.NameOrder.{hashes_tie, names_total}

@@ -1,22 +1,10 @@
 -- What ktcheck shows of a file, as JSON, and of one that gave no keytab.
-use Rattle.std.proofs.Common.{◌≡◌, ℕ, List, [], cond, inr, refl, sym, ap, subst}
-use Rattle.std.specs.Prelude.{Bool, true, false, IsFalse, Ok, Err}
-use Rattle.std.specs.Io.KnownBytes.{Appends}
+use Rattle.krb_readers.proofs.Cited.{◌≡◌, ℕ, List, [], cond, inr, refl, sym, ap, subst, Bool, true, false, IsFalse, Ok, Err, Appends, CheckParts, EndsAfter, ShowsPage, output_error, verdict_status, Appends-nil, AppendsPrefix-none, Watch, OutFault, Ends, check_json_text, Prints, found_verdict, is_silent, object_page, refused_effect}
 use Rattle.krb_audit.specs.declared.finding_set.FindingSet.{FindingSet}
-use Rattle.krb_audit.specs.CheckUp.{CheckParts}
 use Rattle.krb_driver.specs.declared.error.RunError.TheVariants.{NoMemory}
 use Rattle.krb_driver.specs.declared.file_name.FileName.{FileName}
 use Rattle.krb_driver.specs.declared.verdict.Verdict.{Verdict}
-use Rattle.krb_driver.specs.Commands.{EndsAfter, ShowsPage}
-use Rattle.krb_driver.specs.RunErrors.{output_error, verdict_status}
-use Rattle.krb_files.proofs.Prefixes.{Appends-nil, AppendsPrefix-none}
-use Rattle.krb_files.specs.Bytes.{Watch}
-use Rattle.krb_files.specs.declared.output.OutFault.{OutFault}
-use Rattle.krb_files.specs.Plan.{Ends}
-use Rattle.krb_json.specs.Check.{check_json_text}
-use Rattle.krb_text.specs.Gathered.{Prints}
 use Rattle.krb_readers.specs.declared.ktcheck.words.CheckOptions.{CheckOptions}
-use Rattle.krb_readers.specs.Ktcheck.{found_verdict, is_silent, object_page, refused_effect}
 use Rattle.krb_readers.proofs.Listed.{ShowsPage-done, ShowsPage-failed, line-some}
 
 -- a file that gave no keytab ends the run

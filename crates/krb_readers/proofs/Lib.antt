@@ -1,2 +1,3 @@
+pub mod Cited
 pub mod Listed
 pub mod Checked

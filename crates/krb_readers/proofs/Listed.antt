@@ -1,18 +1,9 @@
 -- What klist prints of a file if its output fails.
-use Rattle.std.proofs.Common.{◌≡◌, ℕ, List, [], ◌∷◌, ◌++◌, inl, inr, refl, sym, ap, ◌∙◌}
-use Rattle.std.specs.Prelude.{Bool, true, false, IsFalse, Result, Ok, Err, codes}
+use Rattle.krb_readers.proofs.Cited.{◌≡◌, ℕ, List, [], ◌∷◌, ◌++◌, inl, inr, refl, sym, ap, ◌∙◌, Bool, true, false, IsFalse, Result, Ok, Err, codes, Appends, Watch, AppendsPrefix, is_write_fault, Appends-nil, Appends-trans, AppendsPrefix-after, AppendsPrefix-all, AppendsPrefix-longer, OutFault, Prints, gap, listed_text, ShowsPage, Page, Ending, output_error}
 use Rattle.std.proofs.lemmas.Bool.{false≢true, true≢false}
-use Rattle.std.specs.Io.KnownBytes.{Appends}
-use Rattle.krb_files.specs.Bytes.{Watch, AppendsPrefix, is_write_fault}
-use Rattle.krb_files.proofs.Prefixes.{Appends-nil, Appends-trans, AppendsPrefix-after, AppendsPrefix-all, AppendsPrefix-longer}
-use Rattle.krb_files.specs.declared.output.OutFault.{OutFault}
 use Rattle.krb_files.specs.declared.output.OutFault.TheVariants.{Write, NoMemory}
-use Rattle.krb_text.specs.Gathered.{Prints}
 use Rattle.krb_readers.specs.declared.klist.Listed.{Listed}
 use Rattle.krb_readers.specs.declared.klist.Listed.TheVariants as listed
-use Rattle.krb_readers.specs.Klist.{gap, listed_text}
-use Rattle.krb_driver.specs.Commands.{ShowsPage, Page}
-use Rattle.krb_driver.specs.RunErrors.{Ending, output_error}
 
 -- a list is empty
 abbrev is_none : List ℕ → Bool

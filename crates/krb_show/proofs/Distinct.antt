@@ -1,9 +1,6 @@
 -- The numbers that a set has, as a list.
-use Rattle.krb_show.proofs.Cited.{◌≡◌, ◌++◌, ◌∙◌, ap, sym, refl, subst, ℕ, List, [], ◌∷◌, Bool, true, false, cond, not, true≢false, list_any}
-use Rattle.std.specs.BTreeSet.{BTreeSet, contains}
+use Rattle.krb_show.proofs.Cited.{◌≡◌, ◌++◌, ◌∙◌, ap, sym, refl, subst, ℕ, List, [], ◌∷◌, Bool, true, false, cond, not, true≢false, list_any, BTreeSet, contains, is_eq, nat_cmp, ◌==◌, ◌||◌}
 use Rattle.std.specs.Cmp.{unsigned_tied, unsigned_Decides}
-use Rattle.std.specs.Ordering.{is_eq, nat_cmp}
-use Rattle.std.specs.Prelude.{◌==◌, ◌||◌}
 use Rattle.std.proofs.lemmas.List.Folds.{list_any-append}
 
 -- a number is among others

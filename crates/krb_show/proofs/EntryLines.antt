@@ -1,10 +1,6 @@
 -- The line of an entry.
-use Rattle.krb_show.proofs.Cited.{◌≡◌, ◌∙◌, ap, ℕ, List, [], Option, unwrap_or}
-use Rattle.std.specs.Prelude.{Some, option_map}
+use Rattle.krb_show.proofs.Cited.{◌≡◌, ◌∙◌, ap, ℕ, List, [], Option, unwrap_or, Some, option_map, KtFormat, EntryParts, entry_at, LineParts, grown, with_entry}
 use Rattle.krb_wire.specs.Spelling.{Parts}
-use Rattle.krb_wire.specs.declared.format.KtFormat.{KtFormat}
-use Rattle.krb_keytab.specs.Entry.{EntryParts, entry_at}
-use Rattle.krb_show.specs.KeytabView.{LineParts, grown, with_entry}
 use Rattle.krb_show.specs.Named.{principal_in}
 
 -- the name in a record that spells an entry

@@ -1,8 +1,5 @@
 -- The cells of a line of keys.
-use Rattle.krb_show.proofs.Cited.{◌≡◌, ℕ, List, [], ◌∷◌, Bool, true, false, refl, arith}
-use Rattle.std.specs.Prelude.{◌<◌, if◌then◌else◌}
-use Rattle.std.proofs.lemmas.List.{get_or_past}
-use Rattle.krb_show.specs.Columns.{cell_of}
+use Rattle.krb_show.proofs.Cited.{◌≡◌, ℕ, List, [], ◌∷◌, Bool, true, false, refl, arith, ◌<◌, if◌then◌else◌, get_or_past, cell_of}
 
 -- there are four at most
 pub no_fifth : (is_old : Bool) (i : ℕ) (a b c n : List ℕ) → 3 < i → cell_of i (a ∷ b ∷ c ∷ (if is_old then [] else n ∷ [])) ≡ []

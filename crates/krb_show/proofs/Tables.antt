@@ -1,9 +1,6 @@
 -- Widths found column by column, and rows appended cell by cell.
-use Rattle.krb_show.proofs.Cited.{◌≡◌, ◌++◌, ◌∙◌, ◌+◌, ◌-◌, ap, sym, refl, ℕ, List, [], ◌∷◌, length, append_assoc, append-nil, ◌⊎◌, inl, inr}
-use Rattle.std.specs.Prelude.{replicate}
-use Rattle.std.proofs.Common.{arith}
+use Rattle.krb_show.proofs.Cited.{◌≡◌, ◌++◌, ◌∙◌, ◌+◌, ◌-◌, ap, sym, refl, ℕ, List, [], ◌∷◌, length, append_assoc, append-nil, ◌⊎◌, inl, inr, replicate, arith, cells_behind, column_width, widths}
 use Rattle.std.proofs.lemmas.List.FromFn.{map-range_with_len_more}
-use Rattle.krb_show.specs.Columns.{cells_behind, column_width, widths}
 
 -- the width of one more column
 pub more_columns : (n w : ℕ) (rows : List (List (List ℕ))) (new old : List ℕ) → new ≡ old ++ w ∷ [] → w ≡ column_width n rows

@@ -1,11 +1,5 @@
 -- The words of an addition, read from left to right.
-use Rattle.krb_text.proofs.Cited.{◌≡◌, ℕ, List, true, false, Option, Some, None, Result, Ok, Err, refl, ap, subst, is_some, ok_or, EntryParts, LineFault, Reads, ◌>>=◌, Addition, digits_of, entry_of}
-use Rattle.krb_wire.specs.Spelling.{Parts}
-use Rattle.krb_text.specs.declared.line_fault.LineFault.TheVariants.{BadKey}
-use Rattle.krb_text.specs.declared.line_fault.LineRefusal.{LineRefusal}
-use Rattle.krb_text.specs.declared.line_fault.LineRefusal.TheVariants.{Fault, NoMemory}
-use Rattle.krb_text.specs.Etype.{key_in}
-use Rattle.krb_text.specs.Word.{number_word, etype_word, name_word}
+use Rattle.krb_text.proofs.Cited.{◌≡◌, ℕ, List, true, false, Option, Some, None, Result, Ok, Err, refl, ap, subst, is_some, ok_or, EntryParts, LineFault, Reads, ◌>>=◌, Addition, digits_of, entry_of, Parts, BadKey, LineRefusal, Fault, NoMemory, key_in, number_word, etype_word, name_word}
 
 -- the entry made of what the words are read as
 abbrev entry_by : Result ℕ LineFault → Result ℕ LineFault → Result ℕ LineFault → List ℕ → Result Parts LineFault → Result EntryParts LineFault

@@ -1,11 +1,6 @@
 -- Hexadecimal digits, and the keys that they encode.
-use Rattle.krb_text.proofs.Cited.{◌≡◌, ℕ, ◌*◌, ◌/◌, ◌%◌, List, [], ◌∷◌, length, Bool, true, false, ◌&&◌, ◌||◌, cond, Some, None, Result, Ok, Err, refl, sym, ap, ◌∙◌, arith, is_ok, is_some, result_ok, list_all, decode_of, is_hex_digit}
-use Rattle.std.specs.Int.{is_in_range}
-use Rattle.std.specs.Char.{is_ascii_hexdigit}
-use Rattle.std.proofs.lemmas.List.Sums.{AllPass-from_list_all, list_all-from_AllPass}
+use Rattle.krb_text.proofs.Cited.{◌≡◌, ℕ, ◌*◌, ◌/◌, ◌%◌, List, [], ◌∷◌, length, Bool, true, false, ◌&&◌, ◌||◌, cond, Some, None, Result, Ok, Err, refl, sym, ap, ◌∙◌, arith, is_ok, is_some, result_ok, list_all, decode_of, is_hex_digit, is_in_range, is_ascii_hexdigit, AllPass-from_list_all, list_all-from_AllPass, decode_of-ok, decode_of-digits, is_key_size, key_in, sized}
 use Rattle.hex.specs.declared.error.FromHexError.{FromHexError}
-use Rattle.hex.proofs.HexLemmas.{decode_of-ok, decode_of-digits}
-use Rattle.krb_text.specs.Etype.{is_key_size, key_in, sized}
 
 -- two tests of three ranges, in different orders
 three_ranges : (a b c : Bool) (x y z : ℕ) → ((a || b) || c) ≡ is_some (cond b (Some x) (cond c (Some y) (cond a (Some z) None)))

@@ -1,7 +1,5 @@
 -- What is made of a value that is read.
-use Rattle.krb_text.proofs.Cited.{Result, Ok, Err, refl, ap, LineFault, Reads, made}
-use Rattle.krb_text.specs.declared.line_fault.LineRefusal.{LineRefusal}
-use Rattle.krb_text.specs.declared.line_fault.LineRefusal.TheVariants.{Fault, NoMemory}
+use Rattle.krb_text.proofs.Cited.{Result, Ok, Err, refl, ap, LineFault, Reads, made, LineRefusal, Fault, NoMemory}
 
 -- if the value is refused, so is what is made of it
 pub made_refused : {V W : Type 0} (make : V → W) (given : Result V LineFault) (e : LineRefusal) → Reads {T = V} (λ v. v) given (Err e) → Reads {T = W} (λ w. w) (made make given) (Err e)

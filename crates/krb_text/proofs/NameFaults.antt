@@ -1,13 +1,10 @@
 -- `NoMemory` is never the fault of a text.
-use Rattle.krb_text.proofs.Cited.{◌≡◌, ◌⊎◌, inl, inr, List, [], ◌∷◌, ◌++◌, Option, Some, None, Result, Ok, Err, ℕ, refl, IsOk, ok_or, unwrap_or, result_ok, filter_map}
+use Rattle.krb_text.proofs.Cited.{◌≡◌, ◌⊎◌, inl, inr, List, [], ◌∷◌, ◌++◌, Option, Some, None, Result, Ok, Err, ℕ, refl, IsOk, ok_or, unwrap_or, result_ok, filter_map, Parts, BadName, name_word}
 use Rattle.krb_wire.specs.declared.name_fault.NameFault.{NameFault}
 use Rattle.krb_wire.specs.declared.name_fault.NameFault.TheVariants.{NoMemory}
 use Rattle.krb_wire.specs.declared.atom.Atom.{Atom}
 use Rattle.krb_wire.specs.declared.atom.Atom.TheVariants.{Byte, Slash, At, Lone}
-use Rattle.krb_wire.specs.Spelling.{Parts}
 use Rattle.krb_wire.specs.Atoms.{atoms, before_at, after_at}
-use Rattle.krb_text.specs.declared.line_fault.LineFault.TheVariants.{BadName}
-use Rattle.krb_text.specs.Word.{name_word}
 use Rattle.krb_wire.specs.NameOf.{component_fault, realm_fault, faults_of, first_fault, name_or_fault, name_of, realm_of, components_of}
 
 -- it is not the first fault of a realm

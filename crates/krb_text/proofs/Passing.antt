@@ -1,10 +1,9 @@
 -- How a text passes to a writer: what was gathered, what was sent, and what a failure leaves.
-use Rattle.krb_text.proofs.Cited.{◌≡◌, ℕ, true, List, [], ◌++◌, Option, Result, Ok, Err, refl, sym, ap, ◌∙◌, append_assoc, append-nil, IsFalse, on_ok_weaker, on_err_weaker}
+use Rattle.krb_text.proofs.Cited.{◌≡◌, ℕ, true, List, [], ◌++◌, Option, Result, Ok, Err, refl, sym, ap, ◌∙◌, append_assoc, append-nil, IsFalse, on_ok_weaker, on_err_weaker, Sent, Passed, Prints, Gathers}
 use Rattle.std.specs.Io.KnownBytes.{Appends}
 use Rattle.krb_files.specs.declared.output.OutFault.{OutFault}
 use Rattle.krb_files.specs.declared.output.OutFault.TheVariants.{Write, NoMemory}
 use Rattle.krb_files.specs.Bytes.{AppendsPrefix, Watch}
-use Rattle.krb_text.specs.Gathered.{Sent, Passed, Prints, Gathers}
 use Rattle.krb_files.proofs.Prefixes.{Appends-nil, Appends-trans, AppendsPrefix-longer}
 
 -- three pieces are gathered

@@ -1,8 +1,5 @@
 -- What commands find, copy, remove and print. A command's output is a definition over what its files hold.
-use Rattle.samples.proofs.Cited.{◌≡◌, ℕ, List, [], ◌∷◌, ◌++◌, codes, length, drop, replicate, map, filter, Bool, true, false, Option, None, Some, Result, Ok, Err, flat_map, refl, image_of, event_in, script_by, OldFor, result_map, found_line, removed_line, Well, Saves, Displays, cache_after}
-use Rattle.krb_walk.specs.declared.refusal.Code.{Code}
-use Rattle.krb_walk.specs.declared.refusal.Code.TheVariants.{Damaged, NotFound, KvnoNotFound}
-use Rattle.krb_keytab.specs.Find.{placed_entries}
+use Rattle.samples.proofs.Cited.{◌≡◌, ℕ, List, [], ◌∷◌, ◌++◌, codes, length, drop, replicate, map, filter, Bool, true, false, Option, None, Some, Result, Ok, Err, flat_map, refl, image_of, event_in, script_by, OldFor, result_map, found_line, removed_line, Well, Saves, Displays, cache_after, Code, Damaged, NotFound, KvnoNotFound, placed_entries, none, has_selected_kvno, is_young, RunEnd, FileNotWritten, NoSuchFile, Word, Without, Ending, ending_status, has_ticket, overview_text, frame, framed, is_none, seen_after}
 use Rattle.krb_ccache.specs.Store.{image_of as cache_image}
 use Rattle.krb_text.specs.declared.line_fault.LineFault.TheVariants.{BadNumber, BadKey}
 use Rattle.krb_json.specs.Cache.{cache_json_text}
@@ -11,20 +8,9 @@ use Rattle.krb_audit.specs.Findings.{is_out}
 use Rattle.krb_audit.specs.Newest.{has_wrapped}
 use Rattle.krb_audit.specs.CheckUp.{checked}
 use Rattle.krb_audit.specs.Report.{report}
-use Rattle.krb_audit.specs.Table.{none}
 use Rattle.krb_audit.specs.Tickets.{is_selected_server, is_service, removed_ticket_line, selected_tickets}
-use Rattle.krb_audit.specs.Selection.{has_selected_kvno, is_young}
 use Rattle.krb_copy.specs.Copying.{copy_run}
-use Rattle.krb_driver.specs.declared.command.RunEnd.{RunEnd}
-use Rattle.krb_driver.specs.declared.error.RunError.TheVariants.{FileNotWritten, NoSuchFile}
-use Rattle.krb_driver.specs.declared.file_name.NameSource.TheVariants.{Word}
-use Rattle.krb_driver.specs.declared.verdict.Verdict.TheVariants.{Without}
-use Rattle.krb_driver.specs.RunErrors.{Ending, ending_status}
-use Rattle.krb_readers.specs.Klist.{has_ticket}
-use Rattle.krb_readers.specs.Overview.{overview_text}
-use Rattle.krb_editors.specs.Hold.{frame, framed}
 use Rattle.krb_editors.specs.Ktedit as ktedit
-use Rattle.krb_editors.specs.Removing.{is_none, seen_after}
 use Rattle.krb_editors.specs.declared.removing.FilesSeen.TheVariants as seen
 use Rattle.samples.proofs.Given.{hex, keytab, cache, name, found, old, events, printed, host, b, two, front, ticket, pa_type, worked, three}
 use Rattle.samples.proofs.Unfolded.{on_literals}

@@ -1,13 +1,8 @@
 -- Changes of keytabs and caches, and walks over them while they change.
-use Rattle.samples.proofs.Cited.{◌≡◌, [], ◌∷◌, ◌++◌, codes, replicate, map, Some, None, option_map, Ok, true, false, refl, V2, Little, open_result, marked_times, most_bytes}
-use Rattle.std.specs.Result.{result_map_both, result_ok}
+use Rattle.samples.proofs.Cited.{◌≡◌, [], ◌∷◌, ◌++◌, codes, replicate, map, Some, None, option_map, Ok, true, false, refl, V2, Little, open_result, marked_times, most_bytes, result_map_both, result_ok, TooManyWalks, ReadOnly, Marked, start_reply, Started, Placed, Refused, Rewritten, create_result}
 use Rattle.krb_walk.specs.declared.event.Event.TheVariants.{Put, Cut, Rewrite}
-use Rattle.krb_walk.specs.declared.refusal.Code.TheVariants.{TooManyWalks, ReadOnly, Marked}
-use Rattle.krb_walk.specs.Events.{start_reply}
-use Rattle.krb_walk.specs.ReplyContent.{Started, Placed, Refused, Rewritten}
 use Rattle.krb_keytab.specs.Changes.{put_result, is_refused}
 use Rattle.krb_keytab.specs.Form.{fits}
-use Rattle.krb_ccache.specs.Changes.{create_result}
 use Rattle.krb_ccache.specs.SetConfig.{setting_events}
 use Rattle.krb_ccache.specs.Store.{image_of as cache_image}
 use Rattle.samples.proofs.Given.{hex, cache, name, left, printed, cache_left, cache_replies, host, b, two, front, ticket, pa_type, removed, worked}

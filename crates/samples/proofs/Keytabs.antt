@@ -1,7 +1,6 @@
 -- Keytabs: what their bytes hold, and their listings. Hexadecimal digits are as `xxd -p` prints them.
-use Rattle.samples.proofs.Cited.{◌≡◌, ◌++◌, codes, replicate, true, false, Some, option_map, Ok, Err, refl, V2, Big, Little, open_result, most_bytes, result_map, list_text}
+use Rattle.samples.proofs.Cited.{◌≡◌, ◌++◌, codes, replicate, true, false, Some, option_map, Ok, Err, refl, V2, Big, Little, open_result, most_bytes, result_map, list_text, entry_at}
 use Rattle.krb_keytab.specs.declared.open.KtOpenFault.TheVariants.{TooShort, BadVersion, TooLarge}
-use Rattle.krb_keytab.specs.Entry.{entry_at}
 use Rattle.samples.proofs.Given.{hex, host, b, two, listed, plain, all}
 use Rattle.samples.proofs.Times.{time-1700000000}
 use Rattle.samples.proofs.Unfolded.{on_literals}

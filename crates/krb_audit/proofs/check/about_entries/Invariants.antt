@@ -1,5 +1,4 @@
-use Rattle.krb_audit.proofs.Cited.{◌≡◌, take}
-use Rattle.krb_audit.specs.CheckUp.{about_entries}
+use Rattle.krb_audit.proofs.Cited.{◌≡◌, take, about_entries}
 use Rattle.krb_audit.proofs.check.about_entries.Given as goal
 
 -- what is found about the entries so far

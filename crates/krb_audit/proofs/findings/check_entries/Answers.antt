@@ -1,6 +1,4 @@
-use Rattle.krb_audit.proofs.Cited.{List, [], ◌++◌, true, false, refl, ap, sym, subst, arith, ◌∙◌, AreMarks, Old as OldKvno, PlacedEntry, placed_entries, map, vec_items}
-use Rattle.std.proofs.Common.{rules}
-use Rattle.krb_audit.specs.Findings.{Marked, reported}
+use Rattle.krb_audit.proofs.Cited.{List, [], ◌++◌, true, false, refl, ap, sym, subst, arith, ◌∙◌, AreMarks, Old as OldKvno, PlacedEntry, placed_entries, map, vec_items, rules, Marked, reported}
 use Rattle.krb_audit.proofs.FindingsLemmas.{IsCheckedUpTo, all_before, entries_few, one_checked}
 use Rattle.krb_audit.proofs.RowLemmas.{row_count}
 use Rattle.krb_audit.proofs.findings.check_entries.Goals as goal

@@ -1,7 +1,4 @@
-use Rattle.std.proofs.Common.{rules}
-use Rattle.krb_audit.proofs.Cited.{◌≡◌, List, ℕ, ◌||◌, bytes_eq, subst}
-use Rattle.krb_wire.specs.Names.{name_text}
-use Rattle.krb_names.specs.Marks.{AreMarked}
+use Rattle.krb_audit.proofs.Cited.{◌≡◌, List, ℕ, ◌||◌, bytes_eq, subst, rules, name_text, AreMarked}
 use Rattle.krb_audit.proofs.missing.mark.Goals as goal
 
 pub returns : goal.returns

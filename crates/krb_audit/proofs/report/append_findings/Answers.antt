@@ -1,7 +1,4 @@
-use Rattle.krb_audit.proofs.Cited.{◌≡◌, ℕ, ◌+◌, ◌<◌, List, ◌++◌, length, take, get_or, flat_map, sym, ap, ◌∙◌, arith}
-use Rattle.std.proofs.lemmas.List.{flat_map_more, take_more}
-use Rattle.krb_audit.specs.declared.finding.TheConstants.{ABOUT_ENTRIES}
-use Rattle.krb_audit.specs.Report.{finding_line}
+use Rattle.krb_audit.proofs.Cited.{◌≡◌, ℕ, ◌+◌, ◌<◌, List, ◌++◌, length, take, get_or, flat_map, sym, ap, ◌∙◌, arith, flat_map_more, take_more, ABOUT_ENTRIES, finding_line}
 use Rattle.krb_audit.proofs.report.append_findings.Goals as goal
 
 lines_more : {X : Type 0} (f : X → List ℕ) (xs : List X) (i : ℕ) (d : X) (first old new : List ℕ) → i < length xs → old ≡ first ++ flat_map f (take i xs) → new ≡ old ++ f (get_or xs i d) → new ≡ first ++ flat_map f (take (i + 1) xs)

@@ -1,6 +1,4 @@
-use Rattle.krb_audit.proofs.Cited.{◌≡◌, ◌++◌, take, flat_map}
-use Rattle.krb_audit.specs.declared.finding.TheConstants.{ABOUT_ENTRIES}
-use Rattle.krb_audit.specs.Report.{finding_line}
+use Rattle.krb_audit.proofs.Cited.{◌≡◌, ◌++◌, take, flat_map, ABOUT_ENTRIES, finding_line}
 use Rattle.krb_audit.proofs.report.append_findings.Given as goal
 
 -- the lines of the findings so far are appended

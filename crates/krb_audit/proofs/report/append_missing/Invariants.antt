@@ -1,5 +1,4 @@
-use Rattle.krb_audit.proofs.Cited.{◌≡◌, ◌++◌, take, flat_map, map}
-use Rattle.krb_audit.specs.Report.{missing_line}
+use Rattle.krb_audit.proofs.Cited.{◌≡◌, ◌++◌, take, flat_map, map, missing_line}
 use Rattle.krb_audit.proofs.report.append_missing.Given as goal
 
 -- the lines of the names so far are appended

@@ -1,6 +1,4 @@
-use Rattle.krb_audit.proofs.Cited.{List, map, subst, vec_items}
-use Rattle.krb_ccache.specs.Store.{PlacedCredential, placed_credentials}
-use Rattle.krb_audit.specs.Tickets.{SelectsSoFar}
+use Rattle.krb_audit.proofs.Cited.{List, map, subst, vec_items, PlacedCredential, placed_credentials, SelectsSoFar}
 use Rattle.krb_audit.proofs.tickets.select_tickets.Goals as goal
 
 -- the next credential was added if it is selected

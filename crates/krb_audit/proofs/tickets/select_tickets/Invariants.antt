@@ -1,7 +1,4 @@
-use Rattle.krb_audit.proofs.Cited.{map, vec_items}
-use Rattle.krb_ccache.specs.Store.{placed_credentials}
-use Rattle.krb_audit.specs.Selection.{AsksFor}
-use Rattle.krb_audit.specs.Tickets.{SelectsSoFar}
+use Rattle.krb_audit.proofs.Cited.{map, vec_items, placed_credentials, AsksFor, SelectsSoFar}
 use Rattle.krb_audit.proofs.tickets.select_tickets.Given as goal
 
 -- the selected ones of the credentials so far were added

@@ -1,6 +1,4 @@
-use Rattle.krb_copy.proofs.Cited.{◌≡◌, ◌++◌, [], cond, take, flat_map}
-use Rattle.std.specs.Prelude.{codes}
-use Rattle.krb_text.specs.Listing.{placed_line}
+use Rattle.krb_copy.proofs.Cited.{◌≡◌, ◌++◌, [], cond, take, flat_map, codes, placed_line}
 use Rattle.krb_copy.proofs.diff.append_others.Given as goal
 
 -- the lines of the rows so far were appended

@@ -1,5 +1,4 @@
-use Rattle.krb_copy.proofs.Cited.{◌≡◌, ◌++◌, [], cond, take, flat_map, false, get_or}
-use Rattle.krb_copy.specs.DiffRows.{first_place, row_line}
+use Rattle.krb_copy.proofs.Cited.{◌≡◌, ◌++◌, [], cond, take, flat_map, false, get_or, first_place, row_line}
 use Rattle.krb_copy.proofs.diff.append_ours.Given as goal
 
 -- the lines of the rows so far were appended

@@ -1,5 +1,4 @@
-use Rattle.krb_copy.proofs.Cited.{◌∙◌, [], ap, sym, subst, ◌++◌, map, append-nil, List, PlacedEntry, name_texts}
-use Rattle.krb_copy.specs.DiffRows.{IsNumbering, shown}
+use Rattle.krb_copy.proofs.Cited.{◌∙◌, [], ap, sym, subst, ◌++◌, map, append-nil, List, PlacedEntry, name_texts, IsNumbering, shown}
 use Rattle.krb_copy.proofs.diff.diff_by.Goals as goal
 
 pub returns : goal.returns

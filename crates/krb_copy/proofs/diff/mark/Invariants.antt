@@ -1,6 +1,4 @@
-use Rattle.krb_copy.proofs.Cited.{◌≡◌, take}
-use Rattle.std.specs.Prelude.{fold}
-use Rattle.krb_copy.specs.DiffRows.{marked}
+use Rattle.krb_copy.proofs.Cited.{◌≡◌, take, fold, marked}
 use Rattle.krb_copy.proofs.diff.mark.Given as goal
 
 -- the rows so far have marked

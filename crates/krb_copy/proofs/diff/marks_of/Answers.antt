@@ -1,9 +1,5 @@
-use Rattle.krb_copy.proofs.Cited.{◌≡◌, ◌∙◌, ap, sym, subst, false, length, get_or, ◌||◌, Bool, List, ℕ, ◌<◌}
+use Rattle.krb_copy.proofs.Cited.{◌≡◌, ◌∙◌, ap, sym, subst, false, length, get_or, ◌||◌, Bool, List, ℕ, ◌<◌, length-replicate, All, lacks, Row}
 use Rattle.std.proofs.Common.{replicate, rules}
-use Rattle.std.proofs.lemmas.List.{length-replicate}
-use Rattle.std.specs.List.{All}
-use Rattle.krb_copy.specs.DiffRows.{lacks}
-use Rattle.krb_copy.specs.declared.numbering.Row.{Row}
 use Rattle.krb_copy.proofs.DiffKeys.{all_marked, as_long, get_or_none}
 use Rattle.krb_copy.proofs.diff.marks_of.Goals as goal
 

@@ -1,7 +1,4 @@
-use Rattle.krb_copy.proofs.Cited.{◌∙◌, [], ap, ◌++◌, cond, false, get_or, flat_map, List, ℕ, Bool}
-use Rattle.std.specs.Prelude.{codes}
-use Rattle.krb_text.specs.Listing.{placed_line}
-use Rattle.krb_copy.specs.DiffRows.{first_place, row_line}
+use Rattle.krb_copy.proofs.Cited.{◌∙◌, [], ap, ◌++◌, cond, false, get_or, flat_map, List, ℕ, Bool, codes, placed_line, first_place, row_line}
 use Rattle.krb_copy.proofs.DiffLines.{all_lines, numbers_below}
 use Rattle.krb_copy.proofs.diff.text_of.Goals as goal
 

@@ -1,5 +1,4 @@
-use Rattle.krb_driver.proofs.Cited.{◌≡◌, ◌++◌, take, flat_map}
-use Rattle.krb_driver.specs.FileNames.{name_byte}
+use Rattle.krb_driver.proofs.Cited.{◌≡◌, ◌++◌, take, flat_map, name_byte}
 use Rattle.krb_driver.proofs.file_name.append_name.Given as goal
 
 -- the bytes so far are appended

@@ -1,5 +1,4 @@
-use Rattle.krb_driver.specs.Loading.{cache_of}
-use Rattle.krb_driver.proofs.Cited.{cache_refusal, writable_in, Cache}
+use Rattle.krb_driver.proofs.Cited.{cache_refusal, writable_in, Cache, cache_of}
 use Rattle.krb_driver.proofs.Making.{gives-unless, opens_by}
 use Rattle.krb_driver.proofs.opening.open_writable.Goals as goal
 

@@ -1,7 +1,5 @@
-use Rattle.krb_driver.proofs.Cited.{Adds}
+use Rattle.krb_driver.proofs.Cited.{Adds, ending_words, words_if}
 use Rattle.krb_driver.proofs.Shown.{Adds-none, Adds-then, Writes-two}
-use Rattle.krb_driver.specs.EndingWords.{ending_words}
-use Rattle.krb_driver.specs.Runs.{words_if}
 use Rattle.krb_driver.proofs.reporting.write_ending.Goals as goal
 use Rattle.krb_driver.proofs.reporting.write_ending.Goals.{then-explains, else-explains}
 

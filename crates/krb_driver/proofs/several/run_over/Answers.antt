@@ -1,5 +1,4 @@
-use Rattle.krb_driver.proofs.Cited.{refl, sym, ◌∙◌, arith, [], false, drop_all, Keytab}
-use Rattle.krb_driver.specs.declared.file_name.FileName.{FileName}
+use Rattle.krb_driver.proofs.Cited.{refl, sym, ◌∙◌, arith, [], false, drop_all, Keytab, FileName}
 use Rattle.krb_driver.specs.declared.file_name.NameSource.TheVariants.{Word}
 use Rattle.krb_driver.proofs.Rounds.{last_one, one_more}
 use Rattle.krb_driver.proofs.several.run_over.Goals as goal

@@ -1,5 +1,4 @@
-use Rattle.krb_driver.proofs.Cited.{drop}
-use Rattle.krb_driver.specs.Several.{first_round}
+use Rattle.krb_driver.proofs.Cited.{drop, first_round}
 use Rattle.krb_driver.proofs.Rounds.{Leads}
 use Rattle.krb_driver.proofs.several.run_over.Given as goal
 

@@ -1,7 +1,4 @@
-use Rattle.krb_editors.proofs.Cited.{map, subst, ap, sym, ◌∙◌, ◌≡◌, ◌++◌, ◌∷◌, [], ℕ, List, arith, append_assoc, append-nil, live_places, end_of}
-use Rattle.std.specs.List.Sorted.{IsNonDecreasing}
-use Rattle.krb_walk.proofs.Carries.{places_rise}
-use Rattle.krb_walk.proofs.Stops.{walks_begin_with_all}
+use Rattle.krb_editors.proofs.Cited.{map, subst, ap, sym, ◌∙◌, ◌≡◌, ◌++◌, ◌∷◌, [], ℕ, List, arith, append_assoc, append-nil, live_places, end_of, IsNonDecreasing, places_rise, walks_begin_with_all}
 use Rattle.krb_editors.proofs.AddedPlaces.{rises-non_decreasing, passes, passes_none, places_from}
 use Rattle.krb_editors.proofs.added.live_places.Goals as goal
 

@@ -1,5 +1,4 @@
-use Rattle.krb_editors.proofs.Cited.{◌≡◌, ◌++◌, ◌-◌, true, map, live_places, end_of, is_place}
-use Rattle.krb_walk.specs.Stops.{records_from}
+use Rattle.krb_editors.proofs.Cited.{◌≡◌, ◌++◌, ◌-◌, true, map, live_places, end_of, is_place, records_from}
 use Rattle.krb_editors.proofs.added.live_places.Given as goal
 
 -- the places so far, and those that are left

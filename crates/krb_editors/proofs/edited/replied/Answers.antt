@@ -1,6 +1,4 @@
-use Rattle.krb_editors.proofs.Cited.{map, ap, sym, ◌∙◌, content_of, reply_texts_by, is_change}
-use Rattle.krb_text.proofs.Found.{any_of_map}
-use Rattle.krb_driver.specs.RunErrors.{hiding}
+use Rattle.krb_editors.proofs.Cited.{map, ap, sym, ◌∙◌, content_of, reply_texts_by, is_change, any_of_map, hiding}
 use Rattle.krb_editors.proofs.SessionReplies.{replied_shows, replied_saves}
 use Rattle.krb_editors.proofs.edited.replied.Goals as goal
 

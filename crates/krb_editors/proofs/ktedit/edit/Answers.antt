@@ -1,9 +1,5 @@
-use Rattle.krb_editors.proofs.Cited.{◌≡◌, ℕ, List, [], map, ap, subst, ◌∙◌, content_of, SessionState, session_of, history, record_tail, reply_texts_by, HaveSame, followed_over, added, left, new_session, replied}
-use Rattle.krb_wire.specs.declared.format.KtFormat.TheVariants.{V2}
-use Rattle.krb_keytab.specs.Rewrite.{keytab_rules}
+use Rattle.krb_editors.proofs.Cited.{◌≡◌, ℕ, List, [], map, ap, subst, ◌∙◌, content_of, SessionState, session_of, history, record_tail, reply_texts_by, HaveSame, followed_over, added, left, new_session, replied, V2, keytab_rules, hides_added, Keytab}
 use Rattle.krb_keytab.specs.Store.{InMemory, KeytabState, image_of}
-use Rattle.krb_audit.specs.Findings.{hides_added}
-use Rattle.krb_driver.specs.declared.verdict.FileKind.TheVariants.{Keytab}
 use Rattle.krb_editors.specs.Ktedit.{RunsFairly, edits, hidden}
 use Rattle.krb_editors.proofs.AddedPlaces.{hides_same}
 use Rattle.krb_editors.proofs.SessionReplies.{begun_fair, keytab_keeps, left_begun, made_as, made_so, ran_begun, session_made}

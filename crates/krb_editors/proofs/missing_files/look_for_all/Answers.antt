@@ -1,10 +1,6 @@
-use Rattle.krb_editors.proofs.Cited.{refl, sym, arith, [], false, subst, Bool}
-use Rattle.std.proofs.lemmas.List.{drop_all}
-use Rattle.krb_driver.specs.declared.file_name.FileName.{FileName}
+use Rattle.krb_editors.proofs.Cited.{refl, sym, arith, [], false, subst, Bool, drop_all, FileName, Keytab, LooksFor}
 use Rattle.krb_driver.specs.declared.file_name.NameSource.TheVariants.{Word}
-use Rattle.krb_driver.specs.declared.verdict.FileKind.TheVariants.{Keytab}
 use Rattle.krb_editors.proofs.Looking.{one_more, or_false}
-use Rattle.krb_editors.specs.MissingFiles.{LooksFor}
 use Rattle.krb_editors.proofs.missing_files.look_for_all.Goals as goal
 
 -- no file

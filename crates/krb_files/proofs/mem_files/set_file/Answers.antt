@@ -1,6 +1,4 @@
-use Rattle.krb_files.proofs.Cited.{ap, sym, subst, ◌∙◌, string_bytes, SetsFile}
-use Rattle.std.proofs.lemmas.List.{map-append}
-use Rattle.krb_files.specs.MemFiles.{pairs_of, file_in, with_file}
+use Rattle.krb_files.proofs.Cited.{ap, sym, subst, ◌∙◌, string_bytes, SetsFile, map-append, pairs_of, file_in, with_file}
 use Rattle.krb_files.proofs.FileLists.{with_file-at, with_file-none, sets_file}
 use Rattle.krb_files.proofs.mem_files.set_file.Goals as goal
 

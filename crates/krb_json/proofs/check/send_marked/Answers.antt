@@ -1,6 +1,4 @@
-use Rattle.krb_json.proofs.Cited.{◌<◌, ◌≤◌, arith, length, err_from_is_err_and, entry_finding}
-use Rattle.std.proofs.lemmas.List.{take_all}
-use Rattle.krb_audit.specs.declared.finding.TheConstants.{ABOUT_ENTRIES}
+use Rattle.krb_json.proofs.Cited.{◌<◌, ◌≤◌, arith, length, err_from_is_err_and, entry_finding, take_all, ABOUT_ENTRIES}
 use Rattle.krb_json.proofs.Adding.{adds_next, adds_stop}
 use Rattle.krb_json.proofs.check.send_marked.Goals as goal
 

@@ -1,5 +1,4 @@
-use Rattle.krb_json.proofs.Cited.{take, Ok, flat_map, entry_finding, Adds}
-use Rattle.krb_audit.specs.declared.finding.TheConstants.{ABOUT_ENTRIES}
+use Rattle.krb_json.proofs.Cited.{take, Ok, flat_map, entry_finding, Adds, ABOUT_ENTRIES}
 use Rattle.krb_json.proofs.check.send_marked.Given as goal
 
 abbrev pub invariant-findings : goal.invariant-findings

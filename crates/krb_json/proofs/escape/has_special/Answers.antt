@@ -1,11 +1,6 @@
-use Rattle.std.proofs.Common.{◌≡◌, ℕ, List, ap, sym, ◌∙◌, arith, Option, None, Some, is_some}
-use Rattle.std.proofs.lemmas.Bool.{false_from_ne_true}
-use Rattle.std.proofs.lemmas.Grind.{common_steps}
+use Rattle.krb_json.proofs.Cited.{◌≡◌, ℕ, List, ap, sym, ◌∙◌, arith, Option, None, Some, is_some, false_from_ne_true, common_steps, list_any, slice_index_or, is_special}
 use Rattle.std.proofs.lemmas.List.Folds.{list_any_at, list_any_none}
-use Rattle.std.specs.List.{list_any}
-use Rattle.std.specs.Prelude.{slice_index_or}
 use Rattle.memchr.specs.Find.{IsFirstByte, is_byte2}
-use Rattle.krb_json.specs.Escaped.{is_special}
 use Rattle.krb_json.proofs.escape.has_special.Goals as goal
 
 special_found : (text : List ℕ) (first : Option ℕ) → IsFirstByte (is_byte2 127 194) text first → is_some first ≡ list_any is_special text

@@ -1,5 +1,4 @@
-use Rattle.krb_names.proofs.Cited.{◌≡◌, take}
-use Rattle.krb_names.specs.Hash.{hash_of_words}
+use Rattle.krb_names.proofs.Cited.{◌≡◌, take, hash_of_words}
 use Rattle.krb_names.proofs.hash.hash_of_words.Given as goal
 
 abbrev pub invariant-loop-word : goal.invariant-loop-word

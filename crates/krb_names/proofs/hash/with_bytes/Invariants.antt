@@ -1,5 +1,4 @@
-use Rattle.krb_names.proofs.Cited.{◌≡◌, take, fold}
-use Rattle.krb_names.specs.Hash.{with_number}
+use Rattle.krb_names.proofs.Cited.{◌≡◌, take, fold, with_number}
 use Rattle.krb_names.proofs.hash.with_bytes.Given as goal
 
 abbrev pub invariant-loop-byte : goal.invariant-loop-byte

@@ -1,6 +1,4 @@
-use Rattle.krb_show.proofs.Cited.{codes, gathered_then, on_ok_weaker}
-use Rattle.krb_wire.specs.Names.{name_text}
-use Rattle.krb_show.specs.Columns.{counted}
+use Rattle.krb_show.proofs.Cited.{codes, gathered_then, on_ok_weaker, name_text, counted}
 use Rattle.krb_show.proofs.cache.append_heading.Goals as goal
 
 pub returns : goal.returns

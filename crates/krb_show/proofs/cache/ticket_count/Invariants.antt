@@ -1,5 +1,4 @@
-use Rattle.krb_show.proofs.Cited.{◌≡◌, ◌+◌, length, placed_credentials}
-use Rattle.krb_show.specs.CacheView.{tickets}
+use Rattle.krb_show.proofs.Cited.{◌≡◌, ◌+◌, length, placed_credentials, tickets}
 use Rattle.krb_show.proofs.cache.ticket_count.Given as goal
 
 -- the tickets so far, and those to come, are all

@@ -1,5 +1,4 @@
-use Rattle.krb_show.proofs.Cited.{◌≡◌, ◌++◌, drop}
-use Rattle.krb_show.specs.Columns.{cells_behind}
+use Rattle.krb_show.proofs.Cited.{◌≡◌, ◌++◌, drop, cells_behind}
 use Rattle.krb_show.proofs.columns.append_cells.Given as goal
 
 -- the cells so far, and those to come, are all

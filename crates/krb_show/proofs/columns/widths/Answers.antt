@@ -1,6 +1,4 @@
-use Rattle.krb_show.proofs.Cited.{◌∷◌, ◌∙◌, ℕ, ap, fold, map}
-use Rattle.std.specs.Prelude.{max}
-use Rattle.krb_show.specs.Columns.{asked_width, cell_of}
+use Rattle.krb_show.proofs.Cited.{◌∷◌, ◌∙◌, ℕ, ap, fold, map, max, asked_width, cell_of}
 use Rattle.krb_show.proofs.Tables.{more_columns}
 use Rattle.krb_show.proofs.columns.widths.Goals as goal
 

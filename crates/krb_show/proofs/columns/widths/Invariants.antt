@@ -1,5 +1,4 @@
-use Rattle.krb_show.proofs.Cited.{◌≡◌, ◌∷◌, map}
-use Rattle.krb_show.specs.Columns.{widths}
+use Rattle.krb_show.proofs.Cited.{◌≡◌, ◌∷◌, map, widths}
 use Rattle.krb_show.proofs.columns.widths.Given as goal
 
 -- the widths so far are those of the columns before this one

@@ -1,5 +1,4 @@
-use Rattle.krb_show.proofs.Cited.{◌≡◌, ◌++◌, drop, true}
-use Rattle.krb_show.specs.KeytabView.{spaced}
+use Rattle.krb_show.proofs.Cited.{◌≡◌, ◌++◌, drop, true, spaced}
 use Rattle.krb_show.proofs.keys.append_etypes.Given as goal
 
 -- the enctypes so far, and those to come, are all

@@ -1,5 +1,4 @@
-use Rattle.krb_show.proofs.Cited.{◌≡◌, ◌++◌, ◌∙◌, ap, sym, ℕ, [], ◌∷◌, Bool, true, false, cond, not, ◌+◌, drop, get_or, drop-cons, add-one, fold}
-use Rattle.krb_show.specs.KeytabView.{with_number}
+use Rattle.krb_show.proofs.Cited.{◌≡◌, ◌++◌, ◌∙◌, ap, sym, ℕ, [], ◌∷◌, Bool, true, false, cond, not, ◌+◌, drop, get_or, drop-cons, add-one, fold, with_number}
 use Rattle.krb_show.proofs.Distinct.{fresh, has_again, has_push, is_among, stale}
 use Rattle.krb_show.proofs.keys.distinct.Goals.{then-branch+in_ok-push, else-branch}
 use Rattle.krb_show.proofs.keys.distinct.Goals as goal

@@ -1,8 +1,4 @@
-use Rattle.krb_show.proofs.Cited.{◌≡◌, ℕ, [], drop, fold, list_any}
-use Rattle.std.specs.BTreeSet.{contains}
-use Rattle.std.specs.Ordering.{nat_cmp}
-use Rattle.std.specs.Prelude.{◌==◌}
-use Rattle.krb_show.specs.KeytabView.{with_number}
+use Rattle.krb_show.proofs.Cited.{◌≡◌, ℕ, [], drop, fold, list_any, contains, nat_cmp, ◌==◌, with_number}
 use Rattle.krb_show.proofs.keys.distinct.Given as goal
 
 -- each number so far, with those to come, makes each of all; and the set has those so far

@@ -1,5 +1,4 @@
-use Rattle.krb_show.proofs.Cited.{◌≡◌, ◌+◌}
-use Rattle.krb_show.specs.KeytabView.{name_count}
+use Rattle.krb_show.proofs.Cited.{◌≡◌, ◌+◌, name_count}
 use Rattle.krb_show.proofs.keytab.name_count.Given as goal
 
 -- the names so far, and those to come, are all

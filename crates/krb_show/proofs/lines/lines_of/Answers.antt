@@ -1,12 +1,7 @@
-use Rattle.krb_show.proofs.Cited.{List, ap, sym, subst, ◌∙◌, PlacedEntry, placed_entries}
-use Rattle.krb_wire.proofs.Fields.{is_some_has}
-use Rattle.krb_wire.specs.declared.format.KtFormat.{KtFormat}
+use Rattle.krb_show.proofs.Cited.{List, ap, sym, subst, ◌∙◌, PlacedEntry, placed_entries, is_some_has, KtFormat, entries_in, entry_at, AreSoFar}
 use Rattle.krb_keytab.specs.CellViews.{CellsFrom, BeginsWith, cell_of}
-use Rattle.krb_keytab.specs.Entries.{entries_in}
-use Rattle.krb_keytab.specs.Entry.{entry_at}
 use Rattle.krb_keytab.specs.declared.cells.KtCell.{KtCell}
 use Rattle.krb_keytab.proofs.EntryLists.{entries_of_cells, listed_live}
-use Rattle.krb_show.specs.Lines.{AreSoFar}
 use Rattle.krb_show.proofs.lines.lines_of.Goals as goal
 
 pub loop-place-init : goal.loop-place-init

@@ -1,6 +1,4 @@
-use Rattle.krb_show.proofs.Cited.{◌≡◌, placed_entries}
-use Rattle.krb_keytab.specs.Entries.{entries_in}
-use Rattle.krb_show.specs.Lines.{AreSoFar}
+use Rattle.krb_show.proofs.Cited.{◌≡◌, placed_entries, entries_in, AreSoFar}
 use Rattle.krb_show.proofs.lines.lines_of.Given as goal
 
 -- the entries so far are in their lines

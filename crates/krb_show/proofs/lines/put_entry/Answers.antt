@@ -1,6 +1,5 @@
-use Rattle.krb_show.proofs.Cited.{◌∙◌, ap, sym}
+use Rattle.krb_show.proofs.Cited.{◌∙◌, ap, sym, LineParts, line_cmp}
 use Rattle.std.specs.BTreeMap.{insert_entry}
-use Rattle.krb_show.specs.KeytabView.{LineParts, line_cmp}
 use Rattle.krb_show.proofs.EntryLines.{line_is, named}
 use Rattle.krb_show.proofs.lines.put_entry.Goals as goal
 

@@ -1,6 +1,5 @@
-use Rattle.krb_text.proofs.Cited.{List, ℕ, subst, arith, Appended}
+use Rattle.krb_text.proofs.Cited.{List, ℕ, subst, arith, Appended, length-decimal-le}
 use Rattle.std.specs.Prelude.{decimal}
-use Rattle.std.proofs.lemmas.Fmt.{length-decimal-le}
 use Rattle.krb_text.proofs.Aligned.{right_aligned}
 use Rattle.krb_text.proofs.bytes.append_right_in_4.Goals as goal
 

@@ -1,5 +1,4 @@
-use Rattle.krb_text.proofs.Cited.{refl, arith, rules, err_from_is_err_and, lower_digits}
-use Rattle.hex.proofs.HexLemmas.{length-encode_with}
+use Rattle.krb_text.proofs.Cited.{refl, arith, rules, err_from_is_err_and, lower_digits, length-encode_with}
 use Rattle.krb_text.proofs.key.key_text.Goals as goal
 
 pub returns-in_default : goal.returns-in_default

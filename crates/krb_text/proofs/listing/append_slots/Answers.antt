@@ -1,5 +1,4 @@
-use Rattle.krb_text.proofs.Cited.{◌≡◌, ◌+◌, ap, arith, err_from_is_err_and, left_next, left_fails}
-use Rattle.krb_text.specs.Listing.{slot_lines}
+use Rattle.krb_text.proofs.Cited.{◌≡◌, ◌+◌, ap, arith, err_from_is_err_and, left_next, left_fails, slot_lines}
 use Rattle.krb_text.proofs.Items.{drop_item}
 use Rattle.krb_text.proofs.listing.append_slots.Goals as goal
 

@@ -1,5 +1,4 @@
-use Rattle.krb_text.proofs.Cited.{◌≡◌, ◌+◌, drop, Left}
-use Rattle.krb_text.specs.Listing.{slot_lines}
+use Rattle.krb_text.proofs.Cited.{◌≡◌, ◌+◌, drop, Left, slot_lines}
 use Rattle.krb_text.proofs.listing.append_slots.Given as goal
 
 abbrev pub invariant-slots : goal.invariant-slots

@@ -1,5 +1,4 @@
-use Rattle.krb_text.proofs.Cited.{◌++◌, IsFalse, entry_lines}
-use Rattle.krb_text.specs.Gathered.{Passed}
+use Rattle.krb_text.proofs.Cited.{◌++◌, IsFalse, entry_lines, Passed}
 use Rattle.krb_text.proofs.Lines.{lines_of}
 use Rattle.krb_text.proofs.listing.list_entries.Given as goal
 

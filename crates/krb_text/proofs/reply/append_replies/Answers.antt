@@ -1,6 +1,4 @@
-use Rattle.krb_text.proofs.Cited.{map, ap, err_from_is_err_and, left_next, left_fails}
-use Rattle.krb_walk.specs.ReplyContent.{content_of}
-use Rattle.krb_text.specs.Reply.{reply_texts_by}
+use Rattle.krb_text.proofs.Cited.{map, ap, err_from_is_err_and, left_next, left_fails, content_of, reply_texts_by}
 use Rattle.krb_text.proofs.Items.{drop_item}
 use Rattle.krb_text.proofs.reply.append_replies.Goals as goal
 

@@ -1,6 +1,4 @@
-use Rattle.krb_text.proofs.Cited.{drop, map, Left}
-use Rattle.krb_walk.specs.ReplyContent.{content_of}
-use Rattle.krb_text.specs.Reply.{reply_texts_by}
+use Rattle.krb_text.proofs.Cited.{drop, map, Left, content_of, reply_texts_by}
 use Rattle.krb_text.proofs.reply.append_replies.Given as goal
 
 abbrev pub invariant-replies : goal.invariant-replies

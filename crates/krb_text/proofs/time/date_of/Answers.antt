@@ -1,5 +1,4 @@
-use Rattle.std.proofs.Common.{arith, w64}
-use Rattle.std.proofs.lemmas.Int.{to_z_pos}
+use Rattle.krb_text.proofs.Cited.{arith, w64, to_z_pos}
 use Rattle.krb_text.proofs.Numbering.{same_day}
 use Rattle.krb_text.proofs.time.date_of.Goals as goal
 

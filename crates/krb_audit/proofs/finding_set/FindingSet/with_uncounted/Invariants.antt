@@ -1,7 +1,4 @@
-use Rattle.krb_audit.proofs.Cited.{◌≡◌, take, fold, not}
-use Rattle.krb_audit.specs.CheckUp.{counts_at, uncounted}
-use Rattle.krb_audit.specs.Table.{with_if}
-use Rattle.krb_audit.specs.declared.finding.TheConstants.{FINDINGS}
+use Rattle.krb_audit.proofs.Cited.{◌≡◌, take, fold, not, counts_at, uncounted, with_if, FINDINGS}
 use Rattle.krb_audit.proofs.finding_set.FindingSet.with_uncounted.Given as goal
 
 -- the findings so far are counted, or not

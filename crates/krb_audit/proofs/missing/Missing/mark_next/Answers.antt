@@ -1,6 +1,4 @@
-use Rattle.std.proofs.Common.{rules}
-use Rattle.krb_audit.proofs.Cited.{◌≡◌, ◌+◌, ◌∙◌, Bool, List, ℕ, [], ◌∷◌, ◌++◌, PlacedEntry, arith, sym, ap, subst, length_push}
-use Rattle.krb_names.specs.Marks.{AreMarked}
+use Rattle.krb_audit.proofs.Cited.{◌≡◌, ◌+◌, ◌∙◌, Bool, List, ℕ, [], ◌∷◌, ◌++◌, PlacedEntry, arith, sym, ap, subst, length_push, rules, AreMarked}
 use Rattle.krb_audit.specs.declared.missing.Missing.{Missing}
 use Rattle.krb_audit.proofs.MissingLemmas.{seen_again, seen_in, seen_next}
 use Rattle.krb_audit.proofs.missing.Missing.mark_next.Goals as goal

@@ -1,7 +1,4 @@
-use Rattle.std.proofs.Common.{rules}
-use Rattle.krb_audit.proofs.Cited.{◌≡◌, ◌∙◌, refl, ap}
-use Rattle.krb_wire.specs.Names.{name_text}
-use Rattle.krb_names.specs.Set.{is_among}
+use Rattle.krb_audit.proofs.Cited.{◌≡◌, ◌∙◌, refl, ap, rules, name_text, is_among}
 use Rattle.krb_audit.proofs.AskedNames.{some_asked}
 use Rattle.krb_audit.proofs.name_filter.NameFilter.passes.Goals as goal
 

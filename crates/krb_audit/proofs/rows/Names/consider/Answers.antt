@@ -1,5 +1,4 @@
-use Rattle.krb_audit.proofs.Cited.{◌≡◌, ◌∷◌, sym, subst, ◌∙◌, arith, some_is, EntryParts, PlacedEntry, AreNumbered}
-use Rattle.krb_audit.specs.declared.rows.Names.{Names}
+use Rattle.krb_audit.proofs.Cited.{◌≡◌, ◌∷◌, sym, subst, ◌∙◌, arith, some_is, EntryParts, PlacedEntry, AreNumbered, Names}
 use Rattle.krb_audit.proofs.Numbering.{first_here, numbered_next}
 use Rattle.krb_audit.proofs.rows.Names.consider.Goals as goal
 

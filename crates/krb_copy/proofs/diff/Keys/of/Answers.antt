@@ -1,7 +1,4 @@
-use Rattle.krb_copy.proofs.Cited.{◌∙◌, ◌∷◌, [], None, ap, sym, subst, ◌++◌, ◌<◌, length, take, arith, take_all, take_more, List, ℕ}
-use Rattle.std.proofs.lemmas.List.{length-replicate}
-use Rattle.krb_copy.specs.DiffRows.{AreKeys}
-use Rattle.krb_copy.specs.declared.numbering.Row.{Row}
+use Rattle.krb_copy.proofs.Cited.{◌∙◌, ◌∷◌, [], None, ap, sym, subst, ◌++◌, ◌<◌, length, take, arith, take_all, take_more, List, ℕ, length-replicate, AreKeys, Row}
 use Rattle.krb_copy.proofs.DiffKeys.{none_added, resized, row_below}
 use Rattle.krb_copy.proofs.diff.Keys.of.Goals as goal
 

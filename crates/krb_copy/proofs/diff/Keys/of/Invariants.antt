@@ -1,6 +1,4 @@
-use Rattle.krb_copy.proofs.Cited.{◌≡◌, ◌<◌, length, take}
-use Rattle.std.specs.List.{All}
-use Rattle.krb_copy.specs.DiffRows.{AreKeys}
+use Rattle.krb_copy.proofs.Cited.{◌≡◌, ◌<◌, length, take, All, AreKeys}
 use Rattle.krb_copy.proofs.diff.Keys.of.Given as goal
 
 -- the keys are those of the rows so far

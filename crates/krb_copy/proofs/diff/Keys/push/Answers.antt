@@ -1,10 +1,4 @@
-use Rattle.krb_copy.proofs.Cited.{◌∙◌, sym, ap, refl, cond, true, false, Bool, ◌&&◌, ◌==◌, bytes_eq}
-use Rattle.std.specs.BTreeSet.{contains_by}
-use Rattle.std.proofs.lemmas.Bool.{not-false}
-use Rattle.std.proofs.lemmas.Cmp.{nat_list_eq_equiv}
-use Rattle.std.proofs.lemmas.Slice.Eq.{bytes_eq-Decides}
-use Rattle.krb_copy.specs.DiffRows.{to_key}
-use Rattle.krb_names.proofs.NameOrder.{names_tie}
+use Rattle.krb_copy.proofs.Cited.{◌∙◌, sym, ap, refl, cond, true, false, Bool, ◌&&◌, ◌==◌, bytes_eq, contains_by, not-false, nat_list_eq_equiv, bytes_eq-Decides, to_key, names_tie}
 use Rattle.krb_copy.proofs.DiffKeys.{first_added, key_added, key_known}
 use Rattle.krb_copy.proofs.diff.Keys.push.Goals as goal
 

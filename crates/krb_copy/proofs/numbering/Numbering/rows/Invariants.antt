@@ -1,5 +1,4 @@
-use Rattle.krb_copy.proofs.Cited.{◌≡◌, ◌++◌, List, drop, map, take, PlacedEntry}
-use Rattle.krb_copy.specs.DiffRows.{IsNumbering, rows_due, shown}
+use Rattle.krb_copy.proofs.Cited.{◌≡◌, ◌++◌, List, drop, map, take, PlacedEntry, IsNumbering, rows_due, shown}
 use Rattle.krb_copy.proofs.numbering.Numbering.rows.Given as goal
 
 -- the entries so far have their rows, and the others are still to come

@@ -1,6 +1,4 @@
-use Rattle.krb_copy.proofs.Cited.{[], List, Option, None, Some, ◌≡◌, ap, sym, subst, name_text, PlacedEntry, AllByRecursion, AreTexts, asked_as, asked_texts, name_in, name_texts}
-use Rattle.krb_wire.specs.Reading.{principal_parts}
-use Rattle.krb_wire.specs.Spelling.{Parts}
+use Rattle.krb_copy.proofs.Cited.{[], List, Option, None, Some, ◌≡◌, ap, sym, subst, name_text, PlacedEntry, AllByRecursion, AreTexts, asked_as, asked_texts, name_in, name_texts, principal_parts, Parts}
 use Rattle.krb_copy.proofs.FoundTexts.{new_names, own_names}
 use Rattle.krb_copy.proofs.texts.TextsLeft.names.Goals as goal
 

@@ -1,6 +1,5 @@
-use Rattle.krb_driver.proofs.Cited.{◌≡◌, drop, map, take, IfOk}
+use Rattle.krb_driver.proofs.Cited.{◌≡◌, drop, map, take, IfOk, AreSpelled, bad_etype, first_mistake}
 use Rattle.krb_text.specs.Etype.{etype_in}
-use Rattle.krb_driver.specs.Mistakes.{AreSpelled, bad_etype, first_mistake}
 use Rattle.krb_driver.proofs.command_line.spelled.spelled_etypes.Given as goal
 
 -- no word so far has a mistake, and the types so far are those that these words spell

@@ -1,6 +1,5 @@
-use Rattle.krb_driver.proofs.Cited.{◌≡◌, Result, Ok, Err, None, refl, IsOk}
+use Rattle.krb_driver.proofs.Cited.{◌≡◌, Result, Ok, Err, None, refl, IsOk, name_of}
 use Rattle.std.specs.Result.{result_err}
-use Rattle.krb_wire.specs.NameOf.{name_of}
 use Rattle.krb_driver.proofs.Faults.{ran_out_at_a_name}
 use Rattle.krb_driver.proofs.command_line.spelled.spelled_name.Goals as goal
 

@@ -1,5 +1,4 @@
-use Rattle.krb_driver.proofs.Cited.{◌≡◌, drop, map, take, IfOk}
-use Rattle.krb_driver.specs.Mistakes.{ArePrintedNames, bad_name, first_mistake}
+use Rattle.krb_driver.proofs.Cited.{◌≡◌, drop, map, take, IfOk, ArePrintedNames, bad_name, first_mistake}
 use Rattle.krb_driver.proofs.command_line.spelled.spelled_names.Given as goal
 
 -- no word so far has a mistake, and the names so far are those that these words spell

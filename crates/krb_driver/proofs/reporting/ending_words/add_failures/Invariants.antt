@@ -1,5 +1,4 @@
-use Rattle.krb_driver.proofs.Cited.{take, flat_map, Adds}
-use Rattle.krb_driver.specs.EndingWords.{failure_words}
+use Rattle.krb_driver.proofs.Cited.{take, flat_map, Adds, failure_words}
 use Rattle.krb_driver.proofs.reporting.ending_words.add_failures.Given as goal
 
 abbrev pub invariant-failures : goal.invariant-failures

@@ -1,6 +1,4 @@
-use Rattle.krb_driver.proofs.Cited.{arith, ◌<◌, ◌≤◌, length, take_all}
-use Rattle.krb_audit.specs.declared.finding.TheConstants.{FINDINGS}
-use Rattle.krb_driver.specs.EndingWords.{word_line}
+use Rattle.krb_driver.proofs.Cited.{arith, ◌<◌, ◌≤◌, length, take_all, FINDINGS, word_line}
 use Rattle.krb_driver.proofs.Shown.{Adds-none, Adds-piece}
 use Rattle.krb_driver.proofs.reporting.ending_words.add_word_lines.Goals as goal
 

@@ -1,6 +1,4 @@
-use Rattle.krb_driver.proofs.Cited.{take, flat_map, Adds}
-use Rattle.krb_audit.specs.declared.finding.TheConstants.{FINDINGS}
-use Rattle.krb_driver.specs.EndingWords.{word_line}
+use Rattle.krb_driver.proofs.Cited.{take, flat_map, Adds, FINDINGS, word_line}
 use Rattle.krb_driver.proofs.reporting.ending_words.add_word_lines.Given as goal
 
 abbrev pub invariant-findings : goal.invariant-findings

@@ -1,7 +1,6 @@
 use Rattle.std.proofs.Common.{[], ap, arith, ◌∙◌, fold, replicate, take_all}
 use Rattle.std.specs.Prelude.{None}
-use Rattle.krb_walk.specs.ReplyContent.{content_of}
-use Rattle.krb_driver.specs.Reported.{with_reply}
+use Rattle.krb_driver.proofs.Cited.{content_of, with_reply}
 use Rattle.krb_driver.proofs.Failures.{all_added}
 use Rattle.krb_driver.proofs.reporting.reported.failures.Goals as goal
 

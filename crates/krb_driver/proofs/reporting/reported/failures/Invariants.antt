@@ -1,6 +1,5 @@
 use Rattle.std.specs.Prelude.{◌≡◌, None, fold, replicate, take}
-use Rattle.krb_walk.specs.ReplyContent.{content_of}
-use Rattle.krb_driver.specs.Reported.{with_reply}
+use Rattle.krb_driver.proofs.Cited.{content_of, with_reply}
 use Rattle.krb_driver.proofs.reporting.reported.failures.Given as goal
 
 abbrev pub invariant-replies : goal.invariant-replies

@@ -1,9 +1,5 @@
-use Rattle.krb_driver.proofs.Cited.{Bool, List, ap, ◌∙◌, list_any}
+use Rattle.krb_driver.proofs.Cited.{Bool, List, ap, ◌∙◌, list_any, Failure, FileKind, Verdict, Well, Replied}
 use Rattle.std.specs.Prelude.{if◌then◌else◌, Option, None, is_some}
-use Rattle.krb_driver.specs.declared.reporting.reported.Failure.{Failure}
-use Rattle.krb_driver.specs.declared.verdict.FileKind.{FileKind}
-use Rattle.krb_driver.specs.declared.verdict.Verdict.{Verdict}
-use Rattle.krb_driver.specs.declared.verdict.Verdict.TheVariants.{Well, Replied}
 use Rattle.krb_driver.proofs.reporting.reported.replied_verdict.Goals as goal
 
 abbrev ends : FileKind → Bool → List (Option Failure) → Verdict

@@ -1,6 +1,5 @@
-use Rattle.krb_editors.proofs.Cited.{ap, inl, inr, ◌∙◌, Err, list_any, err_from_is_err_and, CacheState, RunError, fair_first, Fails, IsSpent, can_hold, opens, Ends, fairly-failed, fairly-holds, makes-fairly}
+use Rattle.krb_editors.proofs.Cited.{ap, inl, inr, ◌∙◌, Err, list_any, err_from_is_err_and, CacheState, RunError, fair_first, Fails, IsSpent, can_hold, opens, Ends, fairly-failed, fairly-holds, makes-fairly, cache_of}
 use Rattle.krb_editors.specs.Ccedit.{RunsFairly, edits, line_may_change}
-use Rattle.krb_driver.specs.Loading.{cache_of}
 use Rattle.krb_editors.proofs.ccedit.EditCacheCommand.make.Goals as goal
 
 -- nothing was opened

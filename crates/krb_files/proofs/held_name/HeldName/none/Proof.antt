@@ -11,17 +11,11 @@ use prog.Wp.{Calls, Loops, WpFn, Tables}
 use types.Logic.{Logic}
 use contract.Monad.{Fun}
 use contract.Running.{tables, tables_of}
-use sound.WpLaws.{WpFn-mono}
+use Rattle.krb_files.proofs.Cited.{WpFn-mono, owns, pure_i, on_entry, alive, Meets, triple_of, entered, says, Stays, walk_of, Walks, ends_at, walked, walk_Meets}
 use types.Kit.{‵, raw, ◌$◌, ◌∵◌, !, qed, move, suffices, done}
 use types.Run.{no_more, returns, enter}
 use types.Part.{agg}
 use types.ByLocal.{alloc_all, pass_all, free_all, look_at, sets}
-use denote.RattleType.{owns}
-use denote.Shadow.{pure_i}
-use denote.Triple.Entry.{on_entry, alive}
-use denote.Triple.Spec.{Meets, triple_of}
-use denote.Triple.Table.{entered}
-use denote.Triple.Walked.{says, Stays, walk_of, Walks, ends_at, walked, walk_Meets}
 use Rattle.krb_files.specs.contracts.held_name.HeldName.none.Key.{name as key}
 use Rattle.krb_files.specs.contracts.held_name.HeldName.none as f
 use Rattle.krb_files.proofs.held_name.HeldName.none.Statement as stated

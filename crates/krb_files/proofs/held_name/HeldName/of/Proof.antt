@@ -13,22 +13,15 @@ use types.Logic.{Logic}
 use contract.Lifetimes.{Lfts, Shares}
 use contract.Monad.{Fun}
 use contract.Running.{tables, tables_of}
-use sound.WpLaws.{WpFn-mono}
+use Rattle.krb_files.proofs.Cited.{WpFn-mono, owns, pure_i, on_entry, alive, Args, Meets, triple_of, entered, says, stay_none_slice, Stays, walk_of, Walks, ends_at, walked, Goes-none_slice, walk_Meets, ◌<◌, ◌^◌, length, Some}
 use types.Kit.{‵, raw, ◌$◌, ◌∵◌, !, qed, move, suffices, done}
 use types.Run.{no_more, returns, enter}
 use types.Part.{agg}
 use types.ByLocal.{alloc_all, pass_all, free_all, look_at, sets}
 use denote.Builtin.{u8}
 use denote.Exit.{yes}
-use denote.RattleType.{owns}
-use denote.Shadow.{pure_i}
 use denote.Signature.{plain, types_at}
 use denote.Slice.{slice_val, shr_slice_vals, shr_slice_Tells}
-use denote.Triple.Entry.{on_entry, alive, Args}
-use denote.Triple.Spec.{Meets, triple_of}
-use denote.Triple.Table.{entered}
-use denote.Triple.Walked.{says, stay_none_slice, Stays, walk_of, Walks, ends_at, walked, Goes-none_slice, walk_Meets}
-use Rattle.std.proofs.Common.{◌<◌, ◌^◌, length, Some}
 use Rattle.krb_files.specs.contracts.held_name.HeldName.of.Key.{name as key}
 use Rattle.krb_files.specs.contracts.held_name.HeldName.of as f
 use Rattle.krb_files.proofs.held_name.HeldName.of.Statement as stated

@@ -1,5 +1,4 @@
-use Rattle.krb_files.proofs.Cited.{◌≡◌, ◌<◌, ◌∙◌, ℕ, Bool, not, List, length, get_or, Some, None, refl, ap, arith, find, position, nat_lt, slice_get, string_bytes, bytes_eq}
-use Rattle.std.specs.List.{prefix_len}
+use Rattle.krb_files.proofs.Cited.{◌≡◌, ◌<◌, ◌∙◌, ℕ, Bool, not, List, length, get_or, Some, None, refl, ap, arith, find, position, nat_lt, slice_get, string_bytes, bytes_eq, prefix_len}
 use Rattle.std.proofs.lemmas.List.Folds.{find_at}
 use Rattle.std.proofs.lemmas.Option.{slice_get_read, slice_get_past}
 use Rattle.krb_files.proofs.FileLists.{find-map, position-some, position-none}

@@ -1,5 +1,4 @@
-use Rattle.krb_json.proofs.Cited.{codes, on_ok_weaker, number_of, text_or_null, etype_members}
-use Rattle.krb_text.specs.Etype.{etype_name_of}
+use Rattle.krb_json.proofs.Cited.{codes, on_ok_weaker, number_of, text_or_null, etype_members, etype_name_of}
 use Rattle.krb_json.proofs.Chains.{two_members}
 use Rattle.krb_json.proofs.piece.Piece.etype.Goals as goal
 

@@ -1,5 +1,4 @@
-use Rattle.krb_json.proofs.Cited.{codes, ◌∷◌, [], on_ok_weaker, key, string, number_of, flag_members, member_tokens}
-use Rattle.krb_text.specs.Flags.{flag_letters_of}
+use Rattle.krb_json.proofs.Cited.{codes, ◌∷◌, [], on_ok_weaker, key, string, number_of, flag_members, member_tokens, flag_letters_of}
 use Rattle.krb_json.proofs.Chains.{chain}
 use Rattle.krb_json.proofs.piece.Piece.flags.Goals as goal
 

@@ -1,5 +1,4 @@
-use Rattle.krb_json.proofs.Cited.{codes, ◌∷◌, [], ◌==◌, not, length, on_ok_weaker, key, boolean, number_of, encryption_members, size_members, member_tokens, tokens_of}
-use Rattle.krb_ccache.specs.Ticket.{ticket_encryption}
+use Rattle.krb_json.proofs.Cited.{codes, ◌∷◌, [], ◌==◌, not, length, on_ok_weaker, key, boolean, number_of, encryption_members, size_members, member_tokens, tokens_of, ticket_encryption}
 use Rattle.krb_json.proofs.Chains.{chain}
 use Rattle.krb_json.proofs.piece.Piece.sizes.Goals as goal
 

@@ -1,8 +1,6 @@
-use Rattle.krb_ktutil.proofs.Cited.{◌≡◌, ℕ, Result, Ok, Err, refl, ap, subst, err_from_is_err_and, LineFault, Awaited, AddWords, after, awaited_of}
+use Rattle.krb_ktutil.proofs.Cited.{◌≡◌, ℕ, Result, Ok, Err, refl, ap, subst, err_from_is_err_and, LineFault, Awaited, AddWords, after, awaited_of, LineRefusal, Reads}
 use Rattle.krb_wire.specs.Spelling.{Parts}
-use Rattle.krb_text.specs.declared.line_fault.LineRefusal.{LineRefusal}
 use Rattle.krb_text.specs.declared.line_fault.LineRefusal.TheVariants.{Fault, NoMemory}
-use Rattle.krb_text.specs.LineFault.{Reads}
 use Rattle.krb_text.specs.Word.{number_word, etype_word, name_word}
 use Rattle.krb_ktutil.proofs.ktutil.options.addition_of.Goals as goal
 

@@ -1,5 +1,4 @@
-use Rattle.krb_ktutil.proofs.Cited.{arith}
-use Rattle.std.proofs.lemmas.Bool.Decides.{nat_tests}
+use Rattle.krb_ktutil.proofs.Cited.{arith, nat_tests}
 use Rattle.krb_ktutil.proofs.WordLemmas.{first_word, no_words}
 use Rattle.krb_ktutil.proofs.ktutil.words.next_word.Goals as goal
 

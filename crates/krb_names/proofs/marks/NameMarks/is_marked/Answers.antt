@@ -1,5 +1,4 @@
-use Rattle.krb_names.proofs.Cited.{◌∙◌, List, Bool, ap}
-use Rattle.krb_names.specs.Marks.{has_mark}
+use Rattle.krb_names.proofs.Cited.{◌∙◌, List, Bool, ap, has_mark}
 use Rattle.krb_names.proofs.MarkedNames.{has_at}
 use Rattle.krb_names.proofs.marks.NameMarks.is_marked.Goals as goal
 

@@ -1,5 +1,4 @@
-use Rattle.krb_names.proofs.Cited.{◌∙◌, List, Bool, ap}
-use Rattle.krb_names.specs.Marks.{with_mark}
+use Rattle.krb_names.proofs.Cited.{◌∙◌, List, Bool, ap, with_mark}
 use Rattle.krb_names.proofs.MarkedNames.{marked_at}
 use Rattle.krb_names.proofs.marks.NameMarks.mark.Goals as goal
 

@@ -1,8 +1,5 @@
-use Rattle.krb_names.proofs.Cited.{◌≡◌, ◌∙◌, sym, ap, List, ℕ, map, is_among, vec_items, HashedName, hash_of}
-use Rattle.std.proofs.lemmas.List.{take_all}
+use Rattle.krb_names.proofs.Cited.{◌≡◌, ◌∙◌, sym, ap, List, ℕ, map, is_among, vec_items, HashedName, hash_of, take_all, IsStrictlySortedBy-dedup, All-permutation}
 use Rattle.std.proofs.lemmas.List.Filters.{dedup_is}
-use Rattle.std.proofs.lemmas.List.Kept.{IsStrictlySortedBy-dedup}
-use Rattle.std.proofs.lemmas.List.Sorted.{All-permutation}
 use Rattle.krb_names.proofs.NameOrder.{names_tie, names_total}
 use Rattle.krb_names.proofs.Places.{all_dedup, same_names}
 use Rattle.krb_names.proofs.set.NameSet.of.Goals as goal

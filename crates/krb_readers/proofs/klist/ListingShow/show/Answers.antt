@@ -1,7 +1,4 @@
-use Rattle.std.proofs.Common.{refl, ap, ◌∙◌}
-use Rattle.std.specs.Prelude.{Ok, Err}
-use Rattle.std.proofs.lemmas.Result.{err_from_is_err_and}
-use Rattle.krb_readers.specs.Klist.{listed_text, listing_page}
+use Rattle.krb_readers.proofs.Cited.{refl, ap, ◌∙◌, Ok, Err, err_from_is_err_and, listed_text, listing_page}
 use Rattle.krb_readers.proofs.Listed.{Prints-longer, Prints-then, ShowsPage-done, ShowsPage-failed, gap-some, listed_text-some}
 use Rattle.krb_readers.proofs.klist.ListingShow.show.Goals as goal
 

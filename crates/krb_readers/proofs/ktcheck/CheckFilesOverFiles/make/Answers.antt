@@ -1,10 +1,6 @@
-use Rattle.std.proofs.Common.{inr}
+use Rattle.krb_readers.proofs.Cited.{inr, Displays, makes-end, Ends, found, page_of, refused_effect}
 use Rattle.krb_driver.specs.declared.error.RunError.{RunError}
-use Rattle.krb_driver.specs.Commands.{Displays}
-use Rattle.krb_driver.proofs.Making.{makes-end}
-use Rattle.krb_files.specs.Plan.{Ends}
 use Rattle.krb_keytab.specs.Store.{KeytabState}
-use Rattle.krb_readers.specs.Ktcheck.{found, page_of, refused_effect}
 use Rattle.krb_readers.proofs.Checked.{refused_ends}
 use Rattle.krb_readers.proofs.ktcheck.CheckFilesOverFiles.make.Goals as goal
 

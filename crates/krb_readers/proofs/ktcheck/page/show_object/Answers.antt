@@ -1,11 +1,4 @@
-use Rattle.std.proofs.Common.{ℕ, List, ap, sym, subst, ◌∙◌}
-use Rattle.std.specs.Prelude.{Ok, Err}
-use Rattle.std.proofs.lemmas.Result.{err_from_is_err_and}
-use Rattle.krb_audit.specs.CheckUp.{CheckParts}
-use Rattle.krb_json.specs.Check.{check_json_text}
-use Rattle.krb_driver.specs.RunErrors.{verdict_status}
-use Rattle.krb_text.specs.Gathered.{Prints}
-use Rattle.krb_readers.specs.Ktcheck.{found, found_verdict, is_silent}
+use Rattle.krb_readers.proofs.Cited.{ℕ, List, ap, sym, subst, ◌∙◌, Ok, Err, err_from_is_err_and, CheckParts, check_json_text, verdict_status, Prints, found, found_verdict, is_silent}
 use Rattle.krb_readers.proofs.Checked.{object-failed, object-shown, object-silent, object-unshown}
 use Rattle.krb_readers.proofs.ktcheck.page.show_object.Goals as goal
 

@@ -1,8 +1,6 @@
-use Rattle.std.proofs.Common.{◌≡◌, drop, map}
-use Rattle.std.specs.Prelude.{fold}
+use Rattle.krb_readers.proofs.Cited.{◌≡◌, drop, map, fold, bad_finding, finding_set, findings}
 use Rattle.krb_audit.specs.Table.{joined}
 use Rattle.krb_driver.specs.Mistakes.{first_mistake}
-use Rattle.krb_readers.specs.Ktcheck.{bad_finding, finding_set, findings}
 use Rattle.krb_readers.proofs.ktcheck.words.findings.Given as goal
 
 -- no word so far has a mistake, and the findings so far with those of the other words are those of all

@@ -1,9 +1,5 @@
-use Rattle.std.proofs.Common.{◌∙◌, ap, inl, inr}
-use Rattle.std.specs.Prelude.{Err}
-use Rattle.std.proofs.lemmas.Result.{err_from_is_err_and}
+use Rattle.krb_readers.proofs.Cited.{◌∙◌, ap, inl, inr, Err, err_from_is_err_and, makes-end, Ends}
 unfoldable use Rattle.krb_driver.specs.Commands.{always}
-use Rattle.krb_driver.proofs.Making.{makes-end}
-use Rattle.krb_files.specs.Plan.{Ends}
 use Rattle.krb_readers.specs.Show.{shows}
 use Rattle.krb_readers.proofs.show.ShowFilesOverFiles.make.Goals as goal
 

@@ -1,6 +1,4 @@
-use Rattle.krb_show.proofs.Cited.{◌≡◌, ◌++◌, flat_map, map, placed_credentials}
-use Rattle.krb_show.specs.Columns.{row_text}
-use Rattle.krb_show.specs.CacheView.{ticket_row, tickets}
+use Rattle.krb_show.proofs.Cited.{◌≡◌, ◌++◌, flat_map, map, placed_credentials, row_text, ticket_row, tickets}
 use Rattle.krb_show.proofs.cache.TicketRowsRows.append_lines.Given as goal
 
 -- the lines so far, and those of the tickets to come, are all

@@ -1,7 +1,4 @@
-use Rattle.krb_show.proofs.Cited.{◌≡◌, fold, map, placed_credentials}
-use Rattle.std.specs.Prelude.{max}
-use Rattle.krb_show.specs.Columns.{asked_width, cell_of}
-use Rattle.krb_show.specs.CacheView.{ticket_row, tickets}
+use Rattle.krb_show.proofs.Cited.{◌≡◌, fold, map, placed_credentials, max, asked_width, cell_of, ticket_row, tickets}
 use Rattle.krb_show.proofs.cache.TicketRowsRows.widened.Given as goal
 
 -- the width so far, and the tickets to come, make that of all

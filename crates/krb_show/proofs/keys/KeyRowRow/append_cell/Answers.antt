@@ -1,8 +1,5 @@
-use Rattle.krb_wire.specs.Names.{name_text}
-use Rattle.krb_show.proofs.Cited.{[], ◌++◌, ◌∙◌, ap, sym, List, ℕ, append-nil, arith, on_ok_weaker}
+use Rattle.krb_show.proofs.Cited.{[], ◌++◌, ◌∙◌, ap, sym, List, ℕ, append-nil, arith, on_ok_weaker, name_text, cell_of, key_row}
 use Rattle.krb_show.proofs.KeyCells.{fourth, no_fifth}
-use Rattle.krb_show.specs.Columns.{cell_of}
-use Rattle.krb_show.specs.KeytabView.{key_row}
 use Rattle.krb_show.proofs.keys.KeyRowRow.append_cell.Goals as goal
 
 -- there is no fifth cell

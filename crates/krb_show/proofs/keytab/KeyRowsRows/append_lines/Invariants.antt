@@ -1,6 +1,4 @@
-use Rattle.krb_show.proofs.Cited.{◌≡◌, ◌++◌, flat_map, map}
-use Rattle.krb_show.specs.Columns.{row_text}
-use Rattle.krb_show.specs.KeytabView.{key_row}
+use Rattle.krb_show.proofs.Cited.{◌≡◌, ◌++◌, flat_map, map, row_text, key_row}
 use Rattle.krb_show.proofs.keytab.KeyRowsRows.append_lines.Given as goal
 
 -- the lines so far, and those to come, are all

@@ -1,7 +1,4 @@
-use Rattle.krb_show.proofs.Cited.{◌≡◌, fold, map}
-use Rattle.std.specs.Prelude.{max}
-use Rattle.krb_show.specs.Columns.{asked_width, cell_of}
-use Rattle.krb_show.specs.KeytabView.{key_row}
+use Rattle.krb_show.proofs.Cited.{◌≡◌, fold, map, max, asked_width, cell_of, key_row}
 use Rattle.krb_show.proofs.keytab.KeyRowsRows.widened.Given as goal
 
 -- the width so far, and the lines to come, make that of all

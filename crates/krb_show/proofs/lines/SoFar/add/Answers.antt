@@ -1,8 +1,4 @@
-use Rattle.krb_show.proofs.Cited.{◌≡◌, ◌∷◌, ◌∙◌, ap, subst, sym, ℕ, List, Option, Old, PlacedEntry, unwrap_or, on_ok_weaker}
-use Rattle.krb_wire.proofs.Fields.{some_is}
-use Rattle.krb_keytab.specs.Entry.{EntryParts}
-use Rattle.krb_show.specs.KeytabView.{LineKey, LineParts, line_key, lines_from, put_entry}
-use Rattle.krb_show.specs.Lines.{AreSoFar}
+use Rattle.krb_show.proofs.Cited.{◌≡◌, ◌∷◌, ◌∙◌, ap, subst, sym, ℕ, List, Option, Old, PlacedEntry, unwrap_or, on_ok_weaker, some_is, EntryParts, LineKey, LineParts, line_key, lines_from, put_entry, AreSoFar}
 use Rattle.krb_show.proofs.lines.SoFar.add.Goals as goal
 
 -- the next entry is in the line with its key

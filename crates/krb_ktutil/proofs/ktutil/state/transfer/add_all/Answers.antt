@@ -1,5 +1,4 @@
-use Rattle.krb_ktutil.proofs.Cited.{sym, ap, ◌∙◌, Ok, List, drop, ◌∷◌, err_from_is_err_and, EntryParts, Added, none_added, with_added, suc}
-use Rattle.std.proofs.Math.Seq.{drop-cons}
+use Rattle.krb_ktutil.proofs.Cited.{sym, ap, ◌∙◌, Ok, List, drop, ◌∷◌, err_from_is_err_and, EntryParts, Added, none_added, with_added, suc, drop-cons}
 use Rattle.krb_ktutil.proofs.KtutilHandles.{refuses_added}
 use Rattle.krb_ktutil.proofs.ktutil.state.transfer.add_all.Goals as goal
 

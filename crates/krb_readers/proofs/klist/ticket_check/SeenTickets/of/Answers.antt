@@ -1,6 +1,4 @@
-use Rattle.std.proofs.Common.{List, subst}
-use Rattle.krb_ccache.specs.Store.{PlacedCredential, placed_credentials}
-use Rattle.krb_readers.specs.Klist.{SeesSoFar}
+use Rattle.krb_readers.proofs.Cited.{List, subst, PlacedCredential, placed_credentials, SeesSoFar}
 use Rattle.krb_readers.proofs.klist.ticket_check.SeenTickets.of.Goals as goal
 
 -- the next credential was seen too

@@ -1,5 +1,4 @@
-use Rattle.krb_ccache.specs.Store.{placed_credentials}
-use Rattle.krb_readers.specs.Klist.{SeesSoFar}
+use Rattle.krb_readers.proofs.Cited.{placed_credentials, SeesSoFar}
 use Rattle.krb_readers.proofs.klist.ticket_check.SeenTickets.of.Given as goal
 
 -- what was seen of the credentials so far
