@@ -132,7 +132,7 @@ fn about_entries(entries: &[Marked<'_>]) -> FindingSet
 }
 
 /// Checks a keytab and, if it is given, the `mode` of its plain file. An entry is aged by the second `aged_by`, if that
-/// is given, and the names `wanted` have to be there, as they are printed. Takes time n log n in the bytes of the keytab.
+/// is given, and the names `wanted` have to be there, as they are printed. Takes time n log n in the bytes of both.
 pub fn check_up<'k, A: Allocator + Copy, B: Allocator, C: Allocator>(
     alloc: A,
     mode: Option<u32>,

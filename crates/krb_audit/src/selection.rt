@@ -101,7 +101,7 @@ fn take_if<'k, T: Taker<'k>>(
 }
 
 // Hands on the entries of a keytab that are selected. Returns whether some entry has the selected name and enctype,
-// whatever its kvno. Takes time n log n in the bytes of the keytab.
+// whatever its kvno. Takes time n log n in the bytes of the keytab and the names.
 fn take_selected<'k, A: Allocator + Copy, B: Allocator, T: Taker<'k>>(
     alloc: A,
     label: &[u8],
@@ -133,7 +133,7 @@ fn take_selected<'k, A: Allocator + Copy, B: Allocator, T: Taker<'k>>(
 }
 
 /// Returns the entries of a keytab that `selection` selects at the time `now`, in seconds, which matters for `OldFor`
-/// alone. Takes time n log n in the bytes of the keytab.
+/// alone. Takes time n log n in the bytes of the keytab and the names.
 pub fn select<A: Allocator + Copy, B: Allocator>(
     alloc: A,
     label: &[u8],
@@ -153,7 +153,7 @@ pub fn select<A: Allocator + Copy, B: Allocator>(
 }
 
 /// Returns the entries of a keytab that `selection` selects, with the places of their records. Takes time n log n in
-/// the bytes of the keytab.
+/// the bytes of the keytab and the names.
 pub fn selected_entries<'k, A: Allocator + Copy, B: Allocator>(
     alloc: A,
     keytab: &'k Keytab<A>,

@@ -142,11 +142,11 @@ impl<'a, R: rt::Files> Looks<'a, R> {
         Ok(Found::of(&fs::metadata(self.rt, name)?))
     }
 
-    /// Returns what lies under `name`, symbolic links followed.
+    /// Returns what lies under `name`, symbolic links followed: nothing, if a part before the last is no folder.
     pub fn node(&self, name: &str) -> Node {
-        match self.come_to(name) {
+        match self.come_to(name).map_err(|error| error.kind()) {
             Ok(found) => found.node(),
-            Err(error) if error.kind() == ErrorKind::NotFound => Node::Nothing,
+            Err(ErrorKind::NotFound | ErrorKind::NotADirectory) => Node::Nothing,
             Err(_) => Node::Unknown,
         }
     }
