@@ -67,6 +67,7 @@ CASES = [
         "ktremove -k old o host/a@R", "ktremove -n -k old o host/a@R", "ktremove -k old host/a@R o",
         "ktremove -e 17 host/a@R",
         "ccremove --all-services c FILE:host/a@R", "ccremove --expired c host/a@R")),
+    remove("ktremove -k old o k/a@R", [], ("k/a@R: no such file", TO_NAME), status=1),
     remove(("ktremove", "-pb@R", "no", "k", "KCM:u@R", ".", "", "d", "KCM:k"), [], MISSING, (*OTHER_NAMED, TO_NAME),
            (": no such file", ""), OTHER, status=1),
     replace(remove("ktremove --in-place -p b@R k l", [], ("l: no such file", ""), status=1, setting=link_to_nothing),

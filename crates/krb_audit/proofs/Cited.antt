@@ -7,15 +7,15 @@ pub use Rattle.std.proofs.lemmas.List.{take_all, get_or-set_same, length-set, ge
 pub use Rattle.std.proofs.lemmas.List.Folds.{list_any-append, find-append, list_any_at}
 pub use Rattle.std.specs.List.{fold, list_any, All, sum_by, flat_map, AllByRecursion, range_with_len, Contains, filter_map}
 pub use Rattle.std.specs.Option.{option_or, option_map_or, MatchOption}
-pub use Rattle.std.specs.Prelude.{◌||◌, ◌&&◌, not, ◌==◌, filter, option_map, find, unwrap_or, nat_lt, Vec, ⊤}
+pub use Rattle.std.specs.Prelude.{◌||◌, ◌&&◌, not, ◌==◌, filter, option_map, find, unwrap_or, nat_lt, Vec}
 pub use Rattle.std.specs.Str.{bytes_eq}
 pub use Rattle.std.specs.Vec.{vec_items}
-pub use Rattle.krb_audit.specs.Findings.{is_alike, ends_mit, as_alike, marks_of, is_out, first_hidden, hidden_from, marked_after, first_alike, is_weak_among, weak_among, Marked, reported, clashes, is_aged, repeats}
+pub use Rattle.krb_audit.specs.Findings.{is_alike, ends_mit, as_alike, marks_of, is_out, first_hidden, hidden_from, marked_after, Marked, reported, first_alike, clashes, is_aged, repeats}
 pub use Rattle.krb_audit.specs.KvnoMarks.{AreNewest, selects_row, is_old_row, AreYoung, AreVersions, is_young_row, AreMarks}
 pub use Rattle.krb_audit.specs.Names.{kt_name, type_len}
 pub use Rattle.krb_audit.specs.Newest.{is_old, newer, has_other_version, is_newer, newest_from, newest}
 pub use Rattle.krb_audit.specs.CheckUp.{holes, counts_at, uncounted, added_once, prints_as, about_entries}
-pub use Rattle.krb_audit.specs.Report.{finding_lines, octal, finding_line, missing_line}
+pub use Rattle.krb_audit.specs.Report.{finding_lines, octal, missing_line, finding_line}
 pub use Rattle.krb_audit.specs.Rows.{first_number, AreRows, AreNumbered, HasPlace, stamp_of, first_from, row_in, shown, stamped, newer_stamp, to_name}
 pub use Rattle.krb_names.specs.Hash.{HashedName, hash_of, name_cmp}
 pub use Rattle.krb_audit.specs.Selection.{has_selected_kvno, is_named, is_young, AsksFor, has_text}
@@ -31,21 +31,20 @@ pub use Rattle.krb_wire.proofs.Fields.{some_is, is_some_has, wide32}
 pub use Rattle.krb_wire.specs.Names.{have_same_name, name_text}
 pub use Rattle.krb_wire.specs.Spelling.{Parts, FitsKt, order_of, kt_principal, name_type_field, data16, HasNameType, digits}
 pub use Rattle.krb_wire.specs.declared.format.KtFormat.{KtFormat}
-pub use Rattle.krb_keytab.specs.declared.cells.KtCell.{KtCell}
-pub use Rattle.std.proofs.lemmas.List.Elements.{Contains-append_left, Contains-append_right, Contains-append_cases, Contains-push, Contains-push_cases, filter_agree, filter-append, All-head, All-tail}
-pub use Rattle.std.proofs.lemmas.Slice.Eq.{bytes_eq-Decides, slice_eq-Decides}
-pub use Rattle.krb_wire.proofs.NamesCompared.{same_name_is, and_both}
-pub use Rattle.krb_names.specs.Marks.{AreMarked}
-pub use Rattle.krb_audit.specs.declared.finding.TheConstants.{ABOUT_ENTRIES, FINDINGS}
-pub use Rattle.krb_keytab.proofs.EntryLists.{entries_of_cells, listed_live}
-pub use Rattle.krb_audit.specs.Table.{none, with_if, has_some}
-pub use denote.Ref.{Bor}
-pub use Rattle.krb_names.specs.Set.{is_among, HaveSameNames}
+pub use Rattle.krb_audit.specs.Table.{with_if, none, has_some}
+pub use Rattle.krb_audit.specs.declared.finding.TheConstants.{FINDINGS, ABOUT_ENTRIES}
 pub use Rattle.krb_audit.specs.declared.rows.Names.{Names}
-pub use Rattle.krb_audit.specs.Before.{IsMissing, AreFirsts, Key, same_key, IsBefore, looked}
-pub use Rattle.std.specs.Cmp.{IsEquivalence}
-pub use Rattle.krb_audit.specs.declared.firsts.Alike.{Alike}
+pub use Rattle.krb_keytab.specs.declared.cells.KtCell.{KtCell}
+pub use Rattle.krb_keytab.proofs.EntryLists.{entries_of_cells, listed_live}
+pub use Rattle.std.proofs.lemmas.Slice.Eq.{bytes_eq-Decides, slice_eq-Decides}
+pub use Rattle.krb_names.specs.Set.{HaveSameNames, is_among}
+pub use denote.Ref.{Bor}
 pub use Rattle.krb_ccache.specs.Store.{placed_credentials, PlacedCredential}
 pub use Rattle.krb_audit.specs.Tickets.{SelectsSoFar}
-pub use Rattle.krb_keytab.specs.Store.{store_cell, KeytabState}
-pub use Rattle.krb_text.specs.Etype.{Etype, etype_numbered, etype_table, is_weak}
+pub use Rattle.std.specs.Cmp.{IsEquivalence}
+pub use Rattle.krb_audit.specs.declared.firsts.Alike.{Alike}
+pub use Rattle.krb_audit.specs.Before.{AreFirsts, Key, same_key, looked, IsMissing, IsBefore}
+pub use Rattle.krb_wire.proofs.NamesCompared.{same_name_is, and_both}
+pub use Rattle.std.proofs.lemmas.List.Elements.{filter-append, Contains-append_left, Contains-append_right, Contains-append_cases, Contains-push, Contains-push_cases, filter_agree, All-head, All-tail}
+pub use Rattle.krb_names.specs.Marks.{AreMarked}
+pub use Rattle.krb_keytab.specs.Store.{KeytabState, store_cell}

@@ -1,7 +1,8 @@
 -- What a proof unfolds to compute the definitions of this crate, and of those that it uses, on literals.
-use Rattle.krb_audit.proofs.Cited.{⊤, weak_among}
+use Rattle.std.specs.Prelude.{⊤}
 use Rattle.krb_ccache.proofs.OnLiterals.{krb_ccache_on_literals}
 use Rattle.krb_text.proofs.OnLiterals.{krb_text_on_literals}
+use Rattle.krb_audit.specs.Findings.{weak_among}
 
 unfoldable pub krb_audit_on_literals : ⊤
 unfolding krb_ccache_on_literals krb_text_on_literals weak_among

@@ -1,8 +1,10 @@
 -- The weak enctypes that were found.
-use Rattle.krb_audit.proofs.Cited.{◌≡◌, ℕ, ◌<◌, Bool, true, false, List, [], ◌∷◌, ◌++◌, Option, map, get_or, length, replicate, refl, ap, ◌∙◌, arith, ◌==◌, ◌&&◌, ◌||◌, list_any, eq-eqb, eqb-true, PlacedEntry, set, inl, inr, nat_lt, AllByRecursion, range_with_len, MatchOption, option_map_or, cases_lt, ltb-true, ne_eqb, get_or-set_other, get_or-set_same, get_or_past, length-set, list_any-append, Etype, etype_numbered, etype_table, is_weak, is_weak_among, weak_among}
+use Rattle.krb_audit.proofs.Cited.{◌≡◌, ℕ, ◌<◌, Bool, true, false, List, [], ◌∷◌, ◌++◌, Option, map, get_or, length, replicate, refl, ap, ◌∙◌, arith, ◌==◌, ◌&&◌, ◌||◌, list_any, eq-eqb, eqb-true, PlacedEntry, set, inl, inr, nat_lt, AllByRecursion, range_with_len, MatchOption, option_map_or, cases_lt, ltb-true, ne_eqb, get_or-set_other, get_or-set_same, get_or_past, length-set, list_any-append}
 use Rattle.std.proofs.lemmas.List.FromFn.{fill_by_all, get_or-map-range_with_len, length-map-range_with_len}
+use Rattle.krb_text.specs.Etype.{Etype, etype_numbered, etype_table, is_weak}
 use Rattle.krb_text.proofs.Found.{MatchOption-find}
 use Rattle.krb_audit.specs.declared.weak_etypes.WeakEtypes.{WeakEtypes}
+use Rattle.krb_audit.specs.Findings.{is_weak_among, weak_among}
 
 -- ---- all are below 27
 

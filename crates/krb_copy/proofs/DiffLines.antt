@@ -1,5 +1,6 @@
 -- The lines of rows are those of differences.
-use Rattle.krb_copy.proofs.Cited.{◌≡◌, ℕ, ◌<◌, Bool, true, cond, List, [], ◌∷◌, ◌++◌, length, get_or, drop, Option, Some, None, refl, sym, ap, subst, ◌∙◌, arith, map, ◌||◌, ◌&&◌, not, ◌==◌, option_map, bytes_eq, list_any, flat_map, filter_map, find, eqb-true, eq-eqb, EntryParts, PlacedEntry, are_twins, codes, All, AllByRecursion, flat_map-append, All-from_recursion, flat_map-map, placed_line, Difference, Theirs, diff_text, difference_at, difference_by, difference_line, firsts, has_more_keys, has_twin, Keys, Row}
+use Rattle.krb_copy.proofs.Cited.{◌≡◌, ℕ, ◌<◌, Bool, true, cond, List, [], ◌∷◌, ◌++◌, length, get_or, drop, Option, Some, None, refl, sym, ap, subst, ◌∙◌, arith, map, ◌||◌, ◌&&◌, not, ◌==◌, option_map, bytes_eq, list_any, flat_map, filter_map, find, eqb-true, eq-eqb, EntryParts, PlacedEntry, are_twins, codes, All, AllByRecursion, flat_map-append, All-from_recursion, flat_map-map, placed_line, Keys, Row}
+use Rattle.krb_copy.specs.Diff.{Difference, Theirs, diff_text, difference_at, difference_by, difference_line, firsts, has_more_keys, has_twin}
 use Rattle.krb_copy.specs.DiffRows.{AreKeys, class_number, first_place, has_key, lacks, row_due, row_line, rows_due, shown}
 use Rattle.krb_copy.proofs.Alike.{alike, twins_equiv}
 use Rattle.krb_copy.proofs.Numbers.{number_alike, position_at}

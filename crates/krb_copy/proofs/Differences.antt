@@ -1,7 +1,8 @@
 -- What two lists do not share is read of the first entries of their classes, over both lists in either order.
-use Rattle.krb_copy.proofs.Cited.{◌≡◌, Bool, true, false, cond, List, [], ◌∷◌, ◌++◌, length, Option, Some, None, refl, arith, sym, ap, subst, ◌∙◌, append-nil, append_assoc, map, ◌||◌, ◌&&◌, not, list_any, list_any-append, filter_map, cons_option, flat_map, find, inl, inr, option_map, is_some, EntryParts, PlacedEntry, placed_entries, are_twins, are_same, and-false, or_comm, or-false, not-false, or_cases, or_left, or_right, or_parts, nil_from_length, filter_map-append, Difference, Both, Ours, Theirs, diff_text, difference_at, difference_by, difference_line, differences, firsts, has_more_keys, has_twin, AreMirrored, NoDifference, swapped}
+use Rattle.krb_copy.proofs.Cited.{◌≡◌, Bool, true, false, cond, List, [], ◌∷◌, ◌++◌, length, Option, Some, None, refl, arith, sym, ap, subst, ◌∙◌, append-nil, append_assoc, map, ◌||◌, ◌&&◌, not, list_any, list_any-append, filter_map, cons_option, flat_map, find, inl, inr, option_map, is_some, EntryParts, PlacedEntry, placed_entries, are_twins, are_same, and-false, or_comm, or-false, not-false, or_cases, or_left, or_right, or_parts, nil_from_length, filter_map-append, AreMirrored, NoDifference, swapped}
 use Rattle.std.specs.List.Sorted.{IsPermutation}
 use Rattle.std.proofs.lemmas.List.Sorted.{IsPermutation-append_comm, IsPermutation-append_left, IsPermutation-append_right, IsPermutation-refl, IsPermutation-trans, length_permutation}
+use Rattle.krb_copy.specs.Diff.{Difference, Both, Ours, Theirs, diff_text, difference_at, difference_by, difference_line, differences, firsts, has_more_keys, has_twin}
 use Rattle.krb_copy.proofs.Passing.{any_found}
 use Rattle.krb_copy.proofs.Alike.{twins_equiv, alike, same_are_twins}
 use Rattle.krb_copy.proofs.Silent.{HasAll, told_nothing, tells_nothing}

@@ -1,5 +1,6 @@
 -- The numbers of classes, one entry after the other.
-use Rattle.krb_copy.proofs.Cited.{◌≡◌, ℕ, ◌+◌, ◌<◌, Bool, true, cond, List, [], ◌∷◌, ◌++◌, length, take, drop, get_or, Option, Some, None, refl, sym, ap, ◌∙◌, arith, map, not, ◌==◌, is_some, unwrap_or, append_assoc, map_push, take_more, drop_more, list_any, eq-eqb, ne_eqb, EntryParts, PlacedEntry, are_twins, ClassKey, class_cmp, option_or, position_from, BTreeMap, get, Updates, IsClassKey, has_twin, AreNumbers, class_number, row_due, rows_due, shown, Row}
+use Rattle.krb_copy.proofs.Cited.{◌≡◌, ℕ, ◌+◌, ◌<◌, Bool, true, cond, List, [], ◌∷◌, ◌++◌, length, take, drop, get_or, Option, Some, None, refl, sym, ap, ◌∙◌, arith, map, not, ◌==◌, is_some, unwrap_or, append_assoc, map_push, take_more, drop_more, list_any, eq-eqb, ne_eqb, EntryParts, PlacedEntry, are_twins, ClassKey, class_cmp, option_or, position_from, BTreeMap, get, Updates, IsClassKey, AreNumbers, class_number, row_due, rows_due, shown, Row}
+use Rattle.krb_copy.specs.Diff.{has_twin}
 use Rattle.std.proofs.lemmas.Iterator.Adapters.{position_from-zero}
 use Rattle.std.proofs.lemmas.List.Quantifiers.{position-Some}
 use Rattle.krb_copy.proofs.Alike.{alike, twins_equiv}

@@ -24,23 +24,23 @@ pub use Rattle.krb_walk.specs.ReplyContent.{content_of, ReplyContent, Refused, S
 pub use Rattle.krb_walk.specs.Rules.{Rules}
 pub use Rattle.krb_walk.specs.Store.{end_of, is_place, Store, Record, next_live, stop_of, IsSound, stop_at, fault_of, live_bytes}
 pub use Rattle.krb_walk.specs.declared.event.Event.{Event}
-pub use Rattle.krb_walk.specs.Stops.{records_from}
+pub use Rattle.krb_driver.specs.Loading.{keytab_or_empty, cache_of, result_map_err}
+pub use Rattle.krb_files.specs.declared.files.Files.{Ghosts}
+pub use Rattle.krb_driver.specs.declared.file_name.FileName.{FileName}
+pub use Rattle.krb_driver.specs.declared.error.RunError.TheVariants.{NothingToCopy, NoMemory}
 pub use Rattle.krb_walk.specs.declared.event.Event.TheVariants.{Put, Cut, Start, Resume, Step, Rewrite}
 pub use Rattle.krb_walk.specs.declared.refusal.Code.{Code}
 pub use Rattle.krb_ccache.specs.Credential.{CredParts, is_marked}
-pub use Rattle.std.proofs.lemmas.Bool.{cond_both, eq-eqb, eqb-true}
+pub use Rattle.krb_editors.specs.MissingFiles.{LooksAt, LooksFor}
+pub use Rattle.krb_ccache.specs.declared.version.Version.TheVariants.{V4}
+pub use Rattle.krb_driver.specs.declared.verdict.FileKind.TheVariants.{Cache, Keytab}
 pub use Rattle.krb_wire.specs.declared.format.KtFormat.TheVariants.{V2}
 pub use Rattle.krb_keytab.specs.Rewrite.{keytab_rules}
-pub use Rattle.krb_ccache.specs.declared.version.Version.TheVariants.{V4}
-pub use Rattle.krb_driver.specs.RunErrors.{hiding, line_error, script_error}
+pub use Rattle.krb_audit.specs.Findings.{hides_added, hidden_at, hidden_from}
 pub use Rattle.krb_text.proofs.Found.{any_of_map}
+pub use Rattle.krb_driver.specs.RunErrors.{hiding, line_error, script_error}
+pub use Rattle.krb_walk.specs.Stops.{records_from}
 pub use Rattle.krb_walk.proofs.Stops.{stops_end, stops_give_records, walks_begin_with_all}
 pub use Rattle.std.specs.List.Sorted.{IsNonDecreasing}
 pub use Rattle.krb_walk.proofs.Carries.{Rises, places_rise}
-pub use Rattle.krb_audit.specs.Findings.{hidden_at, hidden_from, hides_added}
-pub use Rattle.krb_files.specs.declared.files.Files.{Ghosts}
-pub use Rattle.krb_driver.specs.declared.error.RunError.TheVariants.{NothingToCopy, NoMemory}
-pub use Rattle.krb_driver.specs.declared.file_name.FileName.{FileName}
-pub use Rattle.krb_driver.specs.Loading.{result_map_err, keytab_or_empty, cache_of}
-pub use Rattle.krb_editors.specs.MissingFiles.{LooksAt, LooksFor}
-pub use Rattle.krb_driver.specs.declared.verdict.FileKind.TheVariants.{Keytab, Cache}
+pub use Rattle.std.proofs.lemmas.Bool.{eq-eqb, eqb-true, cond_both}

@@ -4,16 +4,16 @@ pub use Rattle.std.specs.Io.KnownBytes.{Appends, Consumes, Keeps}
 pub use Rattle.std.specs.Prelude.{nat_lt, position, string_bytes, find, Err, slice_get, IsFalse, if◌then◌else◌, option_map, slice_set, Ok, slice_index_or}
 pub use Rattle.std.specs.Str.{bytes_eq}
 pub use Rattle.krb_files.specs.Files.{SetsFile, loaded, CountsFailure, SameFiles, FileMap}
-pub use Rattle.std.proofs.lemmas.List.{take_all, take-append-le, map-append}
-pub use Rattle.std.proofs.Math.Seq.{take-add}
-pub use Rattle.std.proofs.lemmas.Bool.{true≢false, cases_lt, ltb-true, ltb-false}
-pub use Rattle.std.proofs.lemmas.Slice.Eq.{bytes_eq-Decides}
+pub use Rattle.std.specs.List.{prefix_len}
 pub use sound.WpLaws.{WpFn-mono}
 pub use denote.RattleType.{owns}
 pub use denote.Shadow.{pure_i}
 pub use denote.Triple.Entry.{on_entry, alive, Args}
 pub use denote.Triple.Spec.{Meets, triple_of}
 pub use denote.Triple.Table.{entered}
-pub use denote.Triple.Walked.{says, Stays, walk_of, Walks, ends_at, walked, walk_Meets, stay_none_slice, Goes-none_slice}
-pub use Rattle.std.specs.List.{prefix_len}
-pub use Rattle.krb_files.specs.MemFiles.{file_in, with_file, pairs_of}
+pub use denote.Triple.Walked.{says, stay_none_slice, Stays, walk_of, Walks, ends_at, walked, Goes-none_slice, walk_Meets}
+pub use Rattle.std.proofs.lemmas.List.{take_all, take-append-le, map-append}
+pub use Rattle.std.proofs.Math.Seq.{take-add}
+pub use Rattle.std.proofs.lemmas.Bool.{true≢false, cases_lt, ltb-true, ltb-false}
+pub use Rattle.std.proofs.lemmas.Slice.Eq.{bytes_eq-Decides}
+pub use Rattle.krb_files.specs.MemFiles.{pairs_of, file_in, with_file}

@@ -1,6 +1,7 @@
 -- The text of an object with arrays in it, in pieces.
-use Rattle.krb_json.proofs.Cited.{◌≡◌, ℕ, Bool, true, false, List, [], ◌∷◌, ◌++◌, fold, refl, sym, ap, ◌∙◌, append_assoc, Token, begin_object, end_object, begin_array, end_array, key, json_tokens, items_tokens, members_tokens, escaped, text_of, Member, members_of, object_of, array_of, member_tokens, tokens_of, element_text, elements_text, head_tokens, between_tokens, fold-append, items_of, print_from, ends, ends_value}
+use Rattle.krb_json.proofs.Cited.{◌≡◌, ℕ, Bool, true, false, List, [], ◌∷◌, ◌++◌, fold, refl, sym, ap, ◌∙◌, append_assoc, Token, begin_object, end_object, begin_array, end_array, key, json_tokens, items_tokens, members_tokens, escaped, text_of, Member, members_of, object_of, array_of, member_tokens, tokens_of, element_text, elements_text, head_tokens, between_tokens, fold-append, items_of}
 use Rattle.json.specs.Json.{Json, boolean, array, object, Items, no_items, item, Members, no_members, member}
+use Rattle.json.specs.Print.{print_from, ends, ends_value}
 use Rattle.krb_json.proofs.EscapedLemmas.{escaped-plain, text_from, text_from-append}
 
 -- ---- a value alone

@@ -1,4 +1,9 @@
 -- The names that the proofs cite most, passed on from one place. Declares nothing.
+unfoldable pub use Rattle.krb_json.specs.Cache.{encryption_members, size_members, flag_members, time_members, ticket_value, party_members, cache_value, config_value}
+unfoldable pub use Rattle.krb_json.specs.Check.{check_members, about_members, check_value, refused_value}
+unfoldable pub use Rattle.krb_json.specs.Escaped.{escaped}
+unfoldable pub use Rattle.krb_json.specs.Keytab.{entry_value, keytab_value, key_members, owner_members}
+unfoldable pub use Rattle.krb_json.specs.Members.{file_members, etype_members, text_member}
 pub use Rattle.std.proofs.Common.{◌++◌, ◌∙◌, [], sym, ap, ◌≡◌, ◌∷◌, false, List, ℕ, codes, refl, Bool, append_assoc, Some, true, subst, None, Option, cond, ◌<◌, ◌≤◌, arith, append-nil, length, ◌^◌, map, rules, option_and_then, suc, inr, fold, inl, take, ◌==◌, lit<, option_copied, ◌%◌, Err, IsAscii, ◌&&◌, IsUtf8, ◌+◌, ◌||◌, ap₂, Ok, Result, is_some, zero, drop, not, ◌/◌, Bor, get_or, ℤ, pos, option_map, FitsSigned, w64}
 pub use Rattle.std.proofs.lemmas.Bool.{lt-ltb, ne_eqb, and_parts, leb-true, false≢true, ltb-true, or_parts, eqb-true, cases_lt, or_cases, cases_Bool, le-ltb, and_right, cases_eq, and_left, ltb-false, not-true, and_from, lt-leb, false_from_ne_true}
 pub use Rattle.std.proofs.lemmas.Result.{on_ok_weaker, err_from_is_err_and, on_err_weaker, IfOk-weaker}
@@ -20,24 +25,19 @@ pub use Rattle.krb_ccache.specs.Store.{placed_credentials, CacheState, PlacedCre
 pub use Rattle.krb_text.proofs.Passing.{gathers_memory, gathers_prints, gathers_write, passed_send, passed_none, gathers_fails, passed_gather, passed_fail, passed_last}
 pub use Rattle.krb_text.specs.Gathered.{Passed, Prints, Gathers}
 pub use Rattle.krb_wire.specs.Names.{name_text}
-pub use Rattle.krb_text.specs.Etype.{etype_name_of}
-pub use Rattle.krb_json.specs.Summary.{summary_value, number_or_null}
+pub use Rattle.std.specs.Char.{is_ascii_digit, digit_char, encode_utf8}
 pub use Rattle.std.proofs.lemmas.Grind.{flat_map-append, common_steps}
 pub use Rattle.std.proofs.lemmas.List.{take-append-drop, take_more, flat_map_more, take_all}
 pub use Rattle.std.proofs.lemmas.List.Sums.{fold-append}
 pub use Rattle.krb_files.specs.declared.output.OutFault.{OutFault}
 pub use Rattle.krb_files.specs.Bytes.{Watch}
-pub use Rattle.std.proofs.lemmas.Str.{IsUtf8-from_is_utf8, is_utf8-from_IsUtf8, IsUtf8-from_ascii, encode_ascii}
-pub use Rattle.krb_text.specs.Flags.{flag_table, is_set, flag_letters_of}
-pub use Rattle.hex.specs.Hex.{encode_lower, lower_digits, encode_with}
+pub use Rattle.krb_text.specs.Etype.{etype_name_of}
 pub use Rattle.krb_walk.specs.Store.{fault_of}
 pub use Rattle.krb_keytab.specs.Store.{KeytabState, store_of}
 pub use Rattle.krb_audit.specs.CheckUp.{CheckParts}
-pub use Rattle.std.specs.Char.{is_ascii_digit, digit_char, encode_utf8}
-pub use Rattle.json.specs.Word.{head, after_digits, after_minus, after_sign, after_whole, after_fraction, after_exponent, after_number, ends_word, word, is_operator, is_space}
-pub use Rattle.json.specs.Print.{IsNumber, print_from, ends, ends_value, quoted, separator, token_text}
-pub use Rattle.json.specs.Lex.{Lexeme, lex, between, token, comma, colon, string_token, punctuate, fresh, Mode, lex_byte, in_string, operator, space, other}
-pub use Rattle.json.proofs.Printed.Strings.{content-escape, lex-escape, escape_byte_plain}
+pub use Rattle.krb_audit.specs.declared.finding.TheConstants.{ABOUT_ENTRIES}
+pub use Rattle.std.proofs.lemmas.Str.{IsUtf8-from_is_utf8, is_utf8-from_IsUtf8, IsUtf8-from_ascii, encode_ascii}
+pub use Rattle.krb_text.specs.Flags.{flag_table, is_set, flag_letters_of}
 pub use Rattle.json.specs.Value.{items_of}
 pub use Rattle.krb_ccache.specs.Ticket.{ticket_encryption}
-pub use Rattle.krb_audit.specs.declared.finding.TheConstants.{ABOUT_ENTRIES}
+pub use Rattle.json.proofs.Printed.Strings.{content-escape, lex-escape, escape_byte_plain}

@@ -1,6 +1,7 @@
 -- Escaped texts: byte by byte, and token by token.
-use Rattle.krb_json.proofs.Cited.{◌≡◌, ℕ, Bool, true, false, List, [], ◌∷◌, ◌++◌, length, take, fold, ◌≤◌, refl, sym, ap, subst, ◌∙◌, append_assoc, append-nil, list_any, and_right, false≢true, ne_eqb, or_parts, Token, begin_object, end_object, begin_array, end_array, key, escape, escaped, held, is_pair, is_second, is_special, single, take_all, print_from, quoted, ends, separator, token_text}
+use Rattle.krb_json.proofs.Cited.{◌≡◌, ℕ, Bool, true, false, List, [], ◌∷◌, ◌++◌, length, take, fold, ◌≤◌, refl, sym, ap, subst, ◌∙◌, append_assoc, append-nil, list_any, and_right, false≢true, ne_eqb, or_parts, Token, begin_object, end_object, begin_array, end_array, key, escape, escaped, held, is_pair, is_second, is_special, single, take_all}
 use Rattle.std.specs.Prelude.{◌==◌, if◌then◌else◌}
+use Rattle.json.specs.Print.{print_from, quoted, ends, separator, token_text}
 
 -- ---- bytes
 

@@ -1,6 +1,8 @@
 -- A number has no byte that is escaped.
-use Rattle.krb_json.proofs.Cited.{◌≡◌, ℕ, suc, ◌+◌, Bool, true, false, cond, List, [], ◌∷◌, drop, Option, Some, None, option_and_then, inl, inr, refl, sym, ap, ◌∙◌, subst, arith, list_any, prefix_len, and_parts, eqb-true, leb-true, ne_eqb, or_cases, is_special, is_ascii_digit, head, after_digits, after_minus, after_sign, after_whole, after_fraction, after_exponent, after_number, IsNumber}
+use Rattle.krb_json.proofs.Cited.{◌≡◌, ℕ, suc, ◌+◌, Bool, true, false, cond, List, [], ◌∷◌, drop, Option, Some, None, option_and_then, inl, inr, refl, sym, ap, ◌∙◌, subst, arith, list_any, prefix_len, and_parts, eqb-true, leb-true, ne_eqb, or_cases, is_special, is_ascii_digit}
 use Rattle.std.specs.Prelude.{◌==◌, ◌||◌}
+use Rattle.json.specs.Word.{head, after_digits, after_minus, after_sign, after_whole, after_fraction, after_exponent, after_number}
+use Rattle.json.specs.Print.{IsNumber}
 
 -- a text has such a byte
 abbrev has : List ℕ → Bool

@@ -1,6 +1,8 @@
 -- Tokens and values are read back from their escaped text.
-use Rattle.krb_json.proofs.Cited.{◌≡◌, ℕ, ◌≤◌, Bool, true, false, cond, List, [], ◌∷◌, ◌++◌, Some, option_and_then, refl, sym, ap, ap₂, ◌∙◌, subst, append_assoc, Token, end_object, end_array, key, string, number, boolean, null, bad, Json, document, if_last, max_depth, value, json_tokens, depth, HasNumbers, escaped, json_text, ends_word, word, Lexeme, lex, between, token, comma, colon, string_token, punctuate, fresh, content-escape, lex-escape}
+use Rattle.krb_json.proofs.Cited.{◌≡◌, ℕ, ◌≤◌, Bool, true, false, cond, List, [], ◌∷◌, ◌++◌, Some, option_and_then, refl, sym, ap, ap₂, ◌∙◌, subst, append_assoc, Token, end_object, end_array, key, string, number, boolean, null, bad, Json, document, if_last, max_depth, value, json_tokens, depth, HasNumbers, escaped, json_text, content-escape, lex-escape}
 use Rattle.std.specs.Prelude.{◌&&◌}
+use Rattle.json.specs.Word.{ends_word, word}
+use Rattle.json.specs.Lex.{Lexeme, lex, between, token, comma, colon, string_token, punctuate, fresh}
 use Rattle.json.specs.Print.{print_from, escape as json_escape, quoted, token_text, begins, ends, IsPrintable, ArePrintable}
 use Rattle.json.proofs.Printed.Numbers.{in_word-ended, lex-number}
 use Rattle.json.proofs.Printed.Trees.{ArePrintable-json_tokens, document-print}

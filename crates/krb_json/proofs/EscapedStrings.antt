@@ -1,9 +1,12 @@
 -- A string is read back from its escaped text, and the lexer passes over it.
-use Rattle.krb_json.proofs.Cited.{◌≡◌, ℕ, zero, suc, ◌/◌, ◌%◌, ◌<◌, ◌≤◌, Bool, true, false, cond, List, [], ◌∷◌, ◌++◌, Option, Some, None, inl, inr, refl, sym, ap, ◌∙◌, subst, arith, append_assoc, list_any, bytes_eq, and_left, and_parts, cases_Bool, cases_eq, cases_lt, eqb-true, false≢true, le-ltb, leb-true, lt-leb, ltb-false, ltb-true, ne_eqb, not-true, or_parts, escape, escaped, is_pair, is_second, is_special, digit_char, encode_utf8, encode_ascii, encode_with, lower_digits, is_operator, is_space, Lexeme, Mode, lex, lex_byte, between, in_string, operator, space, other, escape_byte_plain}
+use Rattle.krb_json.proofs.Cited.{◌≡◌, ℕ, zero, suc, ◌/◌, ◌%◌, ◌<◌, ◌≤◌, Bool, true, false, cond, List, [], ◌∷◌, ◌++◌, Option, Some, None, inl, inr, refl, sym, ap, ◌∙◌, subst, arith, append_assoc, list_any, bytes_eq, and_left, and_parts, cases_Bool, cases_eq, cases_lt, eqb-true, false≢true, le-ltb, leb-true, lt-leb, ltb-false, ltb-true, ne_eqb, not-true, or_parts, escape, escaped, is_pair, is_second, is_special, digit_char, encode_utf8, encode_ascii, escape_byte_plain}
 use Rattle.std.specs.Prelude.{◌==◌, ◌&&◌, not, nat_lt, nat_le, slice_index}
 use Rattle.std.proofs.lemmas.Slice.Eq.{bytes_eq-Decides}
 use lib.Utf8.{encode}
+use Rattle.hex.specs.Hex.{encode_with, lower_digits}
 use Rattle.json.specs.Text.{content, plain, prepend, code_unit, short_escape}
+use Rattle.json.specs.Word.{is_operator, is_space}
+use Rattle.json.specs.Lex.{Lexeme, Mode, lex, lex_byte, between, in_string, operator, space, other}
 use Rattle.json.specs.Print.{escape_byte, escape_letter, escape as json_escape}
 use Rattle.krb_json.proofs.EscapedLemmas.{escaped-first, escaped-pair, escaped-plain, escaped-single}
 

@@ -1,5 +1,5 @@
 -- What is written is read back.
-use Rattle.krb_json.proofs.Cited.{◌≡◌, ℕ, ◌<◌, ◌≤◌, ◌^◌, Bool, true, false, cond, List, [], ◌∷◌, ◌++◌, codes, Option, None, Some, lit<, refl, arith, length, is_utf8, depth, items_depth, members_depth, HasNumbers, ItemsHaveNumbers, MembersHaveNumbers, name_text, CacheState, PlacedCredential, placed_credentials, ConfigParts, json_text, Member, object_of, mode_value, check_members, first_members, about_members, finding_value, finding_values, missing_value, check_value, refused_value, members_of, etype_members, file_members, text_member, text_or_null, fault_value, digits_of, owner_members, key_members, entry_value, entry_values, keytab_value, party_members, time_members, flag_members, integer_or_null, name_of_etype, encryption_members, size_members, about_member, ticket_value, config_value, ticket_values, config_values, cache_value, IsPlain, ArePlain, items_of, ℤ, pos, option_map, FitsSigned, w64, fault_of, KeytabState, store_of, ticket_encryption, CheckParts, etype_name_of, number_or_null, summary_value}
+use Rattle.krb_json.proofs.Cited.{◌≡◌, ℕ, ◌<◌, ◌≤◌, ◌^◌, Bool, true, false, cond, List, [], ◌∷◌, ◌++◌, codes, Option, None, Some, lit<, refl, arith, length, is_utf8, depth, items_depth, members_depth, HasNumbers, ItemsHaveNumbers, MembersHaveNumbers, name_text, CacheState, PlacedCredential, placed_credentials, ConfigParts, json_text, Member, object_of, mode_value, check_members, first_members, about_members, finding_value, finding_values, missing_value, check_value, refused_value, members_of, etype_members, file_members, text_member, text_or_null, fault_value, digits_of, owner_members, key_members, entry_value, entry_values, keytab_value, party_members, time_members, flag_members, integer_or_null, name_of_etype, encryption_members, size_members, about_member, ticket_value, config_value, ticket_values, config_values, cache_value, IsPlain, ArePlain, items_of, ℤ, pos, option_map, FitsSigned, w64, fault_of, KeytabState, store_of, ticket_encryption, CheckParts, etype_name_of}
 use Rattle.json.specs.Json.{Json, string, document}
 use Rattle.json.proofs.Printed.Decimals.{IsNumber-decimal, IsNumber-signed_decimal}
 use Rattle.krb_wire.specs.declared.format.KtFormat.{KtFormat}
@@ -18,6 +18,7 @@ use Rattle.krb_ccache.specs.declared.ticket.TicketEncryption.{TicketEncryption}
 use Rattle.krb_audit.specs.declared.counts.Counts.{Counts}
 use Rattle.krb_audit.specs.declared.finding.Finding.{Finding}
 use Rattle.krb_json.specs.declared.summary.CacheSummary.{CacheSummary}
+use Rattle.krb_json.specs.Summary.{number_or_null, summary_value}
 use Rattle.krb_json.proofs.EscapedReads.{document-text}
 
 -- ---- texts

@@ -1,7 +1,8 @@
 -- Texts that are UTF-8.
-use Rattle.krb_json.proofs.Cited.{map, cond, ◌≡◌, ℕ, zero, suc, ◌<◌, ◌+◌, ◌/◌, ◌%◌, ◌==◌, arith, ◌++◌, lt-ltb, Bool, true, false, List, [], ◌∷◌, IsUtf8, IsAscii, ◌&&◌, refl, ltb, filter, is_utf8, and_parts, and_from, ltb-true, IsUtf8-from_is_utf8, is_utf8-from_IsUtf8, IsUtf8-from_ascii, flag_table, is_set, flag_letters_of, encode_lower, lower_digits}
+use Rattle.krb_json.proofs.Cited.{map, cond, ◌≡◌, ℕ, zero, suc, ◌<◌, ◌+◌, ◌/◌, ◌%◌, ◌==◌, arith, ◌++◌, lt-ltb, Bool, true, false, List, [], ◌∷◌, IsUtf8, IsAscii, ◌&&◌, refl, ltb, filter, is_utf8, and_parts, and_from, ltb-true, IsUtf8-from_is_utf8, is_utf8-from_IsUtf8, IsUtf8-from_ascii, flag_table, is_set, flag_letters_of}
 use Rattle.std.proofs.lemmas.Str.Ascii.{IsAscii-nil, IsAscii-cons}
 use Rattle.krb_audit.specs.Report.{octal, mode_digits}
+use Rattle.hex.specs.Hex.{encode_lower, lower_digits}
 use Rattle.hex.proofs.HexLemmas.{IsAscii-encode_with}
 
 pub utf8_is_text : (bytes : List ℕ) → IsUtf8 bytes → is_utf8 bytes ≡ true

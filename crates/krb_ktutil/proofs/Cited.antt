@@ -9,7 +9,7 @@ pub use Rattle.std.specs.Prelude.{slice_range, IfSome, max, ◌&&◌, IsFalse, �
 pub use Rattle.krb_ktutil.specs.InputLines.{HasNone, Grows, lines_of, InputParts, last_line, IsFirst, EndsInNewline, TakesLine, HasLines, KeepsLines, IsWithin, without_empty_last, IsSpent, CutsOff, is_newline, HasNoMore, ReadsLine, with_newlines}
 pub use Rattle.krb_ktutil.specs.KtutilCommand.{Awaited, options_in, AwaitKey, asks_for_password, Command, WriteFile, after, command_of, ReadFile, with_option, columns_in, AddOptions, is_new_key, Skip, command_by, plain_columns, has_password, no_options, ClearList, ListSlots, Quit, DeleteSlot, awaited_of, AddWords, verb_of, words, unindented, size_from, word_size, is_gap, pieces, trimmed, parts, is_word, is_blank, asks_for_help, fault_error}
 pub use Rattle.krb_ktutil.specs.KtutilPlan.{line_effect, EndsAt, IsCame, Spares, MakesLine, Tries, RefusesAdded, Attempts, RunsOut, Comes, KtutilState, with_added, Added, none_added, plan_of, Came, line_faults, fails, with_key, after_fault, with_entries, LinePlan, saved_as, words_plan, plan_by, command_plan, written_to, reading_plan, becomes, writing_plan, awaited_entry, more_added, key_line}
-pub use Rattle.krb_ktutil.specs.KtutilTalk.{Prompts, prompt_of, last_prompt, PromptsOn, Talk, first_talk, goes_on, HandlesLine, Continues, Stops, TalksOver, AreFirst, EndsTalk, HandlesNext, RunsKtutil, TalksHonestly, TalkDue, DueReport, ReportsDue, quiet_run, final_report, line_report, last_due, due_after, run_of, talk_due, GivesLines, LeavesDue, LeavesDueUnlessFailed}
+pub use Rattle.krb_ktutil.specs.KtutilTalk.{Prompts, prompt_of, last_prompt, PromptsOn, Talk, first_talk, goes_on, HandlesLine, Continues, Stops, TalksOver, AreFirst, EndsTalk, RunsKtutil, TalkDue, DueReport, ReportsDue, quiet_run, final_report, line_report, last_due, due_after, run_of, talk_due, GivesLines, LeavesDue, LeavesDueUnlessFailed, TalksHonestly, HandlesNext}
 pub use Rattle.krb_ktutil.specs.declared.ktutil.awaiting.Awaiting.{Awaiting}
 pub use Rattle.krb_ktutil.specs.declared.ktutil.awaiting.Awaiting.TheVariants.{Nothing, Password, Key}
 pub use Rattle.krb_driver.proofs.Shown.{end_status-none, Writes-nothing, ReportsEnd-nothing}
@@ -26,12 +26,7 @@ pub use Rattle.krb_keytab.specs.Entry.{EntryParts, entry_at}
 pub use Rattle.krb_keytab.specs.Store.{KeytabState, entries, store_of}
 pub use Rattle.krb_text.specs.declared.line_fault.LineFault.{LineFault}
 pub use Rattle.krb_walk.specs.declared.refusal.Code.{Code}
-pub use Rattle.krb_files.proofs.Prefixes.{Appends-trans, AppendsPrefix-after, AppendsPrefix-all, Appends-nil}
-pub use Rattle.std.proofs.lemmas.Grind.{flat_map-append, common_steps}
-pub use Rattle.krb_wire.specs.declared.format.Order.{Order}
-pub use Rattle.krb_files.specs.declared.files.LoadFault.{LoadFault}
-pub use Rattle.krb_driver.specs.declared.reporting.details.Details.{Details}
-pub use Rattle.krb_files.proofs.Reading.{Consumes-trans}
+pub use Rattle.std.proofs.lemmas.Bool.Decides.{nat_tests, leb_tells}
 pub use Rattle.krb_driver.specs.declared.error.RunError.TheVariants.{OtherType, NoMemory}
 pub use Rattle.krb_driver.specs.declared.verdict.FileKind.TheVariants.{Keytab}
 pub use Rattle.krb_walk.specs.Store.{fault_of, Record, records}
@@ -39,8 +34,13 @@ pub use Rattle.krb_files.specs.Files.{CountsFailure, FileMap, SameFiles}
 pub use Rattle.krb_files.proofs.PlanLaws.{Lasts, comes, loaded-lasts, count-more, count-trans, same-trans}
 pub use Rattle.krb_driver.specs.declared.loading.NoKeytab.{NoKeytab}
 pub use Rattle.krb_driver.proofs.Running.{finishes-keeps, finishes-lasts}
+pub use Rattle.std.proofs.lemmas.List.Splits.{length-slice_split}
+pub use Rattle.std.proofs.lemmas.Grind.{common_steps, flat_map-append}
+pub use Rattle.krb_files.proofs.Reading.{Consumes-trans}
+pub use Rattle.std.proofs.Math.Seq.{take-append_seam, drop-cons}
+pub use Rattle.krb_files.specs.declared.files.LoadFault.{LoadFault}
+pub use Rattle.krb_files.proofs.Prefixes.{Appends-nil, Appends-trans, AppendsPrefix-after, AppendsPrefix-all}
+pub use Rattle.krb_driver.specs.declared.reporting.details.Details.{Details}
+pub use Rattle.krb_wire.specs.declared.format.Order.{Order}
 pub use Rattle.krb_text.specs.declared.line_fault.LineRefusal.{LineRefusal}
 pub use Rattle.krb_text.specs.LineFault.{Reads}
-pub use Rattle.std.proofs.Math.Seq.{drop-cons, take-append_seam}
-pub use Rattle.std.proofs.lemmas.List.Splits.{length-slice_split}
-pub use Rattle.std.proofs.lemmas.Bool.Decides.{leb_tells, nat_tests}

@@ -4,15 +4,15 @@ pub use Rattle.std.specs.List.{fold, All, list_any, dedup, dedup_from}
 pub use Rattle.std.specs.Prelude.{◌||◌, ◌&&◌, ◌==◌}
 pub use Rattle.std.specs.Str.{bytes_eq}
 pub use Rattle.std.specs.Vec.{vec_items}
-pub use Rattle.krb_names.specs.Hash.{HashedName, hash_of, name_cmp, hash_of_words, with_number}
+pub use Rattle.krb_names.specs.Hash.{HashedName, hash_of, name_cmp, with_number, hash_of_words}
 pub use Rattle.krb_names.specs.Set.{AreHashed, is_among, is_place, HaveSameNames, IsAlone}
-pub use Rattle.std.proofs.lemmas.Bool.{and_parts, cases_lt, cases_order, eq-eqb, ne_eqb, cases_eq, eqb-true}
-pub use Rattle.std.proofs.lemmas.Cmp.{alike_right, nat_list_eq_equiv, nat_cmp_total, on_total, then_total}
-pub use Rattle.std.proofs.lemmas.List.{get_or-map, get_or_default, length-map, take_all, ext_get_or, get_or-set_other, get_or-set_same, length-set}
-pub use Rattle.std.proofs.lemmas.List.Folds.{list_any_at, list_any_none, Any-from_list_any}
-pub use Rattle.std.proofs.lemmas.List.Kept.{Contains-from_dedup, IsStrictlySortedBy-dedup}
-pub use Rattle.std.proofs.lemmas.List.Sorted.{list_any-IsPermutation, searchable_from_sorted, All-permutation}
+pub use Rattle.krb_names.specs.Marks.{has_mark, with_mark}
+pub use Rattle.std.proofs.lemmas.List.{take_all, ext_get_or, get_or-map, get_or-set_other, get_or-set_same, get_or_default, length-map, length-set}
+pub use Rattle.std.proofs.lemmas.List.Kept.{IsStrictlySortedBy-dedup, Contains-from_dedup}
+pub use Rattle.std.proofs.lemmas.List.Sorted.{All-permutation, list_any-IsPermutation, searchable_from_sorted}
+pub use Rattle.std.proofs.lemmas.Bool.{cases_eq, eq-eqb, eqb-true, ne_eqb, and_parts, cases_lt, cases_order}
+pub use Rattle.std.proofs.lemmas.List.Folds.{Any-from_list_any, list_any_at, list_any_none}
 pub use Rattle.std.proofs.lemmas.Slice.Eq.{bytes_eq-Decides}
 pub use Rattle.std.specs.Option.{is_some}
-pub use Rattle.std.specs.Ordering.{is_eq, is_lt, ordering_reverse, eq_by_cmp}
-pub use Rattle.krb_names.specs.Marks.{with_mark, has_mark}
+pub use Rattle.std.proofs.lemmas.Cmp.{nat_cmp_total, on_total, then_total, alike_right, nat_list_eq_equiv}
+pub use Rattle.std.specs.Ordering.{eq_by_cmp, is_eq, is_lt, ordering_reverse}

@@ -5,17 +5,17 @@ pub use Rattle.std.proofs.lemmas.Result.{on_ok_weaker}
 pub use Rattle.krb_text.proofs.Passing.{gathered_then}
 pub use Rattle.std.specs.List.{flat_map, fold, list_any}
 pub use Rattle.krb_ccache.specs.Store.{placed_credentials}
-pub use Rattle.std.specs.Prelude.{codes, Option, unwrap_or, replicate, ⊤, ◌==◌, ◌||◌, max, Some, option_map, ◌<◌, if◌then◌else◌}
+pub use Rattle.std.specs.Prelude.{codes, Option, unwrap_or, max, ◌<◌, if◌then◌else◌, ◌==◌, ◌||◌, Some, option_map, replicate}
 pub use Rattle.krb_audit.specs.declared.selection.SelectedKvno.TheVariants.{Old}
 pub use Rattle.krb_keytab.specs.Find.{placed_entries, PlacedEntry}
-pub use Rattle.krb_show.specs.Columns.{cells_behind, column_width, widths, counted, cell_of, row_text, asked_width}
 pub use Rattle.krb_wire.proofs.Fields.{some_is, is_some_has}
 pub use Rattle.krb_keytab.specs.Entry.{EntryParts, entry_at}
-pub use Rattle.krb_show.specs.KeytabView.{LineKey, LineParts, line_key, lines_from, put_entry, with_number, name_count, distinct, keys_cell, spaced, line_cmp, key_row, grown, with_entry}
+pub use Rattle.krb_show.specs.KeytabView.{LineKey, LineParts, line_key, lines_from, put_entry, key_row, line_cmp, spaced, with_number, name_count, grown, with_entry}
 pub use Rattle.krb_show.specs.Lines.{AreSoFar}
-pub use Rattle.krb_wire.specs.declared.format.KtFormat.{KtFormat}
+pub use Rattle.krb_show.specs.Columns.{asked_width, cell_of, row_text, widths, cells_behind, counted, column_width}
+pub use Rattle.krb_show.specs.CacheView.{ticket_row, tickets}
 pub use Rattle.krb_keytab.specs.Entries.{entries_in}
-pub use Rattle.krb_wire.specs.Names.{name_text}
-pub use Rattle.krb_show.specs.CacheView.{end_cell, ticket_row, tickets}
 pub use Rattle.std.specs.BTreeSet.{BTreeSet, contains}
 pub use Rattle.std.specs.Ordering.{is_eq, nat_cmp}
+pub use Rattle.krb_wire.specs.declared.format.KtFormat.{KtFormat}
+pub use Rattle.krb_wire.specs.Names.{name_text}

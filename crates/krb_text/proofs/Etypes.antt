@@ -1,6 +1,7 @@
 -- The table of encryption types.
-use Rattle.krb_text.proofs.Cited.{◌≡◌, ℕ, List, [], true, false, Option, Some, None, IsSome, IfSome, ◌==◌, refl, ap, ◌∙◌, slice_get, eqb-true, AllByRecursion, Etype, etype_table, etype_numbered, etype_name_of, etype_text_of, etype_in, unnamed}
+use Rattle.krb_text.proofs.Cited.{◌≡◌, ℕ, List, [], true, false, Option, Some, None, IsSome, IfSome, ◌==◌, refl, ap, ◌∙◌, slice_get, eqb-true, AllByRecursion}
 use Rattle.std.specs.Option.{MatchOption, option_map_or, unwrap_or}
+use Rattle.krb_text.specs.Etype.{Etype, etype_table, etype_numbered, etype_name_of, etype_text_of, etype_in, unnamed}
 use Rattle.krb_text.proofs.Found.{MatchOption-find}
 
 -- the name that is printed of an enctype, if it has one, is read back as its number

@@ -1,9 +1,10 @@
 -- The day n days after 1970-01-01, counted day by day, has the day number n.
-use Rattle.krb_text.proofs.Cited.{◌≡◌, ℕ, zero, suc, ◌+◌, ◌<◌, ◌≤◌, pos, neg_ℤ, ◌+ℤ◌, ◌≤ℤ◌, ◌∙◌, sym, refl, arith, Bool, true, false, nat_lt, ltb-true, ltb-false, if◌then◌else◌, ints, IsInRange, Day, next_day, day_number, epoch_day_injective, days_from_civil-day_count, day_count-later_year, day_count-day_of_year, day_count-next_year, day_count-end}
+use Rattle.krb_text.proofs.Cited.{◌≡◌, ℕ, zero, suc, ◌+◌, ◌<◌, ◌≤◌, pos, neg_ℤ, ◌+ℤ◌, ◌≤ℤ◌, ◌∙◌, sym, refl, arith, Bool, true, false, nat_lt, ltb-true, ltb-false, if◌then◌else◌, ints, IsInRange, epoch_day_injective, days_from_civil-day_count, day_count-later_year, day_count-day_of_year, day_count-next_year, day_count-end}
 use Rattle.jiff_core.specs.Calendar.{days_from_civil, days_in_month}
 use Rattle.jiff_core.proofs.DateLemmas.{days_from_civil-day, days_from_civil-next_month, days_from_civil-next_year}
 use Rattle.jiff_core.proofs.CalendarLemmas.{days_in_month_bounds}
 use Rattle.jiff_core.proofs.StandardFacts.{known_days}
+use Rattle.krb_text.specs.Calendar.{Day, next_day, day_number}
 use Rattle.jiff_core.specs.Date.{epoch_day}
 use Rattle.jiff_core.specs.declared.civil.date.Date.{Date}
 

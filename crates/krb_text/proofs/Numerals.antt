@@ -1,9 +1,11 @@
 -- Decimal digits, and what `parse` returns for them.
-use Rattle.krb_text.proofs.Cited.{◌≡◌, ℕ, ◌^◌, ◌<◌, List, length, true, false, ◌&&◌, Result, Ok, Err, nat_lt, Bor, nat_le, refl, arith, rules, list_all, result_ok, MatchResult, OkIff, MatchOption, and_parts, ltb-true, is_ascii_digit, IsUtf8, IsAscii-from_digits, is_numeral, number_in}
+use Rattle.krb_text.proofs.Cited.{◌≡◌, ℕ, ◌^◌, ◌<◌, List, length, true, false, ◌&&◌, Result, Ok, Err, nat_lt, Bor, nat_le, refl, arith, rules, list_all, result_ok, MatchResult, OkIff, MatchOption, and_parts, ltb-true, is_ascii_digit, IsAscii-from_digits}
+use Rattle.std.specs.Str.{IsUtf8}
 use Rattle.std.specs.Str.Parse.{digits_value, ParsesUnsigned}
 use Rattle.std.proofs.lemmas.Bool.Decides.{nat_tests}
 use Rattle.std.proofs.lemmas.Str.{IsUtf8-from_ascii}
 use Rattle.std.proofs.lemmas.Str.Parse.{IsNumeralModel, numerals_by_value, parse_digits}
+use Rattle.krb_text.specs.Numbers.{is_numeral, number_in}
 
 -- the digits and their value are those of `parse`
 own : IsNumeralModel (λ ds. list_all is_ascii_digit ds ≡ true) (digits_value 10)

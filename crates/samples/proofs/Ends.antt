@@ -1,5 +1,5 @@
 -- How runs end, when they read the clock, and what hold takes: worked by hand from krbfile(1).
-use Rattle.samples.proofs.Cited.{◌≡◌, ◌+◌, ℕ, [], ◌∷◌, map, codes, true, false, None, Some, Ok, Err, refl, Little, most_bytes, Old, OldFor, Well, CommandPlan, ended_by, node_of, FileName, Word, Default, always, of_file, ErrorWatch, end_status, error_status, save_error, frame, most_frame, held_in, received, needed_time, is_missing, first_talk}
+use Rattle.samples.proofs.Cited.{◌≡◌, ◌+◌, ℕ, [], ◌∷◌, map, codes, true, false, None, Some, Ok, Err, refl, Little, most_bytes, Old, OldFor, Well, CommandPlan, ended_by, node_of, FileName, Word, Default, ErrorWatch, end_status, error_status, save_error, frame, most_frame, held_in, received, needed_time, is_missing, first_talk}
 use Rattle.krb_wire.specs.declared.format.Order.{Order}
 use Rattle.krb_walk.specs.declared.fault.FaultKind.TheVariants.{CutLength}
 use Rattle.krb_files.specs.declared.aftermath.Aftermath.TheVariants.{Damaged, LostChange, Mixed, Restored}
@@ -10,6 +10,7 @@ use Rattle.krb_files.specs.declared.node.Node.TheVariants.{Nothing, PlainFile, F
 use Rattle.krb_files.specs.Bytes.{Watch}
 use Rattle.krb_driver.specs.declared.error.RunError.TheVariants as error
 use Rattle.krb_driver.specs.declared.command.World.{World}
+use Rattle.krb_driver.specs.Commands.{always, of_file}
 use Rattle.krb_driver.specs.Several.{first_round, is_last}
 use Rattle.krb_editors.specs.declared.ccremove.TicketOptions.{TicketOptions}
 use Rattle.krb_editors.specs.declared.hold.last_line.Outcome.TheVariants.{Saved, Left}

@@ -1,4 +1,5 @@
-use Rattle.krb_text.proofs.Cited.{ℕ, ◌%◌, sym, ap, ◌∙◌, day_number, day_text}
+use Rattle.std.proofs.Common.{ℕ, ◌%◌, sym, ap, ◌∙◌}
+use Rattle.krb_text.specs.Calendar.{day_number, day_text}
 use Rattle.krb_text.proofs.time.LastTime.text_of_day.Goals as goal
 
 pub returns-then-days-self : goal.returns-then-days-self
