@@ -4,11 +4,15 @@ from dataclasses import replace
 
 from keytabs.edits import LINE_FAULTS, by_line, faulty_lines, refused
 from keytabs.file_names import LIMIT
-from makers.images import PA_TYPE, TICKET, USUAL, VERSION_3, Credential, Name, cache, config
+from makers.images import (OFFSET, PA_TYPE, TICKET, USUAL, VERSION_3, Credential, Name, cache, config, header_field,
+                           offset)
 from runs.harness import Case, Outcome, message, over
 
 SET_3 = "config pa_type krbtgt/R@R 3"
 THREE = config(b"pa_type", b"3", b"krbtgt/R@R")
+
+# A ticket with each of the four times.
+TIMED = replace(TICKET, starttime=2, renew_till=4)
 
 # Lines, and the fault of each.
 FAULTS = LINE_FAULTS | by_line({
@@ -47,9 +51,15 @@ CASES = [
     value("each byte of a value", b"config k - " + BYTES, b"k", BYTES),
     value("each byte of a key", b"config " + ODD + b" - v", ODD, b"v"),
     value("a principal as it is written", b"config k a\\/b\\@\\c@R\\\\ v", b"k", b"v", b"a\\/b\\@\\c@R\\\\"),
-    edit("version 3 becomes 4", VERSION_3, ["start", "step 0", "start", "rewrite", "step 0", "step 1", "cut 22"],
-         ["walk 0 at 20", "walk 0 gave 20 next 130 etype 17 krbtgt/R@R", "walk 1 at 20", "rewritten 130",
-          "walk 0 end 130", "walk 1 gave 22 next 130 etype 17 krbtgt/R@R", "gone 22"], cache(TICKET.removed())),
+    edit("in place of another value, and two times stay", cache(PA_TYPE, TIMED), [SET_3, "cut 158"],
+         ["placed 266", "gone 22", "gone 158"], cache(PA_TYPE.removed(), TIMED.removed(), THREE)),
+    edit("the first whole offset", cache(fields=header_field(1, b"\0\0\0\1") + OFFSET + offset(0, 0)), ["rewrite"],
+         ["rewritten 34"], cache(fields=OFFSET)),
+    edit("version 3 becomes 4", VERSION_3,
+         ["start", "step 0", "start", "cut 20", "rewrite", "step 0", "step 1", "cut 22"],
+         refused("walk 0 at 20", "walk 0 gave 20 next 130 etype 17 krbtgt/R@R", "walk 1 at 20", "refused 8",
+                 "rewritten 130", "walk 0 end 130", "walk 1 gave 22 next 130 etype 17 krbtgt/R@R", "gone 22"),
+         cache(TICKET.removed())),
     lambda: edit("too long in version 4", cache(default=Name((b"x" * (LIMIT - 19),)), version=3),
                  ["start", "rewrite", "resume 22"], refused(f"walk 0 at {LIMIT}", "refused 3", "refused 4")),
     lambda: edit("no room for a value", cache(long_ticket(LIMIT - 22)), ["config k - v", "cut 22"],

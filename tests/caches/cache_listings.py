@@ -4,8 +4,8 @@ from dataclasses import replace
 from functools import partial
 
 from keytabs.listings import KNOWN_TIMES
-from makers.images import FLAGS, TICKET, Name, cache, config, header_field, offset
-from runs.harness import Case, Outcome, over
+from makers.images import FLAGS, TICKET, USUAL, Name, cache, config, header_field, offset
+from runs.harness import Case, Outcome, message, over
 
 TICKET_LINE = b"2023-11-14T22:13:20Z 2023-11-15T08:13:20Z krbtgt/R@R"
 
@@ -18,6 +18,12 @@ def listed(default: bytes, *lines: bytes, name: bytes = b"c") -> bytes:
              b"Valid starting       Expires              Service principal")
     return b"".join(line + b"\n" for line in (*first, *lines))
 
+
+# The line that each column adds.
+ADDED = {"f": b"    Flags: FRIA", "e": b"    Etype: aes128-cts-hmac-sha1-96", "C": b"config: pa_type(krbtgt/R@R) = 2"}
+
+# A name of the greatest count, of which there is the realm.
+MANY = Name((), count=2**32 - 1)
 
 # How an overview begins.
 HEADING = b"Principal name                 Cache name\n--------------                 ----------\n"
@@ -45,6 +51,13 @@ ESCAPED = (b"".join(b"\\x%02x" % byte for byte in range(0x20)) + bytes(range(0x2
            + bytes(range(0x5D, 0x7F)) + b"".join(b"\\x%02x" % byte for byte in range(0x7F, 0x100)))
 
 CASES = [
+    *(case(f"columns {columns}", USUAL, TICKET_LINE, *(ADDED[it] for it in columns), columns=columns)
+      for columns in ("", "f", "C", "feC")),
+    case("a value", cache(config(b"k", b"a\\ \n~\x7f\xff")), b"config: k = a\\\\ \\x0a~\\x7f\\xff", columns="C"),
+    case("the greatest count", cache(MANY.spelled()), b"fault 4 at 22"),
+    # A header that is longer than the file, one that ends within a field, and no whole default principal.
+    *(over(f"no cache: {image}", "klist c", image, message(1, f"c: not a cache ({number})")) for image, number in (
+        (b"\5\4\0\1", 4), (b"\5\4\0\4\0\1\0\1\xff", 4), (cache(default=MANY), 5))),
     case("flags", cache(*(replace(TICKET, flags=flags) for flags in LETTERS)),
          *(line for letters in LETTERS.values() for line in (TICKET_LINE, b"    Flags: " + letters)), columns="f"),
     case("known times", cache(*(replace(TICKET, starttime=at, endtime=at, renew_till=at) for at in TIMED)),

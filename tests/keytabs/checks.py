@@ -1,5 +1,5 @@
-"""Entries that `ktcheck` calls hidden and some that it does not, what it says of modes, and its objects of JSON. Random
-checks show the rest."""
+"""Findings of `ktcheck`, entries that it calls hidden and some that it does not, what it says of modes, and objects of
+JSON. Random checks show the rest."""
 
 import json
 import os
@@ -9,7 +9,7 @@ from dataclasses import replace
 from keytabs.listings import KEY_SIZES
 from keytabs.removals import told
 from makers.images import B, HOST, TWO, Entry, keytab
-from runs.harness import Outcome, Report, folder_of, over, printed, run, with_mode
+from runs.harness import Case, Outcome, Report, folder_of, over, printed, run, with_mode
 
 # The smallest length that MIT's reader takes for the end.
 LONG = 32_768
@@ -83,10 +83,32 @@ def unchecked(name: str, message: str, status: int) -> bytes:
     return of_json(file=name, error=message.removeprefix(f"{name}: "), status=status)
 
 
-CASES = [over("keys of each length", "ktcheck k", keytab(*SIZED), with_mode(*(
-    f"{word} {told(it, *SIZED[:at])}" for at, it in enumerate(SIZED) for word, is_so in (
-        ("weak", it.enctype in (3, 16, 23)), ("size", KEY_SIZES.get(it.enctype, len(it.key)) != len(it.key))) if is_so),
-    f"entries {len(SIZED)} free 0 holes 0"))]
+def found(name: str, entries: list[Entry], *lines: str) -> Case:
+    """Returns a check that has those findings about entries."""
+    return over(name, "ktcheck k", keytab(*entries), with_mode(*lines, f"entries {len(entries)} free 0 holes 0"))
+
+
+# Versions of a name, the old one first. A version of 8 bits begins again: one above 240 is older than one below 128.
+VERSIONS = (255, 1), (241, 127), (128, 241), (127, 240)
+
+CASES = [
+    found("keys of each length", SIZED, *(
+        f"{word} {told(it, *SIZED[:at])}" for at, it in enumerate(SIZED) for word, is_so in (
+            ("weak", it.enctype in (3, 16, 23)),
+            ("size", KEY_SIZES.get(it.enctype, len(it.key)) != len(it.key))) if is_so)),
+    found("versions that begin again", [
+        Entry((b"%d" % at,), version8=it, version32=it) for at, those in enumerate(VERSIONS) for it in those],
+        *(f"old {2 + 90 * at} kvno {it} etype 17 {at}@R" for at, (it, _) in enumerate(VERSIONS))),
+    over("names that are wanted", "ktcheck --want c@R --want b@R --want c@R k", TWO,
+         with_mode("missing c@R", "entries 2 free 0 holes 0")),
+    found("the same key", [HOST, HOST], "same 53 2 kvno 3 etype 17 host/a@R"),
+    found("another key", [HOST, B, replace(B, key=b"another key here")], "clash 98 53 kvno 3 etype 17 b@R"),
+    found("all of an entry", [replace(B, enctype=23), replace(B, enctype=23, key=b""), replace(B, version32=4)],
+          *(f"{it} kvno 3 etype 23 b@R" for it in (
+              "weak 2", "old 2", "weak 47", "size 47", "hidden 47", "clash 47 2", "old 47"))),
+    found("the first with an empty component", [ODD["an empty middle component"], Entry((b"a", b"", b"c")), B],
+          "hidden 2 kvno 3 etype 17 a//b@R"),
+]
 
 
 def check(report: Report, program: str) -> None:

@@ -57,6 +57,9 @@ CASES = [
     copy("another key", "-n", TWO, keytab(OTHER), printed(f"copied 47 {X}", f"clash 53 2 {Y}", status=1)),
     copy("two other keys", "--replace", keytab(B), keytab(OTHER, HOST, THIRD),
          [f"removed 2 {Y}", f"removed 98 {Y}", f"copied 2 {Y}"], keytab(B, HOST, 41)),
+    # None takes the place of one that was asked for before it.
+    *(copy("a twin", "-n --replace", keytab(B, OTHER), target, printed(*lines, f"clash 47 2 {Y}", status=1))
+      for target, *lines in ((None, f"copied 2 {Y}"), (keytab(B),))),
     # What makes two entries the same: name, version and enctype, not time and name type.
     copy("its key behind another, of another time and name type", "", keytab(B),
          keytab(OTHER, replace(B, timestamp=9, name_type=3)), []),

@@ -1,9 +1,11 @@
-"""Scripts of `ktedit`: faulty lines, long ones, large files, and no file. Random scripts show the rest."""
+"""Scripts of `ktedit`: faulty lines, changes and walks, long lines, large files, and no file. Random scripts show the
+rest."""
 
 from collections.abc import Callable
+from dataclasses import replace
 
 from keytabs.file_names import LIMIT
-from makers.images import B, HOST, TWO, Entry, keytab, record
+from makers.images import B, END, HOST, TWO, Entry, hole, keytab, old, record
 from runs.harness import Case, Outcome, message, over, printed
 
 # Lines that add host/a@R and b@R, as HOST and B have them, and c@R.
@@ -12,6 +14,7 @@ B_KEY = B.key.hex()
 ADD = f"add 3 17 1700000000 {B_KEY}"
 ADD_B = f"{ADD} b@R"
 ADD_C = "add 3 17 1700000000 202122232425262728292a2b2c2d2e2f c@R"
+C = replace(B, components=(b"c",), key=bytes(range(32, 48)))
 
 
 def by_line(lines: dict[int, list[str]]) -> dict[str, int]:
@@ -50,6 +53,11 @@ def refused(*replies: str) -> Outcome:
     return printed(*replies, status=1)
 
 
+def gave(walk: int, place: int, end: int, name: str) -> str:
+    """Returns the reply to a step of a walk that gives an entry."""
+    return f"walk {walk} gave {place} next {end} kvno 3 etype 17 {name}"
+
+
 def edit(name: str, image: bytes | None, script: bytes | list[str], wanted: Outcome | list[str],
          after: bytes | None = None) -> Case:
     """Returns a script of `ktedit` over the file `k`, or over none; see `over`."""
@@ -72,6 +80,31 @@ CASES = [
     edit("comments, empty lines and no last line end", TWO, b"\n# cut 2\n#\n\n\ncut 53", ["gone 53"], keytab(HOST, 41)),
     edit("a name with spaces and odd bytes", None, ADD.encode() + b" x y\xff /\\@\\/\\n\\0\\z@ R\\\\", ["placed 2"],
          keytab(Entry((b"x y\xff ", b"@/\n\0z"), b" R\\", key=B.key))),
+    # Additions: to the first hole that is large enough, which keeps its size, to the end, and to an end mark.
+    edit("into a hole and at the end", keytab(*(hole(b"\xff" * size) for size in (20, 47, 41))), [ADD_B, ADD_HOST],
+         ["placed 26", "placed 122"],
+         keytab(hole(b"\xff" * 20), record(B.spelled() + bytes(6)), hole(b"\xff" * 41), HOST)),
+    edit("at an end mark", keytab(HOST, END, b"\xff" * 20), [ADD_B], ["placed 53"], TWO + END),
+    edit("a version of more than 8 bits", keytab(), [ADD_B.replace(" 3 ", " 300 ", 1)], ["placed 2"],
+         keytab(replace(B, version8=44, version32=300))),
+    edit("into version 1", old(), [ADD_HOST], ["placed 2"], old(HOST)),
+    edit("version 1 becomes 2", old(HOST), ["rewrite"], ["rewritten 53"], keytab(replace(HOST, name_type=0))),
+    edit("no records to remove", TWO, ["cut 3", "cut 2", "cut 2"], refused("refused 5", "gone 2", "refused 5"),
+         keytab(47, B)),
+    edit("a damaged keytab", keytab(HOST, B, b"\0\0"), [ADD_B, "cut 2", "rewrite", "resume 98", "step 0", "step 0"],
+         refused(*["refused 1"] * 3, "walk 0 at 98", *["walk 0 fault 1 at 98"] * 2)),
+    # A walk begins at a cell or at the end. Only walk 1 has yet to pass the place to which c@R comes.
+    edit("places of walks", TWO, ["resume 54", "resume 4294967295", "resume 53", "resume 98", "step 1", "step 2"],
+         refused("refused 4", "refused 4", "walk 0 at 53", "walk 1 at 98", "walk 1 end 98", "refused 6")),
+    edit("walks over changes", TWO,
+         ["start", "step 0", "start", "cut 2", ADD_C, "step 1", "step 0", "step 0", ADD_HOST, "step 0"],
+         ["walk 0 at 2", gave(0, 2, 53, "host/a@R"), "walk 1 at 2", "gone 2", "placed 2", gave(1, 2, 53, "c@R"),
+          gave(0, 53, 98, "b@R"), "walk 0 end 98", "placed 98", gave(0, 98, 149, "host/a@R")],
+         keytab(record(C.spelled() + bytes(6)), B, HOST)),
+    edit("walks over a rewrite", TWO + END + b"\1",
+         ["start", "step 0", "start", "cut 2", "rewrite", "step 0", "step 1"],
+         ["walk 0 at 2", gave(0, 2, 53, "host/a@R"), "walk 1 at 2", "gone 2", "rewritten 47", gave(0, 2, 47, "b@R"),
+          gave(1, 2, 47, "b@R")], keytab(B)),
     edit("too long a component, too long a key, too many components", TWO,
          [f"add 3 17 0 {B_KEY} {'x' * 65_536}@R", f"add 3 1 0 {'00' * 65_536} b@R", f"add 3 1 0 - {'/' * 65_535}@R"],
          refused(*["refused 2"] * 3)),

@@ -2,9 +2,10 @@
 layout. And texts in JSON: Python reads each as it is, and one that is no UTF-8 by its hexadecimal digits."""
 
 import json
+from dataclasses import replace
 
-from makers.images import LITTLE, Entry, cache, config, keytab, old, record
-from runs.harness import Case, Outcome, Report, over
+from makers.images import BIG, END, HOST, LITTLE, B, Entry, cache, config, hole, keytab, old, record
+from runs.harness import Case, Outcome, Report, message, over
 from runs.undisturbed import undisturbed
 
 # The enctypes that have names: the lengths of their keys, and the names, of which the first is printed.
@@ -69,7 +70,20 @@ LONG = Entry((b"",) * 40_000 + (b"x" * 65_535,), b"r" * 40_000, key=bytes(40_000
 CASES = [
     case("lengths and a count that would be negative as signed numbers", keytab(LONG),
          b"   3 " + b"/" * 40_000 + b"x" * 65_535 + b"@" + b"r" * 40_000),
+    case("no entries", keytab()), case("the smallest entry", keytab(record(bytes(17))), b"   0 @"),
+    case("a hole of any bytes", keytab(hole(b"\xff" * 47), B), B_LINE),
+    case("an entry after an end mark", keytab(HOST, END, B), HOST_LINE),
+    # Half a length, a record and a hole that are longer than what is left, and a record that begins with no entry.
+    *(case(f"a fault at {rest[:4]}", keytab(HOST, rest), HOST_LINE, b"fault %d at 53" % kind) for kind, rest in (
+        (1, b"\0\0"), (2, b"\x7f\xff\xff\xff"), (2, b"\x80\0\0\0"), (3, record(bytes(10)) + record(B.spelled())))),
+    # A version of 32 bits counts if it has four bytes and is not 0.
+    case("versions of 8 and of 32 bits", keytab(*(
+        record(replace(HOST, version8=7, version32=None).spelled() + rest)
+        for rest in (b"", b"\0\0\1", b"\0\0\0\0", b"\0\0\1\0"))), *[b"   7 host/a@R"] * 3, b" 256 host/a@R"),
     case("a count of 0 in version 1", old(record(bytes(17), LITTLE)), b"fault 3 at 2"),
+    case("version 1 in the other order", old(HOST, order=BIG), b"fault 2 at 2"),
+    *(over(f"no keytab: {image}", "klist -k k", image, message(1, f"k: not a keytab ({number})"))
+      for image, number in ((b"\5", 1), (b"\4\2", 2), (b"\5\3", 2))),
     # All enctypes, with the names of those that have one.
     lambda: case("enctypes", keytab(*(Entry((b"a",), enctype=each, key=b"") for each in range(65_536))),
                  *(b"   3 a@R (%s)" % NAMES.get(each, b"etype %d" % each) for each in range(65_536)), letters="e"),

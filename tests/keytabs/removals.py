@@ -1,9 +1,9 @@
-"""Removals by `ktremove`, and what look-ups and copies have in common with them: entries, the lines that tell of them,
-and refusals."""
+"""Removals by `ktremove`, look-ups by `ktfind`, and what copies have in common with them: entries, the lines that tell
+of them, and refusals."""
 
 from keytabs import greatest
 from makers.images import HOST, Entry, keytab, name_text
-from runs.harness import Case, message, over
+from runs.harness import Case, Outcome, message, over, printed, words_of
 
 NOT_FOUND = message(1, "k: refused 9")
 DAMAGED = message(1, "k: refused 1")
@@ -36,10 +36,16 @@ def remove(name: str, words: str, those: tuple[Entry, ...], *gone: int) -> Case:
                 [f"removed {told(those[at], *those[:at])}" for at in gone], after)
 
 
+def look_up(words: str, wanted: Outcome, image: bytes = FOUR) -> Case:
+    """Returns a look-up of what these words say."""
+    return Case(f"looked up: {words}", ("ktfind", "k", *words_of(words)), wanted, {"k": image})
+
+
 SIGNED = B3, Entry((b"=b",))
 
 # Words that select, as they stand on a line. What each selects random removals show.
 CASES = [
+    remove("all old ones", "-k old", THOSE, 0),
     remove("one by the name of its enctype", r"-k 5 -p b@R -e 17 -p \host/a@R -e aes256-cts-hmac-sha1-96", THOSE, 1, 2),
     remove("old and new words", "-kold -phost/a@R -e17", THOSE, 0),
     remove("old for long", "--age 0000086400 -kold", THOSE, 0),
@@ -47,4 +53,10 @@ CASES = [
     over("a file of a name like an option", "ktremove -pb@R -- -p=b@R", keytab(B3), ["removed 2 kvno 3 etype 17 b@R"],
          keytab(41)),
     greatest.most_of_one_name, greatest.many_long_names,
+    # The first of the highest version that is asked for, or code 10 if there are others of the name and the type.
+    look_up("0 0 host/a@R", printed(f"found {told(AES256, HOST)}")),
+    look_up("0 17 host/a@R", printed(f"found {told(FIVE, HOST, AES256)}")),
+    look_up("3 0 host/a@R", printed(f"found {told(HOST)}")), look_up("4 0 host/a@R", message(1, "k: refused 10")),
+    look_up("0 23 host/a@R", NOT_FOUND), look_up("0 17 host/a@S", NOT_FOUND),
+    look_up("0 0 host/a@R", DAMAGED, FOUR + b"\0"),
 ]
