@@ -5,7 +5,7 @@ from functools import partial
 
 from makers.images import B, PA_TYPE, TICKET, Entry, Name, cache, keytab
 from names.several_keytabs import MISSING, UNREAD
-from runs.harness import Case, Line, Outcome, Report, faults_of, shown, words_of
+from runs.harness import Case, Line, Outcome, Report, shown, words_of
 from runs.system_calls import preloaded
 from words.explaining import FAILED, FULL, Explained, no_keytab
 from words.phrases import BAD_DEFAULT, COLLECTION, FAULTS, NOT_READ, SHORT, SHOWN_AS_NEITHER
@@ -44,9 +44,10 @@ KEYTABS = {
     ("1 key of 1 principal", (replace(B, timestamp=2**32 - 1),)): of_keys(
         "3|in 82 y|aes128|b@R", widths=(4, 7, 6)),
     # A cell of more than 40 characters pads nothing.
-    ("11 keys of 2 principals", (*TYPES, LONG)): of_keys(
-        "3|-|aes128 aes256 aes128-sha2 aes256-sha2 rc4! des3! camellia128 camellia256 and 2 more|t@R",
-        "3|-|65535|l@R", widths=(4, 5, 5)),
+    ("12 keys of 2 principals", (*TYPES, LONG, replace(TYPES[0], version32=4))): of_keys(
+        "4|-|aes128|t@R",
+        "3|-|aes128 aes256 aes128-sha2 aes256-sha2 rc4! des3! camellia128 camellia256 and 2 more old|",
+        "3|-|65535|l@R", widths=(4, 5, 6)),
     ("0 keys of 0 principals", ()): "",
     ("20 keys of 20 principals", tuple(
         Entry((b"%d" % at,), timestamp=NOW - at) for at in (*AGES, *(-it for it in AGES)))):
@@ -99,5 +100,4 @@ def check(report: Report, program: str) -> None:
     for kind, image, what, text in files if under else ():
         out = "\n".join([f"f: {kind}, {what}\n{text}"] * 2).encode()
         case = Case(f"{kind}, {what}", ("show", "f", "f"), Outcome(0, out), {"f": image})
-        got = under.run(case, CLOCK=NOW, FAIL_CLOCK=2)
-        report.check(case.name, faults_of(case, got.outcome, got.files))
+        under.check(report, case, CLOCK=NOW, FAIL_CLOCK=2)

@@ -12,7 +12,7 @@ from collections import Counter
 from collections.abc import Callable, Iterator
 from dataclasses import dataclass, replace
 
-from runs.harness import SECONDS, Case, Outcome, Report, files_in, folder_of, run
+from runs.harness import SECONDS, Case, Outcome, Report, faults_of, files_in, folder_of, mode_of_files, run
 from runs.undisturbed import Run, preload_library, undisturbed
 
 # A line of a trace that begins a system call.
@@ -140,6 +140,12 @@ class Preloaded:
                 return None
             requests, *others = struct.unpack("=4Q", counted)
             return Counted(outcome, files_in(folder), requests, *others)
+
+    def check(self, report: Report, case: Case, **clock: int) -> None:
+        """Makes a run by a clock and reports it. What it comes to is computed too, but not by a clock past 32 bits."""
+        got, second = self.run(case, **clock), clock.get("CLOCK", 2**32)
+        report.seen.append(replace(case, clock=second if second < 2**32 else None, mode=mode_of_files()))
+        report.check(case.name, faults_of(case, got.outcome, got.files))
 
 
 def preloaded(report: Report, program: str, what: str) -> Preloaded | None:

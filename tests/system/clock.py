@@ -6,11 +6,12 @@ from dataclasses import replace
 from itertools import chain
 
 from caches.cache_listings import HEADING, line_of
+from caches.overviews import summary
+from caches.valid_tickets import TICKETS, ask
 from keytabs.ktutil_lines import ADDENT, KEY, TIMES
 from keytabs.removals import FOUR, X, versioned
 from makers.images import OFFSET, PA_TYPE, TICKET, USUAL, cache, keytab, offset
-from runs.harness import (BAD_LINE, Case, Outcome, Report, faults_of, message, over, printed, text, with_mode,
-                          words_of)
+from runs.harness import BAD_LINE, Case, Outcome, Report, message, over, printed, text, with_mode, words_of
 from runs.system_calls import preloaded
 from words.phrases import CLOCK
 
@@ -95,6 +96,7 @@ def aged() -> Iterator[Row]:
                    keytab(41 if is_removed else old, new)), {"CLOCK": now}
         yield checked(f"{age} aged at {now}", f"ktcheck --older {age} k", 1_000_000, is_removed), {"CLOCK": now}
     yield checked("no time", f"{OLDER} k", 0, False), {"CLOCK": 5}
+    yield over("no time", f"{AGE} k", keytab(old, versioned(2, 0)), []), {"CLOCK": 5}
     yield over("a clock below an age", "ktremove -k old --age 6 k", keytab(old, versioned(2, 0)), []), {"CLOCK": 5}
 
 
@@ -107,8 +109,11 @@ def valid() -> Iterator[Row]:
         if seconds == 0:
             rows["klist -s c"] = Outcome(1 - is_valid)
             rows["klist -l c"] = Outcome(0, HEADING + line_of("c", not is_valid))
+            members = f'1,"endtime":{end},"expired":{str(not is_valid).lower()}'
+            rows["klist -l --json c"] = Outcome(0, summary("c", members))
         yield from ((over(f"{line}, {end} at {now}", line, image, wanted), {"CLOCK": now})
                     for line, wanted in rows.items())
+    yield from ((ask(name, cache(*those), wanted), {"CLOCK": 1_800_000_000}) for name, those, wanted in TICKETS)
 
 
 def unread() -> Iterator[Row]:
@@ -146,5 +151,4 @@ def check(report: Report, program: str) -> None:
     """Makes each run."""
     under = preloaded(report, program, "the clock")
     for case, setting in chain(expired(), aged(), valid(), unread(), once(), known()) if under else ():
-        got = under.run(case, **setting)
-        report.check(case.name, faults_of(case, got.outcome, got.files))
+        under.check(report, case, **setting)
