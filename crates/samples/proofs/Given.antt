@@ -1,17 +1,25 @@
 -- What the samples are over: bytes as hexadecimal digits, the worked keytab and cache of docs/FORMATS.md, and the keytab
 -- or the cache in an image.
-use Rattle.samples.proofs.Cited.{ℕ, ◌+◌, ◌-◌, ◌*◌, List, [], ◌∷◌, ◌++◌, codes, filter, nat_lt, if◌then◌else◌, Result, None, true, false, flat_map, Little, V2, name_of, KeytabState, open_result, image_of, empty, CredParts, most_bytes, event_in, script_by, Old, result_map, list_text, result_unwrap_or, Parts, Code, SessionState, ReplyContent, EntryParts, PlacedEntry, find_result, placed_entries, empty_cache, has_selected_kvno}
+use Rattle.samples.proofs.Cited.{ℕ, ◌+◌, ◌-◌, ◌*◌, List, [], ◌∷◌, ◌++◌, codes, filter, nat_lt, if◌then◌else◌, Result, None, true, Little, V2, name_of, KeytabState, open_result, image_of, empty, CredParts, most_bytes, event_in, script_by, Old, result_map, list_text}
+use Rattle.std.specs.Result.{result_unwrap_or}
+use Rattle.krb_wire.specs.Spelling.{Parts}
 use Rattle.krb_walk.specs.declared.event.Event.{Event}
+use Rattle.krb_walk.specs.declared.refusal.Code.{Code}
+use Rattle.krb_walk.specs.Events.{SessionState}
 use Rattle.krb_walk.specs.History.{history, replies, state_after}
+use Rattle.krb_walk.specs.ReplyContent.{ReplyContent}
 use Rattle.krb_keytab.specs.declared.open.KtOpenFault.{KtOpenFault}
+use Rattle.krb_keytab.specs.Entry.{EntryParts}
+use Rattle.krb_keytab.specs.Find.{PlacedEntry, find_result, placed_entries}
 use Rattle.krb_keytab.specs.Rewrite.{keytab_rules}
 use Rattle.krb_ccache.specs.declared.open.CcOpenFault.{CcOpenFault}
+use Rattle.krb_ccache.specs.Changes.{empty_cache}
 use Rattle.krb_ccache.specs.Rewrite.{cache_rules}
 use Rattle.krb_ccache.specs.Store.{CacheState, open_result as cache_result, image_of as cache_image}
 use Rattle.krb_text.specs.declared.columns.KtColumns.{KtColumns}
-use Rattle.krb_text.specs.Reply.{reply_text}
 use Rattle.krb_cache_text.specs.declared.columns.CcColumns.{CcColumns}
 use Rattle.krb_cache_text.specs.Listing.{cache_text}
+use Rattle.krb_audit.specs.Selection.{has_selected_kvno}
 
 -- ---- bytes
 
@@ -63,17 +71,9 @@ listed columns file image = result_map (list_text columns file) (open_result Lit
 abbrev pub cache_listed : CcColumns → List ℕ → List ℕ → Result (List ℕ) CcOpenFault
 cache_listed columns file image = result_map (cache_text columns file) (cache_result most_bytes image)
 
--- no columns but those of every listing
-abbrev pub plain : KtColumns
-plain = record { times = false; etypes = false; keys = false }
-
 -- the columns of -t, -e and -K
 abbrev pub all : KtColumns
 all = record { times = true; etypes = true; keys = true }
-
--- no more than every listing of a cache shows
-abbrev pub tickets : CcColumns
-tickets = record { flags = false; etypes = false; configs = false }
 
 -- what -f, -e and -C add
 abbrev pub details : CcColumns
@@ -92,10 +92,6 @@ events script = result_unwrap_or (script_by event_in script) []
 -- the image that a script leaves of the keytab in an image
 abbrev pub left : List ℕ → List ℕ → List ℕ
 left image script = image_of (state_after keytab_rules (session (keytab image)) (events script)).store
-
--- the lines that it prints, one for each event
-abbrev pub printed : List ℕ → List ℕ → List ℕ
-printed image script = flat_map (λ m. reply_text m.before.store.format m.reply) (history keytab_rules (session (keytab image)) (events script))
 
 -- the image that events leave of the cache in an image
 abbrev pub cache_left : List ℕ → List (Event CredParts) → List ℕ
@@ -138,7 +134,3 @@ removed = hex (codes "0000000100000001000000015200000001750000000200000002000000
 -- the worked cache, 392 bytes: credentials at 40, 148 and 284
 abbrev pub worked : List ℕ
 worked = front ++ (ticket ++ (pa_type ++ removed))
-
--- host/a@R at 2 with version 3, at 53 and 120 with version 5, of encryption types 17, 18 and 17
-abbrev pub three : List ℕ
-three = hex (codes "0502") ++ (host ++ (hex (codes "0000003f00020001520004686f7374000161000000016553f1000500120020000102030405060708090a0b0c0d0e0f101112131415161718191a1b1c1d1e1f000000050000002f00020001520004686f7374000161000000016553f1000500110010000102030405060708090a0b0c0d0e0f00000005")))

@@ -3,10 +3,7 @@ pub mod Given
 pub mod Runs
 pub mod Times
 pub mod Unfolded
-mod Keytabs
-mod Caches
+mod Stores
 mod NamesAndTimes
-mod Edits
 mod Commands
 mod Ends
-mod Shown
