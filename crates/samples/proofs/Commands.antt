@@ -1,20 +1,12 @@
 -- Parts of commands that none of the computed rows of the tests show.
-use Rattle.samples.proofs.Cited.{◌≡◌, ℕ, List, [], ◌∷◌, ◌++◌, codes, replicate, map, true, false, Option, None, Some, Ok, Err, pos, negsuc, refl, Well, Displays}
+use Rattle.samples.proofs.Cited.{◌≡◌, ℕ, List, [], ◌∷◌, ◌++◌, codes, replicate, map, true, false, Option, None, Some, Ok, Err, pos, negsuc, refl, Well, Displays, none, RunEnd, FileNotWritten, NoSuchFile, Word, Without, Ending, ending_status, frame, framed, is_none, seen_after}
 use Rattle.krb_json.specs.Cache.{cache_json_text}
 use Rattle.krb_json.specs.Keytab.{keytab_json_text}
 use Rattle.krb_audit.specs.Findings.{is_out}
 use Rattle.krb_audit.specs.CheckUp.{checked}
 use Rattle.krb_audit.specs.Report.{report}
-use Rattle.krb_audit.specs.Table.{none}
-use Rattle.krb_driver.specs.declared.command.RunEnd.{RunEnd}
-use Rattle.krb_driver.specs.declared.error.RunError.TheVariants.{FileNotWritten, NoSuchFile}
-use Rattle.krb_driver.specs.declared.file_name.NameSource.TheVariants.{Word}
-use Rattle.krb_driver.specs.declared.verdict.Verdict.TheVariants.{Without}
-use Rattle.krb_driver.specs.RunErrors.{Ending, ending_status}
 use Rattle.krb_show.specs.EtypeNames.{encryption_cell}
-use Rattle.krb_editors.specs.Hold.{frame, framed}
 use Rattle.krb_editors.specs.Ktedit as ktedit
-use Rattle.krb_editors.specs.Removing.{is_none, seen_after}
 use Rattle.krb_editors.specs.declared.removing.FilesSeen.TheVariants as seen
 use Rattle.samples.proofs.Given.{hex, keytab, cache, events, b, two, worked}
 use Rattle.samples.proofs.Unfolded.{on_literals}

@@ -1,5 +1,5 @@
 -- How runs end, when they read the clock, and what hold takes: worked by hand from krbfile(1).
-use Rattle.samples.proofs.Cited.{◌≡◌, ◌+◌, ℕ, [], ◌∷◌, map, codes, true, false, None, Some, Ok, Err, refl, Little, most_bytes, Old, OldFor, Well, CommandPlan, ended_by}
+use Rattle.samples.proofs.Cited.{◌≡◌, ◌+◌, ℕ, [], ◌∷◌, map, codes, true, false, None, Some, Ok, Err, refl, Little, most_bytes, Old, OldFor, Well, CommandPlan, ended_by, node_of, FileName, Word, Default, ErrorWatch, end_status, error_status, save_error, frame, most_frame, held_in, received, needed_time, is_missing, first_talk}
 use Rattle.krb_wire.specs.declared.format.Order.{Order}
 use Rattle.krb_walk.specs.declared.fault.FaultKind.TheVariants.{CutLength}
 use Rattle.krb_files.specs.declared.aftermath.Aftermath.TheVariants.{Damaged, LostChange, Mixed, Restored}
@@ -7,24 +7,15 @@ use Rattle.krb_files.specs.declared.cause.Cause.TheVariants.{InTheWay}
 use Rattle.krb_files.specs.declared.files.LoadFault.TheVariants.{Missing}
 use Rattle.krb_files.specs.declared.files.SaveFault.TheVariants as save
 use Rattle.krb_files.specs.declared.node.Node.TheVariants.{Nothing, PlainFile, Folder, Unknown}
-use Rattle.krb_files.specs.Files.{node_of}
 use Rattle.krb_files.specs.Bytes.{Watch}
 use Rattle.krb_driver.specs.declared.error.RunError.TheVariants as error
-use Rattle.krb_driver.specs.declared.file_name.FileName.{FileName}
-use Rattle.krb_driver.specs.declared.file_name.NameSource.TheVariants.{Word, Default}
 use Rattle.krb_driver.specs.declared.command.World.{World}
 use Rattle.krb_driver.specs.Commands.{always, of_file}
-use Rattle.krb_driver.specs.Runs.{ErrorWatch}
-use Rattle.krb_driver.specs.RunErrors.{end_status, error_status, save_error}
 use Rattle.krb_driver.specs.Several.{first_round, is_last}
 use Rattle.krb_editors.specs.declared.ccremove.TicketOptions.{TicketOptions}
 use Rattle.krb_editors.specs.declared.hold.last_line.Outcome.TheVariants.{Saved, Left}
 use Rattle.krb_editors.specs.declared.hold.words.HoldKind.TheVariants.{Keytab, Cache}
-use Rattle.krb_editors.specs.Hold.{frame, most_frame, held_in, received}
 use Rattle.krb_editors.specs.HoldEnds.{about_end, ending_of, last_line}
-use Rattle.krb_editors.specs.Ktremove.{needed_time}
-use Rattle.krb_editors.specs.MissingFiles.{is_missing}
-use Rattle.krb_ktutil.specs.KtutilTalk.{first_talk}
 use Rattle.samples.proofs.Given.{hex, two}
 use Rattle.samples.proofs.Unfolded.{on_literals}
 

@@ -1,19 +1,14 @@
 -- What the samples are over: bytes as hexadecimal digits, the worked keytab and cache of docs/FORMATS.md, and the keytab
 -- or the cache in an image.
-use Rattle.samples.proofs.Cited.{ℕ, ◌+◌, ◌-◌, ◌*◌, List, [], ◌∷◌, ◌++◌, codes, filter, nat_lt, if◌then◌else◌, Result, None, true, Little, V2, name_of, KeytabState, open_result, image_of, empty, CredParts, most_bytes, event_in, script_by, Old, result_map, list_text}
-use Rattle.std.specs.Result.{result_unwrap_or}
-use Rattle.krb_wire.specs.Spelling.{Parts}
+use Rattle.samples.proofs.Cited.{ℕ, ◌+◌, ◌-◌, ◌*◌, List, [], ◌∷◌, ◌++◌, codes, filter, nat_lt, if◌then◌else◌, Result, None, true, Little, V2, name_of, KeytabState, open_result, image_of, empty, CredParts, most_bytes, event_in, script_by, Old, result_map, list_text, result_unwrap_or, Parts, SessionState, ReplyContent, empty_cache}
 use Rattle.krb_walk.specs.declared.event.Event.{Event}
 use Rattle.krb_walk.specs.declared.refusal.Code.{Code}
-use Rattle.krb_walk.specs.Events.{SessionState}
 use Rattle.krb_walk.specs.History.{history, replies, state_after}
-use Rattle.krb_walk.specs.ReplyContent.{ReplyContent}
 use Rattle.krb_keytab.specs.declared.open.KtOpenFault.{KtOpenFault}
 use Rattle.krb_keytab.specs.Entry.{EntryParts}
 use Rattle.krb_keytab.specs.Find.{PlacedEntry, find_result, placed_entries}
 use Rattle.krb_keytab.specs.Rewrite.{keytab_rules}
 use Rattle.krb_ccache.specs.declared.open.CcOpenFault.{CcOpenFault}
-use Rattle.krb_ccache.specs.Changes.{empty_cache}
 use Rattle.krb_ccache.specs.Rewrite.{cache_rules}
 use Rattle.krb_ccache.specs.Store.{CacheState, open_result as cache_result, image_of as cache_image}
 use Rattle.krb_text.specs.declared.columns.KtColumns.{KtColumns}

@@ -1,10 +1,8 @@
 -- Names, encryption types and times as text.
-use Rattle.samples.proofs.Cited.{◌≡◌, [], ◌∷◌, codes, map, None, Some, Ok, Err, true, false, filter_map, refl, name_of}
+use Rattle.samples.proofs.Cited.{◌≡◌, [], ◌∷◌, codes, map, None, Some, Ok, Err, true, false, filter_map, refl, name_of, etype_in, etype_text_of, key_size_of, is_weak, seconds_in}
 use Rattle.krb_wire.specs.declared.name_fault.NameFault.TheVariants.{NoRealm, LoneBackslash, SecondAt, SlashInRealm}
 use Rattle.krb_wire.specs.Names.{name_text}
-use Rattle.krb_text.specs.Etype.{etype_in, etype_text_of, key_size_of, is_weak}
 use Rattle.krb_text.specs.Word.{pieces}
-use Rattle.krb_text.specs.Numbers.{seconds_in}
 use Rattle.samples.proofs.Given.{hex, name}
 use Rattle.samples.proofs.Unfolded.{on_literals}
 

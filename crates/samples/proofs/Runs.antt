@@ -1,32 +1,20 @@
 -- What a run of a command comes to if no call fails: what it prints, how it ends, and its files afterwards.
-use Rattle.samples.proofs.Cited.{◌≡◌, ℕ, ◌+◌, ◌<◌, ◌≤◌, ◌^◌, max, List, [], ◌∷◌, ◌++◌, codes, length, map, fold, Bool, true, false, nat_lt, Option, None, Some, option_and_then, unwrap_or, Result, Ok, Err, if◌then◌else◌, Vec, slice_get, filter_map, flat_map, list_any, arith, refl, name_of, most_bytes, event_in, Any, Newest, Old, Well, CommandPlan, Effect, Fails, Displays, Saves, files_after, ccremove_plan}
-use Rattle.std.specs.Prelude.{nat_eq, filter, ◌&&◌}
+use Rattle.samples.proofs.Cited.{◌≡◌, ℕ, ◌+◌, ◌<◌, ◌≤◌, ◌^◌, max, List, [], ◌∷◌, ◌++◌, codes, length, map, fold, Bool, true, false, nat_lt, Option, None, Some, option_and_then, unwrap_or, Result, Ok, Err, if◌then◌else◌, Vec, slice_get, filter_map, flat_map, list_any, arith, refl, name_of, most_bytes, event_in, Any, Newest, Old, Well, CommandPlan, Effect, Fails, Displays, Saves, files_after, ccremove_plan, nat_eq, filter, ◌&&◌, Parts, FileMap, loaded, node_of, etype_in, number_in, seconds_in, none, RunEnd, NothingSelected, FileName, LikePrincipal, Word, Ending, ending_status, ending_text, is_missing, missing_error, is_none, seen_after, ktremove_plan, with_age, TalkDue, quiet_run, talk_due}
 use Rattle.std.specs.Str.{bytes_eq}
 use denote.RawPtr.{null_ptr}
 use lib.Dec.{lit<, lit≤}
-use Rattle.krb_wire.specs.Spelling.{Parts}
 use Rattle.krb_wire.specs.declared.principal.Principal.{Principal}
-use Rattle.krb_files.specs.Files.{FileMap, loaded, node_of}
 use Rattle.krb_files.specs.Plan.{Ends, follow, with_bytes}
-use Rattle.krb_text.specs.Etype.{etype_in}
-use Rattle.krb_text.specs.Numbers.{number_in, seconds_in}
 use Rattle.krb_cache_text.specs.Script.{cache_line_in}
 use Rattle.krb_audit.specs.declared.selection.SelectedKvno.{SelectedKvno}
 use Rattle.krb_audit.specs.declared.selection.Selection.{Selection}
-use Rattle.krb_audit.specs.Table.{none}
-use Rattle.krb_driver.specs.declared.command.RunEnd.{RunEnd}
 use Rattle.krb_driver.specs.declared.error.RunError.{RunError}
-use Rattle.krb_driver.specs.declared.error.RunError.TheVariants.{NothingSelected}
-use Rattle.krb_driver.specs.declared.file_name.FileName.{FileName}
-use Rattle.krb_driver.specs.declared.file_name.NameSource.TheVariants.{LikePrincipal, Word}
 use Rattle.krb_driver.specs.declared.reporting.details.Details.{Details}
 use Rattle.krb_driver.specs.declared.verdict.FileKind.{FileKind}
 use Rattle.krb_driver.specs.declared.verdict.FileKind.TheVariants.{Keytab, Cache, Either}
 use Rattle.krb_driver.specs.FileNames.{bare_name, is_other_type}
 use Rattle.krb_driver.specs.Mistakes.{Matched, first_value, printed_name, v1_order}
 use Rattle.krb_driver.specs.Effects.{about, ending_of}
-use Rattle.krb_driver.specs.RunErrors.{Ending, ending_status}
-use Rattle.krb_driver.specs.Runs.{ending_text}
 use Rattle.krb_readers.specs.Ktcheck.{aged_by, explained_after, findings, plan_of as check_plan}
 use Rattle.krb_readers.specs.declared.ktcheck.words.CheckOptions.{CheckOptions}
 use Rattle.krb_readers.specs.Klist.{file_kind, klist_plan, list_kind, list_options, printed_after, check_of, check_status}
@@ -37,16 +25,12 @@ use Rattle.krb_editors.specs.Ccedit.{ccedit_plan}
 use Rattle.krb_editors.specs.Ktcopy.{ktcopy_plan}
 use Rattle.krb_editors.specs.Ktdiff.{ktdiff_plan}
 use Rattle.krb_editors.specs.Ktedit.{ktedit_plan}
-use Rattle.krb_editors.specs.MissingFiles.{is_missing, missing_error}
-use Rattle.krb_editors.specs.Removing.{is_none, seen_after}
 use Rattle.krb_editors.specs.declared.removing.FilesSeen.{FilesSeen}
 use Rattle.krb_editors.specs.declared.removing.FilesSeen.TheVariants as seen
-use Rattle.krb_editors.specs.Ktremove.{ktremove_plan, with_age}
 use Rattle.krb_editors.specs.Sessions.{lines_in}
 use Rattle.krb_editors.specs.Selecting.{kvno_in}
 use Rattle.krb_ktutil.specs.declared.ktutil.awaiting.Awaiting.TheVariants.{Nothing}
 use Rattle.krb_ktutil.specs.InputLines.{lines_of}
-use Rattle.krb_ktutil.specs.KtutilTalk.{TalkDue, quiet_run, talk_due}
 
 -- ---- values of the code's types
 

@@ -1,14 +1,10 @@
 -- What files of a few bytes do not show of keytabs and caches, and what the library alone does.
-use Rattle.samples.proofs.Cited.{◌≡◌, [], ◌∷◌, ◌++◌, codes, replicate, map, Some, None, option_map, Ok, Err, true, false, pos, negsuc, refl, V2, Little, open_result, most_bytes}
-use Rattle.std.specs.Result.{result_map_both, result_ok}
+use Rattle.samples.proofs.Cited.{◌≡◌, [], ◌∷◌, ◌++◌, codes, replicate, map, Some, None, option_map, Ok, Err, true, false, pos, negsuc, refl, V2, Little, open_result, most_bytes, result_map_both, result_ok, start_reply, Started, Placed, Refused, create_result}
 use Rattle.krb_walk.specs.declared.event.Event.TheVariants.{Put}
 use Rattle.krb_walk.specs.declared.refusal.Code.TheVariants.{TooManyWalks, Marked}
-use Rattle.krb_walk.specs.Events.{start_reply}
-use Rattle.krb_walk.specs.ReplyContent.{Started, Placed, Refused}
 use Rattle.krb_keytab.specs.declared.open.KtOpenFault.TheVariants.{TooLarge}
 use Rattle.krb_keytab.specs.Changes.{put_result, is_refused}
 use Rattle.krb_keytab.specs.Form.{fits}
-use Rattle.krb_ccache.specs.Changes.{create_result}
 use Rattle.krb_ccache.specs.Config.{config_of}
 use Rattle.krb_ccache.specs.Header.{offset_in}
 use Rattle.krb_ccache.specs.Store.{image_of as cache_image}
