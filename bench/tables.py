@@ -60,7 +60,7 @@ def beside_c(bench: Bench) -> Iterator[list[str]]:
 
 
 def points(bench: Bench) -> Iterator[list[str]]:
-    """Yields the times of one listing by its entries, from which plot draws."""
+    """Yields the times of one listing by its entries."""
     fronts = [mit("klist"), "-k"], [bench.krbfile, "klist", "-k"], [bench.built("whole")], [bench.built("least")]
     for entries in (step * 10**power for power in range(1, 6) for step in (1, 2, 5)):
         if entries <= SIZES[images.services][bench.quick]:
