@@ -96,6 +96,7 @@ def of_refused() -> Iterator[Row]:
     (before, longer), shorter = images(LONGER), SHORTER.files["k"]
     old_byte: Change = lambda file: file.seek(len(before) - 1) and file.write(b"\xff")
     rows = [(ADD, WATCHED, ADD_MORE, OLD + MORE, ""),
+            (in_place(LONGER), WATCHED, ADD_MORE, before + MORE, ""),
             (in_place(LONGER), SYNCED, ADD_MORE, longer + MORE, "mixed"),
             (in_place(LONGER), SYNCED, CHANGES["no byte any more"][0], b"", "mixed"),
             (in_place(LONGER), SYNCED, old_byte, before[:-1] + b"\xff", ""),
