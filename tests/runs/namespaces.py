@@ -3,10 +3,10 @@
 import os
 import subprocess
 from collections.abc import Iterator
-from contextlib import contextmanager
+from contextlib import contextmanager, suppress
 from shlex import quote
 
-from runs.harness import SECONDS, Outcome, run
+from runs.harness import SECONDS, Outcome, folder_of, run
 
 # Makes the mounts, and starts the words after it.
 UNSHARE = ("unshare", "--mount") if os.geteuid() == 0 else ("unshare", "--mount", "--user", "--map-root-user")
@@ -38,11 +38,19 @@ def no_mounts() -> str:
 
 
 @contextmanager
-def mounted(folder: str, *words: str) -> Iterator[bool]:
-    """Mounts something there; yields whether that was possible."""
-    mount = subprocess.run(["mount", *words, folder], check=False, capture_output=True)
-    try:
-        yield mount.returncode == 0
-    finally:
-        if mount.returncode == 0:
+def disk(size: str = "1m") -> Iterator[str]:
+    """Yields the folder of a disk in memory."""
+    with folder_of({}) as folder:
+        words = ("mount", "-t", "tmpfs", "-o", f"size={size}", "krbfile", folder)
+        subprocess.run(words, check=True, capture_output=True)
+        try:
+            yield folder
+        finally:
             subprocess.run(["umount", folder], check=True)
+
+
+def no_disks() -> str:
+    """Returns that no disk can be mounted, or nothing."""
+    with suppress(subprocess.CalledProcessError), disk():
+        return ""
+    return "none can be mounted"

@@ -15,7 +15,7 @@ from shlex import quote
 from makers.images import HOST, TWO, USUAL, Entry, keytab
 from runs.commands import CHANGES, COMMANDS, LEAVES, NEW, OLD, READS, SAVING, SCRIPT, Run, file_of, renamed
 from runs.harness import EXPLAIN, Case, Report, differences, every, faults_of, files_in, folder_of, limit, run
-from runs.namespaces import mounted, no_mounts, run_within
+from runs.namespaces import disk, no_disks, no_mounts, run_within
 from runs.undisturbed import IN_PLACE, Undisturbed, in_place, undisturbed
 from system.saving import (ADD, B_OLD, EQUAL, GROUP, LINES, LONGER, MIXED, PLACED, UNSAVED, USER, Owned, as_another, at,
                            check_over, explained, faults_over, kept, last_line, refused, tree_faults, with_words, write)
@@ -114,13 +114,9 @@ READ_ONLY = (*(refused(case, "EROFS") for case in (ADD, in_place(ADD), *COMMANDS
              WALK_OVER, in_place(WALK_OVER))
 
 
-def check_on_disk(report: Report, program: str, what: str, case: Run, is_read_only: bool) -> bool:
-    """Checks a row on a disk of its own, and returns whether one can be mounted."""
-    size = f"size={4 * (len(case.files) + is_read_only)}k"
-    with folder_of({}) as folder, mounted(folder, "-t", "tmpfs", "-o", size, "krbfile") as is_mounted:
-        if not is_mounted:
-            report.skip(what, "none can be mounted")
-            return False
+def check_on_disk(report: Report, program: str, what: str, case: Run, is_read_only: bool) -> None:
+    """Checks a row on a disk of its own."""
+    with disk(f"{4 * (len(case.files) + is_read_only)}k") as folder:
         for name, data in case.files.items():
             write(os.path.join(folder, name), data)
         before = [kept(os.path.join(folder, name)) for name in case.files]
@@ -130,13 +126,14 @@ def check_on_disk(report: Report, program: str, what: str, case: Run, is_read_on
         faults += [] if [kept(os.path.join(folder, name)) for name in case.files] == before else ["not kept"]
         faults += tree_faults(case.files if case.files_after is None else case.files_after, folder)
     report.check(f"{what}: {case.name}", faults)
-    return True
 
 
 def check_disks(report: Report, program: str) -> None:
-    """Checks each of those rows, unless no such disk can be mounted."""
-    all(check_on_disk(report, program, "a full disk", case, False) for case in FULL_DISKS)
-    all(check_on_disk(report, program, "a disk that is read-only", case, True) for case in READ_ONLY)
+    """Checks each of those rows."""
+    for case in FULL_DISKS:
+        check_on_disk(report, program, "a full disk", case, False)
+    for case in READ_ONLY:
+        check_on_disk(report, program, "a disk that is read-only", case, True)
 
 
 def check_limit(report: Report, program: str) -> None:
@@ -151,10 +148,7 @@ def check_limit(report: Report, program: str) -> None:
 def check_sparse(report: Report, program: str) -> None:
     """Checks a file with a hole that takes no room, on a disk with room for what is added behind it, but not for what
     is written into it too: the old bytes have room again once the file is cut."""
-    with folder_of({}) as folder, mounted(folder, "-t", "tmpfs", "-o", "size=48k", "krbfile") as is_mounted:
-        if not is_mounted:
-            report.skip("a sparse file on a full disk", "none can be mounted")
-            return
+    with disk("48k") as folder:
         path, fill = Path(folder, "k"), Path(folder, "fill")
         path.write_bytes(SPARSE[:SPARSE_FROM])
         os.truncate(path, len(SPARSE))
@@ -216,5 +210,6 @@ def check_all_kept(report: Report, program: str) -> None:
         check_kept(report, program, case, attributes)
 
 
-check = every(check_missing, check_all_kept, check_set_id, check_disks, check_limit, check_sparse,
+check = every(check_missing, check_all_kept, check_set_id, check_limit,
+              every(check_disks, check_sparse, of="disks that are full or read-only", lack=no_disks),
               every(check_mounted, of="files that are mounted, saved in place", lack=no_mounts))

@@ -5,11 +5,10 @@ import os
 import struct
 import threading
 from collections.abc import Callable
-from contextlib import ExitStack
 
 from runs.commands import OLD, Run
-from runs.harness import Report, differences, every, folder_of
-from runs.namespaces import mounted
+from runs.harness import Report, differences, every
+from runs.namespaces import disk, no_disks
 from system.saving import ADD, SAVED, edit, run_over, tree_faults, write
 
 # A run that gives up takes this many seconds, however busy the machine is.
@@ -45,10 +44,7 @@ def faults_of_waiting(program: str, folder: str, end: Callable[[], None], case: 
 
 def check_other_disk(report: Report, program: str) -> None:
     """Checks that a lock counts only on the file's own disk, not on a file of the same number elsewhere."""
-    with folder_of({}) as here, folder_of({}) as there, ExitStack() as stack:
-        if not all([stack.enter_context(mounted(folder, "-t", "tmpfs", "krbfile")) for folder in (here, there)]):
-            report.skip("files of one number on two disks", "none can be mounted")
-            return
+    with disk() as here, disk() as there:
         for where, what in ((there, "a file of the same number elsewhere"), (here, "the file")):
             write(os.path.join(here, "k"), OLD)
             write(os.path.join(where, "k"), OLD)
@@ -63,5 +59,5 @@ def check_other_disk(report: Report, program: str) -> None:
             report.check(f"a lock of {what} on a disk in memory", faults)
 
 
-check = every(check_other_disk, of="locks that are waited for",
-              lack=lambda: "" if os.path.exists("/proc/locks") else "there is no list of locks")
+check = every(check_other_disk, of="locks on two disks",
+              lack=lambda: no_disks() if os.path.exists("/proc/locks") else "there is no list of locks")
