@@ -1,19 +1,17 @@
 """The greatest files and inputs, on a small stack, and in little memory.
 
 On a small stack each run ends as usual. In little memory it does too, or reports that it is out of memory: then a
-prefix of its text may be printed, and each file is as before or as after the whole run. If a file would take all of the
-memory, each command has to report that.
+prefix of its text may be printed, and each file is as before or as after the whole run.
 """
 
 import resource
 import subprocess
 from collections.abc import Iterator
-from dataclasses import replace
 
 from caches import cache_files, greatest_caches
 from keytabs import copies, greatest
 from keytabs.file_names import LIMIT, sized
-from runs.commands import CHANGES, COMMANDS, READS, SAVING, file_of
+from runs.commands import COMMANDS
 from runs.harness import SECONDS, Case, Outcome, Report, faults_of, limit, run_case
 from runs.undisturbed import undisturbed
 from system.early_ends import NO_MEMORY
@@ -61,15 +59,6 @@ def faults_in(program: str, case: Case, kind: int, most: int) -> list[str]:
     return [] if may_be_early and is_early(case, got, after) else faults_of(case, got, after)
 
 
-def without_room() -> list[Case]:
-    """Returns a run of each command over a file of as many bytes as there is memory."""
-    keytab, cache = sized(LIMIT), cache_files.sized(LIMIT)
-    runs = (*CHANGES, *(run for run in READS if run.words[0] not in SAVING and not {"-s", "-l"} & {*run.words}))
-    return [Case(f"a file as large as the memory: {run.name}", run.words,
-                 replace(NO_MEMORY, out=HOLD_SPENT * (run.words[0] == "hold")),
-                 {**run.files, file_of(run): cache if "c" in run.files else keytab}, stdin=run.stdin) for run in runs]
-
-
 def of_many() -> Iterator[Case]:
     """Yields runs over many files, each of which gives its memory back: they take no more than one."""
     for line, between in (("ktcheck", b""), ("klist -k", b"\n"), ("klist -k --json", b""), ("ktremove -n -e 17", b""),
@@ -81,8 +70,8 @@ def of_many() -> Iterator[Case]:
 
 
 def check(report: Report, program: str) -> None:
-    for case, most in (*((each, ROOM) for each in of_many()), *((each, LIMIT) for each in without_room()),
-                       (greatest.lines(), 12 * LIMIT), (copies.of_long_name(), SPACE)):
+    for case, most in (*((each, ROOM) for each in of_many()), (greatest.lines(), 12 * LIMIT),
+                       (copies.of_long_name(), SPACE)):
         report.check(case.name, faults_of(case, *run_case(program, case, preexec_fn=limit(resource.RLIMIT_AS, most))))
     those = all_cases()
     for case in those:
