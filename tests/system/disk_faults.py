@@ -1,5 +1,4 @@
-"""System calls of a save that fail: the cause that is reported for each error, and what a save goes on without. And by
-which handle the new bytes are written."""
+"""System calls of a save that fail: the cause that is reported for each error, and what a save goes on without."""
 
 import errno
 import os
@@ -41,31 +40,20 @@ FAILED = {
 # More than the number of any error of the system.
 MOST_ERRORS = 134
 
-# A run in another folder than its own, with the standard streams, and with the error output alone. The shell's first
-# word is the program.
-REMOVE = 'exec "$0" ktremove -p host/a@R d/k'
-RUNS = ((REMOVE, printed("removed 2 kvno 3 etype 17 host/a@R")),
-        (f"{REMOVE} <&- >&-", message(3, "cannot write output")))
-
-# A write of the new bytes, which begin as every keytab does, the first number of a handle that is no stream, and the
-# sync of the folder.
-WRITTEN, FIRST = re.compile(r'write\((\d+), "\\5\\2'), 3
+# The rename, and then the sync of the folder.
 SYNCED = re.compile(r'^rename.*"d/k\.krbfile".* = 0\nopen.*"d", .* = (\d+)\nfsync\(\1\) += 0$', re.MULTILINE)
 
 
-def check_handles(report: Report, program: str) -> None:
-    """Checks what no failure shows: the file's folder is synced after the rename, and the new file is not written by
-    the handle of a standard stream."""
-    for script, wanted in RUNS:
-        with folder_of({}) as folder:
-            os.mkdir(os.path.join(folder, "d"))
-            write(os.path.join(folder, "d", "k"), TWO)
-            outcome, trace = traced("sh", undisturbed(("-c", script, program)), folder)
-            faults = differences(wanted, outcome) + tree_faults({"d": "d", "d/k": keytab(47, B)}, folder)
-        faults += [] if SYNCED.search("\n".join(trace)) else ["the folder is not synced"]
-        handles = [int(found[1]) for found in map(WRITTEN.match, trace) if found]
-        faults += [] if handles and min(handles) >= FIRST else [f"the new bytes are written by {handles}"]
-        report.check(f"the handle of a save: {script}", faults)
+def check_synced(report: Report, program: str) -> None:
+    """Checks what no failure shows: the folder of a file is synced after the rename, also another than the run's."""
+    with folder_of({}) as folder:
+        os.mkdir(os.path.join(folder, "d"))
+        write(os.path.join(folder, "d", "k"), TWO)
+        outcome, trace = traced(program, undisturbed("ktremove -p host/a@R d/k"), folder)
+        faults = differences(printed("removed 2 kvno 3 etype 17 host/a@R"), outcome)
+        faults += tree_faults({"d": "d", "d/k": keytab(47, B)}, folder)
+    faults += [] if SYNCED.search("\n".join(trace)) else ["the folder is not synced"]
+    report.check("a file in another folder", faults)
 
 
 # A run of which calls fail, the options of strace by which they do, what is made before, and how the file is left.
@@ -134,4 +122,4 @@ def check_rows(report: Report, program: str) -> None:
         check_over(report, "strace", under_strace(program, case, *options), *places, left=left)
 
 
-check = every(check_handles, check_rows, of="system calls that fail", needs=("strace",))
+check = every(check_synced, check_rows, of="system calls that fail", needs=("strace",))
