@@ -7,7 +7,6 @@ import subprocess
 import sys
 import time
 from collections.abc import Callable, Iterator
-from concurrent.futures import ThreadPoolExecutor
 from contextlib import contextmanager, suppress
 from functools import partial
 from pathlib import Path
@@ -181,16 +180,8 @@ def check_end(end: End, report: Report, program: str) -> None:
     report.check(f"in a block: {what}", faults)
 
 
-def check_holds(report: Report, program: str) -> None:
-    """Checks that the program waits while a block holds the file, and then changes what that saved; and that the hold
-    of a Python that was killed lasts until a worker has ended that keeps copies."""
-    with folder_of({"k": OLD}) as folder, in_block(program, folder, "") as (started, _), ThreadPoolExecutor(1) as pool:
-        other = pool.submit(edit, program, folder)
-        time.sleep(MOMENT)
-        faults = ["the program did not wait"] * other.done()
-        started.stdin.write(b"\n")
-        faults += [f"{other.result()}"] * (other.result().status != 0)
-        report.check("a file that a block holds", faults + tree_faults({"k": keytab(HOST, HOST)}, folder))
+def check_lasts(report: Report, program: str) -> None:
+    """Checks that the hold of a Python that was killed lasts until a worker has ended that keeps copies."""
     with folder_of({"k": OLD}) as folder, in_block(program, folder, UNKNOWN) as (started, worker):
         started.kill()
         faults = [] if is_held(folder, MOMENT) else ["the hold has ended"]
@@ -199,5 +190,5 @@ def check_holds(report: Report, program: str) -> None:
         report.check("the hold of an unknown worker", faults + tree_faults({"k": OLD}, folder))
 
 
-check = every(partial(check_scripts, SCRIPTS), *(partial(check_end, end) for end in ENDS), check_holds,
+check = every(partial(check_scripts, SCRIPTS), *(partial(check_end, end) for end in ENDS), check_lasts,
               of="changes by Python's module", lack=no_library)
