@@ -6,6 +6,7 @@ What each reports as saved is there afterwards, and readers meanwhile see a whol
 import os
 import tempfile
 import threading
+from collections.abc import Callable
 from contextlib import suppress
 from functools import partial
 from pathlib import Path
@@ -28,82 +29,73 @@ LEFT = {"k", "link"}
 ADDS = ("sh", os.path.join(TOP, "examples", "edit-keytab.sh"))
 
 
-class Storm:
-    """Programs that each add or remove an entry of the file `k` of a folder, at the same time."""
+def run_of(program: str, kind: Kind, number: int, random: Random, sources: str) -> Run:
+    """Returns the run of that number: it adds or removes an entry, which a keytab in the folder `sources` has."""
+    is_odd = number % 2 == 1
+    is_mits, is_killed = kind.with_mit and is_odd, kind.kills and is_odd
+    command = kind.commands[number % len(kind.commands)]
+    name = f"{'m' if is_mits else 'h' if removes(command) else 'a'}{number}"
+    path, source = random.choice(PATHS), os.path.join(sources, name)
+    write(source, keytab(Entry((name.encode(),))))
+    line, text = ("ktutil",), f"rkt {source}\nwkt k\n"
+    if command == "hold":
+        line, text = (*ADDS, path, "sh", "-c", f"cat; tail -c +3 {source}"), ""
+    elif not is_mits:
+        (first, *rest), text = change(command, name, path, source)
+        options = [IN_PLACE] * (kind.in_place and not is_killed and random.random() < 0.5)
+        line = (program, first, *options, *rest)
+    return Run(name, line, text, removes(command), is_mits, is_killed)
 
-    def __init__(self, program: str, kind: Kind, seed: int) -> None:
-        self.program, self.kind = program, kind
-        self.random = Random(seed)
-        self.runs: list[Run] = []
-        self.seen: set[bytes] = set()
-        self.found: list[str] = []
 
-    def start(self, folder: str, sources: str) -> None:
-        """Starts all programs, which then wait for their input."""
-        for number in range(MANY):
-            is_odd = number % 2 == 1
-            is_mits, is_killed = self.kind.with_mit and is_odd, self.kind.kills and is_odd
-            command = self.kind.commands[number % len(self.kind.commands)]
-            name = f"{'m' if is_mits else 'h' if removes(command) else 'a'}{number}"
-            source = os.path.join(sources, name)
-            write(source, keytab(Entry((name.encode(),))))
-            path = self.random.choice(PATHS)
-            line, text = ("ktutil",), f"rkt {source}\nwkt k\n"
-            if command == "hold":
-                line, text = (*ADDS, path, "sh", "-c", f"cat; tail -c +3 {source}"), ""
-            elif not is_mits:
-                (first, *rest), text = change(command, name, path, source)
-                options = [IN_PLACE] * (self.kind.in_place and not is_killed and self.random.random() < 0.5)
-                line = (self.program, first, *options, *rest)
-            self.runs.append(Run(name, line, text, removes(command), is_mits, is_killed))
-        os.symlink(self.program, os.path.join(sources, "krbfile"))
-        path = sources + os.pathsep + SURROUNDINGS["PATH"]
-        for each in self.runs:
-            each.start(folder, {**SURROUNDINGS, "PATH": path, "TMPDIR": sources})
+def start(program: str, runs: list[Run], folder: str, sources: str) -> None:
+    """Starts all programs, which then wait for their input."""
+    os.symlink(program, os.path.join(sources, "krbfile"))
+    env = {**SURROUNDINGS, "PATH": sources + os.pathsep + SURROUNDINGS["PATH"], "TMPDIR": sources}
+    for each in runs:
+        each.start(folder, env)
 
-    def look(self, path: str, is_over: threading.Event) -> None:
-        """Reads the file repeatedly until all programs have ended."""
+
+def seen_while(path: str, rages: Callable[[], None]) -> set[bytes]:
+    """Returns what the file is while the programs run to their ends: it is read repeatedly."""
+    seen: set[bytes] = set()
+    is_over = threading.Event()
+
+    def look() -> None:
         while not is_over.wait(0.0002):
             with suppress(FileNotFoundError):
-                self.seen.add(Path(path).read_bytes())
+                seen.add(Path(path).read_bytes())
 
-    def rage(self, folder: str) -> None:
-        """Lets the programs run to their ends, and reads the file meanwhile."""
-        is_over = threading.Event()
-        looks = threading.Thread(target=self.look, args=(os.path.join(folder, "k"), is_over), daemon=True)
-        looks.start()
-        rage(self.runs, self.random, self.kind.with_mit)
-        is_over.set()
-        looks.join()
-
-    def judge(self, folder: str) -> None:
-        """Judges what was seen meanwhile, and the file at the end: each saved change is there, and no entry twice."""
-        found = tree(folder)
-        names = names_of(self.kind.option, found.get("k", b""))
-        if names is None:
-            self.found.append(f"the file is not whole at the end: {found.get('k')}")
-        names = names or []
-        for each in self.runs:
-            self.found += each.faults(names, self.kind.with_mit)
-        if len(names) != len({*names}):
-            self.found.append(f"{names} are there")
-        if not self.kind.kills and found.keys() != LEFT:
-            self.found.append(f"{sorted(found)} are left")
-        self.found += [f"{image[:40]}, {len(image)} bytes, was seen" for image in self.seen if self.kind.is_bad(image)]
+    looks = threading.Thread(target=look, daemon=True)
+    looks.start()
+    rages()
+    is_over.set()
+    looks.join()
+    return seen
 
 
-def storm(program: str, kind: Kind, seed: int) -> Storm:
-    """Runs a storm, and returns its faults."""
-    made = Storm(program, kind, seed)
-    files = {} if kind.over_none else {"k": kind.image()}
+def faults_of(kind: Kind, runs: list[Run], left: dict[str, object], seen: set[bytes]) -> list[str]:
+    """Returns the faults of what was seen meanwhile, and of the folder at the end: each saved change is there, and no
+    entry twice."""
+    names = names_of(kind.option, left.get("k", b""))
+    found = [f"the file is not whole at the end: {left.get('k')}"] * (names is None)
+    names = names or []
+    found += [fault for each in runs for fault in each.faults(names, kind.with_mit)]
+    found += [f"{names} are there"] * (len(names) != len({*names}))
+    found += [f"{sorted(left)} are left"] * (not kind.kills and left.keys() != LEFT)
+    return found + [f"{image[:40]}, {len(image)} bytes, was seen" for image in seen if kind.is_bad(image)]
+
+
+def storm(program: str, kind: Kind, seed: int) -> list[str]:
+    """Returns the faults of a storm: programs that each add or remove an entry of the file `k`, at the same time."""
+    random, files = Random(seed), {} if kind.over_none else {"k": kind.image()}
     if kind.kills:
         files["k.krbfile"] = b"left"
     with folder_of(files) as folder, tempfile.TemporaryDirectory() as sources:
         os.symlink("k", os.path.join(folder, "link"))
-        made.start(folder, sources)
-        made.rage(folder)
-        made.judge(folder)
-    return made
+        runs = [run_of(program, kind, number, random, sources) for number in range(MANY)]
+        start(program, runs, folder, sources)
+        seen = seen_while(os.path.join(folder, "k"), lambda: rage(runs, random, kind.with_mit))
+        return faults_of(kind, runs, tree(folder), seen)
 
 
 def check_kinds(kinds: tuple[Kind, ...], report: Report, program: str, seeds: range) -> None:
@@ -112,7 +104,7 @@ def check_kinds(kinds: tuple[Kind, ...], report: Report, program: str, seeds: ra
     for kind in kinds:
         if has_mit or not kind.with_mit:
             for seed in seeds:
-                report.check(f"{kind}, round {seed}", storm(program, kind, seed).found[:3])
+                report.check(f"{kind}, round {seed}", storm(program, kind, seed)[:3])
 
 
 # Storms of each command; of hold; and those in which some runs save in place and others replace the file, and some of
