@@ -1,7 +1,7 @@
 """Outputs that take less than the text, or nothing, inputs that give nothing, and how both are read and written.
 
 What an output took is a prefix of the text, and the status shows the failure. Long listings and JSON are written in
-pieces. Commands that need no input leave it as it is.
+pieces.
 """
 
 import os
@@ -15,7 +15,7 @@ from itertools import product
 from keytabs.conversations import stop
 from makers.images import B, HOST, TWO, Entry, keytab
 from runs.commands import CHANGES, COMMANDS, LEAVES, READS, both_ways, mixed_cache, mixed_keytab, small_runs
-from runs.harness import SECONDS, Outcome, Report, differences, every, folder_of, run, run_case, shown, words_of
+from runs.harness import SECONDS, Outcome, Report, differences, every, folder_of, run_case
 from runs.undisturbed import Undisturbed, undisturbed
 from system.early_ends import End, Ends
 from system.failing_streams import NO_OUTPUT, ends_in_output
@@ -33,13 +33,6 @@ TALKS = (
 # A buffered write has at most one more line or element, none of which has 2,000 bytes here. No message is
 # longer than a write may be.
 LONGEST, MESSAGE = 32_768 + 2_000, 1 << 20
-
-# Lines that need no input, besides those of the commands that need none, each with its status.
-LINES = {"klist -s no": 1, "hold no": 1, "hold -k no/k": 3, "ktedit --help": 0, "ktedit": 2}
-
-# What reads the input after a run, and ends with its status.
-THEN_READ = '"$0" "$@" > out 2>&1; status=$?; cat; exit $status'
-GIVEN = b"k\nc\n"
 
 
 def piped(program: str, case: Undisturbed, folder: str, **more) -> subprocess.Popen[bytes]:
@@ -130,14 +123,4 @@ def check_pieces(report: Report, program: str) -> None:
     report.check(f"in one piece: {missing.name}", differences(missing.wanted, got) + faults)
 
 
-def check_left(report: Report, program: str) -> None:
-    """Checks that who reads from the input after a command that needs none gets all of it."""
-    rows = [(each.words, each.files, each.wanted.status) for each in both_ways(*READS, *CHANGES)
-            if not COMMANDS[each.words[0]].reads_input]
-    for words, files, status in (*rows, *((words_of(line), {}, status) for line, status in LINES.items())):
-        with folder_of(files) as folder:
-            got = run("sh", ("-c", THEN_READ, program, *words), folder, GIVEN)
-        report.compare(f"the input is left: {shown(words)}", Outcome(status, GIVEN), got)
-
-
-check = every(check_closed_pipe, check_stopped, check_lost, check_pieces, check_left)
+check = every(check_closed_pipe, check_stopped, check_lost, check_pieces)
