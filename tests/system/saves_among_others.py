@@ -11,7 +11,7 @@ from runs.harness import Case, Outcome, Report, differences, every, folder_of, m
 from runs.system_calls import Halt, halted
 from runs.undisturbed import IN_PLACE, PROGRAM, undisturbed
 from system.saving import (B_NEW, B_OLD, B_SAVED, SAVED, UNSAVED, USER, Place, at, check_over, edit, link, refused,
-                           tree, write)
+                           stands, tree, write)
 
 # The calls after which a run is halted, each under a name.
 HALTS = {
@@ -64,14 +64,9 @@ CHANGED: list[tuple[str, bool, Place]] = [
 ]
 
 
-def known(folder: str) -> dict[str, object]:
-    """Returns the contents of a folder, with owners and modes, except a new file of ours."""
-    found: dict[str, object] = {}
-    for name, data in tree(folder).items():
-        if not (name == "k.krbfile" and data in (b"", NEW)):
-            own = os.lstat(os.path.join(folder, name))
-            found[name] = (data, own.st_ino, own.st_mode, own.st_uid, own.st_gid)
-    return found
+def known(folder: str) -> dict[str, tuple[object, ...]]:
+    """Returns the contents of a folder, with owners, modes and times, except a new file of ours."""
+    return {name: own for name, own in stands(folder).items() if name != "k.krbfile" or own[0] not in (b"", NEW)}
 
 
 def check_change(report: Report, program: str, call: str, of: tuple[str, bool, Place], *options: str) -> None:

@@ -156,7 +156,7 @@ def stands(folder: str) -> dict[str, tuple[object, ...]]:
     found = {}
     for name, data in tree(folder).items():
         own = os.lstat(os.path.join(folder, name))
-        found[name] = (data, own.st_ino, own.st_mode, own.st_uid, own.st_mtime_ns)
+        found[name] = (data, own.st_ino, own.st_mode, own.st_uid, own.st_gid, own.st_mtime_ns)
     return found
 
 
