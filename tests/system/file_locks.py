@@ -2,6 +2,8 @@
 
 import fcntl
 import os
+import struct
+import threading
 import time
 from collections.abc import Callable, Iterator
 from concurrent.futures import ThreadPoolExecutor
@@ -10,11 +12,20 @@ from dataclasses import replace
 from makers.images import TWO
 from runs.commands import CHANGES, LEAVES, OLD, READS, SAVING, SCRIPT, Run, both_ways, file_of
 from runs.harness import Case, Report, differences, every, faults_of, files_in, folder_of, run
+from runs.namespaces import disk, no_disks
 from runs.system_calls import Halt, halted, traced, under_strace
 from runs.undisturbed import IN_PLACE, Undisturbed, in_place, undisturbed
-from system.saving import (ADD, B_OLD, EQUAL, LONGER, PLACED, SHORTER, check_over, refused, stands, tree_faults,
-                           with_words)
-from system.waits import AT_ONCE, LEAST_WAIT, LONGEST_WAIT, RUNS, faults_of_waiting, ofd_lock
+from system.saving import (ADD, B_OLD, EQUAL, LONGER, PLACED, SAVED, SHORTER, check_over, edit, refused, run_over,
+                           stands, tree_faults, with_words, write)
+
+# A run that gives up takes this many seconds, however busy the machine is.
+LEAST_WAIT, LONGEST_WAIT = 9, 20
+
+# What needs no hold ends within this many seconds.
+AT_ONCE = 3
+
+# Runs that wait at the same time.
+RUNS = 8
 
 # Runs that change a file, that have nothing to save, and that take no lock, in both ways if there are two.
 BOTH_WAYS, LEAVING, LOCKING_NOTHING = (both_ways(*runs) for runs in (CHANGES, LEAVES, READS))
@@ -33,11 +44,32 @@ LOCKS: dict[str, Callable[[object], None]] = {
 }
 
 
+def ofd_lock(file, kind: int) -> None:
+    """Locks a file by an open file description lock, as MIT's programs do."""
+    fcntl.fcntl(file, fcntl.F_OFD_SETLK, struct.pack("hhqqixxxx", kind, os.SEEK_SET, 0, 0, 0))
+
+
 def set_back(folder: str) -> dict[str, tuple[object, ...]]:
     """Sets the times of a folder and of its files back, and returns how these stand."""
     for path in (folder, *(each.path for each in os.scandir(folder))):
         os.utime(path, (1, 1))
     return stands(folder)
+
+
+def faults_of_waiting(program: str, folder: str, end: Callable[[], None], case: Run = ADD) -> list[str]:
+    """Returns the faults of a run that has to wait until `end`, which is called after a moment."""
+    has_ended = threading.Event()
+
+    def end_it() -> None:
+        has_ended.set()
+        end()
+
+    timer = threading.Timer(0.3, end_it)
+    timer.start()
+    faults = differences(case.wanted, run_over(program, case, folder))
+    faults += [] if has_ended.is_set() else ["it did not wait"]
+    timer.join()
+    return faults + tree_faults(case.files_after, folder)
 
 
 def waited_for(program: str, case: Run, lock: str, name: str) -> list[str]:
@@ -189,5 +221,23 @@ def check_held_to_end(report: Report, program: str) -> None:
                      faults_of_halt(program, case, halt, is_held))
 
 
+def check_other_disk(report: Report, program: str) -> None:
+    """Checks that a lock counts only on the file's own disk, not on a file of the same number elsewhere."""
+    with disk() as here, disk() as there:
+        for where, what in ((there, "a file of the same number elsewhere"), (here, "the file")):
+            write(os.path.join(here, "k"), OLD)
+            write(os.path.join(where, "k"), OLD)
+            number = os.stat(os.path.join(here, "k")).st_ino
+            with open(os.path.join(where, "k"), "r+b") as file:
+                faults = [] if os.fstat(file.fileno()).st_ino == number else ["another number"]
+                ofd_lock(file, fcntl.F_WRLCK)
+                if where == here:
+                    faults += faults_of_waiting(program, here, file.close)
+                else:
+                    faults += differences(SAVED, edit(program, here))
+            report.check(f"a lock of {what} on a disk in memory", faults)
+
+
 check = every(check_waits, check_no_waits, check_given_up,
+              every(check_other_disk, of="locks on two disks", lack=no_disks),
               every(check_without, check_other_handle, check_held_to_end, of="locks of files", needs=("strace",)))

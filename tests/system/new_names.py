@@ -11,9 +11,9 @@ from dataclasses import replace
 from runs.commands import CHANGES, MAKES, NEW, OLD, SCRIPT, WALK, both_ways, file_of, renamed
 from runs.harness import Case, Outcome, Report, every, message, printed
 from runs.undisturbed import IN_PLACE, Undisturbed, in_place
+from system.file_locks import RUNS
 from system.saving import (ADD, SAVED, USER, Place, as_another, at, check_over, faults_over, last_line, link, run_over,
                            unsaved, write)
-from system.waits import RUNS
 from words.explaining import Explained, in_the_way_of, unchanged
 from words.phrases import CAUSES
 
