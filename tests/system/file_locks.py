@@ -5,7 +5,7 @@ import os
 import struct
 import threading
 import time
-from collections.abc import Callable, Iterator
+from collections.abc import Callable
 from concurrent.futures import ThreadPoolExecutor
 from dataclasses import replace
 
@@ -15,8 +15,8 @@ from runs.harness import Case, Report, differences, every, faults_of, files_in, 
 from runs.namespaces import disk, no_disks
 from runs.system_calls import Halt, halted, traced, under_strace
 from runs.undisturbed import IN_PLACE, Undisturbed, in_place, undisturbed
-from system.saving import (ADD, B_OLD, EQUAL, LONGER, PLACED, SAVED, SHORTER, check_over, edit, refused, run_over,
-                           stands, tree_faults, with_words, write)
+from system.saving import (ADD, B_OLD, EQUAL, LONGER, PLACED, SAVED, check_over, edit, refused, run_over, stands,
+                           tree_faults, with_words, write)
 
 # A run that gives up takes this many seconds, however busy the machine is.
 LEAST_WAIT, LONGEST_WAIT = 9, 20
@@ -186,39 +186,18 @@ PRINTING = (ADD, undisturbed("ktedit k", b"cut 3\n", k=OLD), undisturbed("ktedit
             *(replace(TALK, files={**TALK.files, "k": image}) for image in (b"other", TWO[:-1])))
 
 
-def halted_runs() -> Iterator[tuple[Undisturbed, Halt, bool]]:
-    """Yields runs, a call behind which each is halted, and whether its file is locked then."""
-    load, sync, cut = Halt("read", paths=("k",)), Halt("fsync"), Halt("ftruncate")
-    yield from ((case, halt, True) for case in (LONGER, in_place(LONGER)) for halt in (load, sync))
-    yield from ((in_place(SHORTER), halt, True) for halt in (cut, sync))
+def check_printing(report: Report, program: str) -> None:
+    """Checks that no file is locked any more once a run prints, which may take as long as nobody reads that."""
     for case in both_ways(*PRINTING):
         # The new bytes of a file that is replaced are the first write.
         writes = case.files != case.files_after and IN_PLACE not in case.words
-        yield from ((case, Halt("write", nth + writes), False) for nth in range(1, 3 if "ktutil" in case.words else 2))
-
-
-def faults_of_halt(program: str, case: Undisturbed, halt: Halt, is_held: bool) -> list[str]:
-    """Returns the faults of a run that is halted, and of what is locked then."""
-    found: list[tuple[set[str], set[str]]] = []
-
-    def look(folder: str) -> None:
-        names = {*os.listdir(folder)}
-        found.append(({name for name in names if is_locked(os.path.join(folder, name))}, names))
-
-    with folder_of(case.files) as folder:
-        faults = differences(case.wanted, halted(program, case, folder, halt, look))
-        faults += tree_faults(case.files_after, folder)
-    new = {"k.krbfile"} if is_held and IN_PLACE not in case.words else set()
-    is_wanted = found == [({*"k" * is_held} | new, {*case.files} | new)]
-    return faults + ([] if is_wanted else [f"{found} are locked"])
-
-
-def check_held_to_end(report: Report, program: str) -> None:
-    """Checks that the lock is held from before the load to the end of the save, and no more once the run prints, which
-    may take as long as nobody reads that."""
-    for case, halt, is_held in halted_runs():
-        report.check(f"locked behind {halt.calls} {halt.nth}, {is_held}: {case.name}",
-                     faults_of_halt(program, case, halt, is_held))
+        for nth in range(1, 3 if "ktutil" in case.words else 2):
+            found: list[str] = []
+            with folder_of(case.files) as folder:
+                got = halted(program, case, folder, Halt("write", nth + writes), lambda folder, found=found: (
+                    found.extend(f"{each.name} is locked" for each in os.scandir(folder) if is_locked(each.path))))
+                found += differences(case.wanted, got) + tree_faults(case.files_after, folder)
+            report.check(f"write {nth} without a lock: {case.name}", found)
 
 
 def check_other_disk(report: Report, program: str) -> None:
@@ -240,4 +219,4 @@ def check_other_disk(report: Report, program: str) -> None:
 
 check = every(check_waits, check_no_waits, check_given_up,
               every(check_other_disk, of="locks on two disks", lack=no_disks),
-              every(check_without, check_other_handle, check_held_to_end, of="locks of files", needs=("strace",)))
+              every(check_without, check_other_handle, check_printing, of="locks of files", needs=("strace",)))
