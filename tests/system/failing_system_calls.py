@@ -24,9 +24,6 @@ ERRORS = ("EIO", "ENOSPC", "EACCES", "EPERM", "EINTR", "ENOMEM")
 # The calls that are repeated if they were interrupted. Reads and writes are not.
 REPEATED = ("open", "openat", "flock", "fchmod", "fsync", "pwrite64", "ftruncate")
 
-# How often the list of locks is read.
-READINGS = 5
-
 # What an earlier save left in its new file.
 REMAINS = b"remains"
 
@@ -90,18 +87,11 @@ def traced_run(program: str, run: Undisturbed, *options: str) -> tuple[End, list
         return (outcome, files_in(folder)), trace
 
 
-def faults_of_renames(calls: list[Call], files: dict[str, bytes]) -> list[str]:
-    """Returns the renames before which the new file is not synced once it has its mode, or over a file before which the
-    locks are not read often enough then, or after which the folder is not synced at once."""
-    found, lines = [], [call.line for call in calls]
-    for at in (at for at, line in enumerate(lines) if line.startswith("rename")):
-        before, after = "\n".join(lines[:at]).rpartition("\nrename")[2], "\n".join(lines[at + 1:at + 3])
-        is_synced = re.match(r'open.*"\.", .* = (\d+)\nfsync\(\1\) += 0$', after)
-        ready = re.search(r"(?ms)^fchmod\((\d+), .*^fsync\(\1\) += 0$(.*)", before)
-        least = READINGS if lines[at].split('"')[-2] in files else 0
-        if not (is_synced and ready and ready[2].count('"/proc/locks"') >= least):
-            found.append(lines[at])
-    return found
+def unsynced(calls: list[Call]) -> list[str]:
+    """Returns the renames after which the folder is not synced at once."""
+    lines = [call.line for call in calls]
+    return [line for at, line in enumerate(lines) if line.startswith("rename")
+            and not re.match(r'open.*"\.", .* = (\d+)\nfsync\(\1\) += 0$', "\n".join(lines[at + 1:at + 3]))]
 
 
 def calls_of_run(report: Report, program: str, ends: Ends) -> list[Call]:
@@ -109,7 +99,7 @@ def calls_of_run(report: Report, program: str, ends: Ends) -> list[Call]:
     end, trace = traced_run(program, ends.run)
     has_read = ends.run.stdin and ends.command != "hold"
     calls = [*calls_of(trace, "read(0" if has_read else f'"{ends.names[0]}"')]
-    faults = faults_of_renames(calls, ends.run.files) + ([] if calls and end == ends.whole else [f"{end}"])
+    faults = unsynced(calls) + ([] if calls and end == ends.whole else [f"{end}"])
     report.check(f"no call fails: {ends.run.name}", faults)
     return calls
 

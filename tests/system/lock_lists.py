@@ -11,7 +11,6 @@ from runs.commands import OLD, SCRIPT, Run
 from runs.harness import EXPLAIN, Outcome, Report, differences, folder_of
 from runs.system_calls import Counted, Preloaded, preloaded
 from runs.undisturbed import in_place, undisturbed
-from system.failing_system_calls import READINGS
 from system.saving import ADD, EQUAL, UNSAVED, explained
 from words.phrases import CAUSES
 
@@ -50,6 +49,9 @@ ENDLESS = None
 # passes by sleeps alone, which is also the most that is slept for a lock that is there once, and by looks at the clock.
 WAITS = {"in use": 10_000, "in the way": 1_000}
 MOMENT, MORE = 100, 2_000
+
+# How often the list of locks is read in each look.
+READINGS = 5
 
 # Saves, how often each looks for locks, and those that it waits for. In place one that makes the file longer looks
 # once more.

@@ -16,7 +16,7 @@ from runs.commands import OLD, file_of
 from runs.harness import EXPLAIN, Case, Report, differences, every, folder_of, shown
 from runs.system_calls import Halt, halted
 from runs.undisturbed import Undisturbed, in_place, undisturbed
-from system.failing_system_calls import READINGS
+from system.lock_lists import READINGS
 from system.saving import (ADD, CUT_OFF, EQUAL, LONGER, MIXED, SHORTER, explained, images, message_of, told,
                            tree_faults, unsaved, with_words)
 from words.phrases import AFTERMATHS, CAUSES
