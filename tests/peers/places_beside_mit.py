@@ -7,8 +7,8 @@ from peers.beside_mit import SURROUNDINGS, lack
 from runs.harness import SECONDS, Outcome, Report, differences, every, files_in, folder_of, printed, run
 from runs.system_calls import Halt, halted
 from runs.undisturbed import IN_PLACE, Undisturbed, undisturbed
+from system.changes_at_once import names_of
 from system.saving import ADD_LONG
-from system.storm_kinds import names_of
 
 # How long a run is watched that has to wait.
 MOMENT = 0.3
