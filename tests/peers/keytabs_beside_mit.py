@@ -172,19 +172,15 @@ def rotated_entry(random: Random) -> Entry:
                  enctype=random.choice((17, 18)), version32=wide)
 
 
-def removed_by_mit(realm: Realm, name: bytes, image: bytes) -> bytes:
-    """Returns the file after kadmin.local removed the old entries of a name."""
-    with folder_of({"k": image}) as folder:
-        words = ("-r", "CACHE.TEST", "ktremove", "-k", "FILE:k", name.decode(), "old")
-        realm.call("kadmin.local", *words, folder=folder)
-        return files_in(folder)["k"]
-
-
 def faults_of_removal(program: str, realm: Realm, random: Random) -> list[str]:
-    """Returns what differs from MIT's in a removal from a random keytab, which tells each entry that goes."""
+    """Returns what differs from kadmin.local's in a removal of a name's old entries from a random keytab, which tells
+    each entry that goes."""
     those = [rotated_entry(random) for _ in range(random.randrange(1, 9))]
     image, name = keytab(*those), b"/".join(random.choice(those).components) + b"@R"
-    theirs = removed_by_mit(realm, name, image)
+    with folder_of({"k": image}) as folder:
+        words = ("-r", REALM.decode(), "ktremove", "-k", "FILE:k", name.decode(), "old")
+        realm.call("kadmin.local", *words, folder=folder)
+        theirs = files_in(folder)["k"]
     with folder_of({"k": image}) as folder:
         got = run(program, ("ktremove", "-p", name, "-k", "old", "k"), folder)
         ours, left = files_in(folder)["k"], len(entries(program, folder, "k"))

@@ -13,7 +13,7 @@ from pathlib import Path
 from shlex import quote
 
 from makers.images import HOST, TWO, USUAL, Entry, keytab
-from runs.commands import CHANGES, COMMANDS, LEAVES, NEW, OLD, READS, SAVING, SCRIPT, Run, file_of, renamed
+from runs.commands import CHANGES, COMMANDS, LEAVES, NEW, OLD, READS, SAVING, SCRIPT, file_of, renamed
 from runs.harness import EXPLAIN, Case, Report, differences, every, faults_of, files_in, folder_of, limit, run
 from runs.namespaces import disk, no_disks, no_mounts, run_within
 from runs.undisturbed import IN_PLACE, Undisturbed, in_place, undisturbed
@@ -114,26 +114,19 @@ READ_ONLY = (*(refused(case, "EROFS") for case in (ADD, in_place(ADD), *COMMANDS
              WALK_OVER, in_place(WALK_OVER))
 
 
-def check_on_disk(report: Report, program: str, what: str, case: Run, is_read_only: bool) -> None:
-    """Checks a row on a disk of its own."""
-    with disk(f"{4 * (len(case.files) + is_read_only)}k") as folder:
-        for name, data in case.files.items():
-            write(os.path.join(folder, name), data)
-        before = [kept(os.path.join(folder, name)) for name in case.files]
-        if is_read_only:
-            subprocess.run(["mount", "-o", "remount,ro", folder], check=True)
-        faults = differences(case.wanted, run(program, case.words, folder, case.stdin))
-        faults += [] if [kept(os.path.join(folder, name)) for name in case.files] == before else ["not kept"]
-        faults += tree_faults(case.files if case.files_after is None else case.files_after, folder)
-    report.check(f"{what}: {case.name}", faults)
-
-
 def check_disks(report: Report, program: str) -> None:
-    """Checks each of those rows."""
-    for case in FULL_DISKS:
-        check_on_disk(report, program, "a full disk", case, False)
-    for case in READ_ONLY:
-        check_on_disk(report, program, "a disk that is read-only", case, True)
+    """Checks each of those rows on a disk of its own."""
+    for case, is_read_only in (*((each, False) for each in FULL_DISKS), *((each, True) for each in READ_ONLY)):
+        with disk(f"{4 * (len(case.files) + is_read_only)}k") as folder:
+            for name, data in case.files.items():
+                write(os.path.join(folder, name), data)
+            before = [kept(os.path.join(folder, name)) for name in case.files]
+            if is_read_only:
+                subprocess.run(["mount", "-o", "remount,ro", folder], check=True)
+            faults = differences(case.wanted, run(program, case.words, folder, case.stdin))
+            faults += [] if [kept(os.path.join(folder, name)) for name in case.files] == before else ["not kept"]
+            faults += tree_faults(case.files if case.files_after is None else case.files_after, folder)
+        report.check(f"a disk that is {'read-only' if is_read_only else 'full'}: {case.name}", faults)
 
 
 def check_limit(report: Report, program: str) -> None:

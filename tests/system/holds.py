@@ -11,7 +11,7 @@ from itertools import product
 from keytabs.file_names import LIMIT, sized
 from keytabs.listings import B_LINE, HOST_LINE, listed
 from makers.images import B, BIG, HOST, TWO, USUAL, VERSION_3, Entry, keytab, old, record
-from runs.harness import EXPLAIN, SECONDS, Case, Outcome, Report, differences, every, folder_of, run
+from runs.harness import EXPLAIN, SECONDS, Case, Outcome, Report, differences, every, folder_of, run, words_of
 from runs.terminal import run_on_terminal
 from runs.undisturbed import IN_PLACE, frame
 from system.failing_streams import NO_OUTPUT
@@ -61,13 +61,6 @@ def refused(line: str, said: tuple[str, str], **more) -> Explained:
 
 
 no_cache = partial(no_keytab, kind="cache")
-
-
-def unsaved(line: str, cause: str, image: bytes | None = TWO, **more) -> Explained:
-    """Returns a hold of a file that could not be saved: then no frame is printed."""
-    name = line.split()[-1]
-    return failed(tuple(line.split()), "write", cause, image, file=name, out=last_line(ERRORS[cause]), stdin=EMPTY,
-                  after={} if image is None else {name: image}, **more)
 
 
 def damaged(fault: int, place: int) -> tuple[str, str]:
@@ -149,7 +142,8 @@ def check_locked(report: Report, program: str) -> None:
             os.chmod(path, 0o755)
 
     for line in (K, PLACED):
-        unsaved(line, "EACCES", setting=lock, options=options).check(report, program)
+        failed(words_of(line), "write", "EACCES", TWO, out=last_line(ERRORS["EACCES"]), stdin=EMPTY, after={"k": TWO},
+               setting=lock, options=options).check(report, program)
 
 
 def check_outputs(report: Report, program: str) -> None:
