@@ -1,10 +1,11 @@
-"""Saves in place of which a system call fails.
+"""Saves in place of which a system call fails, or that are killed at one.
 
 Bytes past the old end are written and synced first. If a write, a cut or a sync fails, the old bytes are written back,
 and if that fails too, a message says so.
 """
 
 import re
+from functools import partial
 
 from makers.images import B, HOST, keytab
 from runs.commands import file_of
@@ -12,7 +13,7 @@ from runs.harness import EXPLAIN, Case, Outcome, Report, differences, every, sho
 from runs.system_calls import Call, calls_of, under_strace
 from runs.undisturbed import IN_PLACE, Undisturbed, in_place, undisturbed
 from runs.undisturbed import explained as with_words
-from system.failing_system_calls import traced_run
+from system.failing_system_calls import killed, traced_run
 from system.saving import CUT_OFF, EQUAL, LONGER, MIXED, SHORTER, check_over, explained, images, message_of, unsaved
 from words.phrases import AFTERMATHS, CAUSES
 
@@ -102,4 +103,26 @@ def check_talk(report: Report, program: str) -> None:
     check_over(report, "strace", under_strace(program, case, "-e", "inject=pwrite64:error=EIO:when=1"))
 
 
-check = every(check_failures, check_talk, of="system calls of saves in place that fail", needs=("strace",))
+def faults_of_kill(case: Undisturbed, files: dict[str, bytes], trace: list[str]) -> list[str]:
+    """Returns the faults of what a killed run left: until it writes over old bytes, these are the front of the file."""
+    before, after = images(case)
+    left = files.pop(file_of(case))
+    is_overwriting = is_written_over(trace, len(before))
+    may_be = [{old, new} if is_overwriting else {old} for old, new in zip(before, after)]
+    is_mix = len(left) >= len(may_be) and all(byte in those for byte, those in zip(left, may_be))
+    is_front = is_overwriting or left.startswith(before)
+    return ([] if is_mix and is_front else [f"{left} is left"]) + ([f"{[*files]} are left"] if files else [])
+
+
+def check_kills(report: Report, program: str) -> None:
+    """Kills runs at each call, or at those that change the file: what was not written over is there, and no more."""
+    for case in (MIXED, LONGER, SHORTER):
+        placed = in_place(case)
+        _, trace = traced_run(program, placed)
+        for call in calls_of(trace, '"k", O_RDWR'):
+            if case == MIXED or call.name in CHANGES:
+                report.check(f"killed at {call}: {placed.name}", killed(
+                    program, placed, call, partial(faults_of_kill, placed)))
+
+
+check = every(check_failures, check_talk, check_kills, of="system calls of saves in place that fail", needs=("strace",))

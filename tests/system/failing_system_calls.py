@@ -6,6 +6,7 @@ What a failure changes depends on the call and on the file that it is about, whi
 import os
 import re
 import signal
+from collections.abc import Callable
 from itertools import product
 
 from makers.images import B, TWO, keytab
@@ -61,15 +62,15 @@ def faults_of_files(ends: Ends, files: dict[str, bytes]) -> list[str]:
     return [] if left in [ends.run.files_after, *(stage.files for stage in ends.stages)] else [f"{left} is left"]
 
 
-def killed(program: str, ends: Ends, call: Call) -> list[str]:
+def killed(program: str, run: Undisturbed, call: Call, judge: Callable[[dict[str, bytes], list[str]], list[str]],
+           ) -> list[str]:
     """Returns the faults of a run that is killed at a call, or ended before, of what it left, and of the next run if it
     changes a file."""
-    run = ends.run
     with folder_of(run.files) as folder:
-        got, _ = traced(program, run, folder, *call.to("signal=KILL"))
+        got, trace = traced(program, run, folder, *call.to("signal=KILL"))
         has_ended = got.status == run.wanted.status
         faults = differences(run.wanted if has_ended else Outcome(-signal.SIGKILL, got.out, got.err), got)
-        faults += tree_faults(run.files_after, folder) if has_ended else faults_of_files(ends, files_in(folder))
+        faults += tree_faults(run.files_after, folder) if has_ended else judge(files_in(folder), trace)
         if run.files_after == run.files:
             return faults
         for name in {*files_in(folder), *run.files}:
@@ -122,7 +123,8 @@ def check_runs(report: Report, program: str) -> None:
         for call in calls_of_run(report, program, ends):
             for error in ERRORS:
                 check_failure(report, program, ends, call, error)
-            report.check(f"killed at {call}: {ends.run.name}", killed(program, ends, call))
+            report.check(f"killed at {call}: {ends.run.name}", killed(
+                program, ends.run, call, lambda files, _, ends=ends: faults_of_files(ends, files)))
 
 
 def at_link(program: str, run: Undisturbed, *options: str) -> tuple[Outcome, dict[str, object], list[str]]:
