@@ -1,7 +1,6 @@
 pub mod Cited
 pub mod Given
 pub mod Runs
-pub mod Times
 pub mod Unfolded
 mod Stores
 mod NamesAndTimes

@@ -86,7 +86,7 @@ weak : (is_weak 16 ≡ true) × (is_weak 23 ≡ true) × (is_weak 18 ≡ false)
 unfolding on_literals
 weak = (refl, refl, refl)
 
--- ---- durations; Times.antt has times
+-- ---- durations
 
 -- a number of seconds, or of the unit whose letter is after it: seconds, minutes, hours or days
 seconds : (seconds_in (codes "90") ≡ Some 90) × (seconds_in (codes "15m") ≡ Some 900) × (seconds_in (codes "7d") ≡ Some 604800)
