@@ -1,8 +1,7 @@
 -- The handle and its parts own what a box at the same types owns.
-use Rattle.krb_c.proofs.Cited.{impl, tnil, dnil, Slot, plain, Bx}
+use Rattle.krb_c.proofs.Cited.{impl, tnil, dnil, Slot, plain, Bx, ghosts, dict}
 use mathlib.Core.List.{[]}
 use Rattle.std_heap.specs.contracts.Global as Heap
-use Rattle.std_heap.specs.contracts.GlobalAllocator.TheImpl.{ghosts, dict}
 use Rattle.std_heap.proofs.Global.TheLaws as heap
 use Rattle.krb_c.specs.contracts.held.Held as Held
 use Rattle.krb_c.proofs.held.Held.TheLaws as held

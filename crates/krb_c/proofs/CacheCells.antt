@@ -1,20 +1,14 @@
 -- A live credential is read in place: the cache of an image was read from it.
 use Rattle.std.proofs.Common.{◌≡◌, ℕ, ◌+◌, Bool, true, false, cond, List, [], ◌∷◌, ◌++◌, length, drop, Option, Some, None, Result, Ok, Err, refl, sym, ap, subst, ◌∙◌, arith}
-use Rattle.krb_c.proofs.Cited.{◌==◌, nat_lt, option_map, find, Parts}
-use Rattle.std.specs.List.{AllByRecursion}
+use Rattle.krb_c.proofs.Cited.{◌==◌, nat_lt, option_map, find, Parts, AllByRecursion, cc_principal_at, live_bytes, Version, Field, header_at, CacheState, credentials_format, version_in, open_default, open_header, open_version, open_result, store_of, first_place, placed_from, live_of, credential_at_place}
 use Rattle.std.proofs.lemmas.List.{append-nil}
-use Rattle.krb_wire.specs.Reading.{cc_principal_at}
 use Rattle.krb_wire.proofs.Fields.{IsBytes, IsBytes-drop}
 use Rattle.krb_wire.proofs.Principals.{cc_principal_field}
 use Rattle.krb_cells.specs.Contents.{Contents, contents, IsCell}
-use Rattle.krb_walk.specs.Store.{live_bytes}
 use Rattle.krb_cells.proofs.ContentsLemmas.{contents_spelled}
-use Rattle.krb_ccache.specs.declared.version.Version.{Version}
 use Rattle.krb_ccache.specs.declared.open.CcOpenFault.{CcOpenFault}
 use Rattle.krb_ccache.specs.declared.open.CcOpenFault.TheVariants.{TooShort, TooLarge}
 use Rattle.krb_ccache.specs.Credential.{CredParts, credential, credential_at, credential_in, is_marked}
-use Rattle.krb_ccache.specs.Header.{Field, header_at}
-use Rattle.krb_ccache.specs.Store.{CacheState, credentials_format, version_in, open_default, open_header, open_version, open_result, store_of, first_place, placed_from, live_of, credential_at_place}
 use Rattle.krb_ccache.specs.Open.{Reopens}
 use Rattle.krb_ccache.proofs.HeaderFields.{header_takes}
 use Rattle.krb_ccache.proofs.CellLemmas.{credentials_are}

@@ -1,8 +1,7 @@
 -- A text that was not read as a name is refused with the status that says why.
-use Rattle.krb_c.proofs.Cited.{◌≡◌, refl, subst, inl, inr, ◌⊎◌, ℕ, Result, Ok, Err, IsOk, Parts}
+use Rattle.krb_c.proofs.Cited.{◌≡◌, refl, subst, inl, inr, ◌⊎◌, ℕ, Result, Ok, Err, IsOk, Parts, name_status}
 use Rattle.krb_wire.specs.declared.name_fault.NameFault.{NameFault}
 use Rattle.krb_wire.specs.declared.name_fault.NameFault.TheVariants.{NoMemory}
-use Rattle.krb_c.specs.Status.{name_status}
 use Rattle.krb_c.specs.Text.{ByName, IsUnread}
 
 memory_fault : (named : Result Parts NameFault) (fault : NameFault) → fault ≡ NoMemory → IsOk named → IsUnread named (name_status fault)

@@ -1,5 +1,4 @@
 -- What is behind a handle may go to another thread: its memory may be freed there.
-use denote.Param.Send.{IsSend, EachSend, Frees, sendable, recorded_send, enum_send}
 use denote.Enum.Declared.{shape}
 use Rattle.std.proofs.Crossing as heap
 use Rattle.krb_keytab.specs.contracts.indexed.Indexed as Indexed
@@ -8,11 +7,10 @@ use Rattle.krb_ccache.specs.contracts.ccache.Ccache as Ccache
 use Rattle.krb_ccache.proofs.ccache.Ccache.TheSendSync as ccache
 use Rattle.krb_c.proofs.walked.Walked.TheSendSync as walked
 use Rattle.krb_c.specs.contracts.held.Held as Held
-use Rattle.krb_c.proofs.Cited.{impl, tnil, dnil, RattleType}
+use Rattle.krb_c.proofs.Cited.{impl, tnil, dnil, RattleType, IsSend, EachSend, Frees, sendable, recorded_send, enum_send, ghosts, dict}
 use mathlib.Core.List.{[]}
 use Rattle.std.specs.declared.alloc.Allocator.{Ghosts}
 use Rattle.std_heap.specs.contracts.Global as Global
-use Rattle.std_heap.specs.contracts.GlobalAllocator.TheImpl.{ghosts, dict}
 use Rattle.wiping.specs.contracts.allocator.Wiping as Wiping
 use Rattle.wiping.specs.contracts.allocator.WipingAllocator.TheImpl as wiping
 

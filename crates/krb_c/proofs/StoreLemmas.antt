@@ -8,14 +8,11 @@ use Rattle.krb_walk.specs.Rules.{PutGives, CutGives}
 use Rattle.krb_walk.specs.Changes.{Puts, Cuts}
 use Rattle.krb_walk.specs.Events.{stop_cursor}
 use Rattle.krb_walk.specs.declared.stop.Stop.TheVariants.{Live}
-use Rattle.krb_walk.specs.Store.{Store, IsPlace, IsSound, is_place, end_of, stop_at}
+use Rattle.krb_c.proofs.Cited.{Store, IsPlace, IsSound, is_place, end_of, stop_at, AreKnown, are_places, AllByRecursion, Adds, refusal_status}
 use Rattle.krb_walk.proofs.Cells.{stops_live}
 use Rattle.krb_walk.proofs.Lists.{some_is}
 use Rattle.krb_walk.proofs.Places.{Extends, puts-extends, cuts-extends, place_kept, stop_place}
-use Rattle.krb_c.specs.Walks.{AreKnown, are_places}
-use Rattle.std.specs.List.{AllByRecursion}
 use Rattle.krb_wire.proofs.NamesCompared.{and_both}
-use Rattle.krb_c.specs.Status.{Adds, refusal_status}
 
 -- the cell that a walk stops at, and the place after it
 pub known_after : (s : Store) (c p n : ℕ) → IsSound s → Live p n ≡ stop_at s c → AreKnown s (Some p) (Some n)

@@ -1,9 +1,7 @@
 -- Words without an end.
-use Rattle.std.proofs.Common.{◌≡◌, ◌-◌, false, true, List, ℕ, Option, None, Some, Bor, length, take, refl, ap, ◌∙◌, arith}
-use Rattle.std.specs.Prelude.{MatchOption, option_copied}
+use Rattle.krbfile.proofs.Cited.{◌≡◌, ◌-◌, false, true, List, ℕ, Option, None, Some, Bor, length, take, refl, ap, ◌∙◌, arith, MatchOption, option_copied, without_end}
 use Rattle.std.specs.Str.Pattern.{FindsTextSuffix, StripsSuffix}
 use Rattle.std.proofs.lemmas.Str.Pattern.{ends_text}
-use Rattle.krbfile.specs.Words.{without_end}
 
 -- the word that `strip_suffix` returns
 pub strips_end : (end word : List ℕ) (r : Option (Bor (List ℕ))) → MatchOption r (FindsTextSuffix end word None) (λ x. StripsSuffix (FindsTextSuffix end) word x.now) → option_copied r ≡ without_end word end

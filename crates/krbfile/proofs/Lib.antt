@@ -1,1 +1,2 @@
+pub mod Cited
 mod Ends

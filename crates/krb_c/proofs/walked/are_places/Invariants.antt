@@ -1,5 +1,4 @@
-use Rattle.std.proofs.Common.{◌≡◌, drop}
-use Rattle.krb_c.specs.Walks.{are_places}
+use Rattle.krb_c.proofs.Cited.{◌≡◌, drop, are_places}
 use Rattle.krb_c.proofs.walked.are_places.Given as goal
 
 abbrev pub invariant-loop-cursor : goal.invariant-loop-cursor

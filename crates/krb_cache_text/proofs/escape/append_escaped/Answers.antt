@@ -1,6 +1,4 @@
-use Rattle.krb_cache_text.proofs.Cited.{◌∷◌, ℕ, drop, get_or, sym, ap, ◌∙◌, drop-cons, add-one, err_from_is_err_and}
-use Rattle.krb_wire.proofs.TextLemmas.{left_fails}
-use Rattle.krb_cache_text.specs.Escape.{escaped_text}
+use Rattle.krb_cache_text.proofs.Cited.{◌∷◌, ℕ, drop, get_or, sym, ap, ◌∙◌, drop-cons, add-one, err_from_is_err_and, left_fails, escaped_text}
 use Rattle.krb_cache_text.proofs.escape.append_escaped.Goals as goal
 
 pub returns-in_err-append_escaped_byte : goal.returns-in_err-append_escaped_byte

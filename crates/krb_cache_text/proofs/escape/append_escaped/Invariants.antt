@@ -1,6 +1,4 @@
-use Rattle.std.proofs.Common.{drop}
-use Rattle.krb_wire.proofs.TextLemmas.{Left}
-use Rattle.krb_cache_text.specs.Escape.{escaped_text}
+use Rattle.krb_cache_text.proofs.Cited.{drop, Left, escaped_text}
 use Rattle.krb_cache_text.proofs.escape.append_escaped.Given as goal
 
 abbrev pub invariant-bytes : goal.invariant-bytes

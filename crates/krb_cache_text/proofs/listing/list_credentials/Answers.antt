@@ -1,5 +1,4 @@
-use Rattle.krb_cache_text.proofs.Cited.{◌++◌, List, ℕ, sym, ap, ◌∙◌, err_from_is_err_and, passed_none, passed_gather, passed_send, gathers_memory, gathers_write}
-use Rattle.krb_cache_text.specs.Listing.{credential_lines, lines_of_credentials}
+use Rattle.krb_cache_text.proofs.Cited.{◌++◌, List, ℕ, sym, ap, ◌∙◌, err_from_is_err_and, passed_none, passed_gather, passed_send, gathers_memory, gathers_write, credential_lines, lines_of_credentials}
 use Rattle.krb_cache_text.proofs.listing.list_credentials.Goals as goal
 
 pub credentials-init : goal.credentials-init

@@ -1,7 +1,6 @@
-use Rattle.krb_cache_text.proofs.Cited.{◌++◌, IsFalse}
+use Rattle.krb_cache_text.proofs.Cited.{◌++◌, IsFalse, lines_of_credentials}
 use Rattle.krb_ccache.specs.Store.{placed_credentials}
 use Rattle.krb_text.specs.Gathered.{Passed}
-use Rattle.krb_cache_text.specs.Listing.{lines_of_credentials}
 use Rattle.krb_cache_text.proofs.listing.list_credentials.Given as goal
 
 abbrev pub invariant-credentials : goal.invariant-credentials

@@ -1,6 +1,5 @@
-use Rattle.std.proofs.lemmas.Result.{err_from_is_err_and}
+use Rattle.krb_cache_text.proofs.Cited.{err_from_is_err_and, made_refused}
 use Rattle.krb_text.specs.Word.{name_word}
-use Rattle.krb_text.proofs.Made.{made_refused}
 use Rattle.krb_cache_text.proofs.setting.check_name.Goals as goal
 
 pub returns-in_err-_name : goal.returns-in_err-_name

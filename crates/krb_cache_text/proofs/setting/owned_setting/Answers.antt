@@ -1,7 +1,6 @@
-use Rattle.krb_cache_text.proofs.Cited.{Err, subst, option_copied, err_from_is_err_and}
+use Rattle.krb_cache_text.proofs.Cited.{Err, subst, option_copied, err_from_is_err_and, made_refused}
 use Rattle.krb_ccache.specs.SetConfig.{SettingParts}
 use Rattle.krb_text.specs.LineFault.{Reads}
-use Rattle.krb_text.proofs.Made.{made_refused}
 use Rattle.krb_cache_text.specs.Script.{checked, checked_setting}
 use Rattle.krb_cache_text.proofs.setting.owned_setting.Goals as goal
 

@@ -1,9 +1,6 @@
-use Rattle.std.proofs.Common.{◌≡◌, length}
+use Rattle.krbfile.proofs.Cited.{◌≡◌, length, bundled_value, value_in, shadow, Utf8}
 use Rattle.std.specs.Str.{chars}
-use Rattle.krbfile.specs.Words.{bundled_value, value_in}
 use Rattle.krbfile.proofs.bundle.bundled_value.Given as goal
-use denote.Shadow.{shadow}
-use denote.Text.{Utf8}
 
 -- the letters to come have the value of all letters
 abbrev pub invariant-letters : goal.invariant-letters

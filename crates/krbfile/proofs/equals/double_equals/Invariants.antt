@@ -1,5 +1,4 @@
-use Rattle.std.proofs.Common.{◌≡◌, ◌++◌, drop, map, string_bytes, take}
-use Rattle.krbfile.specs.Words.{double_equals, doubled_words}
+use Rattle.krbfile.proofs.Cited.{◌≡◌, ◌++◌, drop, map, string_bytes, take, double_equals, doubled_words}
 use Rattle.krbfile.proofs.equals.double_equals.Given as goal
 
 -- the words so far, and what those to come become

@@ -1,5 +1,4 @@
-use Rattle.std.proofs.Common.{◌≡◌, drop}
-use Rattle.std.specs.Prelude.{fold}
+use Rattle.krbfile.proofs.Cited.{◌≡◌, drop, fold}
 use Rattle.krbfile.specs.Nearest.{nearer, nearest}
 use Rattle.krbfile.proofs.nearest.nearest.Given as goal
 

@@ -1,9 +1,6 @@
-use Rattle.std.proofs.Common.{◌≡◌, drop}
+use Rattle.krbfile.proofs.Cited.{◌≡◌, drop, mistake_after, mistake_behind, shadow, Utf8}
 use Rattle.clap.specs.Words.{args_of}
-use Rattle.krbfile.specs.Words.{mistake_after, mistake_behind}
 use Rattle.krbfile.proofs.place.mistake_behind.Given as goal
-use denote.Shadow.{shadow}
-use denote.Text.{Utf8}
 
 -- the words to come have the mistake of all words
 abbrev pub invariant-words : goal.invariant-words

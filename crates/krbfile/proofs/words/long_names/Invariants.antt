@@ -1,5 +1,4 @@
-use Rattle.std.proofs.Common.{◌≡◌, ◌++◌, drop, map}
-use Rattle.krbfile.specs.Words.{long_names}
+use Rattle.krbfile.proofs.Cited.{◌≡◌, ◌++◌, drop, map, long_names}
 use Rattle.krbfile.proofs.words.long_names.Given as goal
 
 -- the names so far and those to come are all names

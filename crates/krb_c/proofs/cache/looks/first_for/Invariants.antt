@@ -1,5 +1,4 @@
-use Rattle.krb_c.proofs.Cited.{◌≡◌, find}
-use Rattle.krb_wire.specs.Reading.{principal_parts}
+use Rattle.krb_c.proofs.Cited.{◌≡◌, find, principal_parts}
 use Rattle.krb_c.specs.CacheLooks.{is_ticket_for, ticket_for}
 use Rattle.krb_c.proofs.cache.looks.first_for.Given as goal
 

@@ -2,11 +2,7 @@
 use mir.Raw.{raw}
 use base.Shift.{Keyless}
 use denote.Memory.{lone}
-use Rattle.krb_c.proofs.Cited.{Ptr, Option, Some, None}
-use denote.Struct.Struct.{exits_of}
-use denote.Struct.Owning.{shape, fields, to}
-use denote.Param.Send.{IsSend, AllSend, owning_send, struct_send, sendable}
-use Rattle.std.specs.Global.{Global}
+use Rattle.krb_c.proofs.Cited.{Ptr, Option, Some, None, exits_of, shape, fields, to, IsSend, AllSend, owning_send, struct_send, sendable, Global}
 use Rattle.std.proofs.Crossing as heap
 use Rattle.std_alloc.proofs.SendSync.{quiet, lies}
 use Rattle.std_heap.proofs.Global.TheSendSync as handle
