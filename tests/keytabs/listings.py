@@ -10,14 +10,14 @@ from runs.undisturbed import undisturbed
 
 # The enctypes that have names: the lengths of their keys, and the names, of which the first is printed.
 ETYPES = {
-    16: (24, "des3-cbc-sha1 des3-hmac-sha1 des3-cbc-sha1-kd"),
-    17: (16, "aes128-cts-hmac-sha1-96 aes128-cts aes128-sha1"),
-    18: (32, "aes256-cts-hmac-sha1-96 aes256-cts aes256-sha1"),
+    16: (24, "des3-cbc-sha1 des3 des3-hmac-sha1 des3-cbc-sha1-kd"),
+    17: (16, "aes128-cts-hmac-sha1-96 aes128 aes128-cts aes128-sha1"),
+    18: (32, "aes256-cts-hmac-sha1-96 aes256 aes256-cts aes256-sha1"),
     19: (16, "aes128-cts-hmac-sha256-128 aes128-sha2"),
     20: (32, "aes256-cts-hmac-sha384-192 aes256-sha2"),
-    23: (16, "arcfour-hmac rc4-hmac arcfour-hmac-md5"),
-    25: (16, "camellia128-cts-cmac camellia128-cts"),
-    26: (32, "camellia256-cts-cmac camellia256-cts"),
+    23: (16, "arcfour-hmac rc4 rc4-hmac arcfour-hmac-md5"),
+    25: (16, "camellia128-cts-cmac camellia128 camellia128-cts"),
+    26: (32, "camellia256-cts-cmac camellia256 camellia256-cts"),
 }
 KEY_SIZES = {number: size for number, (size, _) in ETYPES.items()}
 NAMES = {number: names.split()[0].encode() for number, (_, names) in ETYPES.items()}

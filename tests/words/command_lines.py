@@ -39,7 +39,7 @@ REFUSED: list[str | Line] = [
     # Words that are not a version, or not an enctype, and texts that are not a name with a realm.
     *(("ktfind", "k", word, "0", "b@R") for word in ("", "-1", "+1", "1 ", "0x3", "\u0663", "00000000003")),
     *(("ktfind", "k", "0", word, "b@R") for word in (
-        "", "+17", "65536", "00000000017", "aes128", "aes128-cts-hmac-sha1-96 ", "aes128-\u017fha1", "etype 17")),
+        "", "+17", "65536", "00000000017", "aes", "aes128-cts-hmac-sha1-96 ", "aes128-\u017fha1", "etype 17")),
     *(("ktfind", "k", "0", "0", word) for word in ("", "\\", "b@R@", "b@/")),
 ]
 

@@ -1,19 +1,12 @@
 -- Short names of encryption types.
-use Rattle.std.specs.Prelude.{ℕ, ◌^◌, ◌==◌, nat_lt, ℤ, pos, negsuc, List, [], ◌∷◌, ◌++◌, codes, decimal, unwrap_or, Option, None, Some, if◌then◌else◌}
+use Rattle.std.specs.Prelude.{ℕ, ◌^◌, nat_lt, ℤ, pos, negsuc, List, [], ◌++◌, codes, decimal, unwrap_or, Option, None, Some, if◌then◌else◌}
 use Rattle.std.specs.Fmt.{signed_decimal}
-use Rattle.std.specs.Map.{lookup}
-use Rattle.krb_text.specs.Etype.{is_weak}
+use Rattle.krb_text.specs.Etype.{is_weak, short_name_of}
 use Rattle.krb_ccache.specs.declared.ticket.TicketEncryption.{TicketEncryption}
-
--- the enctypes that have a short name
-abbrev pub short_names : List (ℕ × List ℕ)
-short_names =
-    (16, codes "des3") ∷ (17, codes "aes128") ∷ (18, codes "aes256") ∷ (19, codes "aes128-sha2") ∷ (20, codes "aes256-sha2")
-    ∷ (23, codes "rc4") ∷ (25, codes "camellia128") ∷ (26, codes "camellia256") ∷ []
 
 -- the short name of an enctype, or its number
 abbrev pub short_name : ℕ → List ℕ
-short_name n = unwrap_or (lookup (λ m. n == m) short_names) (decimal n)
+short_name n = unwrap_or (short_name_of n) (decimal n)
 
 -- an enctype as a cell: `!` is behind a weak one
 unfoldable pub etype_cell : ℕ → List ℕ

@@ -1,39 +1,20 @@
 //! Short names of encryption types.
 
-ghost use Rattle.std.specs.Prelude.{◌≡◌, ◌==◌, option_copied};
-ghost use Rattle.std.specs.Map.{lookup};
 ghost use Rattle.krb_wire.specs.Text.{AppendedPart};
-ghost use Rattle.krb_show.specs.EtypeNames.{encryption_cell, etype_cell, short_name, short_names, wide_etype_cell};
+ghost use Rattle.krb_show.specs.EtypeNames.{encryption_cell, etype_cell, short_name, wide_etype_cell};
 
 use itoa::Buffer;
 use krb_ccache::TicketEncryption;
-use krb_text::{append, append_byte, append_labelled, is_weak};
+use krb_text::{append, append_byte, append_labelled, etype_short_name, is_weak};
 use krb_wire::NoMemory;
 use std::alloc::Allocator;
-
-// Returns the short name of an enctype, if it has one.
-fn short_name(etype: u16) -> Option<&'static [u8]>
-    ensures { option_copied result ≡ lookup (λ m. etype == m) short_names }
-{
-    match etype {
-        16 => Some(b"des3"),
-        17 => Some(b"aes128"),
-        18 => Some(b"aes256"),
-        19 => Some(b"aes128-sha2"),
-        20 => Some(b"aes256-sha2"),
-        23 => Some(b"rc4"),
-        25 => Some(b"camellia128"),
-        26 => Some(b"camellia256"),
-        _ => None,
-    }
-}
 
 // Appends the short name of an enctype, or its number.
 fn append_name<A: Allocator>(etype: u16, out: &mut Vec<u8, A>) -> Result<(), NoMemory>
     ensures { AppendedPart (short_name etype) out.old out.new result }
 {
-    match short_name(etype) {
-        Some(name) => append(name, out),
+    match etype_short_name(etype) {
+        Some(name) => append(name.as_bytes(), out),
         None => append_labelled(b"", etype as u32, out),
     }
 }

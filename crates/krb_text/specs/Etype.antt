@@ -9,7 +9,7 @@ use Rattle.krb_text.specs.Numbers.{number_in}
 use Rattle.hex.specs.Hex.{encode_lower, decode_of}
 
 -- an enctype: its number, its names, the size of its keys in bytes if it has a name, and whether MIT calls it weak or
--- deprecated. The first name is printed, all are read.
+-- deprecated. The first name is MIT's, the second is short, and all are read.
 pub record Etype : Type 0 where
   pub number : ℕ
   pub names : List (List ℕ)
@@ -24,15 +24,15 @@ weak_unnamed n = record { number = n; names = []; key_size = None; is_weak = tru
 unfoldable pub etype_table : List Etype
 etype_table =
     map weak_unnamed (1 ∷ 2 ∷ 3 ∷ 4 ∷ 6 ∷ 8 ∷ []) ++
-    (record { number = 16; names = codes "des3-cbc-sha1" ∷ codes "des3-hmac-sha1" ∷ codes "des3-cbc-sha1-kd" ∷ []; key_size = Some 24; is_weak = true }
-    ∷ record { number = 17; names = codes "aes128-cts-hmac-sha1-96" ∷ codes "aes128-cts" ∷ codes "aes128-sha1" ∷ []; key_size = Some 16; is_weak = false }
-    ∷ record { number = 18; names = codes "aes256-cts-hmac-sha1-96" ∷ codes "aes256-cts" ∷ codes "aes256-sha1" ∷ []; key_size = Some 32; is_weak = false }
+    (record { number = 16; names = codes "des3-cbc-sha1" ∷ codes "des3" ∷ codes "des3-hmac-sha1" ∷ codes "des3-cbc-sha1-kd" ∷ []; key_size = Some 24; is_weak = true }
+    ∷ record { number = 17; names = codes "aes128-cts-hmac-sha1-96" ∷ codes "aes128" ∷ codes "aes128-cts" ∷ codes "aes128-sha1" ∷ []; key_size = Some 16; is_weak = false }
+    ∷ record { number = 18; names = codes "aes256-cts-hmac-sha1-96" ∷ codes "aes256" ∷ codes "aes256-cts" ∷ codes "aes256-sha1" ∷ []; key_size = Some 32; is_weak = false }
     ∷ record { number = 19; names = codes "aes128-cts-hmac-sha256-128" ∷ codes "aes128-sha2" ∷ []; key_size = Some 16; is_weak = false }
     ∷ record { number = 20; names = codes "aes256-cts-hmac-sha384-192" ∷ codes "aes256-sha2" ∷ []; key_size = Some 32; is_weak = false }
-    ∷ record { number = 23; names = codes "arcfour-hmac" ∷ codes "rc4-hmac" ∷ codes "arcfour-hmac-md5" ∷ []; key_size = Some 16; is_weak = true }
+    ∷ record { number = 23; names = codes "arcfour-hmac" ∷ codes "rc4" ∷ codes "rc4-hmac" ∷ codes "arcfour-hmac-md5" ∷ []; key_size = Some 16; is_weak = true }
     ∷ weak_unnamed 24
-    ∷ record { number = 25; names = codes "camellia128-cts-cmac" ∷ codes "camellia128-cts" ∷ []; key_size = Some 16; is_weak = false }
-    ∷ record { number = 26; names = codes "camellia256-cts-cmac" ∷ codes "camellia256-cts" ∷ []; key_size = Some 32; is_weak = false }
+    ∷ record { number = 25; names = codes "camellia128-cts-cmac" ∷ codes "camellia128" ∷ codes "camellia128-cts" ∷ []; key_size = Some 16; is_weak = false }
+    ∷ record { number = 26; names = codes "camellia256-cts-cmac" ∷ codes "camellia256" ∷ codes "camellia256-cts" ∷ []; key_size = Some 32; is_weak = false }
     ∷ [])
 
 -- the enctype with a number
@@ -46,6 +46,10 @@ etype_names n = option_map_or (λ e. e.names) (etype_numbered n) []
 -- the name that is printed of an enctype, if it has one
 abbrev pub etype_name_of : ℕ → Option (List ℕ)
 etype_name_of n = slice_get (etype_names n) 0
+
+-- the short name of an enctype, if it has one
+abbrev pub short_name_of : ℕ → Option (List ℕ)
+short_name_of n = slice_get (etype_names n) 1
 
 -- the key size of an enctype in bytes, if it has a name
 abbrev pub key_size_of : ℕ → Option ℕ

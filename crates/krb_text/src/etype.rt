@@ -5,7 +5,7 @@ ghost use Rattle.std.specs.Prelude.{◌≡◌, [], IsSome, None, Some, map, opti
 ghost use Rattle.std.specs.List.{find, list_any};
 ghost use Rattle.std.specs.Str.{str_eq_ignore_ascii_case};
 ghost use Rattle.krb_wire.specs.Text.{Appended};
-ghost use Rattle.krb_text.specs.Etype.{etype_name_of, etype_names, etype_text_of, etype_in, is_named, is_weak, key_size_of, number_named, unnamed};
+ghost use Rattle.krb_text.specs.Etype.{etype_name_of, etype_names, etype_text_of, etype_in, is_named, is_weak, key_size_of, number_named, short_name_of, unnamed};
 
 use crate::bytes::append;
 use crate::word::parse_u16;
@@ -13,8 +13,8 @@ use itoa::Buffer;
 use krb_wire::NoMemory;
 use std::alloc::Allocator;
 
-/// What is known of an enctype: its names, of which the first is printed, the size of its keys in bytes, if it has a name,
-/// and whether MIT calls it weak or deprecated.
+/// What is known of an enctype: its names, of which the first is MIT's and the second short, the size of its keys in
+/// bytes, if it has a name, and whether MIT calls it weak or deprecated.
 #[derive(Clone, Copy)]
 struct Row {
     names: &'static [&'static str],
@@ -58,25 +58,52 @@ fn row_of(etype: u16) -> Row
     match etype {
         1 | 2 | 3 | 4 | 6 | 8 | 24 => unnamed_row(true),
         16 => named(
-            &["des3-cbc-sha1", "des3-hmac-sha1", "des3-cbc-sha1-kd"],
+            &[
+                "des3-cbc-sha1",
+                "des3",
+                "des3-hmac-sha1",
+                "des3-cbc-sha1-kd",
+            ],
             24,
             true,
         ),
         17 => named(
-            &["aes128-cts-hmac-sha1-96", "aes128-cts", "aes128-sha1"],
+            &[
+                "aes128-cts-hmac-sha1-96",
+                "aes128",
+                "aes128-cts",
+                "aes128-sha1",
+            ],
             16,
             false,
         ),
         18 => named(
-            &["aes256-cts-hmac-sha1-96", "aes256-cts", "aes256-sha1"],
+            &[
+                "aes256-cts-hmac-sha1-96",
+                "aes256",
+                "aes256-cts",
+                "aes256-sha1",
+            ],
             32,
             false,
         ),
         19 => named(&["aes128-cts-hmac-sha256-128", "aes128-sha2"], 16, false),
         20 => named(&["aes256-cts-hmac-sha384-192", "aes256-sha2"], 32, false),
-        23 => named(&["arcfour-hmac", "rc4-hmac", "arcfour-hmac-md5"], 16, true),
-        25 => named(&["camellia128-cts-cmac", "camellia128-cts"], 16, false),
-        26 => named(&["camellia256-cts-cmac", "camellia256-cts"], 32, false),
+        23 => named(
+            &["arcfour-hmac", "rc4", "rc4-hmac", "arcfour-hmac-md5"],
+            16,
+            true,
+        ),
+        25 => named(
+            &["camellia128-cts-cmac", "camellia128", "camellia128-cts"],
+            16,
+            false,
+        ),
+        26 => named(
+            &["camellia256-cts-cmac", "camellia256", "camellia256-cts"],
+            32,
+            false,
+        ),
         _ => unnamed_row(false),
     }
 }
@@ -112,6 +139,13 @@ pub fn etype_name(etype: u16) -> Option<&'static str>
     ensures { option_copied result ≡ etype_name_of etype }
 {
     row_of(etype).names.first().copied()
+}
+
+/// Returns the short name of an enctype, e.g. `aes128`, or `None` if it has none.
+pub fn etype_short_name(etype: u16) -> Option<&'static str>
+    ensures { option_copied result ≡ short_name_of etype }
+{
+    row_of(etype).names.get(1).copied()
 }
 
 /// Returns the key size of an enctype in bytes, or `None` if it has no name.

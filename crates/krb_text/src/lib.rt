@@ -18,7 +18,7 @@ mod word;
 
 pub use bytes::{append, append_byte, append_labelled};
 pub use columns::KtColumns;
-pub use etype::{etype_name, etype_of, etype_text, is_weak, key_size};
+pub use etype::{etype_name, etype_of, etype_short_name, etype_text, is_weak, key_size};
 pub use flags::flag_letters;
 pub use gather::{room_to_gather, send_if_full};
 pub use key::{key_text, parse_key};
